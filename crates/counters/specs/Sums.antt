@@ -1,0 +1,19 @@
+-- Sums over node numbers.
+use Rattle.std.specs.Prelude.{ℕ, ◌+◌, ◌==◌, zero, suc, if◌then◌else◌, ℤ, pos, ◌+ℤ◌}
+
+-- every node number is below this
+unfoldable pub numbers : ℕ
+numbers = 256
+
+-- the sum over the numbers below n
+abbrev pub sum_below : ℕ → (ℕ → ℕ) → ℕ
+sum_below zero f = 0
+sum_below (suc n) f = f n + sum_below n f
+
+abbrev pub int_sum_below : ℕ → (ℕ → ℤ) → ℤ
+int_sum_below zero f = pos 0
+int_sum_below (suc n) f = f n +ℤ int_sum_below n f
+
+-- the sum over the others
+abbrev pub sum_others : ℕ → ℕ → (ℕ → ℕ) → ℕ
+sum_others n i f = sum_below n (λ j. if j == i then 0 else f j)

@@ -1,0 +1,3 @@
+pub mod TraceLemmas
+pub mod Rights
+pub mod Listing

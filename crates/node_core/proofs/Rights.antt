@@ -1,0 +1,75 @@
+-- Whether a counted term may run, by the rights of the node.
+use Rattle.std.proofs.Common.{◌≡◌, ℕ, ◌+◌, ◌≤◌, Bool, true, false, List, Option, Some, None, refl, sym, ◌∙◌, ap, subst, arith, zero, suc, cond, length, ◌<◌}
+use Rattle.std.proofs.lemmas.Bool.Decides.{nat_tests}
+use Rattle.std.proofs.lemmas.Int.{ints}
+use Rattle.std.specs.Prelude.{ℤ, pos, ◌≤ℤ◌, ◌-ℤ◌, ◌↔◌, IsTrue, nat_le, option_map, slice_get}
+use Rattle.std.specs.Option.{option_map_or}
+use Rattle.actions.specs.Value.{TermValue}
+use Rattle.actions.specs.Choice.{choice, first_below, triggers, triggers_by, word_at}
+use Rattle.counters.specs.Budgets.{Budget, rights, has_rights, given, gone}
+use Rattle.stamp_register.specs.Keys.{KeyValue, terms_set}
+use Rattle.replica_state.specs.Operations.{count_at, count_of, count_under}
+use Rattle.replica_state.specs.States.{State, budget, budget_under, rights_of}
+use Rattle.node_core.specs.Nodes.{setting_in, setting_of}
+use Rattle.node_core.specs.Passes.{may_run, has_rights_of}
+
+-- what a setting says of its key
+record IsSetting (held : Option KeyValue) (key : KeyValue) (terms : List TermValue) : Type 0 where
+  is_key : held ≡ Some key
+  is_terms : terms_set key.body ≡ Some terms
+
+setting_parts : (held : Option KeyValue) (key : KeyValue) (terms : List TermValue) → setting_in held ≡ Some (key, terms) → IsSetting held key terms
+setting_parts None key terms h = absurd (let impossible : ◌≡◌ {A = Option (KeyValue × List TermValue)} None (Some (key, terms)) = h in cc)
+setting_parts (Some other) key terms h = by_terms (terms_set other.body) refl h
+  where
+    by_terms : (found : Option (List TermValue)) → terms_set other.body ≡ found → option_map {U = KeyValue × List TermValue} (λ ts. (other, ts)) found ≡ Some (key, terms) → IsSetting (Some other) key terms
+    by_terms None e p = absurd (let impossible : ◌≡◌ {A = Option (KeyValue × List TermValue)} None (Some (key, terms)) = p in cc)
+    by_terms (Some ts) e p =
+        let same : ◌≡◌ {A = KeyValue × List TermValue} (other, ts) (key, terms) = cc in
+        let same_key : other ≡ key = ap (λ (s : KeyValue × List TermValue). s.0) same in
+        let same_terms : ts ≡ terms = ap (λ (s : KeyValue × List TermValue). s.1) same in
+        record {
+          is_key = ap (λ (k : KeyValue). Some k) same_key;
+          is_terms = ap (λ (k : KeyValue). terms_set k.body) (sym same_key) ∙ e ∙ ap (λ (l : List TermValue). Some l) same_terms;
+        }
+
+-- a test is the test of the numbers that it stands for
+by_numbers : (t : Bool) (a b : ℕ) → IsTrue t ↔ (pos 1 ≤ℤ (pos a -ℤ pos b)) → t ≡ nat_le (b + 1) a
+by_numbers true a b h = let more : pos 1 ≤ℤ (pos a -ℤ pos b) = h.0 refl in let le : b + 1 ≤ a = omega (arith, ints) in grind (arith, nat_tests)
+by_numbers false a b h = by_test (nat_le (b + 1) a) refl
+  where
+    by_test : (r : Bool) → nat_le (b + 1) a ≡ r → false ≡ r
+    by_test false e = refl
+    by_test true e =
+        let le : b + 1 ≤ a = grind (arith, nat_tests) in
+        let more : pos 1 ≤ℤ (pos a -ℤ pos b) = omega (arith, ints) in
+        let impossible : false ≡ true = h.1 more in
+        cc
+
+-- a term may run exactly where the node has a right of it
+pub may_by_rights : (i : ℕ) (v : State) (name : List ℕ) (key : KeyValue) (terms : List TermValue) (term : ℕ) (t : Bool) → setting_of v name ≡ Some (key, terms) → IsTrue t ↔ (pos 1 ≤ℤ rights_of v name term i) → t ≡ may_run i v name key terms term
+may_by_rights i v name key terms term t set h =
+    let parts = setting_parts (v.key name) key terms set in
+    let count : count_of key term ≡ count_at terms term = ap (λ (found : Option (List TermValue)). count_under found term) parts.is_terms in
+    let amount : rights_of v name term i ≡ option_map_or (λ (b : Budget). rights b i) (option_map (λ n. budget v name term key.node n) (count_at terms term)) (pos 0) =
+        ap (λ (held : Option KeyValue). option_map_or (λ (b : Budget). rights b i) (budget_under v name term held) (pos 0)) parts.is_key ∙
+        ap (λ (found : Option ℕ). option_map_or (λ (b : Budget). rights b i) (option_map (λ n. budget v name term key.node n) found) (pos 0)) count in
+    by_count (count_at terms term) (subst (λ (z : ℤ). IsTrue t ↔ (pos 1 ≤ℤ z)) amount h)
+  where
+    by_count : (found : Option ℕ) → IsTrue t ↔ (pos 1 ≤ℤ option_map_or (λ (b : Budget). rights b i) (option_map (λ n. budget v name term key.node n) found) (pos 0)) → t ≡ has_rights_of i v name key term 1 found
+    by_count None p = never t p
+      where
+        never : (r : Bool) → IsTrue r ↔ (pos 1 ≤ℤ pos 0) → r ≡ false
+        never false q = refl
+        never true q = absurd (let impossible : pos 1 ≤ℤ pos 0 = q.0 refl in omega (arith, ints))
+    by_count (Some n) p = by_numbers t (given (budget v name term key.node n) i) (gone (budget v name term key.node n) i) p
+
+-- a choice asks for no term past the last
+first_below-same : (limit : ℕ) (f g : ℕ → Bool) → ((k : ℕ) → k < limit → f k ≡ g k) → first_below limit f ≡ first_below limit g
+first_below-same zero f g h = refl
+first_below-same (suc limit) f g h =
+    (λ p. cond (h 0 (omega arith) p) (Some 0) (option_map suc (first_below-same limit (λ k. f (suc k)) (λ k. g (suc k)) (λ k low. h (suc k) (omega arith)) p)))
+
+pub choice-same : (ts : List TermValue) (words : List ℕ) (may other : ℕ → Bool) → ((k : ℕ) → k < length ts → may k ≡ other k) → choice ts words may ≡ choice ts words other
+unfolding choice
+choice-same ts words may other h = first_below-same (length ts) (triggers ts words may) (triggers ts words other) (λ k low. ap (λ (m : Bool). triggers_by (slice_get ts k) (word_at ts words k) m) (h k low))

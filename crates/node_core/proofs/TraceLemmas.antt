@@ -1,0 +1,207 @@
+-- What a node holds after one more call.
+use Rattle.std.proofs.Common.{◌≡◌, ℕ, ◌+◌, ◌<◌, ◌≤◌, ◌^◌, Bool, true, false, cond, ◌&&◌, eqb, List, [], ◌∷◌, ◌++◌, length, map, subst, length-append, Option, Some, None, Result, Ok, refl, sym, ◌∙◌, ap, arith}
+use Rattle.std.proofs.lemmas.List.{map-append, length-map}
+use Rattle.std.specs.Str.{bytes_eq}
+use Rattle.std.specs.Option.{IsSome}
+use Rattle.actions.specs.Value.{TermValue}
+use Rattle.actions.specs.Canonical.{canonical}
+use Rattle.actions.specs.Reading.{reading}
+use Rattle.actions.specs.declared.fault.ActionFault.{ActionFault}
+use Rattle.stamp_register.specs.Keys.{KeyValue}
+use Rattle.replica_state.specs.Operations.{Operation, Count, Hits, Execs, same_cell}
+use Rattle.replica_state.specs.States.{State, with_name, with_key, with_hits, with_execs, with_pass, with_spend}
+use Rattle.replica_state.specs.Folds.{fold, clock_of, names_of, key_of, number_at, at_key}
+use Rattle.replica_state.proofs.FoldSteps.{fold_key, fold_hits, fold_execs, max_zero, is_later, all_later, later_some, either_way}
+use Rattle.node_core.specs.declared.trace.Config.{Config}
+use Rattle.node_core.specs.declared.trace.Entry.{Entry}
+use Rattle.node_core.specs.Asks.{Call, call, Asked, Set, Pass}
+use Rattle.node_core.specs.Nodes.{Node, start, shown, setting_of}
+use Rattle.node_core.specs.Passes.{next_hit, ops_of_pass}
+use Rattle.node_core.specs.Outcomes.{execs_done, ops_done, state_done, IsHeld}
+use Rattle.node_core.specs.Steps.{after, new_key, body_read}
+use Rattle.node_core.specs.Traces.{replay_from, replay}
+use Rattle.node_core.specs.Holds.{Holds}
+
+pub replay_more : (i : ℕ) (n : Node) (cs : List Call) (c : Call) → replay_from i n (cs ++ c ∷ []) ≡ after i (replay_from i n cs) c.ask c.words
+unfolding replay_from
+replay_more i n [] c = refl
+replay_more i n (d ∷ cs) c = replay_more i (after i n d.ask d.words) cs c
+
+fold_no_hits : (name : List ℕ) (i : ℕ) → (fold []).hits name i ≡ 0
+unfolding fold
+fold_no_hits name i = refl
+
+fold_no_execs : (name : List ℕ) (k i : ℕ) → (fold []).execs name k i ≡ 0
+unfolding fold
+fold_no_execs name k i = refl
+
+-- a new node
+pub holds_new : (config : Config) (state : State) → config.node < config.nodes → config.nodes ≤ 16 → config.trace_cap < 2 ^ 32 → state ≡ fold [] → Holds config 0 state 0 (replay config.node [])
+unfolding replay_from
+holds_new config state own few small e = record {
+  own = own;
+  few = few;
+  small = small;
+  capped = omega arith;
+  clock_is = refl;
+  state_is = sym e;
+  carried = omega arith;
+  hits_few = λ name. let h : state.hits name config.node ≡ 0 = ap (λ (v : State). v.hits name config.node) e ∙ fold_no_hits name config.node in omega arith;
+  execs_few = λ name k. let h : state.execs name k config.node ≡ 0 = ap (λ (v : State). v.execs name k config.node) e ∙ fold_no_execs name k config.node in omega arith;
+}
+
+key_leaves_hits : (name : List ℕ) (key : KeyValue) (v : State) (q : List ℕ) (i : ℕ) → (with_key name key v).hits q i ≡ v.hits q i
+unfolding with_key
+key_leaves_hits name key v q i = refl
+
+key_few_execs : (name : List ℕ) (key : KeyValue) (v : State) (q : List ℕ) (k i : ℕ) → (with_key name key v).execs q k i ≤ v.execs q k i
+unfolding with_key
+key_few_execs name key v q k i = by_test (bytes_eq name q)
+  where
+    by_test : (b : Bool) → cond b 0 (v.execs q k i) ≤ v.execs q k i
+    by_test true = omega arith
+    by_test false = omega arith
+
+-- after a setting
+pub holds_set : (config : Config) (clock : ℕ) (state next : State) (len : ℕ) (n : Node) (name text : List ℕ) (key : KeyValue) → Holds config clock state len n → len < config.trace_cap → key ≡ new_key config.node clock (body_read (reading text)) → next ≡ with_key name key state → Holds config (clock + 1) next (len + 1) (after config.node n (Set name text) [])
+unfolding after
+holds_set config clock state next len n name text key h room k e =
+    let issued : KeyValue = new_key config.node n.marks.clock (body_read (reading text)) in
+    let same : issued ≡ key = ap (λ (c : ℕ). new_key config.node c (body_read (reading text))) h.clock_is ∙ sym k in
+    let c : n.marks.clock ≡ clock = h.clock_is in
+    let cap : len ≤ config.trace_cap = h.capped in
+    let carried : clock_of n.ops ≤ clock = h.carried in
+    record {
+      own = h.own;
+      few = h.few;
+      small = h.small;
+      capped = omega arith;
+      clock_is = ap (λ (x : ℕ). x + 1) h.clock_is;
+      state_is = fold_key issued name n.ops (omega arith) ∙ ap (λ (x : KeyValue). with_key name x (fold n.ops)) same ∙ ap (λ (v : State). with_key name key v) h.state_is ∙ sym e;
+      carried = omega arith;
+      hits_few = λ q. let a = ap (λ (v : State). v.hits q config.node) e in let b = key_leaves_hits name key state q config.node in let d = h.hits_few q in omega (arith, a, b, d);
+      execs_few = λ q j. let a = ap (λ (v : State). v.execs q j config.node) e in let b = key_few_execs name key state q j config.node in let d = h.execs_few q j in omega (arith, a, b, d);
+    }
+
+-- the replay of a trace one entry longer
+pub holds_grown : (config : Config) (clock : ℕ) (state : State) (old new : List Entry) (e : Entry) → new ≡ old ++ e ∷ [] → Holds config clock state (length old + 1) (after config.node (replay config.node (map call old)) (call e).ask (call e).words) → Holds config clock state (length new) (replay config.node (map call new))
+holds_grown config clock state old new e same h =
+    let grown : map call new ≡ map call old ++ call e ∷ [] = ap (λ (es : List Entry). map call es) same ∙ map-append call old (e ∷ []) in
+    let longer : length new ≡ length old + 1 = ap (λ (es : List Entry). length es) same ∙ length-append old (e ∷ []) in
+    subst (λ (len : ℕ). Holds config clock state len (replay config.node (map call new))) (sym longer)
+    (subst (λ (n : Node). Holds config clock state (length old + 1) n) (sym (ap (λ (cs : List Call). replay config.node cs) grown ∙ replay_more config.node start (map call old) (call e))) h)
+
+-- a key that is held is no later than the clock
+held_clock : (name : List ℕ) (ops : List Operation) (key : KeyValue) → key_of name ops ≡ Some key → key.clock ≤ clock_of ops
+held_clock name ops key here =
+    let top : KeyValue = record { clock = clock_of ops + 1; node = 0; body = None } in
+    let h : key.clock < clock_of ops + 1 = later_some top key (subst (λ (o : Option KeyValue). is_later top o) here (all_later top name ops (omega arith))) in
+    omega arith
+
+-- there is a key wherever something is spent
+abbrev HasSpent : Option KeyValue → Option ℕ → Type 0
+HasSpent key None = Unit {0}
+HasSpent key (Some term) = IsSome key
+
+module _ (i : ℕ) (name : List ℕ) (ops : List Operation) (kept : with_name name (names_of ops) ≡ names_of ops) where
+  -- a hit, and perhaps an execution
+  fold_spent : (spent : Option ℕ) (key : Option KeyValue) → key_of name ops ≡ key → IsSome key → fold ((execs_done i (fold ops) name key spent ++ next_hit i (fold ops) name ∷ []) ++ ops) ≡ with_pass name i spent (fold ops)
+  unfolding fold with_hits same_cell
+  fold_spent None None here h = fold_hits name i ops kept
+  fold_spent None (Some key) here h = fold_hits name i ops kept
+  fold_spent (Some k) None here h = absurd (let impossible : false ≡ true = h in cc)
+  fold_spent (Some k) (Some key) here h =
+      let x : (fold ops).execs name k i ≡ number_at (Execs name key k i) (Count (Hits name i) (number_at (Hits name i) ops + 1) ∷ ops) = ap (λ (o : Option KeyValue). at_key o (λ a. number_at (Execs name a k i) ops)) here ∙ sym (max_zero (number_at (Execs name key k i) ops)) in
+      let after_hit : names_of (next_hit i (fold ops) name ∷ ops) ≡ names_of ops = either_way kept _ in
+      fold_execs name key (Count (Hits name i) (number_at (Hits name i) ops + 1) ∷ ops) here k i ((fold ops).execs name k i) x (ap (λ (ns : List (List ℕ)). with_name name ns) after_hit ∙ kept ∙ sym after_hit) ∙
+      ap (λ (v : State). with_execs name k i ((fold ops).execs name k i + 1) v) (fold_hits name i ops kept)
+
+  fold_done : (is_set : Bool) (spent : Option ℕ) → (is_set ≡ true → IsSome ((fold ops).key name)) → fold (ops_done i (fold ops) name is_set spent ++ ops) ≡ state_done i (fold ops) name is_set spent
+  unfolding fold
+  fold_done false spent h = refl
+  fold_done true spent h = fold_spent spent (key_of name ops) refl (h refl)
+
+spent_clock : (i : ℕ) (v : State) (name : List ℕ) (ops : List Operation) (spent : Option ℕ) (key : Option KeyValue) → key_of name ops ≡ key → clock_of ((execs_done i v name key spent ++ next_hit i v name ∷ []) ++ ops) ≤ clock_of ops
+spent_clock i v name ops None None here = omega arith
+spent_clock i v name ops None (Some key) here = omega arith
+spent_clock i v name ops (Some k) None here = omega arith
+spent_clock i v name ops (Some k) (Some key) here = let low : key.clock ≤ clock_of ops = held_clock name ops key here in omega arith
+
+done_clock : (i : ℕ) (name : List ℕ) (ops : List Operation) (is_set : Bool) (spent : Option ℕ) → clock_of (ops_done i (fold ops) name is_set spent ++ ops) ≤ clock_of ops
+unfolding fold
+done_clock i name ops false spent = omega arith
+done_clock i name ops true spent = spent_clock i (fold ops) name ops spent (key_of name ops) refl
+
+one_more : (b : Bool) (x y len : ℕ) → x ≤ len → y ≤ len → cond b (x + 1) y ≤ len + 1
+one_more true x y len p q = omega arith
+one_more false x y len p q = omega arith
+
+done_hits : (i : ℕ) (name : List ℕ) (v : State) (len : ℕ) → ((q : List ℕ) → v.hits q i ≤ len) → (is_set : Bool) (spent : Option ℕ) (q : List ℕ) → (state_done i v name is_set spent).hits q i ≤ len + 1
+unfolding with_hits with_execs
+done_hits i name v len h false spent q = let low = h q in omega arith
+done_hits i name v len h true None q = one_more (bytes_eq name q && eqb i i) (v.hits name i) (v.hits q i) len (h name) (h q)
+done_hits i name v len h true (Some k) q = one_more (bytes_eq name q && eqb i i) (v.hits name i) (v.hits q i) len (h name) (h q)
+
+done_execs : (i : ℕ) (name : List ℕ) (v : State) (len : ℕ) → ((q : List ℕ) (t : ℕ) → v.execs q t i ≤ len) → (is_set : Bool) (spent : Option ℕ) (q : List ℕ) (t : ℕ) → (state_done i v name is_set spent).execs q t i ≤ len + 1
+unfolding with_hits with_execs
+done_execs i name v len h false spent q t = let low = h q t in omega arith
+done_execs i name v len h true None q t = let low = h q t in omega arith
+done_execs i name v len h true (Some k) q t = one_more (bytes_eq name q && (eqb k t && eqb i i)) (v.execs name k i) (v.execs q t i) len (h name k) (h q t)
+
+kept_names : (name : List ℕ) (ops : List Operation) → IsHeld (fold ops) name → with_name name (names_of ops) ≡ names_of ops
+unfolding fold
+kept_names name ops h = h
+
+module _ (config : Config) (clock : ℕ) (state next : State) (len : ℕ) (n : Node) (name words : List ℕ) where
+  added_by : (is_set : Bool) (spent : Option ℕ) → shown n ≡ state → ops_of_pass config.node state name words (setting_of state name) ≡ ops_done config.node state name is_set spent → ops_of_pass config.node (shown n) name words (setting_of (shown n) name) ≡ ops_done config.node (shown n) name is_set spent
+  added_by is_set spent e h =
+      ap (λ (v : State). ops_of_pass config.node v name words (setting_of v name)) e ∙ h ∙ sym (ap (λ (v : State). ops_done config.node v name is_set spent) e)
+
+  fold_pass : (is_set : Bool) (spent : Option ℕ) → (is_set ≡ true → IsHeld (fold n.ops) name) → (is_set ≡ true → IsSome ((fold n.ops).key name)) → fold (ops_done config.node (fold n.ops) name is_set spent ++ n.ops) ≡ state_done config.node (fold n.ops) name is_set spent
+  fold_pass false spent held h = refl
+  fold_pass true spent held h = fold_done config.node name n.ops (kept_names name n.ops (held refl)) true spent h
+
+  -- after a pass
+  pub holds_pass : (is_set : Bool) (spent : Option ℕ) → Holds config clock state len n → len < config.trace_cap → ops_of_pass config.node state name words (setting_of state name) ≡ ops_done config.node state name is_set spent → (is_set ≡ true → IsHeld state name) → (is_set ≡ true → IsSome (state.key name)) → next ≡ state_done config.node state name is_set spent → Holds config clock next (len + 1) (after config.node n (Pass name) words)
+  unfolding after
+  holds_pass is_set spent h room ops held key e =
+      let same : fold n.ops ≡ state = h.state_is in
+      let added = added_by is_set spent same ops in
+      let held' : is_set ≡ true → IsHeld (fold n.ops) name = λ t. subst (λ (v : State). IsHeld v name) (sym same) (held t) in
+      let key' : is_set ≡ true → IsSome ((fold n.ops).key name) = λ t. subst (λ (v : State). IsSome (v.key name)) (sym same) (key t) in
+      let low = done_clock config.node name n.ops is_set spent in
+      let carried : clock_of (ops_of_pass config.node (fold n.ops) name words (setting_of (fold n.ops) name) ++ n.ops) ≤ clock_of n.ops = subst (λ (os : List Operation). clock_of (os ++ n.ops) ≤ clock_of n.ops) (sym added) low in
+      let was : clock_of n.ops ≤ clock = h.carried in
+      record {
+        own = h.own;
+        few = h.few;
+        small = h.small;
+        capped = omega arith;
+        clock_is = h.clock_is;
+        state_is = ap (λ (os : List Operation). fold (os ++ n.ops)) added ∙ fold_pass is_set spent held' key' ∙ ap (λ (v : State). state_done config.node v name is_set spent) same ∙ sym e;
+        carried = omega (arith, carried, was);
+        hits_few = λ q. subst (λ (v : State). v.hits q config.node ≤ len + 1) (sym e) (done_hits config.node name state len h.hits_few is_set spent q);
+        execs_few = λ q t. subst (λ (v : State). v.execs q t config.node ≤ len + 1) (sym e) (done_execs config.node name state len h.execs_few is_set spent q t);
+      }
+
+module _ (config : Config) (clock : ℕ) (state next : State) (old mid new : List Entry) (e : Entry) (grown : new ≡ mid ++ e ∷ []) (same : mid ≡ old) (h : Holds config clock state (length old) (replay config.node (map call old))) (room : length (map call old) < config.trace_cap) where
+  longer : new ≡ old ++ e ∷ []
+  longer = grown ∙ ap (λ (es : List Entry). es ++ e ∷ []) same
+
+  space : length old < config.trace_cap
+  space = subst (λ (k : ℕ). k < config.trace_cap) (length-map old call) room
+
+  -- the invariant after a setting, and after a pass
+  pub set_kept : (name text p : List ℕ) (key : KeyValue) (terms : List TermValue) → (call e).ask ≡ Set name text → (call e).words ≡ [] → p ≡ name → reading text ≡ Ok terms → key ≡ new_key config.node clock (Some (canonical terms)) → next ≡ with_key p key state → Holds config (clock + 1) next (length new) (replay config.node (map call new))
+  set_kept name text p key terms ask words pn read k s =
+      holds_grown config (clock + 1) next old new e longer
+      (subst (λ (a : Asked). Holds config (clock + 1) next (length old + 1) (after config.node (replay config.node (map call old)) a (call e).words)) (sym ask)
+      (subst (λ (ws : List ℕ). Holds config (clock + 1) next (length old + 1) (after config.node (replay config.node (map call old)) (Set name text) ws)) (sym words)
+      (holds_set config clock state next (length old) (replay config.node (map call old)) name text key h space (k ∙ sym (ap (λ (r : Result (List TermValue) ActionFault). new_key config.node clock (body_read r)) read)) (s ∙ ap (λ (n : List ℕ). with_key n key state) pn))))
+
+  pub pass_kept : (name words : List ℕ) (is_set : Bool) (spent : Option ℕ) → (call e).ask ≡ Pass name → (call e).words ≡ words → ops_of_pass config.node state name words (setting_of state name) ≡ ops_done config.node state name is_set spent → (is_set ≡ true → IsHeld state name) → (is_set ≡ true → IsSome (state.key name)) → next ≡ state_done config.node state name is_set spent → Holds config clock next (length new) (replay config.node (map call new))
+  pass_kept name words is_set spent ask ws ops held key s =
+      holds_grown config clock next old new e longer
+      (subst (λ (a : Asked). Holds config clock next (length old + 1) (after config.node (replay config.node (map call old)) a (call e).words)) (sym ask)
+      (subst (λ (xs : List ℕ). Holds config clock next (length old + 1) (after config.node (replay config.node (map call old)) (Pass name) xs)) (sym ws)
+      (holds_pass config clock state next (length old) (replay config.node (map call old)) name words is_set spent h space ops held key s)))

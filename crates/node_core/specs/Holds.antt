@@ -1,0 +1,19 @@
+-- What the fields of a node are to what its trace comes to.
+use Rattle.std.specs.Prelude.{◌≡◌, ℕ, ◌<◌, ◌≤◌, ◌^◌, List}
+use Rattle.replica_state.specs.States.{State}
+use Rattle.replica_state.specs.Folds.{clock_of}
+use Rattle.node_core.specs.declared.trace.Config.{Config}
+use Rattle.node_core.specs.Nodes.{Node, shown}
+
+-- the clock and the state are those of the node that the trace comes to, and no cell that the node
+-- writes is above the number of its entries, so that each fits 64 bits
+pub record Holds (config : Config) (clock : ℕ) (state : State) (entries : ℕ) (n : Node) : Type 0 where
+  pub own : config.node < config.nodes
+  pub few : config.nodes ≤ 16
+  pub small : config.trace_cap < 2 ^ 32
+  pub capped : entries ≤ config.trace_cap
+  pub clock_is : n.marks.clock ≡ clock
+  pub state_is : shown n ≡ state
+  pub carried : clock_of n.ops ≤ clock
+  pub hits_few : (name : List ℕ) → state.hits name config.node ≤ entries
+  pub execs_few : (name : List ℕ) (term : ℕ) → state.execs name term config.node ≤ entries

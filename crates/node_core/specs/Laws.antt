@@ -1,0 +1,2 @@
+-- What holds of one node.
+use Rattle.std.specs.Prelude.{ℕ}

@@ -1,0 +1,11 @@
+pub mod Asks
+pub mod Nodes
+pub mod Stamps
+pub mod Passes
+pub mod Outcomes
+pub mod Steps
+pub mod Refusals
+pub mod Traces
+pub mod Holds
+pub mod Texts
+pub mod Laws

@@ -1,0 +1,29 @@
+-- What a pass changes: whether it counts a hit, and the counted term that it executes.
+use Rattle.std.specs.Prelude.{◌≡◌, ℕ, Bool, true, false, List, [], ◌∷◌, ◌++◌, Option, Some, None, is_some, if◌then◌else◌}
+use Rattle.actions.specs.Value.{TermValue}
+use Rattle.stamp_register.specs.Keys.{KeyValue}
+use Rattle.replica_state.specs.Operations.{Operation, count_at}
+use Rattle.replica_state.specs.States.{State, with_name, with_pass}
+use Rattle.node_core.specs.Passes.{next_hit, next_exec}
+
+-- the triggered term, if it is counted
+abbrev pub spent_by : List TermValue → Option ℕ → Option ℕ
+spent_by terms None = None
+spent_by terms (Some term) = if is_some (count_at terms term) then Some term else None
+
+abbrev pub execs_done : ℕ → State → List ℕ → Option KeyValue → Option ℕ → List Operation
+execs_done i v name None spent = []
+execs_done i v name (Some key) None = []
+execs_done i v name (Some key) (Some term) = next_exec i v name key term ∷ []
+
+abbrev pub ops_done : ℕ → State → List ℕ → Bool → Option ℕ → List Operation
+ops_done i v name false spent = []
+ops_done i v name true spent = execs_done i v name (v.key name) spent ++ next_hit i v name ∷ []
+
+abbrev pub state_done : ℕ → State → List ℕ → Bool → Option ℕ → State
+state_done i v name false spent = v
+state_done i v name true spent = with_pass name i spent v
+
+-- a name that is held adds none
+abbrev pub IsHeld : State → List ℕ → Type 0
+IsHeld v name = with_name name v.names ≡ v.names

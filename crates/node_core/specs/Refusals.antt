@@ -1,0 +1,130 @@
+-- When a node refuses what it is asked. The refusals stand in their order, and the first that applies is the answer.
+use Rattle.std.specs.Prelude.{◌≡◌, ℕ, ◌+◌, ◌-◌, ◌^◌, Bool, true, false, ◌==◌, ◌&&◌, ◌||◌, nat_lt, nat_le, not, List, [], ◌∷◌, ◌++◌, length, if◌then◌else◌, Option, Some, None, is_none, Result, Ok, Err, zero, suc}
+use Rattle.std.specs.List.{list_any}
+use Rattle.actions.specs.Value.{TermValue}
+use Rattle.actions.specs.Names.{is_name}
+use Rattle.actions.specs.Reading.{reading}
+use Rattle.actions.specs.declared.fault.ActionFault.{ActionFault}
+use Rattle.counters.specs.Sums.{numbers, sum_below}
+use Rattle.counters.specs.Budgets.{given, gone}
+use Rattle.stamp_register.specs.Keys.{KeyValue, same_key}
+use Rattle.replica_state.specs.Operations.{Operation, Set, Count, Hits, Execs, Shifts, count_at}
+use Rattle.replica_state.specs.States.{State, with_name, budget}
+use Rattle.replica_state.specs.Folds.{fold, name_in}
+use Rattle.replica_state.specs.Knowledge.{is_upto}
+use Rattle.node_core.specs.declared.trace.Config.{Config}
+use Rattle.node_core.specs.declared.fault.NodeFault.{NodeFault}
+use Rattle.node_core.specs.declared.fault.NodeFault.TheVariants as faults
+use Rattle.node_core.specs.Asks.{Asked, Message}
+use Rattle.node_core.specs.Asks as asks
+use Rattle.node_core.specs.Nodes.{Node, shown, setting_of, terms_in}
+use Rattle.node_core.specs.Passes.{has_rights_of, words_for}
+
+abbrev pub first_fault : List (Option NodeFault) → Option NodeFault
+first_fault [] = None
+first_fault (Some fault ∷ rest) = Some fault
+first_fault (None ∷ rest) = first_fault rest
+
+abbrev pub where_true : Bool → NodeFault → Option NodeFault
+where_true test fault = if test then Some fault else None
+
+-- the trace has as many entries as it may have
+abbrev pub is_full : Config → ℕ → Bool
+is_full config entries = nat_le config.trace_cap entries
+
+abbrev pub bad_actions : Result (List TermValue) ActionFault → Option NodeFault
+bad_actions (Ok terms) = None
+bad_actions (Err fault) = Some (faults.BadActions fault)
+
+-- more than 256 names would be held
+abbrev pub too_many : List (List ℕ) → Bool
+too_many names = nat_lt 256 (length names)
+
+abbrev pub with_names : List (List ℕ × List TermValue) → List (List ℕ) → List (List ℕ)
+with_names [] names = names
+with_names (entry ∷ rest) names = with_names rest (with_name entry.0 names)
+
+-- the greatest number of a clock or a cell
+abbrev pub most : ℕ
+most = 2 ^ 64 - 1
+
+-- the number of another node
+abbrev pub is_bad_node : Config → ℕ → Bool
+is_bad_node config to = not (nat_lt to config.nodes) || to == config.node
+
+-- rights of this amount aren't there, and how many there are
+abbrev pub too_few : ℕ → State → List ℕ → ℕ → ℕ → Option (KeyValue × List TermValue) → Bool
+too_few i v name term amount None = true
+too_few i v name term amount (Some setting) = not (has_rights_of i v name setting.0 term amount (count_at setting.1 term))
+
+abbrev pub rights_counted : ℕ → State → List ℕ → KeyValue → ℕ → Option ℕ → ℕ
+rights_counted i v name key term None = 0
+rights_counted i v name key term (Some count) = given (budget v name term key.node count) i - gone (budget v name term key.node count) i
+
+abbrev pub rights_here : ℕ → State → List ℕ → ℕ → Option (KeyValue × List TermValue) → ℕ
+rights_here i v name term None = 0
+rights_here i v name term (Some setting) = rights_counted i v name setting.0 term (count_at setting.1 term)
+
+-- an operation says more of node i than it knows itself: a later hit of its own; a key of its own above the key of the
+-- name; under that key, a later execution or shift of its own; under a greater key, any of its own
+abbrev pub is_cell_ahead : KeyValue → ℕ → ℕ → Option KeyValue → Bool
+is_cell_ahead key number here None = true
+is_cell_ahead key number here (Some other) = if same_key other key then nat_lt here number else not (is_upto (Some key) (Some other))
+
+abbrev pub is_ahead : ℕ → State → Operation → Bool
+is_ahead i v (Set name key) = key.node == i && not (is_upto (Some key) (v.key name))
+is_ahead i v (Count (Hits name node) number) = node == i && nat_lt (v.hits name i) number
+is_ahead i v (Count (Execs name key term node) number) = node == i && is_cell_ahead key number (v.execs name term i) (v.key name)
+is_ahead i v (Count (Shifts name key term from to) number) = from == i && is_cell_ahead key number (v.shifts name term i to) (v.key name)
+
+-- the executions of a term of the name add up to more than its count
+abbrev pub is_above : Option ℕ → ℕ → Bool
+is_above None total = false
+is_above (Some count) total = nat_lt count total
+
+abbrev pub any_below : ℕ → (ℕ → Bool) → Bool
+any_below zero test = false
+any_below (suc n) test = test n || any_below n test
+
+abbrev pub is_overspent : State → List ℕ → List TermValue → Bool
+is_overspent v name terms = any_below (length terms) (λ term. is_above (count_at terms term) (sum_below numbers (v.execs name term)))
+
+-- of a name that a message carries, in the state after it
+abbrev pub overspends : State → Operation → Bool
+overspends v op = is_overspent v (name_in op) (terms_in (setting_of v (name_in op)))
+
+-- the refusals of an ask, with what the node shows and the length of its trace
+abbrev pub faults_of : Config → ℕ → Node → Asked → List ℕ → List (Option NodeFault)
+faults_of config entries n (asks.Set name text) words =
+    where_true (is_full config entries) faults.TraceFull ∷ where_true (not (is_name name)) faults.BadName ∷ bad_actions (reading text) ∷
+    where_true (too_many (with_name name (shown n).names)) faults.TooManyPoints ∷ where_true (nat_lt most (n.marks.clock + 1)) faults.ClockFull ∷ []
+faults_of config entries n (asks.Remove name) words =
+    where_true (is_full config entries) faults.TraceFull ∷ where_true (not (is_name name)) faults.BadName ∷
+    where_true (too_many (with_name name (shown n).names)) faults.TooManyPoints ∷ where_true (nat_lt most (n.marks.clock + 1)) faults.ClockFull ∷ []
+faults_of config entries n (asks.Load loaded) words =
+    where_true (is_full config entries) faults.TraceFull ∷ where_true (too_many (with_names loaded (shown n).names)) faults.TooManyPoints ∷
+    where_true (nat_lt most (n.marks.clock + length loaded)) faults.ClockFull ∷ []
+faults_of config entries n (asks.Pass name) words =
+    where_true (is_full config entries) faults.TraceFull ∷ where_true (not (is_name name)) faults.BadName ∷
+    where_true (not (length words == words_for (shown n) name)) (faults.BadWords (words_for (shown n) name)) ∷ []
+faults_of config entries n (asks.Shift name term to amount) words =
+    let setting = setting_of (shown n) name in
+    where_true (is_full config entries) faults.TraceFull ∷ where_true (not (is_name name)) faults.BadName ∷ where_true (is_none setting) faults.NotSet ∷
+    where_true (nat_le (length (terms_in setting)) term) faults.NoSuchTerm ∷ where_true (is_none (count_at (terms_in setting) term)) faults.NotCounted ∷
+    where_true (is_bad_node config to) faults.BadNode ∷ where_true (amount == 0) faults.ZeroAmount ∷
+    where_true (too_few config.node (shown n) name term amount setting) (faults.TooFewRights (rights_here config.node (shown n) name term setting)) ∷
+    where_true (nat_lt most ((shown n).shifts name term config.node to + amount)) faults.CellFull ∷ []
+faults_of config entries n (asks.Emit to chosen) words =
+    where_true (is_full config entries) faults.TraceFull ∷ where_true (is_bad_node config to) faults.BadNode ∷ []
+faults_of config entries n (asks.Deliver message) words =
+    let merged = fold (message.ops ++ n.ops) in
+    where_true (is_full config entries) faults.TraceFull ∷ where_true (not (message.to == config.node)) faults.NotForMe ∷
+    where_true (list_any (is_ahead config.node (shown n)) message.ops) faults.OwnAhead ∷ where_true (nat_lt n.marks.version message.ack) faults.AckAhead ∷
+    where_true (list_any (overspends merged) message.ops) faults.Overspent ∷ where_true (too_many merged.names) faults.TooManyPoints ∷ []
+
+abbrev pub refusal_at : Config → ℕ → Node → Asked → List ℕ → Option NodeFault
+refusal_at config entries n ask words = first_fault (faults_of config entries n ask words)
+
+-- a cluster has 1 to 16 nodes, and this is one of them
+abbrev pub is_bad_config : Config → Bool
+is_bad_config config = config.nodes == 0 || nat_lt 16 config.nodes || nat_le config.nodes config.node

@@ -1,0 +1,112 @@
+-- The step of one node: what an accepted ask adds to its operations, its marks after it, and the reply.
+use Rattle.std.specs.Prelude.{◌≡◌, ℕ, ◌+◌, max, Bool, ◌==◌, ◌&&◌, nat_lt, nat_le, List, [], ◌∷◌, ◌++◌, length, map, if◌then◌else◌, Option, Some, None, Result, Ok, Err}
+use Rattle.actions.specs.Value.{TermValue}
+use Rattle.actions.specs.Canonical.{canonical}
+use Rattle.actions.specs.Reading.{reading}
+use Rattle.actions.specs.declared.fault.ActionFault.{ActionFault}
+use Rattle.stamp_register.specs.Keys.{KeyValue}
+use Rattle.replica_state.specs.Operations.{Operation, Set, Count, Shifts}
+use Rattle.replica_state.specs.States.{State}
+use Rattle.replica_state.specs.Folds.{fold, clock_of}
+use Rattle.replica_state.specs.Knowledge.{changes}
+use Rattle.node_core.specs.Asks.{Asked, Answered, Message}
+use Rattle.node_core.specs.Asks as asks
+use Rattle.node_core.specs.Nodes.{Node, Marks, shown, setting_of}
+use Rattle.node_core.specs.Passes.{ops_of_pass, reply_of_pass}
+
+-- a key that node i issues at a clock, with the canonical text of what is set, or none
+abbrev pub new_key : ℕ → ℕ → Option (List ℕ) → KeyValue
+new_key i clock body = record { clock = clock + 1; node = i; body = body }
+
+abbrev pub body_read : Result (List TermValue) ActionFault → Option (List ℕ)
+body_read (Ok terms) = Some (canonical terms)
+body_read (Err fault) = None
+
+-- the names that an ask sets or removes, in order, with their bodies
+abbrev pub settings : Asked → List (List ℕ × Option (List ℕ))
+settings (asks.Set name text) = (name, body_read (reading text)) ∷ []
+settings (asks.Remove name) = (name, None) ∷ []
+settings (asks.Load entries) = map (λ entry. (entry.0, Some (canonical entry.1))) entries
+settings (asks.Pass name) = []
+settings (asks.Shift name term to amount) = []
+settings (asks.Emit to chosen) = []
+settings (asks.Deliver message) = []
+
+-- their keys have consecutive clocks
+abbrev pub issued : ℕ → ℕ → List (List ℕ × Option (List ℕ)) → List Operation
+issued i clock [] = []
+issued i clock (setting ∷ rest) = Set setting.0 (new_key i clock setting.1) ∷ issued i (clock + 1) rest
+
+abbrev pub shift_under : ℕ → State → List ℕ → ℕ → ℕ → ℕ → Option KeyValue → List Operation
+shift_under i v name term to amount None = []
+shift_under i v name term to amount (Some key) = Count (Shifts name key term i to) (v.shifts name term i to + amount) ∷ []
+
+-- the operations that node i adds
+abbrev pub added : ℕ → Node → Asked → List ℕ → List Operation
+added i n (asks.Set name text) words = issued i n.marks.clock (settings (asks.Set name text))
+added i n (asks.Remove name) words = issued i n.marks.clock (settings (asks.Remove name))
+added i n (asks.Load entries) words = issued i n.marks.clock (settings (asks.Load entries))
+added i n (asks.Pass name) words = ops_of_pass i (shown n) name words (setting_of (shown n) name)
+added i n (asks.Shift name term to amount) words = shift_under i (shown n) name term to amount ((shown n).key name)
+added i n (asks.Emit to chosen) words = []
+added i n (asks.Deliver message) words = message.ops
+
+-- the clock counts the settings, and is raised to what a message carries
+abbrev pub clock_after : Node → Asked → ℕ
+clock_after n (asks.Set name text) = n.marks.clock + 1
+clock_after n (asks.Remove name) = n.marks.clock + 1
+clock_after n (asks.Load entries) = n.marks.clock + length entries
+clock_after n (asks.Pass name) = n.marks.clock
+clock_after n (asks.Shift name term to amount) = n.marks.clock
+clock_after n (asks.Emit to chosen) = n.marks.clock
+clock_after n (asks.Deliver message) = max n.marks.clock (clock_of message.ops)
+
+-- a message raises what is known of its sender, if nothing lies between what was known and its base
+abbrev pub known_by : Message → (ℕ → ℕ) → ℕ → ℕ
+known_by m known j = if j == m.from && (nat_le m.base (known j) && nat_lt (known j) m.upto) then m.upto else known j
+
+abbrev pub known_after : Node → Asked → ℕ → ℕ
+known_after n (asks.Deliver message) = known_by message n.marks.known
+known_after n _ = n.marks.known
+
+abbrev pub acked_by : Message → (ℕ → ℕ) → ℕ → ℕ
+acked_by m acked j = if j == m.from then max (acked j) m.ack else acked j
+
+abbrev pub acked_after : Node → Asked → ℕ → ℕ
+acked_after n (asks.Deliver message) = acked_by message n.marks.acked
+acked_after n _ = n.marks.acked
+
+abbrev pub version_after : ℕ → Node → Asked → List ℕ → ℕ
+version_after i n ask words = n.marks.version + (if changes (shown n) (added i n ask words) then 1 else 0)
+
+abbrev pub marks_after : ℕ → Node → Asked → List ℕ → Marks
+marks_after i n ask words =
+    record { clock = clock_after n ask; version = version_after i n ask words; known = known_after n ask; acked = acked_after n ask }
+
+-- the states at the versions so far, of which this is the last
+abbrev pub past_with : ℕ → State → (ℕ → State) → ℕ → State
+past_with version now past v = if v == version then now else past v
+
+-- node i after an accepted ask
+unfoldable pub after : ℕ → Node → Asked → List ℕ → Node
+after i n ask words =
+    record {
+      ops = added i n ask words ++ n.ops;
+      marks = marks_after i n ask words;
+      past = past_with (version_after i n ask words) (fold (added i n ask words ++ n.ops)) n.past;
+    }
+
+-- the message that an emit sends
+abbrev pub message_to : ℕ → Node → ℕ → List Operation → Message
+message_to i n to chosen =
+    record { from = i; to = to; base = n.marks.acked to; upto = n.marks.version; ack = n.marks.known to; ops = chosen }
+
+-- its reply
+abbrev pub reply : ℕ → Node → Asked → List ℕ → Answered
+reply i n (asks.Set name text) words = asks.IsSet (record { clock = n.marks.clock + 1; node = i })
+reply i n (asks.Remove name) words = asks.IsRemoved (record { clock = n.marks.clock + 1; node = i })
+reply i n (asks.Load entries) words = asks.IsLoaded (length entries)
+reply i n (asks.Pass name) words = asks.IsPassed (reply_of_pass i (shown n) name words (setting_of (shown n) name))
+reply i n (asks.Shift name term to amount) words = asks.IsShifted ((shown n).shifts name term i to + amount)
+reply i n (asks.Emit to chosen) words = asks.IsEmitted (message_to i n to chosen)
+reply i n (asks.Deliver message) words = asks.IsDelivered (changes (shown n) message.ops)

@@ -1,0 +1,48 @@
+-- What is printed: the text of a fault, and the list of the points that are set.
+use Rattle.std.specs.Prelude.{ℕ, Bool, true, false, List, [], ◌∷◌, ◌++◌, Option, Some, None, codes, decimal, option_and_then, option_map}
+use Rattle.std.specs.List.{filter_map, join_with_byte}
+use Rattle.actions.specs.FaultText.{fault_text}
+use Rattle.stamp_register.specs.Keys.{KeyValue}
+use Rattle.replica_state.specs.States.{State}
+use Rattle.node_core.specs.declared.fault.NodeFault.{NodeFault}
+use Rattle.node_core.specs.declared.fault.NodeFault.TheVariants as faults
+
+-- its number, its name, and what it holds
+abbrev pub node_fault_text : NodeFault → List ℕ
+node_fault_text faults.TraceFull = codes "N1 TraceFull"
+node_fault_text faults.BadName = codes "N2 BadName"
+node_fault_text (faults.BadActions fault) = codes "N3 BadActions " ++ fault_text fault
+node_fault_text faults.TooManyPoints = codes "N4 TooManyPoints"
+node_fault_text faults.ClockFull = codes "N5 ClockFull"
+node_fault_text faults.NotSet = codes "N6 NotSet"
+node_fault_text faults.NoSuchTerm = codes "N7 NoSuchTerm"
+node_fault_text faults.NotCounted = codes "N8 NotCounted"
+node_fault_text faults.BadNode = codes "N9 BadNode"
+node_fault_text faults.ZeroAmount = codes "N10 ZeroAmount"
+node_fault_text (faults.TooFewRights have) = codes "N11 TooFewRights have=" ++ decimal have
+node_fault_text faults.CellFull = codes "N12 CellFull"
+node_fault_text (faults.BadWords need) = codes "N14 BadWords need=" ++ decimal need
+node_fault_text faults.NotForMe = codes "N17 NotForMe"
+node_fault_text faults.OwnAhead = codes "N18 OwnAhead"
+node_fault_text faults.AckAhead = codes "N19 AckAhead"
+node_fault_text faults.Overspent = codes "N20 Overspent"
+node_fault_text faults.BadConfig = codes "N21 BadConfig"
+node_fault_text faults.OutOfMemory = codes "N22 OutOfMemory"
+
+-- the canonical text that a name is set to
+abbrev pub text_set : State → List ℕ → Option (List ℕ)
+text_set v name = option_and_then (λ (key : KeyValue). key.body) (v.key name)
+
+-- `name=actions` of a name that is set
+abbrev pub list_entry : State → List ℕ → Option (List ℕ)
+list_entry v name = option_map (λ text. name ++ codes "=" ++ text) (text_set v name)
+
+-- the list with one entry more
+abbrev pub entry_after : Bool → Option (List ℕ) → List ℕ → List ℕ
+entry_after is_first None text = text
+entry_after true (Some entry) text = text ++ entry
+entry_after false (Some entry) text = text ++ 59 ∷ entry
+
+-- those of all names that are set, in byte order, joined by `;`
+unfoldable pub list_text : State → List ℕ
+list_text v = join_with_byte 59 (filter_map (list_entry v) v.names)

@@ -1,0 +1,86 @@
+//! Why a node refuses.
+
+use actions::ActionFault;
+use std::error::Error;
+use std::fmt;
+
+/// Why a call is refused. Where several refusals apply, the first of them in this order is the
+/// answer, but that want of memory stands in the place of any other. After a refusal the node is
+/// as it was.
+///
+/// `Display` shows the number, the variant's name and each field as `field=value`, or the text of
+/// the fault that it holds.
+#[derive(Clone, Copy, Debug, PartialEq, Eq)]
+pub enum NodeFault {
+    /// The trace has as many entries as the configuration allows.
+    TraceFull,
+    /// The name isn't 1 to 128 bytes of ASCII letters, digits, `_`, `-`, `.` and `:`.
+    BadName,
+    /// The action text is refused.
+    BadActions(ActionFault),
+    /// More than 256 names would be held, removed ones counted.
+    TooManyPoints,
+    /// The clock is at 2^64 - 1.
+    ClockFull,
+    /// The point isn't set here.
+    NotSet,
+    /// The point has no such term.
+    NoSuchTerm,
+    /// The term has no count.
+    NotCounted,
+    /// The other node isn't a node of the cluster, or is this one.
+    BadNode,
+    /// The amount is 0.
+    ZeroAmount,
+    /// The node has only so many rights.
+    TooFewRights { have: u64 },
+    /// The total would be above 2^64 - 1.
+    CellFull,
+    /// A pass of this point needs another number of words.
+    BadWords { need: u8 },
+    /// The message is for another node.
+    NotForMe,
+    /// The message says more of this node than the node knows itself.
+    OwnAhead,
+    /// The message knows a version of this node that there isn't yet.
+    AckAhead,
+    /// With the message a term would have more executions than its count.
+    Overspent,
+    /// The cluster hasn't 1 to 16 nodes, or the node isn't one of them.
+    BadConfig,
+    /// Memory was refused.
+    OutOfMemory,
+}
+
+impl fmt::Display for NodeFault {
+    ghost use Rattle.std.specs.Prelude.{Some};
+    ghost use Rattle.node_core.specs.Texts.{node_fault_text};
+
+    ghost output = { λ e. Some (node_fault_text e) };
+
+    fn fmt<W: fmt::Write>(&self, f: &mut fmt::Formatter<W>) -> fmt::Result {
+        match self {
+            NodeFault::TraceFull => f.write_str("N1 TraceFull"),
+            NodeFault::BadName => f.write_str("N2 BadName"),
+            NodeFault::BadActions(fault) => write!(f, "N3 BadActions {fault}"),
+            NodeFault::TooManyPoints => f.write_str("N4 TooManyPoints"),
+            NodeFault::ClockFull => f.write_str("N5 ClockFull"),
+            NodeFault::NotSet => f.write_str("N6 NotSet"),
+            NodeFault::NoSuchTerm => f.write_str("N7 NoSuchTerm"),
+            NodeFault::NotCounted => f.write_str("N8 NotCounted"),
+            NodeFault::BadNode => f.write_str("N9 BadNode"),
+            NodeFault::ZeroAmount => f.write_str("N10 ZeroAmount"),
+            NodeFault::TooFewRights { have } => write!(f, "N11 TooFewRights have={have}"),
+            NodeFault::CellFull => f.write_str("N12 CellFull"),
+            NodeFault::BadWords { need } => write!(f, "N14 BadWords need={need}"),
+            NodeFault::NotForMe => f.write_str("N17 NotForMe"),
+            NodeFault::OwnAhead => f.write_str("N18 OwnAhead"),
+            NodeFault::AckAhead => f.write_str("N19 AckAhead"),
+            NodeFault::Overspent => f.write_str("N20 Overspent"),
+            NodeFault::BadConfig => f.write_str("N21 BadConfig"),
+            NodeFault::OutOfMemory => f.write_str("N22 OutOfMemory"),
+        }
+    }
+}
+
+impl Error for NodeFault {}

@@ -1,0 +1,49 @@
+//! Calls of a node and their replies.
+
+use actions::Task;
+use stamp_register::Stamp;
+
+/// Which node of the cluster this is, how many nodes the cluster has (1 to 16), and how many
+/// calls the node accepts in its life.
+#[derive(Clone, Copy, Debug, PartialEq, Eq)]
+pub struct Config {
+    pub node: u8,
+    pub nodes: u8,
+    pub trace_cap: u32,
+}
+
+/// What a node is asked.
+#[derive(Debug, Drop)]
+pub enum Ask {
+    Set { name: String, text: String },
+    Pass { name: String },
+}
+
+/// What a pass of a point came to. The caller carries the task out.
+#[derive(Debug, Drop)]
+pub enum PassReply {
+    /// The point isn't set here.
+    Unset,
+    /// The point is set, and none of its terms was triggered.
+    NoTerm { stamp: Stamp },
+    /// This term was triggered, numbered from 0.
+    Act { stamp: Stamp, term: u8, task: Task },
+}
+
+/// The answer to an ask that was accepted.
+#[derive(Debug, Drop)]
+pub enum Reply {
+    Set(Stamp),
+    Pass(PassReply),
+}
+
+/// An accepted call: what was asked, the words that a pass was given, and the answer.
+#[derive(Debug, Drop)]
+pub struct Entry {
+    pub ask: Ask,
+    pub words: Vec<u32>,
+    pub reply: Reply,
+}
+
+/// The accepted calls of a node, the first one first.
+pub type Trace = Vec<Entry>;

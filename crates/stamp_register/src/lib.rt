@@ -1,0 +1,7 @@
+//! Keys of settings: which setting of a point is the later one.
+#![tactic(auto)]
+
+mod key;
+
+pub use key::{Body, Key, Stamp};
+
