@@ -3,13 +3,14 @@ use Rattle.std.proofs.Common.{◌≡◌, ℕ, ◌+◌, ◌<◌, ◌≤◌, ◌^�
 use Rattle.std.proofs.lemmas.List.{map-append, length-map}
 use Rattle.std.specs.Str.{bytes_eq}
 use Rattle.std.specs.Option.{IsSome}
+use Rattle.std.specs.Prelude.{pos, ◌≤ℤ◌}
 use Rattle.actions.specs.Value.{TermValue}
 use Rattle.actions.specs.Canonical.{canonical}
 use Rattle.actions.specs.Reading.{reading}
 use Rattle.actions.specs.declared.fault.ActionFault.{ActionFault}
 use Rattle.stamp_register.specs.Keys.{KeyValue}
 use Rattle.replica_state.specs.Operations.{Operation, Count, Hits, Execs, same_cell}
-use Rattle.replica_state.specs.States.{State, with_name, with_key, with_hits, with_execs, with_pass, with_spend}
+use Rattle.replica_state.specs.States.{State, with_name, with_key, with_hits, with_execs, with_pass, with_spend, rights_of}
 use Rattle.replica_state.specs.Folds.{fold, clock_of, names_of, key_of, number_at, at_key}
 use Rattle.replica_state.proofs.FoldSteps.{fold_key, fold_hits, fold_execs, max_zero, is_later, all_later, later_some, either_way}
 use Rattle.node_core.specs.declared.trace.Config.{Config}
@@ -21,6 +22,7 @@ use Rattle.node_core.specs.Outcomes.{execs_done, ops_done, state_done, IsHeld}
 use Rattle.node_core.specs.Steps.{after, new_key, body_read}
 use Rattle.node_core.specs.Traces.{replay_from, replay}
 use Rattle.node_core.specs.Holds.{Holds}
+use Rattle.node_core.proofs.OwnRights.{HasOwn, own_start, own_key, own_done}
 
 pub replay_more : (i : ℕ) (n : Node) (cs : List Call) (c : Call) → replay_from i n (cs ++ c ∷ []) ≡ after i (replay_from i n cs) c.ask c.words
 unfolding replay_from
@@ -48,6 +50,7 @@ holds_new config state own few small e = record {
   carried = omega arith;
   hits_few = λ name. let h : state.hits name config.node ≡ 0 = ap (λ (v : State). v.hits name config.node) e ∙ fold_no_hits name config.node in omega arith;
   execs_few = λ name k. let h : state.execs name k config.node ≡ 0 = ap (λ (v : State). v.execs name k config.node) e ∙ fold_no_execs name k config.node in omega arith;
+  own_rights = subst (λ (v : State). HasOwn v config.node) (sym e) (own_start config.node);
 }
 
 key_leaves_hits : (name : List ℕ) (key : KeyValue) (v : State) (q : List ℕ) (i : ℕ) → (with_key name key v).hits q i ≡ v.hits q i
@@ -81,6 +84,7 @@ holds_set config clock state next len n name text key h room k e =
       carried = omega arith;
       hits_few = λ q. let a = ap (λ (v : State). v.hits q config.node) e in let b = key_leaves_hits name key state q config.node in let d = h.hits_few q in omega (arith, a, b, d);
       execs_few = λ q j. let a = ap (λ (v : State). v.execs q j config.node) e in let b = key_few_execs name key state q j config.node in let d = h.execs_few q j in omega (arith, a, b, d);
+      own_rights = subst (λ (v : State). HasOwn v config.node) (sym e) (own_key state name key config.node h.own_rights);
     }
 
 -- the replay of a trace one entry longer
@@ -162,9 +166,9 @@ module _ (config : Config) (clock : ℕ) (state next : State) (len : ℕ) (n : N
   fold_pass true spent held h = fold_done config.node name n.ops (kept_names name n.ops (held refl)) true spent h
 
   -- after a pass
-  pub holds_pass : (is_set : Bool) (spent : Option ℕ) → Holds config clock state len n → len < config.trace_cap → ops_of_pass config.node state name words (setting_of state name) ≡ ops_done config.node state name is_set spent → (is_set ≡ true → IsHeld state name) → (is_set ≡ true → IsSome (state.key name)) → next ≡ state_done config.node state name is_set spent → Holds config clock next (len + 1) (after config.node n (Pass name) words)
+  pub holds_pass : (is_set : Bool) (spent : Option ℕ) → Holds config clock state len n → len < config.trace_cap → ops_of_pass config.node state name words (setting_of state name) ≡ ops_done config.node state name is_set spent → (is_set ≡ true → IsHeld state name) → (is_set ≡ true → IsSome (state.key name)) → ((k : ℕ) → spent ≡ Some k → pos 1 ≤ℤ rights_of state name k config.node) → next ≡ state_done config.node state name is_set spent → Holds config clock next (len + 1) (after config.node n (Pass name) words)
   unfolding after
-  holds_pass is_set spent h room ops held key e =
+  holds_pass is_set spent h room ops held key right e =
       let same : fold n.ops ≡ state = h.state_is in
       let added = added_by is_set spent same ops in
       let held' : is_set ≡ true → IsHeld (fold n.ops) name = λ t. subst (λ (v : State). IsHeld v name) (sym same) (held t) in
@@ -182,6 +186,7 @@ module _ (config : Config) (clock : ℕ) (state next : State) (len : ℕ) (n : N
         carried = omega (arith, carried, was);
         hits_few = λ q. subst (λ (v : State). v.hits q config.node ≤ len + 1) (sym e) (done_hits config.node name state len h.hits_few is_set spent q);
         execs_few = λ q t. subst (λ (v : State). v.execs q t config.node ≤ len + 1) (sym e) (done_execs config.node name state len h.execs_few is_set spent q t);
+        own_rights = subst (λ (v : State). HasOwn v config.node) (sym e) (own_done state name config.node is_set spent right h.own_rights);
       }
 
 module _ (config : Config) (clock : ℕ) (state next : State) (old mid new : List Entry) (e : Entry) (grown : new ≡ mid ++ e ∷ []) (same : mid ≡ old) (h : Holds config clock state (length old) (replay config.node (map call old))) (room : length (map call old) < config.trace_cap) where
@@ -199,9 +204,9 @@ module _ (config : Config) (clock : ℕ) (state next : State) (old mid new : Lis
       (subst (λ (ws : List ℕ). Holds config (clock + 1) next (length old + 1) (after config.node (replay config.node (map call old)) (Set name text) ws)) (sym words)
       (holds_set config clock state next (length old) (replay config.node (map call old)) name text key h space (k ∙ sym (ap (λ (r : Result (List TermValue) ActionFault). new_key config.node clock (body_read r)) read)) (s ∙ ap (λ (n : List ℕ). with_key n key state) pn))))
 
-  pub pass_kept : (name words : List ℕ) (is_set : Bool) (spent : Option ℕ) → (call e).ask ≡ Pass name → (call e).words ≡ words → ops_of_pass config.node state name words (setting_of state name) ≡ ops_done config.node state name is_set spent → (is_set ≡ true → IsHeld state name) → (is_set ≡ true → IsSome (state.key name)) → next ≡ state_done config.node state name is_set spent → Holds config clock next (length new) (replay config.node (map call new))
-  pass_kept name words is_set spent ask ws ops held key s =
+  pub pass_kept : (name words : List ℕ) (is_set : Bool) (spent : Option ℕ) → (call e).ask ≡ Pass name → (call e).words ≡ words → ops_of_pass config.node state name words (setting_of state name) ≡ ops_done config.node state name is_set spent → (is_set ≡ true → IsHeld state name) → (is_set ≡ true → IsSome (state.key name)) → ((k : ℕ) → spent ≡ Some k → pos 1 ≤ℤ rights_of state name k config.node) → next ≡ state_done config.node state name is_set spent → Holds config clock next (length new) (replay config.node (map call new))
+  pass_kept name words is_set spent ask ws ops held key right s =
       holds_grown config clock next old new e longer
       (subst (λ (a : Asked). Holds config clock next (length old + 1) (after config.node (replay config.node (map call old)) a (call e).words)) (sym ask)
       (subst (λ (xs : List ℕ). Holds config clock next (length old + 1) (after config.node (replay config.node (map call old)) (Pass name) xs)) (sym ws)
-      (holds_pass config clock state next (length old) (replay config.node (map call old)) name words is_set spent h space ops held key s)))
+      (holds_pass config clock state next (length old) (replay config.node (map call old)) name words is_set spent h space ops held key right s)))

@@ -1,12 +1,12 @@
 -- What the fields of a node are to what its trace comes to.
-use Rattle.std.specs.Prelude.{◌≡◌, ℕ, ◌<◌, ◌≤◌, ◌^◌, List}
-use Rattle.replica_state.specs.States.{State}
+use Rattle.std.specs.Prelude.{◌≡◌, ℕ, ◌<◌, ◌≤◌, ◌^◌, List, pos, ◌≤ℤ◌}
+use Rattle.replica_state.specs.States.{State, rights_of}
 use Rattle.replica_state.specs.Folds.{clock_of}
 use Rattle.node_core.specs.declared.trace.Config.{Config}
 use Rattle.node_core.specs.Nodes.{Node, shown}
 
--- the clock and the state are those of the node that the trace comes to, and no cell that the node
--- writes is above the number of its entries, so that each fits 64 bits
+-- the clock and the state are those of the node that the trace comes to; no cell that the node writes is
+-- above the number of its entries, so that each fits 64 bits; and its own rights are not negative
 pub record Holds (config : Config) (clock : ℕ) (state : State) (entries : ℕ) (n : Node) : Type 0 where
   pub own : config.node < config.nodes
   pub few : config.nodes ≤ 16
@@ -17,3 +17,4 @@ pub record Holds (config : Config) (clock : ℕ) (state : State) (entries : ℕ)
   pub carried : clock_of n.ops ≤ clock
   pub hits_few : (name : List ℕ) → state.hits name config.node ≤ entries
   pub execs_few : (name : List ℕ) (term : ℕ) → state.execs name term config.node ≤ entries
+  pub own_rights : (name : List ℕ) (term : ℕ) → pos 0 ≤ℤ rights_of state name term config.node

@@ -3,6 +3,7 @@
 #![tactic(auto)]
 
 mod fault;
+pub mod laws;
 mod list;
 mod node;
 mod pass;
@@ -14,3 +15,6 @@ pub use trace::{Ask, Config, Entry, PassReply, Reply, Trace};
 
 /// What holds a node's state.
 pub type State = replica_state::OpSet;
+
+#[cfg(test)]
+mod tests;

@@ -23,7 +23,12 @@ fn actions_set<'a>(state: &'a State, name: &Name) -> Option<&'a Actions>
 }
 
 /// Adds a point to the list, if it is set. Answers whether the list is still empty.
-fn push_entry(text: &mut String, state: &State, name: &Name, is_first: bool) -> Result<bool, AllocError>
+fn push_entry(
+    text: &mut String,
+    state: &State,
+    name: &Name,
+    is_first: bool,
+) -> Result<bool, AllocError>
     ensures text { OnOk result (string_bytes text.new ≡ entry_after is_first (list_entry (state_of state.now) name.now) (string_bytes text.old)) }
     ensures first { IfOk result (λ still. still ≡ (is_first && is_none (list_entry (state_of state.now) name.now))) }
 {

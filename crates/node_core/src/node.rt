@@ -1,6 +1,6 @@
 //! A node and its calls.
 
-ghost use Rattle.std.specs.Prelude.{◌≡◌, ◌≢◌, ℕ, List, [], ◌∷◌, ◌++◌, vec_len, vec_capacity, length, ◌^◌, ◌+◌, ◌≤◌, ◌<◌, ◌⊎◌, ◌↔◌, map, IfOk, IfErr, OnOk, OnErr, IsTrue, Some, None, Ok, string_bytes, true, false};
+ghost use Rattle.std.specs.Prelude.{◌≡◌, ◌≢◌, ℕ, List, [], ◌∷◌, ◌++◌, vec_len, vec_capacity, length, ◌^◌, ◌+◌, ◌≤◌, ◌<◌, ◌⊎◌, ◌↔◌, pos, ◌≤ℤ◌, map, IfOk, IfErr, OnOk, OnErr, IsTrue, Some, None, Ok, string_bytes, true, false};
 ghost use Rattle.actions.specs.Reading.{reading};
 ghost use Rattle.replica_state.specs.States.{rights_of, spent_of, total_hits};
 ghost use Rattle.node_core.specs.Asks as asks;
@@ -86,7 +86,12 @@ impl NodeCore {
     }
 
     /// Passes a point, with a random word for each of its terms whose chance is below 100%.
-    pub fn pass_with(&mut self, alloc: Global, name: &str, words: &[u32]) -> Result<PassReply, NodeFault>
+    pub fn pass_with(
+        &mut self,
+        alloc: Global,
+        name: &str,
+        words: &[u32],
+    ) -> Result<PassReply, NodeFault>
         ensures ok { IfOk result (λ r. (refusal self.old (asks.Pass name.now) words.now ≡ None) × (reply_to self.old (asks.Pass name.now) words.now ≡ asks.IsPassed (passed r))) }
         ensures after { OnOk result (self.new ≡ after_call self.old (asks.Pass name.now) words.now) }
         ensures refused { IfErr result (λ f. (f ≡ NodeFault.OutOfMemory) ⊎ (refusal self.old (asks.Pass name.now) words.now ≡ Some f)) }
@@ -114,9 +119,10 @@ impl NodeCore {
     }
 
     /// The rights of a node to execute a counted term, in this node's view; 0 where there is no
-    /// such term.
+    /// such term. A node's own rights are never negative.
     pub fn rights(&self, name: &Name, term: u8, node: u8) -> i128
-        ensures { result ≡ rights_of (shown (node_of self.now)) name.now term node }
+        ensures value { result ≡ rights_of (shown (node_of self.now)) name.now term node }
+        ensures own { node ≡ self.now.config.node → pos 0 ≤ℤ result }
     {
         self.state.rights(name, term, node)
     }
@@ -212,7 +218,12 @@ impl NodeCore {
     }
 
     // The name and the actions, or the refusal.
-    fn set_checked(&self, alloc: Global, name: &str, text: &str) -> Result<(Name, Actions), NodeFault>
+    fn set_checked(
+        &self,
+        alloc: Global,
+        name: &str,
+        text: &str,
+    ) -> Result<(Name, Actions), NodeFault>
         ensures ok { IfOk result (λ p. (refusal self.now (asks.Set name.now text.now) [] ≡ None) × (p.0 ≡ name.now) × (reading text.now ≡ Ok p.1)) }
         ensures room { OnOk result ((length self.now.trace < self.now.config.trace_cap) × ((node_of self.now).marks.clock + 1 < 2 ^ 64)) }
         ensures refused { IfErr result (λ f. (f ≡ NodeFault.OutOfMemory) ⊎ (refusal self.now (asks.Set name.now text.now) [] ≡ Some f)) }
@@ -240,7 +251,14 @@ impl NodeCore {
     }
 
     // Sets a point whose name and actions were read.
-    fn issue(&mut self, alloc: Global, name: &str, text: &str, point: Name, actions: Actions) -> Result<Stamp, AllocError>
+    fn issue(
+        &mut self,
+        alloc: Global,
+        name: &str,
+        text: &str,
+        point: Name,
+        actions: Actions,
+    ) -> Result<Stamp, AllocError>
         requires room { length self.old.trace < self.old.config.trace_cap }
         requires clock { (node_of self.old).marks.clock + 1 < 2 ^ 64 }
         requires name { point ≡ name.now }

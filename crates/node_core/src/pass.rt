@@ -13,8 +13,8 @@ use crate::State;
 use crate::trace::PassReply;
 use actions::{Actions, Name, Task, decide};
 use replica_state::Replica;
-use std::alloc::{AllocError, Global};
 use stamp_register::Key;
+use std::alloc::{AllocError, Global};
 
 /// The key and the actions of a point that is set.
 fn setting_at<'a>(state: &'a State, name: &Name) -> Option<(&'a Key, &'a Actions)>
@@ -49,7 +49,14 @@ fn has_right(state: &State, me: u8, name: &Name, term: u8) -> bool
 }
 
 /// The term that is triggered.
-fn triggered_term(state: &State, me: u8, name: &Name, key: &Key, actions: &Actions, words: &[u32]) -> Option<u8>
+fn triggered_term(
+    state: &State,
+    me: u8,
+    name: &Name,
+    key: &Key,
+    actions: &Actions,
+    words: &[u32],
+) -> Option<u8>
     requires set { setting_of (state_of state.now) name.now ≡ Some (key_value key.now, actions.now) }
     requires words { length words.now ≡ words_for (state_of state.now) name.now }
     ensures { result ≡ triggered me (state_of state.now) name.now words.now (key_value key.now, actions.now) }
@@ -62,7 +69,12 @@ fn triggered_term(state: &State, me: u8, name: &Name, key: &Key, actions: &Actio
 }
 
 /// The reply of a pass that triggers this term, or none.
-fn reply_for(alloc: Global, key: &Key, actions: &Actions, chosen: Option<u8>) -> Result<PassReply, AllocError>
+fn reply_for(
+    alloc: Global,
+    key: &Key,
+    actions: &Actions,
+    chosen: Option<u8>,
+) -> Result<PassReply, AllocError>
     ensures { IfOk result (λ r. passed r ≡ reply_of_choice (key_value key.now, actions.now) chosen) }
 {
     let stamp = key.stamp();
@@ -101,7 +113,14 @@ pub(crate) struct Outcome {
 }
 
 /// Counts a hit, and perhaps an execution.
-pub(crate) fn count(state: &mut State, alloc: Global, me: u8, name: &Name, is_set: bool, spent: Option<u8>) -> Result<(), AllocError>
+pub(crate) fn count(
+    state: &mut State,
+    alloc: Global,
+    me: u8,
+    name: &Name,
+    is_set: bool,
+    spent: Option<u8>,
+) -> Result<(), AllocError>
     requires key { is_set ≡ true → IsSome ((state_of state.old).key name.now) }
     requires hits { (state_of state.old).hits name.now me + 1 < 2 ^ 64 }
     requires execs { (term : ℕ) → (state_of state.old).execs name.now term me + 1 < 2 ^ 64 }
@@ -115,13 +134,20 @@ pub(crate) fn count(state: &mut State, alloc: Global, me: u8, name: &Name, is_se
 }
 
 /// What a pass of a point by node `me` comes to.
-pub(crate) fn outcome_of(alloc: Global, state: &State, me: u8, name: &Name, words: &[u32]) -> Result<Outcome, AllocError>
+pub(crate) fn outcome_of(
+    alloc: Global,
+    state: &State,
+    me: u8,
+    name: &Name,
+    words: &[u32],
+) -> Result<Outcome, AllocError>
     requires words { length words.now ≡ words_for (state_of state.now) name.now }
     ensures reply { IfOk result (λ o. passed o.reply ≡ reply_of_pass me (state_of state.now) name.now words.now (setting_of (state_of state.now) name.now)) }
     ensures recorded { IfOk result (λ o. passed o.recorded ≡ reply_of_pass me (state_of state.now) name.now words.now (setting_of (state_of state.now) name.now)) }
     ensures ops { IfOk result (λ o. ops_of_pass me (state_of state.now) name.now words.now (setting_of (state_of state.now) name.now) ≡ ops_done me (state_of state.now) name.now o.is_set o.spent) }
     ensures key { IfOk result (λ o. o.is_set ≡ true → IsSome ((state_of state.now).key name.now)) }
     ensures held { IfOk result (λ o. o.is_set ≡ true → IsHeld (state_of state.now) name.now) }
+    ensures rights { IfOk result (λ o. (term : ℕ) → o.spent ≡ Some term → pos 1 ≤ℤ rights_of (state_of state.now) name.now term me) }
 {
     let Some((key, actions)) = setting_at(state, name) else {
         return Ok(Outcome {

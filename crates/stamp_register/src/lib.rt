@@ -2,6 +2,9 @@
 #![tactic(auto)]
 
 mod key;
+pub mod laws;
 
 pub use key::{Body, Key, Stamp};
 
+#[cfg(test)]
+mod tests;

@@ -15,13 +15,13 @@ loop-index-preserved c =
     let v : State = state_of c.args.state.now in
     let so_far = c.loop-index.invariant in
     elim c.match-name_at.branch [
-      in-Some+in_ok-is_first w ↦
-        let name : List ℕ = w.in-Some.name.now in
-        record {
-          text = ap string_bytes w.text-is ∙ w.in_ok-is_first.ensures.text ∙ (λ i. entry_after (so_far.first i) (list_entry v name) (so_far.text i)) ∙ sym (joined_step v v.names c.loop-index.index name (sym w.in-Some.ensures));
-          first = w.is_first-is ∙ w.in_ok-is_first.ensures.first ∙ ap (λ (b : Bool). b && is_none (list_entry v name)) so_far.first ∙ sym (empty_step v v.names c.loop-index.index name (sym w.in-Some.ensures));
-        }
-    | in_default w ↦ absurd (present v.names c.loop-index.index (omega arith) w.in_default.ensures)
+      | in-Some+in_ok-is_first w ↦
+          let name : List ℕ = w.in-Some.name.now in
+          record {
+            text = ap string_bytes w.text-is ∙ w.in_ok-is_first.ensures.text ∙ (λ i. entry_after (so_far.first i) (list_entry v name) (so_far.text i)) ∙ sym (joined_step v v.names c.loop-index.index name (sym w.in-Some.ensures));
+            first = w.is_first-is ∙ w.in_ok-is_first.ensures.first ∙ ap (λ (b : Bool). b && is_none (list_entry v name)) so_far.first ∙ sym (empty_step v v.names c.loop-index.index name (sym w.in-Some.ensures));
+          }
+      | in_default w ↦ absurd (present v.names c.loop-index.index (omega arith) w.in_default.ensures)
     ]
 
 pub returns : goal.returns

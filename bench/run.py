@@ -1,0 +1,69 @@
+#!/usr/bin/env python3
+"""Times the passes of scripts that `failreg sim` runs. See README.md beside this file."""
+
+import os
+import subprocess
+import sys
+import tempfile
+
+CRATE = os.path.join(os.path.dirname(os.path.abspath(__file__)), "..", "crates", "failreg")
+PASSES = (100_000, 200_000)
+POINTS = (1, 256)
+RUNS = 3
+
+# The actions of each point, and what follows the point's name in each pass.
+SETTINGS = {
+    "uncounted": ("print(x)", ""),
+    "counted": ("1000000*print(x)", ""),
+    "chance": ("50%print(x)", " 2147483647"),
+}
+
+
+def build():
+    """Proves and builds the program, where it has changed."""
+    subprocess.run(["rt", "run", "--", "--help"], cwd=CRATE, check=True, stdout=subprocess.DEVNULL)
+    return os.path.join(CRATE, "out", "failreg")
+
+
+def script(setting, points, passes):
+    actions, words = SETTINGS[setting]
+    lines = ["nodes 1 4294967295"]
+    lines += [f"set 0 p{point} {actions}" for point in range(points)]
+    lines += [f"pass 0 p{number % points}{words}" for number in range(passes)]
+    return "\n".join(lines).encode()
+
+
+def run(program, text, passes):
+    """Seconds of a processor, and the most memory in MiB."""
+    with tempfile.TemporaryFile() as source, tempfile.TemporaryFile() as output:
+        source.write(text)
+        source.seek(0)
+        child = subprocess.Popen([program, "sim"], stdin=source, stdout=output)
+        _, status, usage = os.wait4(child.pid, 0)
+        child.returncode = os.waitstatus_to_exitcode(status)
+        output.seek(0)
+        acts = sum(line.startswith(b"act ") for line in output)
+    if child.returncode != 0 or acts != passes:
+        sys.exit(f"{program} sim: status {child.returncode}, {acts} of {passes} passes acted")
+    return usage.ru_utime + usage.ru_stime, usage.ru_maxrss / 1024
+
+
+def main():
+    program = sys.argv[1] if len(sys.argv) > 1 else build()
+    few, many = PASSES
+    print(f"{'setting':<10}{'points':>7}{f'ns a pass, {few}':>20}{many:>8}{'ratio':>7}{'most MiB':>10}")
+    for setting in SETTINGS:
+        for points in POINTS:
+            times = []
+            memory = 0.0
+            for passes in PASSES:
+                text = script(setting, points, passes)
+                runs = [run(program, text, passes) for _ in range(RUNS)]
+                times.append(min(seconds for seconds, _ in runs) / passes * 1e9)
+                memory = max(memory, *(most for _, most in runs))
+            first, second = times
+            print(f"{setting:<10}{points:>7}{first:>20.0f}{second:>8.0f}{second / first:>7.2f}{memory:>10.1f}")
+
+
+if __name__ == "__main__":
+    main()

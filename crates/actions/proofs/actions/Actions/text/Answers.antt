@@ -1,0 +1,12 @@
+use Rattle.std.proofs.Common.{◌≡◌, List, Ok, subst}
+use Rattle.actions.specs.Value.{TermValue}
+use Rattle.actions.specs.Canonical.{canonical}
+use Rattle.actions.specs.Reading.{reading}
+use Rattle.actions.proofs.CanonicalLemmas.{canonical_spells}
+use Rattle.actions.proofs.Complete.{reading_complete}
+use Rattle.actions.proofs.actions.Actions.text.Goals as goal
+
+pub returns-clause-reads : goal.returns-clause-reads
+returns-clause-reads c =
+    subst (λ (ts : List TermValue). reading (canonical ts) ≡ Ok ts) c.self.view_is
+    (reading_complete _ _ (canonical_spells _ _ c.self.invariant.0))

@@ -1,0 +1,10 @@
+pub mod Limits
+pub mod Bytes
+pub mod Numbers
+pub mod Value
+pub mod Reading
+pub mod Grammar
+pub mod Canonical
+pub mod FaultText
+pub mod Choice
+pub mod Names

@@ -1,0 +1,14 @@
+-- Names of points.
+use Rattle.std.specs.Prelude.{ℕ, Bool, ◌&&◌, ◌||◌, List, length, nat_lt, nat_le, ◌==◌}
+use Rattle.std.specs.Char.{is_ascii_alphanumeric}
+use Rattle.std.specs.List.{list_all}
+use Rattle.actions.specs.Limits.{max_name}
+use Rattle.actions.specs.Bytes.{dash, point, colon, underscore}
+
+-- a letter, a digit, or one of `_`, `-`, `.` and `:`
+abbrev pub is_name_byte : ℕ → Bool
+is_name_byte b = is_ascii_alphanumeric b || (b == underscore) || (b == dash) || (b == point) || (b == colon)
+
+-- 1 to 128 of these
+abbrev pub is_name : List ℕ → Bool
+is_name bs = nat_lt 0 (length bs) && nat_le (length bs) max_name && list_all is_name_byte bs

@@ -1,0 +1,123 @@
+use super::{parsed, repeated, shown};
+use crate::{ActionFault, parse_actions};
+use std::alloc::Global;
+use std::test::Fail;
+
+#[test]
+fn canonical_texts(rt: HostRuntime) -> Result<(), Fail> {
+    for (text, want) in [
+        (
+            " 020.50%3*print(a(b)c) -> panic",
+            "20.5%3*print(a(b)c)->panic",
+        ),
+        ("100.0000%off", "off"),
+        ("off(x)", "off"),
+        ("pause(x)", "pause"),
+        ("yield()", "yield"),
+        ("return", "return"),
+        ("return()", "return()"),
+        (
+            "0.0001%007*sleep(010)->0%yield",
+            "0.0001%7*sleep(10)->0%yield",
+        ),
+        (
+            "20.05%delay(0)->print( a - > )",
+            "20.05%delay(0)->print( a - > )",
+        ),
+        ("18446744073709551615*off", "18446744073709551615*off"),
+        ("print(50%)", "print(50%)"),
+        ("panic(2*3)", "panic(2*3)"),
+    ] {
+        let actions = parsed(rt.alloc(), text)?;
+        assert_eq!(rt; actions.text(), want, "at {text}");
+        let again = parsed(rt.alloc(), want)?;
+        assert_eq!(rt; again.text(), want, "again");
+    }
+    Ok(())
+}
+
+/// Why a text is refused.
+fn refused(alloc: Global, text: &str) -> Result<ActionFault, Fail> {
+    match parse_actions(alloc, text) {
+        Err(ActionFault::OutOfMemory) => Ok(parse_actions(alloc, text).err().ok_or("it is read")?),
+        first => Ok(first.err().ok_or("it is read")?),
+    }
+}
+
+#[test]
+fn refused_texts(rt: HostRuntime) -> Result<(), Fail> {
+    for (text, want) in [
+        ("off->(a", "A3 Unclosed term=1"),
+        ("101%x*fly(", "A3 Unclosed term=0"),
+        ("101%x*fly", "A4 BadPercent term=0"),
+        ("x*fly", "A5 BadCount term=0"),
+        ("fly->101%off", "A7 UnknownTask term=0"),
+        ("print(a", "A3 Unclosed term=0"),
+        ("print(a) b", "A3 Unclosed term=0"),
+        ("101%off", "A4 BadPercent term=0"),
+        ("100.0001%off", "A4 BadPercent term=0"),
+        (".5%off", "A4 BadPercent term=0"),
+        ("5.%off", "A4 BadPercent term=0"),
+        ("0020%off", "A4 BadPercent term=0"),
+        ("1.00000%off", "A4 BadPercent term=0"),
+        ("+2%off", "A4 BadPercent term=0"),
+        ("2 %off", "A4 BadPercent term=0"),
+        ("20% 3*off", "A5 BadCount term=0"),
+        ("*off", "A5 BadCount term=0"),
+        ("18446744073709551616*off", "A5 BadCount term=0"),
+        ("+3*off", "A5 BadCount term=0"),
+        ("", "A6 NoTask term=0"),
+        ("off->", "A6 NoTask term=1"),
+        ("5%(x)", "A6 NoTask term=0"),
+        ("fly", "A7 UnknownTask term=0"),
+        ("off)", "A7 UnknownTask term=0"),
+        ("Off", "A7 UnknownTask term=0"),
+        ("sleep", "A8 NeedsTime term=0"),
+        ("off -> 3*delay", "A8 NeedsTime term=1"),
+        ("delay(x)", "A9 BadTime term=0"),
+        ("sleep()", "A9 BadTime term=0"),
+        ("sleep( 1)", "A9 BadTime term=0"),
+        ("sleep(18446744073709551616)", "A9 BadTime term=0"),
+        ("off;", "A10 BadByte offset=3"),
+        ("101%off\n->;", "A10 BadByte offset=7"),
+        ("print(\x7f)", "A10 BadByte offset=6"),
+    ] {
+        let fault = refused(rt.alloc(), text)?;
+        let printed = shown(rt.alloc(), &fault)?;
+        assert_eq!(rt; printed.as_str(), want, "at {text}");
+    }
+    let printed = shown(rt.alloc(), &ActionFault::OutOfMemory)?;
+    assert_eq!(rt; printed.as_str(), "A11 OutOfMemory");
+    Ok(())
+}
+
+#[test]
+fn most_terms(rt: HostRuntime) -> Result<(), Fail> {
+    let text = repeated(rt.alloc(), "off->", 15, "off")?;
+    assert_eq!(rt; parsed(rt.alloc(), text.as_str())?.text(), text.as_str());
+    let text = repeated(rt.alloc(), "off->", 15, "fly")?;
+    let fault = refused(rt.alloc(), text.as_str())?;
+    assert_eq!(rt; fault, ActionFault::UnknownTask { term: 15 });
+    let text = repeated(rt.alloc(), "off->", 16, "off")?;
+    let fault = refused(rt.alloc(), text.as_str())?;
+    assert_eq!(rt; shown(rt.alloc(), &fault)?.as_str(), "A2 TooManyTerms");
+    // This is found before a term is read.
+    let text = repeated(rt.alloc(), "fly->", 16, "off")?;
+    let fault = refused(rt.alloc(), text.as_str())?;
+    assert_eq!(rt; fault, ActionFault::TooManyTerms);
+    Ok(())
+}
+
+#[test]
+fn longest_text(rt: HostRuntime) -> Result<(), Fail> {
+    let text = repeated(rt.alloc(), " ", 1021, "off")?;
+    assert_eq!(rt; parsed(rt.alloc(), text.as_str())?.text(), "off");
+    let text = repeated(rt.alloc(), " ", 1022, "off")?;
+    let fault = refused(rt.alloc(), text.as_str())?;
+    assert_eq!(rt; shown(rt.alloc(), &fault)?.as_str(), "A1 TooLong");
+    // This is found before a bad byte is.
+    let text = repeated(rt.alloc(), ";", 1024, ";")?;
+    let fault = refused(rt.alloc(), text.as_str())?;
+    assert_eq!(rt; fault, ActionFault::TooLong);
+    Ok(())
+}

@@ -1,0 +1,5 @@
+pub mod Flows
+pub mod Numbers
+pub mod Words
+pub mod Texts
+pub mod Outputs

@@ -1,0 +1,38 @@
+-- Lines, their fields, and the numbers in them, as bytes.
+use Rattle.std.specs.Prelude.{ℕ, Bool, ◌&&◌, ◌==◌, List, length, if◌then◌else◌, nat_lt, nat_le, Option, Some, None}
+use Rattle.std.specs.List.{slice_split, position_or_len, before_first, after_first, list_all}
+use Rattle.std.specs.Char.{is_ascii_digit}
+use Rattle.std.specs.Str.Parse.{digits_value}
+
+abbrev pub newline : ℕ
+newline = 10
+
+abbrev pub space : ℕ
+space = 32
+
+-- what stands between the newlines: where a text ends with one, the last line is empty
+abbrev pub lines_of : List ℕ → List (List ℕ)
+lines_of text = slice_split (λ byte. byte == newline) text
+
+abbrev pub has_space : List ℕ → Bool
+has_space text = nat_lt (position_or_len (λ byte. byte == space) text) (length text)
+
+-- what stands before the first space, and what after it
+abbrev pub cut_of : List ℕ → Option (List ℕ × List ℕ)
+cut_of text = if has_space text then Some (before_first (λ byte. byte == space) text, after_first (λ byte. byte == space) text) else None
+
+-- a field: some bytes, none of which is a space
+abbrev pub field_of : List ℕ → Option (List ℕ)
+field_of text = if (length text == 0) then None else (if has_space text then None else Some text)
+
+-- a number: one or more digits, with a value up to this
+abbrev pub number_of : ℕ → List ℕ → Option ℕ
+number_of most text = if nat_lt 0 (length text) && list_all is_ascii_digit text && nat_le (digits_value 10 text) most then Some (digits_value 10 text) else None
+
+-- the number of a node or a term
+abbrev pub byte_of : List ℕ → Option ℕ
+byte_of text = number_of 255 text
+
+-- the number of a trace's limit, or a random word
+abbrev pub word_of : List ℕ → Option ℕ
+word_of text = number_of 4294967295 text

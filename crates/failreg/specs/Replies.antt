@@ -1,0 +1,59 @@
+-- The texts of what a cluster answers.
+use Rattle.std.specs.Prelude.{ℕ, List, [], ◌∷◌, ◌++◌, Option, Some, None, codes, decimal, string_bytes}
+use Rattle.std.specs.Fmt.{signed_decimal}
+use Rattle.actions.specs.Canonical.{task_text}
+use Rattle.stamp_register.specs.declared.key.Stamp.{Stamp}
+use Rattle.node_core.specs.declared.fault.NodeFault.{NodeFault}
+use Rattle.node_core.specs.Asks.{Passed, Unset, NoTerm, Act, passed, Answered, IsSet, IsPassed}
+use Rattle.node_core.specs.Texts.{node_fault_text}
+use Rattle.failreg.specs.Fields.{newline}
+use Rattle.failreg.specs.declared.reply.Reply.{Reply}
+use Rattle.failreg.specs.declared.reply.Reply.TheVariants as replies
+
+abbrev pub stamp_text : Stamp → List ℕ
+stamp_text stamp = decimal stamp.clock ++ codes "." ++ decimal stamp.node
+
+abbrev pub set_text : Stamp → List ℕ
+set_text stamp = codes "set " ++ stamp_text stamp
+
+-- with the number of the term that was triggered, and its task
+abbrev pub pass_text : Passed → List ℕ
+pass_text Unset = codes "unset"
+pass_text (NoTerm stamp) = codes "none " ++ stamp_text stamp
+pass_text (Act stamp term task) = codes "act " ++ stamp_text stamp ++ codes " " ++ decimal term ++ codes " " ++ task_text task
+
+-- what an accepted call answers; no line of a script makes another call yet
+abbrev pub answer_text : Answered → List ℕ
+answer_text (IsSet stamp) = set_text stamp
+answer_text (IsPassed reply) = pass_text reply
+answer_text _ = []
+
+abbrev pub refused_text : List ℕ → List ℕ
+refused_text fault = codes "refused " ++ fault
+
+-- of a call of a node that there isn't
+abbrev pub no_node_text : List ℕ
+no_node_text = refused_text (codes "NoNode")
+
+-- of a line that asks for nothing
+abbrev pub bad_line_text : List ℕ
+bad_line_text = codes "bad line"
+
+-- the text of a reply of the code
+abbrev pub reply_text : Reply → List ℕ
+reply_text (replies.Set stamp) = set_text stamp
+reply_text (replies.Pass reply) = pass_text (passed reply)
+reply_text (replies.List text) = string_bytes text
+reply_text (replies.Rights number) = signed_decimal number
+reply_text (replies.Count number) = decimal number
+reply_text (replies.Refused fault) = refused_text (node_fault_text fault)
+reply_text replies.NoNode = no_node_text
+reply_text replies.BadLine = bad_line_text
+
+abbrev pub output_line : List ℕ → List ℕ
+output_line text = text ++ newline ∷ []
+
+-- what is written of a reply, if there is one
+abbrev pub reply_output : Option Reply → List ℕ
+reply_output None = []
+reply_output (Some reply) = output_line (reply_text reply)

@@ -1,0 +1,62 @@
+-- What a script prints: its lines are answered one after the other, each by the cluster that those
+-- before it left.
+use Rattle.std.specs.Prelude.{ℕ, Bool, ◌==◌, ◌||◌, List, [], ◌∷◌, ◌++◌, length, slice_index, if◌then◌else◌, Option, Some, None}
+use Rattle.std.specs.Str.{is_utf8}
+use Rattle.node_core.specs.declared.fault.NodeFault.TheVariants.{BadConfig}
+use Rattle.node_core.specs.Texts.{node_fault_text}
+use Rattle.node_core.specs.Traces.{Kept}
+use Rattle.failreg.specs.Fields.{lines_of}
+use Rattle.failreg.specs.Commands.{CommandValue, nodes, ask, command_of, ◌>>=◌}
+use Rattle.failreg.specs.Replies.{refused_text, bad_line_text, output_line}
+use Rattle.failreg.specs.Clusters.{is_cluster_size, new_nodes, ask_text, cluster_after_ask}
+
+abbrev pub hash_sign : ℕ
+hash_sign = 35
+
+-- an empty line, or a comment, whatever its bytes
+abbrev pub is_skipped : List ℕ → Bool
+is_skipped line = (length line == 0) || (slice_index line 0 == hash_sign)
+
+abbrev pub text_in : List ℕ → Option (List ℕ)
+text_in line = if is_utf8 line then Some line else None
+
+-- what a line asks for, where it is text and has one of the forms
+abbrev pub command_in : List ℕ → Option CommandValue
+command_in line = text_in line >>= command_of
+
+-- what a command prints, and the cluster after it; a cluster is made once, and before that nothing else is answered
+abbrev pub command_output : Option (List Kept) → CommandValue → List ℕ
+command_output None (nodes count cap) = if is_cluster_size count then [] else output_line (refused_text (node_fault_text BadConfig))
+command_output None (ask node call) = output_line bad_line_text
+command_output (Some cluster) (nodes count cap) = output_line bad_line_text
+command_output (Some cluster) (ask node call) = output_line (ask_text cluster node call)
+
+abbrev pub cluster_after : Option (List Kept) → CommandValue → Option (List Kept)
+cluster_after None (nodes count cap) = if is_cluster_size count then Some (new_nodes count cap) else None
+cluster_after None (ask node call) = None
+cluster_after (Some cluster) (nodes count cap) = Some cluster
+cluster_after (Some cluster) (ask node call) = Some (cluster_after_ask cluster node call)
+
+-- the same of a line that isn't skipped
+abbrev pub asked_output : Option (List Kept) → Option CommandValue → List ℕ
+asked_output cluster None = output_line bad_line_text
+asked_output cluster (Some command) = command_output cluster command
+
+abbrev pub cluster_after_asked : Option (List Kept) → Option CommandValue → Option (List Kept)
+cluster_after_asked cluster None = cluster
+cluster_after_asked cluster (Some command) = cluster_after cluster command
+
+-- the same of any line
+abbrev pub line_output : Option (List Kept) → List ℕ → List ℕ
+line_output cluster line = if is_skipped line then [] else asked_output cluster (command_in line)
+
+abbrev pub cluster_after_line : Option (List Kept) → List ℕ → Option (List Kept)
+cluster_after_line cluster line = if is_skipped line then cluster else cluster_after_asked cluster (command_in line)
+
+abbrev pub text_from : Option (List Kept) → List (List ℕ) → List ℕ
+text_from cluster [] = []
+text_from cluster (line ∷ lines) = line_output cluster line ++ text_from (cluster_after_line cluster line) lines
+
+-- a script begins without a cluster
+unfoldable pub script_text : List ℕ → List ℕ
+script_text script = text_from None (lines_of script)

@@ -1,0 +1,154 @@
+//! The nodes of a script, and their calls. Nodes exchange nothing yet.
+
+ghost use Rattle.std.specs.Prelude.{◌≡◌, ◌≢◌, false, IsTrue, IfOk, IfErr, OnOk, Some, None, if◌then◌else◌, option_map, [], vec_items};
+ghost use Rattle.actions.specs.Names.{is_name};
+ghost use Rattle.node_core.specs.declared.fault.NodeFault.TheVariants.{OutOfMemory};
+ghost use Rattle.failreg.specs.Commands.{call_value, set, pass, rights, spent, hits};
+ghost use Rattle.failreg.specs.Replies.{reply_text};
+ghost use Rattle.failreg.specs.Clusters.{is_cluster_size, new_nodes, call_text, node_after, ask_text, cluster_after_ask};
+
+use crate::command::Call;
+use crate::reply::Reply;
+use actions::{Name, NameFault};
+use node_core::{Config, NodeCore, NodeFault};
+use std::alloc::{AllocError, Global};
+use std::marker::Model;
+
+/// The nodes of a script, by their numbers.
+#[derive(Drop)]
+pub struct Cluster {
+    nodes: Vec<NodeCore>,
+}
+
+impl Model for Cluster {
+    ghost use Rattle.std.specs.Prelude.{List};
+    ghost use Rattle.node_core.specs.Traces.{Kept};
+
+    ghost Value = { List Kept };
+
+    ghost view = { λ c. c.nodes.items };
+}
+
+fn set_point(
+    alloc: Global,
+    node: &mut NodeCore,
+    name: &str,
+    text: &str,
+) -> Result<Reply, AllocError>
+    ensures reply { IfOk result (λ reply. reply_text reply ≡ call_text node.old (set name.now text.now)) }
+    ensures after { OnOk result (node.new ≡ node_after node.old (set name.now text.now)) }
+{
+    match node.set(alloc, name, text) {
+        Ok(stamp) => Ok(Reply::Set(stamp)),
+        Err(fault) => Reply::refused(fault),
+    }
+}
+
+fn pass_point(
+    alloc: Global,
+    node: &mut NodeCore,
+    name: &str,
+    words: &[u32],
+) -> Result<Reply, AllocError>
+    ensures reply { IfOk result (λ reply. reply_text reply ≡ call_text node.old (pass name.now words.now)) }
+    ensures after { OnOk result (node.new ≡ node_after node.old (pass name.now words.now)) }
+{
+    match node.pass_with(alloc, name, words) {
+        Ok(reply) => Ok(Reply::Pass(reply)),
+        Err(fault) => Reply::refused(fault),
+    }
+}
+
+fn name_in(alloc: Global, text: &str) -> Result<Option<Name>, AllocError>
+    ensures { IfOk result (λ name. name ≡ (if is_name text.now then Some text.now else None)) }
+{
+    match Name::parse(alloc, text) {
+        Ok(name) => Ok(Some(name)),
+        Err(NameFault::BadName) => Ok(None),
+        Err(NameFault::OutOfMemory) => Err(AllocError),
+    }
+}
+
+fn rights_at(
+    alloc: Global,
+    node: &NodeCore,
+    name: &str,
+    term: u8,
+    of: u8,
+) -> Result<Reply, AllocError>
+    ensures { IfOk result (λ reply. reply_text reply ≡ call_text node.now (rights name.now term of)) }
+{
+    let Some(name) = name_in(alloc, name)? else {
+        return Ok(Reply::Rights(0));
+    };
+    Ok(Reply::Rights(node.rights(&name, term, of)))
+}
+
+fn spent_at(alloc: Global, node: &NodeCore, name: &str, term: u8) -> Result<Reply, AllocError>
+    ensures { IfOk result (λ reply. reply_text reply ≡ call_text node.now (spent name.now term)) }
+{
+    let Some(name) = name_in(alloc, name)? else {
+        return Ok(Reply::Count(0));
+    };
+    Ok(Reply::Count(node.spent(&name, term)))
+}
+
+fn hits_at(alloc: Global, node: &NodeCore, name: &str) -> Result<Reply, AllocError>
+    ensures { IfOk result (λ reply. reply_text reply ≡ call_text node.now (hits name.now)) }
+{
+    let Some(name) = name_in(alloc, name)? else {
+        return Ok(Reply::Count(0));
+    };
+    Ok(Reply::Count(node.hits(&name)))
+}
+
+fn call_node(alloc: Global, node: &mut NodeCore, call: Call<'_>) -> Result<Reply, AllocError>
+    ensures reply { IfOk result (λ reply. reply_text reply ≡ call_text node.old (call_value call.entry)) }
+    ensures after { OnOk result (node.new ≡ node_after node.old (call_value call.entry)) }
+{
+    match call {
+        Call::Set { name, text } => set_point(alloc, node, name, text),
+        Call::Pass { name, words } => pass_point(alloc, node, name, &words),
+        Call::List => Ok(Reply::List(node.list(alloc)?)),
+        Call::Rights { name, term, of } => rights_at(alloc, node, name, term, of),
+        Call::Spent { name, term } => spent_at(alloc, node, name, term),
+        Call::Hits { name } => hits_at(alloc, node, name),
+    }
+}
+
+impl Cluster {
+    /// So many nodes, each of which accepts so many calls.
+    pub fn new(alloc: Global, count: u8, trace_cap: u32) -> Result<Cluster, NodeFault>
+        ensures ok { IfOk result (λ cluster. IsTrue (is_cluster_size count) × (cluster ≡ new_nodes count trace_cap)) }
+        ensures refused { IfErr result (λ fault. fault ≢ OutOfMemory → (is_cluster_size count ≡ false) × (fault ≡ NodeFault.BadConfig)) }
+    {
+        if count == 0 {
+            return Err(NodeFault::BadConfig);
+        }
+        let mut nodes = Vec::new(alloc);
+        for node in 0..count {
+            let config = Config {
+                node,
+                nodes: count,
+                trace_cap,
+            };
+            let core = NodeCore::new(alloc, config)?;
+            if nodes.push(core).is_err() {
+                return Err(NodeFault::OutOfMemory);
+            }
+        }
+        Ok(Cluster { nodes })
+    }
+
+    /// Calls a node. A refused call changes nothing.
+    pub fn ask(&mut self, alloc: Global, node: u8, call: Call<'_>) -> Result<Reply, AllocError>
+        ensures reply { IfOk result (λ reply. reply_text reply ≡ ask_text self.old node (call_value call.entry)) }
+        ensures after { OnOk result (self.new ≡ cluster_after_ask self.old node (call_value call.entry)) }
+    {
+        let node = node as usize;
+        if node >= self.nodes.len() {
+            return Ok(Reply::NoNode);
+        }
+        call_node(alloc, &mut self.nodes[node], call)
+    }
+}

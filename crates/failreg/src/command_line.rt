@@ -1,0 +1,135 @@
+//! The command line.
+
+use clap::{Arg, Command, Error};
+use std::alloc::{AllocError, Global};
+
+const EXAMPLE: &str = "\
+Example:
+  $ printf 'nodes 1 9\\nset 0 a 2*off\\npass 0 a\\n' | failreg sim
+  set 1.0
+  act 1.0 0 off";
+
+const PARSE_HELP: &str = "\
+An action text is one or more terms joined by `->`, each of the form
+[<percent>%][<count>*]<task>[(<argument>)]. The tasks are off, return, sleep,
+panic, print, pause, yield and delay. A text that is refused has status 1, and
+the reason stands on standard error. After `--` any text is taken, also -h.
+
+Example:
+  $ failreg parse '020.50%3*print(hi) -> panic'
+  20.5%3*print(hi)->panic";
+
+const SIM_HELP: &str = "\
+Each line of the script, and what it prints where it is accepted:
+  nodes <n> <cap>                     nothing: makes nodes 0 to n-1, of which
+                                      each accepts cap calls
+  set <node> <name> <actions>         set <stamp>
+  pass <node> <name>[ <word>]...      unset, none <stamp>, or
+                                      act <stamp> <term> <task>
+  list <node>                         the points that are set, perhaps none
+  rights <node> <name> <term> <of>    the rights that node <of> has left, as
+                                      <node> sees it
+  spent <node> <name> <term>          how often the term ran, as <node> sees it
+  hits <node> <name>                  how often the point was passed, as <node>
+                                      sees it
+A pass takes one word, a number below 2^32, for each term whose chance is below
+100%. A stamp is <clock>.<node>. Fields are separated by one space. Empty lines
+and lines that begin with `#` are skipped.
+
+A call that is refused prints `refused ` and the reason, and any other line
+prints `bad line`; the script goes on. The status is then 0. It is 1 where the
+script can't be read, is longer than 16777216 bytes, or can't be answered, and
+the reason stands on standard error.
+
+Example:
+  $ printf 'nodes 1 9\\nset 0 a 1*panic->off\\npass 0 a\\npass 0 a\\nhits 0 a\\n' | failreg sim
+  set 1.0
+  act 1.0 0 panic
+  act 1.0 1 off
+  2";
+
+/// What the program is asked to do.
+#[derive(Clone, Copy, Debug, PartialEq, Eq)]
+pub enum Invocation<'a> {
+    Parse(&'a str),
+    Sim,
+}
+
+// The words of a command line live as long as the texts of its command.
+fn whole_command<'a>(alloc: Global) -> Result<Command<'a>, AllocError> {
+    let text = Arg::new(alloc, "text")
+        .help("An action text, which may begin with `-`")
+        .required(true)
+        .allow_hyphen_values(true);
+    let parse = Command::new(alloc, "parse")
+        .about("Prints the canonical spelling of an action text")
+        .after_help(PARSE_HELP)
+        .arg(text)?;
+    let sim = Command::new(alloc, "sim")
+        .about("Runs the script on standard input, and prints what its lines answer")
+        .after_help(SIM_HELP);
+    Command::new(alloc, "failreg")
+        .about("Failpoints of a cluster, with shared budgets")
+        .after_help(EXAMPLE)
+        .subcommand_required(true)
+        .subcommand(parse)?
+        .subcommand(sim)
+}
+
+/// What a command line asks for, whose first word is the program's name.
+pub fn read_command_line<'a>(alloc: Global, words: &'a [String]) -> Result<Invocation<'a>, Error> {
+    let command = whole_command(alloc)?;
+    let matches = command.try_get_matches_from(words)?;
+    match matches.subcommand() {
+        Some(("parse", matches)) => Ok(Invocation::Parse(matches.get_str("text").unwrap_or(""))),
+        _ => Ok(Invocation::Sim),
+    }
+}
+
+#[cfg(test)]
+mod tests {
+    use super::*;
+    use std::test::Fail;
+
+    // The status of a command line that isn't done, or what it asks for.
+    fn read(alloc: Global, words: &[&str]) -> Result<Result<String, i32>, AllocError> {
+        let mut line = Vec::new(alloc);
+        line.push(String::from_str(alloc, "failreg")?)?;
+        for word in words {
+            line.push(String::from_str(alloc, word)?)?;
+        }
+        match read_command_line(alloc, line.as_slice()) {
+            Ok(Invocation::Parse(text)) => Ok(Ok(format!(in alloc; "parse {text}")?)),
+            Ok(Invocation::Sim) => Ok(Ok(String::from_str(alloc, "sim")?)),
+            Err(error) => Ok(Err(error.exit_code())),
+        }
+    }
+
+    #[test]
+    fn command_lines(rt: HostRuntime) -> Result<(), Fail> {
+        for (words, want) in [
+            (["sim"].as_slice(), "sim"),
+            (["parse", "off"].as_slice(), "parse off"),
+            (["parse", ""].as_slice(), "parse "),
+            (["parse", "->off"].as_slice(), "parse ->off"),
+            (["parse", "--off"].as_slice(), "parse --off"),
+            (["parse", "--", "-h"].as_slice(), "parse -h"),
+        ] {
+            let invocation = read(rt.alloc(), words)?.ok().ok_or("refused")?;
+            assert_eq!(rt; invocation.as_str(), want);
+        }
+        for (words, status) in [
+            ([].as_slice(), 2),
+            (["fly"].as_slice(), 2),
+            (["sim", "off"].as_slice(), 2),
+            (["parse"].as_slice(), 2),
+            (["parse", "off", "off"].as_slice(), 2),
+            (["--help"].as_slice(), 0),
+            (["sim", "--help"].as_slice(), 0),
+            (["parse", "--help"].as_slice(), 0),
+        ] {
+            assert_eq!(rt; read(rt.alloc(), words)?.err(), Some(status));
+        }
+        Ok(())
+    }
+}

@@ -1,0 +1,6 @@
+//! Runs of scripts, and readers and writers that fail.
+
+mod program;
+mod scripts;
+mod streams;
+mod watched;

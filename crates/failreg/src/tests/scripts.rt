@@ -1,0 +1,179 @@
+//! What scripts print.
+
+use crate::fault::ScriptFault;
+use crate::run::run_script;
+use crate::watched::Watched;
+use std::alloc::Global;
+use std::test::Fail;
+
+/// The script of the program's stored run.
+pub const STORED: &str = "\
+nodes 1 100
+set 0 p 20%3*print(still alive!)->panic
+pass 0 p 0
+pass 0 p 0
+pass 0 p 0
+pass 0 p 0
+rights 0 p 0 0
+spent 0 p 0
+hits 0 p
+pass 0 p
+list 0
+";
+
+/// What it prints.
+pub const STORED_OUTPUT: &str = "\
+set 1.0
+act 1.0 0 print(still alive!)
+act 1.0 0 print(still alive!)
+act 1.0 0 print(still alive!)
+act 1.0 1 panic
+0
+3
+4
+refused N14 BadWords need=1
+p=20%3*print(still alive!)->panic
+";
+
+fn played(alloc: Global, script: &[u8]) -> Result<Vec<u8>, ScriptFault> {
+    let mut output = Vec::new(alloc);
+    let mut reader = Watched::new(script);
+    let mut writer = Watched::new(&mut output);
+    run_script(alloc, &mut reader, &mut writer)?;
+    Ok(output)
+}
+
+#[test]
+fn scripts(rt: HostRuntime) -> Result<(), Fail> {
+    for (script, want) in [
+        (STORED, STORED_OUTPUT),
+        ("", ""),
+        (
+            "nodes 1 2\nset 0 a off\npass 0 a\npass 0 a\nlist 0\nset 1 a off\nfly\n",
+            "set 1.0\nact 1.0 0 off\nrefused N1 TraceFull\na=off\nrefused NoNode\nbad line\n",
+        ),
+        // A chance that fails spends nothing.
+        (
+            "nodes 1 9\nset 0 p 20%1*off\npass 0 p 858993460\npass 0 p 858993459\nrights 0 p 0 0\n",
+            "set 1.0\nnone 1.0\nact 1.0 0 off\n0\n",
+        ),
+        // A new setting has new budgets, and hits go on.
+        (
+            "nodes 1 9\nset 0 p 1*off\npass 0 p\nset 0 p 1*off\npass 0 p\nspent 0 p 0\nhits 0 p\n",
+            "set 1.0\nact 1.0 0 off\nset 2.0\nact 2.0 0 off\n1\n2\n",
+        ),
+        // Two nodes, which know nothing of each other.
+        (
+            "nodes 2 9\nset 0 a 2*off\nset 1 a panic\npass 0 a\npass 1 a\npass 1 b\nlist 0\nlist 1\n",
+            "set 1.0\nset 1.1\nact 1.0 0 off\nact 1.1 0 panic\nunset\na=2*off\na=panic\n",
+        ),
+        (
+            "nodes 2 9\nset 0 a 2*off\npass 0 a\nrights 0 a 0 0\nrights 1 a 0 0\nrights 0 a 0 1\nrights 0 a 0 255\nspent 1 a 0\nhits 1 a\nlist 1\n",
+            "set 1.0\nact 1.0 0 off\n1\n0\n0\n0\n0\n0\n\n",
+        ),
+        // What is refused, and what isn't there.
+        (
+            "nodes 1 9\nset 0 b! off\nset 0 b fly\nset 2 b! off\nrights 0 b! 0 0\nspent 0 b 9\nhits 0 b!\npass 0 b!\npass 0 b 7\nhits 1 b!\nset 0 b \n",
+            "refused N2 BadName\nrefused N3 BadActions A7 UnknownTask term=0\nrefused NoNode\n0\n0\n0\nrefused N2 BadName\nrefused N14 BadWords need=0\nrefused NoNode\nrefused N3 BadActions A6 NoTask term=0\n",
+        ),
+        ("nodes 1 0\nset 0 a off\n", "refused N1 TraceFull\n"),
+    ] {
+        let output = played(rt.alloc(), script.as_bytes()).map_err(|_| "refused")?;
+        assert_eq!(rt; output.as_slice(), want.as_bytes(), "of {script}");
+    }
+    Ok(())
+}
+
+#[test]
+fn clusters(rt: HostRuntime) -> Result<(), Fail> {
+    for (script, want) in [
+        ("nodes 17 5", "refused N21 BadConfig\n"),
+        ("nodes 0 5", "refused N21 BadConfig\n"),
+        (
+            "nodes 16 5\nset 15 a off\nset 16 a off",
+            "set 1.15\nrefused NoNode\n",
+        ),
+        (
+            "list 0\nnodes 17 5\nlist 0\nnodes 1 5\nlist 0\nnodes 1 5\nnodes 17 5",
+            "bad line\nrefused N21 BadConfig\nbad line\n\nbad line\nbad line\n",
+        ),
+    ] {
+        let output = played(rt.alloc(), script.as_bytes()).map_err(|_| "refused")?;
+        assert_eq!(rt; output.as_slice(), want.as_bytes(), "of {script}");
+    }
+    Ok(())
+}
+
+// Each of these lines is bad, in a cluster of one node and before there is one.
+const BAD: [&str; 38] = [
+    "fly",
+    " ",
+    "nodes",
+    "nodes 1",
+    "nodes 1 ",
+    "nodes  1 5",
+    "nodes 1  5",
+    "nodes 1 5 ",
+    "nodes 256 5",
+    "nodes 1 4294967296",
+    "nodes +1 5",
+    "nodes -1 5",
+    "nodes 1 5\r",
+    "set 0 a",
+    "set 0  off",
+    "set  a off",
+    "set 0x1 a off",
+    " set 0 a off",
+    "Set 0 a off",
+    "pass 0",
+    "pass 0 ",
+    "pass 0 a ",
+    "pass 0 a  1",
+    "pass 0 a 1 ",
+    "pass 0 a 4294967296",
+    "pass 0 a +5",
+    "list",
+    "list ",
+    "list 0 ",
+    "list 256",
+    "rights 0 a 0",
+    "rights 0 a 0 0 0",
+    "rights 0 a 256 0",
+    "rights 0 a 0 256",
+    "spent 0 a",
+    "spent 0 a 0 0",
+    "hits 0",
+    "hits 0 a b",
+];
+
+#[test]
+fn bad_lines(rt: HostRuntime) -> Result<(), Fail> {
+    for line in BAD {
+        let script = format!(in rt.alloc(); "{line}\nnodes 001 9\n{line}\n# {line}\n\nlist 000")?;
+        let output = played(rt.alloc(), script.as_bytes()).map_err(|_| "refused")?;
+        assert_eq!(rt;
+            output.as_slice(),
+            b"bad line\nbad line\n\n".as_slice(),
+            "of {line}"
+        );
+    }
+    // Lines of calls that nodes don't have yet.
+    for line in [
+        "remove 0 a",
+        "load 0 a=off",
+        "shift 0 a 0 1 1",
+        "emit 0 1",
+        "deliver 0 0",
+        "report 0",
+    ] {
+        let script = format!(in rt.alloc(); "nodes 2 9\n{line}")?;
+        let output = played(rt.alloc(), script.as_bytes()).map_err(|_| "refused")?;
+        assert_eq!(rt; output.as_slice(), b"bad line\n".as_slice(), "of {line}");
+    }
+    // Bytes that are no text.
+    let output = played(rt.alloc(), b"nodes 1 9\n#\xff\nset 0 a off\xff\nlist 0").map_err(
+        |_| "refused",
+    )?;
+    assert_eq!(rt; output.as_slice(), b"bad line\n\n".as_slice());
+    Ok(())
+}

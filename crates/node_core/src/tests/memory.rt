@@ -1,0 +1,56 @@
+use super::*;
+
+/// What a node shows of one point.
+fn view(node: &NodeCore, name: &Name) -> (usize, u128, u128, i128, u8) {
+    (
+        node.trace().len(),
+        node.hits(name),
+        node.spent(name, 0),
+        node.rights(name, 0, 0),
+        node.words_needed(name),
+    )
+}
+
+// Where an allocation fails in one of these calls, the node shows what it showed before.
+#[test]
+fn refused_memory_changes_nothing(rt: HostRuntime) -> Result<(), Fail> {
+    let alloc = rt.alloc();
+    let mut node = node(alloc, 100)?;
+    let p = named(alloc, "p")?;
+    let before = view(&node, &p);
+    if let Err(fault) = node.set(alloc, "p", "20%2*print(a)->off") {
+        assert_eq!(rt; fault, NodeFault::OutOfMemory);
+        assert_eq!(rt; view(&node, &p), before);
+        assert_eq!(rt;
+            node.set(alloc, "p", "20%2*print(a)->off")?,
+            Stamp { clock: 1, node: 0 }
+        );
+    }
+    for spent in [1, 2] {
+        let before = view(&node, &p);
+        if let Err(fault) = node.pass_with(alloc, "p", &[0]) {
+            assert_eq!(rt; fault, NodeFault::OutOfMemory);
+            assert_eq!(rt; view(&node, &p), before);
+            assert_eq!(rt; term_of(&node.pass_with(alloc, "p", &[0])?), 0);
+        }
+        assert_eq!(rt;
+            view(&node, &p),
+            (
+                spent + 1,
+                spent as u128,
+                spent as u128,
+                2 - spent as i128,
+                1
+            )
+        );
+    }
+    let before = view(&node, &p);
+    if let Err(fault) = node.set(alloc, "p", "off") {
+        assert_eq!(rt; fault, NodeFault::OutOfMemory);
+        assert_eq!(rt; view(&node, &p), before);
+        node.set(alloc, "p", "off")?;
+    }
+    assert_eq!(rt; view(&node, &p), (4, 2, 0, 0, 0));
+    assert_eq!(rt; list(alloc, &node)?.as_str(), "p=off");
+    Ok(())
+}

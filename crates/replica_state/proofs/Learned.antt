@@ -1,0 +1,103 @@
+-- What a point holds after it learned something, by how the key stands.
+use Rattle.std.proofs.Common.{◌≡◌, ℕ, ◌+◌, max, Bool, true, false, cond, List, [], ◌∷◌, Option, Some, None, option_map, Result, Ok, Err, OnOk, OnErr, refl, sym, ◌∙◌, ap, subst}
+use Rattle.std.specs.Prelude.{pos}
+use Rattle.std.specs.Option.{option_map_or}
+use Rattle.counters.specs.Budgets.{rights}
+use Rattle.replica_state.specs.Operations.{count_of}
+use Rattle.std.specs.Ordering.{nat_cmp, is_le, match_ordering}
+use Rattle.std.specs.Cmp.Lexicographic.{slice_cmp}
+use Rattle.std.specs.declared.cmp.Ordering.{Ordering}
+use Rattle.std.specs.declared.cmp.Ordering.TheVariants.{Less, Equal, Greater}
+use Rattle.stamp_register.specs.Keys.{KeyValue, key_value, key_rank}
+use Rattle.stamp_register.specs.declared.key.Key.{Key}
+use Rattle.replica_state.specs.declared.point.Counted.{Counted}
+use Rattle.replica_state.specs.declared.point.Counted.TheVariants.{Hits, Execs}
+use Rattle.replica_state.specs.declared.point.Count.{Count}
+use Rattle.replica_state.specs.declared.point.Point.{Point}
+use Rattle.replica_state.specs.Folds.{greater}
+use Rattle.replica_state.specs.Points.{Held, held_of, number_of, standing, raised, fresh, learned, taken, spending, passed, budget_in, budget_under}
+
+-- a fact for one variant gives another for it
+pub on_ok : {A E P Q : Type 0} (r : Result A E) → (P → Q) → OnOk r P → OnOk r Q
+on_ok (Ok a) f h = f h
+on_ok (Err e) f h = h
+
+pub both_ok : {A E P Q R : Type 0} (r : Result A E) → (P → Q → R) → OnOk r P → OnOk r Q → OnOk r R
+both_ok (Ok a) f h k = f h k
+both_ok (Err e) f h k = h
+
+pub on_err : {A E P Q : Type 0} (r : Result A E) → (P → Q) → OnErr r P → OnErr r Q
+on_err (Ok a) f h = h
+on_err (Err e) f h = f h
+
+-- a key that is no greater leaves the one that is held
+greater-held : (key : KeyValue) (o : Option KeyValue) (r : Ordering) → standing key o ≡ r → is_le r ≡ true → o ≡ greater (Some key) o
+greater-held key None r e h = cc
+greater-held key (Some a) r e h = ap (λ b. Some (cond b a key)) (sym h ∙ ap is_le (sym e))
+
+-- one that is greater takes its place
+greater-new : (key : KeyValue) (o : Option KeyValue) → standing key o ≡ Greater → Some key ≡ greater (Some key) o
+greater-new key None e = refl
+greater-new key (Some a) e = ap (λ b. Some (cond b a key)) (ap is_le (sym e))
+
+module _ (p w : Point) (ko : Option KeyValue) (count : Option Count) where
+  pub learned_none : ko ≡ None → w.key ≡ p.key → ((d : Counted) → number_of w.counts.items d ≡ raised count (number_of p.counts.items) d) → held_of w ≡ learned ko count (held_of p)
+  unfolding held_of learned
+  learned_none e k h = (λ i. record { key = option_map key_value (k i); number = λ d. h d i }) ∙ ap (λ (o : Option KeyValue). learned o count (held_of p)) (sym e)
+
+  module _ (key : KeyValue) (e : ko ≡ Some key) where
+    pub learned_less : standing key (option_map key_value p.key) ≡ Less → held_of p ≡ learned ko count (held_of p)
+    unfolding held_of learned
+    learned_less s = (λ i. record { key = greater-held key (option_map key_value p.key) Less s refl i; number = λ d. match_ordering (sym s i) (number_of p.counts.items d) (raised count (number_of p.counts.items) d) (raised count (fresh (number_of p.counts.items)) d) }) ∙ ap (λ (o : Option KeyValue). learned o count (held_of p)) (sym e)
+
+    pub learned_equal : standing key (option_map key_value p.key) ≡ Equal → w.key ≡ p.key → ((d : Counted) → number_of w.counts.items d ≡ raised count (number_of p.counts.items) d) → held_of w ≡ learned ko count (held_of p)
+    unfolding held_of learned
+    learned_equal s k h = (λ i. record { key = keys i; number = λ d. numbers d i }) ∙ ap (λ (o : Option KeyValue). learned o count (held_of p)) (sym e)
+      where
+        keys : option_map key_value w.key ≡ greater (Some key) (option_map key_value p.key)
+        keys = ap (λ (o : Option Key). option_map key_value o) k ∙ greater-held key (option_map key_value p.key) Equal s refl
+
+        numbers : (d : Counted) → number_of w.counts.items d ≡ match_ordering (standing key (option_map key_value p.key)) (number_of p.counts.items d) (raised count (number_of p.counts.items) d) (raised count (fresh (number_of p.counts.items)) d)
+        numbers d = h d ∙ ap (λ r. match_ordering r (number_of p.counts.items d) (raised count (number_of p.counts.items) d) (raised count (fresh (number_of p.counts.items)) d)) (sym s)
+
+    pub learned_greater : standing key (option_map key_value p.key) ≡ Greater → (k : Key) → key_value k ≡ key → w.key ≡ Some k → ((d : Counted) → number_of w.counts.items d ≡ raised count (fresh (number_of p.counts.items)) d) → held_of w ≡ learned ko count (held_of p)
+    unfolding held_of learned
+    learned_greater s k copy took h = (λ i. record { key = keys i; number = λ d. numbers d i }) ∙ ap (λ (o : Option KeyValue). learned o count (held_of p)) (sym e)
+      where
+        keys : option_map key_value w.key ≡ greater (Some key) (option_map key_value p.key)
+        keys = ap (λ (o : Option Key). option_map key_value o) took ∙ ap (λ (a : KeyValue). Some a) copy ∙ greater-new key (option_map key_value p.key) s
+
+        numbers : (d : Counted) → number_of w.counts.items d ≡ match_ordering (standing key (option_map key_value p.key)) (number_of p.counts.items d) (raised count (number_of p.counts.items) d) (raised count (fresh (number_of p.counts.items)) d)
+        numbers d = h d ∙ ap (λ r. match_ordering r (number_of p.counts.items d) (raised count (number_of p.counts.items) d) (raised count (fresh (number_of p.counts.items)) d)) (sym s)
+
+-- a point that took a key
+pub held_taken : (p w : Point) (key : Key) → w.key ≡ Some key → ((d : Counted) → number_of w.counts.items d ≡ fresh (number_of p.counts.items) d) → held_of w ≡ taken (key_value key) (held_of p)
+unfolding held_of taken
+held_taken p w key k h = λ i. record { key = option_map key_value (k i); number = λ d. h d i }
+
+-- a point with the same key and the same counts holds the same
+pub same_held : (p w : Point) → w.key ≡ p.key → w.counts.items ≡ p.counts.items → held_of w ≡ held_of p
+unfolding held_of
+same_held p w k e = λ i. record { key = option_map key_value (k i); number = number_of (e i) }
+
+-- two counts, one after the other
+raised_twice : (f g : Counted → ℕ) (one : Count) → ((d : Counted) → g d ≡ raised (Some one) f d) → (o : Option Count) (d : Counted) → raised o g d ≡ raised o (raised (Some one) f) d
+raised_twice f g one h None d = h d
+raised_twice f g one h (Some c) d = ap (λ n. raised (Some c) (λ _. n) d) (h d)
+
+pub passed_held : (p w : Point) (node : ℕ) (spent : Option ℕ) (hits : Count) (execs : Option Count) (room between : List Count) → room ≡ p.counts.items → w.key ≡ p.key → hits ≡ record { counted = Hits node; number = number_of p.counts.items (Hits node) + 1 } → execs ≡ spending node spent (held_of p) → ((d : Counted) → number_of between d ≡ raised (Some hits) (number_of room) d) → ((d : Counted) → number_of w.counts.items d ≡ raised execs (number_of between) d) → held_of w ≡ passed node spent (held_of p)
+unfolding held_of passed
+passed_held p w node spent hits execs room between er k eh ee one two = λ i. record { key = option_map key_value (k i); number = λ d. numbers d i }
+  where
+    numbers : (d : Counted) → number_of w.counts.items d ≡ raised (spending node spent (held_of p)) (raised (Some (record { counted = Hits node; number = number_of p.counts.items (Hits node) + 1 })) (number_of p.counts.items)) d
+    numbers d =
+        two d ∙ raised_twice (number_of room) (number_of between) hits one execs d ∙
+        ap (λ cs. raised execs (raised (Some hits) (number_of cs)) d) er ∙
+        ap (λ (o : Option Count). raised o (raised (Some hits) (number_of p.counts.items)) d) ee ∙
+        ap (λ (c : Count). raised (spending node spent (held_of p)) (raised (Some c) (number_of p.counts.items)) d) eh
+
+-- the rights that a key counts
+pub rights_counted : (o : Option Key) (key : Key) (f : Counted → ℕ) (term node count : ℕ) → o ≡ Some key → Some count ≡ count_of (key_value key) term → rights (budget_in f term key.node count) node ≡ option_map_or (λ b. rights b node) (budget_under (option_map key_value o) f term) (pos 0)
+rights_counted o key f term node count held counted =
+    ap (λ (n : Option ℕ). option_map_or (λ b. rights b node) (option_map (λ m. budget_in f term key.node m) n) (pos 0)) counted ∙
+    ap (λ (k : Option Key). option_map_or (λ b. rights b node) (budget_under (option_map key_value k) f term) (pos 0)) (sym held)

@@ -1,0 +1,10 @@
+pub mod FoldSteps
+pub mod Counts
+pub mod Orders
+pub mod Added
+pub mod Shown
+pub mod Learned
+pub mod Sets
+pub mod Names
+pub mod KnownSets
+pub mod Changes

@@ -1,0 +1,32 @@
+-- What holds of every set of operations.
+use Rattle.std.specs.Prelude.{◌≡◌, ℕ, ◌<◌, List, ◌++◌, ◌↔◌, false, Option, Some, pos, ◌+ℤ◌}
+use Rattle.counters.specs.Sums.{numbers}
+use Rattle.counters.specs.Budgets.{Budget, remaining, total_spent}
+use Rattle.replica_state.specs.Operations.{Operation, IsIn}
+use Rattle.replica_state.specs.States.{State, budget_of}
+use Rattle.replica_state.specs.Folds.{fold}
+use Rattle.replica_state.specs.StateOrder.{IsBelow}
+use Rattle.replica_state.specs.Knowledge.{KnowsAll, changes}
+
+-- the state of a set depends on no order and no repeats
+abbrev pub SameOperationsSameState : Type 0
+SameOperationsSameState = (a b : List Operation) → ((op : Operation) → IsIn op a ↔ IsIn op b) → fold a ≡ fold b
+
+-- sets that know the same operations come to one state
+abbrev pub SameKnownSameState : Type 0
+SameKnownSameState = (a b : List Operation) → KnowsAll a b → KnowsAll b a → fold a ≡ fold b
+
+-- the state of a union is the least state above both
+abbrev pub UnionIsLeast : Type 0
+UnionIsLeast = (a b : List Operation) →
+    IsBelow (fold a) (fold (a ++ b)) × IsBelow (fold b) (fold (a ++ b)) ×
+    ((c : List Operation) → IsBelow (fold a) (fold c) → IsBelow (fold b) (fold c) → IsBelow (fold (a ++ b)) (fold c))
+
+-- operations leave the state as it was exactly where the state knows them all
+abbrev pub ChangesIsChange : Type 0
+ChangesIsChange = (a b : List Operation) → (changes (fold b) a ≡ false) ↔ (fold (a ++ b) ≡ fold b)
+
+-- in each state, of each counted term, what was spent and what remains are the count
+abbrev pub SpentAndRemainingAreTheCount : Type 0
+SpentAndRemainingAreTheCount = (v : State) (name : List ℕ) (term : ℕ) (b : Budget) →
+    budget_of v name term ≡ Some b → b.setter < numbers → remaining b +ℤ pos (total_spent b) ≡ pos b.count

@@ -1,0 +1,9 @@
+pub mod Operations
+pub mod States
+pub mod Folds
+pub mod StateOrder
+pub mod Knowledge
+pub mod Deltas
+pub mod Points
+pub mod OpSets
+pub mod Laws

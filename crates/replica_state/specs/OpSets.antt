@@ -1,0 +1,79 @@
+-- What the plain replica shows.
+use Rattle.std.specs.Prelude.{ℕ, List, ◌==◌, if◌then◌else◌, Option, Some, None, option_map}
+use Rattle.std.specs.Str.{bytes_eq}
+use Rattle.std.specs.Map.{lookup, keys_of}
+use Rattle.std.specs.BTreeMap.{is_at}
+use Rattle.std.specs.Ordering.{nat_cmp}
+use Rattle.std.specs.Cmp.Lexicographic.{slice_cmp}
+use Rattle.stamp_register.specs.Keys.{KeyValue, key_value}
+use Rattle.replica_state.specs.declared.point.Counted.{Counted}
+use Rattle.replica_state.specs.declared.point.Counted.TheVariants.{Hits, Execs, Shifts}
+use Rattle.replica_state.specs.declared.point.Point.{Point}
+use Rattle.replica_state.specs.declared.op_set.OpSet.{OpSet}
+use Rattle.replica_state.specs.declared.point.Count.{Count as Counting}
+use Rattle.replica_state.specs.Operations as cells
+use Rattle.replica_state.specs.Operations.{Operation, Set, Count}
+use Rattle.replica_state.specs.States.{State, with_name}
+use Rattle.replica_state.specs.Points.{Held, number_of}
+
+-- what is held of one name, if anything is
+abbrev pub key_at : Option Point → Option KeyValue
+key_at None = None
+key_at (Some p) = option_map key_value p.key
+
+abbrev pub number_at : Option Point → Counted → ℕ
+number_at None counted = 0
+number_at (Some p) counted = number_of p.counts.items counted
+
+abbrev pub point_at : List (List ℕ × Point) → List ℕ → Option Point
+point_at points name = lookup (is_at (slice_cmp nat_cmp name)) points
+
+abbrev pub shown_by : List (List ℕ) → (List ℕ → Option Point) → State
+shown_by names at =
+    record {
+      names = names;
+      key = λ name. key_at (at name);
+      hits = λ name node. number_at (at name) (Hits node);
+      execs = λ name term node. number_at (at name) (Execs term node);
+      shifts = λ name term from to. number_at (at name) (Shifts term from to);
+    }
+
+unfoldable pub shown : List (List ℕ × Point) → State
+shown points = shown_by (keys_of points) (point_at points)
+
+-- the state of a plain replica
+unfoldable pub state_of : OpSet → State
+state_of set = shown set.points.entries
+
+-- what a state holds of a name
+abbrev pub cell_of : State → List ℕ → Counted → ℕ
+cell_of v name (Hits node) = v.hits name node
+cell_of v name (Execs term node) = v.execs name term node
+cell_of v name (Shifts term from to) = v.shifts name term from to
+
+abbrev pub held_at : State → List ℕ → Held
+held_at v name = record { key = v.key name; number = cell_of v name }
+
+-- the state in which a name holds something else
+unfoldable pub with_held : List ℕ → Held → State → State
+with_held name h v =
+    record {
+      names = with_name name v.names;
+      key = λ n. if bytes_eq name n then h.key else v.key n;
+      hits = λ n node. if bytes_eq name n then h.number (Hits node) else v.hits n node;
+      execs = λ n term node. if bytes_eq name n then h.number (Execs term node) else v.execs n term node;
+      shifts = λ n term from to. if bytes_eq name n then h.number (Shifts term from to) else v.shifts n term from to;
+    }
+
+-- what an operation tells its name
+abbrev pub key_told : Operation → Option KeyValue
+key_told (Set n key) = Some key
+key_told (Count (cells.Hits n node) number) = None
+key_told (Count (cells.Execs n key term node) number) = Some key
+key_told (Count (cells.Shifts n key term from to) number) = Some key
+
+abbrev pub count_told : Operation → Option Counting
+count_told (Set n key) = None
+count_told (Count (cells.Hits n node) number) = Some (record { counted = Hits node; number = number })
+count_told (Count (cells.Execs n key term node) number) = Some (record { counted = Execs term node; number = number })
+count_told (Count (cells.Shifts n key term from to) number) = Some (record { counted = Shifts term from to; number = number })

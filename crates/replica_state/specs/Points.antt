@@ -1,0 +1,90 @@
+-- What the plain replica holds of one name, and what it makes of an operation more.
+use Rattle.std.specs.Prelude.{ℕ, ◌==◌, ◌&&◌, ◌+◌, max, Bool, true, false, List, [], ◌∷◌, if◌then◌else◌, Option, Some, None, option_map}
+use Rattle.std.specs.Ordering.{nat_cmp, match_ordering}
+use Rattle.std.specs.declared.cmp.Ordering.{Ordering}
+use Rattle.std.specs.declared.cmp.Ordering.TheVariants.{Greater}
+use Rattle.std.specs.Cmp.Lexicographic.{slice_cmp}
+use Rattle.stamp_register.specs.Keys.{KeyValue, key_value, key_rank}
+use Rattle.counters.specs.Budgets.{Budget}
+use Rattle.replica_state.specs.Operations.{count_of}
+use Rattle.replica_state.specs.declared.point.Counted.{Counted}
+use Rattle.replica_state.specs.declared.point.Counted.TheVariants.{Hits, Execs, Shifts}
+use Rattle.replica_state.specs.declared.point.Count.{Count}
+use Rattle.replica_state.specs.declared.point.Point.{Point}
+use Rattle.replica_state.specs.Folds.{greater}
+
+abbrev pub same_counted : Counted → Counted → Bool
+same_counted (Hits i) (Hits j) = i == j
+same_counted (Execs k i) (Execs l j) = (k == l) && (i == j)
+same_counted (Shifts k i o) (Shifts l j p) = (k == l) && ((i == j) && (o == p))
+same_counted _ _ = false
+
+abbrev pub is_hits : Counted → Bool
+is_hits (Hits node) = true
+is_hits (Execs term node) = false
+is_hits (Shifts term from to) = false
+
+-- the greatest number of what is counted so, 0 where there is none
+abbrev pub number_of : List Count → Counted → ℕ
+number_of [] counted = 0
+number_of (c ∷ cs) counted = max (if same_counted c.counted counted then c.number else 0) (number_of cs counted)
+
+-- the budget of a term in a name's numbers, if there is a key that counts it
+abbrev pub budget_in : (Counted → ℕ) → ℕ → ℕ → ℕ → Budget
+budget_in f term setter count =
+    record { setter = setter; count = count; shifted = λ from to. f (Shifts term from to); spent = λ node. f (Execs term node) }
+
+abbrev pub budget_under : Option KeyValue → (Counted → ℕ) → ℕ → Option Budget
+budget_under None f term = None
+budget_under (Some key) f term = option_map (λ count. budget_in f term key.node count) (count_of key term)
+
+-- a key or none, and the number of each thing that is counted
+pub record Held : Type 0 where
+  pub key : Option KeyValue
+  pub number : Counted → ℕ
+
+unfoldable pub nothing : Held
+nothing = record { key = None; number = λ counted. 0 }
+
+unfoldable pub held_of : Point → Held
+held_of p = record { key = option_map key_value p.key; number = number_of p.counts.items }
+
+-- how a key stands to the one that is held
+abbrev pub standing : KeyValue → Option KeyValue → Ordering
+standing key None = Greater
+standing key (Some held) = slice_cmp nat_cmp (key_rank key) (key_rank held)
+
+-- with a count more
+abbrev pub raised : Option Count → (Counted → ℕ) → Counted → ℕ
+raised None f c = f c
+raised (Some count) f c = if same_counted count.counted c then max count.number (f c) else f c
+
+-- under a new key: hits go on
+abbrev pub fresh : (Counted → ℕ) → Counted → ℕ
+fresh f (Hits node) = f (Hits node)
+fresh f (Execs term node) = 0
+fresh f (Shifts term from to) = 0
+
+-- with what an operation says that has this key or none, and this count or none
+abbrev pub learned_number : Option KeyValue → Option Count → Held → Counted → ℕ
+learned_number None count h c = raised count h.number c
+learned_number (Some key) count h c = match_ordering (standing key h.key) (h.number c) (raised count h.number c) (raised count (fresh h.number) c)
+
+unfoldable pub learned : Option KeyValue → Option Count → Held → Held
+learned key count h = record { key = greater key h.key; number = learned_number key count h }
+
+-- with another key
+unfoldable pub taken : KeyValue → Held → Held
+taken key h = record { key = Some key; number = fresh h.number }
+
+-- with one hit more at a node and, where a term was triggered, one execution more of it there
+abbrev pub spending : ℕ → Option ℕ → Held → Option Count
+spending node None h = None
+spending node (Some term) h = Some (record { counted = Execs term node; number = h.number (Execs term node) + 1 })
+
+unfoldable pub passed : ℕ → Option ℕ → Held → Held
+passed node spent h =
+    record {
+      key = h.key;
+      number = raised (spending node spent h) (raised (Some (record { counted = Hits node; number = h.number (Hits node) + 1 })) h.number);
+    }

@@ -1,0 +1,102 @@
+//! Sums over the nodes, of the counts of one name.
+
+ghost use Rattle.std.specs.Prelude.{◌≡◌, ◌*◌, ◌<◌, ◌≤◌, ◌^◌, Some, None};
+ghost use Rattle.stamp_register.specs.Keys.{key_value};
+ghost use Rattle.counters.specs.Sums.{numbers, sum_below, sum_others};
+ghost use Rattle.counters.specs.Budgets.{given, gone, rights, total_spent};
+ghost use Rattle.replica_state.specs.Operations.{count_of};
+ghost use Rattle.replica_state.specs.Points.{number_of, budget_in};
+ghost use Rattle.replica_state.specs.declared.point.Counted.TheVariants.{Hits, Execs, Shifts};
+
+use crate::point::{Count, Counted, number_of};
+use stamp_register::Key;
+
+/// How many node numbers there are.
+#[tactic(auto, unfolding(counters::specs::Sums::numbers))]
+fn numbers() -> u16
+    ensures value { result ≡ numbers }
+    ensures small { result ≤ 256 }
+{
+    256
+}
+
+/// The hits at all nodes.
+pub(crate) fn sum_hits(counts: &[Count]) -> u128
+    ensures { result ≡ sum_below numbers (λ node. number_of counts.now (Hits node)) }
+{
+    let mut sum = 0u128;
+    for node in 0..numbers() {
+        let counted = Counted::Hits { node: node as u8 };
+        sum += u128::from(number_of(counts, counted));
+    }
+    sum
+}
+
+/// The executions of a term at all nodes.
+pub(crate) fn sum_execs(counts: &[Count], term: u8) -> u128
+    ensures { result ≡ sum_below numbers (λ node. number_of counts.now (Execs term node)) }
+{
+    let mut sum = 0u128;
+    for node in 0..numbers() {
+        let counted = Counted::Execs {
+            term,
+            node: node as u8,
+        };
+        sum += u128::from(number_of(counts, counted));
+    }
+    sum
+}
+
+// What others moved to a node.
+fn sum_to(counts: &[Count], term: u8, to: u8) -> u128
+    ensures value { result ≡ sum_others numbers to (λ from. number_of counts.now (Shifts term from to)) }
+    ensures small { result ≤ 256 * 2 ^ 64 }
+{
+    let mut sum = 0u128;
+    for node in 0..numbers() {
+        let from = node as u8;
+        if from != to {
+            sum += u128::from(number_of(counts, Counted::Shifts { term, from, to }));
+        }
+    }
+    sum
+}
+
+// What a node moved to others.
+fn sum_from(counts: &[Count], term: u8, from: u8) -> u128
+    ensures value { result ≡ sum_others numbers from (λ to. number_of counts.now (Shifts term from to)) }
+    ensures small { result ≤ 256 * 2 ^ 64 }
+{
+    let mut sum = 0u128;
+    for node in 0..numbers() {
+        let to = node as u8;
+        if to != from {
+            sum += u128::from(number_of(counts, Counted::Shifts { term, from, to }));
+        }
+    }
+    sum
+}
+
+/// The count of a term, if the key has it and it is counted.
+pub(crate) fn count_of(key: &Key, term: u8) -> Option<u64>
+    ensures { result ≡ count_of (key_value key.now) term }
+{
+    match key.actions() {
+        Some(actions) => match actions.term(term) {
+            Some(term) => term.count,
+            None => None,
+        },
+        None => None,
+    }
+}
+
+/// The rights of a node to execute a term of this count, which the setter had whole.
+pub(crate) fn rights_in(counts: &[Count], term: u8, setter: u8, count: u64, node: u8) -> i128
+    ensures { result ≡ rights (budget_in (number_of counts.now) term setter count) node }
+{
+    let own = if node == setter { u128::from(count) } else { 0 };
+    let given = own + sum_to(counts, term, node);
+    let spent = u128::from(number_of(counts, Counted::Execs { term, node }));
+    let gone = sum_from(counts, term, node) + spent;
+    given as i128 - gone as i128
+}

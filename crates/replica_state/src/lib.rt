@@ -1,0 +1,16 @@
+//! Replicas: what a node knows of the cluster's points, as the state that a set of operations
+//! comes to. Which operations came first, and how often, makes no difference.
+#![tactic(auto)]
+
+mod budget;
+pub mod laws;
+mod op;
+mod op_set;
+mod point;
+mod replica;
+#[cfg(test)]
+mod tests;
+
+pub use op::Op;
+pub use op_set::OpSet;
+pub use replica::Replica;

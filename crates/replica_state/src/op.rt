@@ -1,0 +1,106 @@
+//! Operations.
+
+ghost use Rattle.std.specs.Prelude.{◌≡◌, option_map};
+ghost use Rattle.std.specs.Option.{option_copied};
+ghost use Rattle.stamp_register.specs.Keys.{key_value};
+ghost use Rattle.replica_state.specs.Operations.{operation};
+ghost use Rattle.replica_state.specs.Folds.{name_in};
+ghost use Rattle.replica_state.specs.OpSets.{key_told, count_told};
+
+use crate::point::{Count, Counted};
+use actions::Name;
+use stamp_register::Key;
+
+/// What a node did, and what others learn of it. Numbers are counted from 1 for each cell, which
+/// is all of an operation but its last number; of two operations of one cell the one with the
+/// greater number says all that the other says.
+#[derive(Debug, Drop)]
+pub enum Op {
+    /// A setting or a removal of a point.
+    Set {
+        name: Name,
+        key: Key,
+    },
+    /// The `number`-th pass of a point at a node.
+    Hit {
+        name: Name,
+        node: u8,
+        number: u64,
+    },
+    /// The `number`-th execution of a counted term at a node, under a key.
+    Exec {
+        name: Name,
+        key: Key,
+        term: u8,
+        node: u8,
+        number: u64,
+    },
+    /// The total of rights to execute a counted term that one node moved to another so far,
+    /// under a key.
+    Shift {
+        name: Name,
+        key: Key,
+        term: u8,
+        from: u8,
+        to: u8,
+        total: u64,
+    },
+}
+
+impl Op {
+    /// The name that it tells of.
+    pub(crate) fn name(&self) -> &Name
+        ensures { result.now ≡ name_in (operation self.now) }
+    {
+        match self {
+            Op::Set { name, .. } => name,
+            Op::Hit { name, .. } => name,
+            Op::Exec { name, .. } => name,
+            Op::Shift { name, .. } => name,
+        }
+    }
+
+    /// The key that it carries, if it does.
+    pub(crate) fn key(&self) -> Option<&Key>
+        ensures { option_map key_value (option_copied result) ≡ key_told (operation self.now) }
+    {
+        match self {
+            Op::Set { key, .. } => Some(key),
+            Op::Hit { .. } => None,
+            Op::Exec { key, .. } => Some(key),
+            Op::Shift { key, .. } => Some(key),
+        }
+    }
+
+    /// What it counts, if it does.
+    pub(crate) fn count(&self) -> Option<Count>
+        ensures { result ≡ count_told (operation self.now) }
+    {
+        match self {
+            Op::Set { .. } => None,
+            Op::Hit { node, number, .. } => Some(Counted::Hits { node: *node }.times(*number)),
+            Op::Exec {
+                term,
+                node,
+                number,
+                ..
+            } => Some(Counted::Execs {
+                term: *term,
+                node: *node,
+            }
+            .times(*number)),
+            Op::Shift {
+                term,
+                from,
+                to,
+                total,
+                ..
+            } => Some(Counted::Shifts {
+                term: *term,
+                from: *from,
+                to: *to,
+            }
+            .times(*total)),
+        }
+    }
+}

@@ -1,0 +1,290 @@
+//! What the plain replica holds of one name.
+
+ghost use Rattle.std.specs.Prelude.{◌≡◌, ◌+◌, ◌-◌, ◌<◌, ◌≤◌, ◌^◌, ◌*◌, ℕ, List, filter, length, vec_len, vec_capacity, position, option_map, Some, None, OnOk, OnErr, IfSome, pos};
+ghost use Rattle.std.specs.Option.{option_copied};
+ghost use Rattle.std.specs.Option.{option_map_or};
+ghost use Rattle.counters.specs.Sums.{numbers, sum_below};
+ghost use Rattle.counters.specs.Budgets.{rights, total_spent};
+ghost use Rattle.stamp_register.specs.Keys.{key_value};
+ghost use Rattle.replica_state.specs.Points.{same_counted, is_hits, number_of, raised, fresh, budget_under, nothing, held_of, standing, learned, passed};
+ghost use Rattle.replica_state.specs.declared.point.Counted.{Counted};
+ghost use Rattle.replica_state.specs.declared.point.Counted.TheVariants.{Hits, Execs};
+
+use crate::budget::{count_of, rights_in, sum_execs, sum_hits};
+use stamp_register::Key;
+use std::alloc::{AllocError, Global};
+use std::cmp::Ordering;
+
+/// What a count counts.
+#[derive(Clone, Copy, Debug)]
+pub(crate) enum Counted {
+    /// The hits of a node.
+    Hits { node: u8 },
+    /// The executions of a term at a node.
+    Execs { term: u8, node: u8 },
+    /// The rights to a term that one node moved to another.
+    Shifts { term: u8, from: u8, to: u8 },
+}
+
+/// A number of what is counted.
+#[derive(Clone, Copy, Debug)]
+pub(crate) struct Count {
+    pub(crate) counted: Counted,
+    pub(crate) number: u64,
+}
+
+/// What nothing has overtaken of one name: its key, and counts of hits and under that key. Where
+/// one thing is counted twice, the greater number holds.
+#[derive(Debug, Drop)]
+pub(crate) struct Point {
+    key: Option<Key>,
+    counts: Vec<Count>,
+}
+
+impl Counted {
+    /// The count that says so many.
+    pub(crate) fn times(self, number: u64) -> Count
+        ensures { result ≡ record { counted = self; number = number } }
+    {
+        Count {
+            counted: self,
+            number,
+        }
+    }
+
+    fn is_same(self, other: Counted) -> bool
+        ensures { result ≡ same_counted self other }
+    {
+        match (self, other) {
+            (Counted::Hits { node }, Counted::Hits { node: at }) => node == at,
+            (Counted::Execs { term, node }, Counted::Execs { term: of, node: at }) => term == of
+                && node == at,
+            (
+                Counted::Shifts { term, from, to },
+                Counted::Shifts {
+                    term: of,
+                    from: here,
+                    to: there,
+                },
+            ) => term == of && from == here && to == there,
+            _ => false,
+        }
+    }
+
+    fn is_hits(self) -> bool
+        ensures { result ≡ is_hits self }
+    {
+        match self {
+            Counted::Hits { .. } => true,
+            _ => false,
+        }
+    }
+}
+
+/// The greatest number that is counted so.
+pub(crate) fn number_of(counts: &[Count], counted: Counted) -> u64
+    ensures { result ≡ number_of counts.now counted }
+{
+    let mut number = 0;
+    for count in counts {
+        if count.counted.is_same(counted) {
+            number = count.number.max(number);
+        }
+    }
+    number
+}
+
+// The place of the first count of what is counted so.
+fn place_of(counts: &[Count], counted: Counted) -> Option<usize>
+    ensures { result ≡ position (λ c. same_counted c.counted counted) counts.now }
+{
+    counts.iter().position(|c| c.counted.is_same(counted))
+}
+
+// Raises the number of what is counted, or adds it where room was made.
+fn raise(counts: &mut Vec<Count>, count: Count)
+    requires { vec_len counts.old < vec_capacity counts.old }
+    ensures number { (c : Counted) → number_of counts.new.items c ≡ raised (Some count) (number_of counts.old.items) c }
+    ensures len { vec_len counts.new ≤ vec_len counts.old + 1 }
+    ensures capacity { vec_capacity counts.new ≡ vec_capacity counts.old }
+{
+    match place_of(counts, count.counted) {
+        Some(place) => {
+            let held = &mut counts[place];
+            held.number = held.number.max(count.number);
+        }
+        None => counts.push_reserved(count),
+    }
+}
+
+// Adds a count where room was made.
+fn put(counts: &mut Vec<Count>, count: Option<Count>)
+    requires { vec_len counts.old < vec_capacity counts.old }
+    ensures { (c : Counted) → number_of counts.new.items c ≡ raised count (number_of counts.old.items) c }
+{
+    if let Some(count) = count {
+        raise(counts, count);
+    }
+}
+
+// Drops the counts of executions and shifts.
+fn keep_hits(counts: &mut Vec<Count>)
+    ensures items { counts.new.items ≡ filter (λ c. is_hits c.counted) counts.old.items }
+    ensures len { vec_len counts.new ≤ vec_len counts.old }
+    ensures capacity { vec_capacity counts.new ≡ vec_capacity counts.old }
+{
+    counts.retain(|c| c.counted.is_hits());
+}
+
+impl Point {
+    /// What is held of a name of which nothing is known.
+    pub(crate) fn empty(alloc: Global) -> Point
+        ensures { held_of result ≡ nothing }
+    {
+        Point {
+            key: None,
+            counts: Vec::new(alloc),
+        }
+    }
+
+    /// The key, if there is one.
+    pub(crate) fn key(&self) -> Option<&Key>
+        ensures { option_copied result ≡ self.now.key }
+    {
+        self.key.as_ref()
+    }
+
+    /// The number of what is counted so.
+    pub(crate) fn number(&self, counted: Counted) -> u64
+        ensures { result ≡ number_of self.now.counts.items counted }
+    {
+        number_of(&self.counts, counted)
+    }
+
+    /// The hits at all nodes.
+    pub(crate) fn total_hits(&self) -> u128
+        ensures { result ≡ sum_below numbers (λ node. number_of self.now.counts.items (Hits node)) }
+    {
+        sum_hits(&self.counts)
+    }
+
+    /// The rights of a node to execute a term, 0 where it isn't counted.
+    pub(crate) fn rights(&self, term: u8, node: u8) -> i128
+        ensures { result ≡ option_map_or (λ b. rights b node) (budget_under (option_map key_value self.now.key) (number_of self.now.counts.items) term) (pos 0) }
+    {
+        match &self.key {
+            Some(key) => match count_of(key, term) {
+                Some(count) => rights_in(&self.counts, term, key.node, count, node),
+                None => 0,
+            },
+            None => 0,
+        }
+    }
+
+    /// The executions of a term at all nodes, 0 where it isn't counted.
+    pub(crate) fn spent(&self, term: u8) -> u128
+        ensures { result ≡ option_map_or total_spent (budget_under (option_map key_value self.now.key) (number_of self.now.counts.items) term) 0 }
+    {
+        match &self.key {
+            Some(key) => match count_of(key, term) {
+                Some(_) => sum_execs(&self.counts, term),
+                None => 0,
+            },
+            None => 0,
+        }
+    }
+
+    /// Takes a key, of which nothing is counted yet; hits go on.
+    pub(crate) fn take(&mut self, key: Key)
+        ensures key { self.new.key ≡ Some key }
+        ensures number { (c : Counted) → number_of self.new.counts.items c ≡ fresh (number_of self.old.counts.items) c }
+        ensures len { vec_len self.new.counts ≤ vec_len self.old.counts }
+        ensures capacity { vec_capacity self.new.counts ≡ vec_capacity self.old.counts }
+    {
+        self.key = Some(key);
+        keep_hits(&mut self.counts);
+    }
+
+    /// How a key stands to the one that is held. Where none is, each is greater.
+    fn standing(&self, key: &Key) -> Ordering
+        ensures { result ≡ standing (key_value key.now) (option_map key_value self.now.key) }
+    {
+        match &self.key {
+            Some(held) => key.cmp(held),
+            None => Ordering::Greater,
+        }
+    }
+
+    /// Learns what an operation says that has this key or none, and this count or none.
+    pub(crate) fn learn(
+        &mut self,
+        alloc: Global,
+        key: Option<&Key>,
+        count: Option<Count>,
+    ) -> Result<(), AllocError>
+        ensures ok { OnOk result (held_of self.new ≡ learned (option_map key_value (option_copied key.entry)) count (held_of self.old)) }
+        ensures err { OnErr result (held_of self.new ≡ held_of self.old) }
+    {
+        match key {
+            None => self.count(count),
+            Some(key) => match self.standing(key) {
+                Ordering::Less => Ok(()),
+                Ordering::Equal => self.count(count),
+                Ordering::Greater => self.replace(key.copied(alloc)?, count),
+            },
+        }
+    }
+
+    // Adds a count.
+    fn count(&mut self, count: Option<Count>) -> Result<(), AllocError>
+        ensures key { self.new.key ≡ self.old.key }
+        ensures ok { OnOk result ((c : Counted) → number_of self.new.counts.items c ≡ raised count (number_of self.old.counts.items) c) }
+        ensures err { OnErr result (self.new.counts.items ≡ self.old.counts.items) }
+    {
+        if let Some(count) = count {
+            self.counts.reserve(1)?;
+            raise(&mut self.counts, count);
+        }
+        Ok(())
+    }
+
+    // Takes a key, and a count under it.
+    #[tactic(auto, unfolding(crate::specs::Points::held_of))]
+    fn replace(&mut self, key: Key, count: Option<Count>) -> Result<(), AllocError>
+        ensures key { OnOk result (self.new.key ≡ Some key) }
+        ensures ok { OnOk result ((c : Counted) → number_of self.new.counts.items c ≡ raised count (fresh (number_of self.old.counts.items)) c) }
+        ensures err { OnErr result (held_of self.new ≡ held_of self.old) }
+    {
+        self.counts.reserve(1)?;
+        self.take(key);
+        put(&mut self.counts, count);
+        Ok(())
+    }
+
+    // The next count of what is counted so.
+    fn next(&self, counted: Counted) -> Count
+        requires { number_of self.now.counts.items counted + 1 < 2 ^ 64 }
+        ensures { result ≡ record { counted = counted; number = number_of self.now.counts.items counted + 1 } }
+    {
+        counted.times(self.number(counted) + 1)
+    }
+
+    /// Counts a hit at a node and, where a term was triggered, its execution there.
+    #[tactic(auto, unfolding(crate::specs::Points::held_of))]
+    pub(crate) fn pass(&mut self, node: u8, spent: Option<u8>) -> Result<(), AllocError>
+        requires hits { number_of self.old.counts.items (Hits node) + 1 < 2 ^ 64 }
+        requires execs { (term : ℕ) → number_of self.old.counts.items (Execs term node) + 1 < 2 ^ 64 }
+        ensures ok { OnOk result (held_of self.new ≡ passed node spent (held_of self.old)) }
+        ensures err { OnErr result (held_of self.new ≡ held_of self.old) }
+    {
+        let hits = self.next(Counted::Hits { node });
+        let execs = match spent {
+            Some(term) => Some(self.next(Counted::Execs { term, node })),
+            None => None,
+        };
+        self.counts.reserve(2)?;
+        raise(&mut self.counts, hits);
+        put(&mut self.counts, execs);
+        Ok(())
+    }
+}

@@ -1,0 +1,92 @@
+//! What a node needs of the thing that holds its state.
+
+ghost use Rattle.std.specs.Prelude.{◌≡◌, ◌+◌, ◌<◌, ◌^◌, ℕ, List, [], ◌∷◌, length, slice_get, option_map, IsSome, OnOk, OnErr};
+ghost use Rattle.std.specs.Option.{option_copied};
+ghost use Rattle.stamp_register.specs.Keys.{key_value};
+ghost use Rattle.replica_state.specs.Operations.{Operation, operation, IsWellFormed};
+ghost use Rattle.replica_state.specs.States.{State, with_name, with_key, with_pass, total_hits, rights_of, spent_of};
+ghost use Rattle.replica_state.specs.Folds.{fold};
+
+use crate::op::Op;
+use actions::Name;
+use stamp_register::Key;
+use std::alloc::{AllocError, Global};
+
+/// A replica of the cluster's points: it stands for the state that a set of operations comes to.
+/// What isn't there reads 0.
+pub trait Replica {
+    ghost state: { Self → State };
+
+    /// The replica that knows nothing.
+    fn empty(alloc: Global) -> Self
+        ensures { state result ≡ fold [] };
+
+    /// Learns an operation: where the state was that of some set, it is then that of the set with
+    /// the operation. On want of memory the state is as it was.
+    fn add(&mut self, alloc: Global, op: &Op) -> Result<(), AllocError>
+        requires { IsWellFormed (operation op.now) }
+        ensures ok { OnOk result ((ops : List Operation) → state self.old ≡ fold ops → state self.new ≡ fold (operation op.now ∷ ops)) }
+        ensures err { OnErr result (state self.new ≡ state self.old) };
+
+    /// Gives a point another key, of which nothing was executed or shifted yet.
+    fn set_key(&mut self, alloc: Global, name: Name, key: Key) -> Result<(), AllocError>
+        ensures ok { OnOk result (state self.new ≡ with_key name (key_value key) (state self.old)) }
+        ensures err { OnErr result (state self.new ≡ state self.old) };
+
+    /// Counts a pass of a point at a node and, where a counted term was triggered, its execution
+    /// there.
+    fn count_pass(
+        &mut self,
+        alloc: Global,
+        name: &Name,
+        node: u8,
+        spent: Option<u8>,
+    ) -> Result<(), AllocError>
+        requires set { IsSome ((state self.old).key name.now) }
+        requires hits { (state self.old).hits name.now node + 1 < 2 ^ 64 }
+        requires execs { (term : ℕ) → (state self.old).execs name.now term node + 1 < 2 ^ 64 }
+        ensures ok { OnOk result (state self.new ≡ with_pass name.now node spent (state self.old)) }
+        ensures err { OnErr result (state self.new ≡ state self.old) };
+
+    /// The key of a point: its last setting or removal.
+    fn key(&self, name: &Name) -> Option<&Key>
+        ensures value { option_map key_value (option_copied result) ≡ (state self.now).key name.now }
+        ensures named { IsSome result → with_name name.now (state self.now).names ≡ (state self.now).names };
+
+    /// The hits of a point at a node.
+    fn hits(&self, name: &Name, node: u8) -> u64
+        ensures { result ≡ (state self.now).hits name.now node };
+
+    /// The hits of a point at all nodes.
+    fn total_hits(&self, name: &Name) -> u128
+        ensures { result ≡ total_hits (state self.now) name.now };
+
+    /// The executions of a term at a node, under the point's key.
+    fn exec(&self, name: &Name, term: u8, node: u8) -> u64
+        ensures { result ≡ (state self.now).execs name.now term node };
+
+    /// The total of rights that one node moved to another, under the point's key.
+    fn moved(&self, name: &Name, term: u8, from: u8, to: u8) -> u64
+        ensures { result ≡ (state self.now).shifts name.now term from to };
+
+    /// The rights of a node to execute a counted term. They can be below 0 in the view of another
+    /// node, where it knows of a spend before the shift that paid for it.
+    fn rights(&self, name: &Name, term: u8, node: u8) -> i128
+        ensures { result ≡ rights_of (state self.now) name.now term node };
+
+    /// The executions of a counted term at all nodes.
+    fn spent(&self, name: &Name, term: u8) -> u128
+        ensures { result ≡ spent_of (state self.now) name.now term };
+
+    /// How many names have a key or a hit.
+    fn names(&self) -> usize
+        ensures { result ≡ length (state self.now).names };
+
+    /// How many names would have a key or a hit with this one.
+    fn names_with(&self, name: &Name) -> usize
+        ensures { result ≡ length (with_name name.now (state self.now).names) };
+
+    /// The name at a place, in byte order.
+    fn name_at(&self, index: usize) -> Option<&Name>
+        ensures { option_copied result ≡ slice_get (state self.now).names index };
+}

@@ -1,0 +1,84 @@
+//! Examples from outside. A refused allocation is tried a second time.
+
+use super::*;
+use actions::{ActionFault, parse_actions};
+use std::alloc::Global;
+use std::cmp::Ordering;
+use std::test::Fail;
+
+fn set(alloc: Global, clock: u64, node: u8, text: &str) -> Result<Key, Fail> {
+    let actions = match parse_actions(alloc, text) {
+        Err(ActionFault::OutOfMemory) => parse_actions(alloc, text)?,
+        first => first?,
+    };
+    Ok(Key {
+        clock,
+        node,
+        body: Body::Set(actions),
+    })
+}
+
+fn removed(clock: u64, node: u8) -> Key {
+    Key {
+        clock,
+        node,
+        body: Body::Removed,
+    }
+}
+
+#[test]
+fn keys_go_by_clock_node_and_body(rt: HostRuntime) -> Result<(), Fail> {
+    let alloc = rt.alloc();
+    let ascending = [
+        removed(0, 255),
+        removed(1, 0),
+        set(alloc, 1, 0, "2*off")?,
+        set(alloc, 1, 0, "off")?,
+        set(alloc, 1, 0, "off->off")?,
+        removed(1, 1),
+        set(alloc, 1, 1, "off")?,
+        set(alloc, 2, 0, "delay(5)")?,
+        removed(u64::MAX, 0),
+    ];
+    for (i, one) in ascending.iter().enumerate() {
+        for (j, another) in ascending.iter().enumerate() {
+            let wanted = i.cmp(&j);
+            assert_eq!(rt; one.cmp(another), wanted, "{i} and {j}");
+            assert_eq!(rt; one == another, wanted == Ordering::Equal, "{i} and {j}");
+        }
+    }
+    Ok(())
+}
+
+#[test]
+fn one_text_in_two_spellings_is_one_key(rt: HostRuntime) -> Result<(), Fail> {
+    let alloc = rt.alloc();
+    assert!(rt; set(alloc, 1, 0, " 020.50%3*off ")? == set(alloc, 1, 0, "20.5%3*off")?);
+    Ok(())
+}
+
+#[test]
+fn stamps_print_clock_and_node(rt: HostRuntime) -> Result<(), Fail> {
+    let alloc = rt.alloc();
+    let stamp = removed(18_446_744_073_709_551_615, 15).stamp();
+    let text = match format!(in alloc; "{stamp}") {
+        Err(_) => format!(in alloc; "{stamp}")?,
+        Ok(text) => text,
+    };
+    assert_eq!(rt; text.as_str(), "18446744073709551615.15");
+    Ok(())
+}
+
+#[test]
+fn a_copy_is_equal(rt: HostRuntime) -> Result<(), Fail> {
+    let alloc = rt.alloc();
+    for key in [removed(3, 1), set(alloc, 4, 2, "20%3*print(a(b)c)->panic")?] {
+        let copy = match key.copied(alloc) {
+            Err(_) => key.copied(alloc)?,
+            Ok(copy) => copy,
+        };
+        assert!(rt; copy == key);
+        assert_eq!(rt; copy.actions().is_some(), key.actions().is_some());
+    }
+    Ok(())
+}
