@@ -1,10 +1,10 @@
 -- What is shifted from one node comes to another, so that it leaves the sum of the rights.
-use Rattle.std.proofs.Common.{◌≡◌, ℕ, ◌+◌, ◌<◌, ◌≤◌, ◌==◌, zero, suc, Bool, true, false, cond, refl, sym, ◌∙◌, ap, arith}
+use Rattle.std.proofs.Common.{◌≡◌, ℕ, ◌+◌, ◌==◌, zero, suc, Bool, true, false, cond, refl, sym, ◌∙◌, arith}
 use Rattle.std.proofs.lemmas.Bool.{eqb-true, eqb-false}
 use Rattle.std.proofs.lemmas.Int.{ints}
-use Rattle.std.specs.Prelude.{ℤ, pos, ◌+ℤ◌, ◌-ℤ◌}
+use Rattle.std.specs.Prelude.{pos, ◌+ℤ◌, ◌-ℤ◌}
 use Rattle.counters.specs.Sums.{numbers, sum_below, sum_others, int_sum_below}
-use Rattle.counters.specs.Budgets.{Budget, given, gone, rights, total_spent, remaining, RemainingAndSpentAreTheCount}
+use Rattle.counters.specs.Budgets.{given, gone, total_spent, RemainingAndSpentAreTheCount}
 use Rattle.counters.proofs.SumLemmas.{sum-same, sum-add, sum-at, sum-swap}
 
 -- a sum of differences

@@ -1,5 +1,5 @@
 -- The budget of one counted term: who holds how many rights to execute it.
-use Rattle.std.specs.Prelude.{◌≡◌, ℕ, Bool, ◌+◌, ◌<◌, ◌≤◌, ◌==◌, nat_le, ℤ, pos, ◌+ℤ◌, ◌-ℤ◌, if◌then◌else◌}
+use Rattle.std.specs.Prelude.{◌≡◌, ℕ, Bool, ◌+◌, ◌<◌, ◌==◌, nat_le, ℤ, pos, ◌+ℤ◌, ◌-ℤ◌, if◌then◌else◌}
 use Rattle.counters.specs.Sums.{numbers, sum_below, int_sum_below, sum_others}
 
 -- a term counted in a key: the node that set it, its count, the total that each node shifted to each, and what each spent

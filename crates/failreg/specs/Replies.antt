@@ -3,15 +3,13 @@ use Rattle.std.specs.Prelude.{ℕ, List, [], ◌∷◌, ◌++◌, Option, Some, 
 use Rattle.std.specs.Fmt.{signed_decimal}
 use Rattle.actions.specs.Canonical.{task_text}
 use Rattle.stamp_register.specs.declared.key.Stamp.{Stamp}
+use Rattle.stamp_register.specs.Keys.{stamp_text}
 use Rattle.node_core.specs.declared.fault.NodeFault.{NodeFault}
 use Rattle.node_core.specs.Asks.{Passed, Unset, NoTerm, Act, passed, Answered, IsSet, IsPassed}
 use Rattle.node_core.specs.Texts.{node_fault_text}
 use Rattle.failreg.specs.Fields.{newline}
 use Rattle.failreg.specs.declared.reply.Reply.{Reply}
 use Rattle.failreg.specs.declared.reply.Reply.TheVariants as replies
-
-abbrev pub stamp_text : Stamp → List ℕ
-stamp_text stamp = decimal stamp.clock ++ codes "." ++ decimal stamp.node
 
 abbrev pub set_text : Stamp → List ℕ
 set_text stamp = codes "set " ++ stamp_text stamp

@@ -33,13 +33,11 @@ impl fmt::Display for Reply {
 
     fn fmt<W: fmt::Write>(&self, f: &mut fmt::Formatter<W>) -> fmt::Result {
         match self {
-            Reply::Set(stamp) => write!(f, "set {}.{}", stamp.clock, stamp.node),
+            Reply::Set(stamp) => write!(f, "set {stamp}"),
             Reply::Pass(PassReply::Unset) => f.write_str("unset"),
-            Reply::Pass(PassReply::NoTerm { stamp }) => {
-                write!(f, "none {}.{}", stamp.clock, stamp.node)
-            }
+            Reply::Pass(PassReply::NoTerm { stamp }) => write!(f, "none {stamp}"),
             Reply::Pass(PassReply::Act { stamp, term, task }) => {
-                write!(f, "act {}.{} {term} {task}", stamp.clock, stamp.node)
+                write!(f, "act {stamp} {term} {task}")
             }
             Reply::List(text) => f.write_str(text.as_str()),
             Reply::Rights(number) => write!(f, "{number}"),

@@ -1,6 +1,6 @@
 //! What the plain replica holds of one name.
 
-ghost use Rattle.std.specs.Prelude.{◌≡◌, ◌+◌, ◌-◌, ◌<◌, ◌≤◌, ◌^◌, ◌*◌, ℕ, List, filter, length, vec_len, vec_capacity, position, option_map, Some, None, OnOk, OnErr, IfSome, pos};
+ghost use Rattle.std.specs.Prelude.{◌≡◌, ◌+◌, ◌-◌, ◌<◌, ◌≤◌, ◌^◌, ◌*◌, ℕ, List, filter, length, vec_len, vec_capacity, position, option_map, Some, None, OnOk, OnErr, IsSome, pos};
 ghost use Rattle.std.specs.Option.{option_copied};
 ghost use Rattle.std.specs.Option.{option_map_or};
 ghost use Rattle.counters.specs.Sums.{numbers, sum_below};
@@ -106,6 +106,8 @@ fn raise(counts: &mut Vec<Count>, count: Count)
     requires { vec_len counts.old < vec_capacity counts.old }
     ensures number { (c : Counted) → number_of counts.new.items c ≡ raised (Some count) (number_of counts.old.items) c }
     ensures len { vec_len counts.new ≤ vec_len counts.old + 1 }
+    // What is counted already takes no more room.
+    ensures in_place { IsSome (position (λ c. same_counted c.counted count.counted) counts.old.items) → vec_len counts.new ≡ vec_len counts.old }
     ensures capacity { vec_capacity counts.new ≡ vec_capacity counts.old }
 {
     match place_of(counts, count.counted) {
