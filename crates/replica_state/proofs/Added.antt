@@ -1,5 +1,5 @@
 -- A set with one operation more comes to the state in which the operation's name has learned it.
-use Rattle.std.proofs.Common.{◌≡◌, ◌≤◌, ℕ, max, Bool, true, false, cond, ◌&&◌, eqb, List, [], ◌∷◌, Option, Some, None, refl, sym, ◌∙◌, ap, arith}
+use Rattle.std.proofs.Common.{◌≡◌, ℕ, max, Bool, true, false, cond, ◌&&◌, eqb, List, [], ◌∷◌, Option, Some, None, refl, sym, ◌∙◌, ap, arith}
 use Rattle.std.proofs.lemmas.Bool.{true≢false}
 use Rattle.std.proofs.lemmas.Bool.Decides.{nat_tests}
 use Rattle.std.specs.Str.{bytes_eq}
@@ -8,15 +8,14 @@ use Rattle.std.specs.Cmp.Lexicographic.{slice_cmp}
 use Rattle.std.specs.declared.cmp.Ordering.{Ordering}
 use Rattle.std.specs.declared.cmp.Ordering.TheVariants.{Less, Equal, Greater}
 use Rattle.stamp_register.specs.Keys.{KeyValue, key_le, same_key, key_rank}
-use Rattle.replica_state.specs.declared.point.Counted.{Counted}
 use Rattle.replica_state.specs.declared.point.Counted.TheVariants as kinds
 use Rattle.replica_state.specs.declared.point.Count.{Count}
-use Rattle.replica_state.specs.Operations.{Cell, Hits, Execs, Shifts, Operation, Set, Count as Counting, same_cell, IsWellFormed}
-use Rattle.replica_state.specs.Folds.{fold, names_of, greater, key_in, key_of, number_in, number_at, at_key, name_in, holds_name}
+use Rattle.replica_state.specs.Operations.{Hits, Execs, Shifts, Operation, Set, Count as Counting, same_cell, IsWellFormed}
+use Rattle.replica_state.specs.Folds.{fold, names_of, greater, key_in, key_of, number_at, at_key, name_in, holds_name}
 use Rattle.replica_state.specs.States.{State, with_name}
-use Rattle.replica_state.specs.Points.{Held, standing, raised, fresh, learned, learned_number}
+use Rattle.replica_state.specs.Points.{standing, learned}
 use Rattle.replica_state.specs.OpSets.{held_at, with_held, key_told, count_told}
-use Rattle.replica_state.proofs.Orders.{key_le-refl, key_le-trans, key_le-other, same_key-cmp, same_key-true, same_key-refl, bytes_eq-true}
+use Rattle.replica_state.proofs.Orders.{key_le-trans, key_le-other, same_key-cmp, same_key-true, same_key-refl, bytes_eq-true}
 use Rattle.replica_state.proofs.FoldSteps.{max_zero}
 
 -- a key above the greater of two is above both

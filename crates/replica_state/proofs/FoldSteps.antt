@@ -2,14 +2,12 @@
 use Rattle.std.proofs.Common.{◌≡◌, ℕ, ◌+◌, ◌<◌, ◌≤◌, max, Bool, true, false, cond, ◌&&◌, eqb, nat_lt, List, [], ◌∷◌, Option, Some, None, refl, sym, ◌∙◌, ap, subst, arith}
 use Rattle.std.proofs.lemmas.Bool.{ne_eqb, eqb-true}
 use Rattle.std.specs.Str.{bytes_eq}
-use Rattle.std.specs.Ordering.{nat_cmp, is_le}
-use Rattle.std.specs.Cmp.Lexicographic.{slice_cmp}
 use Rattle.std.proofs.lemmas.Slice.Eq.{bytes_eq-Decides}
 use Rattle.std.proofs.lemmas.Bool.Decides.{nat_tests}
 use Rattle.stamp_register.specs.Keys.{KeyValue, key_le, same_key, key_rank}
-use Rattle.replica_state.specs.Operations.{Cell, Hits, Execs, Shifts, Operation, Set, Count, same_cell}
+use Rattle.replica_state.specs.Operations.{Hits, Execs, Shifts, Operation, Set, Count, same_cell}
 use Rattle.replica_state.specs.Folds.{fold, names_of, greater, key_of, number_at, at_key, clock_of}
-use Rattle.replica_state.specs.States.{State, with_name, with_hits, with_execs, with_key}
+use Rattle.replica_state.specs.States.{with_name, with_hits, with_execs, with_key}
 
 pub max_zero : (n : ℕ) → max 0 n ≡ n
 max_zero n = omega arith

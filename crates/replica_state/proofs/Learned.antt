@@ -1,21 +1,20 @@
 -- What a point holds after it learned something, by how the key stands.
-use Rattle.std.proofs.Common.{◌≡◌, ℕ, ◌+◌, max, Bool, true, false, cond, List, [], ◌∷◌, Option, Some, None, option_map, Result, Ok, Err, OnOk, OnErr, refl, sym, ◌∙◌, ap, subst}
+use Rattle.std.proofs.Common.{◌≡◌, ℕ, ◌+◌, true, cond, List, Option, Some, None, option_map, Result, Ok, Err, OnOk, OnErr, refl, sym, ◌∙◌, ap}
 use Rattle.std.specs.Prelude.{pos}
 use Rattle.std.specs.Option.{option_map_or}
 use Rattle.counters.specs.Budgets.{rights}
 use Rattle.replica_state.specs.Operations.{count_of}
-use Rattle.std.specs.Ordering.{nat_cmp, is_le, match_ordering}
-use Rattle.std.specs.Cmp.Lexicographic.{slice_cmp}
+use Rattle.std.specs.Ordering.{is_le, match_ordering}
 use Rattle.std.specs.declared.cmp.Ordering.{Ordering}
 use Rattle.std.specs.declared.cmp.Ordering.TheVariants.{Less, Equal, Greater}
-use Rattle.stamp_register.specs.Keys.{KeyValue, key_value, key_rank}
+use Rattle.stamp_register.specs.Keys.{KeyValue, key_value}
 use Rattle.stamp_register.specs.declared.key.Key.{Key}
 use Rattle.replica_state.specs.declared.point.Counted.{Counted}
-use Rattle.replica_state.specs.declared.point.Counted.TheVariants.{Hits, Execs}
+use Rattle.replica_state.specs.declared.point.Counted.TheVariants.{Hits}
 use Rattle.replica_state.specs.declared.point.Count.{Count}
 use Rattle.replica_state.specs.declared.point.Point.{Point}
 use Rattle.replica_state.specs.Folds.{greater}
-use Rattle.replica_state.specs.Points.{Held, held_of, number_of, standing, raised, fresh, learned, taken, spending, passed, budget_in, budget_under}
+use Rattle.replica_state.specs.Points.{held_of, number_of, standing, raised, fresh, learned, taken, spending, passed, budget_in, budget_under}
 
 -- a fact for one variant gives another for it
 pub on_ok : {A E P Q : Type 0} (r : Result A E) → (P → Q) → OnOk r P → OnOk r Q

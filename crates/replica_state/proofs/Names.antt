@@ -1,5 +1,5 @@
 -- The names of a set: sorted, each once, and those that an operation of the set holds.
-use Rattle.std.proofs.Common.{◌≡◌, ℕ, ◌<◌, ◌≤◌, nat_lt, max, Bool, true, false, cond, List, [], ◌∷◌, ◌⊎◌, inl, inr, refl, sym, ◌∙◌, ap, subst, arith, ⊎_elim, Option, Some, None}
+use Rattle.std.proofs.Common.{◌≡◌, ℕ, ◌<◌, ◌≤◌, nat_lt, max, Bool, true, false, cond, List, [], ◌∷◌, ◌⊎◌, inl, inr, refl, sym, ◌∙◌, ap, subst, arith, ⊎_elim, Some, None}
 use Rattle.std.proofs.lemmas.Bool.{true≢false}
 use Rattle.std.proofs.lemmas.Bool.Decides.{nat_tests}
 use Rattle.std.proofs.lemmas.Cmp.{nat_list_cmp_total, tied_itself}
@@ -9,11 +9,11 @@ use Rattle.std.specs.Ordering.{nat_cmp, match_ordering, is_eq, ordering_reverse}
 use Rattle.std.specs.Cmp.Lexicographic.{slice_cmp}
 use Rattle.std.specs.declared.cmp.Ordering.{Ordering}
 use Rattle.std.specs.declared.cmp.Ordering.TheVariants.{Less, Equal, Greater}
-use Rattle.stamp_register.specs.Keys.{KeyValue, key_le}
-use Rattle.replica_state.specs.Operations.{Cell, Hits, Execs, Shifts, Operation, Set, Count, IsIn, same_cell}
+use Rattle.stamp_register.specs.Keys.{KeyValue}
+use Rattle.replica_state.specs.Operations.{Hits, Execs, Shifts, Operation, Set, Count, IsIn, same_cell}
 use Rattle.replica_state.specs.States.{with_name}
 use Rattle.replica_state.specs.Folds.{key_in, key_of, number_at, names_of, name_in, name_in_cell, is_counted_cell, holds_name}
-use Rattle.replica_state.specs.Knowledge.{HoldsLater, HoldsKey, Knows, KnowsAll}
+use Rattle.replica_state.specs.Knowledge.{HoldsKey, Knows, KnowsAll}
 use Rattle.replica_state.proofs.Orders.{bytes_eq-true, same_cell-true}
 use Rattle.replica_state.proofs.Sets.{key_of-found}
 

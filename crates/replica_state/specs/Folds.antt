@@ -1,6 +1,6 @@
 -- The state that a set of operations comes to. It is read off the whole set: the greatest key of a
 -- name, and the greatest number of each cell.
-use Rattle.std.specs.Prelude.{◌≡◌, ℕ, max, Bool, true, nat_lt, List, [], ◌∷◌, if◌then◌else◌, Option, Some, None}
+use Rattle.std.specs.Prelude.{ℕ, max, Bool, true, nat_lt, List, [], ◌∷◌, if◌then◌else◌, Option, Some, None}
 use Rattle.std.specs.Str.{bytes_eq}
 use Rattle.stamp_register.specs.Keys.{KeyValue, key_le}
 use Rattle.replica_state.specs.Operations.{Cell, Hits, Execs, Shifts, Operation, Set, Count, same_cell}

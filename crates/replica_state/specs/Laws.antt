@@ -1,5 +1,5 @@
 -- What holds of every set of operations.
-use Rattle.std.specs.Prelude.{◌≡◌, ℕ, ◌<◌, List, ◌++◌, ◌↔◌, false, Option, Some, pos, ◌+ℤ◌}
+use Rattle.std.specs.Prelude.{◌≡◌, ℕ, ◌<◌, List, ◌++◌, ◌↔◌, false, Some, pos, ◌+ℤ◌}
 use Rattle.counters.specs.Sums.{numbers}
 use Rattle.counters.specs.Budgets.{Budget, remaining, total_spent}
 use Rattle.replica_state.specs.Operations.{Operation, IsIn}

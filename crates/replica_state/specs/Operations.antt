@@ -1,5 +1,5 @@
 -- What can be known of the points of a cluster: settings, hits, executions and shifts of rights.
-use Rattle.std.specs.Prelude.{◌≡◌, ◌≢◌, ℕ, ◌≤◌, Bool, true, false, ◌==◌, ◌&&◌, List, [], ◌∷◌, ◌⊎◌, Option, Some, None, is_some, slice_get, IsTrue}
+use Rattle.std.specs.Prelude.{◌≡◌, ◌≢◌, ℕ, ◌≤◌, Bool, false, ◌==◌, ◌&&◌, List, [], ◌∷◌, ◌⊎◌, Option, Some, None, is_some, slice_get, IsTrue}
 use Rattle.std.specs.Str.{bytes_eq}
 use Rattle.actions.specs.Value.{TermValue}
 use Rattle.stamp_register.specs.Keys.{KeyValue, key_value, same_key, terms_set}

@@ -1,4 +1,4 @@
-use Rattle.std.proofs.Common.{◌≡◌, ℕ, List, Some, cond, ap, ◌∙◌, refl, sym}
+use Rattle.std.proofs.Common.{ℕ, List, Some, cond, ap, ◌∙◌, sym}
 use Rattle.std.specs.BTreeMap.{BTreeMap, insert_entry, is_at}
 use Rattle.std.specs.Option.{option_map, option_copied}
 use Rattle.std.specs.Ordering.{nat_cmp}

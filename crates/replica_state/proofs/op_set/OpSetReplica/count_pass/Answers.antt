@@ -1,4 +1,4 @@
-use Rattle.std.proofs.Common.{◌≡◌, ◌+◌, ◌<◌, ◌^◌, Option, subst, ap, ◌∙◌, refl, sym}
+use Rattle.std.proofs.Common.{◌+◌, ◌<◌, ◌^◌, Option, subst, ◌∙◌, sym}
 use Rattle.replica_state.specs.declared.point.Point.{Point}
 use Rattle.replica_state.specs.Points.{passed}
 use Rattle.replica_state.specs.OpSets.{state_of, shown, number_at}

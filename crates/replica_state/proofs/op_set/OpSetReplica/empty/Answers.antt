@@ -1,4 +1,4 @@
-use Rattle.std.proofs.Common.{◌≡◌, ap, ◌∙◌}
+use Rattle.std.proofs.Common.{ap, ◌∙◌}
 use Rattle.replica_state.specs.OpSets.{state_of, shown}
 use Rattle.replica_state.proofs.Shown.{shown_none}
 use Rattle.replica_state.proofs.op_set.OpSetReplica.empty.Goals as goal

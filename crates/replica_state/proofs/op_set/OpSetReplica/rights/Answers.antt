@@ -1,10 +1,10 @@
-use Rattle.std.proofs.Common.{◌≡◌, Option, ap, ◌∙◌, refl, sym}
+use Rattle.std.proofs.Common.{Option, ap, ◌∙◌}
 use Rattle.std.proofs.lemmas.Int.{to_z-of_z}
 use mir.Syntax.{w128}
 use Rattle.std.specs.Prelude.{pos}
 use Rattle.std.specs.Option.{option_map_or}
 use Rattle.counters.specs.Budgets.{Budget, rights}
-use Rattle.replica_state.specs.OpSets.{state_of, shown}
+use Rattle.replica_state.specs.OpSets.{state_of}
 use Rattle.replica_state.proofs.Shown.{budget_held}
 use Rattle.replica_state.proofs.op_set.OpSetReplica.rights.Goals as goal
 

@@ -1,4 +1,4 @@
-use Rattle.std.proofs.Common.{◌≡◌, ℕ, List, ap, ◌∙◌, refl, sym}
+use Rattle.std.proofs.Common.{ℕ, List, ap, ◌∙◌, sym}
 use Rattle.std.specs.BTreeMap.{BTreeMap}
 use Rattle.stamp_register.specs.Keys.{key_value}
 use Rattle.replica_state.specs.declared.point.Point.{Point}

@@ -1,7 +1,6 @@
-use Rattle.std.proofs.Common.{◌≡◌, Option, ap, ◌∙◌, refl, sym}
+use Rattle.std.proofs.Common.{ap, sym}
 use Rattle.std.specs.Option.{option_map, option_copied}
 use Rattle.stamp_register.specs.Keys.{key_value}
-use Rattle.replica_state.specs.Points.{held_of, learned}
 use Rattle.replica_state.proofs.Learned.{on_ok, both_ok, on_err, same_held, learned_none, learned_less, learned_equal, learned_greater}
 use Rattle.replica_state.proofs.point.Point.learn.Goals as goal
 

@@ -1,4 +1,4 @@
-use Rattle.std.proofs.Common.{◌≡◌, Option, Some, None, ap, ◌∙◌, refl, sym}
+use Rattle.std.proofs.Common.{◌≡◌, Some, ap, ◌∙◌, refl, sym}
 use Rattle.replica_state.specs.Points.{held_of, spending}
 use Rattle.replica_state.proofs.Learned.{passed_held}
 use Rattle.replica_state.proofs.point.Point.pass.Goals.{in-Some, in-None}
