@@ -1,5 +1,5 @@
 -- Several reads, and several writes, in a row.
-use Rattle.std.proofs.Common.{◌≡◌, ℕ, ◌-◌, ◌+◌, ◌≤◌, List, ◌++◌, length, take, drop, Option, Some, None, Result, Ok, sym, ap, ◌∙◌, append_assoc, take-append-drop, arith, length-append, length-take}
+use Rattle.std.proofs.Common.{◌≡◌, ℕ, ◌+◌, ◌≤◌, List, ◌++◌, length, take, drop, Option, Some, None, sym, ap, ◌∙◌, append_assoc, take-append-drop, arith, length-append, length-take}
 use Rattle.std.specs.Io.KnownBytes.{Appends, Consumes}
 use Rattle.failreg.specs.Streams.{GivesBefore, TakesUpTo}
 

@@ -2,7 +2,7 @@
 use Rattle.std.specs.Prelude.{ℕ, ◌==◌, List, [], ◌∷◌, if◌then◌else◌, Option, Some, None, option_and_then, codes}
 use Rattle.std.specs.List.{slice_split}
 use Rattle.std.specs.Str.{bytes_eq}
-use Rattle.failreg.specs.Fields.{space, cut_of, field_of, number_of, byte_of, word_of}
+use Rattle.failreg.specs.Fields.{space, cut_of, field_of, byte_of, word_of}
 use Rattle.failreg.specs.declared.command.Call.{Call}
 use Rattle.failreg.specs.declared.command.Call.TheVariants as calls
 use Rattle.failreg.specs.declared.command.Command.{Command}

@@ -4,7 +4,6 @@ use Rattle.std.specs.Fmt.{signed_decimal}
 use Rattle.actions.specs.Canonical.{task_text}
 use Rattle.stamp_register.specs.declared.key.Stamp.{Stamp}
 use Rattle.stamp_register.specs.Keys.{stamp_text}
-use Rattle.node_core.specs.declared.fault.NodeFault.{NodeFault}
 use Rattle.node_core.specs.Asks.{Passed, Unset, NoTerm, Act, passed, Answered, IsSet, IsPassed}
 use Rattle.node_core.specs.Texts.{node_fault_text}
 use Rattle.failreg.specs.Fields.{newline}

@@ -1,6 +1,10 @@
 //! Action texts, and scripts that drive a cluster of failpoint registries.
 #![tactic(auto)]
 
+ghost use Rattle.std.specs.Prelude.{◌≡◌, IsOk, IfOk};
+ghost use Rattle.std.specs.Process.{exit_status};
+ghost use Rattle.actions.specs.Reading.{reading};
+
 mod cluster;
 mod command;
 mod command_line;
@@ -39,7 +43,10 @@ fn main(rt: HostRuntime) -> anyhow::Result<ExitCode> {
 }
 
 // Prints the canonical spelling of an action text.
-fn parse<R: Print + Eprint + AllocGlobal>(rt: &R, text: &str) -> anyhow::Result<ExitCode> {
+fn parse<R: Print + Eprint + AllocGlobal>(rt: &R, text: &str) -> anyhow::Result<ExitCode>
+    // Only a text that can be read has status 0.
+    ensures { IfOk result (λ code. exit_status code ≡ 0 → IsOk (reading text.now)) }
+{
     match parse_actions(rt.alloc(), text) {
         Ok(actions) => {
             println!(rt; "{}", actions.text())?;

@@ -1,26 +1,23 @@
 -- One node alone: what each call that sets or passes a point does to keys, stamps and executions.
-use Rattle.std.proofs.Common.{◌≡◌, ◌≢◌, ℕ, ◌+◌, ◌<◌, ◌≤◌, ◌&&◌, ◌==◌, eqb, max, Bool, true, false, cond, List, [], ◌∷◌, ◌++◌, Option, Some, None, refl, sym, ◌∙◌, ap, subst, arith, ◌⊎◌, inl, inr, ⊎_elim}
-use Rattle.std.proofs.lemmas.Bool.{and_parts, eqb-true, ne_eqb}
-use Rattle.std.proofs.lemmas.Bool.Decides.{nat_tests}
+use Rattle.std.proofs.Common.{◌≡◌, ℕ, ◌+◌, ◌<◌, ◌≤◌, ◌&&◌, ◌==◌, max, Bool, true, false, cond, List, [], ◌∷◌, ◌++◌, Option, Some, None, refl, sym, ◌∙◌, ap, subst, arith, ◌⊎◌, inl, inr, ⊎_elim}
+use Rattle.std.proofs.lemmas.Bool.{and_parts, eqb-true}
 use Rattle.std.proofs.lemmas.Slice.Eq.{bytes_eq-Decides}
 use Rattle.std.proofs.lemmas.List.Sums.{sum_by-append}
 use Rattle.std.specs.Str.{bytes_eq}
-use Rattle.std.specs.Prelude.{slice_get, is_some, count_by, nat_le, Result, Ok, Err}
-use Rattle.actions.specs.Value.{TermValue}
 use Rattle.actions.specs.Reading.{reading}
 use Rattle.stamp_register.specs.declared.key.Stamp.{Stamp}
-use Rattle.stamp_register.specs.Keys.{KeyValue, stamp_of, terms_set}
-use Rattle.replica_state.specs.Operations.{Operation, Set, Count, Hits, Execs, IsIn, same_cell, count_of, count_at}
+use Rattle.stamp_register.specs.Keys.{KeyValue, stamp_of}
+use Rattle.replica_state.specs.Operations.{Set, IsIn, count_of}
 use Rattle.replica_state.specs.States.{State, with_key}
-use Rattle.replica_state.specs.Folds.{fold, key_of, number_at, at_key, clock_of, greater}
-use Rattle.replica_state.proofs.FoldSteps.{fold_key, same_keys, execs_cells, max_zero}
+use Rattle.replica_state.specs.Folds.{fold, clock_of}
+use Rattle.replica_state.proofs.FoldSteps.{fold_key}
 use Rattle.node_core.specs.declared.trace.Config.{Config}
 use Rattle.node_core.specs.Asks.{Asked, Answered, Passed, Call}
 use Rattle.node_core.specs.Asks as asks
-use Rattle.node_core.specs.Nodes.{Node, shown, setting_of}
+use Rattle.node_core.specs.Nodes.{Node, shown}
 use Rattle.node_core.specs.Steps.{after, new_key, body_read}
 use Rattle.node_core.specs.Traces.{replay, replay_from}
-use Rattle.node_core.specs.Laws.{is_act_of, acts, executions, IsIssued}
+use Rattle.node_core.specs.Laws.{acts, executions, IsIssued}
 use Rattle.node_core.proofs.TraceLemmas.{replay_more}
 
 -- the state that a trace comes to

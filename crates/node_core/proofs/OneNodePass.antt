@@ -1,33 +1,24 @@
 -- One node alone: what a pass does to keys, stamps and executions.
-use Rattle.std.proofs.Common.{◌≡◌, ℕ, ◌+◌, ◌<◌, ◌≤◌, ◌&&◌, ◌||◌, ◌==◌, eqb, max, not, Bool, true, false, cond, List, [], ◌∷◌, ◌++◌, Option, Some, None, refl, sym, ◌∙◌, ap, subst, arith, ◌⊎◌, inl, inr, ⊎_elim}
-use Rattle.std.proofs.lemmas.Bool.{and_parts, eqb-true, eq-eqb}
-use Rattle.std.proofs.lemmas.Bool.Decides.{nat_tests}
+use Rattle.std.proofs.Common.{◌≡◌, ℕ, ◌+◌, ◌<◌, ◌≤◌, ◌&&◌, ◌==◌, Bool, true, false, cond, List, [], ◌∷◌, ◌++◌, Option, Some, None, refl, sym, ◌∙◌, ap, subst, arith, ⊎_elim}
+use Rattle.std.proofs.lemmas.Bool.{eqb-true, eq-eqb}
 use Rattle.std.proofs.lemmas.Slice.Eq.{bytes_eq-Decides}
 use Rattle.std.specs.Str.{bytes_eq}
-use Rattle.std.specs.Prelude.{slice_get, is_some, nat_le, option_map}
-use Rattle.actions.specs.Value.{TermValue}
-use Rattle.actions.specs.Choice.{choice, passes, triggers_by, word_at}
-use Rattle.actions.proofs.ChoiceLemmas.{first_from_choice}
-use Rattle.counters.specs.Sums.{numbers, sum_others}
-use Rattle.counters.specs.Budgets.{given, gone}
-use Rattle.counters.proofs.SumLemmas.{sum_others-zero}
 use Rattle.stamp_register.specs.declared.key.Stamp.{Stamp}
-use Rattle.stamp_register.specs.Keys.{KeyValue, stamp_of, terms_set}
-use Rattle.replica_state.specs.Operations.{Operation, Count, Hits, Execs, Shifts, same_cell, count_of, count_at, count_in, count_under}
-use Rattle.replica_state.specs.States.{State, budget}
+use Rattle.stamp_register.specs.Keys.{KeyValue, stamp_of}
+use Rattle.replica_state.specs.Operations.{Operation, Execs, Shifts, same_cell, count_of}
+use Rattle.replica_state.specs.States.{State}
 use Rattle.replica_state.specs.Folds.{fold, key_of, number_at, at_key, clock_of}
 use Rattle.replica_state.proofs.FoldSteps.{same_keys, execs_cells, max_zero}
 use Rattle.node_core.specs.declared.trace.Config.{Config}
 use Rattle.node_core.specs.Asks.{Asked, Answered, Passed, Call}
 use Rattle.node_core.specs.Asks as asks
 use Rattle.node_core.specs.Nodes.{Node, setting_of}
-use Rattle.node_core.specs.Passes.{next_hit, next_exec, triggered, may_run, has_rights_of, ops_of_pass, reply_of_pass, reply_of_choice, execs_of_choice, execs_of_term, task_in}
+use Rattle.node_core.specs.Passes.{next_hit, next_exec, ops_of_pass}
 use Rattle.node_core.specs.Steps.{after}
 use Rattle.node_core.specs.Traces.{replay}
 use Rattle.node_core.specs.Laws.{acts, executions, IsIssued}
 use Rattle.node_core.proofs.TraceLemmas.{replay_more}
-use Rattle.node_core.proofs.Rights.{IsSetting, setting_parts}
-use Rattle.node_core.proofs.OneNode.{view, clock_at, in_more, issued_front, executions_more, act_stamp, Sound, PassStep}
+use Rattle.node_core.proofs.OneNode.{view, clock_at, in_more, issued_front, executions_more, Sound, PassStep}
 
 -- the executed term, if there is one
 abbrev pub is_spent : Option ℕ → ℕ → Bool

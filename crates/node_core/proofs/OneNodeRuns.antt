@@ -1,34 +1,30 @@
 -- One node alone, over every list of calls that set and pass points: the count of a term is its budget.
-use Rattle.std.proofs.Common.{◌≡◌, ℕ, ◌+◌, ◌<◌, ◌≤◌, ◌&&◌, ◌||◌, ◌==◌, eqb, max, not, Bool, true, false, cond, List, [], ◌∷◌, ◌++◌, Option, Some, None, refl, sym, ◌∙◌, ap, subst, arith, ◌⊎◌, inl, inr, ⊎_elim}
-use Rattle.std.proofs.lemmas.Bool.{and_parts, eqb-true, eq-eqb}
+use Rattle.std.proofs.Common.{◌≡◌, ℕ, ◌+◌, ◌<◌, ◌≤◌, ◌&&◌, ◌==◌, Bool, true, false, cond, List, [], ◌∷◌, ◌++◌, Option, Some, None, refl, sym, ◌∙◌, ap, subst, arith, ⊎_elim}
+use Rattle.std.proofs.lemmas.Bool.{eq-eqb}
 use Rattle.std.proofs.lemmas.Bool.Decides.{nat_tests}
 use Rattle.std.proofs.lemmas.Int.{ints}
-use Rattle.std.proofs.lemmas.Slice.Eq.{bytes_eq-Decides}
-use Rattle.std.specs.Str.{bytes_eq}
-use Rattle.std.specs.Prelude.{slice_get, is_some, nat_le, option_map, ℤ, pos, ◌+ℤ◌, ◌-ℤ◌}
-use Rattle.actions.specs.Value.{TermValue, TaskValue}
-use Rattle.actions.specs.Choice.{choice, passes, triggers_by, word_at, can_trigger}
-use Rattle.actions.proofs.ChoiceLemmas.{first_from_choice}
+use Rattle.std.specs.Prelude.{nat_le, ℤ, pos, ◌+ℤ◌}
+use Rattle.actions.specs.Value.{TermValue}
 use Rattle.counters.specs.Sums.{numbers, sum_others}
 use Rattle.counters.specs.Budgets.{given, gone, rights}
 use Rattle.counters.proofs.SumLemmas.{sum_others-zero}
 use Rattle.stamp_register.specs.declared.key.Stamp.{Stamp}
 use Rattle.stamp_register.specs.Keys.{KeyValue, stamp_of}
 use Rattle.stamp_register.proofs.KeyLemmas.{same_key-true, true-same_key}
-use Rattle.replica_state.specs.Operations.{Operation, count_of, count_at, count_in, count_under}
+use Rattle.replica_state.specs.Operations.{Operation, count_of, count_at, count_under}
 use Rattle.replica_state.specs.States.{State, budget}
 use Rattle.replica_state.specs.Folds.{fold, clock_of}
 use Rattle.node_core.specs.declared.trace.Config.{Config}
 use Rattle.node_core.specs.declared.fault.NodeFault.{NodeFault}
 use Rattle.node_core.specs.Asks.{Asked, Answered, Passed, Call}
 use Rattle.node_core.specs.Asks as asks
-use Rattle.node_core.specs.Nodes.{Node, setting_of}
-use Rattle.node_core.specs.Passes.{next_hit, triggered, may_run, has_rights_of, ops_of_pass, reply_of_pass, reply_of_choice, execs_of_choice, execs_of_term, task_in}
-use Rattle.node_core.specs.Traces.{Kept, replay, refusal, entry_for}
+use Rattle.node_core.specs.Nodes.{setting_of}
+use Rattle.node_core.specs.Passes.{next_hit, triggered, may_run, has_rights_of, ops_of_pass, reply_of_pass, reply_of_choice, execs_of_choice, execs_of_term}
+use Rattle.node_core.specs.Traces.{replay, refusal, entry_for}
 use Rattle.node_core.specs.Laws.{AllSetOrPass, SetsOrPasses, grown_by, trace_of, acts, executions, IsIssued, is_key, rights_left, IsSpent, CountIsBudget, StampIsOneKey}
 use Rattle.node_core.proofs.Rights.{IsSetting, setting_parts, chosen_may}
-use Rattle.node_core.proofs.OneNode.{view, clock_at, in_more, issued_front, executions_more, act_stamp, Sound, PassStep, sound_start, sound_set, set_issued, no_more, set_current}
-use Rattle.node_core.proofs.OneNodePass.{is_spent, ops_spent, pass_clock, pass_ops, pass_issued, pass_step}
+use Rattle.node_core.proofs.OneNode.{view, clock_at, issued_front, executions_more, act_stamp, Sound, PassStep, sound_start, sound_set, set_issued, no_more, set_current}
+use Rattle.node_core.proofs.OneNodePass.{pass_clock, pass_ops, pass_issued, pass_step}
 
 -- with nothing shifted, the rights are the count less the executions
 module _ (v : State) (name : List ℕ) (term node count : ℕ) (key : KeyValue) (own : key.node ≡ node) (none : (a b : ℕ) → v.shifts name term a b ≡ 0) where

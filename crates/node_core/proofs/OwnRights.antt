@@ -1,5 +1,5 @@
 -- A node's own rights are never negative.
-use Rattle.std.proofs.Common.{◌≡◌, ℕ, ◌+◌, ◌≤◌, ◌&&◌, ◌==◌, Bool, true, false, cond, List, [], Option, Some, None, refl, sym, ◌∙◌, ap, subst, arith}
+use Rattle.std.proofs.Common.{◌≡◌, ℕ, ◌+◌, ◌&&◌, ◌==◌, Bool, true, false, cond, List, [], Option, Some, None, refl, subst, arith}
 use Rattle.std.proofs.lemmas.Bool.{and_parts, eqb-true}
 use Rattle.std.proofs.lemmas.Int.{ints}
 use Rattle.std.proofs.lemmas.Slice.Eq.{bytes_eq-Decides}
@@ -11,7 +11,7 @@ use Rattle.counters.specs.Budgets.{Budget, rights, given, gone}
 use Rattle.counters.proofs.SumLemmas.{sum_others-zero}
 use Rattle.stamp_register.specs.Keys.{KeyValue}
 use Rattle.replica_state.specs.Operations.{count_of}
-use Rattle.replica_state.specs.States.{State, with_key, with_hits, with_execs, with_pass, budget, budget_under, rights_of}
+use Rattle.replica_state.specs.States.{State, with_key, with_hits, with_execs, budget, budget_under, rights_of}
 use Rattle.replica_state.specs.Folds.{fold}
 use Rattle.node_core.specs.Outcomes.{state_done}
 

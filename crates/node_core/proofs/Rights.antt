@@ -6,7 +6,7 @@ use Rattle.std.specs.Prelude.{ℤ, pos, ◌≤ℤ◌, ◌-ℤ◌, ◌↔◌, IsT
 use Rattle.std.specs.Option.{option_map_or}
 use Rattle.actions.specs.Value.{TermValue}
 use Rattle.actions.specs.Choice.{choice, first_below, triggers, triggers_by, word_at}
-use Rattle.counters.specs.Budgets.{Budget, rights, has_rights, given, gone}
+use Rattle.counters.specs.Budgets.{Budget, rights, given, gone}
 use Rattle.stamp_register.specs.Keys.{KeyValue, terms_set}
 use Rattle.replica_state.specs.Operations.{count_at, count_in, count_under}
 use Rattle.replica_state.specs.States.{State, budget, budget_under, rights_of}

@@ -10,7 +10,7 @@ use Rattle.actions.specs.Reading.{reading}
 use Rattle.actions.specs.declared.fault.ActionFault.{ActionFault}
 use Rattle.stamp_register.specs.Keys.{KeyValue}
 use Rattle.replica_state.specs.Operations.{Operation, Count, Hits, Execs, same_cell}
-use Rattle.replica_state.specs.States.{State, with_name, with_key, with_hits, with_execs, with_pass, with_spend, rights_of}
+use Rattle.replica_state.specs.States.{State, with_name, with_key, with_hits, with_execs, with_pass, rights_of}
 use Rattle.replica_state.specs.Folds.{fold, clock_of, names_of, key_of, number_at, at_key}
 use Rattle.replica_state.proofs.FoldSteps.{fold_key, fold_hits, fold_execs, max_zero, is_later, all_later, later_some, either_way}
 use Rattle.node_core.specs.declared.trace.Config.{Config}

@@ -1,5 +1,5 @@
 -- What a pass of a point comes to.
-use Rattle.std.specs.Prelude.{◌≡◌, ℕ, ◌+◌, Bool, true, false, List, [], ◌∷◌, ◌++◌, slice_get, Option, Some, None, is_some, if◌then◌else◌}
+use Rattle.std.specs.Prelude.{ℕ, ◌+◌, Bool, false, List, [], ◌∷◌, ◌++◌, slice_get, Option, Some, None}
 use Rattle.actions.specs.Value.{TaskValue, TermValue, off}
 use Rattle.actions.specs.Choice.{choice, words_needed}
 use Rattle.counters.specs.Budgets.{has_rights}

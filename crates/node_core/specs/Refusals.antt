@@ -1,5 +1,5 @@
 -- When a node refuses what it is asked. The refusals stand in their order, and the first that applies is the answer.
-use Rattle.std.specs.Prelude.{◌≡◌, ℕ, ◌+◌, ◌-◌, ◌^◌, Bool, true, false, ◌==◌, ◌&&◌, ◌||◌, nat_lt, nat_le, not, List, [], ◌∷◌, ◌++◌, length, if◌then◌else◌, Option, Some, None, is_none, Result, Ok, Err, zero, suc}
+use Rattle.std.specs.Prelude.{ℕ, ◌+◌, ◌-◌, ◌^◌, Bool, true, false, ◌==◌, ◌&&◌, ◌||◌, nat_lt, nat_le, not, List, [], ◌∷◌, ◌++◌, length, if◌then◌else◌, Option, Some, None, is_none, Result, Ok, Err, zero, suc}
 use Rattle.std.specs.List.{list_any}
 use Rattle.actions.specs.Value.{TermValue}
 use Rattle.actions.specs.Names.{is_name}

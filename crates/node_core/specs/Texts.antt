@@ -1,5 +1,5 @@
 -- What is printed: the text of a fault, and the list of the points that are set.
-use Rattle.std.specs.Prelude.{ℕ, Bool, true, false, List, [], ◌∷◌, ◌++◌, Option, Some, None, codes, decimal, option_and_then, option_map}
+use Rattle.std.specs.Prelude.{ℕ, Bool, true, false, List, ◌∷◌, ◌++◌, Option, Some, None, codes, decimal, option_and_then, option_map}
 use Rattle.std.specs.List.{filter_map, join_with_byte}
 use Rattle.actions.specs.FaultText.{fault_text}
 use Rattle.stamp_register.specs.Keys.{KeyValue}

@@ -1,5 +1,5 @@
 -- Traces: the accepted calls of a node, and what they come to.
-use Rattle.std.specs.Prelude.{◌≡◌, ℕ, ◌+◌, List, [], ◌∷◌, ◌++◌, length, Option, Some, None}
+use Rattle.std.specs.Prelude.{◌≡◌, ℕ, ◌+◌, List, [], ◌∷◌, ◌++◌, length, Option, None}
 use Rattle.replica_state.specs.Deltas.{IsDelta}
 use Rattle.node_core.specs.declared.trace.Config.{Config}
 use Rattle.node_core.specs.declared.fault.NodeFault.{NodeFault}

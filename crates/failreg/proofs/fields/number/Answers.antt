@@ -1,4 +1,4 @@
-use Rattle.std.proofs.Common.{◌≡◌, ◌<◌, ◌^◌, length, arith, rules}
+use Rattle.std.proofs.Common.{rules}
 use Rattle.failreg.proofs.Numbers.{too_large, number_of-too_large}
 use Rattle.failreg.proofs.fields.number.Goals as goal
 

@@ -1,10 +1,10 @@
-use Rattle.std.proofs.Common.{◌≡◌, ◌==◌, ◌+◌, ◌<◌, ◌++◌, [], ◌∷◌, length, get_or, drop, None, rules, tests, arith, sym, ap, ◌∙◌}
+use Rattle.std.proofs.Common.{◌==◌, length, rules, tests}
 use Rattle.std.specs.String.{string_bytes}
-use Rattle.std.proofs.lemmas.List.{length_push, at_drop_all}
+use Rattle.std.proofs.lemmas.List.{length_push}
 use Rattle.std.proofs.lemmas.Iterator.Consumers.{YieldsList-turn, YieldsList-end}
 use Rattle.std.proofs.lemmas.Iterator.Splits.{YieldsList-from_slice_split}
 use Rattle.failreg.specs.Fields.{lines_of}
-use Rattle.failreg.specs.Script.{text_from, script_text}
+use Rattle.failreg.specs.Script.{script_text}
 use Rattle.failreg.proofs.Outputs.{one_more, none_left}
 use Rattle.failreg.proofs.script.output_of.Goals as goal
 

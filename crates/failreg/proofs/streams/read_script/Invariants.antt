@@ -1,4 +1,4 @@
-use Rattle.std.proofs.Common.{◌≡◌, ◌≤◌, ◌+◌, ◌-◌, false, vec_len}
+use Rattle.std.proofs.Common.{◌≡◌, ◌≤◌, ◌-◌, false, vec_len}
 use Rattle.std.specs.Io.KnownBytes.{Consumes}
 use Rattle.failreg.specs.Watched.{has_failed, inner_of}
 use Rattle.failreg.proofs.streams.read_script.Given as goal

@@ -1,4 +1,4 @@
-use Rattle.std.proofs.Common.{◌≡◌, ◌<◌, ◌≤◌, ◌&&◌, List, [], ℕ, Bool, refl, sym, ◌∙◌, ap, arith, length, string_bytes}
+use Rattle.std.proofs.Common.{◌&&◌, List, [], ℕ, Bool, sym, ◌∙◌, ap, arith, string_bytes}
 use Rattle.std.specs.Prelude.{is_none}
 use Rattle.replica_state.specs.OpSets.{state_of}
 use Rattle.replica_state.specs.States.{State}

@@ -1,4 +1,4 @@
-use Rattle.std.proofs.Common.{◌≡◌, ◌∙◌, ◌<◌, arith, below_more, false}
+use Rattle.std.proofs.Common.{◌∙◌, arith, below_more, false}
 use Rattle.std.proofs.lemmas.List.{get_or-set_same, get_or-set_other}
 use Rattle.std.proofs.Math.ListN.{length-set}
 use Rattle.stamp_register.specs.Keys.{key_value}

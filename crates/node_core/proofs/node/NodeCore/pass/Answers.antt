@@ -1,4 +1,3 @@
-use Rattle.std.proofs.Common.{refl}
 use Rattle.replica_state.specs.OpSets.{state_of}
 use Rattle.node_core.specs.Asks.{Pass}
 use Rattle.node_core.proofs.TraceLemmas.{pass_kept}
