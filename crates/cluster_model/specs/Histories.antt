@@ -1,0 +1,112 @@
+-- What is said of a whole schedule: what its nodes learnt, which keys they issued, and of a term of one
+-- such key, counted so, where its rights are and how often it was executed.
+use Rattle.std.specs.Prelude.{ℕ, ◌+◌, ◌==◌, ◌&&◌, Bool, true, false, ℤ, pos, ◌-ℤ◌, List, [], ◌∷◌, ◌++◌, if◌then◌else◌, Option, Some, None, count_by}
+use Rattle.std.specs.Str.{bytes_eq}
+use Rattle.counters.specs.Sums.{sum_below, int_sum_below}
+use Rattle.counters.specs.Budgets.{rights}
+use Rattle.stamp_register.specs.declared.key.Stamp.{Stamp}
+use Rattle.stamp_register.specs.Keys.{KeyValue, same_key}
+use Rattle.replica_state.specs.Operations.{Operation, Set, IsIn}
+use Rattle.replica_state.specs.States.{State, budget}
+use Rattle.node_core.specs.Asks.{Asked, Answered, Passed, Act, Call}
+use Rattle.node_core.specs.Asks as asks
+use Rattle.node_core.specs.Nodes.{Node, shown}
+use Rattle.node_core.specs.Steps.{added, settings, issued}
+use Rattle.cluster_model.specs.Worlds.{Cluster, Event, accepted, world}
+
+-- the state of node i
+abbrev pub state_of : Cluster → List Event → ℕ → State
+state_of c es i = shown ((world c es).node i)
+
+-- the operations that node i issues by what it accepts, and those that come to it from others
+abbrev pub ops_issued : ℕ → Node → Option Asked → List ℕ → List Operation
+ops_issued i n None words = []
+ops_issued i n (Some (asks.Deliver message)) words = []
+ops_issued i n (Some ask) words = added i n ask words
+
+abbrev pub ops_delivered : Option Asked → List Operation
+ops_delivered (Some (asks.Deliver message)) = message.ops
+ops_delivered _ = []
+
+abbrev pub all_issued : Cluster → List Event → ℕ → List Operation
+all_issued c [] i = []
+all_issued c (e ∷ es) i = ops_issued i ((world c es).node i) (accepted c (world c es) e i) e.words ++ all_issued c es i
+
+abbrev pub all_delivered : Cluster → List Event → ℕ → List Operation
+all_delivered c [] i = []
+all_delivered c (e ∷ es) i = ops_delivered (accepted c (world c es) e i) ++ all_delivered c es i
+
+-- all that node i learnt
+abbrev pub all_learnt : Cluster → List Event → ℕ → List Operation
+all_learnt c es i = all_issued c es i ++ all_delivered c es i
+
+-- the keys that are issued, each with its name
+abbrev pub keys_by : ℕ → Node → Option Asked → List Operation
+keys_by i n None = []
+keys_by i n (Some ask) = issued i n.marks.clock (settings ask)
+
+abbrev pub keys_issued : Cluster → List Event → List Operation
+keys_issued c [] = []
+keys_issued c (e ∷ es) = keys_by e.node ((world c es).node e.node) (accepted c (world c es) e e.node) ++ keys_issued c es
+
+abbrev pub IsIssued : Cluster → List Event → List ℕ → KeyValue → Type 0
+IsIssued c es name key = IsIn (Set name key) (keys_issued c es)
+
+-- the executions of a term under a stamp at node i are the replies there that say so
+abbrev pub is_act_of : Stamp → ℕ → Passed → Bool
+is_act_of stamp term (Act other k task) = other.clock == stamp.clock && (other.node == stamp.node && (k == term))
+is_act_of stamp term _ = false
+
+abbrev pub acts : Stamp → ℕ → Answered → Bool
+acts stamp term (asks.IsPassed passed) = is_act_of stamp term passed
+acts stamp term _ = false
+
+abbrev pub executions : Cluster → List Event → Stamp → ℕ → ℕ → ℕ
+executions c es stamp term i = count_by (λ call. acts stamp term call.reply) ((world c es).trace i)
+
+-- a key is the key of a name
+abbrev pub is_key : KeyValue → Option KeyValue → Bool
+is_key key None = false
+is_key key (Some other) = same_key other key
+
+-- the rights of a term that node i shifted to node j under the key: what its accepted shifts add up to
+abbrev pub amount_moved : Node → Option Asked → List ℕ → KeyValue → ℕ → ℕ → ℕ
+amount_moved n (Some (asks.Shift other k to amount)) name key term j =
+    if bytes_eq other name && (k == term && (to == j && is_key key ((shown n).key other))) then amount else 0
+amount_moved n _ name key term j = 0
+
+abbrev pub moved : Cluster → List Event → List ℕ → KeyValue → ℕ → ℕ → ℕ → ℕ
+moved c [] name key term i j = 0
+moved c (e ∷ es) name key term i j =
+    amount_moved ((world c es).node i) (accepted c (world c es) e i) name key term j + moved c es name key term i j
+
+-- the key is node i's key of the name
+abbrev pub is_under : Cluster → List Event → List ℕ → KeyValue → ℕ → Bool
+is_under c es name key i = is_key key ((state_of c es i).key name)
+
+-- the rights of a term counted so that node i holds: its rights in its own state, as they stood when it was last
+-- under the key; before that, all for the node that set the key and none for others
+abbrev pub held : Cluster → List Event → List ℕ → KeyValue → ℕ → ℕ → ℕ → ℤ
+held c [] name key term count i = pos (if i == key.node then count else 0)
+held c (e ∷ es) name key term count i =
+    if is_under c (e ∷ es) name key i then rights (budget (state_of c (e ∷ es) i) name term key.node count) i
+    else held c es name key term count i
+
+-- what node j has seen of the rights that node i shifted to it, as it stood when j was last under the key
+abbrev pub seen : Cluster → List Event → List ℕ → KeyValue → ℕ → ℕ → ℕ → ℕ
+seen c [] name key term i j = 0
+seen c (e ∷ es) name key term i j =
+    if is_under c (e ∷ es) name key j then (state_of c (e ∷ es) j).shifts name term i j else seen c es name key term i j
+
+-- over all nodes: the rights that are held, those on their way from one node to another, and the executions
+abbrev pub all_held : Cluster → List Event → List ℕ → KeyValue → ℕ → ℕ → ℤ
+all_held c es name key term count = int_sum_below c.nodes (held c es name key term count)
+
+abbrev pub in_transit : Cluster → List Event → List ℕ → KeyValue → ℕ → ℕ → ℕ → ℤ
+in_transit c es name key term i j = pos (moved c es name key term i j) -ℤ pos (seen c es name key term i j)
+
+abbrev pub all_in_transit : Cluster → List Event → List ℕ → KeyValue → ℕ → ℤ
+all_in_transit c es name key term = int_sum_below c.nodes (λ i. int_sum_below c.nodes (in_transit c es name key term i))
+
+abbrev pub all_executions : Cluster → List Event → Stamp → ℕ → ℕ
+all_executions c es stamp term = sum_below c.nodes (executions c es stamp term)

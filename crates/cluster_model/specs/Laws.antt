@@ -1,0 +1,93 @@
+-- What holds of every schedule of a cluster.
+use Rattle.std.specs.Prelude.{◌≡◌, ℕ, ◌≤◌, ◌<◌, ◌==◌, ◌&&◌, Bool, false, pos, ◌+ℤ◌, ◌≤ℤ◌, List, [], ◌∷◌, ◌++◌, ◌↔◌, length, Option, Some, None, count_by}
+use Rattle.std.specs.List.{list_any}
+use Rattle.counters.specs.Sums.{numbers}
+use Rattle.stamp_register.specs.declared.key.Stamp.{Stamp}
+use Rattle.stamp_register.specs.Keys.{KeyValue, stamp_of}
+use Rattle.replica_state.specs.Operations.{Operation, Set, Count, IsIn, count_of}
+use Rattle.replica_state.specs.Folds.{fold}
+use Rattle.replica_state.specs.StateOrder.{IsBelow}
+use Rattle.replica_state.specs.Knowledge.{KnowsAll}
+use Rattle.node_core.specs.declared.fault.NodeFault.{NodeFault}
+use Rattle.node_core.specs.declared.fault.NodeFault.TheVariants as faults
+use Rattle.node_core.specs.Asks.{Asked, Message}
+use Rattle.node_core.specs.Asks as asks
+use Rattle.node_core.specs.Traces.{replay}
+use Rattle.node_core.specs.Refusals.{is_ahead, overspends, refusal_at}
+use Rattle.cluster_model.specs.Worlds.{Cluster, Event, config_of, accepted, world}
+use Rattle.cluster_model.specs.Schedules.{IsSchedule}
+use Rattle.cluster_model.specs.Histories.{state_of, all_learnt, keys_issued, IsIssued, held, in_transit, all_held, all_in_transit, all_executions}
+
+-- each node is what its trace comes to
+abbrev pub NodeIsReplay : Type 0
+NodeIsReplay = (c : Cluster) (es : List Event) (i : ℕ) → (world c es).node i ≡ replay i ((world c es).trace i)
+
+-- its state is that of all the operations that it issued and that were delivered to it
+abbrev pub StateIsFold : Type 0
+StateIsFold = (c : Cluster) (es : List Event) (i : ℕ) → state_of c es i ≡ fold (all_learnt c es i)
+
+-- so nodes that learnt the same operations hold the same state, whatever the order, the repeats and the path
+abbrev pub AnyOrderSameState : Type 0
+AnyOrderSameState = (c d : Cluster) (es fs : List Event) (i j : ℕ) →
+    ((op : Operation) → IsIn op (all_learnt c es i) ↔ IsIn op (all_learnt d fs j)) → state_of c es i ≡ state_of d fs j
+
+-- and so do nodes that know the same operations, of which one may have learnt later ones in place of others
+abbrev pub SameKnownSameState : Type 0
+SameKnownSameState = (c d : Cluster) (es fs : List Event) (i j : ℕ) →
+    KnowsAll (all_learnt c es i) (all_learnt d fs j) → KnowsAll (all_learnt d fs j) (all_learnt c es i) → state_of c es i ≡ state_of d fs j
+
+-- a delivery that is accepted gives the least state above the node's own and the message's
+pub record IsDelivered (c : Cluster) (es : List Event) (e : Event) (i : ℕ) (message : Message) : Type 0 where
+  pub own : IsBelow (state_of c es i) (state_of c (e ∷ es) i)
+  pub came : IsBelow (fold message.ops) (state_of c (e ∷ es) i)
+  pub least : (ops : List Operation) → IsBelow (state_of c es i) (fold ops) → IsBelow (fold message.ops) (fold ops) → IsBelow (state_of c (e ∷ es) i) (fold ops)
+
+abbrev pub DeliveryIsLeast : Type 0
+DeliveryIsLeast = (c : Cluster) (es : List Event) (e : Event) (i : ℕ) (message : Message) →
+    accepted c (world c es) e i ≡ Some (asks.Deliver message) → IsDelivered c es e i message
+
+-- no stamp is issued twice
+abbrev pub has_stamp : Stamp → Operation → Bool
+has_stamp stamp (Set name key) = key.clock == stamp.clock && (key.node == stamp.node)
+has_stamp stamp (Count cell number) = false
+
+abbrev pub StampIsIssuedOnce : Type 0
+StampIsIssuedOnce = (c : Cluster) (es : List Event) (stamp : Stamp) → count_by (has_stamp stamp) (keys_issued c es) ≤ 1
+
+-- so that a stamp names one point, one key and one count
+abbrev pub StampIsOneKey : Type 0
+StampIsOneKey = (c : Cluster) (es : List Event) (name other : List ℕ) (key another : KeyValue) →
+    IsIssued c es name key → IsIssued c es other another → stamp_of key ≡ stamp_of another → (name ≡ other) × (key ≡ another)
+
+-- of a term counted so: no node holds less than nothing, no less than nothing is on its way, what is held, what is on
+-- its way and what was executed add up to the count, and so no more was executed
+pub record IsConserved (c : Cluster) (es : List Event) (name : List ℕ) (key : KeyValue) (term count : ℕ) : Type 0 where
+  pub none_owed : (i : ℕ) → pos 0 ≤ℤ held c es name key term count i
+  pub none_ahead : (i j : ℕ) → pos 0 ≤ℤ in_transit c es name key term i j
+  pub total : all_held c es name key term count +ℤ all_in_transit c es name key term +ℤ pos (all_executions c es (stamp_of key) term) ≡ pos count
+  pub at_most : all_executions c es (stamp_of key) term ≤ count
+
+-- a node number is below 256
+abbrev pub Escrow : Type 0
+Escrow = (c : Cluster) (es : List Event) → c.nodes ≤ numbers → IsSchedule c es → (name : List ℕ) (key : KeyValue) (term count : ℕ) →
+    IsIssued c es name key → count_of key term ≡ Some count → IsConserved c es name key term count
+
+-- what a message of the cluster says of a node is not ahead of what that node wrote, it tells the node nothing
+-- of a version that it hasn't, and what it carries, merged, overspends no term
+pub record IsHonest (c : Cluster) (es : List Event) (i : ℕ) (message : Message) : Type 0 where
+  pub not_ahead : list_any (is_ahead i (state_of c es i)) message.ops ≡ false
+  pub acked : message.to ≡ i → message.ack ≤ ((world c es).node i).marks.version
+  pub not_overspent : list_any (overspends (fold (message.ops ++ ((world c es).node i).ops))) message.ops ≡ false
+
+-- a refusal that has another reason than what the message says
+abbrev pub IsOwnReason : Option NodeFault → Type 0
+IsOwnReason None = Unit {0}
+IsOwnReason (Some faults.TraceFull) = Unit {0}
+IsOwnReason (Some faults.NotForMe) = Unit {0}
+IsOwnReason (Some faults.TooManyPoints) = Unit {0}
+IsOwnReason (Some _) = ⊥
+
+-- so whichever node a message comes to, and however late, none refuses it for what it says
+abbrev pub HonestMessages : Type 0
+HonestMessages = (c : Cluster) (es : List Event) → c.nodes ≤ numbers → IsSchedule c es → (i : ℕ) (message : Message) → IsIn message (world c es).messages →
+    IsHonest c es i message × IsOwnReason (refusal_at (config_of c i) (length ((world c es).trace i)) ((world c es).node i) (asks.Deliver message) [])

@@ -1,0 +1,4 @@
+pub mod Worlds
+pub mod Schedules
+pub mod Histories
+pub mod Laws

@@ -1,0 +1,32 @@
+//! What holds of every schedule.
+//!
+//! A schedule is a list of asks, each to one node, in which what is delivered was sent before. A
+//! message that is never delivered is lost, and one that is delivered again is repeated.
+
+ghost use Rattle.replica_state.specs.Laws.{UnionIsLeast};
+ghost use Rattle.cluster_model.specs.Laws.{NodeIsReplay, StateIsFold, AnyOrderSameState, SameKnownSameState, DeliveryIsLeast, Escrow, StampIsIssuedOnce, StampIsOneKey, HonestMessages};
+
+/// Nodes that know the same operations hold the same state, in whatever order, how often and by
+/// whichever path they learnt of them, and a merge gives the least state above both.
+pub fn same()
+    ensures replay { NodeIsReplay }
+    ensures state { StateIsFold }
+    ensures order { AnyOrderSameState }
+    ensures known { SameKnownSameState }
+    ensures least { UnionIsLeast }
+    ensures delivery { DeliveryIsLeast }
+{}
+
+/// The count of a term is the greatest number of its executions in the whole cluster: of each
+/// term counted n under one stamp, the rights that the nodes hold, the rights in transit between
+/// them and the executions add up to n, and none of these is negative.
+pub fn escrow()
+    ensures stamp { StampIsIssuedOnce }
+    ensures key { StampIsOneKey }
+    ensures count { Escrow }
+{}
+
+/// No message of the cluster is refused for what it says.
+pub fn honest()
+    ensures { HonestMessages }
+{}
