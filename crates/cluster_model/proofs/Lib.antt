@@ -6,3 +6,8 @@ pub mod Rights
 pub mod Conserved
 pub mod Honest
 pub mod Replays
+pub mod Examples
+pub mod ExampleMovedRight
+pub mod ExampleOvertakenKey
+pub mod ExampleThreeNodes
+pub mod ExampleSpendFirst

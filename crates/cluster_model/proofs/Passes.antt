@@ -1,9 +1,9 @@
 -- What it means that a pass triggered a term, and that a shift was accepted.
-use Rattle.std.proofs.Common.{◌≡◌, ◌≢◌, ℕ, ◌<◌, ◌==◌, ◌||◌, Bool, true, false, cond, not, List, [], ◌∷◌, ◌++◌, refl, sym, ◌∙◌, ap, subst, nat_lt, Option, Some, None}
+use Rattle.std.proofs.Common.{◌≡◌, ◌≢◌, ℕ, ◌<◌, ◌==◌, Bool, true, false, not, List, [], ◌∷◌, ◌++◌, refl, sym, ◌∙◌, ap, subst, nat_lt, Option, Some, None}
 use Rattle.std.proofs.lemmas.Bool.{or_parts, not-false, eqb-false, ltb-true}
 use Rattle.std.specs.Prelude.{slice_get}
 use Rattle.actions.specs.Value.{TaskValue, TermValue}
-use Rattle.stamp_register.specs.Keys.{KeyValue, stamp_of, terms_set}
+use Rattle.stamp_register.specs.Keys.{KeyValue, stamp_of}
 use Rattle.replica_state.specs.Operations.{Operation, count_at, count_of, count_under}
 use Rattle.replica_state.specs.States.{State}
 use Rattle.node_core.specs.declared.trace.Config.{Config}
@@ -12,7 +12,7 @@ use Rattle.node_core.specs.Asks.{Passed, Unset, NoTerm, Act}
 use Rattle.node_core.specs.Asks as asks
 use Rattle.node_core.specs.Nodes.{Node, shown, setting_of}
 use Rattle.node_core.specs.Passes.{has_rights_of, may_run, task_in, triggered, next_hit, next_exec, execs_of_choice, execs_of_term, reply_of_choice, ops_of_pass, reply_of_pass}
-use Rattle.node_core.specs.Refusals.{first_fault, where_true, is_bad_node, too_few, faults_of, refusal_at}
+use Rattle.node_core.specs.Refusals.{first_fault, where_true, too_few, faults_of, refusal_at}
 use Rattle.node_core.proofs.Rights.{IsSetting, setting_parts, chosen_may}
 
 -- ---- passes

@@ -11,7 +11,7 @@ use Rattle.node_core.specs.Nodes.{Node, start}
 use Rattle.node_core.specs.Steps.{after, reply}
 use Rattle.node_core.specs.Traces.{replay, replay_from}
 use Rattle.node_core.proofs.TraceLemmas.{replay_more}
-use Rattle.cluster_model.specs.Worlds.{Cluster, World, Event, accepted, node_after, trace_after, world}
+use Rattle.cluster_model.specs.Worlds.{Cluster, Event, accepted, node_after, trace_after, world}
 use Rattle.cluster_model.specs.Histories.{state_of}
 use Rattle.cluster_model.specs.Laws.{IsDelivered}
 

@@ -14,14 +14,14 @@ use Rattle.replica_state.proofs.Orders.{bytes_eq-true}
 use Rattle.replica_state.proofs.Sets.{IsIn-append_left, IsIn-append_right, IsIn-append_cases, Carries, key_of-found}
 use Rattle.node_core.specs.Asks.{Asked, Message}
 use Rattle.node_core.specs.Asks as asks
-use Rattle.node_core.specs.Nodes.{Node, shown, setting_of}
+use Rattle.node_core.specs.Nodes.{Node, shown}
 use Rattle.node_core.specs.Steps.{after, settings, issued, new_key, shift_under}
 use Rattle.cluster_model.specs.Worlds.{Cluster, World, Event, accepted, node_after, world}
 use Rattle.cluster_model.specs.Schedules.{Allows, IsSchedule}
 use Rattle.cluster_model.specs.Histories.{state_of, ops_issued, keys_by, keys_issued, IsIssued}
 use Rattle.cluster_model.specs.Laws.{has_stamp}
 use Rattle.cluster_model.proofs.Steps.{asked_is, delivered_from, sent_was_held, gains}
-use Rattle.cluster_model.proofs.Passes.{Outcome, NotSet, Nothing, Triggered, IsOutcome, IsTriggered, ops_of, outcome_of}
+use Rattle.cluster_model.proofs.Passes.{Outcome, NotSet, Nothing, Triggered, IsOutcome, ops_of, outcome_of}
 
 -- ---- carried keys
 

@@ -1,6 +1,6 @@
 -- What is said of a whole schedule: what its nodes learnt, which keys they issued, and of a term of one
 -- such key, counted so, where its rights are and how often it was executed.
-use Rattle.std.specs.Prelude.{ℕ, ◌+◌, ◌==◌, ◌&&◌, Bool, true, false, ℤ, pos, ◌-ℤ◌, List, [], ◌∷◌, ◌++◌, if◌then◌else◌, Option, Some, None, count_by}
+use Rattle.std.specs.Prelude.{ℕ, ◌+◌, ◌==◌, ◌&&◌, Bool, false, ℤ, pos, ◌-ℤ◌, List, [], ◌∷◌, ◌++◌, if◌then◌else◌, Option, Some, None, count_by}
 use Rattle.std.specs.Str.{bytes_eq}
 use Rattle.counters.specs.Sums.{sum_below, int_sum_below}
 use Rattle.counters.specs.Budgets.{rights}

@@ -1,0 +1,135 @@
+-- A spend that is known before the shift that paid for it: its node has less than no rights for a while.
+use Rattle.std.proofs.Common.{◌≡◌, ℕ, true, false, List, [], ◌∷◌, ◌++◌, Some, inl, inr, refl}
+use Rattle.std.specs.Prelude.{pos, ◌-ℤ◌, reverse, codes}
+use Rattle.std.specs.Fmt.{digits}
+use Rattle.actions.specs.Value.{off}
+use Rattle.actions.specs.Choice.{choice}
+use Rattle.actions.specs.Numbers.{number_at, short_number_at, decimals_at, percent_at}
+use Rattle.actions.specs.Reading.{pieces, trimmed, argument_at, chance_at, count_at, time_at, task_at, term_at, terms_at, reading}
+use Rattle.counters.specs.Sums.{numbers}
+use Rattle.stamp_register.specs.Keys.{KeyValue, terms_in_text}
+use Rattle.replica_state.specs.Operations.{Hits, Execs, Shifts, Operation, Set, Count, IsIn, same_cell}
+use Rattle.replica_state.specs.States.{rights_of, spent_of}
+use Rattle.replica_state.specs.Folds.{fold}
+use Rattle.replica_state.specs.Knowledge.{changes}
+use Rattle.replica_state.proofs.Changes.{changes_is_change}
+use Rattle.node_core.specs.Asks.{Message, NoTerm, Act}
+use Rattle.node_core.specs.Asks as asks
+use Rattle.node_core.specs.Steps.{after}
+use Rattle.cluster_model.specs.Worlds.{Event}
+use Rattle.cluster_model.specs.Schedules.{IsSchedule}
+use Rattle.cluster_model.specs.Histories.{state_of}
+use Rattle.cluster_model.proofs.Examples.{nodes, event, stamp, key_at, message, answers, may_send_one}
+
+abbrev a : List ℕ
+a = codes "a"
+
+abbrev key : KeyValue
+key = key_at 1 0 (codes "2*off")
+
+abbrev spend : List Operation
+spend = Count (Execs a key 0 1) 1 ∷ Set a key ∷ []
+
+abbrev both : List Operation
+both = Count (Shifts a key 0 0 1) 1 ∷ spend
+
+setter_before : rights_of (fold spend) a 0 0 ≡ pos 2
+unfolding digits numbers after fold same_cell terms_in_text choice number_at short_number_at decimals_at percent_at pieces trimmed argument_at chance_at count_at time_at task_at term_at terms_at reading
+setter_before = refl
+
+spender_before : rights_of (fold spend) a 0 1 ≡ pos 0 -ℤ pos 1
+unfolding digits numbers after fold same_cell terms_in_text choice number_at short_number_at decimals_at percent_at pieces trimmed argument_at chance_at count_at time_at task_at term_at terms_at reading
+spender_before = refl
+
+spent_before : spent_of (fold spend) a 0 ≡ 1
+unfolding digits numbers after fold same_cell terms_in_text choice number_at short_number_at decimals_at percent_at pieces trimmed argument_at chance_at count_at time_at task_at term_at terms_at reading
+spent_before = refl
+
+setter_then : rights_of (fold both) a 0 0 ≡ pos 1
+unfolding digits numbers after fold same_cell terms_in_text choice number_at short_number_at decimals_at percent_at pieces trimmed argument_at chance_at count_at time_at task_at term_at terms_at reading
+setter_then = refl
+
+spender_then : rights_of (fold both) a 0 1 ≡ pos 0
+unfolding digits numbers after fold same_cell terms_in_text choice number_at short_number_at decimals_at percent_at pieces trimmed argument_at chance_at count_at time_at task_at term_at terms_at reading
+spender_then = refl
+
+spent_then : spent_of (fold both) a 0 ≡ 1
+unfolding digits numbers after fold same_cell terms_in_text choice number_at short_number_at decimals_at percent_at pieces trimmed argument_at chance_at count_at time_at task_at term_at terms_at reading
+spent_then = refl
+
+-- either again, or an earlier copy, changes nothing
+nothing_new : changes (fold both) both ≡ false
+unfolding digits numbers after fold same_cell terms_in_text choice number_at short_number_at decimals_at percent_at pieces trimmed argument_at chance_at count_at time_at task_at term_at terms_at reading
+nothing_new = refl
+
+earlier_copy : changes (fold both) spend ≡ false
+unfolding digits numbers after fold same_cell terms_in_text choice number_at short_number_at decimals_at percent_at pieces trimmed argument_at chance_at count_at time_at task_at term_at terms_at reading
+earlier_copy = refl
+
+same_state : fold (both ++ both) ≡ fold both
+same_state = (changes_is_change both both).0 nothing_new
+
+same_as_earlier : fold (spend ++ both) ≡ fold both
+same_as_earlier = (changes_is_change spend both).0 earlier_copy
+
+-- the same over a schedule of three nodes, in which the spend comes to node 2 first
+abbrev moves : List Operation
+moves = Count (Shifts a key 0 0 1) 1 ∷ Set a key ∷ []
+
+abbrev script : List Event
+script =
+    event 0 (asks.Set a (codes "2*off")) ∷
+    event 0 (asks.Shift a 0 1 1) ∷
+    event 0 (asks.Emit 1 moves) ∷
+    event 1 (asks.Deliver (message 0 1 2 moves)) ∷
+    event 1 (asks.Pass a) ∷
+    event 1 (asks.Emit 2 spend) ∷
+    event 2 (asks.Deliver (message 1 2 2 spend)) ∷ []
+
+abbrev later : List Event
+later =
+    script ++
+    event 0 (asks.Emit 2 moves) ∷
+    event 2 (asks.Deliver (message 0 2 2 moves)) ∷ []
+
+answered : answers (nodes 3) later ≡
+    Some (asks.IsSet (stamp 1 0)) ∷
+    Some (asks.IsShifted 1) ∷
+    Some (asks.IsEmitted (message 0 1 2 moves)) ∷
+    Some (asks.IsDelivered true) ∷
+    Some (asks.IsPassed (Act (stamp 1 0) 0 off)) ∷
+    Some (asks.IsEmitted (message 1 2 2 spend)) ∷
+    Some (asks.IsDelivered true) ∷
+    Some (asks.IsEmitted (message 0 2 2 moves)) ∷
+    Some (asks.IsDelivered true) ∷ []
+unfolding digits numbers after fold same_cell terms_in_text choice number_at short_number_at decimals_at percent_at pieces trimmed argument_at chance_at count_at time_at task_at term_at terms_at reading
+answered = refl
+
+is_schedule : IsSchedule (nodes 3) (reverse later)
+unfolding digits numbers after fold same_cell terms_in_text choice number_at short_number_at decimals_at percent_at pieces trimmed argument_at chance_at count_at time_at task_at term_at terms_at reading
+is_schedule = (
+  inr (inr (inl refl)),
+  (
+    may_send_one a key moves moves (λ op h. h) refl refl (inr (inl refl)),
+    (
+      inr (inl refl),
+      (
+        may_send_one a key (Count (Execs a key 0 1) 1 ∷ Count (Hits a 1) 1 ∷ moves) spend held_by_1 refl refl (inr (inl refl)),
+        (tt, (inl refl, (may_send_one a key moves moves (λ op h. h) refl refl (inr (inl refl)), (tt, (tt, tt))))),
+      ),
+    ),
+  ),
+)
+  where
+    held_by_1 : (op : Operation) → IsIn op spend → IsIn op (Count (Execs a key 0 1) 1 ∷ Count (Hits a 1) 1 ∷ moves)
+    held_by_1 op (inl e) = inl e
+    held_by_1 op (inr (inl e)) = inr (inr (inr (inl e)))
+    held_by_1 op (inr (inr h)) = absurd h
+
+seen_first : rights_of (state_of (nodes 3) (reverse script) 2) a 0 1 ≡ pos 0 -ℤ pos 1
+unfolding digits numbers after fold same_cell terms_in_text choice number_at short_number_at decimals_at percent_at pieces trimmed argument_at chance_at count_at time_at task_at term_at terms_at reading
+seen_first = refl
+
+seen_at_last : rights_of (state_of (nodes 3) (reverse later) 2) a 0 1 ≡ pos 0
+unfolding digits numbers after fold same_cell terms_in_text choice number_at short_number_at decimals_at percent_at pieces trimmed argument_at chance_at count_at time_at task_at term_at terms_at reading
+seen_at_last = refl
