@@ -1,19 +1,26 @@
--- Each node is what its trace comes to, and a delivery gives the least state above both.
-use Rattle.std.proofs.Common.{◌≡◌, ℕ, List, [], ◌∷◌, ◌++◌, refl, sym, ◌∙◌, ap, subst, Option, Some, None}
+-- Each node is what its trace comes to, each event is a call of its node, and a delivery gives the least state above both.
+use Rattle.std.proofs.Common.{◌≡◌, ◌≢◌, ℕ, ◌<◌, ◌≤◌, cond, arith, List, [], ◌∷◌, ◌++◌, length, refl, sym, ◌∙◌, ap, subst, Option, Some, None}
+use Rattle.std.proofs.lemmas.Bool.{and_from, eq-eqb, lt-ltb}
+use Rattle.std.proofs.lemmas.List.{append-nil}
+use Rattle.std.specs.Prelude.{is_none}
 use Rattle.replica_state.specs.Operations.{Operation}
 use Rattle.replica_state.specs.States.{State}
 use Rattle.replica_state.specs.Folds.{fold}
 use Rattle.replica_state.specs.StateOrder.{IsBelow}
 use Rattle.replica_state.proofs.KnownSets.{union_least, union_above_left, union_above_right}
+use Rattle.node_core.specs.declared.trace.Config.{Config}
+use Rattle.node_core.specs.declared.fault.NodeFault.{NodeFault}
 use Rattle.node_core.specs.Asks.{Asked, Message, Call}
 use Rattle.node_core.specs.Asks as asks
 use Rattle.node_core.specs.Nodes.{Node, start}
 use Rattle.node_core.specs.Steps.{after, reply}
-use Rattle.node_core.specs.Traces.{replay, replay_from}
+use Rattle.node_core.specs.Traces.{Kept, replay, replay_from}
 use Rattle.node_core.proofs.TraceLemmas.{replay_more}
-use Rattle.cluster_model.specs.Worlds.{Cluster, Event, accepted, node_after, trace_after, world}
+use Rattle.node_core.specs.Refusals.{refusal_at}
+use Rattle.cluster_model.specs.Worlds.{Cluster, World, Event, config_of, accepted, node_after, trace_after, sent, world}
 use Rattle.cluster_model.specs.Histories.{state_of}
-use Rattle.cluster_model.specs.Laws.{IsDelivered}
+use Rattle.cluster_model.specs.Laws.{IsCall, IsDelivered}
+use Rattle.cluster_model.proofs.Steps.{asked_is}
 
 step_replayed : (i : ℕ) (n : Node) (trace : List Call) (a : Option Asked) (words : List ℕ) → n ≡ replay i trace → node_after i n a words ≡ replay i (trace_after i n trace a words)
 step_replayed i n trace None words e = e
@@ -27,6 +34,82 @@ nothing_replayed i = refl
 pub node_is_replay : (c : Cluster) (es : List Event) (i : ℕ) → (world c es).node i ≡ replay i ((world c es).trace i)
 node_is_replay c [] i = nothing_replayed i
 node_is_replay c (e ∷ es) i = step_replayed i ((world c es).node i) ((world c es).trace i) (accepted c (world c es) e i) e.words (node_is_replay c es i)
+
+-- ---- an event
+
+-- where nothing is accepted, nothing happens
+not_asked : (c : Cluster) (w : World) (e : Event) (i : ℕ) → i ≢ e.node → accepted c w e i ≡ None
+not_asked c w e i ne = at (accepted c w e i) refl
+  where
+    at : (a : Option Asked) → accepted c w e i ≡ a → accepted c w e i ≡ None
+    at None p = p
+    at (Some ask) p = absurd (ne (asked_is c w e i ask p).here)
+
+not_agreed : (c : Cluster) (w : World) (e : Event) (fault : NodeFault) → refusal_at (config_of c e.node) (length (w.trace e.node)) (w.node e.node) e.ask e.words ≡ Some fault → (i : ℕ) → accepted c w e i ≡ None
+not_agreed c w e fault h i = at (accepted c w e i) refl
+  where
+    at : (a : Option Asked) → accepted c w e i ≡ a → accepted c w e i ≡ None
+    at None p = p
+    at (Some ask) p =
+        let is = asked_is c w e i ask p in
+        let agreed : refusal_at (config_of c e.node) (length (w.trace e.node)) (w.node e.node) e.ask e.words ≡ None =
+        subst (λ j. refusal_at (config_of c j) (length (w.trace j)) (w.node j) e.ask e.words ≡ None) is.here
+        (subst (λ (a : Asked). refusal_at (config_of c i) (length (w.trace i)) (w.node i) a e.words ≡ None) (sym is.of) is.agreed) in
+        absurd (let impossible : ◌≡◌ {A = Option NodeFault} None (Some fault) = sym agreed ∙ h in cc)
+
+no_node : (c : Cluster) (w : World) (e : Event) → c.nodes ≤ e.node → (i : ℕ) → accepted c w e i ≡ None
+no_node c w e high i = at (accepted c w e i) refl
+  where
+    at : (a : Option Asked) → accepted c w e i ≡ a → accepted c w e i ≡ None
+    at None p = p
+    at (Some ask) p =
+        let is = asked_is c w e i ask p in
+        let low = is.below in
+        let here = is.here in
+        absurd (omega (arith, low, here, high))
+
+is_agreed : (c : Cluster) (w : World) (e : Event) → e.node < c.nodes → refusal_at (config_of c e.node) (length (w.trace e.node)) (w.node e.node) e.ask e.words ≡ None → accepted c w e e.node ≡ Some e.ask
+is_agreed c w e low h = ap (λ b. cond b (Some e.ask) None) (and_from _ _ (lt-ltb e.node c.nodes low) (and_from _ _ (eq-eqb e.node e.node refl) (ap is_none h)))
+
+abbrev kept_with : Config → List Call → Kept
+kept_with config trace = record { config = config; trace = trace }
+
+pub event_is_call : (c : Cluster) (es : List Event) (e : Event) → IsCall c es e
+event_is_call c es e =
+    record {
+      accepted = λ low h. ap (kept_with (config_of c e.node)) (grown (is_agreed c w e low (unreplayed None h)));
+      refused = λ fault h. nothing_happens (not_agreed c w e fault (unreplayed (Some fault) h));
+      absent = λ high. nothing_happens (no_node c w e high);
+      others = λ i ne r. record { config = config_of c i; trace = trace_after i (w.node i) (w.trace i) (not_asked c w e i ne r) e.words };
+    }
+  where
+    w : World
+    w = world c es
+
+    now : w.node e.node ≡ replay e.node (w.trace e.node)
+    now = node_is_replay c es e.node
+
+    unreplayed : (o : Option NodeFault) → refusal_at (config_of c e.node) (length (w.trace e.node)) (replay e.node (w.trace e.node)) e.ask e.words ≡ o →
+        refusal_at (config_of c e.node) (length (w.trace e.node)) (w.node e.node) e.ask e.words ≡ o
+    unreplayed o h = ap (λ (n : Node). refusal_at (config_of c e.node) (length (w.trace e.node)) n e.ask e.words) now ∙ h
+
+    grown : accepted c w e e.node ≡ Some e.ask →
+        trace_after e.node (w.node e.node) (w.trace e.node) (accepted c w e e.node) e.words ≡ trace_after e.node (replay e.node (w.trace e.node)) (w.trace e.node) (Some e.ask) e.words
+    grown p =
+        ap (λ (a : Option Asked). trace_after e.node (w.node e.node) (w.trace e.node) a e.words) p
+        ∙ ap (λ (n : Node). trace_after e.node n (w.trace e.node) (Some e.ask) e.words) now
+
+    no_more : w.messages ++ [] ≡ w.messages
+    no_more = append-nil w.messages
+
+    nothing_happens : ((i : ℕ) → accepted c w e i ≡ None) → world c (e ∷ es) ≡ w
+    nothing_happens none =
+        (λ r. record {
+          node = λ i. node_after i (w.node i) (none i r) e.words;
+          trace = λ i. trace_after i (w.node i) (w.trace i) (none i r) e.words;
+          messages = w.messages ++ sent e.node (w.node e.node) (none e.node r);
+        })
+        ∙ (λ r. record { node = w.node; trace = w.trace; messages = no_more r })
 
 -- ---- a delivery
 

@@ -1,5 +1,5 @@
 -- What holds of every schedule of a cluster.
-use Rattle.std.specs.Prelude.{◌≡◌, ℕ, ◌≤◌, ◌==◌, ◌&&◌, Bool, false, pos, ◌+ℤ◌, ◌≤ℤ◌, List, [], ◌∷◌, ◌++◌, ◌↔◌, length, Option, Some, None, count_by}
+use Rattle.std.specs.Prelude.{◌≡◌, ◌≢◌, ℕ, ◌≤◌, ◌<◌, ◌==◌, ◌&&◌, Bool, false, pos, ◌+ℤ◌, ◌≤ℤ◌, List, [], ◌∷◌, ◌++◌, ◌↔◌, length, Option, Some, None, count_by}
 use Rattle.std.specs.List.{list_any}
 use Rattle.counters.specs.Sums.{numbers}
 use Rattle.stamp_register.specs.declared.key.Stamp.{Stamp}
@@ -12,7 +12,7 @@ use Rattle.node_core.specs.declared.fault.NodeFault.{NodeFault}
 use Rattle.node_core.specs.declared.fault.NodeFault.TheVariants as faults
 use Rattle.node_core.specs.Asks.{Asked, Message}
 use Rattle.node_core.specs.Asks as asks
-use Rattle.node_core.specs.Traces.{replay}
+use Rattle.node_core.specs.Traces.{Kept, replay, refusal, after_call}
 use Rattle.node_core.specs.Refusals.{is_ahead, overspends, refusal_at}
 use Rattle.cluster_model.specs.Worlds.{Cluster, Event, config_of, accepted, world}
 use Rattle.cluster_model.specs.Schedules.{IsSchedule}
@@ -22,7 +22,22 @@ use Rattle.cluster_model.specs.Histories.{state_of, all_learnt, keys_issued, IsI
 abbrev pub NodeIsReplay : Type 0
 NodeIsReplay = (c : Cluster) (es : List Event) (i : ℕ) → (world c es).node i ≡ replay i ((world c es).trace i)
 
--- its state is that of all the operations that it issued and that were delivered to it
+-- node i as its callers see it
+abbrev pub kept : Cluster → List Event → ℕ → Kept
+kept c es i = record { config = config_of c i; trace = (world c es).trace i }
+
+-- an event is a call of its node: one that the node refuses, or that names no node, changes nothing, and another
+-- changes that node as the call does, and no other node
+pub record IsCall (c : Cluster) (es : List Event) (e : Event) : Type 0 where
+  pub accepted : e.node < c.nodes → refusal (kept c es e.node) e.ask e.words ≡ None → kept c (e ∷ es) e.node ≡ after_call (kept c es e.node) e.ask e.words
+  pub refused : (fault : NodeFault) → refusal (kept c es e.node) e.ask e.words ≡ Some fault → world c (e ∷ es) ≡ world c es
+  pub absent : c.nodes ≤ e.node → world c (e ∷ es) ≡ world c es
+  pub others : (i : ℕ) → i ≢ e.node → kept c (e ∷ es) i ≡ kept c es i
+
+abbrev pub EventIsCall : Type 0
+EventIsCall = (c : Cluster) (es : List Event) (e : Event) → IsCall c es e
+
+-- the state of a node is that of all the operations that it issued and that were delivered to it
 abbrev pub StateIsFold : Type 0
 StateIsFold = (c : Cluster) (es : List Event) (i : ℕ) → state_of c es i ≡ fold (all_learnt c es i)
 

@@ -4,12 +4,18 @@
 //! message that is never delivered is lost, and one that is delivered again is repeated.
 
 ghost use Rattle.replica_state.specs.Laws.{UnionIsLeast};
-ghost use Rattle.cluster_model.specs.Laws.{NodeIsReplay, StateIsFold, AnyOrderSameState, SameKnownSameState, DeliveryIsLeast, Escrow, StampIsIssuedOnce, StampIsOneKey, HonestMessages};
+ghost use Rattle.cluster_model.specs.Laws.{NodeIsReplay, EventIsCall, StateIsFold, AnyOrderSameState, SameKnownSameState, DeliveryIsLeast, Escrow, StampIsIssuedOnce, StampIsOneKey, HonestMessages};
+
+/// Each event of a schedule is a call of one node: it is refused, and changes nothing, or it changes
+/// that node by the step that the contracts of `NodeCore` cite, and its trace tells all of it.
+pub fn calls()
+    ensures node { NodeIsReplay }
+    ensures call { EventIsCall }
+{}
 
 /// Nodes that know the same operations hold the same state, in whatever order, how often and by
 /// whichever path they learnt of them, and a merge gives the least state above both.
 pub fn same()
-    ensures replay { NodeIsReplay }
     ensures state { StateIsFold }
     ensures order { AnyOrderSameState }
     ensures known { SameKnownSameState }

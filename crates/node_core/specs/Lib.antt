@@ -8,4 +8,3 @@ pub mod Refusals
 pub mod Traces
 pub mod Holds
 pub mod Texts
-pub mod Laws

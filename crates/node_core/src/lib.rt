@@ -3,7 +3,6 @@
 #![tactic(auto)]
 
 mod fault;
-pub mod laws;
 mod list;
 mod node;
 mod pass;

@@ -1,11 +1,8 @@
 use Rattle.std.proofs.Common.{sym, ◌∙◌}
 use Rattle.replica_state.proofs.KnownSets.{same_fold, same_members, union_above_left, union_above_right, union_least}
-use Rattle.cluster_model.proofs.Replays.{node_is_replay, delivery_is_least}
+use Rattle.cluster_model.proofs.Replays.{delivery_is_least}
 use Rattle.cluster_model.proofs.Steps.{state_is_fold}
 use Rattle.cluster_model.proofs.laws.same.Goals as goal
-
-pub returns-clause-replay : goal.returns-clause-replay
-returns-clause-replay c = node_is_replay
 
 pub returns-clause-state : goal.returns-clause-state
 returns-clause-state c = state_is_fold
