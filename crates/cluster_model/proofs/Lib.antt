@@ -6,6 +6,7 @@ pub mod Rights
 pub mod Conserved
 pub mod Honest
 pub mod Replays
+pub mod Closed
 pub mod Examples
 pub mod ExampleMovedRight
 pub mod ExampleOvertakenKey

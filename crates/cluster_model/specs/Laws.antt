@@ -5,7 +5,9 @@ use Rattle.counters.specs.Sums.{numbers}
 use Rattle.stamp_register.specs.declared.key.Stamp.{Stamp}
 use Rattle.stamp_register.specs.Keys.{KeyValue, stamp_of}
 use Rattle.replica_state.specs.Operations.{Operation, Set, Count, IsIn, count_of}
+use Rattle.replica_state.specs.States.{State}
 use Rattle.replica_state.specs.Folds.{fold}
+use Rattle.replica_state.specs.Deltas.{IsDelta}
 use Rattle.replica_state.specs.StateOrder.{IsBelow}
 use Rattle.replica_state.specs.Knowledge.{KnowsAll}
 use Rattle.node_core.specs.declared.fault.NodeFault.{NodeFault}
@@ -15,7 +17,7 @@ use Rattle.node_core.specs.Asks as asks
 use Rattle.node_core.specs.Traces.{Kept, replay, refusal, after_call}
 use Rattle.node_core.specs.Refusals.{is_ahead, overspends, refusal_at}
 use Rattle.cluster_model.specs.Worlds.{Cluster, Event, config_of, accepted, world}
-use Rattle.cluster_model.specs.Schedules.{IsSchedule}
+use Rattle.cluster_model.specs.Schedules.{MaySend, IsSchedule, IsDeltaSchedule}
 use Rattle.cluster_model.specs.Histories.{state_of, all_learnt, keys_issued, IsIssued, held, in_transit, all_held, all_in_transit, all_executions}
 
 -- each node is what its trace comes to
@@ -106,3 +108,12 @@ IsOwnReason (Some _) = ⊥
 abbrev pub HonestMessages : Type 0
 HonestMessages = (c : Cluster) (es : List Event) → c.nodes ≤ numbers → IsSchedule c es → (i : ℕ) (message : Message) → IsIn message (world c es).messages →
     IsHonest c es i message × IsOwnReason (refusal_at (config_of c i) (length ((world c es).trace i)) ((world c es).node i) (asks.Deliver message) [])
+
+-- what differs between any earlier state and a node's own may be sent
+abbrev pub DeltaMaySend : Type 0
+DeltaMaySend = (c : Cluster) (es : List Event) → IsSchedule c es → (i : ℕ) (base : State) (chosen : List Operation) →
+    IsDelta base (state_of c es i) chosen → MaySend ((world c es).node i).ops chosen
+
+-- so where each node sends what differs, the list is a schedule, and all that holds of schedules holds of it
+abbrev pub DeltasAreSchedules : Type 0
+DeltasAreSchedules = (c : Cluster) (es : List Event) → IsDeltaSchedule c es → IsSchedule c es

@@ -5,6 +5,7 @@ use Rattle.replica_state.specs.Operations.{Cell, Hits, Operation, Set, Count, Is
 use Rattle.replica_state.specs.Folds.{key_in}
 use Rattle.node_core.specs.Asks.{Asked}
 use Rattle.node_core.specs.Asks as asks
+use Rattle.node_core.specs.Traces.{SendsDelta}
 use Rattle.cluster_model.specs.Worlds.{Cluster, World, Event, accepted, world}
 
 -- a node sends some of the operations that it knows, so that a message can spell them: of each name that
@@ -26,3 +27,12 @@ Allows w i _ = Unit {0}
 abbrev pub IsSchedule : Cluster → List Event → Type 0
 IsSchedule c [] = Unit {0}
 IsSchedule c (e ∷ es) = Allows (world c es) e.node (accepted c (world c es) e e.node) × IsSchedule c es
+
+-- the same, where each node sends what differs between its state and the version that it knows the receiver to have
+abbrev pub AllowsDelta : World → ℕ → Option Asked → Type 0
+AllowsDelta w i (Some (asks.Emit to chosen)) = SendsDelta (w.node i) (asks.Emit to chosen)
+AllowsDelta w i a = Allows w i a
+
+abbrev pub IsDeltaSchedule : Cluster → List Event → Type 0
+IsDeltaSchedule c [] = Unit {0}
+IsDeltaSchedule c (e ∷ es) = AllowsDelta (world c es) e.node (accepted c (world c es) e e.node) × IsDeltaSchedule c es

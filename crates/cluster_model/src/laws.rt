@@ -4,7 +4,7 @@
 //! message that is never delivered is lost, and one that is delivered again is repeated.
 
 ghost use Rattle.replica_state.specs.Laws.{UnionIsLeast};
-ghost use Rattle.cluster_model.specs.Laws.{NodeIsReplay, EventIsCall, StateIsFold, AnyOrderSameState, SameKnownSameState, DeliveryIsLeast, Escrow, StampIsIssuedOnce, StampIsOneKey, HonestMessages};
+ghost use Rattle.cluster_model.specs.Laws.{NodeIsReplay, EventIsCall, StateIsFold, AnyOrderSameState, SameKnownSameState, DeliveryIsLeast, Escrow, StampIsIssuedOnce, StampIsOneKey, HonestMessages, DeltaMaySend, DeltasAreSchedules};
 
 /// Each event of a schedule is a call of one node: it is refused, and changes nothing, or it changes
 /// that node by the step that the contracts of `NodeCore` cite, and its trace tells all of it.
@@ -35,4 +35,11 @@ pub fn escrow()
 /// No message of the cluster is refused for what it says.
 pub fn honest()
     ensures { HonestMessages }
+{}
+
+/// A node that sends what differs between its state and the version that it knows the receiver to
+/// have sends what a schedule lets it.
+pub fn deltas()
+    ensures any { DeltaMaySend }
+    ensures schedule { DeltasAreSchedules }
 {}
