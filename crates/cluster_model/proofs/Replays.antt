@@ -1,5 +1,5 @@
 -- Each node is what its trace comes to, each event is a call of its node, and a delivery gives the least state above both.
-use Rattle.std.proofs.Common.{◌≡◌, ◌≢◌, ℕ, ◌<◌, ◌≤◌, cond, arith, List, [], ◌∷◌, ◌++◌, length, refl, sym, ◌∙◌, ap, subst, Option, Some, None}
+use Rattle.std.proofs.Common.{◌≡◌, ◌≢◌, ℕ, ◌+◌, ◌<◌, ◌≤◌, cond, arith, List, [], ◌∷◌, ◌++◌, length, refl, sym, ◌∙◌, ap, subst, Option, Some, None}
 use Rattle.std.proofs.lemmas.Bool.{and_from, eq-eqb, lt-ltb}
 use Rattle.std.proofs.lemmas.List.{append-nil}
 use Rattle.std.specs.Prelude.{is_none}
@@ -14,10 +14,11 @@ use Rattle.node_core.specs.Asks.{Asked, Message, Call}
 use Rattle.node_core.specs.Asks as asks
 use Rattle.node_core.specs.Nodes.{Node, start}
 use Rattle.node_core.specs.Steps.{after, reply}
-use Rattle.node_core.specs.Traces.{Kept, replay, replay_from}
+use Rattle.node_core.specs.Traces.{Kept, replay, replay_from, SendsDelta, IsLegalFrom, IsLegal}
 use Rattle.node_core.proofs.TraceLemmas.{replay_more}
 use Rattle.node_core.specs.Refusals.{refusal_at}
 use Rattle.cluster_model.specs.Worlds.{Cluster, World, Event, config_of, accepted, node_after, trace_after, sent, world}
+use Rattle.cluster_model.specs.Schedules.{AllowsDelta, IsDeltaSchedule}
 use Rattle.cluster_model.specs.Histories.{state_of}
 use Rattle.cluster_model.specs.Laws.{IsCall, IsDelivered}
 use Rattle.cluster_model.proofs.Steps.{asked_is}
@@ -110,6 +111,54 @@ event_is_call c es e =
           messages = w.messages ++ sent e.node (w.node e.node) (none e.node r);
         })
         ∙ (λ r. record { node = w.node; trace = w.trace; messages = no_more r })
+
+-- ---- legal traces
+
+legal_more : (config : Config) (entries : ℕ) (n : Node) (trace : List Call) (ask : Asked) (words : List ℕ) → IsLegalFrom config entries n trace →
+    refusal_at config (entries + length trace) (replay_from config.node n trace) ask words ≡ None → SendsDelta (replay_from config.node n trace) ask →
+    IsLegalFrom config entries n (trace ++ record { ask = ask; words = words; reply = reply config.node (replay_from config.node n trace) ask words } ∷ [])
+unfolding IsLegalFrom replay_from
+legal_more config entries n [] ask words legal agreed sends = (subst (λ k. refusal_at config k n ask words ≡ None) (let none : entries + 0 ≡ entries = omega arith in none) agreed, sends, refl, tt)
+legal_more config entries n (call ∷ trace) ask words legal agreed sends =
+    let places : entries + length (call ∷ trace) ≡ entries + 1 + length trace = omega arith in (
+      legal.0,
+      legal.1,
+      legal.2,
+      legal_more config (entries + 1) (after config.node n call.ask call.words) trace ask words legal.3
+          (subst (λ k. refusal_at config k (replay_from config.node (after config.node n call.ask call.words) trace) ask words ≡ None) places agreed) sends,
+    )
+
+sends_delta : (c : Cluster) (w : World) (e : Event) (i : ℕ) (ask : Asked) → AllowsDelta w e.node (accepted c w e e.node) → accepted c w e i ≡ Some ask → SendsDelta (w.node i) ask
+sends_delta c w e i ask allowed h =
+    let here = (asked_is c w e i ask h).here in
+    of ask (subst (λ (a : Option Asked). AllowsDelta w i a) h (subst (λ j. AllowsDelta w j (accepted c w e j)) (sym here) allowed))
+  where
+    of : (a : Asked) → AllowsDelta w i (Some a) → SendsDelta (w.node i) a
+    of (asks.Emit to chosen) k = k
+    of a k = tt
+
+nothing_legal : (config : Config) → IsLegal config []
+unfolding IsLegalFrom
+nothing_legal config = tt
+
+pub traces_are_legal : (c : Cluster) (es : List Event) → IsDeltaSchedule c es → (i : ℕ) → IsLegal (config_of c i) ((world c es).trace i)
+traces_are_legal c [] s i = nothing_legal (config_of c i)
+traces_are_legal c (e ∷ es) s i = at (traces_are_legal c es s.1 i) (accepted c (world c es) e i) refl
+  where
+    w : World
+    w = world c es
+
+    now : w.node i ≡ replay i (w.trace i)
+    now = node_is_replay c es i
+
+    at : IsLegal (config_of c i) (w.trace i) → (a : Option Asked) → accepted c w e i ≡ a → IsLegal (config_of c i) (trace_after i (w.node i) (w.trace i) a e.words)
+    at before None p = before
+    at before (Some ask) p =
+        let agreed = subst (λ (n : Node). refusal_at (config_of c i) (length (w.trace i)) n ask e.words ≡ None) now (asked_is c w e i ask p).agreed in
+        let from_0 : length (w.trace i) ≡ 0 + length (w.trace i) = omega arith in
+        let sends = subst (λ (n : Node). SendsDelta n ask) now (sends_delta c w e i ask s.0 p) in
+        subst (λ (n : Node). IsLegal (config_of c i) (trace_after i n (w.trace i) (Some ask) e.words)) (sym now)
+        (legal_more (config_of c i) 0 start (w.trace i) ask e.words before (subst (λ k. refusal_at (config_of c i) k (replay i (w.trace i)) ask e.words ≡ None) from_0 agreed) sends)
 
 -- ---- a delivery
 

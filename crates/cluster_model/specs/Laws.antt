@@ -14,7 +14,7 @@ use Rattle.node_core.specs.declared.fault.NodeFault.{NodeFault}
 use Rattle.node_core.specs.declared.fault.NodeFault.TheVariants as faults
 use Rattle.node_core.specs.Asks.{Asked, Message}
 use Rattle.node_core.specs.Asks as asks
-use Rattle.node_core.specs.Traces.{Kept, replay, refusal, after_call}
+use Rattle.node_core.specs.Traces.{Kept, replay, refusal, after_call, IsLegal}
 use Rattle.node_core.specs.Refusals.{is_ahead, overspends, refusal_at}
 use Rattle.cluster_model.specs.Worlds.{Cluster, Event, config_of, accepted, world}
 use Rattle.cluster_model.specs.Schedules.{MaySend, IsSchedule, IsDeltaSchedule}
@@ -117,3 +117,7 @@ DeltaMaySend = (c : Cluster) (es : List Event) → IsSchedule c es → (i : ℕ)
 -- so where each node sends what differs, the list is a schedule, and all that holds of schedules holds of it
 abbrev pub DeltasAreSchedules : Type 0
 DeltasAreSchedules = (c : Cluster) (es : List Event) → IsDeltaSchedule c es → IsSchedule c es
+
+-- and each node's trace is legal: its calls, one after the other, are accepted and have the replies of the step
+abbrev pub TracesAreLegal : Type 0
+TracesAreLegal = (c : Cluster) (es : List Event) → IsDeltaSchedule c es → (i : ℕ) → IsLegal (config_of c i) ((world c es).trace i)

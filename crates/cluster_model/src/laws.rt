@@ -4,7 +4,7 @@
 //! message that is never delivered is lost, and one that is delivered again is repeated.
 
 ghost use Rattle.replica_state.specs.Laws.{UnionIsLeast};
-ghost use Rattle.cluster_model.specs.Laws.{NodeIsReplay, EventIsCall, StateIsFold, AnyOrderSameState, SameKnownSameState, DeliveryIsLeast, Escrow, StampIsIssuedOnce, StampIsOneKey, HonestMessages, DeltaMaySend, DeltasAreSchedules};
+ghost use Rattle.cluster_model.specs.Laws.{NodeIsReplay, EventIsCall, StateIsFold, AnyOrderSameState, SameKnownSameState, DeliveryIsLeast, Escrow, StampIsIssuedOnce, StampIsOneKey, HonestMessages, DeltaMaySend, DeltasAreSchedules, TracesAreLegal};
 
 /// Each event of a schedule is a call of one node: it is refused, and changes nothing, or it changes
 /// that node by the step that the contracts of `NodeCore` cite, and its trace tells all of it.
@@ -38,8 +38,9 @@ pub fn honest()
 {}
 
 /// A node that sends what differs between its state and the version that it knows the receiver to
-/// have sends what a schedule lets it.
+/// have sends what a schedule lets it, and the traces of such nodes are legal.
 pub fn deltas()
     ensures any { DeltaMaySend }
     ensures schedule { DeltasAreSchedules }
+    ensures traces { TracesAreLegal }
 {}
