@@ -9,7 +9,7 @@ import tempfile
 CRATE = os.path.join(os.path.dirname(os.path.abspath(__file__)), "..", "crates", "failreg")
 PASSES = (100_000, 200_000)
 POINTS = (1, 256)
-RUNS = 3
+ROUNDS = 11
 
 # The actions of each point, and what follows the point's name in each pass.
 SETTINGS = {
@@ -54,13 +54,10 @@ def main():
     print(f"{'setting':<10}{'points':>7}{f'ns a pass, {few}':>20}{many:>8}{'ratio':>7}{'most MiB':>10}")
     for setting in SETTINGS:
         for points in POINTS:
-            times = []
-            memory = 0.0
-            for passes in PASSES:
-                text = script(setting, points, passes)
-                runs = [run(program, text, passes) for _ in range(RUNS)]
-                times.append(min(seconds for seconds, _ in runs) / passes * 1e9)
-                memory = max(memory, *(most for _, most in runs))
+            texts = [script(setting, points, passes) for passes in PASSES]
+            rounds = [[run(program, *pair) for pair in zip(texts, PASSES)] for _ in range(ROUNDS)]
+            times = [min(seconds for seconds, _ in runs) / passes * 1e9 for runs, passes in zip(zip(*rounds), PASSES)]
+            memory = max(most for runs in rounds for _, most in runs)
             first, second = times
             print(f"{setting:<10}{points:>7}{first:>20.0f}{second:>8.0f}{second / first:>7.2f}{memory:>10.1f}")
 
