@@ -2,7 +2,7 @@
 use Rattle.std.proofs.Common.{◌≡◌, ◌≢◌, ℕ, ◌+◌, ◌-◌, ◌<◌, ◌≤◌, ◌==◌, ◌&&◌, Bool, true, false, cond, List, [], ◌∷◌, refl, sym, ◌∙◌, ap, subst, arith, Option, Some, None}
 use Rattle.std.proofs.lemmas.Bool.{eqb-true, and_parts}
 use Rattle.std.proofs.lemmas.Int.{ints}
-use Rattle.std.specs.Prelude.{ℤ, pos, ◌+ℤ◌, ◌-ℤ◌, ◌≤ℤ◌}
+use Rattle.std.specs.Prelude.{ℤ, pos, ◌+ℤ◌, ◌≤ℤ◌}
 use Rattle.std.specs.Str.{bytes_eq}
 use Rattle.counters.specs.Sums.{numbers, sum_below, int_sum_below}
 use Rattle.counters.proofs.SumLemmas.{sum-same, sum-add, sum-at, sum-swap, sum_others-is, sum-narrow, int_sum-pos}
@@ -21,7 +21,7 @@ use Rattle.cluster_model.proofs.Steps.{known, IsAgreed, agreed, asked_is}
 use Rattle.cluster_model.proofs.Passes.{shifted_is}
 use Rattle.cluster_model.proofs.Stamps.{issued_past, one_stamp}
 use Rattle.cluster_model.proofs.OwnCells.{own_shifts}
-use Rattle.cluster_model.proofs.Rights.{Balance, balance, is_key-of}
+use Rattle.cluster_model.proofs.Rights.{Balance, balance, int_less, is_key-of}
 
 -- nothing is moved to oneself, nor to a number that is no node
 not_to : (c : Cluster) (w : World) (e : Event) (i j : ℕ) → (j ≢ i → j < c.nodes → ⊥) → (a : Option Asked) → IsAgreed c w e i a → (name : List ℕ) (key : KeyValue) (term : ℕ) → amount_moved (w.node i) a name key term j ≡ 0
@@ -90,9 +90,6 @@ add_up a b c d e f g h p q r s = omega arith
 
 less_back : (a b : ℕ) → b ≤ a → a ≡ a - b + b
 less_back a b h = omega arith
-
-int_less : (a b : ℕ) → b ≤ a → pos a -ℤ pos b ≡ pos (a - b)
-int_less a b h = omega (arith, ints)
 
 pub conserved : (c : Cluster) (es : List Event) → c.nodes ≤ numbers → IsSchedule c es → (name : List ℕ) (key : KeyValue) (term count : ℕ) → IsIssued c es name key → count_of key term ≡ Some count → IsConserved c es name key term count
 conserved c es few s name key term count h counted =

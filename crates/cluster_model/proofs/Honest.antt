@@ -14,6 +14,7 @@ use Rattle.replica_state.specs.Knowledge.{is_upto}
 use Rattle.replica_state.proofs.Orders.{same_key-true}
 use Rattle.replica_state.proofs.Sets.{IsIn-append_cases, number_at-is_in, number_at-mono, KeyUpto, key_of-is_in}
 use Rattle.replica_state.proofs.KnownSets.{own_name}
+use Rattle.replica_state.proofs.Changes.{false_any}
 use Rattle.node_core.specs.declared.fault.NodeFault.TheVariants as faults
 use Rattle.node_core.specs.Asks.{Asked, Message}
 use Rattle.node_core.specs.Asks as asks
@@ -29,14 +30,6 @@ use Rattle.cluster_model.proofs.Steps.{asked_is, delivered_was_sent, writer, kno
 use Rattle.cluster_model.proofs.Stamps.{carried, held_carrier, one_stamp}
 use Rattle.cluster_model.proofs.OwnCells.{acted, executed_more, own_execs}
 use Rattle.cluster_model.proofs.Conserved.{conserved}
-
-none_of : (test : Operation → Bool) (ops : List Operation) → ((op : Operation) → IsIn op ops → test op ≡ false) → list_any test ops ≡ false
-none_of test [] h = refl
-none_of test (op ∷ ops) h = both (test op) (list_any test ops) (h op (inl refl)) (none_of test ops (λ o m. h o (inr m)))
-  where
-    both : (a b : Bool) → a ≡ false → b ≡ false → (a || b) ≡ false
-    both true b h k = h
-    both false b h k = k
 
 -- ---- nothing is ahead of what the node wrote
 
@@ -225,9 +218,9 @@ module _ (c : Cluster) (es : List Event) (few : c.nodes ≤ numbers) (s : IsSche
   honest_message : IsHonest c es i m
   honest_message =
       record {
-        not_ahead = none_of _ m.ops (not_ahead c es s i m sent_then);
+        not_ahead = false_any _ m.ops (not_ahead c es s i m sent_then);
         acked = λ e. subst (λ j. m.ack ≤ ((world c es).node j).marks.version) e ((marked c es s).ack m sent_then);
-        not_overspent = none_of (overspends (fold merged)) m.ops (λ op h. not_over (name_in op));
+        not_overspent = false_any (overspends (fold merged)) m.ops (λ op h. not_over (name_in op));
       }
 
   -- the first refusal that applies is none of those

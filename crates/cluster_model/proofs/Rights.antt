@@ -236,7 +236,7 @@ pub record Balance (c : Cluster) (es : List Event) (name : List ℕ) (key : KeyV
   pub adds_up : rights + (sum_others numbers i (λ j. moved c es name key term i j) + executions c es (stamp_of key) term i)
       ≡ cond (i == key.node) count 0 + sum_others numbers i (λ j. seen c es name key term j i)
 
-int_less : (a b : ℕ) → b ≤ a → pos a -ℤ pos b ≡ pos (a - b)
+pub int_less : (a b : ℕ) → b ≤ a → pos a -ℤ pos b ≡ pos (a - b)
 int_less a b h = omega (arith, ints)
 
 back : (a b : ℕ) → b ≤ a → a - b + b ≡ a

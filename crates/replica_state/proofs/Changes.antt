@@ -29,7 +29,7 @@ any_false test [] h op m = absurd m
 any_false test (o ∷ ops) h op (inl e) = ap test e ∙ (or_parts (test o) (list_any test ops) h).0
 any_false test (o ∷ ops) h op (inr m) = any_false test ops (or_parts (test o) (list_any test ops) h).1 op m
 
-false_any : (test : Operation → Bool) (ops : List Operation) → ((op : Operation) → IsIn op ops → test op ≡ false) → list_any test ops ≡ false
+pub false_any : (test : Operation → Bool) (ops : List Operation) → ((op : Operation) → IsIn op ops → test op ≡ false) → list_any test ops ≡ false
 false_any test [] h = refl
 false_any test (o ∷ ops) h = both (test o) (list_any test ops) (h o (inl refl)) (false_any test ops (λ op m. h op (inr m)))
   where
