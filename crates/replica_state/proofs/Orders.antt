@@ -10,34 +10,17 @@ use Rattle.std.specs.Cmp.Lexicographic.{slice_cmp}
 use Rattle.std.specs.declared.cmp.Ordering.{Ordering}
 use Rattle.std.specs.declared.cmp.Ordering.TheVariants.{Less, Equal, Greater}
 use Rattle.stamp_register.specs.Keys.{KeyValue, key_rank, body_rank, key_le, same_key}
+pub use Rattle.stamp_register.proofs.KeyLemmas.{same_key-true}
 use Rattle.replica_state.specs.Operations.{Cell, Hits, Execs, Shifts, same_cell}
 
 pub rank_cmp : KeyValue → KeyValue → Ordering
 rank_cmp a b = slice_cmp nat_cmp (key_rank a) (key_rank b)
-
--- ranks name keys
-body_from_rank : (a b : Option (List ℕ)) → body_rank a ≡ body_rank b → a ≡ b
-body_from_rank None None h = refl
-body_from_rank None (Some t) h = cc
-body_from_rank (Some s) None h = cc
-body_from_rank (Some s) (Some t) h = let e : s ≡ t = cc in cc
-
-pub key_from_rank : (a b : KeyValue) → key_rank a ≡ key_rank b → a ≡ b
-key_from_rank a b h =
-    let clocks : a.clock ≡ b.clock = cc in
-    let nodes : a.node ≡ b.node = cc in
-    let ranks : body_rank a.body ≡ body_rank b.body = cc in
-    let bodies : a.body ≡ b.body = body_from_rank a.body b.body ranks in
-    λ i. record { clock = clocks i; node = nodes i; body = bodies i }
 
 pub bytes_eq-refl : (a : List ℕ) → bytes_eq a a ≡ true
 bytes_eq-refl a = (bytes_eq-Decides a a).1 refl
 
 pub bytes_eq-true : (a b : List ℕ) → bytes_eq a b ≡ true → a ≡ b
 bytes_eq-true a b = (bytes_eq-Decides a b).0
-
-pub same_key-true : (a b : KeyValue) → same_key a b ≡ true → a ≡ b
-same_key-true a b h = key_from_rank a b (bytes_eq-true (key_rank a) (key_rank b) h)
 
 pub same_key-refl : (a : KeyValue) → same_key a a ≡ true
 same_key-refl a = bytes_eq-refl (key_rank a)

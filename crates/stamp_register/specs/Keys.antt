@@ -1,5 +1,5 @@
 -- Keys of settings and their order.
-use Rattle.std.specs.Prelude.{ℕ, Bool, List, [], ◌∷◌, ◌++◌, codes, decimal, Option, Some, None, Result, Ok, Err, bytes_eq}
+use Rattle.std.specs.Prelude.{◌≡◌, ◌≢◌, ℕ, Bool, true, List, [], ◌∷◌, ◌++◌, codes, decimal, Option, Some, None, Result, Ok, Err, bytes_eq}
 use Rattle.std.specs.Ordering.{nat_cmp, is_le}
 use Rattle.std.specs.Cmp.Lexicographic.{slice_cmp}
 use Rattle.actions.specs.Value.{TermValue}
@@ -45,6 +45,10 @@ key_le a b = is_le (slice_cmp nat_cmp (key_rank a) (key_rank b))
 
 abbrev pub same_key : KeyValue → KeyValue → Bool
 same_key a b = bytes_eq (key_rank a) (key_rank b)
+
+-- a key that another one overtakes
+abbrev pub IsLower : KeyValue → KeyValue → Type 0
+IsLower a b = (key_le a b ≡ true) × (a ≢ b)
 
 -- the terms that a key sets, if it sets any
 abbrev pub terms_read : Result (List TermValue) ActionFault → Option (List TermValue)

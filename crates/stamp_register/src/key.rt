@@ -1,7 +1,7 @@
 //! Keys, their stamps and their order.
 
-ghost use Rattle.std.specs.Prelude.{◌≡◌, ◌≤◌, MatchOption, Some, None, IfOk};
-ghost use Rattle.stamp_register.specs.Keys.{key_value, body_value, stamp_of, terms_set};
+ghost use Rattle.std.specs.Prelude.{◌≡◌, ◌<◌, ◌≤◌, ◌+◌, ◌-◌, ◌^◌, MatchOption, Some, None, IfOk, IfSome};
+ghost use Rattle.stamp_register.specs.Keys.{KeyValue, IsLower, key_value, body_value, stamp_of, terms_set};
 
 use actions::Actions;
 use std::alloc::{AllocError, Global};
@@ -45,6 +45,22 @@ impl fmt::Display for Stamp {
 }
 
 impl Key {
+    /// The key that a node issues after this clock, which is above every key of that clock or an
+    /// earlier one. There is none after the last clock, 2^64-1.
+    pub fn next(clock: u64, node: u8, body: Body) -> Option<Key>
+        ensures value { MatchOption result (clock ≡ 2 ^ 64 - 1) (λ k. (clock < 2 ^ 64 - 1) × (k ≡ record { clock = clock + 1; node = node; body = body })) }
+        ensures above { IfSome result (λ k. (other : KeyValue) → other.clock ≤ clock → IsLower other (key_value k)) }
+    {
+        if clock == u64::MAX {
+            return None;
+        }
+        Some(Key {
+            clock: clock + 1,
+            node,
+            body,
+        })
+    }
+
     /// The key's stamp.
     pub fn stamp(&self) -> Stamp
         ensures { result ≡ stamp_of (key_value self.now) }

@@ -82,3 +82,12 @@ fn a_copy_is_equal(rt: HostRuntime) -> Result<(), Fail> {
     }
     Ok(())
 }
+
+#[test]
+fn the_next_key_has_the_next_clock(rt: HostRuntime) -> Result<(), Fail> {
+    assert!(rt; Key::next(3, 1, Body::Removed) == Some(removed(4, 1)));
+    assert!(rt; removed(4, 0) > removed(3, 255));
+    assert!(rt; Key::next(u64::MAX - 1, 0, Body::Removed) == Some(removed(u64::MAX, 0)));
+    assert!(rt; Key::next(u64::MAX, 0, Body::Removed).is_none());
+    Ok(())
+}
