@@ -8,3 +8,4 @@ pub mod Sets
 pub mod Names
 pub mod KnownSets
 pub mod Changes
+pub mod Unions
