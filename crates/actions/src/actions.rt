@@ -10,6 +10,7 @@ ghost use Rattle.actions.specs.Choice.{words_needed};
 use crate::fault::ActionFault;
 use crate::reading::read_terms;
 use crate::task::Term;
+use lattice_laws::Held;
 use std::alloc::{AllocError, Global};
 use std::cmp::Ordering;
 use std::fmt::Write;
@@ -202,5 +203,11 @@ impl PartialOrd for Actions {
 
     fn partial_cmp(&self, other: &Actions) -> Option<Ordering> {
         Some(self.cmp(other))
+    }
+}
+
+impl Held for Actions {
+    fn copied(&self, alloc: Global) -> Result<Actions, AllocError> {
+        Actions::copied(self, alloc)
     }
 }

@@ -4,6 +4,7 @@ ghost use Rattle.std.specs.Prelude.{◌≡◌, ◌↔◌, true, false, string_by
 ghost use Rattle.std.specs.List.{list_all};
 ghost use Rattle.actions.specs.Names.{is_name_byte, is_name};
 
+use lattice_laws::Held;
 use std::alloc::{AllocError, Global};
 use std::cmp::Ordering;
 use std::error::Error;
@@ -174,5 +175,11 @@ impl PartialOrd for Name {
 
     fn partial_cmp(&self, other: &Name) -> Option<Ordering> {
         Some(self.cmp(other))
+    }
+}
+
+impl Held for Name {
+    fn copied(&self, alloc: Global) -> Result<Name, AllocError> {
+        Name::copied(self, alloc)
     }
 }

@@ -7,6 +7,7 @@ mod texts;
 mod values;
 
 use super::*;
+use lattice_laws::Held;
 use std::alloc::{AllocError, Global};
 use std::fmt::Display;
 use std::test::Fail;
@@ -45,4 +46,11 @@ fn try_repeated(
     }
     text.push_str(last)?;
     Ok(text)
+}
+
+fn copied_key<S: Held>(alloc: Global, key: &S) -> Result<S, AllocError> {
+    match key.copied(alloc) {
+        Err(_) => key.copied(alloc),
+        first => first,
+    }
 }

@@ -4,6 +4,7 @@ ghost use Rattle.std.specs.Prelude.{◌≡◌, ◌<◌, ◌≤◌, ◌+◌, ◌-
 ghost use Rattle.stamp_register.specs.Keys.{KeyValue, IsLower, key_value, body_value, stamp_of, terms_set};
 
 use actions::Actions;
+use lattice_laws::Held;
 use std::alloc::{AllocError, Global};
 use std::cmp::Ordering;
 use std::fmt;
@@ -231,5 +232,11 @@ impl PartialOrd for Key {
 
     fn partial_cmp(&self, other: &Key) -> Option<Ordering> {
         Some(self.cmp(other))
+    }
+}
+
+impl Held for Key {
+    fn copied(&self, alloc: Global) -> Result<Key, AllocError> {
+        Key::copied(self, alloc)
     }
 }

@@ -2,7 +2,8 @@
 
 use super::*;
 use actions::{ActionFault, parse_actions};
-use std::alloc::Global;
+use lattice_laws::Held;
+use std::alloc::{AllocError, Global};
 use std::cmp::Ordering;
 use std::test::Fail;
 
@@ -89,5 +90,19 @@ fn the_next_key_has_the_next_clock(rt: HostRuntime) -> Result<(), Fail> {
     assert!(rt; removed(4, 0) > removed(3, 255));
     assert!(rt; Key::next(u64::MAX - 1, 0, Body::Removed) == Some(removed(u64::MAX, 0)));
     assert!(rt; Key::next(u64::MAX, 0, Body::Removed).is_none());
+    Ok(())
+}
+
+fn copied_key<S: Held>(alloc: Global, key: &S) -> Result<S, AllocError> {
+    match key.copied(alloc) {
+        Err(_) => key.copied(alloc),
+        first => first,
+    }
+}
+
+#[test]
+fn keys_are_held(rt: HostRuntime) -> Result<(), Fail> {
+    let key = set(rt.alloc(), 4, 2, "2*off->panic")?;
+    assert!(rt; copied_key(rt.alloc(), &key)? == key);
     Ok(())
 }

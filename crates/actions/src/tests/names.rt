@@ -1,4 +1,4 @@
-use super::{repeated, shown};
+use super::{copied_key, repeated, shown};
 use crate::{Name, NameFault};
 use std::alloc::Global;
 use std::test::Fail;
@@ -58,5 +58,12 @@ fn name_order(rt: HostRuntime) -> Result<(), Fail> {
     let third = named(rt.alloc(), "a.b")?;
     assert!(rt; first < second && second < third);
     assert!(rt; first != second);
+    Ok(())
+}
+
+#[test]
+fn names_are_keys(rt: HostRuntime) -> Result<(), Fail> {
+    let name = named(rt.alloc(), "a::b")?;
+    assert_eq!(rt; copied_key(rt.alloc(), &name)?.text(), "a::b");
     Ok(())
 }

@@ -1,4 +1,4 @@
-use super::{parsed, shown};
+use super::{copied_key, parsed, shown};
 use crate::{Actions, Task};
 use std::alloc::{AllocError, Global};
 use std::cmp::Ordering;
@@ -121,5 +121,12 @@ fn copies(rt: HostRuntime) -> Result<(), Fail> {
         let whole = actions.term(1).ok_or("no term")?;
         assert!(rt; shown(rt.alloc(), &again)? == shown(rt.alloc(), whole)?);
     }
+    Ok(())
+}
+
+#[test]
+fn actions_are_keys(rt: HostRuntime) -> Result<(), Fail> {
+    let actions = parsed(rt.alloc(), "20%3*off->panic")?;
+    assert!(rt; copied_key(rt.alloc(), &actions)? == actions);
     Ok(())
 }

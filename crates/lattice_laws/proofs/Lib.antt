@@ -1,0 +1,7 @@
+pub mod Joins
+pub mod LexJoins
+pub mod Entries
+pub mod Turns
+pub mod Takings
+pub mod Parts
+pub mod Bounds
