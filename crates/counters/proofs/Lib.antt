@@ -1,2 +1,7 @@
 pub mod SumLemmas
 pub mod Conserved
+pub mod EntryLemmas
+pub mod EntrySums
+pub mod CellLemmas
+pub mod WriteLemmas
+pub mod CounterJoins

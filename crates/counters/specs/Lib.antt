@@ -1,2 +1,5 @@
 pub mod Sums
 pub mod Budgets
+pub mod Cells
+pub mod Refusals
+pub mod Joins

@@ -1,0 +1,131 @@
+-- What the entries of a map say of its cells, and how large all of them are together.
+use Rattle.std.specs.Prelude.{◌≡◌, ◌≢◌, ◌<◌, ◌≤◌, ◌+◌, ◌*◌, ◌^◌, ◌==◌, ℕ, Bool, true, false, cond, List, [], ◌∷◌, zero}
+use Rattle.std.specs.Ordering.{nat_cmp, eq_by_cmp}
+use Rattle.std.specs.Map.{keys_of}
+use Rattle.std.specs.List.{IsDistinct}
+use Rattle.std.specs.List.Sorted.{IsStrictlySortedBy}
+use Rattle.std.proofs.lemmas.Map.Keys.{IsDistinct-from_sorted, IsDistinct-tail}
+use Rattle.std.proofs.Common.{ap, arith, refl, subst, ◌∙◌}
+use Rattle.std.proofs.lemmas.Bool.{eqb-false, eqb-true}
+use Rattle.lattice_laws.specs.Map.{IsMap, MapOrder, admitted_at, map_order, value_at}
+use Rattle.lattice_laws.specs.Max.{IsAtMost, IsNumber, max_order, zero_max}
+use Rattle.lattice_laws.specs.declared.max.Max.{Max}
+use Rattle.counters.specs.Sums.{numbers, sum_below, sum_others}
+use Rattle.counters.specs.Cells.{Cells, Rows, cell, row_cell}
+use Rattle.counters.proofs.EntrySums.{sum_below-bound, sum-entry}
+use Rattle.counters.proofs.SumLemmas.{sum_others-zero, sum-zero}
+
+-- the entries are those of a map
+abbrev pub AreCells : Cells → Type 0
+AreCells cells = IsMap nat_cmp IsNumber IsAtMost zero_max cells
+
+abbrev pub AreRows : Rows → Type 0
+AreRows rows = IsMap nat_cmp AreCells (MapOrder nat_cmp IsAtMost zero_max) [] rows
+
+-- no two entries are of one node
+abbrev pub AreApart : {J : Type 0} → List (ℕ × J) → Type 0
+AreApart entries = IsDistinct (eq_by_cmp nat_cmp) (keys_of entries)
+
+-- so are those of a map
+pub apart-map : {J : Type 0} (entries : List (ℕ × J)) → IsStrictlySortedBy nat_cmp (keys_of entries) → AreApart entries
+apart-map entries h = IsDistinct-from_sorted nat_cmp (keys_of entries) h
+
+pub apart-tail : {J : Type 0} (k : ℕ) (v : J) (rest : List (ℕ × J)) → AreApart ((k, v) ∷ rest) → AreApart rest
+apart-tail k v rest h = IsDistinct-tail (eq_by_cmp nat_cmp) k (keys_of rest) h
+
+-- a node's number is a number of 8 bits
+below-numbers : (k : ℕ) → k < 256 → k < numbers
+unfolding numbers
+below-numbers k h = h
+
+numbers-is : numbers ≡ 256
+unfolding numbers
+numbers-is = refl
+
+zero-either : (t : Bool) → cond t 0 0 ≡ zero
+zero-either true = refl
+zero-either false = refl
+
+-- an entry more adds its number
+pub total-entry : (k : ℕ) (v : Max) (rest : Cells) → k < 256 → AreApart ((k, v) ∷ rest) → sum_below numbers (cell ((k, v) ∷ rest)) ≡ v.0 + sum_below numbers (cell rest)
+unfolding cell
+total-entry k v rest below apart = sum-entry zero_max numbers (λ q (held : Max). held.0) (λ q. refl) k v rest (below-numbers k below) apart
+
+-- unless it is left out
+total_of_others-entry : (node k : ℕ) (v : Max) (rest : Cells) → k < 256 → AreApart ((k, v) ∷ rest) → sum_others numbers node (cell ((k, v) ∷ rest)) ≡ cond (k == node) 0 v.0 + sum_others numbers node (cell rest)
+unfolding cell
+total_of_others-entry node k v rest below apart = sum-entry zero_max numbers (λ q (held : Max). cond (q == node) 0 held.0) (λ q. zero-either (q == node)) k v rest (below-numbers k below) apart
+
+-- and a row more its number at the node
+total_from_others-entry : (node k : ℕ) (v : Cells) (rest : Rows) → k < 256 → AreApart ((k, v) ∷ rest) → sum_others numbers node (λ from. row_cell ((k, v) ∷ rest) from node) ≡ cond (k == node) 0 (cell v node) + sum_others numbers node (λ from. row_cell rest from node)
+unfolding cell row_cell
+total_from_others-entry node k v rest below apart = sum-entry [] numbers (λ q (held : Cells). cond (q == node) 0 (cell held node)) (λ q. zero-either (q == node)) k v rest (below-numbers k below) apart
+
+-- what a test for one node chooses
+pub chosen-same : (i k n m : ℕ) → i ≡ k → cond (i == k) n m ≡ n
+chosen-same i k n m same = at (i == k) refl
+  where
+    at : (t : Bool) → (i == k) ≡ t → cond t n m ≡ n
+    at true e = refl
+    at false e = absurd (eqb-false i k e same)
+
+pub chosen-other : (i k n m : ℕ) → i ≢ k → cond (i == k) n m ≡ m
+chosen-other i k n m ne = at (i == k) refl
+  where
+    at : (t : Bool) → (i == k) ≡ t → cond t n m ≡ m
+    at true e = absurd (ne (eqb-true i k e))
+    at false e = refl
+
+pub total_of_others-counted : (node k : ℕ) (v : Max) (rest : Cells) → k < 256 → AreApart ((k, v) ∷ rest) → k ≢ node → sum_others numbers node (cell ((k, v) ∷ rest)) ≡ v.0 + sum_others numbers node (cell rest)
+total_of_others-counted node k v rest below apart ne = total_of_others-entry node k v rest below apart ∙ ap (λ n. n + sum_others numbers node (cell rest)) (chosen-other k node 0 v.0 ne)
+
+pub total_of_others-left_out : (node k : ℕ) (v : Max) (rest : Cells) → k < 256 → AreApart ((k, v) ∷ rest) → k ≡ node → sum_others numbers node (cell ((k, v) ∷ rest)) ≡ 0 + sum_others numbers node (cell rest)
+total_of_others-left_out node k v rest below apart same = total_of_others-entry node k v rest below apart ∙ ap (λ n. n + sum_others numbers node (cell rest)) (chosen-same k node 0 v.0 same)
+
+pub total_from_others-counted : (node k : ℕ) (v : Cells) (rest : Rows) → k < 256 → AreApart ((k, v) ∷ rest) → k ≢ node → sum_others numbers node (λ from. row_cell ((k, v) ∷ rest) from node) ≡ cell v node + sum_others numbers node (λ from. row_cell rest from node)
+total_from_others-counted node k v rest below apart ne = total_from_others-entry node k v rest below apart ∙ ap (λ n. n + sum_others numbers node (λ from. row_cell rest from node)) (chosen-other k node 0 (cell v node) ne)
+
+pub total_from_others-left_out : (node k : ℕ) (v : Cells) (rest : Rows) → k < 256 → AreApart ((k, v) ∷ rest) → k ≡ node → sum_others numbers node (λ from. row_cell ((k, v) ∷ rest) from node) ≡ 0 + sum_others numbers node (λ from. row_cell rest from node)
+total_from_others-left_out node k v rest below apart same = total_from_others-entry node k v rest below apart ∙ ap (λ n. n + sum_others numbers node (λ from. row_cell rest from node)) (chosen-same k node 0 (cell v node) same)
+
+-- each number is one of 64 bits
+pub cell-bound : (cells : Cells) → AreCells cells → (q : ℕ) → cell cells q < 2 ^ 64
+unfolding cell
+cell-bound cells h q = admitted_at nat_cmp IsNumber IsAtMost zero_max max_order cells h q
+
+pub row_cell-bound : (rows : Rows) → AreRows rows → (from to : ℕ) → row_cell rows from to < 2 ^ 64
+unfolding row_cell
+row_cell-bound rows h from to = cell-bound (value_at nat_cmp [] rows from) (admitted_at nat_cmp AreCells (MapOrder nat_cmp IsAtMost zero_max) [] (map_order nat_cmp max_order) rows h from) to
+
+-- so all of them fit 128 bits
+bound : (f : ℕ → ℕ) → ((i : ℕ) → f i < 2 ^ 64) → sum_below numbers f ≤ 256 * 2 ^ 64
+bound f h = subst (λ (n : ℕ). sum_below numbers f ≤ n * 2 ^ 64) numbers-is (sum_below-bound numbers (2 ^ 64) f (λ i. let here = h i in omega arith))
+
+bound-others : (node : ℕ) (f : ℕ → ℕ) → ((i : ℕ) → f i < 2 ^ 64) → sum_others numbers node f ≤ 256 * 2 ^ 64
+bound-others node f h = bound (λ j. cond (j == node) 0 (f j)) (λ j. at (j == node) (h j))
+  where
+    at : (t : Bool) {n : ℕ} → n < 2 ^ 64 → cond t 0 n < 2 ^ 64
+    at true h = omega arith
+    at false h = h
+
+pub total-bound : (cells : Cells) → AreCells cells → sum_below numbers (cell cells) ≤ 256 * 2 ^ 64
+total-bound cells h = bound (cell cells) (cell-bound cells h)
+
+pub total_of_others-bound : (node : ℕ) (cells : Cells) → AreCells cells → sum_others numbers node (cell cells) ≤ 256 * 2 ^ 64
+total_of_others-bound node cells h = bound-others node (cell cells) (cell-bound cells h)
+
+pub total_from_others-bound : (node : ℕ) (rows : Rows) → AreRows rows → sum_others numbers node (λ from. row_cell rows from node) ≤ 256 * 2 ^ 64
+total_from_others-bound node rows h = bound-others node (λ from. row_cell rows from node) (λ from. row_cell-bound rows h from node)
+
+-- nothing is left where no entries are
+pub total-empty : sum_below numbers (cell []) ≡ 0
+unfolding cell
+total-empty = sum-zero numbers (λ q. 0) (λ q. refl)
+
+pub total_of_others-empty : (node : ℕ) → sum_others numbers node (cell []) ≡ 0
+unfolding cell
+total_of_others-empty node = sum_others-zero numbers node (λ q. 0) (λ q. refl)
+
+pub total_from_others-empty : (node : ℕ) → sum_others numbers node (λ from. row_cell [] from node) ≡ 0
+unfolding cell row_cell
+total_from_others-empty node = sum_others-zero numbers node (λ q. 0) (λ q. refl)

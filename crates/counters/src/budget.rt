@@ -1,0 +1,241 @@
+//! What the nodes spent of a budget, and what each moved to each.
+
+ghost use Rattle.std.specs.Prelude.{◌≡◌, ◌+◌, ◌<◌, Some, None, IfOk, IfErr, OnOk, OnErr, max};
+ghost use Rattle.counters.specs.Sums.{numbers, sum_below};
+ghost use Rattle.counters.specs.Budgets.{rights};
+ghost use Rattle.counters.specs.Cells.{no_shares, spent_cell, moved_cell, budget_of, WritesSpent, WritesMoved};
+ghost use Rattle.counters.specs.Refusals.{spend_refusal, shift_refusal, IsRefusal};
+
+use crate::cells::{
+    Cells, Rows, number_in_row, number_of, total, total_from_others, total_to_others, write,
+    write_row,
+};
+use crate::fault::CounterFault;
+use lattice_laws::{Join, MapOf, PairOf};
+use std::alloc::{AllocError, Global};
+use std::marker::Model;
+
+/// What each node spent, and what each moved to each.
+type SpentAndMoved = PairOf<Cells, Rows>;
+
+/// What the nodes did with the count of a term: how many rights to execute it each of them spent,
+/// and how many each moved to each, in all. The node that set the term has the whole count at
+/// first. A node's rights are what it had and was given, less what it moved away and spent; what
+/// it moves to itself counts for nothing. Of two budgets that are joined, the greater number of
+/// each cell holds. After a refusal a budget is as it was.
+#[derive(Debug, Drop)]
+pub struct Budget {
+    shares: SpentAndMoved,
+}
+
+impl Model for Budget {
+    ghost use Rattle.counters.specs.Cells.{Shares};
+
+    ghost Value = { Shares };
+
+    ghost view = { λ budget. budget.shares };
+}
+
+impl Budget {
+    /// A budget of which nothing is spent or moved.
+    pub fn new(alloc: Global) -> Self
+        ensures { result ≡ no_shares }
+    {
+        Budget {
+            shares: PairOf {
+                first: MapOf::new(alloc),
+                second: MapOf::new(alloc),
+            },
+        }
+    }
+
+    /// The rights of a node, where the setter has the whole count at first. They are negative
+    /// where a spend of the node is known and the move that paid for it isn't.
+    pub fn rights(&self, setter: u8, count: u64, node: u8) -> i128
+        ensures { result ≡ rights (budget_of self.now setter count) node }
+    {
+        let own = if node == setter { u128::from(count) } else { 0 };
+        let given = own + total_from_others(&self.shares.second, node);
+        let spent = u128::from(self.spent(node));
+        let gone = total_to_others(&self.shares.second, node) + spent;
+        given as i128 - gone as i128
+    }
+
+    /// What a node spent.
+    pub fn spent(&self, node: u8) -> u64
+        ensures { result ≡ spent_cell self.now node }
+    {
+        number_of(&self.shares.first, node)
+    }
+
+    /// What a node moved to another, in all.
+    pub fn moved(&self, from: u8, to: u8) -> u64
+        ensures { result ≡ moved_cell self.now from to }
+    {
+        number_in_row(&self.shares.second, from, to)
+    }
+
+    /// What all nodes spent.
+    pub fn total_spent(&self) -> u128
+        ensures { result ≡ sum_below numbers (spent_cell self.now) }
+    {
+        total(&self.shares.first)
+    }
+
+    /// Spends one right of a node, and answers how many it has now spent. It is refused where the
+    /// node has no right (`TooFewRights`), where it has spent 2^64 - 1 (`CellFull`), and where it
+    /// has spent none and memory is refused (`OutOfMemory`).
+    pub fn spend(
+        &mut self,
+        alloc: Global,
+        setter: u8,
+        count: u64,
+        node: u8,
+    ) -> Result<u64, CounterFault>
+        ensures ok { IfOk result (λ spent. (spend_refusal (budget_of self.old setter count) node ≡ None) × (spent ≡ spent_cell self.old node + 1)) }
+        ensures after { OnOk result (WritesSpent self.old self.new node (spent_cell self.old node + 1)) }
+        ensures refused { IfErr result (IsRefusal (spend_refusal (budget_of self.old setter count) node) (spent_cell self.old node)) }
+        ensures err { OnErr result (self.new ≡ self.old) }
+    {
+        let spent = self.spend_checked(setter, count, node)?;
+        write(&mut self.shares.first, alloc, node, spent)?;
+        Ok(spent)
+    }
+
+    /// Moves rights of a node to another, and answers how many it has now moved there in all. It
+    /// is refused where the node has fewer (`TooFewRights`), where the total would be above
+    /// 2^64 - 1 (`CellFull`), where the amount is 0 (`ZeroAmount`), where both nodes are one
+    /// (`SameNode`), and where none is moved there yet and memory is refused (`OutOfMemory`).
+    pub fn shift(
+        &mut self,
+        alloc: Global,
+        setter: u8,
+        count: u64,
+        from: u8,
+        to: u8,
+        amount: u64,
+    ) -> Result<u64, CounterFault>
+        ensures ok { IfOk result (λ moved. (shift_refusal (budget_of self.old setter count) from to amount ≡ None) × (moved ≡ moved_cell self.old from to + amount)) }
+        ensures after { OnOk result (WritesMoved self.old self.new from to (moved_cell self.old from to + amount)) }
+        ensures refused { IfErr result (IsRefusal (shift_refusal (budget_of self.old setter count) from to amount) (moved_cell self.old from to)) }
+        ensures err { OnErr result (self.new ≡ self.old) }
+    {
+        let moved = self.shift_checked(setter, count, from, to, amount)?;
+        write_row(&mut self.shares.second, alloc, from, to, moved)?;
+        Ok(moved)
+    }
+
+    /// Raises what a node spent to at least this number. Memory is asked for only where it spent
+    /// nothing.
+    pub fn raise_spent(&mut self, alloc: Global, node: u8, spent: u64) -> Result<(), AllocError>
+        ensures ok { OnOk result (WritesSpent self.old self.new node (max (spent_cell self.old node) spent)) }
+        ensures err { OnErr result (self.new ≡ self.old) }
+        ensures absent { OnErr result (spent_cell self.old node ≡ 0) }
+    {
+        if self.spent(node) < spent {
+            write(&mut self.shares.first, alloc, node, spent)?;
+        }
+        Ok(())
+    }
+
+    /// Raises what a node moved to another to at least this total. Memory is asked for only where
+    /// it moved nothing there.
+    pub fn raise_moved(
+        &mut self,
+        alloc: Global,
+        from: u8,
+        to: u8,
+        total: u64,
+    ) -> Result<(), AllocError>
+        ensures ok { OnOk result (WritesMoved self.old self.new from to (max (moved_cell self.old from to) total)) }
+        ensures err { OnErr result (self.new ≡ self.old) }
+        ensures absent { OnErr result (moved_cell self.old from to ≡ 0) }
+    {
+        if self.moved(from, to) < total {
+            write_row(&mut self.shares.second, alloc, from, to, total)?;
+        }
+        Ok(())
+    }
+
+    // What the node will have spent, or the refusal.
+    fn spend_checked(&self, setter: u8, count: u64, node: u8) -> Result<u64, CounterFault>
+        ensures ok { IfOk result (λ spent. (spend_refusal (budget_of self.now setter count) node ≡ None) × (spent ≡ spent_cell self.now node + 1)) }
+        ensures refused { IfErr result (λ fault. spend_refusal (budget_of self.now setter count) node ≡ Some fault) }
+    {
+        let have = self.rights(setter, count, node);
+        if have < 1 {
+            return Err(CounterFault::TooFewRights { have });
+        }
+        match self.spent(node).checked_add(1) {
+            Some(spent) => Ok(spent),
+            None => Err(CounterFault::CellFull),
+        }
+    }
+
+    // What the node will have moved there, or the refusal.
+    fn shift_checked(
+        &self,
+        setter: u8,
+        count: u64,
+        from: u8,
+        to: u8,
+        amount: u64,
+    ) -> Result<u64, CounterFault>
+        ensures ok { IfOk result (λ moved. (shift_refusal (budget_of self.now setter count) from to amount ≡ None) × (moved ≡ moved_cell self.now from to + amount)) }
+        ensures more { IfOk result (λ moved. moved_cell self.now from to < moved) }
+        ensures refused { IfErr result (λ fault. shift_refusal (budget_of self.now setter count) from to amount ≡ Some fault) }
+    {
+        let have = self.rights(setter, count, from);
+        if have < i128::from(amount) {
+            return Err(CounterFault::TooFewRights { have });
+        }
+        let Some(moved) = self.moved(from, to).checked_add(amount) else {
+            return Err(CounterFault::CellFull);
+        };
+        if amount == 0 {
+            return Err(CounterFault::ZeroAmount);
+        }
+        if from == to {
+            return Err(CounterFault::SameNode);
+        }
+        Ok(moved)
+    }
+}
+
+impl Join for Budget {
+    ghost use Rattle.std.specs.Ordering.{nat_cmp};
+    ghost use Rattle.lattice_laws.specs.Map.{map_order};
+    ghost use Rattle.lattice_laws.specs.Max.{max_order};
+    ghost use Rattle.lattice_laws.specs.Pair.{pair_order};
+
+    ghost admitted = { ⟦<SpentAndMoved as Join>⟧.admitted };
+
+    ghost order = { ⟦<SpentAndMoved as Join>⟧.order };
+
+    ghost bottom = { ⟦<SpentAndMoved as Join>⟧.bottom };
+
+    ghost laws = { pair_order (map_order nat_cmp max_order) (map_order nat_cmp (map_order nat_cmp max_order)) };
+
+    fn joined(&self, alloc: Global, other: &Self) -> Result<Self, AllocError> {
+        let shares = self.shares.joined(alloc, &other.shares)?;
+        Ok(Budget { shares })
+    }
+
+    fn below(&self, other: &Self) -> bool {
+        self.shares.below(&other.shares)
+    }
+
+    fn is_bottom(&self) -> bool {
+        self.shares.is_bottom()
+    }
+
+    fn copied(&self, alloc: Global) -> Result<Self, AllocError> {
+        let shares = self.shares.copied(alloc)?;
+        Ok(Budget { shares })
+    }
+
+    fn join_in(&mut self, alloc: Global, other: Self) -> Result<(), AllocError> {
+        let Budget { shares } = other;
+        self.shares.join_in(alloc, shares)
+    }
+}

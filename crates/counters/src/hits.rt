@@ -1,0 +1,118 @@
+//! How many hits each node counted.
+
+ghost use Rattle.std.specs.Prelude.{◌≡◌, ◌+◌, [], None, IfOk, IfErr, OnOk, OnErr, max};
+ghost use Rattle.counters.specs.Sums.{numbers, sum_below};
+ghost use Rattle.counters.specs.Cells.{cell, WritesCell};
+ghost use Rattle.counters.specs.Refusals.{hit_refusal, IsRefusal};
+
+use crate::cells::{Cells, number_of, total, write};
+use crate::fault::CounterFault;
+use lattice_laws::{Join, MapOf};
+use std::alloc::{AllocError, Global};
+use std::marker::Model;
+
+/// How many hits each node counted. Of two counters that are joined, each node's greater number
+/// holds. After a refusal a counter is as it was.
+#[derive(Debug, Drop)]
+pub struct HitCounter {
+    hits: Cells,
+}
+
+impl Model for HitCounter {
+    ghost use Rattle.std.specs.Prelude.{List, ℕ};
+    ghost use Rattle.lattice_laws.specs.declared.max.Max.{Max};
+
+    ghost Value = { List (ℕ × Max) };
+
+    ghost view = { λ counter. counter.hits };
+}
+
+impl HitCounter {
+    /// A counter without hits.
+    pub fn new(alloc: Global) -> Self
+        ensures { result ≡ [] }
+    {
+        HitCounter {
+            hits: MapOf::new(alloc),
+        }
+    }
+
+    /// The hits of a node.
+    pub fn of(&self, node: u8) -> u64
+        ensures { result ≡ cell self.now node }
+    {
+        number_of(&self.hits, node)
+    }
+
+    /// The hits of all nodes.
+    pub fn total(&self) -> u128
+        ensures { result ≡ sum_below numbers (cell self.now) }
+    {
+        total(&self.hits)
+    }
+
+    /// Counts a hit of a node, and answers how many it now has. It is refused where the node has
+    /// 2^64 - 1 (`CellFull`), and where it has none and memory is refused (`OutOfMemory`).
+    pub fn hit(&mut self, alloc: Global, node: u8) -> Result<u64, CounterFault>
+        ensures ok { IfOk result (λ hits. (hit_refusal self.old node ≡ None) × (hits ≡ cell self.old node + 1)) }
+        ensures after { OnOk result (WritesCell self.old self.new node (cell self.old node + 1)) }
+        ensures refused { IfErr result (IsRefusal (hit_refusal self.old node) (cell self.old node)) }
+        ensures err { OnErr result (self.new ≡ self.old) }
+    {
+        let hits = self.of(node);
+        if hits == u64::MAX {
+            return Err(CounterFault::CellFull);
+        }
+        write(&mut self.hits, alloc, node, hits + 1)?;
+        Ok(hits + 1)
+    }
+
+    /// Raises the hits of a node to at least `hits`. Memory is asked for only where it has none.
+    pub fn raise(&mut self, alloc: Global, node: u8, hits: u64) -> Result<(), AllocError>
+        ensures ok { OnOk result (WritesCell self.old self.new node (max (cell self.old node) hits)) }
+        ensures err { OnErr result (self.new ≡ self.old) }
+        ensures absent { OnErr result (cell self.old node ≡ 0) }
+    {
+        if self.of(node) < hits {
+            write(&mut self.hits, alloc, node, hits)?;
+        }
+        Ok(())
+    }
+}
+
+impl Join for HitCounter {
+    ghost use Rattle.std.specs.Ordering.{nat_cmp};
+    ghost use Rattle.lattice_laws.specs.Map.{map_order};
+    ghost use Rattle.lattice_laws.specs.Max.{max_order};
+
+    ghost admitted = { ⟦<Cells as Join>⟧.admitted };
+
+    ghost order = { ⟦<Cells as Join>⟧.order };
+
+    ghost bottom = { ⟦<Cells as Join>⟧.bottom };
+
+    ghost laws = { map_order nat_cmp max_order };
+
+    fn joined(&self, alloc: Global, other: &Self) -> Result<Self, AllocError> {
+        let hits = self.hits.joined(alloc, &other.hits)?;
+        Ok(HitCounter { hits })
+    }
+
+    fn below(&self, other: &Self) -> bool {
+        self.hits.below(&other.hits)
+    }
+
+    fn is_bottom(&self) -> bool {
+        self.hits.is_bottom()
+    }
+
+    fn copied(&self, alloc: Global) -> Result<Self, AllocError> {
+        let hits = self.hits.copied(alloc)?;
+        Ok(HitCounter { hits })
+    }
+
+    fn join_in(&mut self, alloc: Global, other: Self) -> Result<(), AllocError> {
+        let HitCounter { hits } = other;
+        self.hits.join_in(alloc, hits)
+    }
+}

@@ -1,0 +1,314 @@
+use super::*;
+use lattice_laws::Join;
+use std::alloc::{AllocError, Global};
+use std::process::Abort;
+use std::test::Fail;
+
+/// A call of a counter of hits.
+#[derive(Clone, Copy)]
+enum HitCall {
+    Hit(u8),
+    Raise(u8, u64),
+}
+
+/// The hits of the nodes 0 and 1, and of all.
+type Hits = (u64, u64, u128);
+
+fn hits(counter: &HitCounter) -> Hits {
+    (counter.of(0), counter.of(1), counter.total())
+}
+
+/// Does a call, which answers a number if it is a hit.
+fn call_hits(
+    alloc: Global,
+    counter: &mut HitCounter,
+    call: HitCall,
+) -> Result<Option<u64>, CounterFault> {
+    match call {
+        HitCall::Hit(node) => Ok(Some(counter.hit(alloc, node)?)),
+        HitCall::Raise(node, number) => {
+            counter.raise(alloc, node, number)?;
+            Ok(None)
+        }
+    }
+}
+
+/// Does the calls. If the memory of one is refused, nothing may have changed, and it is asked
+/// again.
+fn call_all_hits(
+    rt: &impl Abort,
+    alloc: Global,
+    counter: &mut HitCounter,
+    calls: &[(HitCall, Result<Option<u64>, CounterFault>, Hits)],
+) {
+    for (call, want, after) in calls {
+        let before = hits(counter);
+        let mut answer = call_hits(alloc, counter, *call);
+        if answer == Err(CounterFault::OutOfMemory) {
+            assert_eq!(rt; hits(counter), before);
+            answer = call_hits(alloc, counter, *call);
+        }
+        assert_eq!(rt; answer, *want);
+        assert_eq!(rt; hits(counter), *after);
+    }
+}
+
+/// A full cell takes no more hits, and the others do.
+#[test]
+fn counts_hits(rt: HostRuntime) -> Result<(), Fail> {
+    let mut counter = HitCounter::new(rt.alloc());
+    let max = u64::MAX;
+    let calls = [
+        (HitCall::Raise(0, 0), Ok(None), (0, 0, 0)),
+        (HitCall::Hit(0), Ok(Some(1)), (1, 0, 1)),
+        (HitCall::Hit(0), Ok(Some(2)), (2, 0, 2)),
+        (HitCall::Raise(0, 1), Ok(None), (2, 0, 2)),
+        (HitCall::Raise(0, max), Ok(None), (max, 0, max as u128)),
+        (
+            HitCall::Hit(0),
+            Err(CounterFault::CellFull),
+            (max, 0, max as u128),
+        ),
+        (HitCall::Hit(1), Ok(Some(1)), (max, 1, 1 << 64)),
+    ];
+    call_all_hits(&rt, rt.alloc(), &mut counter, &calls);
+    Ok(())
+}
+
+/// A call of a budget of 2 that node 0 set.
+#[derive(Clone, Copy)]
+enum Step {
+    Spend(u8),
+    Shift(u8, u8, u64),
+    RaiseSpent(u8, u64),
+    RaiseMoved(u8, u8, u64),
+}
+
+/// What the readers answer of the nodes 0 and 1.
+#[derive(Clone, Copy, Debug, PartialEq, Eq)]
+struct Seen {
+    spent: (u64, u64),
+    moved: (u64, u64),
+    rights: (i128, i128),
+    total: u128,
+}
+
+fn shown(budget: &Budget) -> Seen {
+    Seen {
+        spent: (budget.spent(0), budget.spent(1)),
+        moved: (budget.moved(0, 1), budget.moved(1, 0)),
+        rights: (budget.rights(0, 2, 0), budget.rights(0, 2, 1)),
+        total: budget.total_spent(),
+    }
+}
+
+fn wanted(spent: (u64, u64), moved: (u64, u64), rights: (i128, i128), total: u128) -> Seen {
+    Seen {
+        spent,
+        moved,
+        rights,
+        total,
+    }
+}
+
+/// Does a call, which answers a number if it spends or shifts.
+fn take(alloc: Global, budget: &mut Budget, step: Step) -> Result<Option<u64>, CounterFault> {
+    match step {
+        Step::Spend(node) => Ok(Some(budget.spend(alloc, 0, 2, node)?)),
+        Step::Shift(from, to, amount) => Ok(Some(budget.shift(alloc, 0, 2, from, to, amount)?)),
+        Step::RaiseSpent(node, number) => {
+            budget.raise_spent(alloc, node, number)?;
+            Ok(None)
+        }
+        Step::RaiseMoved(from, to, number) => {
+            budget.raise_moved(alloc, from, to, number)?;
+            Ok(None)
+        }
+    }
+}
+
+/// Does the calls. If the memory of one is refused, nothing may have changed, and it is asked
+/// again.
+fn follow(
+    rt: &impl Abort,
+    alloc: Global,
+    budget: &mut Budget,
+    steps: &[(Step, Result<Option<u64>, CounterFault>, Seen)],
+) {
+    for (next, want, after) in steps {
+        let before = shown(budget);
+        let mut answer = take(alloc, budget, *next);
+        if answer == Err(CounterFault::OutOfMemory) {
+            assert_eq!(rt; shown(budget), before);
+            answer = take(alloc, budget, *next);
+        }
+        assert_eq!(rt; answer, *want);
+        assert_eq!(rt; shown(budget), *after);
+    }
+}
+
+/// The setter spends what it has, and no more.
+#[test]
+fn spends(rt: HostRuntime) -> Result<(), Fail> {
+    let alloc = rt.alloc();
+    let mut budget = Budget::new(alloc);
+    let all = wanted((2, 0), (0, 0), (0, 0), 2);
+    let none = CounterFault::TooFewRights { have: 0 };
+    let steps = [
+        (
+            Step::Spend(0),
+            Ok(Some(1)),
+            wanted((1, 0), (0, 0), (1, 0), 1),
+        ),
+        (Step::Spend(0), Ok(Some(2)), all),
+        (Step::Spend(0), Err(none), all),
+        (Step::Spend(1), Err(none), all),
+        (Step::Shift(0, 1, 1), Err(none), all),
+        (Step::Shift(0, 0, 0), Err(CounterFault::ZeroAmount), all),
+    ];
+    follow(&rt, alloc, &mut budget, &steps);
+    Ok(())
+}
+
+/// A shift is of rights that the node has, to another node.
+#[test]
+fn shifts(rt: HostRuntime) -> Result<(), Fail> {
+    let alloc = rt.alloc();
+    let mut budget = Budget::new(alloc);
+    let fresh = wanted((0, 0), (0, 0), (2, 0), 0);
+    let two = CounterFault::TooFewRights { have: 2 };
+    let steps = [
+        (Step::Shift(0, 1, 3), Err(two), fresh),
+        (Step::Shift(0, 1, 0), Err(CounterFault::ZeroAmount), fresh),
+        (Step::Shift(0, 0, 1), Err(CounterFault::SameNode), fresh),
+        (Step::Shift(0, 0, 3), Err(two), fresh),
+        (
+            Step::Shift(0, 1, 2),
+            Ok(Some(2)),
+            wanted((0, 0), (2, 0), (0, 2), 0),
+        ),
+        (
+            Step::Shift(1, 0, 1),
+            Ok(Some(1)),
+            wanted((0, 0), (2, 1), (1, 1), 0),
+        ),
+        (
+            Step::Shift(0, 1, 1),
+            Ok(Some(3)),
+            wanted((0, 0), (3, 1), (0, 2), 0),
+        ),
+        (
+            Step::Spend(1),
+            Ok(Some(1)),
+            wanted((0, 1), (3, 1), (0, 1), 1),
+        ),
+    ];
+    follow(&rt, alloc, &mut budget, &steps);
+    Ok(())
+}
+
+/// A raise keeps the greater number. What is spent before the move that paid for it is known
+/// leaves fewer rights than none, and a full cell takes no more.
+#[test]
+fn raises(rt: HostRuntime) -> Result<(), Fail> {
+    let alloc = rt.alloc();
+    let mut budget = Budget::new(alloc);
+    let max = u64::MAX;
+    let early = wanted((0, 2), (0, 0), (2, -2), 2);
+    let paid = wanted((0, 2), (2, 0), (0, 0), 2);
+    let full = wanted((0, 2), (max, max), (2, -2), 2);
+    let have = CounterFault::TooFewRights { have: -2 };
+    let steps = [
+        (Step::RaiseSpent(1, 2), Ok(None), early),
+        (Step::RaiseSpent(1, 1), Ok(None), early),
+        (Step::Spend(1), Err(have), early),
+        (Step::RaiseMoved(0, 1, 2), Ok(None), paid),
+        (Step::RaiseMoved(0, 1, 1), Ok(None), paid),
+        (Step::RaiseMoved(0, 0, 9), Ok(None), paid),
+        (Step::RaiseMoved(2, 1, 0), Ok(None), paid),
+        (
+            Step::RaiseMoved(0, 1, max),
+            Ok(None),
+            wanted(
+                (0, 2),
+                (max, 0),
+                (2 - i128::from(max), i128::from(max) - 2),
+                2,
+            ),
+        ),
+        (Step::RaiseMoved(1, 0, max), Ok(None), full),
+        (Step::Shift(0, 1, 1), Err(CounterFault::CellFull), full),
+        (Step::Shift(0, 1, 0), Err(CounterFault::ZeroAmount), full),
+    ];
+    follow(&rt, alloc, &mut budget, &steps);
+    Ok(())
+}
+
+/// Joins two values both ways, by their type's bound. If the memory of a join in place is refused,
+/// nothing may have changed, and it is asked again.
+fn joined<J: Join>(rt: &impl Abort, alloc: Global, one: &J, other: &J) -> Result<J, AllocError> {
+    let both = one.joined(alloc, other)?;
+    assert!(rt; one.below(&both));
+    assert!(rt; other.below(&both));
+    assert!(rt; !both.is_bottom());
+    let mut copy = one.copied(alloc)?;
+    let first = other.copied(alloc)?;
+    let second = other.copied(alloc)?;
+    if copy.join_in(alloc, first).is_err() {
+        assert!(rt; copy.below(one));
+        assert!(rt; one.below(&copy));
+        copy.join_in(alloc, second)?;
+    }
+    assert!(rt; copy.below(&both));
+    assert!(rt; both.below(&copy));
+    Ok(both)
+}
+
+#[test]
+fn joins(rt: HostRuntime) -> Result<(), Fail> {
+    let alloc = rt.alloc();
+    let mut one = HitCounter::new(alloc);
+    assert!(rt; one.is_bottom());
+    one.raise(alloc, 0, 5)?;
+    let mut other = HitCounter::new(alloc);
+    other.raise(alloc, 0, 4)?;
+    other.raise(alloc, 1, 7)?;
+    assert!(rt; !other.below(&one));
+    let both = joined(&rt, alloc, &one, &other)?;
+    assert_eq!(rt; hits(&both), (5, 7, 12));
+    let mut one = Budget::new(alloc);
+    assert!(rt; one.is_bottom());
+    one.raise_spent(alloc, 0, 1)?;
+    one.raise_moved(alloc, 0, 1, 1)?;
+    let mut other = Budget::new(alloc);
+    other.raise_moved(alloc, 0, 1, 2)?;
+    other.raise_moved(alloc, 1, 0, 1)?;
+    assert!(rt; !one.below(&other));
+    let both = joined(&rt, alloc, &one, &other)?;
+    assert_eq!(rt; shown(&both), wanted((1, 0), (2, 1), (0, 1), 1));
+    Ok(())
+}
+
+/// Each fault shows its number, its name and what it holds.
+#[test]
+fn prints(rt: HostRuntime) -> Result<(), Fail> {
+    let faults = [
+        (
+            CounterFault::TooFewRights { have: -3 },
+            "B1 TooFewRights have=-3",
+        ),
+        (
+            CounterFault::TooFewRights { have: 2 },
+            "B1 TooFewRights have=2",
+        ),
+        (CounterFault::CellFull, "B2 CellFull"),
+        (CounterFault::ZeroAmount, "B3 ZeroAmount"),
+        (CounterFault::SameNode, "B4 SameNode"),
+        (CounterFault::OutOfMemory, "B5 OutOfMemory"),
+    ];
+    for (fault, want) in faults {
+        let text = format!(in rt.alloc(); "{fault}")?;
+        assert_eq!(rt; text.as_str(), want);
+    }
+    Ok(())
+}
