@@ -1,6 +1,6 @@
 -- The greatest numbers of a list of counts, after one was added or raised, and without those of a key.
 use Rattle.std.proofs.Common.{◌≡◌, ℕ, ◌<◌, max, Bool, true, false, cond, ◌&&◌, eqb, List, [], ◌∷◌, ◌++◌, Option, Some, None, length, zero, suc, slice_set, get_or, drop, refl, sym, ◌∙◌, ap, arith}
-use Rattle.std.proofs.lemmas.Bool.{true≢false, and_parts, eqb-true}
+use Rattle.std.proofs.lemmas.Bool.{true≢false, and_parts, and_from, eqb-true, eq-eqb}
 use Rattle.std.proofs.lemmas.List.Quantifiers.{position-Some}
 use Rattle.std.proofs.lemmas.List.{get_or_read}
 use Rattle.std.specs.List.{position, filter}
@@ -29,6 +29,11 @@ same_counted-true (Execs k i) (Hits j) h = absurd (true≢false (sym h))
 same_counted-true (Execs k i) (Shifts l j p) h = absurd (true≢false (sym h))
 same_counted-true (Shifts k i o) (Hits j) h = absurd (true≢false (sym h))
 same_counted-true (Shifts k i o) (Execs l j) h = absurd (true≢false (sym h))
+
+pub same_counted-refl : (a : Counted) → same_counted a a ≡ true
+same_counted-refl (Hits i) = eq-eqb i i refl
+same_counted-refl (Execs k i) = and_from _ _ (eq-eqb k k refl) (eq-eqb i i refl)
+same_counted-refl (Shifts k i o) = and_from _ _ (eq-eqb k k refl) (and_from _ _ (eq-eqb i i refl) (eq-eqb o o refl))
 
 -- a count at the end
 pub number_of-append : (cs : List Count) (count : Count) (d : Counted) → number_of (cs ++ count ∷ []) d ≡ raised (Some count) (number_of cs) d

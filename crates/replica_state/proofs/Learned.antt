@@ -14,7 +14,7 @@ use Rattle.replica_state.specs.declared.point.Counted.TheVariants.{Hits}
 use Rattle.replica_state.specs.declared.point.Count.{Count}
 use Rattle.replica_state.specs.declared.point.Point.{Point}
 use Rattle.replica_state.specs.Folds.{greater}
-use Rattle.replica_state.specs.Points.{held_of, number_of, standing, raised, fresh, learned, taken, spending, passed, budget_in, budget_under}
+use Rattle.replica_state.specs.Points.{Held, held_of, number_of, standing, raised, fresh, learned, taken, spending, passed, budget_in, budget_under}
 
 -- a fact for one variant gives another for it
 pub on_ok : {A E P Q : Type 0} (r : Result A E) → (P → Q) → OnOk r P → OnOk r Q
@@ -29,6 +29,10 @@ pub on_err : {A E P Q : Type 0} (r : Result A E) → (P → Q) → OnErr r P →
 on_err (Ok a) f h = h
 on_err (Err e) f h = f h
 
+pub always_err : {A E P : Type 0} (r : Result A E) → P → OnErr r P
+always_err (Ok a) h = tt
+always_err (Err e) h = h
+
 -- a key that is no greater leaves the one that is held
 greater-held : (key : KeyValue) (o : Option KeyValue) (r : Ordering) → standing key o ≡ r → is_le r ≡ true → o ≡ greater (Some key) o
 greater-held key None r e h = cc
@@ -39,35 +43,55 @@ greater-new : (key : KeyValue) (o : Option KeyValue) → standing key o ≡ Grea
 greater-new key None e = refl
 greater-new key (Some a) e = ap (λ b. Some (cond b a key)) (ap is_le (sym e))
 
+-- what is held after an operation was learned, by how its key stands
+module _ (h w : Held) (ko : Option KeyValue) (count : Option Count) where
+  pub held_none : ko ≡ None → w.key ≡ h.key → ((d : Counted) → w.number d ≡ raised count h.number d) → w ≡ learned ko count h
+  unfolding learned
+  held_none e k f = (λ i. record { key = k i; number = λ d. f d i }) ∙ ap (λ (o : Option KeyValue). learned o count h) (sym e)
+
+  module _ (key : KeyValue) (e : ko ≡ Some key) where
+    pub held_less : standing key h.key ≡ Less → h ≡ learned ko count h
+    unfolding learned
+    held_less s = (λ i. record { key = greater-held key h.key Less s refl i; number = λ d. match_ordering (sym s i) (h.number d) (raised count h.number d) (raised count (fresh h.number) d) }) ∙ ap (λ (o : Option KeyValue). learned o count h) (sym e)
+
+    pub held_equal : standing key h.key ≡ Equal → w.key ≡ h.key → ((d : Counted) → w.number d ≡ raised count h.number d) → w ≡ learned ko count h
+    unfolding learned
+    held_equal s k f = (λ i. record { key = keys i; number = λ d. numbers d i }) ∙ ap (λ (o : Option KeyValue). learned o count h) (sym e)
+      where
+        keys : w.key ≡ greater (Some key) h.key
+        keys = k ∙ greater-held key h.key Equal s refl
+
+        numbers : (d : Counted) → w.number d ≡ match_ordering (standing key h.key) (h.number d) (raised count h.number d) (raised count (fresh h.number) d)
+        numbers d = f d ∙ ap (λ r. match_ordering r (h.number d) (raised count h.number d) (raised count (fresh h.number) d)) (sym s)
+
+    pub held_greater : standing key h.key ≡ Greater → w.key ≡ Some key → ((d : Counted) → w.number d ≡ raised count (fresh h.number) d) → w ≡ learned ko count h
+    unfolding learned
+    held_greater s k f = (λ i. record { key = keys i; number = λ d. numbers d i }) ∙ ap (λ (o : Option KeyValue). learned o count h) (sym e)
+      where
+        keys : w.key ≡ greater (Some key) h.key
+        keys = k ∙ greater-new key h.key s
+
+        numbers : (d : Counted) → w.number d ≡ match_ordering (standing key h.key) (h.number d) (raised count h.number d) (raised count (fresh h.number) d)
+        numbers d = f d ∙ ap (λ r. match_ordering r (h.number d) (raised count h.number d) (raised count (fresh h.number) d)) (sym s)
+
+-- the same of points
 module _ (p w : Point) (ko : Option KeyValue) (count : Option Count) where
   pub learned_none : ko ≡ None → w.key ≡ p.key → ((d : Counted) → number_of w.counts.items d ≡ raised count (number_of p.counts.items) d) → held_of w ≡ learned ko count (held_of p)
-  unfolding held_of learned
-  learned_none e k h = (λ i. record { key = option_map key_value (k i); number = λ d. h d i }) ∙ ap (λ (o : Option KeyValue). learned o count (held_of p)) (sym e)
+  unfolding held_of
+  learned_none e k f = held_none (held_of p) (held_of w) ko count e (ap (λ (o : Option Key). option_map key_value o) k) f
 
   module _ (key : KeyValue) (e : ko ≡ Some key) where
     pub learned_less : standing key (option_map key_value p.key) ≡ Less → held_of p ≡ learned ko count (held_of p)
-    unfolding held_of learned
-    learned_less s = (λ i. record { key = greater-held key (option_map key_value p.key) Less s refl i; number = λ d. match_ordering (sym s i) (number_of p.counts.items d) (raised count (number_of p.counts.items) d) (raised count (fresh (number_of p.counts.items)) d) }) ∙ ap (λ (o : Option KeyValue). learned o count (held_of p)) (sym e)
+    unfolding held_of
+    learned_less s = held_less (held_of p) (held_of p) ko count key e s
 
     pub learned_equal : standing key (option_map key_value p.key) ≡ Equal → w.key ≡ p.key → ((d : Counted) → number_of w.counts.items d ≡ raised count (number_of p.counts.items) d) → held_of w ≡ learned ko count (held_of p)
-    unfolding held_of learned
-    learned_equal s k h = (λ i. record { key = keys i; number = λ d. numbers d i }) ∙ ap (λ (o : Option KeyValue). learned o count (held_of p)) (sym e)
-      where
-        keys : option_map key_value w.key ≡ greater (Some key) (option_map key_value p.key)
-        keys = ap (λ (o : Option Key). option_map key_value o) k ∙ greater-held key (option_map key_value p.key) Equal s refl
-
-        numbers : (d : Counted) → number_of w.counts.items d ≡ match_ordering (standing key (option_map key_value p.key)) (number_of p.counts.items d) (raised count (number_of p.counts.items) d) (raised count (fresh (number_of p.counts.items)) d)
-        numbers d = h d ∙ ap (λ r. match_ordering r (number_of p.counts.items d) (raised count (number_of p.counts.items) d) (raised count (fresh (number_of p.counts.items)) d)) (sym s)
+    unfolding held_of
+    learned_equal s k f = held_equal (held_of p) (held_of w) ko count key e s (ap (λ (o : Option Key). option_map key_value o) k) f
 
     pub learned_greater : standing key (option_map key_value p.key) ≡ Greater → (k : Key) → key_value k ≡ key → w.key ≡ Some k → ((d : Counted) → number_of w.counts.items d ≡ raised count (fresh (number_of p.counts.items)) d) → held_of w ≡ learned ko count (held_of p)
-    unfolding held_of learned
-    learned_greater s k copy took h = (λ i. record { key = keys i; number = λ d. numbers d i }) ∙ ap (λ (o : Option KeyValue). learned o count (held_of p)) (sym e)
-      where
-        keys : option_map key_value w.key ≡ greater (Some key) (option_map key_value p.key)
-        keys = ap (λ (o : Option Key). option_map key_value o) took ∙ ap (λ (a : KeyValue). Some a) copy ∙ greater-new key (option_map key_value p.key) s
-
-        numbers : (d : Counted) → number_of w.counts.items d ≡ match_ordering (standing key (option_map key_value p.key)) (number_of p.counts.items d) (raised count (number_of p.counts.items) d) (raised count (fresh (number_of p.counts.items)) d)
-        numbers d = h d ∙ ap (λ r. match_ordering r (number_of p.counts.items d) (raised count (number_of p.counts.items) d) (raised count (fresh (number_of p.counts.items)) d)) (sym s)
+    unfolding held_of
+    learned_greater s k copy took f = held_greater (held_of p) (held_of w) ko count key e s (ap (λ (o : Option Key). option_map key_value o) took ∙ ap (λ (a : KeyValue). Some a) copy) f
 
 -- a point that took a key
 pub held_taken : (p w : Point) (key : Key) → w.key ≡ Some key → ((d : Counted) → number_of w.counts.items d ≡ fresh (number_of p.counts.items) d) → held_of w ≡ taken (key_value key) (held_of p)

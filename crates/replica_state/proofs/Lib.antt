@@ -9,3 +9,9 @@ pub mod Names
 pub mod KnownSets
 pub mod Changes
 pub mod Unions
+pub mod SlotLemmas
+pub mod Slots
+pub mod StateOrders
+pub mod PointJoins
+pub mod SetJoins
+pub mod MatrixJoins

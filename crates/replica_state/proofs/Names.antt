@@ -17,7 +17,7 @@ use Rattle.replica_state.specs.Knowledge.{HoldsKey, Knows, KnowsAll}
 use Rattle.replica_state.proofs.Orders.{bytes_eq-true, same_cell-true}
 use Rattle.replica_state.proofs.Sets.{key_of-found}
 
-tied : (a b : List ℕ) → slice_cmp nat_cmp a b ≡ Equal → a ≡ b
+pub tied : (a b : List ℕ) → slice_cmp nat_cmp a b ≡ Equal → a ≡ b
 tied a b e = bytes_eq-true a b (sym (is_eq-slice_cmp a b) ∙ ap is_eq e)
 
 turned : (a b : List ℕ) → slice_cmp nat_cmp a b ≡ Greater → slice_cmp nat_cmp b a ≡ Less

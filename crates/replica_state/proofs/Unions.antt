@@ -1,5 +1,5 @@
 -- The state of a union depends on the states of its parts alone.
-use Rattle.std.proofs.Common.{◌≡◌, ℕ, max, if◌then◌else◌, Bool, true, false, cond, List, [], ◌∷◌, ◌++◌, ◌⊎◌, inl, inr, refl, sym, ◌∙◌, ap, subst, ⊎_elim, Option, Some, None}
+use Rattle.std.proofs.Common.{◌≡◌, ℕ, max, if◌then◌else◌, Bool, true, false, cond, List, ◌++◌, ◌⊎◌, inl, inr, refl, sym, ◌∙◌, ap, subst, ⊎_elim, Option, Some, None}
 use Rattle.std.proofs.lemmas.Bool.{true≢false}
 use Rattle.stamp_register.specs.Keys.{KeyValue, same_key}
 use Rattle.replica_state.specs.Operations.{Hits, Operation, IsIn}
@@ -53,7 +53,7 @@ kind-append name kind a b = ap (λ k. at_key k (λ key. number_at (kind.cell key
 
 -- ---- the names of a union
 
-holds_append : (q : List ℕ) (a b : List Operation) → HoldsName q (a ++ b) → IsIn q (names_of a) ⊎ IsIn q (names_of b)
+pub holds_append : (q : List ℕ) (a b : List Operation) → HoldsName q (a ++ b) → IsIn q (names_of a) ⊎ IsIn q (names_of b)
 holds_append q a b h = ⊎_elim
     (λ k. inl (subst (λ n. IsIn n (names_of a)) h.named (holds-names_of a h.op k h.counted)))
     (λ k. inr (subst (λ n. IsIn n (names_of b)) h.named (holds-names_of b h.op k h.counted)))
@@ -77,13 +77,13 @@ pub fold-union : (a b c d : List Operation) → fold a ≡ fold c → fold b ≡
 unfolding fold exec_kind shift_kind
 fold-union a b c d e f =
     let keys : (name : List ℕ) → key_of name (a ++ b) ≡ key_of name (c ++ d) = λ name.
-        key_of-append name a b ∙ (λ i. greater ((e i).key name) ((f i).key name)) ∙ sym (key_of-append name c d) in
+    key_of-append name a b ∙ (λ i. greater ((e i).key name) ((f i).key name)) ∙ sym (key_of-append name c d) in
     let hits : (name : List ℕ) (node : ℕ) → number_at (Hits name node) (a ++ b) ≡ number_at (Hits name node) (c ++ d) = λ name node.
-        number_at-append (Hits name node) a b ∙ (λ i. max ((e i).hits name node) ((f i).hits name node)) ∙ sym (number_at-append (Hits name node) c d) in
+    number_at-append (Hits name node) a b ∙ (λ i. max ((e i).hits name node) ((f i).hits name node)) ∙ sym (number_at-append (Hits name node) c d) in
     let execs : (name : List ℕ) (term node : ℕ) → (fold (a ++ b)).execs name term node ≡ (fold (c ++ d)).execs name term node = λ name term node.
-        kind-append name (exec_kind name term node) a b ∙ (λ i. joined_number ((e i).key name) ((f i).key name) ((e i).execs name term node) ((f i).execs name term node)) ∙ sym (kind-append name (exec_kind name term node) c d) in
+    kind-append name (exec_kind name term node) a b ∙ (λ i. joined_number ((e i).key name) ((f i).key name) ((e i).execs name term node) ((f i).execs name term node)) ∙ sym (kind-append name (exec_kind name term node) c d) in
     let shifts : (name : List ℕ) (term from to : ℕ) → (fold (a ++ b)).shifts name term from to ≡ (fold (c ++ d)).shifts name term from to = λ name term from to.
-        kind-append name (shift_kind name term from to) a b ∙ (λ i. joined_number ((e i).key name) ((f i).key name) ((e i).shifts name term from to) ((f i).shifts name term from to)) ∙ sym (kind-append name (shift_kind name term from to) c d) in
+    kind-append name (shift_kind name term from to) a b ∙ (λ i. joined_number ((e i).key name) ((f i).key name) ((e i).shifts name term from to) ((f i).shifts name term from to)) ∙ sym (kind-append name (shift_kind name term from to) c d) in
     let named = names_union a b c d (ap (λ (v : State). v.names) e) (ap (λ (v : State). v.names) f) in
     λ i. record {
       names = named i;

@@ -5,5 +5,10 @@ pub mod StateOrder
 pub mod Knowledge
 pub mod Deltas
 pub mod Points
+pub mod Unions
 pub mod OpSets
+pub mod Slots
+pub mod SetOrder
+pub mod MatrixOrder
+pub mod MatrixStates
 pub mod Laws

@@ -24,6 +24,12 @@ is_hits (Hits node) = true
 is_hits (Execs term node) = false
 is_hits (Shifts term from to) = false
 
+-- the term of which something is counted
+abbrev pub term_of : Counted → Option ℕ
+term_of (Hits node) = None
+term_of (Execs term node) = Some term
+term_of (Shifts term from to) = Some term
+
 -- the greatest number of what is counted so, 0 where there is none
 abbrev pub number_of : List Count → Counted → ℕ
 number_of [] counted = 0

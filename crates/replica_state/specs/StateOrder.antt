@@ -1,5 +1,5 @@
 -- Which of two states knows at least as much.
-use Rattle.std.specs.Prelude.{◌≡◌, ◌≢◌, ℕ, ◌≤◌, true, List, ◌⊎◌, Option, Some, None}
+use Rattle.std.specs.Prelude.{◌≡◌, ◌≢◌, ℕ, ◌≤◌, true, List, ◌⊎◌, ◌↔◌, Option, Some, None}
 use Rattle.stamp_register.specs.Keys.{KeyValue, key_le}
 use Rattle.replica_state.specs.States.{State}
 
@@ -17,3 +17,7 @@ pub record IsBelowAt (v w : State) (name : List ℕ) : Type 0 where
 
 abbrev pub IsBelow : State → State → Type 0
 IsBelow v w = (name : List ℕ) → IsBelowAt v w name
+
+-- values are ordered as their states are
+abbrev pub OrdersByState : {R : Type 0} → (R → Type 0) → (R → R → Type 0) → (R → State) → Type 0
+OrdersByState {R} admitted order state = (v w : R) → admitted v → admitted w → (order v w ↔ IsBelow (state v) (state w))

@@ -4,13 +4,16 @@
 
 mod budget;
 pub mod laws;
+mod matrix;
 mod op;
 mod op_set;
 mod point;
 mod replica;
+mod slot;
 #[cfg(test)]
 mod tests;
 
+pub use matrix::Matrix;
 pub use op::Op;
 pub use op_set::OpSet;
 pub use replica::Replica;

@@ -1,26 +1,41 @@
 //! The plain replica.
 #![tactic(auto, unfolding(crate::specs::OpSets::state_of, crate::specs::OpSets::shown))]
 
-ghost use Rattle.std.specs.Prelude.{◌≡◌, ◌+◌, ◌<◌, ◌^◌, ℕ, List, [], ◌∷◌, length, option_map, Some, OnOk, OnErr};
+ghost use Rattle.std.specs.Prelude.{◌≡◌, ◌+◌, ◌<◌, ◌^◌, ◌↔◌, ℕ, List, [], ◌∷◌, ◌++◌, length, option_map, Some, IfOk, IsTrue, OnOk, OnErr};
 ghost use Rattle.std.specs.Option.{option_copied};
 ghost use Rattle.stamp_register.specs.Keys.{key_value};
+ghost use Rattle.lattice_laws.specs.Order.{IsCopy, IsJoin};
+ghost use Rattle.replica_state.specs.Operations.{Operation};
+ghost use Rattle.replica_state.specs.Folds.{fold};
 ghost use Rattle.replica_state.specs.States.{State, with_name, with_key, with_pass};
-ghost use Rattle.replica_state.specs.Points.{learned};
-ghost use Rattle.replica_state.specs.OpSets.{state_of, cell_of, held_at, with_held};
+ghost use Rattle.replica_state.specs.Points.{learned, held_of};
+ghost use Rattle.replica_state.specs.Unions.{both_held, union_of, IsHeldBelow};
+ghost use Rattle.replica_state.specs.OpSets.{state_of, cell_of, held_at, with_held, no_points, IsSet, IsSetBelow};
 
 use crate::op::Op;
 use crate::point::{Count, Counted, Point};
 use crate::replica::Replica;
 use actions::Name;
+use lattice_laws::Join;
 use stamp_register::Key;
 use std::alloc::{AllocError, Global};
 use std::collections::BTreeMap;
+use std::marker::Model;
 
 /// The plain replica: of each name it keeps the operations that no other has overtaken, and each
 /// reader looks through those.
 #[derive(Debug, Drop)]
 pub struct OpSet {
     points: BTreeMap<Name, Point>,
+}
+
+impl Model for OpSet {
+    ghost use Rattle.std.specs.Prelude.{ℕ, List};
+    ghost use Rattle.replica_state.specs.declared.point.Point.{Point};
+
+    ghost Value = { List (List ℕ × Point) };
+
+    ghost view = { λ s. s.points.entries };
 }
 
 impl OpSet {
@@ -53,12 +68,100 @@ impl OpSet {
         self.points.insert(name.copied(alloc)?, point)?;
         Ok(())
     }
+
+    // Learns all that is held of a name elsewhere.
+    fn take_point(&mut self, alloc: Global, name: &Name, other: &Point) -> Result<(), AllocError>
+        ensures { OnOk result (state_of self.new ≡ with_held name.now (both_held (held_at (state_of self.old) name.now) (held_of other.now)) (state_of self.old)) }
+    {
+        if let Some(point) = self.points.get_mut(name) {
+            return point.take_in(alloc, other);
+        }
+        let mut point = Point::empty(alloc);
+        point.take_in(alloc, other)?;
+        self.points.insert(name.copied(alloc)?, point)?;
+        Ok(())
+    }
+
+    // Learns all that the other set knows. After an error it may have learned a part.
+    fn take_in(&mut self, alloc: Global, other: &OpSet) -> Result<(), AllocError>
+        ensures { OnOk result (state_of self.new ≡ union_of (state_of self.old) (state_of other.now)) }
+    {
+        for (name, point) in other.points.iter() {
+            self.take_point(alloc, name, point)?;
+        }
+        Ok(())
+    }
+
+    // Whether it holds as much of a name as is held elsewhere.
+    fn is_above(&self, name: &Name, other: &Point) -> bool
+        ensures { IsTrue result ↔ IsHeldBelow (held_of other.now) (held_at (state_of self.now) name.now) }
+    {
+        match self.points.get(name) {
+            Some(point) => other.below(point),
+            None => other.is_nothing(),
+        }
+    }
+}
+
+impl Join for OpSet {
+    ghost use Rattle.replica_state.specs.OpSets.{no_points, IsSet, IsSetBelow};
+    ghost use Rattle.replica_state.specs.SetOrder.{set_order};
+
+    ghost admitted = { IsSet };
+
+    ghost order = { IsSetBelow };
+
+    ghost bottom = { no_points };
+
+    ghost laws = { set_order };
+
+    /// The set that knows what either knows: its state is that of their operations together.
+    fn joined(&self, alloc: Global, other: &OpSet) -> Result<OpSet, AllocError>
+        ensures join { IfOk result (IsJoin IsSet IsSetBelow self.now other.now) }
+        ensures union { IfOk result (λ both. (a b : List Operation) → state_of self.now ≡ fold a → state_of other.now ≡ fold b → state_of both ≡ fold (a ++ b)) }
+    {
+        let mut both = self.copied(alloc)?;
+        both.take_in(alloc, other)?;
+        Ok(both)
+    }
+
+    fn below(&self, other: &OpSet) -> bool {
+        for (name, point) in self.points.iter() {
+            if !other.is_above(name, point) {
+                return false;
+            }
+        }
+        true
+    }
+
+    fn is_bottom(&self) -> bool {
+        for (_, point) in self.points.iter() {
+            if !point.is_nothing() {
+                return false;
+            }
+        }
+        true
+    }
+
+    /// The copy has the same state.
+    fn copied(&self, alloc: Global) -> Result<OpSet, AllocError>
+        ensures copy { IfOk result (IsCopy IsSet IsSetBelow self.now) }
+        ensures state { IfOk result (λ copy. state_of copy ≡ state_of self.now) }
+    {
+        // What `len` promises puts the names in order.
+        let _ = self.points.len();
+        let mut copy = OpSet::empty(alloc);
+        copy.take_in(alloc, self)?;
+        Ok(copy)
+    }
 }
 
 impl Replica for OpSet {
     ghost use Rattle.replica_state.specs.OpSets.{state_of};
 
     ghost state = { state_of };
+
+    ghost ordered = { λ v w _ _. (λ below. below, λ below. below) };
 
     fn empty(alloc: Global) -> OpSet {
         OpSet {
@@ -88,10 +191,10 @@ impl Replica for OpSet {
         node: u8,
         spent: Option<u8>,
     ) -> Result<(), AllocError> {
-        match self.points.get_mut(name) {
-            Some(point) => point.pass(node, spent),
-            None => Ok(()),
+        if let Some(point) = self.points.get_mut(name) {
+            return point.pass(node, spent);
         }
+        Ok(())
     }
 
     fn key(&self, name: &Name) -> Option<&Key> {

@@ -1,12 +1,14 @@
 //! What the plain replica holds of one name.
 
-ghost use Rattle.std.specs.Prelude.{◌≡◌, ◌+◌, ◌-◌, ◌<◌, ◌≤◌, ◌^◌, ◌*◌, ℕ, List, filter, length, vec_len, vec_capacity, position, option_map, Some, None, OnOk, OnErr, IsSome, pos};
+ghost use Rattle.std.specs.Prelude.{◌≡◌, ◌+◌, ◌-◌, ◌<◌, ◌≤◌, ◌^◌, ◌*◌, ◌↔◌, ◌||◌, ℕ, List, max, nat_le, not, filter, length, vec_len, vec_capacity, position, option_map, Some, None, OnOk, OnErr, IsSome, IsTrue, pos};
+ghost use Rattle.std.specs.List.{list_all};
 ghost use Rattle.std.specs.Option.{option_copied};
 ghost use Rattle.std.specs.Option.{option_map_or};
 ghost use Rattle.counters.specs.Sums.{numbers, sum_below};
 ghost use Rattle.counters.specs.Budgets.{rights, total_spent};
 ghost use Rattle.stamp_register.specs.Keys.{key_value};
-ghost use Rattle.replica_state.specs.Points.{same_counted, is_hits, number_of, raised, fresh, budget_under, nothing, held_of, standing, learned, passed};
+ghost use Rattle.replica_state.specs.Points.{same_counted, is_hits, term_of, number_of, raised, fresh, budget_under, nothing, held_of, standing, learned, passed};
+ghost use Rattle.replica_state.specs.Unions.{both_held, if_counts, IsHeldBelow};
 ghost use Rattle.replica_state.specs.declared.point.Counted.{Counted};
 ghost use Rattle.replica_state.specs.declared.point.Counted.TheVariants.{Hits, Execs};
 
@@ -71,6 +73,17 @@ impl Counted {
         }
     }
 
+    /// The term of which something is counted, if it is.
+    pub(crate) fn term(self) -> Option<u8>
+        ensures { result ≡ term_of self }
+    {
+        match self {
+            Counted::Hits { .. } => None,
+            Counted::Execs { term, .. } => Some(term),
+            Counted::Shifts { term, .. } => Some(term),
+        }
+    }
+
     fn is_hits(self) -> bool
         ensures { result ≡ is_hits self }
     {
@@ -78,6 +91,13 @@ impl Counted {
             Counted::Hits { .. } => true,
             _ => false,
         }
+    }
+
+    // Whether it counts under the same key or another one: hits go on, and the rest doesn't.
+    fn counts_under(self, same_key: bool) -> bool
+        ensures { result ≡ (same_key || is_hits self) }
+    {
+        same_key || self.is_hits()
     }
 }
 
@@ -136,6 +156,14 @@ fn keep_hits(counts: &mut Vec<Count>)
     ensures capacity { vec_capacity counts.new ≡ vec_capacity counts.old }
 {
     counts.retain(|c| c.counted.is_hits());
+}
+
+// Whether no number is greater than the other's. Under another key only hits are compared.
+fn all_below(counts: &[Count], others: &[Count], same_key: bool) -> bool
+    ensures { result ≡ list_all (λ c. not (same_key || is_hits c.counted) || nat_le c.number (number_of others.now c.counted)) counts.now }
+{
+    counts.iter().all(|c| !c.counted.counts_under(same_key)
+        || c.number <= number_of(others, c.counted))
 }
 
 impl Point {
@@ -288,5 +316,65 @@ impl Point {
         raise(&mut self.counts, hits);
         put(&mut self.counts, execs);
         Ok(())
+    }
+
+    // Learns counts of another point. Under another key only hits count here.
+    fn count_all(&mut self, counts: &[Count], same_key: bool) -> Result<(), AllocError>
+        ensures key { OnOk result (self.new.key ≡ self.old.key) }
+        ensures ok { OnOk result ((c : Counted) → number_of self.new.counts.items c ≡ max (number_of self.old.counts.items c) (if_counts same_key c (number_of counts.now c))) }
+    {
+        for count in counts {
+            if count.counted.counts_under(same_key) {
+                self.count(Some(*count))?;
+            }
+        }
+        Ok(())
+    }
+
+    /// Learns all that another point holds. After an error it may have learned a part.
+    pub(crate) fn take_in(&mut self, alloc: Global, other: &Point) -> Result<(), AllocError>
+        ensures { OnOk result (held_of self.new ≡ both_held (held_of self.old) (held_of other.now)) }
+    {
+        match &other.key {
+            None => match &self.key {
+                None => self.count_all(&other.counts, true),
+                Some(_) => self.count_all(&other.counts, false),
+            },
+            Some(key) => match self.standing(key) {
+                Ordering::Less => self.count_all(&other.counts, false),
+                Ordering::Equal => self.count_all(&other.counts, true),
+                Ordering::Greater => {
+                    self.take(key.copied(alloc)?);
+                    self.count_all(&other.counts, true)
+                }
+            },
+        }
+    }
+
+    /// Whether another point holds as much or more.
+    pub(crate) fn below(&self, other: &Point) -> bool
+        ensures { IsTrue result ↔ IsHeldBelow (held_of self.now) (held_of other.now) }
+    {
+        match &self.key {
+            None => match &other.key {
+                None => all_below(&self.counts, &other.counts, true),
+                Some(_) => all_below(&self.counts, &other.counts, false),
+            },
+            Some(key) => match other.standing(key) {
+                Ordering::Less => all_below(&self.counts, &other.counts, false),
+                Ordering::Equal => all_below(&self.counts, &other.counts, true),
+                Ordering::Greater => false,
+            },
+        }
+    }
+
+    /// Whether it says nothing of its name: no key, and no number above 0.
+    pub(crate) fn is_nothing(&self) -> bool
+        ensures { IsTrue result ↔ IsHeldBelow (held_of self.now) nothing }
+    {
+        match &self.key {
+            None => all_below(&self.counts, &[], true),
+            Some(_) => false,
+        }
     }
 }

@@ -6,15 +6,17 @@ ghost use Rattle.stamp_register.specs.Keys.{key_value};
 ghost use Rattle.replica_state.specs.Operations.{Operation, operation, IsWellFormed};
 ghost use Rattle.replica_state.specs.States.{State, with_name, with_key, with_pass, total_hits, rights_of, spent_of};
 ghost use Rattle.replica_state.specs.Folds.{fold};
+ghost use Rattle.replica_state.specs.StateOrder.{OrdersByState};
 
 use crate::op::Op;
 use actions::Name;
+use lattice_laws::Join;
 use stamp_register::Key;
 use std::alloc::{AllocError, Global};
 
 /// A replica of the cluster's points: it stands for the state that a set of operations comes to.
-/// What isn't there reads 0.
-pub trait Replica {
+/// What isn't there reads 0. Replicas are joined as the values that their states mean.
+pub trait Replica: Join {
     ghost state: { Self → State };
 
     /// The replica that knows nothing.
@@ -89,4 +91,7 @@ pub trait Replica {
     /// The name at a place, in byte order.
     fn name_at(&self, index: usize) -> Option<&Name>
         ensures { option_copied result ≡ slice_get (state self.now).names index };
+
+    /// One value is below another where its state knows no more.
+    ghost ordered: { OrdersByState Self.admitted Self.order state };
 }

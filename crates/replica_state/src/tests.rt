@@ -2,9 +2,14 @@ ghost use Rattle.std.specs.Prelude.{◌≡◌, ◌+◌, ◌<◌, ◌≤◌, ◌^
 ghost use Rattle.replica_state.specs.Operations.{operation, IsWellFormed};
 ghost use Rattle.replica_state.specs.OpSets.{state_of};
 
+mod counted;
+mod joins;
+mod mixed;
+mod steps;
+
 use super::*;
 use crate::budget::count_of;
-use actions::{Name, parse_actions};
+use actions::{ActionFault, Name, NameFault, parse_actions};
 use stamp_register::{Body, Key};
 use std::alloc::Global;
 use std::process::Abort;
@@ -22,22 +27,22 @@ struct Seen {
     names: (usize, usize),
 }
 
-fn clock_of(set: &OpSet, name: &Name) -> u64 {
-    match set.key(name) {
+fn clock_of<R: Replica>(replica: &R, name: &Name) -> u64 {
+    match replica.key(name) {
         Some(key) => key.clock,
         None => 0,
     }
 }
 
-fn answers(set: &OpSet, name: &Name) -> Seen {
+fn answers<R: Replica>(replica: &R, name: &Name) -> Seen {
     Seen {
-        clock: clock_of(set, name),
-        hits: (set.hits(name, 0), set.hits(name, 1)),
-        execs: (set.exec(name, 0, 0), set.exec(name, 0, 1)),
-        moved: (set.moved(name, 0, 0, 1), set.moved(name, 0, 1, 0)),
-        rights: (set.rights(name, 0, 0), set.rights(name, 0, 1)),
-        sums: (set.total_hits(name), set.spent(name, 0)),
-        names: (set.names(), set.names_with(name)),
+        clock: clock_of(replica, name),
+        hits: (replica.hits(name, 0), replica.hits(name, 1)),
+        execs: (replica.exec(name, 0, 0), replica.exec(name, 0, 1)),
+        moved: (replica.moved(name, 0, 0, 1), replica.moved(name, 0, 1, 0)),
+        rights: (replica.rights(name, 0, 0), replica.rights(name, 0, 1)),
+        sums: (replica.total_hits(name), replica.spent(name, 0)),
+        names: (replica.names(), replica.names_with(name)),
     }
 }
 
@@ -64,11 +69,17 @@ fn wanted(
 }
 
 fn name(alloc: Global, text: &str) -> Result<Name, Fail> {
-    Ok(Name::parse(alloc, text).ok().ok_or("no name")?)
+    match Name::parse(alloc, text) {
+        Err(NameFault::OutOfMemory) => Ok(Name::parse(alloc, text)?),
+        first => Ok(first?),
+    }
 }
 
 fn key(alloc: Global, clock: u64, node: u8, text: &str) -> Result<Key, Fail> {
-    let actions = parse_actions(alloc, text).ok().ok_or("no actions")?;
+    let actions = match parse_actions(alloc, text) {
+        Err(ActionFault::OutOfMemory) => parse_actions(alloc, text)?,
+        first => first?,
+    };
     Ok(Key {
         clock,
         node,
@@ -76,34 +87,48 @@ fn key(alloc: Global, clock: u64, node: u8, text: &str) -> Result<Key, Fail> {
     })
 }
 
-/// An operation of the name `a` and its first term; a key is its clock, its node and its text.
+/// An operation of a term of a name; a key is its clock, its node and its text.
 #[derive(Clone, Copy)]
 enum Step {
     Set(u64, u8, &'static str),
+    Remove(u64, u8),
     Hit(u8, u64),
     Exec(u64, u8, &'static str, u8, u64),
     Shift(u64, u8, &'static str, u8, u8, u64),
 }
 
+/// The operation of the name `a` and its first term.
 fn op_of(alloc: Global, step: Step) -> Result<Op, Fail> {
-    let name = name(alloc, "a")?;
+    op_on(alloc, "a", 0, step)
+}
+
+fn op_on(alloc: Global, text: &str, term: u8, step: Step) -> Result<Op, Fail> {
+    let name = name(alloc, text)?;
     Ok(match step {
         Step::Set(clock, node, text) => Op::Set {
             name,
             key: key(alloc, clock, node, text)?,
         },
+        Step::Remove(clock, node) => Op::Set {
+            name,
+            key: Key {
+                clock,
+                node,
+                body: Body::Removed,
+            },
+        },
         Step::Hit(node, number) => Op::Hit { name, node, number },
         Step::Exec(clock, setter, text, node, number) => Op::Exec {
             name,
             key: key(alloc, clock, setter, text)?,
-            term: 0,
+            term,
             node,
             number,
         },
         Step::Shift(clock, setter, text, from, to, total) => Op::Shift {
             name,
             key: key(alloc, clock, setter, text)?,
-            term: 0,
+            term,
             from,
             to,
             total,
@@ -135,73 +160,14 @@ fn is_well_formed(op: &Op) -> bool
 }
 
 /// Learns an operation. If its memory is refused, nothing may have changed, and it is asked again.
-fn add(rt: &impl Abort, alloc: Global, set: &mut OpSet, name: &Name, op: &Op) {
+fn add<R: Replica>(rt: &impl Abort, alloc: Global, replica: &mut R, name: &Name, op: &Op) {
     let fits = is_well_formed(op);
     assert!(rt; fits);
-    let before = answers(set, name);
-    if set.add(alloc, op).is_err() {
-        assert_eq!(rt; answers(set, name), before);
-        assert!(rt; set.add(alloc, op).is_ok());
+    let before = answers(replica, name);
+    if replica.add(alloc, op).is_err() {
+        assert_eq!(rt; answers(replica, name), before);
+        assert!(rt; replica.add(alloc, op).is_ok());
     }
-}
-
-fn follow(rt: &impl Abort, alloc: Global, steps: &[(Step, Seen)]) -> Result<(), Fail> {
-    let name = name(alloc, "a")?;
-    let mut set = OpSet::empty(alloc);
-    for (step, want) in steps {
-        let op = op_of(alloc, *step)?;
-        add(rt, alloc, &mut set, &name, &op);
-        assert_eq!(rt; answers(&set, &name), *want);
-    }
-    Ok(())
-}
-
-/// A spend at node 1 is known before the shift that pays for it, and knowing it twice is knowing
-/// it once.
-#[test]
-fn spend_before_shift(rt: HostRuntime) -> Result<(), Fail> {
-    let exec = Step::Exec(1, 0, "2*off", 1, 1);
-    let shift = Step::Shift(1, 0, "2*off", 0, 1, 1);
-    let spent = wanted(1, (0, 0), (0, 1), (0, 0), (2, -1));
-    let paid = wanted(1, (0, 0), (0, 1), (1, 0), (1, 0));
-    let steps = [
-        (
-            Step::Set(1, 0, "2*off"),
-            wanted(1, (0, 0), (0, 0), (0, 0), (2, 0)),
-        ),
-        (exec, spent),
-        (exec, spent),
-        (shift, paid),
-        (exec, paid),
-        (shift, paid),
-    ];
-    follow(&rt, rt.alloc(), &steps)
-}
-
-/// A greater key drops the executions and the shifts of the one before it, and keeps the hits; a
-/// smaller one changes nothing, and one that comes with an execution is taken. Of one clock and
-/// one node the greater text holds.
-#[test]
-fn overtaken_key(rt: HostRuntime) -> Result<(), Fail> {
-    let taken = wanted(5, (0, 7), (0, 2), (2, 0), (1, 0));
-    let steps = [
-        (Step::Hit(1, 7), wanted(0, (0, 7), (0, 0), (0, 0), (0, 0))),
-        (
-            Step::Exec(5, 0, "3*off", 1, 2),
-            wanted(5, (0, 7), (0, 2), (0, 0), (3, -2)),
-        ),
-        (Step::Shift(5, 0, "3*off", 0, 1, 2), taken),
-        (Step::Exec(5, 0, "3*off", 1, 1), taken),
-        (Step::Hit(1, 6), taken),
-        (Step::Set(4, 9, "9*off"), taken),
-        (Step::Exec(4, 9, "9*off", 1, 9), taken),
-        (Step::Shift(5, 0, "2*off", 0, 1, 9), taken),
-        (
-            Step::Set(5, 0, "4*off"),
-            wanted(5, (0, 7), (0, 0), (0, 0), (4, 0)),
-        ),
-    ];
-    follow(&rt, rt.alloc(), &steps)
 }
 
 /// Counts a pass, and says whether it did.
@@ -274,22 +240,26 @@ fn fresh(alloc: Global, name: &Name) -> Result<OpSet, Fail>
     Ok(set)
 }
 
+fn order_of_names<R: Replica>(rt: &impl Abort, alloc: Global) -> Result<(), Fail> {
+    let mut replica = R::empty(alloc);
+    for text in ["b", "a", "b", "c"] {
+        replica.set_key(alloc, name(alloc, text)?, key(alloc, 1, 0, "off")?)?;
+    }
+    assert_eq!(rt; replica.names(), 3);
+    for (index, want) in ["a", "b", "c"].iter().enumerate() {
+        let at = replica.name_at(index).ok_or("no name")?;
+        assert_eq!(rt; at.text(), *want);
+        assert_eq!(rt; replica.names_with(at), 3);
+    }
+    assert!(rt; replica.name_at(3).is_none());
+    Ok(())
+}
+
 /// Names stand in byte order, each once.
 #[test]
 fn names_in_order(rt: HostRuntime) -> Result<(), Fail> {
-    let alloc = rt.alloc();
-    let mut set = OpSet::empty(alloc);
-    for text in ["b", "a", "b", "c"] {
-        set.set_key(alloc, name(alloc, text)?, key(alloc, 1, 0, "off")?)?;
-    }
-    assert_eq!(rt; set.names(), 3);
-    for (index, want) in ["a", "b", "c"].iter().enumerate() {
-        let at = set.name_at(index).ok_or("no name")?;
-        assert_eq!(rt; at.text(), *want);
-        assert_eq!(rt; set.names_with(at), 3);
-    }
-    assert!(rt; set.name_at(3).is_none());
-    Ok(())
+    order_of_names::<OpSet>(&rt, rt.alloc())?;
+    order_of_names::<Matrix>(&rt, rt.alloc())
 }
 
 /// Four passes, and a key after them.

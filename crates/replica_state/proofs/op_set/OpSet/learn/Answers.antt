@@ -13,16 +13,16 @@ use Rattle.replica_state.proofs.op_set.OpSet.learn.Goals as goal
 
 pub returns-in-Some-clause-ok : goal.returns-in-Some-clause-ok
 unfolding state_of
-returns-in-Some-clause-ok c = on_ok c.learn.result (lent_step c.args.self.now.points c.get_mut.follows.lender c.args.name.now c.in-Some.point.now _ c.get_mut.follows.holds c.get_mut.ensures.ordered (sym c.in-Some.ensures.value) (learned _ c.args.count)) c.learn.ensures.ok
+returns-in-Some-clause-ok c = rw (← c.self.view_is) (on_ok c.learn.result (lent_step c.self.inside.points c.get_mut.follows.lender c.args.name.now c.in-Some.point.now _ c.get_mut.follows.holds c.get_mut.ensures.ordered (sym c.in-Some.ensures.value) (learned _ c.args.count)) c.learn.ensures.ok)
 
 pub returns-in-Some-clause-err : goal.returns-in-Some-clause-err
 unfolding state_of
-returns-in-Some-clause-err c = on_err c.learn.result (kept_step c.args.self.now.points c.get_mut.follows.lender c.args.name.now c.in-Some.point.now _ c.get_mut.follows.holds c.get_mut.ensures.ordered (sym c.in-Some.ensures.value)) c.learn.ensures.err
+returns-in-Some-clause-err c = rw (← c.self.view_is) (on_err c.learn.result (kept_step c.self.inside.points c.get_mut.follows.lender c.args.name.now c.in-Some.point.now _ c.get_mut.follows.holds c.get_mut.ensures.ordered (sym c.in-Some.ensures.value)) c.learn.ensures.err)
 
 pub returns-clause-ok : goal.returns-clause-ok
 unfolding state_of
 returns-clause-ok c =
     let none = c.get_mut.follows.holds-at-none in
     let told = learned (option_map key_value (option_copied c.args.key)) c.args.count in
-    added_step c.get_mut.follows.lender-at-none c.insert.new.self c.args.name.now c.learn-2.new.self (c.in_ok-insert.ensures.entries ∙ ap (λ n. insert_entry (slice_cmp nat_cmp) c.get_mut.follows.lender-at-none.entries n c.learn-2.new.self) c.in_ok-copied.ensures) (λ q. c.in_ok-insert.ensures.updates.0 q ∙ ap (λ n. cond (is_at (slice_cmp nat_cmp n) q) (Some c.learn-2.new.self) (point_at c.get_mut.follows.lender-at-none.entries q)) c.in_ok-copied.ensures) (ap (λ (m : BTreeMap (List ℕ) Point). point_at m.entries c.args.name.now) none ∙ sym c.in_default.ensures.value) told (c.in_ok-learn.ensures.ok ∙ ap told c.empty-point.ensures) ∙
-    ap (λ (m : BTreeMap (List ℕ) Point). with_held c.args.name.now (told (held_at (shown m.entries) c.args.name.now)) (shown m.entries)) none
+    rw (← c.self.view_is) (added_step c.get_mut.follows.lender-at-none c.insert.new.self c.args.name.now c.learn-2.new.self (c.in_ok-insert.ensures.entries ∙ ap (λ n. insert_entry (slice_cmp nat_cmp) c.get_mut.follows.lender-at-none.entries n c.learn-2.new.self) c.in_ok-copied.ensures) (λ q. c.in_ok-insert.ensures.updates.0 q ∙ ap (λ n. cond (is_at (slice_cmp nat_cmp n) q) (Some c.learn-2.new.self) (point_at c.get_mut.follows.lender-at-none.entries q)) c.in_ok-copied.ensures) (ap (λ (m : BTreeMap (List ℕ) Point). point_at m.entries c.args.name.now) none ∙ sym c.in_default.ensures.value) told (c.in_ok-learn.ensures.ok ∙ ap told c.empty-point.ensures) ∙
+    ap (λ (m : BTreeMap (List ℕ) Point). with_held c.args.name.now (told (held_at (shown m.entries) c.args.name.now)) (shown m.entries)) none)

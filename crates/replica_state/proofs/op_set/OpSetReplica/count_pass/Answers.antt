@@ -9,12 +9,12 @@ use Rattle.replica_state.proofs.op_set.OpSetReplica.count_pass.Goals as goal
 
 pub pass-requires-clause-execs : goal.pass-requires-clause-execs
 unfolding state_of shown
-pass-requires-clause-execs c = λ term. subst (λ (o : Option Point). number_at o (Execs term c.args.node) + 1 < 2 ^ 64) (sym c.in-Some.ensures.value) (c.requires.execs term)
+pass-requires-clause-execs c = λ term. subst (λ (o : Option Point). number_at o (Execs term c.args.node) + 1 < 2 ^ 64) (sym c.in-Some.ensures.value) (rw c.self.view_is (c.requires.execs term))
 
 pub returns-in-Some-clause-ok : goal.returns-in-Some-clause-ok
 unfolding state_of shown
-returns-in-Some-clause-ok c = on_ok c.pass.result (λ h. lent_step c.args.self.now.points c.get_mut.follows.lender c.args.name.now c.in-Some.point.now _ c.get_mut.follows.holds c.get_mut.ensures.ordered (sym c.in-Some.ensures.value) (passed c.args.node c.args.spent) h ∙ pass_seen c.args.name.now c.args.node c.args.spent (shown c.args.self.now.points.entries) (names_kept c.args.self.now.points.entries c.args.name.now c.in-Some.point.now c.get_mut.ensures.ordered (sym c.in-Some.ensures.value))) c.pass.ensures.ok
+returns-in-Some-clause-ok c = rw (← c.self.view_is) (on_ok c.pass.result (λ h. lent_step c.self.inside.points c.get_mut.follows.lender c.args.name.now c.in-Some.point.now _ c.get_mut.follows.holds c.get_mut.ensures.ordered (sym c.in-Some.ensures.value) (passed c.args.node c.args.spent) h ∙ pass_seen c.args.name.now c.args.node c.args.spent (shown c.self.inside.points.entries) (names_kept c.self.inside.points.entries c.args.name.now c.in-Some.point.now c.get_mut.ensures.ordered (sym c.in-Some.ensures.value))) c.pass.ensures.ok)
 
 pub returns-in-Some-clause-err : goal.returns-in-Some-clause-err
 unfolding state_of
-returns-in-Some-clause-err c = on_err c.pass.result (kept_step c.args.self.now.points c.get_mut.follows.lender c.args.name.now c.in-Some.point.now _ c.get_mut.follows.holds c.get_mut.ensures.ordered (sym c.in-Some.ensures.value)) c.pass.ensures.err
+returns-in-Some-clause-err c = rw (← c.self.view_is) (on_err c.pass.result (kept_step c.self.inside.points c.get_mut.follows.lender c.args.name.now c.in-Some.point.now _ c.get_mut.follows.holds c.get_mut.ensures.ordered (sym c.in-Some.ensures.value)) c.pass.ensures.err)

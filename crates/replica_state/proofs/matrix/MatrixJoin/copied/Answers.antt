@@ -1,0 +1,5 @@
+use Rattle.replica_state.proofs.MatrixJoins.{matrix_copied}
+use Rattle.replica_state.proofs.matrix.MatrixJoin.copied.Goals as goal
+
+pub returns-clause-state : goal.returns-clause-state
+returns-clause-state c = matrix_copied c.args.self.now (record { slots = c.in_ok-slots.slots }) c.in_ok-slots.ensures

@@ -1,0 +1,86 @@
+-- What a matrix shows: of each name, in byte order, the cells that are stored of it.
+use Rattle.std.specs.Prelude.{◌≡◌, ℕ, ◌≤◌, max, List, [], Option, Some, None, option_map}
+use Rattle.std.specs.Map.{keys_of}
+use Rattle.std.specs.Ordering.{nat_cmp}
+use Rattle.std.specs.Cmp.Lexicographic.{slice_cmp}
+use Rattle.lattice_laws.specs.Map.{value_at}
+use Rattle.lattice_laws.specs.Pair.{pair_of}
+use Rattle.lattice_laws.specs.declared.pair.PairOf.{PairOf}
+use Rattle.counters.specs.Cells.{Cells, Shares, cell, spent_cell, moved_cell, no_shares, WritesSpent, WritesMoved}
+use Rattle.stamp_register.specs.declared.key.Key.{Key}
+use Rattle.stamp_register.specs.Keys.{KeyValue, key_value}
+use Rattle.replica_state.specs.declared.point.Counted.{Counted}
+use Rattle.replica_state.specs.declared.point.Counted.TheVariants.{Hits, Execs, Shifts}
+use Rattle.replica_state.specs.declared.point.Count.{Count}
+use Rattle.replica_state.specs.declared.matrix.Matrix.{Matrix}
+use Rattle.replica_state.specs.States.{State}
+use Rattle.replica_state.specs.Points.{Held}
+
+-- the budgets of a key's terms
+abbrev pub Budgets : Type 0
+Budgets = List (ℕ × Shares)
+
+-- of one name its key with the budgets of its terms, if there is a key, and its hits
+abbrev pub Slot : Type 0
+Slot = PairOf (Option (Key × Budgets)) Cells
+
+abbrev pub no_slot : Slot
+no_slot = pair_of None []
+
+abbrev pub slot_key : Slot → Option KeyValue
+slot_key slot = option_map (λ p. key_value p.0) slot.first
+
+-- what a budget counts of its own term
+abbrev pub share_number : Shares → Counted → ℕ
+share_number shares (Hits node) = 0
+share_number shares (Execs term node) = spent_cell shares node
+share_number shares (Shifts term from to) = moved_cell shares from to
+
+-- what the budgets count, each of its own term
+abbrev pub budgets_number : Budgets → Counted → ℕ
+budgets_number budgets (Hits node) = 0
+budgets_number budgets (Execs term node) = share_number (value_at nat_cmp no_shares budgets term) (Execs term node)
+budgets_number budgets (Shifts term from to) = share_number (value_at nat_cmp no_shares budgets term) (Shifts term from to)
+
+abbrev pub under_key : Option (Key × Budgets) → Counted → ℕ
+under_key None counted = 0
+under_key (Some held) counted = budgets_number held.1 counted
+
+-- the number of what is counted so, 0 under no key
+abbrev pub slot_number : Slot → Counted → ℕ
+slot_number slot (Hits node) = cell slot.second node
+slot_number slot (Execs term node) = under_key slot.first (Execs term node)
+slot_number slot (Shifts term from to) = under_key slot.first (Shifts term from to)
+
+unfoldable pub slot_held : Slot → Held
+slot_held slot = record { key = slot_key slot; number = slot_number slot }
+
+-- what is stored of a name
+abbrev pub slot_at : List (List ℕ × Slot) → List ℕ → Slot
+slot_at slots name = value_at (slice_cmp nat_cmp) no_slot slots name
+
+unfoldable pub shown_slots : List (List ℕ × Slot) → State
+shown_slots slots =
+    record {
+      names = keys_of slots;
+      key = λ name. slot_key (slot_at slots name);
+      hits = λ name node. slot_number (slot_at slots name) (Hits node);
+      execs = λ name term node. slot_number (slot_at slots name) (Execs term node);
+      shifts = λ name term from to. slot_number (slot_at slots name) (Shifts term from to);
+    }
+
+-- a budget in which what is counted so is at least this number, and all else is as it was
+abbrev pub IsShareRaised : Shares → Shares → Counted → ℕ → Type 0
+IsShareRaised old new (Hits node) number = new ≡ old
+IsShareRaised old new (Execs term node) number = WritesSpent old new node (max (spent_cell old node) number)
+IsShareRaised old new (Shifts term from to) number = WritesMoved old new from to (max (moved_cell old from to) number)
+
+-- the state of a matrix
+unfoldable pub matrix_state : Matrix → State
+matrix_state matrix = shown_slots matrix.slots
+
+-- an operation with this key or none, and this count or none, says something of its name
+abbrev pub IsTold : Option KeyValue → Option Count → Type 0
+IsTold (Some key) told = Unit {0}
+IsTold None None = ⊥
+IsTold None (Some count) = 1 ≤ count.number

@@ -1,0 +1,275 @@
+//! What a matrix stores of one name.
+
+ghost use Rattle.std.specs.Prelude.{◌≡◌, ◌+◌, ◌<◌, ◌^◌, ℕ, option_map, is_none, Some, None, OnOk, OnErr, IfOk, IfNone, IfSome, IsSome, pos, false};
+ghost use Rattle.std.specs.Option.{option_copied, option_map_or};
+ghost use Rattle.counters.specs.Sums.{numbers, sum_below};
+ghost use Rattle.counters.specs.Budgets.{rights, total_spent};
+ghost use Rattle.stamp_register.specs.Keys.{key_value};
+ghost use Rattle.replica_state.specs.Points.{is_hits, term_of, raised, budget_under, nothing, standing, learned, taken, passed};
+ghost use Rattle.replica_state.specs.Slots.{IsShareRaised, slot_held, slot_key, slot_number, share_number, budgets_number};
+ghost use Rattle.replica_state.specs.declared.point.Counted.{Counted};
+ghost use Rattle.replica_state.specs.declared.point.Counted.TheVariants.{Hits, Execs};
+
+use crate::budget::count_of;
+use crate::point::{Count, Counted};
+use counters::{Budget, HitCounter};
+use lattice_laws::{Join, LexOf, MapOf, PairOf};
+use stamp_register::Key;
+use std::alloc::{AllocError, Global};
+use std::cmp::Ordering;
+
+/// The budgets of a key's terms.
+pub(crate) type Budgets = MapOf<u8, Budget>;
+
+/// A key with the budgets of its terms, and hits, which belong to no key.
+pub(crate) type Slot = PairOf<LexOf<Key, Budgets>, HitCounter>;
+
+/// What is stored of a name of which nothing is known.
+pub(crate) fn empty(alloc: Global) -> Slot
+    ensures { slot_held result ≡ nothing }
+{
+    PairOf {
+        first: LexOf::nothing(),
+        second: HitCounter::new(alloc),
+    }
+}
+
+/// The key, if there is one.
+pub(crate) fn key(slot: &Slot) -> Option<&Key>
+    ensures { option_map key_value (option_copied result) ≡ slot_key slot.now }
+{
+    let (key, _) = slot.first.held()?;
+    Some(key)
+}
+
+// The budget of a term under the key, where anything of it was spent or moved.
+fn budget(slot: &Slot, term: u8) -> Option<&Budget>
+    ensures some { IfSome result (λ b. (c : Counted) → term_of c ≡ Some term → slot_number slot.now c ≡ share_number b.now c) }
+    ensures none { IfNone result ((c : Counted) → term_of c ≡ Some term → slot_number slot.now c ≡ 0) }
+{
+    let (_, budgets) = slot.first.held()?;
+    budgets.get(&term)
+}
+
+/// The number of what is counted so.
+pub(crate) fn number(slot: &Slot, counted: Counted) -> u64
+    ensures { result ≡ slot_number slot.now counted }
+{
+    match counted {
+        Counted::Hits { node } => slot.second.of(node),
+        Counted::Execs { term, node } => match budget(slot, term) {
+            Some(budget) => budget.spent(node),
+            None => 0,
+        },
+        Counted::Shifts { term, from, to } => match budget(slot, term) {
+            Some(budget) => budget.moved(from, to),
+            None => 0,
+        },
+    }
+}
+
+/// The hits at all nodes.
+pub(crate) fn total_hits(slot: &Slot) -> u128
+    ensures { result ≡ sum_below numbers (λ node. slot_number slot.now (Hits node)) }
+{
+    slot.second.total()
+}
+
+/// The rights of a node to execute a term, 0 where it isn't counted.
+pub(crate) fn rights(slot: &Slot, term: u8, node: u8) -> i128
+    ensures { result ≡ option_map_or (λ b. rights b node) (budget_under (slot_key slot.now) (slot_number slot.now) term) (pos 0) }
+{
+    let Some((key, budgets)) = slot.first.held() else {
+        return 0;
+    };
+    let Some(count) = count_of(key, term) else {
+        return 0;
+    };
+    match budgets.get(&term) {
+        Some(budget) => budget.rights(key.node, count, node),
+        None if node == key.node => i128::from(count),
+        None => 0,
+    }
+}
+
+/// The executions of a term at all nodes, 0 where it isn't counted.
+pub(crate) fn spent(slot: &Slot, term: u8) -> u128
+    ensures { result ≡ option_map_or total_spent (budget_under (slot_key slot.now) (slot_number slot.now) term) 0 }
+{
+    let Some((key, budgets)) = slot.first.held() else {
+        return 0;
+    };
+    let Some(_) = count_of(key, term) else {
+        return 0;
+    };
+    match budgets.get(&term) {
+        Some(budget) => budget.total_spent(),
+        None => 0,
+    }
+}
+
+/// Takes a key, of which nothing is counted yet; hits go on.
+pub(crate) fn take(slot: &mut Slot, alloc: Global, key: Key)
+    ensures { slot_held slot.new ≡ taken (key_value key) (slot_held slot.old) }
+{
+    slot.first = LexOf::of(key, MapOf::new(alloc));
+}
+
+// How a key stands to the one that is held. Where none is, each is greater.
+fn standing(slot: &Slot, key: &Key) -> Ordering
+    ensures { result ≡ standing (key_value key.now) (slot_key slot.now) }
+{
+    match slot.first.held() {
+        Some((held, _)) => key.cmp(held),
+        None => Ordering::Greater,
+    }
+}
+
+// Raises what is counted of a budget's own term.
+fn raise_share(budget: &mut Budget, alloc: Global, count: Count) -> Result<(), AllocError>
+    ensures ok { OnOk result (IsShareRaised budget.old budget.new count.counted count.number) }
+    ensures err { OnErr result (budget.new ≡ budget.old) }
+    ensures absent { OnErr result (share_number budget.old count.counted ≡ 0) }
+{
+    match count.counted {
+        Counted::Hits { .. } => Ok(()),
+        Counted::Execs { node, .. } => budget.raise_spent(alloc, node, count.number),
+        Counted::Shifts { from, to, .. } => budget.raise_moved(alloc, from, to, count.number),
+    }
+}
+
+// Raises what is counted of a term.
+fn raise_term(
+    budgets: &mut Budgets,
+    alloc: Global,
+    term: u8,
+    count: Count,
+) -> Result<(), AllocError>
+    requires { term_of count.counted ≡ Some term }
+    ensures ok { OnOk result ((c : Counted) → budgets_number budgets.new c ≡ raised (Some count) (budgets_number budgets.old) c) }
+    ensures err { OnErr result (budgets.new ≡ budgets.old) }
+    ensures absent { OnErr result (budgets_number budgets.old count.counted ≡ 0) }
+{
+    match budgets.change(&term, |budget| raise_share(budget, alloc, count)) {
+        Some(raised) => raised,
+        None => {
+            let mut budget = Budget::new(alloc);
+            raise_share(&mut budget, alloc, count)?;
+            budgets.raise(alloc, term, budget)
+        }
+    }
+}
+
+// Raises the number of what is counted.
+fn raise(slot: &mut Slot, alloc: Global, count: Count) -> Result<(), AllocError>
+    requires under { is_hits count.counted ≡ false → IsSome (slot_key slot.old) }
+    ensures key { slot_key slot.new ≡ slot_key slot.old }
+    ensures ok { OnOk result ((c : Counted) → slot_number slot.new c ≡ raised (Some count) (slot_number slot.old) c) }
+    ensures err { OnErr result (slot_held slot.new ≡ slot_held slot.old) }
+    ensures absent { OnErr result (slot_number slot.old count.counted ≡ 0) }
+{
+    let term = match count.counted {
+        Counted::Hits { node } => return slot.second.raise(alloc, node, count.number),
+        Counted::Execs { term, .. } => term,
+        Counted::Shifts { term, .. } => term,
+    };
+    match slot
+        .first
+        .change(|budgets| raise_term(budgets, alloc, term, count))
+    {
+        Some(raised) => raised,
+        None => Ok(()),
+    }
+}
+
+// Raises what is counted, if anything is.
+fn count(slot: &mut Slot, alloc: Global, count: Option<Count>) -> Result<(), AllocError>
+    requires under { IfSome count (λ c. is_hits c.counted ≡ false → IsSome (slot_key slot.old)) }
+    ensures key { slot_key slot.new ≡ slot_key slot.old }
+    ensures ok { OnOk result ((c : Counted) → slot_number slot.new c ≡ raised count (slot_number slot.old) c) }
+    ensures err { OnErr result (slot_held slot.new ≡ slot_held slot.old) }
+{
+    match count {
+        Some(count) => raise(slot, alloc, count),
+        None => Ok(()),
+    }
+}
+
+// The budgets of a key of which nothing is counted but this.
+fn budgets_with(alloc: Global, count: Option<Count>) -> Result<Budgets, AllocError>
+    requires { IfSome count (λ c. is_hits c.counted ≡ false) }
+    ensures { IfOk result (λ b. (c : Counted) → budgets_number b c ≡ raised count (λ d. 0) c) }
+{
+    let mut budgets = MapOf::new(alloc);
+    let Some(count) = count else {
+        return Ok(budgets);
+    };
+    let Some(term) = count.counted.term() else {
+        return Ok(budgets);
+    };
+    raise_term(&mut budgets, alloc, term, count)?;
+    Ok(budgets)
+}
+
+/// Learns what an operation says that has this key or none, and this count or none.
+pub(crate) fn learn(
+    slot: &mut Slot,
+    alloc: Global,
+    key: Option<&Key>,
+    told: Option<Count>,
+) -> Result<(), AllocError>
+    requires { IfSome told (λ c. is_hits c.counted ≡ is_none key) }
+    ensures ok { OnOk result (slot_held slot.new ≡ learned (option_map key_value (option_copied key.entry)) told (slot_held slot.old)) }
+    ensures err { OnErr result (slot_held slot.new ≡ slot_held slot.old) }
+{
+    let Some(key) = key else {
+        return count(slot, alloc, told);
+    };
+    match standing(slot, key) {
+        Ordering::Less => Ok(()),
+        Ordering::Equal => count(slot, alloc, told),
+        Ordering::Greater => {
+            let budgets = budgets_with(alloc, told)?;
+            slot.first = LexOf::of(key.copied(alloc)?, budgets);
+            Ok(())
+        }
+    }
+}
+
+// The next count of what is counted so.
+fn next(slot: &Slot, counted: Counted) -> Count
+    requires { slot_number slot.now counted + 1 < 2 ^ 64 }
+    ensures { result ≡ record { counted = counted; number = slot_number slot.now counted + 1 } }
+{
+    counted.times(number(slot, counted) + 1)
+}
+
+/// Counts a hit at a node and, where a term was triggered, its execution there.
+pub(crate) fn pass(
+    slot: &mut Slot,
+    alloc: Global,
+    node: u8,
+    spent: Option<u8>,
+) -> Result<(), AllocError>
+    requires set { IsSome (slot_key slot.old) }
+    requires hits { slot_number slot.old (Hits node) + 1 < 2 ^ 64 }
+    requires execs { (term : ℕ) → slot_number slot.old (Execs term node) + 1 < 2 ^ 64 }
+    ensures ok { OnOk result (slot_held slot.new ≡ passed node spent (slot_held slot.old)) }
+    ensures err { OnErr result (slot_held slot.new ≡ slot_held slot.old) }
+{
+    let hits = next(slot, Counted::Hits { node });
+    let Some(term) = spent else {
+        return raise(slot, alloc, hits);
+    };
+    let execs = next(slot, Counted::Execs { term, node });
+    if hits.number == 1 {
+        // The hit takes memory, as perhaps the execution does: so it is counted aside first.
+        let mut counter = slot.second.copied(alloc)?;
+        counter.raise(alloc, node, 1)?;
+        raise(slot, alloc, execs)?;
+        slot.second = counter;
+        return Ok(());
+    }
+    raise(slot, alloc, execs)?;
+    raise(slot, alloc, hits)
+}

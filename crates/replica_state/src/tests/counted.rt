@@ -1,0 +1,57 @@
+//! Passes that a replica counts itself.
+
+ghost use Rattle.std.specs.Prelude.{◌≤◌, ℕ, IfOk};
+
+use super::{answers, key, name, wanted};
+use crate::{Matrix, OpSet, Replica};
+use actions::Name;
+use std::alloc::Global;
+use std::process::Abort;
+use std::test::Fail;
+
+/// A replica with one key, of which nothing is executed.
+#[tactic(auto, unfolding(crate::specs::States::with_key, crate::specs::Folds::fold))]
+fn with_key<R: Replica>(alloc: Global, name: &Name) -> Result<R, Fail>
+    ensures execs { IfOk result (λ r. (term i : ℕ) → (R.state r).execs name.now term i ≤ 0) }
+{
+    let mut replica = R::empty(alloc);
+    let key = key(alloc, 1, 0, "2*off")?;
+    replica.set_key(alloc, name.copied(alloc)?, key)?;
+    Ok(replica)
+}
+
+/// Counts a pass at node 1, and says whether it did.
+fn count<R: Replica>(alloc: Global, replica: &mut R, name: &Name) -> bool
+    requires execs { (term i : ℕ) → (R.state replica.old).execs name.now term i ≤ 0 }
+{
+    let has_key = replica.key(name).is_some();
+    let has_room = replica.hits(name, 1) < u64::MAX;
+    has_key && has_room && replica.count_pass(alloc, name, 1, Some(0)).is_ok()
+}
+
+fn overtaken<R: Replica>(rt: &impl Abort, alloc: Global) -> Result<(), Fail> {
+    let a = name(alloc, "a")?;
+    let mut replica: R = with_key(alloc, &a)?;
+    let before = answers(&replica, &a);
+    if !count(alloc, &mut replica, &a) {
+        assert_eq!(rt; answers(&replica, &a), before);
+        return Err("the pass was not counted")?;
+    }
+    assert_eq!(rt;
+        answers(&replica, &a),
+        wanted(1, (0, 1), (0, 1), (0, 0), (2, -1))
+    );
+    replica.set_key(alloc, a.copied(alloc)?, key(alloc, 2, 1, "5*off")?)?;
+    assert_eq!(rt;
+        answers(&replica, &a),
+        wanted(2, (0, 1), (0, 0), (0, 0), (0, 5))
+    );
+    Ok(())
+}
+
+/// A key after a pass keeps its hit and drops its execution.
+#[test]
+fn overtaken_count(rt: HostRuntime) -> Result<(), Fail> {
+    overtaken::<OpSet>(&rt, rt.alloc())?;
+    overtaken::<Matrix>(&rt, rt.alloc())
+}
