@@ -13,7 +13,7 @@ pub use node::NodeCore;
 pub use trace::{Ask, Config, Entry, PassReply, Reply, Trace};
 
 /// What holds a node's state.
-pub type State = replica_state::OpSet;
+pub type State = replica_state::Matrix;
 
 #[cfg(test)]
 mod tests;

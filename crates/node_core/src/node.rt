@@ -41,7 +41,7 @@ pub struct NodeCore {
 
 impl Model for NodeCore {
     ghost use Rattle.std.specs.Prelude.{map, length};
-    ghost use Rattle.replica_state.specs.OpSets.{state_of};
+    ghost use Rattle.replica_state.specs.Slots.{matrix_state};
     ghost use Rattle.node_core.specs.Asks.{call};
     ghost use Rattle.node_core.specs.Traces.{Kept, replay};
     ghost use Rattle.node_core.specs.Holds.{Holds};
@@ -50,7 +50,7 @@ impl Model for NodeCore {
 
     ghost view = { λ c. record { config = c.config; trace = map call c.trace.items } };
 
-    ghost invariant = { λ c. Holds c.config c.clock (state_of c.state) (length c.trace.items) (replay c.config.node (map call c.trace.items)) };
+    ghost invariant = { λ c. Holds c.config c.clock (matrix_state c.state) (length c.trace.items) (replay c.config.node (map call c.trace.items)) };
 }
 
 impl NodeCore {

@@ -2,7 +2,7 @@
 
 ghost use Rattle.std.specs.Prelude.{◌≡◌, ℕ, length, ◌+◌, ◌^◌, ◌≤◌, ◌<◌, ◌≤ℤ◌, pos, ◌↔◌, IfOk, OnOk, OnErr, IsSome, IsTrue, true, Some, None, MatchOption};
 ghost use Rattle.stamp_register.specs.Keys.{key_value};
-ghost use Rattle.replica_state.specs.OpSets.{state_of};
+ghost use Rattle.replica_state.specs.Slots.{matrix_state};
 ghost use Rattle.replica_state.specs.States.{rights_of};
 ghost use Rattle.node_core.specs.Asks.{passed};
 ghost use Rattle.node_core.specs.Nodes.{setting_of};
@@ -18,9 +18,9 @@ use std::alloc::{AllocError, Global};
 
 /// The key and the actions of a point that is set.
 fn setting_at<'a>(state: &'a State, name: &Name) -> Option<(&'a Key, &'a Actions)>
-    ensures value { MatchOption result (setting_of (state_of state.now) name.now ≡ None) (λ s. setting_of (state_of state.now) name.now ≡ Some (key_value s.0.now, s.1.now)) }
-    ensures key { IsSome result → IsSome ((state_of state.now).key name.now) }
-    ensures held { IsSome result → IsHeld (state_of state.now) name.now }
+    ensures value { MatchOption result (setting_of (matrix_state state.now) name.now ≡ None) (λ s. setting_of (matrix_state state.now) name.now ≡ Some (key_value s.0.now, s.1.now)) }
+    ensures key { IsSome result → IsSome ((matrix_state state.now).key name.now) }
+    ensures held { IsSome result → IsHeld (matrix_state state.now) name.now }
 {
     match state.key(name) {
         Some(key) => match key.actions() {
@@ -33,7 +33,7 @@ fn setting_at<'a>(state: &'a State, name: &Name) -> Option<(&'a Key, &'a Actions
 
 /// How many words a pass of a point takes.
 pub(crate) fn words_needed(state: &State, name: &Name) -> u8
-    ensures { result ≡ words_for (state_of state.now) name.now }
+    ensures { result ≡ words_for (matrix_state state.now) name.now }
 {
     match setting_at(state, name) {
         Some((_, actions)) => actions.words_needed(),
@@ -43,7 +43,7 @@ pub(crate) fn words_needed(state: &State, name: &Name) -> u8
 
 /// Whether a node has a right to execute a counted term.
 fn has_right(state: &State, me: u8, name: &Name, term: u8) -> bool
-    ensures { IsTrue result ↔ (pos 1 ≤ℤ rights_of (state_of state.now) name.now term me) }
+    ensures { IsTrue result ↔ (pos 1 ≤ℤ rights_of (matrix_state state.now) name.now term me) }
 {
     state.rights(name, term, me) >= 1
 }
@@ -57,9 +57,9 @@ fn triggered_term(
     actions: &Actions,
     words: &[u32],
 ) -> Option<u8>
-    requires set { setting_of (state_of state.now) name.now ≡ Some (key_value key.now, actions.now) }
-    requires words { length words.now ≡ words_for (state_of state.now) name.now }
-    ensures { result ≡ triggered me (state_of state.now) name.now words.now (key_value key.now, actions.now) }
+    requires set { setting_of (matrix_state state.now) name.now ≡ Some (key_value key.now, actions.now) }
+    requires words { length words.now ≡ words_for (matrix_state state.now) name.now }
+    ensures { result ≡ triggered me (matrix_state state.now) name.now words.now (key_value key.now, actions.now) }
 {
     let mut may = [false; 16];
     for term in 0..actions.len() {
@@ -121,11 +121,11 @@ pub(crate) fn count(
     is_set: bool,
     spent: Option<u8>,
 ) -> Result<(), AllocError>
-    requires key { is_set ≡ true → IsSome ((state_of state.old).key name.now) }
-    requires hits { (state_of state.old).hits name.now me + 1 < 2 ^ 64 }
-    requires execs { (term : ℕ) → (state_of state.old).execs name.now term me + 1 < 2 ^ 64 }
-    ensures ok { OnOk result (state_of state.new ≡ state_done me (state_of state.old) name.now is_set spent) }
-    ensures err { OnErr result (state_of state.new ≡ state_of state.old) }
+    requires key { is_set ≡ true → IsSome ((matrix_state state.old).key name.now) }
+    requires hits { (matrix_state state.old).hits name.now me + 1 < 2 ^ 64 }
+    requires execs { (term : ℕ) → (matrix_state state.old).execs name.now term me + 1 < 2 ^ 64 }
+    ensures ok { OnOk result (matrix_state state.new ≡ state_done me (matrix_state state.old) name.now is_set spent) }
+    ensures err { OnErr result (matrix_state state.new ≡ matrix_state state.old) }
 {
     if is_set {
         state.count_pass(alloc, name, me, spent)?;
@@ -141,13 +141,13 @@ pub(crate) fn outcome_of(
     name: &Name,
     words: &[u32],
 ) -> Result<Outcome, AllocError>
-    requires words { length words.now ≡ words_for (state_of state.now) name.now }
-    ensures reply { IfOk result (λ o. passed o.reply ≡ reply_of_pass me (state_of state.now) name.now words.now (setting_of (state_of state.now) name.now)) }
-    ensures recorded { IfOk result (λ o. passed o.recorded ≡ reply_of_pass me (state_of state.now) name.now words.now (setting_of (state_of state.now) name.now)) }
-    ensures ops { IfOk result (λ o. ops_of_pass me (state_of state.now) name.now words.now (setting_of (state_of state.now) name.now) ≡ ops_done me (state_of state.now) name.now o.is_set o.spent) }
-    ensures key { IfOk result (λ o. o.is_set ≡ true → IsSome ((state_of state.now).key name.now)) }
-    ensures held { IfOk result (λ o. o.is_set ≡ true → IsHeld (state_of state.now) name.now) }
-    ensures rights { IfOk result (λ o. (term : ℕ) → o.spent ≡ Some term → pos 1 ≤ℤ rights_of (state_of state.now) name.now term me) }
+    requires words { length words.now ≡ words_for (matrix_state state.now) name.now }
+    ensures reply { IfOk result (λ o. passed o.reply ≡ reply_of_pass me (matrix_state state.now) name.now words.now (setting_of (matrix_state state.now) name.now)) }
+    ensures recorded { IfOk result (λ o. passed o.recorded ≡ reply_of_pass me (matrix_state state.now) name.now words.now (setting_of (matrix_state state.now) name.now)) }
+    ensures ops { IfOk result (λ o. ops_of_pass me (matrix_state state.now) name.now words.now (setting_of (matrix_state state.now) name.now) ≡ ops_done me (matrix_state state.now) name.now o.is_set o.spent) }
+    ensures key { IfOk result (λ o. o.is_set ≡ true → IsSome ((matrix_state state.now).key name.now)) }
+    ensures held { IfOk result (λ o. o.is_set ≡ true → IsHeld (matrix_state state.now) name.now) }
+    ensures rights { IfOk result (λ o. (term : ℕ) → o.spent ≡ Some term → pos 1 ≤ℤ rights_of (matrix_state state.now) name.now term me) }
 {
     let Some((key, actions)) = setting_at(state, name) else {
         return Ok(Outcome {

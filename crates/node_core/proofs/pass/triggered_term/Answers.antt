@@ -2,7 +2,7 @@ use Rattle.std.proofs.Common.{◌∙◌, arith, below_more, false}
 use Rattle.std.proofs.lemmas.List.{get_or-set_same, get_or-set_other}
 use Rattle.std.proofs.Math.ListN.{length-set}
 use Rattle.stamp_register.specs.Keys.{key_value}
-use Rattle.replica_state.specs.OpSets.{state_of}
+use Rattle.replica_state.specs.Slots.{matrix_state}
 use Rattle.node_core.proofs.Rights.{may_by_rights, choice-same}
 use Rattle.node_core.proofs.pass.triggered_term.Goals as goal
 
@@ -16,5 +16,5 @@ loop-term-preserved c =
       len = rw length-set c.loop-term.invariant.len;
       all = below_more _ _
           (λ j below. get_or-set_other c.loop-term.may term j _ false (λ e. omega arith) ∙ c.loop-term.invariant.all j below)
-          (get_or-set_same c.loop-term.may term _ false (omega arith) ∙ may_by_rights c.args.me (state_of c.args.state.now) c.args.name.now (key_value c.args.key.now) c.args.actions.now term _ c.requires.set c.has_right.ensures);
+          (get_or-set_same c.loop-term.may term _ false (omega arith) ∙ may_by_rights c.args.me (matrix_state c.args.state.now) c.args.name.now (key_value c.args.key.now) c.args.actions.now term _ c.requires.set c.has_right.ensures);
     }
