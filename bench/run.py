@@ -11,11 +11,14 @@ PASSES = (100_000, 200_000)
 POINTS = (1, 256)
 ROUNDS = 11
 
-# The actions of each point, and what follows the point's name in each pass.
+# The actions of each point, and what follows the point's name in each pass. The long text is 1,000
+# bytes, of which each pass runs the first term.
 SETTINGS = {
     "uncounted": ("print(x)", ""),
     "counted": ("1000000*print(x)", ""),
     "chance": ("50%print(x)", " 2147483647"),
+    "short text": ("off->panic", ""),
+    "long text": ("off->print(" + "x" * 988 + ")", ""),
 }
 
 
@@ -51,7 +54,7 @@ def run(program, text, passes):
 def main():
     program = sys.argv[1] if len(sys.argv) > 1 else build()
     few, many = PASSES
-    print(f"{'setting':<10}{'points':>7}{f'ns a pass, {few}':>20}{many:>8}{'ratio':>7}{'most MiB':>10}")
+    print(f"{'setting':<12}{'points':>7}{f'ns a pass, {few}':>20}{many:>8}{'ratio':>7}{'most MiB':>10}")
     for setting in SETTINGS:
         for points in POINTS:
             texts = [script(setting, points, passes) for passes in PASSES]
@@ -59,7 +62,7 @@ def main():
             times = [min(seconds for seconds, _ in runs) / passes * 1e9 for runs, passes in zip(zip(*rounds), PASSES)]
             memory = max(most for runs in rounds for _, most in runs)
             first, second = times
-            print(f"{setting:<10}{points:>7}{first:>20.0f}{second:>8.0f}{second / first:>7.2f}{memory:>10.1f}")
+            print(f"{setting:<12}{points:>7}{first:>20.0f}{second:>8.0f}{second / first:>7.2f}{memory:>10.1f}")
 
 
 if __name__ == "__main__":
