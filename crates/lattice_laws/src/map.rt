@@ -13,6 +13,10 @@ use std::collections::BTreeMap;
 use std::collections::btree_map::Iter;
 use std::marker::Model;
 
+// How many keys of another map are joined in place: each stands on the stack until those after it
+// are in.
+const MOST_IN_PLACE: usize = 256;
+
 /// A value for each key, joined key by key. It has the bottom at an absent key, and stores none.
 #[derive(Debug, Drop)]
 pub struct MapOf<K: Held, J: Join> {
@@ -128,8 +132,8 @@ impl<K: Held, J: Join> MapOf<K, J> {
 
     // Joins each value of the other map into the one at its key. A value that grows is joined
     // beside the old one while others are still to come, and a new key leaves again where one of
-    // those is refused. It calls itself for each key. A look at the field tells the proof what
-    // holds of every map.
+    // those is refused. It calls itself for each key, so the stack bounds how many there may be. A
+    // look at the field tells the proof what holds of every map.
     fn take_in(&mut self, alloc: Global, mut other: Self) -> Result<(), AllocError>
         ensures ok { OnOk result (JoinsAll K.cmp J.admitted J.order J.bottom self.old other self.new) }
         ensures err { OnErr result (self.new ≡ self.old) }
@@ -220,7 +224,12 @@ impl<K: Held, J: Join> Join for MapOf<K, J> {
         Ok(copy)
     }
 
+    /// Up to 256 keys are joined in place; with more, the joined map takes this one's place.
     fn join_in(&mut self, alloc: Global, other: Self) -> Result<(), AllocError> {
+        if other.map.len() > MOST_IN_PLACE {
+            *self = self.joined(alloc, &other)?;
+            return Ok(());
+        }
         self.take_in(alloc, other)
     }
 }
