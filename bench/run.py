@@ -1,14 +1,15 @@
 #!/usr/bin/env python3
-"""Times the passes of scripts that `failreg sim` runs. See README.md beside this file."""
+"""Times passes of scripts, and raises and joins of maps. See README.md beside this file."""
 
 import os
 import subprocess
 import sys
 import tempfile
 
-CRATE = os.path.join(os.path.dirname(os.path.abspath(__file__)), "..", "crates", "failreg")
+CRATES = os.path.join(os.path.dirname(os.path.abspath(__file__)), "..", "crates")
 PASSES = (100_000, 200_000)
 POINTS = (1, 256)
+KEYS = (100_000, 200_000)
 ROUNDS = 11
 
 # The actions of each point, and what follows the point's name in each pass. The long text is 1,000
@@ -22,10 +23,16 @@ SETTINGS = {
 }
 
 
-def build():
-    """Proves and builds the program, where it has changed."""
-    subprocess.run(["rt", "run", "--", "--help"], cwd=CRATE, check=True, stdout=subprocess.DEVNULL)
-    return os.path.join(CRATE, "out", "failreg")
+# What is done with maps of so many keys: made of as many raises; each key raised again, in its place;
+# two maps joined; a map of one key joined in, for each key.
+WORKS = ("build", "raise", "join", "take")
+
+
+def build(crate, *arguments):
+    """Proves and builds a program, where it has changed."""
+    folder = os.path.join(CRATES, crate)
+    subprocess.run(["rt", "run", "--", *arguments], cwd=folder, check=True, stdout=subprocess.DEVNULL)
+    return os.path.join(folder, "out", crate)
 
 
 def script(setting, points, passes):
@@ -51,8 +58,7 @@ def run(program, text, passes):
     return usage.ru_utime + usage.ru_stime, usage.ru_maxrss / 1024
 
 
-def main():
-    program = sys.argv[1] if len(sys.argv) > 1 else build()
+def time_passes(program):
     few, many = PASSES
     print(f"{'setting':<12}{'points':>7}{f'ns a pass, {few}':>20}{many:>8}{'ratio':>7}{'most MiB':>10}")
     for setting in SETTINGS:
@@ -63,6 +69,30 @@ def main():
             memory = max(most for runs in rounds for _, most in runs)
             first, second = times
             print(f"{setting:<12}{points:>7}{first:>20.0f}{second:>8.0f}{second / first:>7.2f}{memory:>10.1f}")
+
+
+def spent(program, work, keys):
+    """Seconds of a processor."""
+    child = subprocess.Popen([program, work, str(keys)], stdout=subprocess.DEVNULL)
+    _, status, usage = os.wait4(child.pid, 0)
+    child.returncode = os.waitstatus_to_exitcode(status)
+    if child.returncode != 0:
+        sys.exit(f"{program} {work} {keys}: status {child.returncode}")
+    return usage.ru_utime + usage.ru_stime
+
+
+def time_maps(program):
+    few, many = KEYS
+    print(f"\n{'work':<12}{f'ms, {few} keys':>20}{many:>8}{'ratio':>7}")
+    for work in WORKS:
+        rounds = [[spent(program, work, keys) for keys in KEYS] for _ in range(ROUNDS)]
+        first, second = (min(times) * 1e3 for times in zip(*rounds))
+        print(f"{work:<12}{first:>20.0f}{second:>8.0f}{second / first:>7.2f}")
+
+
+def main():
+    time_passes(build("failreg", "--help"))
+    time_maps(build("map_times", "build", "1"))
 
 
 if __name__ == "__main__":

@@ -1,7 +1,7 @@
 //! Replicas that are joined. What memory is refused to is asked again, and nothing may have changed
 //! by then: so these also pass where any one allocation fails.
 
-use super::{Seen, Step, add, answers, key, name, op_of, wanted};
+use super::{Seen, Step, add, answers, key, name, op_of, op_on, wanted};
 use crate::{Matrix, OpSet, Replica};
 use lattice_laws::Join;
 use std::alloc::{AllocError, Global};
@@ -213,5 +213,28 @@ fn replicas(rt: HostRuntime) -> Result<(), Fail> {
     assert!(rt; plain);
     let matrix = two_names::<Matrix>(&rt, alloc)?;
     assert!(rt; matrix);
+    Ok(())
+}
+
+/// A replica in which this many names have a hit.
+fn with_hits<R: Replica>(rt: &impl Abort, alloc: Global, names: u32) -> Result<R, Fail> {
+    let mut replica = R::empty(alloc);
+    for place in 0..names {
+        let text = format!(in alloc; "p{place}")?;
+        let op = op_on(alloc, text.as_str(), 0, Step::Hit(0, 1))?;
+        add(rt, alloc, &mut replica, &name(alloc, text.as_str())?, &op);
+    }
+    Ok(replica)
+}
+
+/// A matrix takes in another one with more names than are joined in place.
+#[test]
+fn many_names(rt: HostRuntime) -> Result<(), Fail> {
+    let alloc = rt.alloc();
+    let mut few: Matrix = with_hits(&rt, alloc, 10)?;
+    let many: Matrix = with_hits(&rt, alloc, 300)?;
+    join_in(&rt, alloc, &mut few, &many)?;
+    assert!(rt; same(&few, &many));
+    assert_eq!(rt; few.names(), 300);
     Ok(())
 }
