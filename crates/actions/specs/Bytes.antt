@@ -32,6 +32,9 @@ colon = 58
 abbrev pub semicolon : ℕ
 semicolon = 59
 
+abbrev pub equals_sign : ℕ
+equals_sign = 61
+
 abbrev pub greater_sign : ℕ
 greater_sign = 62
 

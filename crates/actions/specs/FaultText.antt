@@ -2,6 +2,8 @@
 use Rattle.std.specs.Prelude.{ℕ, List, ◌++◌, codes, decimal}
 use Rattle.actions.specs.declared.fault.ActionFault.{ActionFault}
 use Rattle.actions.specs.declared.fault.ActionFault.TheVariants as faults
+use Rattle.actions.specs.declared.fault.SettingFault.{SettingFault}
+use Rattle.actions.specs.declared.fault.SettingFault.TheVariants as settings
 use Rattle.actions.specs.declared.name.NameFault.{NameFault}
 use Rattle.actions.specs.declared.name.NameFault.TheVariants as names
 
@@ -22,3 +24,11 @@ fault_text faults.OutOfMemory = codes "A11 OutOfMemory"
 abbrev pub name_fault_text : NameFault → List ℕ
 name_fault_text names.BadName = codes "BadName"
 name_fault_text names.OutOfMemory = codes "OutOfMemory"
+
+-- its number, its name and its fields; the fault of the actions that it holds stands last
+abbrev pub setting_fault_text : SettingFault → List ℕ
+setting_fault_text settings.TooLong = codes "S1 TooLong"
+setting_fault_text (settings.NoEquals k) = codes "S2 NoEquals entry=" ++ decimal k
+setting_fault_text (settings.BadName k) = codes "S3 BadName entry=" ++ decimal k
+setting_fault_text (settings.BadActions k fault) = codes "S4 BadActions entry=" ++ (decimal k ++ (codes " " ++ fault_text fault))
+setting_fault_text settings.OutOfMemory = codes "S5 OutOfMemory"

@@ -8,3 +8,5 @@ pub mod Canonical
 pub mod FaultText
 pub mod Choice
 pub mod Names
+pub mod SettingGrammar
+pub mod SettingReading

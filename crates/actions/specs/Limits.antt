@@ -8,6 +8,10 @@ max_text = 1024
 abbrev pub max_terms : ℕ
 max_terms = 16
 
+-- the most bytes of a setting text
+abbrev pub max_setting : ℕ
+max_setting = 65536
+
 -- the most bytes of a name
 abbrev pub max_name : ℕ
 max_name = 128

@@ -1,7 +1,8 @@
-//! Why an action text is refused.
+//! Why an action text or a setting text is refused.
 
 ghost use Rattle.std.specs.Prelude.{◌≡◌};
 ghost use Rattle.actions.specs.declared.fault.ActionFault.TheVariants.{OutOfMemory};
+ghost use Rattle.actions.specs.declared.fault.SettingFault.TheVariants as settings;
 
 use std::alloc::{AllocError, AllocFailed};
 use std::error::Error;
@@ -81,3 +82,62 @@ impl fmt::Display for ActionFault {
 }
 
 impl Error for ActionFault {}
+
+/// Why a setting text is refused.
+///
+/// `TooLong` is tested first, and then each entry that isn't only spaces, from the first on:
+/// `NoEquals` to `BadActions` as they stand here. `entry` is the entry's number among those,
+/// counted from 0.
+///
+/// `Display` shows a number, the variant's name, and each field as `field=value`, at last the text
+/// of the fault that it holds.
+#[derive(Clone, Copy, Debug, PartialEq, Eq)]
+pub enum SettingFault {
+    /// The text is longer than 65536 bytes.
+    TooLong,
+    /// An entry has no `=`.
+    NoEquals { entry: u16 },
+    /// What stands before the first `=` is no name.
+    BadName { entry: u16 },
+    /// What stands after it is refused as an action text, in which offsets are counted from there.
+    BadActions { entry: u16, fault: ActionFault },
+    /// Memory was refused.
+    OutOfMemory,
+}
+
+impl From<AllocError> for SettingFault {
+    ghost from_gives = { λ _ e. e ≡ settings.OutOfMemory };
+
+    fn from(_e: AllocError) -> SettingFault {
+        SettingFault::OutOfMemory
+    }
+}
+
+impl<T: Drop> From<AllocFailed<T>> for SettingFault {
+    ghost from_gives = { λ _ e. e ≡ settings.OutOfMemory };
+
+    fn from(_e: AllocFailed<T>) -> SettingFault {
+        SettingFault::OutOfMemory
+    }
+}
+
+impl fmt::Display for SettingFault {
+    ghost use Rattle.std.specs.Prelude.{Some};
+    ghost use Rattle.actions.specs.FaultText.{setting_fault_text};
+
+    ghost output = { λ e. Some (setting_fault_text e) };
+
+    fn fmt<W: fmt::Write>(&self, f: &mut fmt::Formatter<W>) -> fmt::Result {
+        match self {
+            SettingFault::TooLong => f.write_str("S1 TooLong"),
+            SettingFault::NoEquals { entry } => write!(f, "S2 NoEquals entry={entry}"),
+            SettingFault::BadName { entry } => write!(f, "S3 BadName entry={entry}"),
+            SettingFault::BadActions { entry, fault } => {
+                write!(f, "S4 BadActions entry={entry} {fault}")
+            }
+            SettingFault::OutOfMemory => f.write_str("S5 OutOfMemory"),
+        }
+    }
+}
+
+impl Error for SettingFault {}

@@ -19,12 +19,14 @@ mod name;
 mod numbers;
 mod percent;
 mod reading;
+mod setting;
 mod task;
 
 pub use actions::{Actions, parse_actions};
 pub use choice::decide;
-pub use fault::ActionFault;
+pub use fault::{ActionFault, SettingFault};
 pub use name::{Name, NameFault};
+pub use setting::parse_setting;
 pub use task::{Task, Term};
 
 #[cfg(test)]

@@ -53,40 +53,6 @@ holds_new config state own few small e = record {
   own_rights = subst (λ (v : State). HasOwn v config.node) (sym e) (own_start config.node);
 }
 
-key_leaves_hits : (name : List ℕ) (key : KeyValue) (v : State) (q : List ℕ) (i : ℕ) → (with_key name key v).hits q i ≡ v.hits q i
-unfolding with_key
-key_leaves_hits name key v q i = refl
-
-key_few_execs : (name : List ℕ) (key : KeyValue) (v : State) (q : List ℕ) (k i : ℕ) → (with_key name key v).execs q k i ≤ v.execs q k i
-unfolding with_key
-key_few_execs name key v q k i = by_test (bytes_eq name q)
-  where
-    by_test : (b : Bool) → cond b 0 (v.execs q k i) ≤ v.execs q k i
-    by_test true = omega arith
-    by_test false = omega arith
-
--- after a setting
-pub holds_set : (config : Config) (clock : ℕ) (state next : State) (len : ℕ) (n : Node) (name text : List ℕ) (key : KeyValue) → Holds config clock state len n → len < config.trace_cap → key ≡ new_key config.node clock (body_read (reading text)) → next ≡ with_key name key state → Holds config (clock + 1) next (len + 1) (after config.node n (Set name text) [])
-unfolding after
-holds_set config clock state next len n name text key h room k e =
-    let issued : KeyValue = new_key config.node n.marks.clock (body_read (reading text)) in
-    let same : issued ≡ key = ap (λ (c : ℕ). new_key config.node c (body_read (reading text))) h.clock_is ∙ sym k in
-    let c : n.marks.clock ≡ clock = h.clock_is in
-    let cap : len ≤ config.trace_cap = h.capped in
-    let carried : clock_of n.ops ≤ clock = h.carried in
-    record {
-      own = h.own;
-      few = h.few;
-      small = h.small;
-      capped = omega arith;
-      clock_is = ap (λ (x : ℕ). x + 1) h.clock_is;
-      state_is = fold_key issued name n.ops (omega arith) ∙ ap (λ (x : KeyValue). with_key name x (fold n.ops)) same ∙ ap (λ (v : State). with_key name key v) h.state_is ∙ sym e;
-      carried = omega arith;
-      hits_few = λ q. let a = ap (λ (v : State). v.hits q config.node) e in let b = key_leaves_hits name key state q config.node in let d = h.hits_few q in omega (arith, a, b, d);
-      execs_few = λ q j. let a = ap (λ (v : State). v.execs q j config.node) e in let b = key_few_execs name key state q j config.node in let d = h.execs_few q j in omega (arith, a, b, d);
-      own_rights = subst (λ (v : State). HasOwn v config.node) (sym e) (own_key state name key config.node h.own_rights);
-    }
-
 -- the replay of a trace one entry longer
 pub holds_grown : (config : Config) (clock : ℕ) (state : State) (old new : List Entry) (e : Entry) → new ≡ old ++ e ∷ [] → Holds config clock state (length old + 1) (after config.node (replay config.node (map call old)) (call e).ask (call e).words) → Holds config clock state (length new) (replay config.node (map call new))
 holds_grown config clock state old new e same h =
@@ -96,7 +62,7 @@ holds_grown config clock state old new e same h =
     (subst (λ (n : Node). Holds config clock state (length old + 1) n) (sym (ap (λ (cs : List Call). replay config.node cs) grown ∙ replay_more config.node start (map call old) (call e))) h)
 
 -- a key that is held is no later than the clock
-held_clock : (name : List ℕ) (ops : List Operation) (key : KeyValue) → key_of name ops ≡ Some key → key.clock ≤ clock_of ops
+pub held_clock : (name : List ℕ) (ops : List Operation) (key : KeyValue) → key_of name ops ≡ Some key → key.clock ≤ clock_of ops
 held_clock name ops key here =
     let top : KeyValue = record { clock = clock_of ops + 1; node = 0; body = None } in
     let h : key.clock < clock_of ops + 1 = later_some top key (subst (λ (o : Option KeyValue). is_later top o) here (all_later top name ops (omega arith))) in
@@ -188,25 +154,3 @@ module _ (config : Config) (clock : ℕ) (state next : State) (len : ℕ) (n : N
         execs_few = λ q t. subst (λ (v : State). v.execs q t config.node ≤ len + 1) (sym e) (done_execs config.node name state len h.execs_few is_set spent q t);
         own_rights = subst (λ (v : State). HasOwn v config.node) (sym e) (own_done state name config.node is_set spent right h.own_rights);
       }
-
-module _ (config : Config) (clock : ℕ) (state next : State) (old mid new : List Entry) (e : Entry) (grown : new ≡ mid ++ e ∷ []) (same : mid ≡ old) (h : Holds config clock state (length old) (replay config.node (map call old))) (room : length (map call old) < config.trace_cap) where
-  longer : new ≡ old ++ e ∷ []
-  longer = grown ∙ ap (λ (es : List Entry). es ++ e ∷ []) same
-
-  space : length old < config.trace_cap
-  space = subst (λ (k : ℕ). k < config.trace_cap) (length-map old call) room
-
-  -- the invariant after a setting, and after a pass
-  pub set_kept : (name text p : List ℕ) (key : KeyValue) (terms : List TermValue) → (call e).ask ≡ Set name text → (call e).words ≡ [] → p ≡ name → reading text ≡ Ok terms → key ≡ new_key config.node clock (Some (canonical terms)) → next ≡ with_key p key state → Holds config (clock + 1) next (length new) (replay config.node (map call new))
-  set_kept name text p key terms ask words pn read k s =
-      holds_grown config (clock + 1) next old new e longer
-      (subst (λ (a : Asked). Holds config (clock + 1) next (length old + 1) (after config.node (replay config.node (map call old)) a (call e).words)) (sym ask)
-      (subst (λ (ws : List ℕ). Holds config (clock + 1) next (length old + 1) (after config.node (replay config.node (map call old)) (Set name text) ws)) (sym words)
-      (holds_set config clock state next (length old) (replay config.node (map call old)) name text key h space (k ∙ sym (ap (λ (r : Result (List TermValue) ActionFault). new_key config.node clock (body_read r)) read)) (s ∙ ap (λ (n : List ℕ). with_key n key state) pn))))
-
-  pub pass_kept : (name words : List ℕ) (is_set : Bool) (spent : Option ℕ) → (call e).ask ≡ Pass name → (call e).words ≡ words → ops_of_pass config.node state name words (setting_of state name) ≡ ops_done config.node state name is_set spent → (is_set ≡ true → IsHeld state name) → (is_set ≡ true → IsSome (state.key name)) → ((k : ℕ) → spent ≡ Some k → pos 1 ≤ℤ rights_of state name k config.node) → next ≡ state_done config.node state name is_set spent → Holds config clock next (length new) (replay config.node (map call new))
-  pass_kept name words is_set spent ask ws ops held key right s =
-      holds_grown config clock next old new e longer
-      (subst (λ (a : Asked). Holds config clock next (length old + 1) (after config.node (replay config.node (map call old)) a (call e).words)) (sym ask)
-      (subst (λ (xs : List ℕ). Holds config clock next (length old + 1) (after config.node (replay config.node (map call old)) (Pass name) xs)) (sym ws)
-      (holds_pass config clock state next (length old) (replay config.node (map call old)) name words is_set spent h space ops held key right s)))

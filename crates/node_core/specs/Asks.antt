@@ -1,6 +1,6 @@
 -- What a node is asked and what it replies, without where texts lie in memory.
 use Rattle.std.specs.Prelude.{ℕ, Bool, List, string_bytes}
-use Rattle.actions.specs.Value.{TaskValue, TermValue, task_value}
+use Rattle.actions.specs.Value.{TaskValue, task_value}
 use Rattle.stamp_register.specs.declared.key.Stamp.{Stamp}
 use Rattle.replica_state.specs.Operations.{Operation}
 use Rattle.node_core.specs.declared.trace.Ask.{Ask}
@@ -21,11 +21,11 @@ pub record Message : Type 0 where
   pub ack : ℕ
   pub ops : List Operation
 
--- a load asks for its entries; an emit for some of the operations that the node knows
+-- an emit asks for some of the operations that the node knows
 pub data Asked : Type 0 where
   Set : (name text : List ℕ) → Asked
   Remove : (name : List ℕ) → Asked
-  Load : (entries : List (List ℕ × List TermValue)) → Asked
+  Load : (text : List ℕ) → Asked
   Pass : (name : List ℕ) → Asked
   Shift : (name : List ℕ) (term to amount : ℕ) → Asked
   Emit : (to : ℕ) (chosen : List Operation) → Asked
@@ -54,7 +54,10 @@ pub record Call : Type 0 where
 
 abbrev pub asked : Ask → Asked
 asked (asks.Set name text) = Set (string_bytes name) (string_bytes text)
+asked (asks.Remove name) = Remove (string_bytes name)
+asked (asks.Load text) = Load (string_bytes text)
 asked (asks.Pass name) = Pass (string_bytes name)
+asked (asks.Shift name term to amount) = Shift (string_bytes name) term to amount
 
 abbrev pub passed : PassReply → Passed
 passed passes.Unset = Unset
@@ -63,7 +66,10 @@ passed (passes.Act stamp term task) = Act stamp term (task_value task)
 
 abbrev pub answered : Reply → Answered
 answered (replies.Set stamp) = IsSet stamp
+answered (replies.Remove stamp) = IsRemoved stamp
+answered (replies.Load entries) = IsLoaded entries
 answered (replies.Pass reply) = IsPassed (passed reply)
+answered (replies.Shift total) = IsShifted total
 
 abbrev pub call : Entry → Call
 call e = record { ask = asked e.ask; words = e.words.items; reply = answered e.reply }

@@ -2,8 +2,8 @@ pub mod Asks
 pub mod Nodes
 pub mod Stamps
 pub mod Passes
-pub mod Outcomes
 pub mod Steps
+pub mod Outcomes
 pub mod Refusals
 pub mod Traces
 pub mod Holds

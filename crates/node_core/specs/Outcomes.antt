@@ -1,10 +1,11 @@
--- What a pass changes: whether it counts a hit, and the counted term that it executes.
-use Rattle.std.specs.Prelude.{◌≡◌, ℕ, Bool, true, false, List, [], ◌∷◌, ◌++◌, Option, Some, None, is_some, if◌then◌else◌}
+-- What calls change: the keys of a setting, and of a pass whether it counts a hit and the counted term that it executes.
+use Rattle.std.specs.Prelude.{◌≡◌, ℕ, Bool, true, false, List, [], ◌∷◌, ◌++◌, ◌+◌, Option, Some, None, is_some, if◌then◌else◌}
 use Rattle.actions.specs.Value.{TermValue}
 use Rattle.stamp_register.specs.Keys.{KeyValue}
 use Rattle.replica_state.specs.Operations.{Operation, count_at}
-use Rattle.replica_state.specs.States.{State, with_name, with_pass}
+use Rattle.replica_state.specs.States.{State, with_name, with_key, with_pass}
 use Rattle.node_core.specs.Passes.{next_hit, next_exec}
+use Rattle.node_core.specs.Steps.{new_key}
 
 -- the triggered term, if it is counted
 abbrev pub spent_by : List TermValue → Option ℕ → Option ℕ
@@ -27,3 +28,8 @@ state_done i v name true spent = with_pass name i spent v
 -- a name that is held adds none
 abbrev pub IsHeld : State → List ℕ → Type 0
 IsHeld v name = with_name name v.names ≡ v.names
+
+-- the state after points were set, one after the other
+abbrev pub state_set : ℕ → ℕ → List (List ℕ × Option (List ℕ)) → State → State
+state_set i clock [] v = v
+state_set i clock (setting ∷ rest) v = state_set i (clock + 1) rest (with_key setting.0 (new_key i clock setting.1) v)

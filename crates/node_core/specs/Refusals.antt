@@ -1,10 +1,13 @@
 -- When a node refuses what it is asked. The refusals stand in their order, and the first that applies is the answer.
-use Rattle.std.specs.Prelude.{ℕ, ◌+◌, ◌-◌, ◌^◌, Bool, true, false, ◌==◌, ◌&&◌, ◌||◌, nat_lt, nat_le, not, List, [], ◌∷◌, ◌++◌, length, if◌then◌else◌, Option, Some, None, is_none, Result, Ok, Err, zero, suc}
+use Rattle.std.specs.Prelude.{ℕ, ◌+◌, ◌-◌, ◌^◌, Bool, true, false, ◌==◌, ◌&&◌, ◌||◌, nat_lt, nat_le, not, List, [], ◌∷◌, ◌++◌, length, map, if◌then◌else◌, Option, Some, None, is_none, Result, Ok, Err, zero, suc}
 use Rattle.std.specs.List.{list_any}
 use Rattle.actions.specs.Value.{TermValue}
 use Rattle.actions.specs.Names.{is_name}
 use Rattle.actions.specs.Reading.{reading}
+use Rattle.actions.specs.SettingReading.{setting_reading}
 use Rattle.actions.specs.declared.fault.ActionFault.{ActionFault}
+use Rattle.actions.specs.declared.fault.SettingFault.{SettingFault}
+use Rattle.actions.specs.declared.fault.SettingFault.TheVariants as settings
 use Rattle.counters.specs.Sums.{numbers, sum_below}
 use Rattle.counters.specs.Budgets.{given, gone}
 use Rattle.stamp_register.specs.Keys.{KeyValue, same_key}
@@ -12,13 +15,16 @@ use Rattle.replica_state.specs.Operations.{Operation, Set, Count, Hits, Execs, S
 use Rattle.replica_state.specs.States.{State, with_name, budget}
 use Rattle.replica_state.specs.Folds.{fold, name_in}
 use Rattle.replica_state.specs.Knowledge.{is_upto}
+use Rattle.replica_state.specs.Unions.{with_names}
 use Rattle.node_core.specs.declared.trace.Config.{Config}
 use Rattle.node_core.specs.declared.fault.NodeFault.{NodeFault}
 use Rattle.node_core.specs.declared.fault.NodeFault.TheVariants as faults
+use Rattle.node_core.specs.declared.fault.TextFault.TheVariants as texts
 use Rattle.node_core.specs.Asks.{Asked, Message}
 use Rattle.node_core.specs.Asks as asks
 use Rattle.node_core.specs.Nodes.{Node, shown, setting_of, terms_in}
 use Rattle.node_core.specs.Passes.{has_rights_of, words_for}
+use Rattle.node_core.specs.Steps.{points_in}
 
 abbrev pub first_fault : List (Option NodeFault) → Option NodeFault
 first_fault [] = None
@@ -34,15 +40,20 @@ is_full config entries = nat_le config.trace_cap entries
 
 abbrev pub bad_actions : Result (List TermValue) ActionFault → Option NodeFault
 bad_actions (Ok terms) = None
-bad_actions (Err fault) = Some (faults.BadActions fault)
+bad_actions (Err fault) = Some (faults.BadActions (texts.Actions fault))
+
+-- a setting with a bad name is refused for the name
+abbrev pub setting_fault : SettingFault → NodeFault
+setting_fault (settings.BadName entry) = faults.BadName
+setting_fault fault = faults.BadActions (texts.Setting fault)
+
+abbrev pub bad_setting : Result (List (List ℕ × List TermValue)) SettingFault → Option NodeFault
+bad_setting (Ok points) = None
+bad_setting (Err fault) = Some (setting_fault fault)
 
 -- more than 256 names would be held
 abbrev pub too_many : List (List ℕ) → Bool
 too_many names = nat_lt 256 (length names)
-
-abbrev pub with_names : List (List ℕ × List TermValue) → List (List ℕ) → List (List ℕ)
-with_names [] names = names
-with_names (entry ∷ rest) names = with_names rest (with_name entry.0 names)
 
 -- the greatest number of a clock or a cell
 abbrev pub most : ℕ
@@ -101,9 +112,10 @@ faults_of config entries n (asks.Set name text) words =
 faults_of config entries n (asks.Remove name) words =
     where_true (is_full config entries) faults.TraceFull ∷ where_true (not (is_name name)) faults.BadName ∷
     where_true (too_many (with_name name (shown n).names)) faults.TooManyPoints ∷ where_true (nat_lt most (n.marks.clock + 1)) faults.ClockFull ∷ []
-faults_of config entries n (asks.Load loaded) words =
-    where_true (is_full config entries) faults.TraceFull ∷ where_true (too_many (with_names loaded (shown n).names)) faults.TooManyPoints ∷
-    where_true (nat_lt most (n.marks.clock + length loaded)) faults.ClockFull ∷ []
+faults_of config entries n (asks.Load text) words =
+    where_true (is_full config entries) faults.TraceFull ∷ bad_setting (setting_reading text) ∷
+    where_true (too_many (with_names (map (λ point. point.0) (points_in text)) (shown n).names)) faults.TooManyPoints ∷
+    where_true (nat_lt most (n.marks.clock + length (points_in text))) faults.ClockFull ∷ []
 faults_of config entries n (asks.Pass name) words =
     where_true (is_full config entries) faults.TraceFull ∷ where_true (not (is_name name)) faults.BadName ∷
     where_true (not (length words == words_for (shown n) name)) (faults.BadWords (words_for (shown n) name)) ∷ []

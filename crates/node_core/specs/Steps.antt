@@ -3,7 +3,9 @@ use Rattle.std.specs.Prelude.{ℕ, ◌+◌, max, ◌==◌, ◌&&◌, nat_lt, nat
 use Rattle.actions.specs.Value.{TermValue}
 use Rattle.actions.specs.Canonical.{canonical}
 use Rattle.actions.specs.Reading.{reading}
+use Rattle.actions.specs.SettingReading.{setting_reading}
 use Rattle.actions.specs.declared.fault.ActionFault.{ActionFault}
+use Rattle.actions.specs.declared.fault.SettingFault.{SettingFault}
 use Rattle.stamp_register.specs.Keys.{KeyValue}
 use Rattle.replica_state.specs.Operations.{Operation, Set, Count, Shifts}
 use Rattle.replica_state.specs.States.{State}
@@ -22,11 +24,19 @@ abbrev pub body_read : Result (List TermValue) ActionFault → Option (List ℕ)
 body_read (Ok terms) = Some (canonical terms)
 body_read (Err fault) = None
 
+-- the points that a setting text sets, and none where it is refused
+abbrev pub points_read : Result (List (List ℕ × List TermValue)) SettingFault → List (List ℕ × List TermValue)
+points_read (Ok points) = points
+points_read (Err fault) = []
+
+abbrev pub points_in : List ℕ → List (List ℕ × List TermValue)
+points_in text = points_read (setting_reading text)
+
 -- the names that an ask sets or removes, in order, with their bodies
 abbrev pub settings : Asked → List (List ℕ × Option (List ℕ))
 settings (asks.Set name text) = (name, body_read (reading text)) ∷ []
 settings (asks.Remove name) = (name, None) ∷ []
-settings (asks.Load entries) = map (λ entry. (entry.0, Some (canonical entry.1))) entries
+settings (asks.Load text) = map (λ point. (point.0, Some (canonical point.1))) (points_in text)
 settings (asks.Pass name) = []
 settings (asks.Shift name term to amount) = []
 settings (asks.Emit to chosen) = []
@@ -45,7 +55,7 @@ shift_under i v name term to amount (Some key) = Count (Shifts name key term i t
 abbrev pub added : ℕ → Node → Asked → List ℕ → List Operation
 added i n (asks.Set name text) words = issued i n.marks.clock (settings (asks.Set name text))
 added i n (asks.Remove name) words = issued i n.marks.clock (settings (asks.Remove name))
-added i n (asks.Load entries) words = issued i n.marks.clock (settings (asks.Load entries))
+added i n (asks.Load text) words = issued i n.marks.clock (settings (asks.Load text))
 added i n (asks.Pass name) words = ops_of_pass i (shown n) name words (setting_of (shown n) name)
 added i n (asks.Shift name term to amount) words = shift_under i (shown n) name term to amount ((shown n).key name)
 added i n (asks.Emit to chosen) words = []
@@ -55,7 +65,7 @@ added i n (asks.Deliver message) words = message.ops
 abbrev pub clock_after : Node → Asked → ℕ
 clock_after n (asks.Set name text) = n.marks.clock + 1
 clock_after n (asks.Remove name) = n.marks.clock + 1
-clock_after n (asks.Load entries) = n.marks.clock + length entries
+clock_after n (asks.Load text) = n.marks.clock + length (points_in text)
 clock_after n (asks.Pass name) = n.marks.clock
 clock_after n (asks.Shift name term to amount) = n.marks.clock
 clock_after n (asks.Emit to chosen) = n.marks.clock
@@ -105,7 +115,7 @@ message_to i n to chosen =
 abbrev pub reply : ℕ → Node → Asked → List ℕ → Answered
 reply i n (asks.Set name text) words = asks.IsSet (record { clock = n.marks.clock + 1; node = i })
 reply i n (asks.Remove name) words = asks.IsRemoved (record { clock = n.marks.clock + 1; node = i })
-reply i n (asks.Load entries) words = asks.IsLoaded (length entries)
+reply i n (asks.Load text) words = asks.IsLoaded (length (points_in text))
 reply i n (asks.Pass name) words = asks.IsPassed (reply_of_pass i (shown n) name words (setting_of (shown n) name))
 reply i n (asks.Shift name term to amount) words = asks.IsShifted ((shown n).shifts name term i to + amount)
 reply i n (asks.Emit to chosen) words = asks.IsEmitted (message_to i n to chosen)

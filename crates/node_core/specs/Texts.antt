@@ -1,17 +1,24 @@
 -- What is printed: the text of a fault, and the list of the points that are set.
 use Rattle.std.specs.Prelude.{ℕ, Bool, true, false, List, ◌∷◌, ◌++◌, Option, Some, None, codes, decimal, option_and_then, option_map}
 use Rattle.std.specs.List.{filter_map, join_with_byte}
-use Rattle.actions.specs.FaultText.{fault_text}
+use Rattle.actions.specs.FaultText.{fault_text, setting_fault_text}
 use Rattle.stamp_register.specs.Keys.{KeyValue}
 use Rattle.replica_state.specs.States.{State}
 use Rattle.node_core.specs.declared.fault.NodeFault.{NodeFault}
 use Rattle.node_core.specs.declared.fault.NodeFault.TheVariants as faults
+use Rattle.node_core.specs.declared.fault.TextFault.{TextFault}
+use Rattle.node_core.specs.declared.fault.TextFault.TheVariants as texts
+
+-- the text of the fault that it holds
+abbrev pub text_fault_text : TextFault → List ℕ
+text_fault_text (texts.Actions fault) = fault_text fault
+text_fault_text (texts.Setting fault) = setting_fault_text fault
 
 -- its number, its name, and what it holds
 abbrev pub node_fault_text : NodeFault → List ℕ
 node_fault_text faults.TraceFull = codes "N1 TraceFull"
 node_fault_text faults.BadName = codes "N2 BadName"
-node_fault_text (faults.BadActions fault) = codes "N3 BadActions " ++ fault_text fault
+node_fault_text (faults.BadActions fault) = codes "N3 BadActions " ++ text_fault_text fault
 node_fault_text faults.TooManyPoints = codes "N4 TooManyPoints"
 node_fault_text faults.ClockFull = codes "N5 ClockFull"
 node_fault_text faults.NotSet = codes "N6 NotSet"

@@ -7,7 +7,7 @@ use Rattle.std.proofs.lemmas.Bool.Decides.{nat_tests}
 use Rattle.stamp_register.specs.Keys.{KeyValue, key_le, same_key, key_rank}
 use Rattle.replica_state.specs.Operations.{Hits, Execs, Shifts, Operation, Set, Count, same_cell}
 use Rattle.replica_state.specs.Folds.{fold, names_of, greater, key_of, number_at, at_key, clock_of}
-use Rattle.replica_state.specs.States.{with_name, with_hits, with_execs, with_key}
+use Rattle.replica_state.specs.States.{with_name, with_hits, with_execs, with_shifts, with_key}
 
 pub max_zero : (n : ℕ) → max 0 n ≡ n
 max_zero n = omega arith
@@ -89,6 +89,41 @@ module _ (name : List ℕ) (key : KeyValue) (ops : List Operation) (here : key_o
     hits = λ q j. max_zero (number_at (Hits q j) ops) p;
     execs = λ q t j. execs_cells k i x ex q t j p;
     shifts = λ q t m j. at_key (same_keys q p) (λ key'. max_zero (number_at (Shifts q key' t m j) ops) p);
+  }
+
+  -- the shift cells after a shift of no less in all
+  pub shifts_cells : (k i o total : ℕ) → number_at (Shifts name key k i o) ops ≤ total → (q : List ℕ) (t m j : ℕ) → at_key (greater (cond (bytes_eq name q) (Some key) None) (key_of q ops)) (λ key'. max (cond (bytes_eq name q && (same_key key key' && (eqb k t && (eqb i m && eqb o j)))) total 0) (number_at (Shifts q key' t m j) ops)) ≡ cond (bytes_eq name q && (eqb k t && (eqb i m && eqb o j))) total (at_key (key_of q ops) (λ key'. number_at (Shifts q key' t m j) ops))
+  shifts_cells k i o total upto q t m j = by_test (bytes_eq name q) refl
+    where
+      low : (a b c : Bool) → eqb k t ≡ a → eqb i m ≡ b → eqb o j ≡ c → name ≡ q → a && (b && c) ≡ true → number_at (Shifts q key t m j) ops ≤ total
+      low true true true e f g same h = subst (λ (n : List ℕ). number_at (Shifts n key t m j) ops ≤ total) same (subst (λ (a : ℕ). number_at (Shifts name key a m j) ops ≤ total) (eqb-true k t e) (subst (λ (b : ℕ). number_at (Shifts name key k b j) ops ≤ total) (eqb-true i m f) (subst (λ (c : ℕ). number_at (Shifts name key k i c) ops ≤ total) (eqb-true o j g) upto)))
+      low true true false e f g same h = cc
+      low true false c e f g same h = cc
+      low false b c e f g same h = cc
+
+      either : (b : Bool) → cond b key key ≡ key
+      either true = refl
+      either false = refl
+
+      by_test : (b : Bool) → bytes_eq name q ≡ b → at_key (greater (cond b (Some key) None) (key_of q ops)) (λ key'. max (cond (b && (same_key key key' && (eqb k t && (eqb i m && eqb o j)))) total 0) (number_at (Shifts q key' t m j) ops)) ≡ cond (b && (eqb k t && (eqb i m && eqb o j))) total (at_key (key_of q ops) (λ key'. number_at (Shifts q key' t m j) ops))
+      by_test false e = λ p. at_key (key_of q ops) (λ key'. max_zero (number_at (Shifts q key' t m j) ops) p)
+      by_test true e =
+          let same : name ≡ q = (bytes_eq-Decides name q).0 e in
+          let keys : key_of q ops ≡ Some key = subst (λ (n : List ℕ). key_of n ops ≡ Some key) same here in
+          let top : greater (Some key) (key_of q ops) ≡ Some key = ap (λ (o : Option KeyValue). greater (Some key) o) keys ∙ ap (λ (a : KeyValue). Some a) (either (key_le key key)) in
+          ap (λ (h : Option KeyValue). at_key h (λ key'. max (cond (same_key key key' && (eqb k t && (eqb i m && eqb o j))) total 0) (number_at (Shifts q key' t m j) ops))) top ∙
+          ap (λ (r : Bool). max (cond (r && (eqb k t && (eqb i m && eqb o j))) total 0) (number_at (Shifts q key t m j) ops)) (same_bytes (key_rank key)) ∙
+          above (eqb k t && (eqb i m && eqb o j)) total (number_at (Shifts q key t m j) ops) (low (eqb k t) (eqb i m) (eqb o j) refl refl refl same) ∙
+          ap (λ (h : Option KeyValue). cond (eqb k t && (eqb i m && eqb o j)) total (at_key h (λ key'. number_at (Shifts q key' t m j) ops))) (sym keys)
+
+  pub fold_shifts : (k i o total : ℕ) → number_at (Shifts name key k i o) ops ≤ total → with_name name (names_of ops) ≡ names_of ops → fold (Count (Shifts name key k i o) total ∷ ops) ≡ with_shifts name k i o total (fold ops)
+  unfolding fold with_shifts same_cell
+  fold_shifts k i o total upto kept = λ p. record {
+    names = kept p;
+    key = λ q. same_keys q p;
+    hits = λ q j. max_zero (number_at (Hits q j) ops) p;
+    execs = λ q t j. at_key (same_keys q p) (λ key'. max_zero (number_at (Execs q key' t j) ops) p);
+    shifts = λ q t m j. shifts_cells k i o total upto q t m j p;
   }
 
 -- the clocks of what is in a set

@@ -10,11 +10,11 @@ use Rattle.std.specs.declared.cmp.Ordering.TheVariants.{Less, Equal, Greater}
 use Rattle.stamp_register.specs.Keys.{KeyValue, key_value}
 use Rattle.stamp_register.specs.declared.key.Key.{Key}
 use Rattle.replica_state.specs.declared.point.Counted.{Counted}
-use Rattle.replica_state.specs.declared.point.Counted.TheVariants.{Hits}
+use Rattle.replica_state.specs.declared.point.Counted.TheVariants.{Hits, Shifts}
 use Rattle.replica_state.specs.declared.point.Count.{Count}
 use Rattle.replica_state.specs.declared.point.Point.{Point}
 use Rattle.replica_state.specs.Folds.{greater}
-use Rattle.replica_state.specs.Points.{Held, held_of, number_of, standing, raised, fresh, learned, taken, spending, passed, budget_in, budget_under}
+use Rattle.replica_state.specs.Points.{Held, held_of, number_of, standing, raised, fresh, learned, taken, spending, passed, moved, budget_in, budget_under}
 
 -- a fact for one variant gives another for it
 pub on_ok : {A E P Q : Type 0} (r : Result A E) → (P → Q) → OnOk r P → OnOk r Q
@@ -97,6 +97,11 @@ module _ (p w : Point) (ko : Option KeyValue) (count : Option Count) where
 pub held_taken : (p w : Point) (key : Key) → w.key ≡ Some key → ((d : Counted) → number_of w.counts.items d ≡ fresh (number_of p.counts.items) d) → held_of w ≡ taken (key_value key) (held_of p)
 unfolding held_of taken
 held_taken p w key k h = λ i. record { key = option_map key_value (k i); number = λ d. h d i }
+
+-- with a total of shifted rights more
+pub held_moved : (h w : Held) (term from to total : ℕ) → w.key ≡ h.key → ((d : Counted) → w.number d ≡ raised (Some (record { counted = Shifts term from to; number = total })) h.number d) → w ≡ moved term from to total h
+unfolding moved
+held_moved h w term from to total k f = λ i. record { key = k i; number = λ d. f d i }
 
 -- a point with the same key and the same counts holds the same
 pub same_held : (p w : Point) → w.key ≡ p.key → w.counts.items ≡ p.counts.items → held_of w ≡ held_of p

@@ -15,3 +15,4 @@ pub mod StateOrders
 pub mod PointJoins
 pub mod SetJoins
 pub mod MatrixJoins
+pub mod NamesTogether

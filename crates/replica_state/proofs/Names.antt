@@ -23,7 +23,7 @@ tied a b e = bytes_eq-true a b (sym (is_eq-slice_cmp a b) ∙ ap is_eq e)
 turned : (a b : List ℕ) → slice_cmp nat_cmp a b ≡ Greater → slice_cmp nat_cmp b a ≡ Less
 turned a b e = nat_list_cmp_total.antisymm b a ∙ ap ordering_reverse e
 
-never_less : (a : List ℕ) → slice_cmp nat_cmp a a ≡ Less → ⊥
+pub never_less : (a : List ℕ) → slice_cmp nat_cmp a a ≡ Less → ⊥
 never_less a e = let same : slice_cmp nat_cmp a a ≡ Equal = tied_itself nat_list_cmp_total a in cc
 
 never_both : (a b : List ℕ) → slice_cmp nat_cmp a b ≡ Less → slice_cmp nat_cmp b a ≡ Less → ⊥

@@ -1,5 +1,5 @@
 -- What the plain replica shows after what it holds of one name was written.
-use Rattle.std.proofs.Common.{arith, ◌≡◌, ℕ, ◌+◌, max, Bool, true, false, cond, List, [], ◌∷◌, ◌&&◌, eqb, Option, Some, None, option_map, length, zero, suc, refl, sym, ◌∙◌, ap, subst}
+use Rattle.std.proofs.Common.{arith, ◌≡◌, ℕ, ◌+◌, ◌≤◌, max, Bool, true, false, cond, List, [], ◌∷◌, ◌&&◌, eqb, Option, Some, None, option_map, length, zero, suc, refl, sym, ◌∙◌, ap, subst}
 use Rattle.std.specs.Str.{bytes_eq}
 use Rattle.std.specs.Map.{keys_of}
 use Rattle.std.specs.BTreeMap.{BTreeMap, WritesThrough, is_at, insert_entry}
@@ -20,10 +20,10 @@ use Rattle.stamp_register.specs.Keys.{KeyValue, key_value}
 use Rattle.replica_state.specs.declared.point.Counted.{Counted}
 use Rattle.replica_state.specs.declared.point.Counted.TheVariants.{Hits, Execs, Shifts}
 use Rattle.replica_state.specs.declared.point.Point.{Point}
-use Rattle.replica_state.specs.States.{State, with_name, with_key, with_hits, with_execs, with_pass, budget_of}
+use Rattle.replica_state.specs.States.{State, with_name, with_key, with_hits, with_execs, with_shifts, with_pass, budget_of}
 use Rattle.replica_state.specs.States as states
 use Rattle.replica_state.specs.Folds.{fold}
-use Rattle.replica_state.specs.Points.{Held, held_of, nothing, number_of, taken, passed, budget_under}
+use Rattle.replica_state.specs.Points.{Held, held_of, nothing, number_of, taken, passed, moved, budget_under}
 use Rattle.replica_state.specs.OpSets.{shown, point_at, key_at, number_at, held_at, with_held}
 use Rattle.replica_state.proofs.Orders.{bytes_eq-true}
 
@@ -182,6 +182,30 @@ pass_seen name node (Some term) v kept = λ i. record {
   execs = λ q t j. passed_execs name term node v q t j i;
   shifts = λ q t m n. same_at name (λ p. v.shifts p t m n) q (bytes_eq name q) refl i;
 }
+
+-- a number no less at a cell
+module _ (name : List ℕ) (term from to total : ℕ) (v : State) (low : v.shifts name term from to ≤ total) where
+  at_cell : (old : List ℕ → ℕ) (s : Bool) (q : List ℕ) → (s ≡ true → old name ≤ total) → (b : Bool) → bytes_eq name q ≡ b → cond b (cond s (max total (old name)) (old name)) (old q) ≡ cond (b && s) total (old q)
+  at_cell old true q least true e = let below = least refl in omega (arith, below)
+  at_cell old false q least true e = ap old (bytes_eq-true name q e)
+  at_cell old s q least false e = refl
+
+  same_shift : (t m n : ℕ) (a b c : Bool) → eqb term t ≡ a → eqb from m ≡ b → eqb to n ≡ c → a && (b && c) ≡ true → v.shifts name term from to ≡ v.shifts name t m n
+  same_shift t m n true true true e f g h = λ i. v.shifts name (eqb-true term t e i) (eqb-true from m f i) (eqb-true to n g i)
+  same_shift t m n true true false e f g h = cc
+  same_shift t m n true false c e f g h = cc
+  same_shift t m n false b c e f g h = cc
+
+  pub shift_seen : with_name name v.names ≡ v.names → with_held name (moved term from to total (held_at v name)) v ≡ with_shifts name term from to total v
+  unfolding with_held moved with_shifts
+  shift_seen kept = λ i. record {
+    names = kept i;
+    key = λ q. same_at name v.key q (bytes_eq name q) refl i;
+    hits = λ q j. same_at name (λ p. v.hits p j) q (bytes_eq name q) refl i;
+    execs = λ q t j. same_at name (λ p. v.execs p t j) q (bytes_eq name q) refl i;
+    shifts = λ q t m n. at_cell (λ p. v.shifts p t m n) (eqb term t && (eqb from m && eqb to n)) q
+      (λ h. let same = same_shift t m n (eqb term t) (eqb from m) (eqb to n) refl refl refl h in omega (arith, low, same)) (bytes_eq name q) refl i;
+  }
 
 -- the budgets of a name, in what its point holds
 pub budget_seen : (es : List (List ℕ × Point)) (name : List ℕ) (term : ℕ) → budget_of (shown es) name term ≡ budget_under (key_at (point_at es name)) (number_at (point_at es name)) term

@@ -33,7 +33,7 @@ use Rattle.replica_state.specs.declared.point.Counted.TheVariants.{Hits, Execs, 
 use Rattle.replica_state.specs.Operations.{IsIn}
 use Rattle.replica_state.specs.States as states
 use Rattle.replica_state.specs.States.{State, with_name, budget_of, total_hits}
-use Rattle.replica_state.specs.Points.{Held, nothing, is_hits, same_counted, raised, learned, taken, passed, budget_under}
+use Rattle.replica_state.specs.Points.{Held, nothing, is_hits, same_counted, raised, learned, taken, passed, moved, budget_under}
 use Rattle.replica_state.specs.OpSets.{cell_of, held_at, with_held}
 use Rattle.replica_state.specs.Slots.{Slot, Budgets, IsTold, no_slot, under_key, slot_key, slot_number, slot_held, slot_at, shown_slots}
 use Rattle.replica_state.proofs.Orders.{bytes_eq-true, bytes_eq-refl}
@@ -45,8 +45,8 @@ use Rattle.replica_state.proofs.Names.{IsAscending, same_ascending, with_name-ca
 
 -- ---- the names of a map
 
-abbrev stored : List (List ℕ × Slot) → List ℕ → Option Slot
-stored slots name = stored_at (slice_cmp nat_cmp) slots name
+abbrev stored : {X : Type 0} → List (List ℕ × X) → List ℕ → Option X
+stored entries name = stored_at (slice_cmp nat_cmp) entries name
 
 pub ascending : (ns : List (List ℕ)) → IsStrictlySortedBy (slice_cmp nat_cmp) ns → IsAscending ns
 ascending [] h = tt
@@ -57,7 +57,7 @@ ascending (n ∷ ns) h = (all ns (sorted_head (slice_cmp nat_cmp) n ns h), ascen
     all (x ∷ ms) g m (inl e) = ap (λ q. slice_cmp nat_cmp n q) e ∙ g.0
     all (x ∷ ms) g m (inr k) = all ms g.1 m k
 
-pub stored_name : (slots : List (List ℕ × Slot)) (q : List ℕ) → IsSome (stored slots q) → IsIn q (keys_of slots)
+pub stored_name : {X : Type 0} (slots : List (List ℕ × X)) (q : List ℕ) → IsSome (stored slots q) → IsIn q (keys_of slots)
 stored_name [] q h = absurd (let impossible : false ≡ true = h in cc)
 stored_name (e ∷ slots) q h = by_test (slice_cmp nat_cmp q e.0) refl (stored_name slots q) h
   where
@@ -66,7 +66,7 @@ stored_name (e ∷ slots) q h = by_test (slice_cmp nat_cmp q e.0) refl (stored_n
     by_test Equal s rest k = inl (tied q e.0 s)
     by_test Greater s rest k = inr (rest k)
 
-pub name_stored : (slots : List (List ℕ × Slot)) (q : List ℕ) → IsIn q (keys_of slots) → IsSome (stored slots q)
+pub name_stored : {X : Type 0} (slots : List (List ℕ × X)) (q : List ℕ) → IsIn q (keys_of slots) → IsSome (stored slots q)
 name_stored [] q h = absurd h
 name_stored (e ∷ slots) q h = by_test (is_eq (slice_cmp nat_cmp q e.0)) refl (name_stored slots q) h
   where
@@ -287,8 +287,8 @@ budget_held slots name term held found = ap (λ (o : Option Slot). budget_under 
     by_key None = refl
     by_key (Some key) = refl
 
-name_missing : (slots : List (List ℕ × Slot)) (name : List ℕ) → stored slots name ≡ None → IsIn name (keys_of slots) → ⊥
-name_missing slots name none h = true≢false (sym (subst (λ (o : Option Slot). IsSome o) none (name_stored slots name h)))
+pub name_missing : {X : Type 0} (slots : List (List ℕ × X)) (name : List ℕ) → stored slots name ≡ None → IsIn name (keys_of slots) → ⊥
+name_missing {X} slots name none h = true≢false (sym (subst (λ (o : Option X). IsSome o) none (name_stored slots name h)))
 
 pub name_added : (ns : List (List ℕ)) (name : List ℕ) → (IsIn name ns → ⊥) → length (with_name name ns) ≡ length ns + 1
 name_added [] name not = refl
@@ -316,6 +316,14 @@ passed_not_bottom x y node spent has e bottom = by_key (slot_key y) has (sym (ap
     by_key None h k = true≢false (sym h)
     by_key (Some key) h k = let impossible : ◌≡◌ {A = Option KeyValue} (Some key) None = k in cc
 
+pub moved_not_bottom : (x y : Slot) (term from to total : ℕ) → IsSome (slot_key y) → slot_held x ≡ moved term from to total (slot_held y) → slots_order x no_slot → ⊥
+unfolding slot_held moved
+moved_not_bottom x y term from to total has e bottom = by_key (slot_key y) has (sym (ap (λ (k : Held). k.key) e) ∙ keyless x bottom)
+  where
+    by_key : (o : Option KeyValue) → IsSome o → o ≡ None → ⊥
+    by_key None h k = true≢false (sym h)
+    by_key (Some key) h k = let impossible : ◌≡◌ {A = Option KeyValue} (Some key) None = k in cc
+
 pub taken_not_bottom : (x : Slot) (key : KeyValue) (h : Held) → slot_held x ≡ taken key h → slots_order x no_slot → ⊥
 unfolding slot_held taken
 taken_not_bottom x key h e bottom = let impossible : ◌≡◌ {A = Option KeyValue} (Some key) None = sym (ap (λ (k : Held). k.key) e) ∙ keyless x bottom in cc
@@ -333,3 +341,7 @@ seen_none (Some held) h = absurd (true≢false h)
 pub by_answer : {A : Type 0} {P : A → Type 0} {G : Type 0} (o : Option A) → IsSome o → ((a : A) → P a → G) → IfSome o P → G
 by_answer None has then holds = absurd (true≢false (sym has))
 by_answer (Some a) has then holds = then a holds
+
+pub seen_is : {A : Type 0} (o : Option (Bor A)) → is_some (option_copied o) ≡ is_some o
+seen_is None = refl
+seen_is (Some held) = refl

@@ -94,3 +94,7 @@ passed node spent h =
       key = h.key;
       number = raised (spending node spent h) (raised (Some (record { counted = Hits node; number = h.number (Hits node) + 1 })) h.number);
     }
+
+-- with so many rights to a term moved in all from one node to another
+unfoldable pub moved : ℕ → ℕ → ℕ → ℕ → Held → Held
+moved term from to total h = record { key = h.key; number = raised (Some (record { counted = Shifts term from to; number = total })) h.number }

@@ -4,7 +4,7 @@
 ghost use Rattle.std.specs.Prelude.{◌≡◌, ◌+◌, ◌<◌, ◌^◌, ℕ, List, [], ◌∷◌, ◌++◌, length, option_map, is_none, Some, IfOk, IfSome, IsSome, OnOk, OnErr};
 ghost use Rattle.std.specs.Option.{option_copied};
 ghost use Rattle.stamp_register.specs.Keys.{key_value};
-ghost use Rattle.replica_state.specs.Points.{is_hits, learned, taken, passed};
+ghost use Rattle.replica_state.specs.Points.{is_hits, learned, taken, passed, moved};
 ghost use Rattle.replica_state.specs.OpSets.{cell_of, held_at, with_held};
 ghost use Rattle.lattice_laws.specs.Order.{IsCopy, IsJoin};
 ghost use Rattle.replica_state.specs.Operations.{Operation};
@@ -110,7 +110,12 @@ impl Join for Matrix {
         Ok(Matrix { slots })
     }
 
-    fn join_in(&mut self, alloc: Global, other: Matrix) -> Result<(), AllocError> {
+    /// The state is then that of the operations of both.
+    fn join_in(&mut self, alloc: Global, other: Matrix) -> Result<(), AllocError>
+        ensures ok { OnOk result (IsJoin IsMatrix IsMatrixBelow self.old other self.new) }
+        ensures union { OnOk result ((a b : List Operation) → matrix_state self.old ≡ fold a → matrix_state other ≡ fold b → matrix_state self.new ≡ fold (a ++ b)) }
+        ensures err { OnErr result (self.new ≡ self.old) }
+    {
         let Matrix { slots } = other;
         self.slots.join_in(alloc, slots)
     }
@@ -174,6 +179,33 @@ impl Replica for Matrix {
         }
     }
 
+    fn count_shift(
+        &mut self,
+        alloc: Global,
+        name: &Name,
+        term: u8,
+        from: u8,
+        to: u8,
+        total: u64,
+    ) -> Result<(), AllocError> {
+        let _ = self.slots.is_bottom();
+        let shift = |held: &mut Slot|
+            requires set { IsSome (slot_key held.old) }
+            ensures ok { OnOk result (slot_held held.new ≡ moved term from to total (slot_held held.old)) }
+            ensures err { OnErr result (slot_held held.new ≡ slot_held held.old) }
+        { slot::shift(held, alloc, term, from, to, total) };
+        let shifted = self.slots.change(name, shift);
+        let _ = self.slots.is_bottom();
+        match shifted {
+            Some(shifted) => shifted,
+            None => Ok(()),
+        }
+    }
+
+    fn merge(&mut self, alloc: Global, other: Matrix) -> Result<(), AllocError> {
+        self.join_in(alloc, other)
+    }
+
     fn key(&self, name: &Name) -> Option<&Key> {
         let _ = self.slots.is_bottom();
         match self.slots.get(name) {
@@ -226,6 +258,17 @@ impl Replica for Matrix {
             Some(_) => len,
             None => len + 1,
         }
+    }
+
+    fn names_together(&self, other: &Matrix) -> usize {
+        let _ = self.slots.is_bottom();
+        let mut names = self.slots.len() + other.slots.len();
+        for (name, _) in other.slots.iter() {
+            if self.slots.get(name).is_some() {
+                names -= 1;
+            }
+        }
+        names
     }
 
     fn name_at(&self, index: usize) -> Option<&Name> {

@@ -197,6 +197,26 @@ impl Replica for OpSet {
         Ok(())
     }
 
+    fn count_shift(
+        &mut self,
+        _alloc: Global,
+        name: &Name,
+        term: u8,
+        from: u8,
+        to: u8,
+        total: u64,
+    ) -> Result<(), AllocError> {
+        if let Some(point) = self.points.get_mut(name) {
+            return point.shift(term, from, to, total);
+        }
+        Ok(())
+    }
+
+    fn merge(&mut self, alloc: Global, other: OpSet) -> Result<(), AllocError> {
+        *self = self.joined(alloc, &other)?;
+        Ok(())
+    }
+
     fn key(&self, name: &Name) -> Option<&Key> {
         // What `len` promises puts the names in order.
         let _ = self.points.len();
@@ -249,6 +269,16 @@ impl Replica for OpSet {
             Some(_) => len,
             None => len + 1,
         }
+    }
+
+    fn names_together(&self, other: &OpSet) -> usize {
+        let mut names = self.points.len() + other.points.len();
+        for (name, _) in other.points.iter() {
+            if self.points.get(name).is_some() {
+                names -= 1;
+            }
+        }
+        names
     }
 
     fn name_at(&self, index: usize) -> Option<&Name> {

@@ -7,7 +7,7 @@ ghost use Rattle.std.specs.Option.{option_map_or};
 ghost use Rattle.counters.specs.Sums.{numbers, sum_below};
 ghost use Rattle.counters.specs.Budgets.{rights, total_spent};
 ghost use Rattle.stamp_register.specs.Keys.{key_value};
-ghost use Rattle.replica_state.specs.Points.{same_counted, is_hits, term_of, number_of, raised, fresh, budget_under, nothing, held_of, standing, learned, passed};
+ghost use Rattle.replica_state.specs.Points.{same_counted, is_hits, term_of, number_of, raised, fresh, budget_under, nothing, held_of, standing, learned, passed, moved};
 ghost use Rattle.replica_state.specs.Unions.{both_held, if_counts, IsHeldBelow};
 ghost use Rattle.replica_state.specs.declared.point.Counted.{Counted};
 ghost use Rattle.replica_state.specs.declared.point.Counted.TheVariants.{Hits, Execs};
@@ -316,6 +316,20 @@ impl Point {
         raise(&mut self.counts, hits);
         put(&mut self.counts, execs);
         Ok(())
+    }
+
+    /// Counts the rights to a term that one node moved to another, so many in all.
+    pub(crate) fn shift(
+        &mut self,
+        term: u8,
+        from: u8,
+        to: u8,
+        total: u64,
+    ) -> Result<(), AllocError>
+        ensures ok { OnOk result (held_of self.new ≡ moved term from to total (held_of self.old)) }
+        ensures err { OnErr result (held_of self.new ≡ held_of self.old) }
+    {
+        self.count(Some(Counted::Shifts { term, from, to }.times(total)))
     }
 
     // Learns counts of another point. Under another key only hits count here.

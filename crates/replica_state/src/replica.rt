@@ -1,12 +1,13 @@
 //! What a node needs of the thing that holds its state.
 
-ghost use Rattle.std.specs.Prelude.{◌≡◌, ◌+◌, ◌<◌, ◌^◌, ℕ, List, [], ◌∷◌, length, slice_get, option_map, IsSome, OnOk, OnErr};
+ghost use Rattle.std.specs.Prelude.{◌≡◌, ◌+◌, ◌<◌, ◌≤◌, ◌^◌, ℕ, List, [], ◌∷◌, ◌++◌, length, slice_get, option_map, IsSome, OnOk, OnErr};
 ghost use Rattle.std.specs.Option.{option_copied};
 ghost use Rattle.stamp_register.specs.Keys.{key_value};
 ghost use Rattle.replica_state.specs.Operations.{Operation, operation, IsWellFormed};
-ghost use Rattle.replica_state.specs.States.{State, with_name, with_key, with_pass, total_hits, rights_of, spent_of};
+ghost use Rattle.replica_state.specs.States.{State, with_name, with_key, with_pass, with_shifts, total_hits, rights_of, spent_of};
 ghost use Rattle.replica_state.specs.Folds.{fold};
 ghost use Rattle.replica_state.specs.StateOrder.{OrdersByState};
+ghost use Rattle.replica_state.specs.Unions.{with_names};
 
 use crate::op::Op;
 use actions::Name;
@@ -50,6 +51,28 @@ pub trait Replica: Join {
         ensures ok { OnOk result (state self.new ≡ with_pass name.now node spent (state self.old)) }
         ensures err { OnErr result (state self.new ≡ state self.old) };
 
+    /// Counts the rights to a term of the point's key that one node moved to another, so many in
+    /// all.
+    fn count_shift(
+        &mut self,
+        alloc: Global,
+        name: &Name,
+        term: u8,
+        from: u8,
+        to: u8,
+        total: u64,
+    ) -> Result<(), AllocError>
+        requires set { IsSome ((state self.old).key name.now) }
+        requires more { (state self.old).shifts name.now term from to ≤ total }
+        ensures ok { OnOk result (state self.new ≡ with_shifts name.now term from to total (state self.old)) }
+        ensures err { OnErr result (state self.new ≡ state self.old) };
+
+    /// Learns all that another replica knows: where both states were those of some sets, this one
+    /// is then that of both sets together. On want of memory it is as it was.
+    fn merge(&mut self, alloc: Global, other: Self) -> Result<(), AllocError>
+        ensures ok { OnOk result ((a b : List Operation) → state self.old ≡ fold a → state other ≡ fold b → state self.new ≡ fold (a ++ b)) }
+        ensures err { OnErr result (state self.new ≡ state self.old) };
+
     /// The key of a point: its last setting or removal.
     fn key(&self, name: &Name) -> Option<&Key>
         ensures value { option_map key_value (option_copied result) ≡ (state self.now).key name.now }
@@ -87,6 +110,10 @@ pub trait Replica: Join {
     /// How many names would have a key or a hit with this one.
     fn names_with(&self, name: &Name) -> usize
         ensures { result ≡ length (with_name name.now (state self.now).names) };
+
+    /// How many names would have a key or a hit with those of another replica.
+    fn names_together(&self, other: &Self) -> usize
+        ensures { result ≡ length (with_names (state other.now).names (state self.now).names) };
 
     /// The name at a place, in byte order.
     fn name_at(&self, index: usize) -> Option<&Name>

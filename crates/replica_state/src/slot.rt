@@ -5,7 +5,7 @@ ghost use Rattle.std.specs.Option.{option_copied, option_map_or};
 ghost use Rattle.counters.specs.Sums.{numbers, sum_below};
 ghost use Rattle.counters.specs.Budgets.{rights, total_spent};
 ghost use Rattle.stamp_register.specs.Keys.{key_value};
-ghost use Rattle.replica_state.specs.Points.{is_hits, term_of, raised, budget_under, nothing, standing, learned, taken, passed};
+ghost use Rattle.replica_state.specs.Points.{is_hits, term_of, raised, budget_under, nothing, standing, learned, taken, passed, moved};
 ghost use Rattle.replica_state.specs.Slots.{IsShareRaised, slot_held, slot_key, slot_number, share_number, budgets_number};
 ghost use Rattle.replica_state.specs.declared.point.Counted.{Counted};
 ghost use Rattle.replica_state.specs.declared.point.Counted.TheVariants.{Hits, Execs};
@@ -272,4 +272,20 @@ pub(crate) fn pass(
     }
     raise(slot, alloc, execs)?;
     raise(slot, alloc, hits)
+}
+
+/// Counts the rights to a term that one node moved to another, so many in all.
+pub(crate) fn shift(
+    slot: &mut Slot,
+    alloc: Global,
+    term: u8,
+    from: u8,
+    to: u8,
+    total: u64,
+) -> Result<(), AllocError>
+    requires set { IsSome (slot_key slot.old) }
+    ensures ok { OnOk result (slot_held slot.new ≡ moved term from to total (slot_held slot.old)) }
+    ensures err { OnErr result (slot_held slot.new ≡ slot_held slot.old) }
+{
+    raise(slot, alloc, Counted::Shifts { term, from, to }.times(total))
 }
