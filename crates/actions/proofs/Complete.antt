@@ -218,7 +218,7 @@ head_some w t m =
       length-append (count_text w.count) w.word,
     )
 
-begins_without : (c : ℕ) (xs ys : List ℕ) → lacks c xs ≡ true → 0 < length xs → (rest : List ℕ) → xs ++ ys ≢ c ∷ rest
+pub begins_without : (c : ℕ) (xs ys : List ℕ) → lacks c xs ≡ true → 0 < length xs → (rest : List ℕ) → xs ++ ys ≢ c ∷ rest
 begins_without c [] ys h some = λ rest e. omega (arith, some)
 begins_without c (x ∷ xs) ys h some = λ rest e.
     let same : x ≡ c = cc in
@@ -234,7 +234,7 @@ lacks_end c [] h =
     absurd cc
 lacks_end c (x ∷ xs) h = lacks_end c xs (and_parts (not (eqb x c)) (lacks c (xs ++ c ∷ [])) h).1
 
-ends_without : (c : ℕ) (xs : List ℕ) → lacks c xs ≡ true → (front : List ℕ) → xs ≢ front ++ c ∷ []
+pub ends_without : (c : ℕ) (xs : List ℕ) → lacks c xs ≡ true → (front : List ℕ) → xs ≢ front ++ c ∷ []
 ends_without c xs h front e = lacks_end c front (subst (λ (x : List ℕ). lacks c x ≡ true) e h)
 
 core_ends : (head : List ℕ) (argument : Option (List ℕ)) → lacks space head ≡ true → (front : List ℕ)

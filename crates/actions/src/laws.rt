@@ -3,6 +3,7 @@
 ghost use Rattle.std.specs.Prelude.{◌≡◌, ◌≤◌, ◌↔◌, ℕ, Bool, Option, List, length};
 ghost use Rattle.actions.specs.Value.{TermValue};
 ghost use Rattle.actions.specs.Grammar.{SpellsActions};
+ghost use Rattle.actions.specs.SettingGrammar.{SpellsSetting};
 ghost use Rattle.actions.specs.Canonical.{canonical};
 ghost use Rattle.actions.specs.Choice.{choice, IsFirstTriggered};
 
@@ -28,4 +29,10 @@ pub fn canonical_text_fixes_value()
 pub fn choice_is_first_triggered()
     ensures { (ts : List TermValue) (words : List ℕ) (may : ℕ → Bool) (chosen : Option ℕ)
         → (chosen ≡ choice ts words may) ↔ IsFirstTriggered ts words may chosen }
+{}
+
+/// A text sets at most one list of points.
+pub fn setting_spells_one_value()
+    ensures { (text : List ℕ) (points others : List (List ℕ × List TermValue))
+        → SpellsSetting text points → SpellsSetting text others → points ≡ others }
 {}

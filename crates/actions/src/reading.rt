@@ -59,7 +59,8 @@ fn parse_terms(alloc: Global, pieces: &[&str]) -> Result<Vec<Term>, ActionFault>
     Ok(terms)
 }
 
-fn trim_spaces(text: &str) -> &str
+/// The text without the spaces at its ends.
+pub(crate) fn trim_spaces(text: &str) -> &str
     ensures { result.now ≡ trimmed text.now }
 {
     // `trim` would take other white space too.

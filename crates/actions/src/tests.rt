@@ -3,6 +3,7 @@
 
 mod choices;
 mod names;
+mod settings;
 mod texts;
 mod values;
 

@@ -5,3 +5,5 @@ pub mod Listing
 pub mod SettingSteps
 pub mod ShiftSteps
 pub mod Kept
+pub mod ShiftRefusals
+pub mod LoadRefusals

@@ -4,10 +4,10 @@ use Rattle.std.proofs.lemmas.Bool.{and_parts, eqb-true, ne_eqb}
 use Rattle.std.proofs.lemmas.Int.{ints}
 use Rattle.std.proofs.lemmas.Slice.Eq.{bytes_eq-Decides}
 use Rattle.std.specs.Str.{bytes_eq}
-use Rattle.std.specs.Prelude.{ℤ, pos, ◌≤ℤ◌, ◌-ℤ◌, option_map}
+use Rattle.std.specs.Prelude.{ℤ, pos, ◌≤ℤ◌, option_map}
 use Rattle.std.specs.Option.{option_map_or}
 use Rattle.counters.specs.Sums.{numbers, sum_others}
-use Rattle.counters.specs.Budgets.{Budget, rights, given, gone}
+use Rattle.counters.specs.Budgets.{Budget, rights}
 use Rattle.counters.proofs.SumLemmas.{sum_others-le, sum_others-add, sum_others-at_most, sum_others-same}
 use Rattle.stamp_register.specs.Keys.{KeyValue}
 use Rattle.replica_state.specs.Operations.{Operation, Count, Shifts, count_of}
@@ -16,7 +16,7 @@ use Rattle.replica_state.specs.Folds.{fold, clock_of, names_of, key_of, number_a
 use Rattle.replica_state.proofs.FoldSteps.{fold_shifts}
 use Rattle.node_core.specs.declared.trace.Config.{Config}
 use Rattle.node_core.specs.Asks.{Shift}
-use Rattle.node_core.specs.Nodes.{Node, shown}
+use Rattle.node_core.specs.Nodes.{Node}
 use Rattle.node_core.specs.Outcomes.{IsHeld}
 use Rattle.node_core.specs.Steps.{after, shift_under}
 use Rattle.node_core.specs.Holds.{Holds}

@@ -1,28 +1,24 @@
 -- What a node holds after one more call.
-use Rattle.std.proofs.Common.{◌≡◌, ℕ, ◌+◌, ◌<◌, ◌≤◌, ◌^◌, Bool, true, false, cond, ◌&&◌, eqb, List, [], ◌∷◌, ◌++◌, length, map, subst, length-append, Option, Some, None, Result, Ok, refl, sym, ◌∙◌, ap, arith}
-use Rattle.std.proofs.lemmas.List.{map-append, length-map}
+use Rattle.std.proofs.Common.{◌≡◌, ℕ, ◌+◌, ◌<◌, ◌≤◌, ◌^◌, Bool, true, false, cond, ◌&&◌, eqb, List, [], ◌∷◌, ◌++◌, length, map, subst, length-append, Option, Some, None, refl, sym, ◌∙◌, ap, arith}
+use Rattle.std.proofs.lemmas.List.{map-append}
 use Rattle.std.specs.Str.{bytes_eq}
 use Rattle.std.specs.Option.{IsSome}
 use Rattle.std.specs.Prelude.{pos, ◌≤ℤ◌}
-use Rattle.actions.specs.Value.{TermValue}
-use Rattle.actions.specs.Canonical.{canonical}
-use Rattle.actions.specs.Reading.{reading}
-use Rattle.actions.specs.declared.fault.ActionFault.{ActionFault}
 use Rattle.stamp_register.specs.Keys.{KeyValue}
 use Rattle.replica_state.specs.Operations.{Operation, Count, Hits, Execs, same_cell}
-use Rattle.replica_state.specs.States.{State, with_name, with_key, with_hits, with_execs, with_pass, rights_of}
+use Rattle.replica_state.specs.States.{State, with_name, with_hits, with_execs, with_pass, rights_of}
 use Rattle.replica_state.specs.Folds.{fold, clock_of, names_of, key_of, number_at, at_key}
-use Rattle.replica_state.proofs.FoldSteps.{fold_key, fold_hits, fold_execs, max_zero, is_later, all_later, later_some, either_way}
+use Rattle.replica_state.proofs.FoldSteps.{fold_hits, fold_execs, max_zero, is_later, all_later, later_some, either_way}
 use Rattle.node_core.specs.declared.trace.Config.{Config}
 use Rattle.node_core.specs.declared.trace.Entry.{Entry}
-use Rattle.node_core.specs.Asks.{Call, call, Asked, Set, Pass}
+use Rattle.node_core.specs.Asks.{Call, call, Pass}
 use Rattle.node_core.specs.Nodes.{Node, start, shown, setting_of}
 use Rattle.node_core.specs.Passes.{next_hit, ops_of_pass}
 use Rattle.node_core.specs.Outcomes.{execs_done, ops_done, state_done, IsHeld}
-use Rattle.node_core.specs.Steps.{after, new_key, body_read}
+use Rattle.node_core.specs.Steps.{after}
 use Rattle.node_core.specs.Traces.{replay_from, replay}
 use Rattle.node_core.specs.Holds.{Holds}
-use Rattle.node_core.proofs.OwnRights.{HasOwn, own_start, own_key, own_done}
+use Rattle.node_core.proofs.OwnRights.{HasOwn, own_start, own_done}
 
 pub replay_more : (i : ℕ) (n : Node) (cs : List Call) (c : Call) → replay_from i n (cs ++ c ∷ []) ≡ after i (replay_from i n cs) c.ask c.words
 unfolding replay_from

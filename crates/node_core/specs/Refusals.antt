@@ -104,6 +104,17 @@ is_overspent v name terms = any_below (length terms) (λ term. is_above (count_a
 abbrev pub overspends : State → Operation → Bool
 overspends v op = is_overspent v (name_in op) (terms_in (setting_of v (name_in op)))
 
+-- the refusals of a shift but those of the trace and of the name
+abbrev pub faults_of_setting : Config → State → List ℕ → ℕ → ℕ → ℕ → Option (KeyValue × List TermValue) → List (Option NodeFault)
+faults_of_setting config v name term to amount setting =
+    where_true (is_none setting) faults.NotSet ∷ where_true (nat_le (length (terms_in setting)) term) faults.NoSuchTerm ∷
+    where_true (is_none (count_at (terms_in setting) term)) faults.NotCounted ∷ where_true (is_bad_node config to) faults.BadNode ∷
+    where_true (amount == 0) faults.ZeroAmount ∷ where_true (too_few config.node v name term amount setting) (faults.TooFewRights (rights_here config.node v name term setting)) ∷
+    where_true (nat_lt most (v.shifts name term config.node to + amount)) faults.CellFull ∷ []
+
+abbrev pub faults_of_shift : Config → State → List ℕ → ℕ → ℕ → ℕ → List (Option NodeFault)
+faults_of_shift config v name term to amount = faults_of_setting config v name term to amount (setting_of v name)
+
 -- the refusals of an ask, with what the node shows and the length of its trace
 abbrev pub faults_of : Config → ℕ → Node → Asked → List ℕ → List (Option NodeFault)
 faults_of config entries n (asks.Set name text) words =
@@ -120,12 +131,7 @@ faults_of config entries n (asks.Pass name) words =
     where_true (is_full config entries) faults.TraceFull ∷ where_true (not (is_name name)) faults.BadName ∷
     where_true (not (length words == words_for (shown n) name)) (faults.BadWords (words_for (shown n) name)) ∷ []
 faults_of config entries n (asks.Shift name term to amount) words =
-    let setting = setting_of (shown n) name in
-    where_true (is_full config entries) faults.TraceFull ∷ where_true (not (is_name name)) faults.BadName ∷ where_true (is_none setting) faults.NotSet ∷
-    where_true (nat_le (length (terms_in setting)) term) faults.NoSuchTerm ∷ where_true (is_none (count_at (terms_in setting) term)) faults.NotCounted ∷
-    where_true (is_bad_node config to) faults.BadNode ∷ where_true (amount == 0) faults.ZeroAmount ∷
-    where_true (too_few config.node (shown n) name term amount setting) (faults.TooFewRights (rights_here config.node (shown n) name term setting)) ∷
-    where_true (nat_lt most ((shown n).shifts name term config.node to + amount)) faults.CellFull ∷ []
+    where_true (is_full config entries) faults.TraceFull ∷ where_true (not (is_name name)) faults.BadName ∷ faults_of_shift config (shown n) name term to amount
 faults_of config entries n (asks.Emit to chosen) words =
     where_true (is_full config entries) faults.TraceFull ∷ where_true (is_bad_node config to) faults.BadNode ∷ []
 faults_of config entries n (asks.Deliver message) words =

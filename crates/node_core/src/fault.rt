@@ -1,8 +1,34 @@
 //! Why a node refuses.
 
-use actions::ActionFault;
+use actions::{ActionFault, SettingFault};
+use std::alloc::{AllocError, AllocFailed};
 use std::error::Error;
 use std::fmt;
+
+/// Why a text is refused. `Display` shows the text of the fault that it holds.
+#[derive(Clone, Copy, Debug, PartialEq, Eq)]
+pub enum TextFault {
+    /// As an action text.
+    Actions(ActionFault),
+    /// As a setting text.
+    Setting(SettingFault),
+}
+
+impl fmt::Display for TextFault {
+    ghost use Rattle.std.specs.Prelude.{Some};
+    ghost use Rattle.node_core.specs.Texts.{text_fault_text};
+
+    ghost output = { λ e. Some (text_fault_text e) };
+
+    fn fmt<W: fmt::Write>(&self, f: &mut fmt::Formatter<W>) -> fmt::Result {
+        match self {
+            TextFault::Actions(fault) => write!(f, "{fault}"),
+            TextFault::Setting(fault) => write!(f, "{fault}"),
+        }
+    }
+}
+
+impl Error for TextFault {}
 
 /// Why a call is refused. Where several refusals apply, the first of them in this order is the
 /// answer, but that want of memory stands in the place of any other. After a refusal the node is
@@ -16,11 +42,11 @@ pub enum NodeFault {
     TraceFull,
     /// The name isn't 1 to 128 bytes of ASCII letters, digits, `_`, `-`, `.` and `:`.
     BadName,
-    /// The action text is refused.
-    BadActions(ActionFault),
+    /// The action text is refused, or the setting text for another reason than a name.
+    BadActions(TextFault),
     /// More than 256 names would be held, removed ones counted.
     TooManyPoints,
-    /// The clock is at 2^64 - 1.
+    /// The clock would pass 2^64 - 1.
     ClockFull,
     /// The point isn't set here.
     NotSet,
@@ -84,3 +110,25 @@ impl fmt::Display for NodeFault {
 }
 
 impl Error for NodeFault {}
+
+impl From<AllocError> for NodeFault {
+    ghost use Rattle.std.specs.Prelude.{◌≡◌};
+    ghost use Rattle.node_core.specs.declared.fault.NodeFault.TheVariants.{OutOfMemory};
+
+    ghost from_gives = { λ _ e. e ≡ OutOfMemory };
+
+    fn from(_e: AllocError) -> NodeFault {
+        NodeFault::OutOfMemory
+    }
+}
+
+impl<T: Drop> From<AllocFailed<T>> for NodeFault {
+    ghost use Rattle.std.specs.Prelude.{◌≡◌};
+    ghost use Rattle.node_core.specs.declared.fault.NodeFault.TheVariants.{OutOfMemory};
+
+    ghost from_gives = { λ _ e. e ≡ OutOfMemory };
+
+    fn from(_e: AllocFailed<T>) -> NodeFault {
+        NodeFault::OutOfMemory
+    }
+}

@@ -4,11 +4,13 @@
 
 mod fault;
 mod list;
+mod load;
 mod node;
 mod pass;
+mod shift;
 mod trace;
 
-pub use fault::NodeFault;
+pub use fault::{NodeFault, TextFault};
 pub use node::NodeCore;
 pub use trace::{Ask, Config, Entry, PassReply, Reply, Trace};
 

@@ -1,21 +1,29 @@
 //! A node and its calls.
 
-ghost use Rattle.std.specs.Prelude.{◌≡◌, ◌≢◌, ℕ, List, [], ◌∷◌, ◌++◌, vec_len, vec_capacity, length, ◌^◌, ◌+◌, ◌≤◌, ◌<◌, ◌⊎◌, ◌↔◌, pos, ◌≤ℤ◌, map, IfOk, IfErr, OnOk, OnErr, IsTrue, Some, None, Ok, string_bytes, true, false};
+ghost use Rattle.std.specs.Prelude.{◌≡◌, ◌≢◌, ℕ, List, [], nat_lt, IsSome, ◌∷◌, ◌++◌, vec_len, vec_capacity, length, ◌^◌, ◌+◌, ◌≤◌, ◌<◌, ◌⊎◌, ◌↔◌, pos, ◌≤ℤ◌, map, IfOk, IfErr, OnOk, OnErr, IsTrue, Some, None, Ok, string_bytes, true, false};
+ghost use Rattle.actions.specs.Names.{is_name};
 ghost use Rattle.actions.specs.Reading.{reading};
-ghost use Rattle.replica_state.specs.States.{rights_of, spent_of, total_hits};
+ghost use Rattle.stamp_register.specs.Keys.{body_value};
+ghost use Rattle.replica_state.specs.Folds.{fold};
+ghost use Rattle.replica_state.specs.Slots.{matrix_state};
+ghost use Rattle.replica_state.specs.States.{rights_of, spent_of, total_hits, with_name};
 ghost use Rattle.node_core.specs.Asks as asks;
 ghost use Rattle.node_core.specs.Asks.{passed, call};
 ghost use Rattle.node_core.specs.Nodes.{shown};
 ghost use Rattle.node_core.specs.Passes.{words_for};
-ghost use Rattle.node_core.specs.Refusals.{is_bad_config};
+ghost use Rattle.node_core.specs.Refusals.{first_fault, is_bad_config, most, too_many, where_true};
+ghost use Rattle.node_core.specs.Outcomes.{IsHeld, state_set};
+ghost use Rattle.node_core.specs.Steps.{points_in, settings};
 ghost use Rattle.node_core.specs.Traces.{refusal, reply_to, after_call, node_of};
 ghost use Rattle.node_core.specs.Texts.{list_text};
 ghost use Rattle.node_core.specs.Stamps.{HasStamp};
 
 use crate::State;
-use crate::fault::NodeFault;
+use crate::fault::{NodeFault, TextFault};
 use crate::list::list_of;
+use crate::load::{read_points, state_with};
 use crate::pass::{Outcome, count, outcome_of, words_needed};
+use crate::shift::total_with;
 use crate::trace::{Ask, Config, Entry, PassReply, Reply, Trace};
 use actions::{ActionFault, Actions, Name, NameFault, parse_actions};
 use replica_state::Replica;
@@ -79,10 +87,73 @@ impl NodeCore {
         ensures err { OnErr result (self.new ≡ self.old) }
     {
         let (point, actions) = self.set_checked(alloc, name, text)?;
-        match self.issue(alloc, name, text, point, actions) {
-            Ok(stamp) => Ok(stamp),
-            Err(_) => Err(NodeFault::OutOfMemory),
-        }
+        let stamp = self.next_stamp();
+        let entry = Entry {
+            ask: Ask::Set {
+                name: String::from_str(alloc, name)?,
+                text: String::from_str(alloc, text)?,
+            },
+            words: Vec::new(alloc),
+            reply: Reply::Set(stamp),
+        };
+        self.issue(alloc, point, Body::Set(actions), entry)?;
+        Ok(stamp)
+    }
+
+    /// Removes a point, under a new stamp, also where it isn't known here: so that a setting that
+    /// comes later from another node, but was made before, doesn't hold.
+    pub fn remove(&mut self, alloc: Global, name: &str) -> Result<Stamp, NodeFault>
+        ensures ok { IfOk result (λ s. (refusal self.old (asks.Remove name.now) [] ≡ None) × (reply_to self.old (asks.Remove name.now) [] ≡ asks.IsRemoved s)) }
+        ensures after { OnOk result (self.new ≡ after_call self.old (asks.Remove name.now) []) }
+        ensures refused { IfErr result (λ f. (f ≡ NodeFault.OutOfMemory) ⊎ (refusal self.old (asks.Remove name.now) [] ≡ Some f)) }
+        ensures err { OnErr result (self.new ≡ self.old) }
+    {
+        let point = self.remove_checked(alloc, name)?;
+        let stamp = self.next_stamp();
+        let entry = Entry {
+            ask: Ask::Remove {
+                name: String::from_str(alloc, name)?,
+            },
+            words: Vec::new(alloc),
+            reply: Reply::Remove(stamp),
+        };
+        self.issue(alloc, point, Body::Removed, entry)?;
+        Ok(stamp)
+    }
+
+    /// Sets the points of a setting text as one call, one after the other, under stamps of
+    /// consecutive clocks, and answers how many entries there were. Where one entry is refused,
+    /// none is set.
+    pub fn load(&mut self, alloc: Global, text: &str) -> Result<u16, NodeFault>
+        ensures ok { IfOk result (λ n. (refusal self.old (asks.Load text.now) [] ≡ None) × (reply_to self.old (asks.Load text.now) [] ≡ asks.IsLoaded n)) }
+        ensures after { OnOk result (self.new ≡ after_call self.old (asks.Load text.now) []) }
+        ensures refused { IfErr result (λ f. (f ≡ NodeFault.OutOfMemory) ⊎ (refusal self.old (asks.Load text.now) [] ≡ Some f)) }
+        ensures err { OnErr result (self.new ≡ self.old) }
+    {
+        let (loaded, entries) = self.load_checked(alloc, text)?;
+        self.take_in(alloc, loaded, entries, String::from_str(alloc, text)?)?;
+        Ok(entries)
+    }
+
+    /// Moves rights to execute a counted term from this node to another, and answers how many it
+    /// has moved there in all, under the point's present stamp. The other node has them once it
+    /// was told.
+    pub fn shift(
+        &mut self,
+        alloc: Global,
+        name: &str,
+        term: u8,
+        to: u8,
+        amount: u64,
+    ) -> Result<u64, NodeFault>
+        ensures ok { IfOk result (λ total. (refusal self.old (asks.Shift name.now term to amount) [] ≡ None) × (reply_to self.old (asks.Shift name.now term to amount) [] ≡ asks.IsShifted total)) }
+        ensures after { OnOk result (self.new ≡ after_call self.old (asks.Shift name.now term to amount) []) }
+        ensures refused { IfErr result (λ f. (f ≡ NodeFault.OutOfMemory) ⊎ (refusal self.old (asks.Shift name.now term to amount) [] ≡ Some f)) }
+        ensures err { OnErr result (self.new ≡ self.old) }
+    {
+        let (point, total) = self.shift_checked(alloc, name, term, to, amount)?;
+        self.move_rights(alloc, point, term, to, amount, total)?;
+        Ok(total)
     }
 
     /// Passes a point, with a random word for each of its terms whose chance is below 100%.
@@ -98,10 +169,8 @@ impl NodeCore {
         ensures err { OnErr result (self.new ≡ self.old) }
     {
         let point = self.pass_checked(alloc, name, words)?;
-        match self.pass(alloc, point, words) {
-            Ok(reply) => Ok(reply),
-            Err(_) => Err(NodeFault::OutOfMemory),
-        }
+        let reply = self.pass(alloc, point, words)?;
+        Ok(reply)
     }
 
     /// The configuration that the node was made with.
@@ -159,6 +228,13 @@ impl NodeCore {
         list_of(alloc, &self.state)
     }
 
+    /// All that the node knows of settings, hits, executions and moved rights.
+    pub fn state(&self) -> &State
+        ensures { matrix_state result.now ≡ shown (node_of self.now) }
+    {
+        &self.state
+    }
+
     /// The accepted calls.
     pub fn trace(&self) -> &Trace
         ensures { map call result.now.items ≡ self.now.trace }
@@ -175,11 +251,7 @@ impl NodeCore {
         if self.trace.len() >= self.config.trace_cap as usize {
             return Err(NodeFault::TraceFull);
         }
-        let point = match Name::parse(alloc, name) {
-            Ok(point) => point,
-            Err(NameFault::BadName) => return Err(NodeFault::BadName),
-            Err(NameFault::OutOfMemory) => return Err(NodeFault::OutOfMemory),
-        };
+        let point = read_name(alloc, name)?;
         let need = words_needed(&self.state, &point);
         if words.len() != need as usize {
             return Err(NodeFault::BadWords { need });
@@ -231,64 +303,205 @@ impl NodeCore {
         if self.trace.len() >= self.config.trace_cap as usize {
             return Err(NodeFault::TraceFull);
         }
-        let point = match Name::parse(alloc, name) {
-            Ok(point) => point,
-            Err(NameFault::BadName) => return Err(NodeFault::BadName),
-            Err(NameFault::OutOfMemory) => return Err(NodeFault::OutOfMemory),
-        };
+        let point = read_name(alloc, name)?;
         let actions = match parse_actions(alloc, text) {
             Ok(actions) => actions,
             Err(ActionFault::OutOfMemory) => return Err(NodeFault::OutOfMemory),
-            Err(fault) => return Err(NodeFault::BadActions(fault)),
+            Err(fault) => return Err(NodeFault::BadActions(TextFault::Actions(fault))),
         };
-        if self.state.names_with(&point) > MAX_NAMES {
+        self.check_room(&point)?;
+        Ok((point, actions))
+    }
+
+    // The name, or the refusal.
+    fn remove_checked(&self, alloc: Global, name: &str) -> Result<Name, NodeFault>
+        ensures ok { IfOk result (λ p. (refusal self.now (asks.Remove name.now) [] ≡ None) × (p ≡ name.now)) }
+        ensures room { OnOk result ((length self.now.trace < self.now.config.trace_cap) × ((node_of self.now).marks.clock + 1 < 2 ^ 64)) }
+        ensures refused { IfErr result (λ f. (f ≡ NodeFault.OutOfMemory) ⊎ (refusal self.now (asks.Remove name.now) [] ≡ Some f)) }
+    {
+        if self.trace.len() >= self.config.trace_cap as usize {
+            return Err(NodeFault::TraceFull);
+        }
+        let point = read_name(alloc, name)?;
+        self.check_room(&point)?;
+        Ok(point)
+    }
+
+    // Whether a key of a point finds room: a name at most, and a clock.
+    fn check_room(&self, point: &Name) -> Result<(), NodeFault>
+        ensures ok { OnOk result ((too_many (with_name point.now (shown (node_of self.now)).names) ≡ false) × ((node_of self.now).marks.clock + 1 < 2 ^ 64)) }
+        ensures refused { IfErr result (λ f. first_fault (where_true (too_many (with_name point.now (shown (node_of self.now)).names)) NodeFault.TooManyPoints ∷ where_true (nat_lt most ((node_of self.now).marks.clock + 1)) NodeFault.ClockFull ∷ []) ≡ Some f) }
+    {
+        if self.state.names_with(point) > MAX_NAMES {
             return Err(NodeFault::TooManyPoints);
         }
         if self.clock == u64::MAX {
             return Err(NodeFault::ClockFull);
         }
-        Ok((point, actions))
+        Ok(())
     }
 
-    // Sets a point whose name and actions were read.
+    // The stamp of the next setting.
+    fn next_stamp(&self) -> Stamp
+        requires { (node_of self.now).marks.clock + 1 < 2 ^ 64 }
+        ensures { result ≡ record { clock = (node_of self.now).marks.clock + 1; node = self.now.config.node } }
+    {
+        Stamp {
+            clock: self.clock + 1,
+            node: self.config.node,
+        }
+    }
+
+    // Gives a point its next key, as an accepted call asks.
     fn issue(
         &mut self,
         alloc: Global,
-        name: &str,
-        text: &str,
         point: Name,
-        actions: Actions,
-    ) -> Result<Stamp, AllocError>
+        body: Body,
+        entry: Entry,
+    ) -> Result<(), AllocError>
         requires room { length self.old.trace < self.old.config.trace_cap }
         requires clock { (node_of self.old).marks.clock + 1 < 2 ^ 64 }
-        requires name { point ≡ name.now }
-        requires text { reading text.now ≡ Ok actions }
-        ensures ok { IfOk result (λ s. reply_to self.old (asks.Set name.now text.now) [] ≡ asks.IsSet s) }
-        ensures after { OnOk result (self.new ≡ after_call self.old (asks.Set name.now text.now) []) }
+        requires setting { settings (call entry).ask ≡ (point, body_value body) ∷ [] }
+        requires words { (call entry).words ≡ [] }
+        requires reply { (call entry).reply ≡ reply_to self.old (call entry).ask [] }
+        ensures after { OnOk result (self.new ≡ after_call self.old (call entry).ask []) }
         ensures err { OnErr result (self.new ≡ self.old) }
     {
-        let stamp = Stamp {
-            clock: self.clock + 1,
-            node: self.config.node,
-        };
-        let entry = Entry {
-            ask: Ask::Set {
-                name: String::from_str(alloc, name)?,
-                text: String::from_str(alloc, text)?,
-            },
-            words: Vec::new(alloc),
-            reply: Reply::Set(stamp),
-        };
         self.trace.reserve(1)?;
         let key = Key {
-            clock: stamp.clock,
-            node: stamp.node,
-            body: Body::Set(actions),
+            clock: self.clock + 1,
+            node: self.config.node,
+            body,
         };
         self.state.set_key(alloc, point, key)?;
         self.clock += 1;
         put(&mut self.trace, entry);
-        Ok(stamp)
+        Ok(())
+    }
+
+    // The points of a setting in a state of their own, and how many entries there are, or the
+    // refusal.
+    fn load_checked(&self, alloc: Global, text: &str) -> Result<(State, u16), NodeFault>
+        ensures ok { IfOk result (λ p. (refusal self.now (asks.Load text.now) [] ≡ None) × (p.1 ≡ length (points_in text.now))) }
+        ensures state { IfOk result (λ p. matrix_state p.0 ≡ state_set self.now.config.node (node_of self.now).marks.clock (settings (asks.Load text.now)) (fold [])) }
+        ensures room { IfOk result (λ p. (length self.now.trace < self.now.config.trace_cap) × ((node_of self.now).marks.clock + p.1 < 2 ^ 64)) }
+        ensures refused { IfErr result (λ f. (f ≡ NodeFault.OutOfMemory) ⊎ (refusal self.now (asks.Load text.now) [] ≡ Some f)) }
+    {
+        if self.trace.len() >= self.config.trace_cap as usize {
+            return Err(NodeFault::TraceFull);
+        }
+        let points = read_points(alloc, text)?;
+        let entries = points.len() as u16;
+        let has_clocks = self.clock <= u64::MAX - u64::from(entries);
+        // The names are the same at any clock, and too many of them is the lower refusal.
+        let clock = if has_clocks { self.clock } else { 0 };
+        let loaded = state_with(alloc, self.config.node, clock, points)?;
+        if self.state.names_together(&loaded) > MAX_NAMES {
+            return Err(NodeFault::TooManyPoints);
+        }
+        if !has_clocks {
+            return Err(NodeFault::ClockFull);
+        }
+        Ok((loaded, entries))
+    }
+
+    // Takes in the points of a setting, as an accepted call asks.
+    fn take_in(
+        &mut self,
+        alloc: Global,
+        loaded: State,
+        entries: u16,
+        text: String,
+    ) -> Result<(), AllocError>
+        requires room { length self.old.trace < self.old.config.trace_cap }
+        requires entries { entries ≡ length (points_in (string_bytes text)) }
+        requires clock { (node_of self.old).marks.clock + entries < 2 ^ 64 }
+        requires state { matrix_state loaded ≡ state_set self.old.config.node (node_of self.old).marks.clock (settings (asks.Load (string_bytes text))) (fold []) }
+        ensures after { OnOk result (self.new ≡ after_call self.old (asks.Load (string_bytes text)) []) }
+        ensures err { OnErr result (self.new ≡ self.old) }
+    {
+        self.trace.reserve(1)?;
+        self.state.merge(alloc, loaded)?;
+        self.clock += u64::from(entries);
+        let entry = Entry {
+            ask: Ask::Load { text },
+            words: Vec::new(alloc),
+            reply: Reply::Load(entries),
+        };
+        put(&mut self.trace, entry);
+        Ok(())
+    }
+
+    // The name and how many rights are moved in all, or the refusal.
+    fn shift_checked(
+        &self,
+        alloc: Global,
+        name: &str,
+        term: u8,
+        to: u8,
+        amount: u64,
+    ) -> Result<(Name, u64), NodeFault>
+        ensures ok { IfOk result (λ p. (refusal self.now (asks.Shift name.now term to amount) [] ≡ None) × (p.0 ≡ name.now) × (p.1 ≡ (shown (node_of self.now)).shifts name.now term self.now.config.node to + amount)) }
+        ensures room { OnOk result (length self.now.trace < self.now.config.trace_cap) }
+        ensures set { OnOk result (IsSome ((shown (node_of self.now)).key name.now) × IsHeld (shown (node_of self.now)) name.now) }
+        ensures enough { OnOk result ((to ≢ self.now.config.node) × (pos amount ≤ℤ rights_of (shown (node_of self.now)) name.now term self.now.config.node)) }
+        ensures refused { IfErr result (λ f. (f ≡ NodeFault.OutOfMemory) ⊎ (refusal self.now (asks.Shift name.now term to amount) [] ≡ Some f)) }
+    {
+        if self.trace.len() >= self.config.trace_cap as usize {
+            return Err(NodeFault::TraceFull);
+        }
+        let point = read_name(alloc, name)?;
+        let total = total_with(&self.state, self.config, &point, term, to, amount)?;
+        Ok((point, total))
+    }
+
+    // Moves rights of a point whose name was read, so many in all.
+    fn move_rights(
+        &mut self,
+        alloc: Global,
+        point: Name,
+        term: u8,
+        to: u8,
+        amount: u64,
+        total: u64,
+    ) -> Result<(), AllocError>
+        requires room { length self.old.trace < self.old.config.trace_cap }
+        requires set { IsSome ((shown (node_of self.old)).key point) × IsHeld (shown (node_of self.old)) point }
+        requires enough { (to ≢ self.old.config.node) × (pos amount ≤ℤ rights_of (shown (node_of self.old)) point term self.old.config.node) }
+        requires total { total ≡ (shown (node_of self.old)).shifts point term self.old.config.node to + amount }
+        ensures after { OnOk result (self.new ≡ after_call self.old (asks.Shift point term to amount) []) }
+        ensures err { OnErr result (self.new ≡ self.old) }
+    {
+        let me = self.config.node;
+        let name = String::from_str(alloc, point.text())?;
+        self.trace.reserve(1)?;
+        self.state
+            .count_shift(alloc, &point, term, me, to, total)?;
+        let entry = Entry {
+            ask: Ask::Shift {
+                name,
+                term,
+                to,
+                amount,
+            },
+            words: Vec::new(alloc),
+            reply: Reply::Shift(total),
+        };
+        put(&mut self.trace, entry);
+        Ok(())
+    }
+}
+
+// The name that a text is.
+fn read_name(alloc: Global, text: &str) -> Result<Name, NodeFault>
+    ensures ok { IfOk result (λ n. (is_name text.now ≡ true) × (n ≡ text.now)) }
+    ensures refused { IfErr result (λ f. (f ≡ NodeFault.OutOfMemory) ⊎ ((f ≡ NodeFault.BadName) × (is_name text.now ≡ false))) }
+{
+    match Name::parse(alloc, text) {
+        Ok(name) => Ok(name),
+        Err(NameFault::BadName) => Err(NodeFault::BadName),
+        Err(NameFault::OutOfMemory) => Err(NodeFault::OutOfMemory),
     }
 }
 

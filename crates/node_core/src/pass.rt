@@ -17,7 +17,7 @@ use stamp_register::Key;
 use std::alloc::{AllocError, Global};
 
 /// The key and the actions of a point that is set.
-fn setting_at<'a>(state: &'a State, name: &Name) -> Option<(&'a Key, &'a Actions)>
+pub(crate) fn setting_at<'a>(state: &'a State, name: &Name) -> Option<(&'a Key, &'a Actions)>
     ensures value { MatchOption result (setting_of (matrix_state state.now) name.now ≡ None) (λ s. setting_of (matrix_state state.now) name.now ≡ Some (key_value s.0.now, s.1.now)) }
     ensures key { IsSome result → IsSome ((matrix_state state.now).key name.now) }
     ensures held { IsSome result → IsHeld (matrix_state state.now) name.now }
@@ -41,11 +41,11 @@ pub(crate) fn words_needed(state: &State, name: &Name) -> u8
     }
 }
 
-/// Whether a node has a right to execute a counted term.
-fn has_right(state: &State, me: u8, name: &Name, term: u8) -> bool
-    ensures { IsTrue result ↔ (pos 1 ≤ℤ rights_of (matrix_state state.now) name.now term me) }
+/// Whether a node has so many rights to execute a counted term.
+pub(crate) fn has_rights(state: &State, me: u8, name: &Name, term: u8, amount: u64) -> bool
+    ensures { IsTrue result ↔ (pos amount ≤ℤ rights_of (matrix_state state.now) name.now term me) }
 {
-    state.rights(name, term, me) >= 1
+    state.rights(name, term, me) >= i128::from(amount)
 }
 
 /// The term that is triggered.
@@ -63,7 +63,7 @@ fn triggered_term(
 {
     let mut may = [false; 16];
     for term in 0..actions.len() {
-        may[term] = has_right(state, me, name, term as u8);
+        may[term] = has_rights(state, me, name, term as u8, 1);
     }
     decide(actions, words, may)
 }

@@ -15,8 +15,21 @@ pub struct Config {
 /// What a node is asked.
 #[derive(Debug, Drop)]
 pub enum Ask {
+    /// Sets a point to an action text.
     Set { name: String, text: String },
+    /// Removes a point.
+    Remove { name: String },
+    /// Sets the points of a setting text.
+    Load { text: String },
+    /// Passes a point.
     Pass { name: String },
+    /// Moves rights to execute a counted term to another node.
+    Shift {
+        name: String,
+        term: u8,
+        to: u8,
+        amount: u64,
+    },
 }
 
 /// What a pass of a point came to. The caller carries the task out.
@@ -33,8 +46,16 @@ pub enum PassReply {
 /// The answer to an ask that was accepted.
 #[derive(Debug, Drop)]
 pub enum Reply {
+    /// The stamp of the setting.
     Set(Stamp),
+    /// The stamp of the removal.
+    Remove(Stamp),
+    /// How many entries were set.
+    Load(u16),
+    /// What the pass came to.
     Pass(PassReply),
+    /// How many rights were moved in all, from this node to that one.
+    Shift(u64),
 }
 
 /// An accepted call: what was asked, the words that a pass was given, and the answer.

@@ -16,5 +16,5 @@ loop-term-preserved c =
       len = rw length-set c.loop-term.invariant.len;
       all = below_more _ _
           (λ j below. get_or-set_other c.loop-term.may term j _ false (λ e. omega arith) ∙ c.loop-term.invariant.all j below)
-          (get_or-set_same c.loop-term.may term _ false (omega arith) ∙ may_by_rights c.args.me (matrix_state c.args.state.now) c.args.name.now (key_value c.args.key.now) c.args.actions.now term _ c.requires.set c.has_right.ensures);
+          (get_or-set_same c.loop-term.may term _ false (omega arith) ∙ may_by_rights c.args.me (matrix_state c.args.state.now) c.args.name.now (key_value c.args.key.now) c.args.actions.now term _ c.requires.set c.has_rights.ensures);
     }

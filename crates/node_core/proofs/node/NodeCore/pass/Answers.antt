@@ -1,6 +1,6 @@
 use Rattle.replica_state.specs.Slots.{matrix_state}
 use Rattle.node_core.specs.Asks.{Pass}
-use Rattle.node_core.proofs.TraceLemmas.{pass_kept}
+use Rattle.node_core.proofs.Kept.{pass_kept}
 use Rattle.node_core.proofs.node.NodeCore.pass.Goals as goal
 
 pub invariant_of-self-2 : goal.invariant_of-self-2

@@ -1,0 +1,14 @@
+use Rattle.std.proofs.Common.{◌≡◌, ◌+◌, ◌++◌, Some, length, map, []}
+use Rattle.actions.specs.Canonical.{canonical}
+use Rattle.replica_state.specs.Folds.{fold}
+use Rattle.replica_state.specs.Slots.{matrix_state}
+use Rattle.node_core.specs.Outcomes.{state_set}
+use Rattle.node_core.proofs.load.state_with.Given as goal
+
+abbrev pub invariant-loop-name : goal.invariant-loop-name
+invariant-loop-name l = record {
+  last : l.last ≡ l.fn.clock + length l.yielded;
+  set : matrix_state l.state ≡ state_set l.me l.fn.clock (map (λ point. (point.0, Some (canonical point.1))) l.yielded) (fold []);
+  left : l.name-iterator.rest.len ≡ length l.name-iterator.rest.items;
+  whole : l.fn.points.items ≡ l.yielded ++ l.name-iterator.rest.items;
+}
