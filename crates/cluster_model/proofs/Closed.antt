@@ -37,7 +37,7 @@ keys_in_ops : (i : ℕ) (n : Node) (a : Option Asked) (words : List ℕ) (op : O
 keys_in_ops i n None words op h = absurd h
 keys_in_ops i n (Some (asks.Set name text)) words op h = h
 keys_in_ops i n (Some (asks.Remove name)) words op h = h
-keys_in_ops i n (Some (asks.Load entries)) words op h = h
+keys_in_ops i n (Some (asks.Load text)) words op h = h
 keys_in_ops i n (Some (asks.Pass name)) words op h = absurd h
 keys_in_ops i n (Some (asks.Shift name term to amount)) words op h = absurd h
 keys_in_ops i n (Some (asks.Emit to chosen)) words op h = absurd h
@@ -64,7 +64,7 @@ own_hits : (i : ℕ) (n : Node) (a : Option Asked) (words name : List ℕ) (j k 
 own_hits i n None words name j k h = absurd h
 own_hits i n (Some (asks.Set other text)) words name j k h = absurd (no_count_issued i n.marks.clock (settings (asks.Set other text)) (Hits name j) k h)
 own_hits i n (Some (asks.Remove other)) words name j k h = absurd (no_count_issued i n.marks.clock (settings (asks.Remove other)) (Hits name j) k h)
-own_hits i n (Some (asks.Load entries)) words name j k h = absurd (no_count_issued i n.marks.clock (settings (asks.Load entries)) (Hits name j) k h)
+own_hits i n (Some (asks.Load text)) words name j k h = absurd (no_count_issued i n.marks.clock (settings (asks.Load text)) (Hits name j) k h)
 own_hits i n (Some (asks.Pass other)) words name j k h =
     let o = outcome_of i (shown n) other words in
     hit_of_pass i (shown n) other name j k o.outcome o.is (subst (λ os. IsIn (Count (Hits name j) k) os) o.ops h)

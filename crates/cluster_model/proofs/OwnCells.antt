@@ -106,9 +106,9 @@ shift_step i n (Some (asks.Remove other)) words name key term j h =
     let e = number_at-append (Shifts name key term i j) (issued i n.marks.clock (settings (asks.Remove other))) n.ops in
     let z = no_counts (Shifts name key term i j) i n.marks.clock (settings (asks.Remove other)) in
     omega (arith, e, z)
-shift_step i n (Some (asks.Load entries)) words name key term j h =
-    let e = number_at-append (Shifts name key term i j) (issued i n.marks.clock (settings (asks.Load entries))) n.ops in
-    let z = no_counts (Shifts name key term i j) i n.marks.clock (settings (asks.Load entries)) in
+shift_step i n (Some (asks.Load text)) words name key term j h =
+    let e = number_at-append (Shifts name key term i j) (issued i n.marks.clock (settings (asks.Load text))) n.ops in
+    let z = no_counts (Shifts name key term i j) i n.marks.clock (settings (asks.Load text)) in
     omega (arith, e, z)
 shift_step i n (Some (asks.Pass other)) words name key term j h =
     let o = outcome_of i (shown n) other words in
@@ -199,9 +199,9 @@ exec_step i n (Some (asks.Remove other)) words name key term count counted one h
     let e = number_at-append (Execs name key term i) (issued i n.marks.clock (settings (asks.Remove other))) n.ops in
     let z = no_counts (Execs name key term i) i n.marks.clock (settings (asks.Remove other)) in
     omega (arith, e, z)
-exec_step i n (Some (asks.Load entries)) words name key term count counted one h =
-    let e = number_at-append (Execs name key term i) (issued i n.marks.clock (settings (asks.Load entries))) n.ops in
-    let z = no_counts (Execs name key term i) i n.marks.clock (settings (asks.Load entries)) in
+exec_step i n (Some (asks.Load text)) words name key term count counted one h =
+    let e = number_at-append (Execs name key term i) (issued i n.marks.clock (settings (asks.Load text))) n.ops in
+    let z = no_counts (Execs name key term i) i n.marks.clock (settings (asks.Load text)) in
     omega (arith, e, z)
 exec_step i n (Some (asks.Pass other)) words name key term count counted one h =
     let o = outcome_of i (shown n) other words in

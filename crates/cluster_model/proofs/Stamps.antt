@@ -15,7 +15,7 @@ use Rattle.replica_state.proofs.Sets.{IsIn-append_left, IsIn-append_right, IsIn-
 use Rattle.node_core.specs.Asks.{Asked, Message}
 use Rattle.node_core.specs.Asks as asks
 use Rattle.node_core.specs.Nodes.{Node, shown}
-use Rattle.node_core.specs.Steps.{after, settings, issued, new_key, shift_under}
+use Rattle.node_core.specs.Steps.{after, settings, issued, new_key, points_in, shift_under}
 use Rattle.cluster_model.specs.Worlds.{Cluster, World, Event, accepted, node_after, world}
 use Rattle.cluster_model.specs.Schedules.{Allows, IsSchedule}
 use Rattle.cluster_model.specs.Histories.{state_of, ops_issued, keys_by, keys_issued, IsIssued}
@@ -75,7 +75,7 @@ own_carries i n (Some (asks.Pass other)) words name key op h c =
 own_carries i n (Some (asks.Shift other term to amount)) words name key op h c = inr (shift_carries i (shown n) other name term to amount key ((shown n).key other) refl op h c)
 own_carries i n (Some (asks.Set other text)) words name key op h c = inl (issued_carries name key i n.marks.clock (settings (asks.Set other text)) op h c)
 own_carries i n (Some (asks.Remove other)) words name key op h c = inl (issued_carries name key i n.marks.clock (settings (asks.Remove other)) op h c)
-own_carries i n (Some (asks.Load entries)) words name key op h c = inl (issued_carries name key i n.marks.clock (settings (asks.Load entries)) op h c)
+own_carries i n (Some (asks.Load text)) words name key op h c = inl (issued_carries name key i n.marks.clock (settings (asks.Load text)) op h c)
 
 -- keys are issued by the node that is asked
 issued_here : (c : Cluster) (w : World) (e : Event) (i : ℕ) (op : Operation) → IsIn op (keys_by i (w.node i) (accepted c w e i)) → i ≡ e.node
@@ -149,7 +149,7 @@ unfolding after
 clock_grows i n None words = omega arith
 clock_grows i n (Some (asks.Set name text)) words = omega arith
 clock_grows i n (Some (asks.Remove name)) words = omega arith
-clock_grows i n (Some (asks.Load entries)) words = omega arith
+clock_grows i n (Some (asks.Load text)) words = omega arith
 clock_grows i n (Some (asks.Pass name)) words = omega arith
 clock_grows i n (Some (asks.Shift name term to amount)) words = omega arith
 clock_grows i n (Some (asks.Emit to chosen)) words = omega arith
@@ -160,9 +160,9 @@ unfolding after
 keys_new i n None words name key h = absurd h
 keys_new i n (Some (asks.Set other text)) words name key h = issued_new i n.marks.clock (settings (asks.Set other text)) name key h
 keys_new i n (Some (asks.Remove other)) words name key h = issued_new i n.marks.clock (settings (asks.Remove other)) name key h
-keys_new i n (Some (asks.Load entries)) words name key h =
-    let new = issued_new i n.marks.clock (settings (asks.Load entries)) name key h in
-    let as_many : length (settings (asks.Load entries)) ≡ length entries = length-map entries _ in
+keys_new i n (Some (asks.Load text)) words name key h =
+    let new = issued_new i n.marks.clock (settings (asks.Load text)) name key h in
+    let as_many : length (settings (asks.Load text)) ≡ length (points_in text) = length-map (points_in text) _ in
     let upto = new.upto in
     record { above = new.above; upto = omega arith; node = new.node }
 keys_new i n (Some (asks.Pass other)) words name key h = absurd h

@@ -175,7 +175,7 @@ own_ops i n (Some (asks.Pass name)) words op h = pass_by i (shown n) name words 
 own_ops i n (Some (asks.Shift name term to amount)) words op h = shift_by i (shown n) name term to amount ((shown n).key name) op h
 own_ops i n (Some (asks.Set name text)) words op h = issued_by i n.marks.clock (settings (asks.Set name text)) op h
 own_ops i n (Some (asks.Remove name)) words op h = issued_by i n.marks.clock (settings (asks.Remove name)) op h
-own_ops i n (Some (asks.Load entries)) words op h = issued_by i n.marks.clock (settings (asks.Load entries)) op h
+own_ops i n (Some (asks.Load text)) words op h = issued_by i n.marks.clock (settings (asks.Load text)) op h
 
 pub record IsKnown (w : World) : Type 0 where
   pub held : (i : ℕ) (op : Operation) → IsIn op (w.node i).ops → IsIn op (w.node (writer op)).ops

@@ -476,8 +476,7 @@ impl NodeCore {
         let me = self.config.node;
         let name = String::from_str(alloc, point.text())?;
         self.trace.reserve(1)?;
-        self.state
-            .count_shift(alloc, &point, term, me, to, total)?;
+        self.state.count_shift(alloc, &point, term, me, to, total)?;
         let entry = Entry {
             ask: Ask::Shift {
                 name,

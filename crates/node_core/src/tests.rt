@@ -4,6 +4,8 @@
 mod calls;
 mod memory;
 mod refusals;
+mod settings;
+mod shifts;
 
 use super::*;
 use actions::{Name, NameFault};
@@ -54,6 +56,39 @@ fn pass(
     }
 }
 
+fn remove(alloc: Global, node: &mut NodeCore, name: &str) -> Result<Stamp, NodeFault> {
+    let entries = node.trace().len();
+    match node.remove(alloc, name) {
+        Err(NodeFault::OutOfMemory) if node.trace().len() == entries => node.remove(alloc, name),
+        first => first,
+    }
+}
+
+fn load(alloc: Global, node: &mut NodeCore, text: &str) -> Result<u16, NodeFault> {
+    let entries = node.trace().len();
+    match node.load(alloc, text) {
+        Err(NodeFault::OutOfMemory) if node.trace().len() == entries => node.load(alloc, text),
+        first => first,
+    }
+}
+
+fn shift(
+    alloc: Global,
+    node: &mut NodeCore,
+    name: &str,
+    term: u8,
+    to: u8,
+    amount: u64,
+) -> Result<u64, NodeFault> {
+    let entries = node.trace().len();
+    match node.shift(alloc, name, term, to, amount) {
+        Err(NodeFault::OutOfMemory) if node.trace().len() == entries => node.shift(
+            alloc, name, term, to, amount,
+        ),
+        first => first,
+    }
+}
+
 fn list(alloc: Global, node: &NodeCore) -> Result<String, Fail> {
     match node.list(alloc) {
         Err(_) => Ok(node.list(alloc)?),
@@ -64,6 +99,14 @@ fn list(alloc: Global, node: &NodeCore) -> Result<String, Fail> {
 fn shown<T: Display>(alloc: Global, value: &T) -> Result<String, Fail> {
     match format!(in alloc; "{value}") {
         Err(_) => Ok(format!(in alloc; "{value}")?),
+        first => Ok(first?),
+    }
+}
+
+/// A text with room for so many bytes.
+fn with_room(alloc: Global, bytes: usize) -> Result<String, Fail> {
+    match String::with_capacity(alloc, bytes) {
+        Err(_) => Ok(String::with_capacity(alloc, bytes)?),
         first => Ok(first?),
     }
 }

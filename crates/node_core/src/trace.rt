@@ -16,13 +16,22 @@ pub struct Config {
 #[derive(Debug, Drop)]
 pub enum Ask {
     /// Sets a point to an action text.
-    Set { name: String, text: String },
+    Set {
+        name: String,
+        text: String,
+    },
     /// Removes a point.
-    Remove { name: String },
+    Remove {
+        name: String,
+    },
     /// Sets the points of a setting text.
-    Load { text: String },
+    Load {
+        text: String,
+    },
     /// Passes a point.
-    Pass { name: String },
+    Pass {
+        name: String,
+    },
     /// Moves rights to execute a counted term to another node.
     Shift {
         name: String,

@@ -54,3 +54,45 @@ fn refused_memory_changes_nothing(rt: HostRuntime) -> Result<(), Fail> {
     assert_eq!(rt; list(alloc, &node)?.as_str(), "p=off");
     Ok(())
 }
+
+// The same of removals, loads and shifts.
+#[test]
+fn refused_memory_sets_and_moves_nothing(rt: HostRuntime) -> Result<(), Fail> {
+    let alloc = rt.alloc();
+    let mut node = NodeCore::new(alloc, config(2, 100))?;
+    let p = named(alloc, "p")?;
+    let before = view(&node, &p);
+    if let Err(fault) = node.load(alloc, "p=off;q=3*yield;p=2*panic;r=off") {
+        assert_eq!(rt; fault, NodeFault::OutOfMemory);
+        assert_eq!(rt; view(&node, &p), before);
+        assert_eq!(rt; list(alloc, &node)?.as_str(), "");
+        assert_eq!(rt; node.load(alloc, "p=off;q=3*yield;p=2*panic;r=off")?, 4);
+    }
+    let before = view(&node, &p);
+    if let Err(fault) = node.load(alloc, "a=off;q=yield;z=off") {
+        assert_eq!(rt; fault, NodeFault::OutOfMemory);
+        assert_eq!(rt; view(&node, &p), before);
+        assert_eq!(rt; list(alloc, &node)?.as_str(), "p=2*panic;q=3*yield;r=off");
+        assert_eq!(rt; node.load(alloc, "a=off;q=yield;z=off")?, 3);
+    }
+    let before = view(&node, &p);
+    if let Err(fault) = node.shift(alloc, "p", 0, 1, 1) {
+        assert_eq!(rt; fault, NodeFault::OutOfMemory);
+        assert_eq!(rt; view(&node, &p), before);
+        assert_eq!(rt; node.rights(&p, 0, 1), 0);
+        assert_eq!(rt; node.shift(alloc, "p", 0, 1, 1)?, 1);
+    }
+    assert_eq!(rt; view(&node, &p), (3, 0, 0, 1, 0));
+    let before = view(&node, &p);
+    if let Err(fault) = node.remove(alloc, "s") {
+        assert_eq!(rt; fault, NodeFault::OutOfMemory);
+        assert_eq!(rt; view(&node, &p), before);
+        assert_eq!(rt; node.remove(alloc, "s")?, Stamp { clock: 8, node: 0 });
+    }
+    assert_eq!(rt; view(&node, &p), (4, 0, 0, 1, 0));
+    assert_eq!(rt;
+        list(alloc, &node)?.as_str(),
+        "a=off;p=2*panic;q=yield;r=off;z=off"
+    );
+    Ok(())
+}

@@ -1,5 +1,5 @@
 use super::*;
-use actions::ActionFault;
+use actions::{ActionFault, SettingFault};
 
 #[test]
 fn full_trace(rt: HostRuntime) -> Result<(), Fail> {
@@ -9,6 +9,18 @@ fn full_trace(rt: HostRuntime) -> Result<(), Fail> {
     pass(alloc, &mut node, "a", &[])?;
     assert_eq!(rt;
         pass(alloc, &mut node, "a", &[]).err(),
+        Some(NodeFault::TraceFull)
+    );
+    assert_eq!(rt;
+        remove(alloc, &mut node, "a").err(),
+        Some(NodeFault::TraceFull)
+    );
+    assert_eq!(rt;
+        load(alloc, &mut node, "a=yield").err(),
+        Some(NodeFault::TraceFull)
+    );
+    assert_eq!(rt;
+        shift(alloc, &mut node, "a", 0, 1, 1).err(),
         Some(NodeFault::TraceFull)
     );
     // The first refusal that applies is the answer.
@@ -41,7 +53,7 @@ fn names_texts_and_words(rt: HostRuntime) -> Result<(), Fail> {
     );
     assert_eq!(rt;
         set(alloc, &mut node, "a", "off->").err(),
-        Some(NodeFault::BadActions(ActionFault::NoTask { term: 1 }))
+        Some(NodeFault::BadActions(TextFault::Actions(ActionFault::NoTask { term: 1 })))
     );
     set(alloc, &mut node, "a", "20%off")?;
     assert_eq!(rt;
@@ -119,8 +131,15 @@ fn fault_texts(rt: HostRuntime) -> Result<(), Fail> {
         (NodeFault::TraceFull, "N1 TraceFull"),
         (NodeFault::BadName, "N2 BadName"),
         (
-            NodeFault::BadActions(ActionFault::NoTask { term: 0 }),
+            NodeFault::BadActions(TextFault::Actions(ActionFault::NoTask { term: 0 })),
             "N3 BadActions A6 NoTask term=0",
+        ),
+        (
+            NodeFault::BadActions(TextFault::Setting(SettingFault::BadActions {
+                entry: 1,
+                fault: ActionFault::UnknownTask { term: 0 },
+            })),
+            "N3 BadActions S4 BadActions entry=1 A7 UnknownTask term=0",
         ),
         (NodeFault::TooManyPoints, "N4 TooManyPoints"),
         (NodeFault::ClockFull, "N5 ClockFull"),

@@ -35,10 +35,10 @@ loop-name-preserved c =
     record {
       last = omega (arith, longer, last);
       set =
-        c.in_ok-set_key.ensures.ok ∙ ap (λ (v : State). with_key c.in-Some.name (new_key c.args.me c.loop-name.last body) v) before.set
-        ∙ ap (λ (clock : ℕ). with_key c.in-Some.name (new_key c.args.me clock body) (state_set c.args.me c.args.clock settings (fold []))) (omega (arith, last, same))
-        ∙ sym (state_set-more c.args.me c.args.clock settings (c.in-Some.name, body) (fold []))
-        ∙ ap (λ ss. state_set c.args.me c.args.clock ss (fold [])) (sym (map-append setting c.loop-name.yielded ((c.in-Some.name, c.in-Some.actions) ∷ [])));
+          c.in_ok-set_key.ensures.ok ∙ ap (λ (v : State). with_key c.in-Some.name (new_key c.args.me c.loop-name.last body) v) before.set
+          ∙ ap (λ (clock : ℕ). with_key c.in-Some.name (new_key c.args.me clock body) (state_set c.args.me c.args.clock settings (fold []))) (omega (arith, last, same))
+          ∙ sym (state_set-more c.args.me c.args.clock settings (c.in-Some.name, body) (fold []))
+          ∙ ap (λ ss. state_set c.args.me c.args.clock ss (fold [])) (sym (map-append setting c.loop-name.yielded ((c.in-Some.name, c.in-Some.actions) ∷ [])));
       left = (let taken = c.in-Some.ensures.steps.1 in let items = ap length c.in-Some.ensures.steps.0 in let left = before.left in omega (arith, taken, items, left));
       whole = before.whole ∙ ap (λ rest. c.loop-name.yielded ++ rest) c.in-Some.ensures.steps.0 ∙ sym (append_assoc c.loop-name.yielded ((c.in-Some.name, c.in-Some.actions) ∷ []) c.next.new.self.rest.items);
     }

@@ -52,9 +52,9 @@ pub returns-in-Some-checked_add-clause-ok : goal.returns-in-Some-checked_add-cla
 returns-in-Some-checked_add-clause-ok c =
     let sum = c.in-Some-checked_add.ensures in (
       no_refusal c.args.config (matrix_state c.args.state.now) c.args.name.now c.args.term c.args.to c.args.amount (key_value c.in-Some.field-0-0.now) c.in-Some.actions.now (term_value c.in-Some-term.found.now) c.in-Some-count.field-0
-      c.in-Some.ensures.value (sym c.in-Some-term.ensures) c.in-Some-count.is (is_other c.args.config c.args.to c.if-to-config.false c.if-to-config-2.false)
-      (some c.args.amount c.if-amount-eq0.false) (c.has_rights.ensures.0 c.if-not-has_rights.false)
-      (upto_most _ _ (ap (λ m. m + c.args.amount) c.moved.ensures) sum.0),
+          c.in-Some.ensures.value (sym c.in-Some-term.ensures) c.in-Some-count.is (is_other c.args.config c.args.to c.if-to-config.false c.if-to-config-2.false)
+          (some c.args.amount c.if-amount-eq0.false) (c.has_rights.ensures.0 c.if-not-has_rights.false)
+          (upto_most _ _ (ap (λ m. m + c.args.amount) c.moved.ensures) sum.0),
       sum.1 ∙ ap (λ m. m + c.args.amount) c.moved.ensures,
     )
 

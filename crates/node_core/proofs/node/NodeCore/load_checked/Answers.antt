@@ -48,6 +48,6 @@ returns-clause-ok c =
     let fits = c.if-not-has_clocks.false in
     let few = c.in_ok-points.ensures.few in (
       rw (← c.self.view_is) (no_refusal node.config node.clock (matrix_state node.state) (matrix_state c.in_ok-loaded.loaded) (length (map call node.trace.items)) (replay node.config.node (map call node.trace.items)) held (omega (arith, taken, items, counted, low))
-    c.args.text.now c.in_ok-points.points.items c.in_ok-points.ensures.ok _ c.names_together.result c.in_ok-loaded.ensures c.names_together.ensures c.if-names_together-gt-MAX_NAMES.false (omega (arith, some, points, same, fits, few))),
+          c.args.text.now c.in_ok-points.points.items c.in_ok-points.ensures.ok _ c.names_together.result c.in_ok-loaded.ensures c.names_together.ensures c.if-names_together-gt-MAX_NAMES.false (omega (arith, some, points, same, fits, few))),
       some ∙ points ∙ sym (ap (λ r. length (points_read r)) c.in_ok-points.ensures.ok),
     )
