@@ -1,5 +1,5 @@
 #!/usr/bin/env python3
-"""Times passes of scripts, and raises and joins of maps. See README.md beside this file."""
+"""Times scripts of passes, loads and shifts, and raises and joins of maps. See README.md beside this file."""
 
 import os
 import subprocess
@@ -9,6 +9,8 @@ import tempfile
 CRATES = os.path.join(os.path.dirname(os.path.abspath(__file__)), "..", "crates")
 PASSES = (100_000, 200_000)
 POINTS = (1, 256)
+LOADS = (500, 1_000)
+SHIFTS = (100_000, 200_000)
 KEYS = (100_000, 200_000)
 ROUNDS = 11
 
@@ -43,8 +45,22 @@ def script(setting, points, passes):
     return "\n".join(lines).encode()
 
 
-def run(program, text, passes):
-    """Seconds of a processor, and the most memory in MiB."""
+def load_script(loads):
+    """Each load sets the same 256 points."""
+    setting = ";".join(f"point{point}=20%3*print(x)->panic" for point in range(256))
+    return "\n".join(["nodes 1 4294967295"] + [f"load 0 {setting}"] * loads).encode()
+
+
+def shift_script(shifts):
+    """Each shift moves one right of 256 points in turn to one of 15 other nodes."""
+    lines = ["nodes 16 4294967295"]
+    lines += [f"set 0 p{point} 1000000*off" for point in range(256)]
+    lines += [f"shift 0 p{number % 256} 0 {number % 15 + 1} 1" for number in range(shifts)]
+    return "\n".join(lines).encode()
+
+
+def run(program, text, answer, count):
+    """Seconds of a processor, and the most memory in MiB. So many lines begin with the answer."""
     with tempfile.TemporaryFile() as source, tempfile.TemporaryFile() as output:
         source.write(text)
         source.seek(0)
@@ -52,10 +68,17 @@ def run(program, text, passes):
         _, status, usage = os.wait4(child.pid, 0)
         child.returncode = os.waitstatus_to_exitcode(status)
         output.seek(0)
-        acts = sum(line.startswith(b"act ") for line in output)
-    if child.returncode != 0 or acts != passes:
-        sys.exit(f"{program} sim: status {child.returncode}, {acts} of {passes} passes acted")
+        answers = sum(line.startswith(answer) for line in output)
+    if child.returncode != 0 or answers != count:
+        sys.exit(f"{program} sim: status {child.returncode}, {answers} of {count} calls answered {answer.decode()}")
     return usage.ru_utime + usage.ru_stime, usage.ru_maxrss / 1024
+
+
+def timed(program, texts, answer, counts):
+    """Seconds at each size, the best of the rounds, and the most memory. The sizes go in turn."""
+    rounds = [[run(program, text, answer, count) for text, count in zip(texts, counts)] for _ in range(ROUNDS)]
+    times = [min(seconds for seconds, _ in runs) for runs in zip(*rounds)]
+    return times, max(most for runs in rounds for _, most in runs)
 
 
 def time_passes(program):
@@ -64,11 +87,19 @@ def time_passes(program):
     for setting in SETTINGS:
         for points in POINTS:
             texts = [script(setting, points, passes) for passes in PASSES]
-            rounds = [[run(program, *pair) for pair in zip(texts, PASSES)] for _ in range(ROUNDS)]
-            times = [min(seconds for seconds, _ in runs) / passes * 1e9 for runs, passes in zip(zip(*rounds), PASSES)]
-            memory = max(most for runs in rounds for _, most in runs)
-            first, second = times
-            print(f"{setting:<12}{points:>7}{first:>20.0f}{second:>8.0f}{second / first:>7.2f}{memory:>10.1f}")
+            (first, second), memory = timed(program, texts, b"act ", PASSES)
+            print(f"{setting:<12}{points:>7}{first / few * 1e9:>20.0f}{second / many * 1e9:>8.0f}{second / first:>7.2f}{memory:>10.1f}")
+
+
+def time_calls(program):
+    print(f"\n{'call':<24}{'us a call, n':>14}{'2n':>8}{'ratio':>7}{'most MiB':>10}")
+    for name, make, answer, counts in (
+        ("load of 256 points", load_script, b"loaded 256", LOADS),
+        ("shift", shift_script, b"shifted ", SHIFTS),
+    ):
+        (first, second), memory = timed(program, [make(count) for count in counts], answer, counts)
+        few, many = counts
+        print(f"{name:<24}{first / few * 1e6:>14.2f}{second / many * 1e6:>8.2f}{second / first:>7.2f}{memory:>10.1f}")
 
 
 def spent(program, work, keys):
@@ -91,7 +122,9 @@ def time_maps(program):
 
 
 def main():
-    time_passes(build("failreg", "--help"))
+    failreg = build("failreg", "--help")
+    time_passes(failreg)
+    time_calls(failreg)
     time_maps(build("map_times", "build", "1"))
 
 

@@ -204,7 +204,7 @@ module _ (name : List ℕ) (term from to total : ℕ) (v : State) (low : v.shift
     hits = λ q j. same_at name (λ p. v.hits p j) q (bytes_eq name q) refl i;
     execs = λ q t j. same_at name (λ p. v.execs p t j) q (bytes_eq name q) refl i;
     shifts = λ q t m n. at_cell (λ p. v.shifts p t m n) (eqb term t && (eqb from m && eqb to n)) q
-      (λ h. let same = same_shift t m n (eqb term t) (eqb from m) (eqb to n) refl refl refl h in omega (arith, low, same)) (bytes_eq name q) refl i;
+        (λ h. let same = same_shift t m n (eqb term t) (eqb from m) (eqb to n) refl refl refl h in omega (arith, low, same)) (bytes_eq name q) refl i;
   }
 
 -- the budgets of a name, in what its point holds

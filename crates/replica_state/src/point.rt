@@ -319,13 +319,7 @@ impl Point {
     }
 
     /// Counts the rights to a term that one node moved to another, so many in all.
-    pub(crate) fn shift(
-        &mut self,
-        term: u8,
-        from: u8,
-        to: u8,
-        total: u64,
-    ) -> Result<(), AllocError>
+    pub(crate) fn shift(&mut self, term: u8, from: u8, to: u8, total: u64) -> Result<(), AllocError>
         ensures ok { OnOk result (held_of self.new ≡ moved term from to total (held_of self.old)) }
         ensures err { OnErr result (held_of self.new ≡ held_of self.old) }
     {

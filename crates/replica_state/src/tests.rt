@@ -4,6 +4,7 @@ ghost use Rattle.replica_state.specs.OpSets.{state_of};
 
 mod counted;
 mod joins;
+mod merges;
 mod mixed;
 mod steps;
 
