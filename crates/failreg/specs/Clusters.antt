@@ -10,7 +10,7 @@ use Rattle.node_core.specs.Asks as asks
 use Rattle.node_core.specs.Nodes.{shown}
 use Rattle.node_core.specs.Traces.{Kept, node_of, refusal, reply_to, after_call}
 use Rattle.node_core.specs.Texts.{node_fault_text, list_text}
-use Rattle.failreg.specs.Commands.{CallValue, set, pass, list, rights, spent, hits}
+use Rattle.failreg.specs.Commands.{CallValue, set, remove, load, pass, shift, list, rights, spent, hits}
 use Rattle.failreg.specs.Replies.{answer_text, refused_text, no_node_text}
 
 -- a cluster has 1 to 16 nodes
@@ -48,7 +48,10 @@ hits_named v name = if is_name name then total_hits v name else 0
 -- what a node prints of a call, and the node after it
 abbrev pub call_text : Kept → CallValue → List ℕ
 call_text k (set name text) = event_text (refusal k (asks.Set name text) []) (reply_to k (asks.Set name text) [])
+call_text k (remove name) = event_text (refusal k (asks.Remove name) []) (reply_to k (asks.Remove name) [])
+call_text k (load text) = event_text (refusal k (asks.Load text) []) (reply_to k (asks.Load text) [])
 call_text k (pass name words) = event_text (refusal k (asks.Pass name) words) (reply_to k (asks.Pass name) words)
+call_text k (shift name term to amount) = event_text (refusal k (asks.Shift name term to amount) []) (reply_to k (asks.Shift name term to amount) [])
 call_text k list = list_text (shown (node_of k))
 call_text k (rights name term node) = signed_decimal (rights_named (shown (node_of k)) name term node)
 call_text k (spent name term) = decimal (spent_named (shown (node_of k)) name term)
@@ -56,7 +59,10 @@ call_text k (hits name) = decimal (hits_named (shown (node_of k)) name)
 
 abbrev pub node_after : Kept → CallValue → Kept
 node_after k (set name text) = after_event (refusal k (asks.Set name text) []) k (after_call k (asks.Set name text) [])
+node_after k (remove name) = after_event (refusal k (asks.Remove name) []) k (after_call k (asks.Remove name) [])
+node_after k (load text) = after_event (refusal k (asks.Load text) []) k (after_call k (asks.Load text) [])
 node_after k (pass name words) = after_event (refusal k (asks.Pass name) words) k (after_call k (asks.Pass name) words)
+node_after k (shift name term to amount) = after_event (refusal k (asks.Shift name term to amount) []) k (after_call k (asks.Shift name term to amount) [])
 node_after k list = k
 node_after k (rights name term node) = k
 node_after k (spent name term) = k

@@ -2,16 +2,19 @@
 use Rattle.std.specs.Prelude.{ℕ, ◌==◌, List, [], ◌∷◌, if◌then◌else◌, Option, Some, None, option_and_then, codes}
 use Rattle.std.specs.List.{slice_split}
 use Rattle.std.specs.Str.{bytes_eq}
-use Rattle.failreg.specs.Fields.{space, cut_of, field_of, byte_of, word_of}
+use Rattle.failreg.specs.Fields.{space, cut_of, field_of, byte_of, word_of, amount_of}
 use Rattle.failreg.specs.declared.command.Call.{Call}
 use Rattle.failreg.specs.declared.command.Call.TheVariants as calls
 use Rattle.failreg.specs.declared.command.Command.{Command}
 use Rattle.failreg.specs.declared.command.Command.TheVariants as commands
 
--- what is asked of one node: two calls, and four questions about what it shows
+-- what is asked of one node: five calls, and four questions about what it shows
 pub data CallValue : Type 0 where
   set : (name text : List ℕ) → CallValue
+  remove : (name : List ℕ) → CallValue
+  load : (text : List ℕ) → CallValue
   pass : (name words : List ℕ) → CallValue
+  shift : (name : List ℕ) (term to amount : ℕ) → CallValue
   list : CallValue
   rights : (name : List ℕ) (term node : ℕ) → CallValue
   spent : (name : List ℕ) (term : ℕ) → CallValue
@@ -25,7 +28,10 @@ pub data CommandValue : Type 0 where
 -- a command of the code, without where its texts lie in memory
 abbrev pub call_value : Call → CallValue
 call_value (calls.Set name text) = set (name.now) (text.now)
+call_value (calls.Remove name) = remove (name.now)
+call_value (calls.Load text) = load (text.now)
 call_value (calls.Pass name words) = pass (name.now) (words.items)
+call_value (calls.Shift name term to amount) = shift (name.now) term to amount
 call_value calls.List = list
 call_value (calls.Rights name term node) = rights (name.now) term node
 call_value (calls.Spent name term) = spent (name.now) term
@@ -54,6 +60,16 @@ set_in rest = do
   name ← field_of (parts.0)
   Some (set name (parts.1))
 
+-- `remove <node> <name>`
+abbrev pub remove_in : List ℕ → Option CallValue
+remove_in rest = do
+  name ← field_of rest
+  Some (remove name)
+
+-- `load <node> <rest>`, whose rest may be empty and have spaces
+abbrev pub load_in : List ℕ → Option CallValue
+load_in rest = Some (load rest)
+
 -- numbers, where each field is one
 abbrev pub words_of : List (List ℕ) → Option (List ℕ)
 words_of [] = Some []
@@ -75,6 +91,18 @@ pass_parts rest (Some parts) = pass_with (field_of (parts.0)) (words_of (slice_s
 
 abbrev pub pass_in : List ℕ → Option CallValue
 pass_in rest = pass_parts rest (cut_of rest)
+
+-- `shift <node> <name> <term> <to> <amount>`
+abbrev pub shift_in : List ℕ → Option CallValue
+shift_in rest = do
+  parts ← cut_of rest
+  name ← field_of (parts.0)
+  numbers ← cut_of (parts.1)
+  term ← byte_of (numbers.0)
+  others ← cut_of (numbers.1)
+  to ← byte_of (others.0)
+  amount ← amount_of (others.1)
+  Some (shift name term to amount)
 
 -- `rights <node> <name> <term> <of>`
 abbrev pub rights_in : List ℕ → Option CallValue
@@ -104,10 +132,13 @@ hits_in rest = do
 abbrev pub call_in : List ℕ → List ℕ → Option CallValue
 call_in word rest =
     if bytes_eq word (codes "set") then set_in rest else
+    (if bytes_eq word (codes "remove") then remove_in rest else
+    (if bytes_eq word (codes "load") then load_in rest else
     (if bytes_eq word (codes "pass") then pass_in rest else
+    (if bytes_eq word (codes "shift") then shift_in rest else
     (if bytes_eq word (codes "rights") then rights_in rest else
     (if bytes_eq word (codes "spent") then spent_in rest else
-    (if bytes_eq word (codes "hits") then hits_in rest else None))))
+    (if bytes_eq word (codes "hits") then hits_in rest else None)))))))
 
 abbrev pub ask_in : List ℕ → List ℕ → Option CommandValue
 ask_in word rest = do

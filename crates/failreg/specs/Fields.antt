@@ -36,3 +36,7 @@ byte_of text = number_of 255 text
 -- the number of a trace's limit, or a random word
 abbrev pub word_of : List ℕ → Option ℕ
 word_of text = number_of 4294967295 text
+
+-- an amount of rights
+abbrev pub amount_of : List ℕ → Option ℕ
+amount_of text = number_of 18446744073709551615 text

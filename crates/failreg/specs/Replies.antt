@@ -4,7 +4,7 @@ use Rattle.std.specs.Fmt.{signed_decimal}
 use Rattle.actions.specs.Canonical.{task_text}
 use Rattle.stamp_register.specs.declared.key.Stamp.{Stamp}
 use Rattle.stamp_register.specs.Keys.{stamp_text}
-use Rattle.node_core.specs.Asks.{Passed, Unset, NoTerm, Act, passed, Answered, IsSet, IsPassed}
+use Rattle.node_core.specs.Asks.{Passed, Unset, NoTerm, Act, passed, Answered, IsSet, IsRemoved, IsLoaded, IsPassed, IsShifted}
 use Rattle.node_core.specs.Texts.{node_fault_text}
 use Rattle.failreg.specs.Fields.{newline}
 use Rattle.failreg.specs.declared.reply.Reply.{Reply}
@@ -13,16 +13,30 @@ use Rattle.failreg.specs.declared.reply.Reply.TheVariants as replies
 abbrev pub set_text : Stamp → List ℕ
 set_text stamp = codes "set " ++ stamp_text stamp
 
+abbrev pub removed_text : Stamp → List ℕ
+removed_text stamp = codes "removed " ++ stamp_text stamp
+
+-- with the number of the entries
+abbrev pub loaded_text : ℕ → List ℕ
+loaded_text entries = codes "loaded " ++ decimal entries
+
 -- with the number of the term that was triggered, and its task
 abbrev pub pass_text : Passed → List ℕ
 pass_text Unset = codes "unset"
 pass_text (NoTerm stamp) = codes "none " ++ stamp_text stamp
 pass_text (Act stamp term task) = codes "act " ++ stamp_text stamp ++ codes " " ++ decimal term ++ codes " " ++ task_text task
 
--- what an accepted call answers; no line of a script makes another call yet
+-- with all that was shifted there under the point's stamp
+abbrev pub shifted_text : ℕ → List ℕ
+shifted_text total = codes "shifted " ++ decimal total
+
+-- what an accepted call answers; no line of a script emits or delivers a message yet
 abbrev pub answer_text : Answered → List ℕ
 answer_text (IsSet stamp) = set_text stamp
+answer_text (IsRemoved stamp) = removed_text stamp
+answer_text (IsLoaded entries) = loaded_text entries
 answer_text (IsPassed reply) = pass_text reply
+answer_text (IsShifted total) = shifted_text total
 answer_text _ = []
 
 abbrev pub refused_text : List ℕ → List ℕ
@@ -39,7 +53,10 @@ bad_line_text = codes "bad line"
 -- the text of a reply of the code
 abbrev pub reply_text : Reply → List ℕ
 reply_text (replies.Set stamp) = set_text stamp
+reply_text (replies.Removed stamp) = removed_text stamp
+reply_text (replies.Loaded entries) = loaded_text entries
 reply_text (replies.Pass reply) = pass_text (passed reply)
+reply_text (replies.Shifted total) = shifted_text total
 reply_text (replies.List text) = string_bytes text
 reply_text (replies.Rights number) = signed_decimal number
 reply_text (replies.Count number) = decimal number

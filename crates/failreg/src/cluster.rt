@@ -3,7 +3,7 @@
 ghost use Rattle.std.specs.Prelude.{◌≡◌, ◌≢◌, false, IsTrue, IfOk, IfErr, OnOk, Some, None, if◌then◌else◌, option_map, [], vec_items};
 ghost use Rattle.actions.specs.Names.{is_name};
 ghost use Rattle.node_core.specs.declared.fault.NodeFault.TheVariants.{OutOfMemory};
-ghost use Rattle.failreg.specs.Commands.{call_value, set, pass, rights, spent, hits};
+ghost use Rattle.failreg.specs.Commands.{call_value, set, remove, load, pass, shift, rights, spent, hits};
 ghost use Rattle.failreg.specs.Replies.{reply_text};
 ghost use Rattle.failreg.specs.Clusters.{is_cluster_size, new_nodes, call_text, node_after, ask_text, cluster_after_ask};
 
@@ -44,6 +44,26 @@ fn set_point(
     }
 }
 
+fn remove_point(alloc: Global, node: &mut NodeCore, name: &str) -> Result<Reply, AllocError>
+    ensures reply { IfOk result (λ reply. reply_text reply ≡ call_text node.old (remove name.now)) }
+    ensures after { OnOk result (node.new ≡ node_after node.old (remove name.now)) }
+{
+    match node.remove(alloc, name) {
+        Ok(stamp) => Ok(Reply::Removed(stamp)),
+        Err(fault) => Reply::refused(fault),
+    }
+}
+
+fn load_points(alloc: Global, node: &mut NodeCore, text: &str) -> Result<Reply, AllocError>
+    ensures reply { IfOk result (λ reply. reply_text reply ≡ call_text node.old (load text.now)) }
+    ensures after { OnOk result (node.new ≡ node_after node.old (load text.now)) }
+{
+    match node.load(alloc, text) {
+        Ok(entries) => Ok(Reply::Loaded(entries)),
+        Err(fault) => Reply::refused(fault),
+    }
+}
+
 fn pass_point(
     alloc: Global,
     node: &mut NodeCore,
@@ -55,6 +75,23 @@ fn pass_point(
 {
     match node.pass_with(alloc, name, words) {
         Ok(reply) => Ok(Reply::Pass(reply)),
+        Err(fault) => Reply::refused(fault),
+    }
+}
+
+fn shift_rights(
+    alloc: Global,
+    node: &mut NodeCore,
+    name: &str,
+    term: u8,
+    to: u8,
+    amount: u64,
+) -> Result<Reply, AllocError>
+    ensures reply { IfOk result (λ reply. reply_text reply ≡ call_text node.old (shift name.now term to amount)) }
+    ensures after { OnOk result (node.new ≡ node_after node.old (shift name.now term to amount)) }
+{
+    match node.shift(alloc, name, term, to, amount) {
+        Ok(total) => Ok(Reply::Shifted(total)),
         Err(fault) => Reply::refused(fault),
     }
 }
@@ -108,7 +145,15 @@ fn call_node(alloc: Global, node: &mut NodeCore, call: Call<'_>) -> Result<Reply
 {
     match call {
         Call::Set { name, text } => set_point(alloc, node, name, text),
+        Call::Remove { name } => remove_point(alloc, node, name),
+        Call::Load { text } => load_points(alloc, node, text),
         Call::Pass { name, words } => pass_point(alloc, node, name, &words),
+        Call::Shift {
+            name,
+            term,
+            to,
+            amount,
+        } => shift_rights(alloc, node, name, term, to, amount),
         Call::List => Ok(Reply::List(node.list(alloc)?)),
         Call::Rights { name, term, of } => rights_at(alloc, node, name, term, of),
         Call::Spent { name, term } => spent_at(alloc, node, name, term),

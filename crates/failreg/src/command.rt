@@ -4,20 +4,47 @@ ghost use Rattle.std.specs.Prelude.{◌≡◌, ◌==◌, option_map, IfOk};
 ghost use Rattle.std.specs.Vec.{vec_items};
 ghost use Rattle.std.specs.List.{slice_split};
 ghost use Rattle.failreg.specs.Fields.{space};
-ghost use Rattle.failreg.specs.Commands.{call_value, command_value, words_of, nodes_in, set_in, pass_in, rights_in, spent_in, hits_in, call_in, ask_in, list_in, command_of};
+ghost use Rattle.failreg.specs.Commands.{call_value, command_value, words_of, nodes_in, set_in, remove_in, load_in, pass_in, shift_in, rights_in, spent_in, hits_in, call_in, ask_in, list_in, command_of};
 
-use crate::fields::{byte, cut, field, word};
+use crate::fields::{amount, byte, cut, field, word};
 use std::alloc::{AllocError, Global};
 
 /// What is asked of one node.
 #[derive(Drop)]
 pub enum Call<'a> {
-    Set { name: &'a str, text: &'a str },
-    Pass { name: &'a str, words: Vec<u32> },
+    Set {
+        name: &'a str,
+        text: &'a str,
+    },
+    Remove {
+        name: &'a str,
+    },
+    Load {
+        text: &'a str,
+    },
+    Pass {
+        name: &'a str,
+        words: Vec<u32>,
+    },
+    Shift {
+        name: &'a str,
+        term: u8,
+        to: u8,
+        amount: u64,
+    },
     List,
-    Rights { name: &'a str, term: u8, of: u8 },
-    Spent { name: &'a str, term: u8 },
-    Hits { name: &'a str },
+    Rights {
+        name: &'a str,
+        term: u8,
+        of: u8,
+    },
+    Spent {
+        name: &'a str,
+        term: u8,
+    },
+    Hits {
+        name: &'a str,
+    },
 }
 
 /// What a line asks for.
@@ -46,6 +73,19 @@ fn set_call(rest: &str) -> Option<Call<'_>>
     Some(Call::Set { name, text })
 }
 
+fn remove_call(rest: &str) -> Option<Call<'_>>
+    ensures { option_map call_value result ≡ remove_in rest.now }
+{
+    let name = field(rest)?;
+    Some(Call::Remove { name })
+}
+
+fn load_call(rest: &str) -> Option<Call<'_>>
+    ensures { option_map call_value result ≡ load_in rest.now }
+{
+    Some(Call::Load { text: rest })
+}
+
 fn words_in(alloc: Global, text: &str) -> Result<Option<Vec<u32>>, AllocError>
     ensures { IfOk result (λ words. option_map vec_items words ≡ words_of (slice_split (λ byte. byte == space) text.now)) }
 {
@@ -70,6 +110,24 @@ fn pass_call(alloc: Global, rest: &str) -> Result<Option<Call<'_>>, AllocError>
         (Some(name), Some(words)) => Ok(Some(Call::Pass { name, words })),
         _ => Ok(None),
     }
+}
+
+fn shift_call(rest: &str) -> Option<Call<'_>>
+    ensures { option_map call_value result ≡ shift_in rest.now }
+{
+    let (name, rest) = cut(rest)?;
+    let name = field(name)?;
+    let (term, rest) = cut(rest)?;
+    let term = byte(term)?;
+    let (to, amount_text) = cut(rest)?;
+    let to = byte(to)?;
+    let amount = amount(amount_text)?;
+    Some(Call::Shift {
+        name,
+        term,
+        to,
+        amount,
+    })
 }
 
 fn rights_call(rest: &str) -> Option<Call<'_>>
@@ -105,7 +163,10 @@ fn read_call<'a>(alloc: Global, word: &str, rest: &'a str) -> Result<Option<Call
 {
     match word {
         "set" => Ok(set_call(rest)),
+        "remove" => Ok(remove_call(rest)),
+        "load" => Ok(load_call(rest)),
         "pass" => pass_call(alloc, rest),
+        "shift" => Ok(shift_call(rest)),
         "rights" => Ok(rights_call(rest)),
         "spent" => Ok(spent_call(rest)),
         "hits" => Ok(hits_call(rest)),

@@ -24,8 +24,16 @@ Each line of the script, and what it prints where it is accepted:
   nodes <n> <cap>                     nothing: makes nodes 0 to n-1, of which
                                       each accepts cap calls
   set <node> <name> <actions>         set <stamp>
+  remove <node> <name>                removed <stamp>
+  load <node> <entries>               loaded <n>: sets the points of n entries
+                                      `<name>=<actions>`, joined by `;`, or
+                                      none where one is refused
   pass <node> <name>[ <word>]...      unset, none <stamp>, or
                                       act <stamp> <term> <task>
+  shift <node> <name> <term> <to> <amount>
+                                      shifted <total>: moves rights to node
+                                      <to>; total is what <node> has moved
+                                      there under the point's stamp
   list <node>                         the points that are set, perhaps none
   rights <node> <name> <term> <of>    the rights that node <of> has left, as
                                       <node> sees it
@@ -33,8 +41,9 @@ Each line of the script, and what it prints where it is accepted:
   hits <node> <name>                  how often the point was passed, as <node>
                                       sees it
 A pass takes one word, a number below 2^32, for each term whose chance is below
-100%. A stamp is <clock>.<node>. Fields are separated by one space. Empty lines
-and lines that begin with `#` are skipped.
+100%. An amount is a number below 2^64. A stamp is <clock>.<node>. Nodes
+exchange nothing yet: rights that are shifted don't arrive. Fields are separated
+by one space. Empty lines and lines that begin with `#` are skipped.
 
 A call that is refused prints `refused ` and the reason, and any other line
 prints `bad line`; the script goes on. The status is then 0. It is 1 where the

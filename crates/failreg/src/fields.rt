@@ -3,7 +3,7 @@
 ghost use Rattle.std.specs.Prelude.{◌≡◌, ◌≤◌, option_map, IfSome};
 ghost use Rattle.std.specs.List.{list_all};
 ghost use Rattle.std.specs.Char.{is_ascii_digit};
-ghost use Rattle.failreg.specs.Fields.{cut_of, field_of, number_of, byte_of, word_of};
+ghost use Rattle.failreg.specs.Fields.{cut_of, field_of, number_of, byte_of, word_of, amount_of};
 
 /// What stands before the first space, and what after it.
 pub fn cut(text: &str) -> Option<(&str, &str)>
@@ -58,4 +58,11 @@ pub fn word(text: &str) -> Option<u32>
 {
     let value = number(text, 4_294_967_295)?;
     Some(value as u32)
+}
+
+/// An amount of rights.
+pub fn amount(text: &str) -> Option<u64>
+    ensures { result ≡ amount_of text.now }
+{
+    number(text, u64::MAX)
 }

@@ -15,7 +15,12 @@ use std::fmt::Write;
 #[derive(Drop)]
 pub enum Reply {
     Set(Stamp),
+    Removed(Stamp),
+    /// How many entries a setting text had.
+    Loaded(u16),
     Pass(PassReply),
+    /// How many rights were shifted there in all, under the point's stamp.
+    Shifted(u64),
     List(String),
     /// Rights can be below 0 in the view of another node.
     Rights(i128),
@@ -34,11 +39,14 @@ impl fmt::Display for Reply {
     fn fmt<W: fmt::Write>(&self, f: &mut fmt::Formatter<W>) -> fmt::Result {
         match self {
             Reply::Set(stamp) => write!(f, "set {stamp}"),
+            Reply::Removed(stamp) => write!(f, "removed {stamp}"),
+            Reply::Loaded(entries) => write!(f, "loaded {entries}"),
             Reply::Pass(PassReply::Unset) => f.write_str("unset"),
             Reply::Pass(PassReply::NoTerm { stamp }) => write!(f, "none {stamp}"),
             Reply::Pass(PassReply::Act { stamp, term, task }) => {
                 write!(f, "act {stamp} {term} {task}")
             }
+            Reply::Shifted(total) => write!(f, "shifted {total}"),
             Reply::List(text) => f.write_str(text.as_str()),
             Reply::Rights(number) => write!(f, "{number}"),
             Reply::Count(number) => write!(f, "{number}"),

@@ -4,6 +4,7 @@ use crate::fault::ScriptFault;
 use crate::run::run_script;
 use crate::watched::Watched;
 use std::alloc::Global;
+use std::fmt::Write;
 use std::test::Fail;
 
 /// The script of the program's stored run.
@@ -85,6 +86,101 @@ fn scripts(rt: HostRuntime) -> Result<(), Fail> {
 }
 
 #[test]
+fn loads(rt: HostRuntime) -> Result<(), Fail> {
+    for (script, want) in [
+        // All of a text's entries, or none.
+        (
+            "nodes 1 100\nload 0 ;a=off; ;b=2*return()\nlist 0\nload 0 a=off;b=bad\nlist 0\nload 0 \n",
+            "loaded 2\na=off;b=2*return()\nrefused N3 BadActions S4 BadActions entry=1 A7 UnknownTask term=0\na=off;b=2*return()\nloaded 0\n",
+        ),
+        // An entry is a setting of its own, and a removed point a new one.
+        (
+            "nodes 1 100\nload 0 a=off;a=1*panic\npass 0 a\nremove 0 a\nload 0 a=off\npass 0 a\n",
+            "loaded 2\nact 2.0 0 panic\nremoved 3.0\nloaded 1\nact 4.0 0 off\n",
+        ),
+        (
+            "nodes 1 1\nload 0 \nload 0 \nload 1 \n",
+            "loaded 0\nrefused N1 TraceFull\nrefused NoNode\n",
+        ),
+    ] {
+        let output = played(rt.alloc(), script.as_bytes()).map_err(|_| "refused")?;
+        assert_eq!(rt; output.as_slice(), want.as_bytes(), "of {script}");
+    }
+    Ok(())
+}
+
+#[test]
+fn many_points(rt: HostRuntime) -> Result<(), Fail> {
+    let mut script = String::from_str(rt.alloc(), "nodes 1 100\nload 0 p0=off")?;
+    for point in 1..256u16 {
+        write!(script, ";p{point}=off")?;
+    }
+    script.push_str("\nset 0 q off\nset 0 p0 yield\n")?;
+    let output = played(rt.alloc(), script.as_bytes()).map_err(|_| "refused")?;
+    assert_eq!(rt;
+        output.as_slice(),
+        b"loaded 256\nrefused N4 TooManyPoints\nset 257.0\n".as_slice()
+    );
+    Ok(())
+}
+
+#[test]
+fn removals(rt: HostRuntime) -> Result<(), Fail> {
+    for (script, want) in [
+        // A removed point keeps its hits, and one that was never set can be removed.
+        (
+            "nodes 1 100\nset 0 a off\npass 0 a\nremove 0 a\nlist 0\npass 0 a\nhits 0 a\nremove 0 never\nshift 0 a 0 1 1\n",
+            "set 1.0\nact 1.0 0 off\nremoved 2.0\n\nunset\n1\nremoved 3.0\nrefused N6 NotSet\n",
+        ),
+        (
+            "nodes 1 2\nset 0 a off\npass 0 a\nremove 0 a\nlist 0\n",
+            "set 1.0\nact 1.0 0 off\nrefused N1 TraceFull\na=off\n",
+        ),
+        (
+            "nodes 1 9\nremove 0 a!\nremove 1 a\n",
+            "refused N2 BadName\nrefused NoNode\n",
+        ),
+    ] {
+        let output = played(rt.alloc(), script.as_bytes()).map_err(|_| "refused")?;
+        assert_eq!(rt; output.as_slice(), want.as_bytes(), "of {script}");
+    }
+    Ok(())
+}
+
+#[test]
+fn shifts(rt: HostRuntime) -> Result<(), Fail> {
+    for (script, want) in [
+        // What is refused, before the first shift.
+        (
+            "nodes 2 100\nset 0 a 2*off\nshift 0 a 0 1 0\nshift 0 a 0 1 3\nshift 0 a 0 0 1\nshift 0 a 1 1 1\nshift 0 b 0 1 0\nset 0 c off\nshift 0 c 0 1 1\nset 0 bad! off\npass 0 a 7\nset 2 a off\n",
+            "set 1.0\nrefused N10 ZeroAmount\nrefused N11 TooFewRights have=2\nrefused N9 BadNode\nrefused N7 NoSuchTerm\nrefused N6 NotSet\nset 2.0\nrefused N8 NotCounted\nrefused N2 BadName\nrefused N14 BadWords need=0\nrefused NoNode\n",
+        ),
+        (
+            "nodes 2 100\nset 0 a 2*off\nshift 0 a 0 1 1\nrights 0 a 0 0\nrights 0 a 0 1\n",
+            "set 1.0\nshifted 1\n1\n1\n",
+        ),
+        (
+            "nodes 2 100\nset 0 p 3*panic\nshift 0 p 0 1 1\n",
+            "set 1.0\nshifted 1\n",
+        ),
+        // The answer is the total, and the other node hasn't heard of it.
+        (
+            "nodes 2 100\nset 0 p 9*panic\nshift 0 p 0 1 2\nshift 0 p 0 1 3\nrights 0 p 0 0\nrights 1 p 0 1\nshift 1 p 0 0 1\n",
+            "set 1.0\nshifted 2\nshifted 5\n4\n0\nrefused N6 NotSet\n",
+        ),
+        // The greatest count, and the greatest amount.
+        (
+            "nodes 2 100\nset 0 a 18446744073709551615*off\nshift 0 a 0 1 18446744073709551615\nshift 0 a 0 1 1\npass 0 a\n",
+            "set 1.0\nshifted 18446744073709551615\nrefused N11 TooFewRights have=0\nnone 1.0\n",
+        ),
+    ] {
+        let output = played(rt.alloc(), script.as_bytes()).map_err(|_| "refused")?;
+        assert_eq!(rt; output.as_slice(), want.as_bytes(), "of {script}");
+    }
+    Ok(())
+}
+
+#[test]
 fn clusters(rt: HostRuntime) -> Result<(), Fail> {
     for (script, want) in [
         ("nodes 17 5", "refused N21 BadConfig\n"),
@@ -105,7 +201,7 @@ fn clusters(rt: HostRuntime) -> Result<(), Fail> {
 }
 
 // Each of these lines is bad, in a cluster of one node and before there is one.
-const BAD: [&str; 38] = [
+const BAD: [&str; 51] = [
     "fly",
     " ",
     "nodes",
@@ -144,6 +240,19 @@ const BAD: [&str; 38] = [
     "spent 0 a 0 0",
     "hits 0",
     "hits 0 a b",
+    "remove 0",
+    "remove 0 ",
+    "remove 0 a b",
+    "load 0",
+    "load x a=off",
+    "load  a=off",
+    "shift 0 a 0 1",
+    "shift 0 a 0 1 ",
+    "shift 0 a 0 1 1 1",
+    "shift 0 a 256 1 1",
+    "shift 0 a 0 256 1",
+    "shift 0 a 0 1 18446744073709551616",
+    "shift 0 a 0 1 -1",
 ];
 
 #[test]
@@ -158,14 +267,7 @@ fn bad_lines(rt: HostRuntime) -> Result<(), Fail> {
         );
     }
     // Lines of calls that nodes don't have yet.
-    for line in [
-        "remove 0 a",
-        "load 0 a=off",
-        "shift 0 a 0 1 1",
-        "emit 0 1",
-        "deliver 0 0",
-        "report 0",
-    ] {
+    for line in ["emit 0 1", "deliver 0 0", "report 0"] {
         let script = format!(in rt.alloc(); "nodes 2 9\n{line}")?;
         let output = played(rt.alloc(), script.as_bytes()).map_err(|_| "refused")?;
         assert_eq!(rt; output.as_slice(), b"bad line\n".as_slice(), "of {line}");
