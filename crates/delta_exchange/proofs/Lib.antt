@@ -1,0 +1,11 @@
+pub mod Steps
+pub mod Texts
+pub mod Loop
+pub mod Fields
+pub mod Lists
+pub mod CellLemmas
+pub mod EntryLemmas
+pub mod MessageLemmas
+pub mod WiderLemmas
+pub mod Examples
+pub mod ToldLemmas

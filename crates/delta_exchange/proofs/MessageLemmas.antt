@@ -1,0 +1,112 @@
+-- The two laws: what is read is spelled so, and what is spelled so is read.
+use Rattle.std.proofs.Common.{◌≡◌, ℕ, ◌<◌, ◌≤◌, ◌^◌, eqb, leb, List, [], ◌∷◌, ◌++◌, length, Ok, refl, sym, ap, subst, ◌∙◌, append_assoc}
+use Rattle.std.specs.Int.{w64, to_be_bytes}
+use Rattle.std.specs.Str.{bytes_eq}
+use Rattle.std.proofs.lemmas.Bool.{eqb-true, leb-true, le-leb}
+use Rattle.std.proofs.lemmas.List.{append-nil, nil_from_length}
+use Rattle.std.proofs.lemmas.Slice.Eq.{bytes_eq-Decides}
+use Rattle.delta_exchange.specs.declared.fault.WireFault.TheVariants as faults
+use Rattle.delta_exchange.specs.Messages.{MessageValue}
+use Rattle.delta_exchange.specs.Spelling.{max_message, magic, versions_bytes, entries_bytes, message_bytes, IsMessage, SpellsMessage}
+use Rattle.delta_exchange.specs.Reading.{◌>>=◌, wants, offset, bytes_at, number_at, node_at, other_node_at, entries_at, magic_at, versions_at, fields_at, message_at}
+use Rattle.delta_exchange.proofs.Steps.{bind_ok, wants_ok, at_ok}
+use Rattle.delta_exchange.proofs.Fields.{IsBytes, Takes, Takes-then, bytes_take, bytes_again, long_takes, long_again, node_takes, node_again, other_takes, other_again}
+use Rattle.delta_exchange.proofs.EntryLemmas.{entries_take, entries_again}
+
+magic_takes : (all : ℕ) (left rest : List ℕ) → IsBytes left → magic_at all left ≡ Ok rest → Takes left magic rest
+unfolding magic_at
+magic_takes all left rest fits e =
+    let a = bind_ok (bytes_at all 4 left) (λ first. wants (bytes_eq first.0 magic) (faults.Magic (offset all left)) first.1) rest e in
+    let g = wants_ok (bytes_eq a.0.0 magic) (faults.Magic (offset all left)) a.0.1 rest a.2 in
+    let t = bytes_take all 4 left a.0.0 a.0.1 fits a.1 in
+    let named = subst (λ (x : List ℕ). Takes left x a.0.1) ((bytes_eq-Decides a.0.0 magic).0 g.0) t.0 in
+    subst (λ (x : List ℕ). Takes left magic x) g.1 named
+
+magic_again : (all : ℕ) (rest : List ℕ) → magic_at all (magic ++ rest) ≡ Ok rest
+unfolding magic_at
+magic_again all rest = rw (bytes_again all 4 magic rest refl) refl
+
+versions_take : (all : ℕ) (left : List ℕ) (v : ℕ × ℕ × ℕ) (rest : List ℕ) → IsBytes left → versions_at all left ≡ Ok (v, rest)
+    → Takes left (to_be_bytes w64 v.0 ++ (to_be_bytes w64 v.1 ++ to_be_bytes w64 v.2)) rest × (v.0 < 2 ^ 64) × (v.1 < 2 ^ 64) × (v.2 < 2 ^ 64)
+unfolding versions_at
+versions_take all left v rest fits e =
+    let a = bind_ok (number_at all w64 left) (λ base. number_at all w64 base.1 >>= λ upto. number_at all w64 upto.1 >>= λ ack. Ok ((base.0, upto.0, ack.0), ack.1)) (v, rest) e in
+    let b = bind_ok (number_at all w64 a.0.1) (λ upto. number_at all w64 upto.1 >>= λ ack. Ok ((a.0.0, upto.0, ack.0), ack.1)) (v, rest) a.2 in
+    let d = bind_ok (number_at all w64 b.0.1) (λ ack. Ok ((a.0.0, b.0.0, ack.0), ack.1)) (v, rest) b.2 in
+    let t = long_takes all left a.0.0 a.0.1 fits a.1 in
+    let u = long_takes all a.0.1 b.0.0 b.0.1 t.0.rest_fits b.1 in
+    let w = long_takes all b.0.1 d.0.0 d.0.1 u.0.rest_fits d.1 in
+    let two = Takes-then a.0.1 (to_be_bytes w64 b.0.0) b.0.1 (to_be_bytes w64 d.0.0) d.0.1 u.0 w.0 in
+    let three = Takes-then left (to_be_bytes w64 a.0.0) a.0.1 (to_be_bytes w64 b.0.0 ++ to_be_bytes w64 d.0.0) d.0.1 t.0 two in
+    at_ok (λ (x : (ℕ × ℕ × ℕ) × List ℕ). Takes left (to_be_bytes w64 x.0.0 ++ (to_be_bytes w64 x.0.1 ++ to_be_bytes w64 x.0.2)) x.1 × (x.0.0 < 2 ^ 64) × (x.0.1 < 2 ^ 64) × (x.0.2 < 2 ^ 64)) ((a.0.0, b.0.0, d.0.0), d.0.1) (v, rest) d.2
+    (three, t.1, u.1, w.1)
+
+versions_again : (all base upto ack : ℕ) (rest : List ℕ) → base < 2 ^ 64 → upto < 2 ^ 64 → ack < 2 ^ 64
+    → versions_at all ((to_be_bytes w64 base ++ (to_be_bytes w64 upto ++ to_be_bytes w64 ack)) ++ rest) ≡ Ok ((base, upto, ack), rest)
+unfolding versions_at
+versions_again all base upto ack rest p q r =
+    let regrouped : (to_be_bytes w64 base ++ (to_be_bytes w64 upto ++ to_be_bytes w64 ack)) ++ rest ≡ to_be_bytes w64 base ++ (to_be_bytes w64 upto ++ (to_be_bytes w64 ack ++ rest)) =
+    append_assoc (to_be_bytes w64 base) (to_be_bytes w64 upto ++ to_be_bytes w64 ack) rest ∙ ap (λ (x : List ℕ). to_be_bytes w64 base ++ x) (append_assoc (to_be_bytes w64 upto) (to_be_bytes w64 ack) rest) in
+    ap (versions_at all) regrouped
+    ∙ rw (long_again all base (to_be_bytes w64 upto ++ (to_be_bytes w64 ack ++ rest)) p, long_again all upto (to_be_bytes w64 ack ++ rest) q, long_again all ack rest r) refl
+
+fields_take : (all nodes : ℕ) (left : List ℕ) (m : MessageValue) → nodes ≤ 2 ^ 8 → IsBytes left → fields_at all nodes left ≡ Ok m → IsMessage nodes m × (left ≡ message_bytes m)
+unfolding fields_at
+fields_take all nodes left m few fits e =
+    let a = bind_ok (magic_at all left) (λ after. node_at all nodes after >>= λ from. other_node_at all nodes from.0 from.1 >>= λ to. versions_at all to.1 >>= λ versions. entries_at all nodes versions.1 >>= λ entries. wants (eqb (length entries.1) 0) (faults.Long (offset all entries.1)) (record { from = from.0; to = to.0; base = versions.0.0; upto = versions.0.1; ack = versions.0.2; entries = entries.0 })) m e in
+    let b = bind_ok (node_at all nodes a.0) (λ from. other_node_at all nodes from.0 from.1 >>= λ to. versions_at all to.1 >>= λ versions. entries_at all nodes versions.1 >>= λ entries. wants (eqb (length entries.1) 0) (faults.Long (offset all entries.1)) (record { from = from.0; to = to.0; base = versions.0.0; upto = versions.0.1; ack = versions.0.2; entries = entries.0 })) m a.2 in
+    let d = bind_ok (other_node_at all nodes b.0.0 b.0.1) (λ to. versions_at all to.1 >>= λ versions. entries_at all nodes versions.1 >>= λ entries. wants (eqb (length entries.1) 0) (faults.Long (offset all entries.1)) (record { from = b.0.0; to = to.0; base = versions.0.0; upto = versions.0.1; ack = versions.0.2; entries = entries.0 })) m b.2 in
+    let f = bind_ok (versions_at all d.0.1) (λ versions. entries_at all nodes versions.1 >>= λ entries. wants (eqb (length entries.1) 0) (faults.Long (offset all entries.1)) (record { from = b.0.0; to = d.0.0; base = versions.0.0; upto = versions.0.1; ack = versions.0.2; entries = entries.0 })) m d.2 in
+    let g = bind_ok (entries_at all nodes f.0.1) (λ entries. wants (eqb (length entries.1) 0) (faults.Long (offset all entries.1)) (record { from = b.0.0; to = d.0.0; base = f.0.0.0; upto = f.0.0.1; ack = f.0.0.2; entries = entries.0 })) m f.2 in
+    let made : MessageValue = record { from = b.0.0; to = d.0.0; base = f.0.0.0; upto = f.0.0.1; ack = f.0.0.2; entries = g.0.0 } in
+    let h = wants_ok (eqb (length g.0.1) 0) (faults.Long (offset all g.0.1)) made m g.2 in
+    let t = magic_takes all left a.0 fits a.1 in
+    let u = node_takes all nodes a.0 b.0.0 b.0.1 t.rest_fits b.1 in
+    let w = other_takes all nodes b.0.0 b.0.1 d.0.0 d.0.1 u.0.rest_fits d.1 in
+    let x = versions_take all d.0.1 f.0.0 f.0.1 w.0.rest_fits f.1 in
+    let y = entries_take all nodes f.0.1 g.0.0 g.0.1 x.0.rest_fits g.1 in
+    let two = Takes-then d.0.1 (versions_bytes made) f.0.1 (entries_bytes g.0.0) g.0.1 x.0 y.0 in
+    let three = Takes-then b.0.1 (d.0.0 ∷ []) d.0.1 (versions_bytes made ++ entries_bytes g.0.0) g.0.1 w.0 two in
+    let four = Takes-then a.0 (b.0.0 ∷ []) b.0.1 (d.0.0 ∷ (versions_bytes made ++ entries_bytes g.0.0)) g.0.1 u.0 three in
+    let five = Takes-then left magic a.0 (b.0.0 ∷ d.0.0 ∷ (versions_bytes made ++ entries_bytes g.0.0)) g.0.1 t four in
+    let nothing : g.0.1 ≡ [] = nil_from_length g.0.1 (eqb-true _ _ h.0) in
+    let whole : left ≡ message_bytes made = five.parts ∙ ap (λ (r : List ℕ). message_bytes made ++ r) nothing ∙ append-nil (message_bytes made) in
+    let is_message : IsMessage nodes made = record {
+      few_nodes = few;
+      from = u.1;
+      to = w.1;
+      apart = w.2;
+      base = x.1;
+      upto = x.2;
+      ack = x.3;
+      entries = record { few = y.1; each = y.2; ascend = y.3 };
+    } in
+    subst (λ (n : MessageValue). IsMessage nodes n × (left ≡ message_bytes n)) h.1 (is_message, whole)
+
+fields_again : (all nodes : ℕ) (m : MessageValue) → IsMessage nodes m → fields_at all nodes (message_bytes m) ≡ Ok m
+unfolding fields_at
+fields_again all nodes m h =
+    let after = versions_bytes m ++ entries_bytes m.entries in
+    let g : magic_at all (message_bytes m) ≡ Ok (m.from ∷ m.to ∷ after) = magic_again all (m.from ∷ m.to ∷ after) in
+    let u : node_at all nodes (m.from ∷ m.to ∷ after) ≡ Ok (m.from, m.to ∷ after) = node_again all nodes m.from (m.to ∷ after) h.from in
+    let w : other_node_at all nodes m.from (m.to ∷ after) ≡ Ok (m.to, after) = other_again all nodes m.from m.to after h.to h.apart in
+    let x : versions_at all after ≡ Ok ((m.base, m.upto, m.ack), entries_bytes m.entries) = versions_again all m.base m.upto m.ack (entries_bytes m.entries) h.base h.upto h.ack in
+    let y : entries_at all nodes (entries_bytes m.entries) ≡ Ok (m.entries, []) =
+    ap (entries_at all nodes) (sym (append-nil (entries_bytes m.entries))) ∙ entries_again all nodes m.entries [] h.entries.few h.entries.each h.entries.ascend in
+    rw (g, u, w, x, y) refl
+
+-- what is read is spelled so
+pub message_takes : (nodes : ℕ) (bytes : List ℕ) (m : MessageValue) → nodes ≤ 2 ^ 8 → IsBytes bytes → message_at nodes bytes ≡ Ok m → SpellsMessage nodes bytes m
+unfolding message_at
+message_takes nodes bytes m few fits e =
+    let a = bind_ok (wants (leb (length bytes) max_message) (faults.TooBig max_message) bytes) (λ held. fields_at (length bytes) nodes held) m e in
+    let g = wants_ok (leb (length bytes) max_message) (faults.TooBig max_message) bytes a.0 a.1 in
+    let read : fields_at (length bytes) nodes bytes ≡ Ok m = ap (fields_at (length bytes) nodes) g.1 ∙ a.2 in
+    let t = fields_take (length bytes) nodes bytes m few fits read in
+    (t.0, t.1, leb-true _ _ g.0)
+
+-- what is spelled so is read
+pub message_again : (nodes : ℕ) (bytes : List ℕ) (m : MessageValue) → SpellsMessage nodes bytes m → message_at nodes bytes ≡ Ok m
+unfolding message_at
+message_again nodes bytes m h =
+    rw (le-leb (length bytes) 16777216 h.2) (ap (fields_at (length bytes) nodes) h.1 ∙ fields_again (length bytes) nodes m h.0)

@@ -1,0 +1,4 @@
+pub mod FaultText
+pub mod Messages
+pub mod Spelling
+pub mod Reading

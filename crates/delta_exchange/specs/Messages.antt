@@ -1,0 +1,42 @@
+-- Messages without where they lie in memory, and the operations that they tell.
+use Rattle.std.specs.Prelude.{ℕ, List, ◌∷◌, ◌++◌, map}
+use Rattle.std.specs.List.{flat_map}
+use Rattle.stamp_register.specs.Keys.{KeyValue, key_value}
+use Rattle.replica_state.specs.Operations.{Operation, Set, Count, Hits, Execs, Shifts}
+use Rattle.delta_exchange.specs.declared.message.NameEntry.{NameEntry}
+use Rattle.delta_exchange.specs.declared.message.Message.{Message}
+
+-- a name, its key and what was counted: hits by node; executions by term and node; rights moved,
+-- by term, from node and to node. The last number of each is how many
+pub record EntryValue : Type 0 where
+  pub name : List ℕ
+  pub key : KeyValue
+  pub hits : List (ℕ × ℕ)
+  pub execs : List (ℕ × ℕ × ℕ)
+  pub shifts : List (ℕ × ℕ × ℕ × ℕ)
+
+pub record MessageValue : Type 0 where
+  pub from : ℕ
+  pub to : ℕ
+  pub base : ℕ
+  pub upto : ℕ
+  pub ack : ℕ
+  pub entries : List EntryValue
+
+abbrev pub entry_value : NameEntry → EntryValue
+entry_value e = record { name = e.name; key = key_value e.key; hits = e.hits.items; execs = e.execs.items; shifts = e.shifts.items }
+
+abbrev pub message_value : Message → MessageValue
+message_value m =
+    record { from = m.from; to = m.to; base = m.base; upto = m.upto; ack = m.ack; entries = map entry_value m.entries.items }
+
+-- what an entry tells: its setting, and then each of its cells
+abbrev pub operations_of : EntryValue → List Operation
+operations_of e =
+    Set e.name e.key ∷ (map (λ c. Count (Hits e.name c.0) c.1) e.hits
+    ++ (map (λ c. Count (Execs e.name e.key c.0 c.1) c.2) e.execs
+    ++ map (λ c. Count (Shifts e.name e.key c.0 c.1 c.2) c.3) e.shifts))
+
+-- what a message tells
+abbrev pub operations_in : MessageValue → List Operation
+operations_in m = flat_map operations_of m.entries

@@ -1,0 +1,26 @@
+//! What the definitions promise of all messages and bytes. Nothing here runs.
+
+ghost use Rattle.std.specs.Prelude.{◌≡◌, ◌≤◌, ℕ, List, length, Ok};
+ghost use Rattle.std.specs.List.{AllByRecursion};
+ghost use Rattle.replica_state.specs.Operations.{IsWellFormed};
+ghost use Rattle.delta_exchange.specs.Messages.{MessageValue, operations_in};
+ghost use Rattle.delta_exchange.specs.Spelling.{IsMessage, SpellsMessage, message_bytes, max_message};
+ghost use Rattle.delta_exchange.specs.Reading.{message_at};
+
+/// Bytes are of at most one message, whatever the number of nodes.
+pub fn message_has_one_spelling()
+    ensures { (nodes others : ℕ) (bytes : List ℕ) (m n : MessageValue) → SpellsMessage nodes bytes m → SpellsMessage others bytes n
+        → m ≡ n }
+{}
+
+/// A message whose bytes keep to the limit is read from them again.
+pub fn decoded_again()
+    ensures { (nodes : ℕ) (m : MessageValue) → IsMessage nodes m → length (message_bytes m) ≤ max_message
+        → message_at nodes (message_bytes m) ≡ Ok m }
+{}
+
+/// What a message tells is well formed: each number is from 1 on, and what is executed or shifted is
+/// counted.
+pub fn told_operations_are_well_formed()
+    ensures { (nodes : ℕ) (m : MessageValue) → IsMessage nodes m → AllByRecursion IsWellFormed (operations_in m) }
+{}

@@ -1,0 +1,38 @@
+//! Messages, read or still to be written.
+
+use actions::Name;
+use stamp_register::Key;
+
+/// What a message says of one name: its key, and cells of what was counted at nodes.
+///
+/// The numbers of a cell stand in the order in which they are written. The last is the count or
+/// the total, from 1 on.
+#[derive(Debug, Drop)]
+pub struct NameEntry {
+    pub name: Name,
+    pub key: Key,
+    /// A node, and how often it passed the point.
+    pub hits: Vec<(u8, u64)>,
+    /// A counted term of the key, a node, and how often the node executed the term.
+    pub execs: Vec<(u8, u8, u64)>,
+    /// A counted term of the key, two nodes, and how many rights to execute the term the first
+    /// moved to the second.
+    pub shifts: Vec<(u8, u8, u8, u64)>,
+}
+
+/// What one node tells another.
+#[derive(Debug, Drop)]
+pub struct Message {
+    /// The node that sends it.
+    pub from: u8,
+    /// The node that it is for.
+    pub to: u8,
+    /// The sender's version that the receiver is known to have: the entries are what changed since.
+    pub base: u64,
+    /// The sender's version.
+    pub upto: u64,
+    /// The receiver's version that the sender has.
+    pub ack: u64,
+    /// In the order of their names.
+    pub entries: Vec<NameEntry>,
+}

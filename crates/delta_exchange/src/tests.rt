@@ -1,0 +1,90 @@
+//! Examples from outside. A refused allocation is tried a second time, and has to be answered as
+//! such the first time: so all of these also pass where any one allocation fails.
+
+mod altered;
+mod faults;
+mod whole;
+
+use super::*;
+use std::alloc::{AllocError, Global};
+use std::fmt::Display;
+use std::test::Fail;
+
+/// Of node 0 to node 1, with nothing to tell.
+const EMPTY: [u8; 32] = [
+    0x46, 0x50, 0x47, 0x31, 0, 1, // magic, from, to
+    0, 0, 0, 0, 0, 0, 0, 0, // base
+    0, 0, 0, 0, 0, 0, 0, 0, // upto
+    0, 0, 0, 0, 0, 0, 0, 0, // ack
+    0, 0, // no names
+];
+
+/// Of node 0 to node 1, after node 0 set a to `2*off` and passed it once.
+const ONE_NAME: [u8; 75] = [
+    0x46, 0x50, 0x47, 0x31, 0, 1, // magic, from, to
+    0, 0, 0, 0, 0, 0, 0, 0, // base
+    0, 0, 0, 0, 0, 0, 0, 2, // upto
+    0, 0, 0, 0, 0, 0, 0, 0, // ack
+    0, 1, // one name
+    1, 0x61, // a
+    0, 0, 0, 0, 0, 0, 0, 1, 0, // clock and node
+    1, 0, 5, 0x32, 0x2a, 0x6f, 0x66, 0x66, // set to five bytes
+    1, 0, 0, 0, 0, 0, 0, 0, 0, 1, // one hit cell
+    0, 1, 0, 0, 0, 0, 0, 0, 0, 0, 0, 1, // one execution cell
+    0, 0, // no shift cell
+];
+
+fn decoded(alloc: Global, bytes: &[u8]) -> Result<Message, WireFault> {
+    match decode(alloc, 2, bytes) {
+        Err(WireFault::OutOfMemory) => decode(alloc, 2, bytes),
+        first => first,
+    }
+}
+
+fn fault(alloc: Global, bytes: &[u8]) -> Option<WireFault> {
+    decoded(alloc, bytes).err()
+}
+
+/// What the message of these bytes is written as.
+fn written_again(alloc: Global, bytes: &[u8]) -> Result<Vec<u8>, WireFault> {
+    match try_written_again(alloc, bytes) {
+        Err(WireFault::OutOfMemory) => try_written_again(alloc, bytes),
+        first => first,
+    }
+}
+
+fn try_written_again(alloc: Global, bytes: &[u8]) -> Result<Vec<u8>, WireFault> {
+    let message = decode(alloc, 2, bytes)?;
+    Ok(encode(alloc, &message)?)
+}
+
+fn shown<T: Display>(alloc: Global, value: &T) -> Result<String, Fail> {
+    match format!(in alloc; "{value}") {
+        Err(_) => Ok(format!(in alloc; "{value}")?),
+        first => Ok(first?),
+    }
+}
+
+/// One part behind the other.
+fn joined(alloc: Global, parts: &[&[u8]]) -> Result<Vec<u8>, Fail> {
+    match try_joined(alloc, parts) {
+        Err(_) => Ok(try_joined(alloc, parts)?),
+        first => Ok(first?),
+    }
+}
+
+fn try_joined(alloc: Global, parts: &[&[u8]]) -> Result<Vec<u8>, AllocError> {
+    let mut bytes = Vec::new(alloc);
+    for part in parts {
+        bytes.extend_from_slice(part)?;
+    }
+    Ok(bytes)
+}
+
+/// Bytes of zeros.
+fn zeros(alloc: Global, len: usize) -> Result<Vec<u8>, Fail> {
+    match vec![in alloc; 0; len] {
+        Err(_) => Ok(vec![in alloc; 0; len]?),
+        first => Ok(first?),
+    }
+}

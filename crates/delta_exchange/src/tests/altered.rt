@@ -1,0 +1,95 @@
+use super::*;
+
+/// Where the fields of `ONE_NAME` begin.
+const FIELDS: [usize; 22] = [
+    0, 4, 5, 6, 14, 22, 30, 32, 33, 34, 42, 43, 44, 46, 51, 52, 53, 61, 63, 64, 65, 73,
+];
+
+/// The fault of `ONE_NAME` with one byte set to another value.
+fn fault_with(alloc: Global, index: usize, value: u8) -> Option<WireFault> {
+    let mut bytes = ONE_NAME;
+    if let Some(byte) = bytes.get_mut(index) {
+        *byte = value;
+    }
+    fault(alloc, &bytes)
+}
+
+#[test]
+fn a_byte_fewer_or_more(rt: HostRuntime) -> Result<(), Fail> {
+    let alloc = rt.alloc();
+    assert_eq!(rt;
+        fault(alloc, &EMPTY[..31]),
+        Some(WireFault::Short { offset: 30 })
+    );
+    assert_eq!(rt; fault(alloc, &[]), Some(WireFault::Short { offset: 0 }));
+    let longer = joined(alloc, &[&EMPTY, &[0]])?;
+    assert_eq!(rt; fault(alloc, &longer), Some(WireFault::Long { offset: 32 }));
+    Ok(())
+}
+
+#[test]
+fn each_cut(rt: HostRuntime) {
+    for len in 0..75 {
+        let mut field = 0;
+        for offset in FIELDS {
+            if offset <= len {
+                field = offset;
+            }
+        }
+        assert_eq!(rt;
+            fault(rt.alloc(), &ONE_NAME[..len]),
+            Some(WireFault::Short { offset: field }),
+            "{len} bytes"
+        );
+    }
+}
+
+#[test]
+fn each_byte_at_each_value(rt: HostRuntime) -> Result<(), Fail> {
+    let alloc = rt.alloc();
+    let mut read = 0u32;
+    for index in 0..75 {
+        for value in 0..=255 {
+            let mut bytes = ONE_NAME;
+            bytes[index] = value;
+            match written_again(alloc, &bytes) {
+                Ok(again) => {
+                    assert_eq!(rt; again.as_slice(), bytes.as_slice());
+                    read = read.wrapping_add(1);
+                }
+                Err(fault) => assert!(rt; fault != WireFault::OutOfMemory),
+            }
+        }
+    }
+    // All values of the 24 bytes of versions and the 8 of the clock are read.
+    assert!(rt; read > 32 * 256);
+    Ok(())
+}
+
+#[test]
+fn one_byte_altered(rt: HostRuntime) {
+    let alloc = rt.alloc();
+    for (index, value, wanted) in [
+        (0, 0, WireFault::Magic { offset: 0 }),
+        (4, 2, WireFault::BadNode { offset: 4 }),
+        (5, 0, WireFault::BadNode { offset: 5 }),
+        (32, 0, WireFault::BadName { offset: 32 }),
+        (32, 129, WireFault::BadName { offset: 32 }),
+        (32, 128, WireFault::Short { offset: 33 }),
+        (33, b' ', WireFault::BadName { offset: 33 }),
+        (33, 0xff, WireFault::BadName { offset: 33 }),
+        (42, 2, WireFault::BadNode { offset: 42 }),
+        (43, 2, WireFault::BadBody { offset: 43 }),
+        (52, 2, WireFault::BadNode { offset: 52 }),
+        (60, 0, WireFault::ZeroCell { offset: 53 }),
+        (63, 1, WireFault::BadTerm { offset: 63 }),
+        (64, 2, WireFault::BadNode { offset: 64 }),
+        (72, 0, WireFault::ZeroCell { offset: 65 }),
+    ] {
+        assert_eq!(rt;
+            fault_with(alloc, index, value),
+            Some(wanted),
+            "byte {index} at {value}"
+        );
+    }
+}
