@@ -128,20 +128,17 @@ pub record Issues (a : Asked) : Type 0 where
   pub adds : (i : ℕ) (n : Node) (words : List ℕ) → added i n a words ≡ issued i n.marks.clock (settings a)
   pub counts : (n : Node) → clock_after n a ≡ n.marks.clock + length (settings a)
 
+pub issues_load : (text : List ℕ) → Issues (asks.Load text)
+issues_load text = record { adds = λ i n words. refl; counts = λ n. ap (λ k. n.marks.clock + k) (sym (length-map (points_in text) _)) }
+
 pub issues_some : (a : Asked) (s : List ℕ × Option (List ℕ)) (ss : Settings) → settings a ≡ s ∷ ss → Issues a
 issues_some (asks.Set name text) s ss h = record { adds = λ i n words. refl; counts = λ n. refl }
 issues_some (asks.Remove name) s ss h = record { adds = λ i n words. refl; counts = λ n. refl }
 issues_some (asks.Load text) s ss h = issues_load text
-  where
-    issues_load : (text : List ℕ) → Issues (asks.Load text)
-    issues_load text = record { adds = λ i n words. refl; counts = λ n. ap (λ k. n.marks.clock + k) (sym (length-map (points_in text) _)) }
 issues_some (asks.Pass name) s ss h = absurd (let impossible : ◌≡◌ {A = Settings} [] (s ∷ ss) = h in cc)
 issues_some (asks.Shift name term to amount) s ss h = absurd (let impossible : ◌≡◌ {A = Settings} [] (s ∷ ss) = h in cc)
 issues_some (asks.Emit to chosen) s ss h = absurd (let impossible : ◌≡◌ {A = Settings} [] (s ∷ ss) = h in cc)
 issues_some (asks.Deliver message) s ss h = absurd (let impossible : ◌≡◌ {A = Settings} [] (s ∷ ss) = h in cc)
-
-pub issues_load : (text : List ℕ) → Issues (asks.Load text)
-issues_load text = record { adds = λ i n words. refl; counts = λ n. ap (λ k. n.marks.clock + k) (sym (length-map (points_in text) _)) }
 
 -- after points were set
 pub holds_set : (config : Config) (clock : ℕ) (state next : State) (len : ℕ) (n : Node) (a : Asked) → Issues a → Holds config clock state len n → len < config.trace_cap → next ≡ state_set config.node clock (settings a) state →

@@ -474,12 +474,11 @@ impl NodeCore {
         ensures err { OnErr result (self.new ≡ self.old) }
     {
         let me = self.config.node;
-        let name = String::from_str(alloc, point.text())?;
         self.trace.reserve(1)?;
         self.state.count_shift(alloc, &point, term, me, to, total)?;
         let entry = Entry {
             ask: Ask::Shift {
-                name,
+                name: point.into_text(),
                 term,
                 to,
                 amount,

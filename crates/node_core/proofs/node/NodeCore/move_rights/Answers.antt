@@ -1,4 +1,3 @@
-use Rattle.std.proofs.Common.{◌∙◌}
 use Rattle.node_core.specs.Asks.{Shift}
 use Rattle.replica_state.specs.Slots.{matrix_state}
 use Rattle.node_core.proofs.Kept.{shift_kept}
@@ -8,5 +7,5 @@ pub invariant_of-self-2 : goal.invariant_of-self-2
 invariant_of-self-2 c =
     let node = c.self.inside in
     shift_kept node.config node.clock (matrix_state node.state) _ node.trace.items _ c.put.new.trace.items _ c.put.ensures c.in_ok-reserve.ensures.items c.self.invariant (rw (← c.self.view_is) at c.requires.room)
-    c.args.point c.args.term c.args.to c.args.amount c.args.total (λ i. Shift ((c.in_ok-name.ensures.ok ∙ c.text.ensures) i) c.args.term c.args.to c.args.amount) c.new.ensures.items
+    c.args.point c.args.term c.args.to c.args.amount c.args.total (λ i. Shift (c.into_text.ensures i) c.args.term c.args.to c.args.amount) c.new.ensures.items
     (rw (← c.self.view_is) at c.requires.set) (rw (← c.self.view_is) at c.requires.enough) (rw (← c.self.view_is) at c.requires.total) c.in_ok-count_shift.ensures.ok
