@@ -2,3 +2,4 @@ pub mod FaultText
 pub mod Messages
 pub mod Spelling
 pub mod Reading
+pub mod Wholes

@@ -1,0 +1,34 @@
+-- All that a node knows, as a message: which operations a node may know, and what it then tells.
+use Rattle.std.specs.Prelude.{◌≡◌, ◌≢◌, ℕ, ◌<◌, ◌≤◌, List, [], length, IsTrue, is_some}
+use Rattle.actions.specs.Names.{is_name}
+use Rattle.replica_state.specs.Operations.{Operation, Set, Count, Hits, Execs, Shifts, IsIn}
+use Rattle.replica_state.specs.States.{State}
+use Rattle.replica_state.specs.Folds.{fold, key_of}
+use Rattle.replica_state.specs.Deltas.{IsDelta}
+use Rattle.delta_exchange.specs.Messages.{MessageValue, operations_in}
+use Rattle.delta_exchange.specs.Spelling.{IsKey, IsCountedTerm, IsMessage, message_bytes, max_message}
+
+-- an operation that a message of a cluster of so many nodes can tell
+abbrev pub IsLawful : ℕ → Operation → Type 0
+IsLawful nodes (Set name key) = IsTrue (is_name name) × IsKey nodes key
+IsLawful nodes (Count (Hits name node) number) = IsTrue (is_name name) × (node < nodes) × (0 < number)
+IsLawful nodes (Count (Execs name key term node) number) =
+    IsTrue (is_name name) × IsKey nodes key × IsCountedTerm key term × (node < nodes) × (0 < number)
+IsLawful nodes (Count (Shifts name key term from to) number) =
+    IsTrue (is_name name) × IsKey nodes key × IsCountedTerm key term × (from < nodes) × (to < nodes) × (to ≢ from) × (0 < number)
+
+-- each operation can be told, and a point that was passed has a key
+pub record AreLawful (nodes : ℕ) (ops : List Operation) : Type 0 where
+  pub each : (op : Operation) → IsIn op ops → IsLawful nodes op
+  pub keyed : (name : List ℕ) (node number : ℕ) → IsIn (Count (Hits name node) number) ops → IsTrue (is_some (key_of name ops))
+
+-- a message of one node to another that tells all of a state, and no version
+pub record IsWhole (nodes from to : ℕ) (v : State) (m : MessageValue) : Type 0 where
+  pub sender : m.from ≡ from
+  pub receiver : m.to ≡ to
+  pub base : m.base ≡ 0
+  pub upto : m.upto ≡ 0
+  pub ack : m.ack ≡ 0
+  pub spelled : IsMessage nodes m
+  pub short : length (message_bytes m) ≤ max_message
+  pub all : IsDelta (fold []) v (operations_in m)
