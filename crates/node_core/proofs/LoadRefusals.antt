@@ -31,7 +31,7 @@ names_of_settings (point ∷ points) = ap (λ ns. point.0 ∷ ns) (names_of_sett
 module _ (config : Config) (clock : ℕ) (state loaded : State) (entries : ℕ) (n : Node) (h : Holds config clock state entries n) (room : entries < config.trace_cap) (text : List ℕ) (points : Points) (read : setting_reading text ≡ Ok points)
     (low together : ℕ) (keyed : loaded ≡ state_set config.node low (settings_of points) (fold [])) (counted : together ≡ length (with_names loaded.names state.names)) where
   abbrev refusals : List (Option NodeFault)
-  refusals = where_true (too_many (with_names (map (λ point. point.0) points) (shown n).names)) faults.TooManyPoints ∷ where_true (nat_lt most (n.marks.clock + length points)) faults.ClockFull ∷ []
+  refusals = where_true (too_many (with_names (map (λ point. point.0) points) (shown n).names)) faults.TooManyPoints ∷ where_true (nat_lt most (n.marks.clock + length points)) faults.ClockFull ∷ None ∷ []
 
   has_room : nat_le config.trace_cap entries ≡ false
   has_room = grind (arith, nat_tests, room)

@@ -137,8 +137,8 @@ issues_some (asks.Remove name) s ss h = record { adds = λ i n words. refl; coun
 issues_some (asks.Load text) s ss h = issues_load text
 issues_some (asks.Pass name) s ss h = absurd (let impossible : ◌≡◌ {A = Settings} [] (s ∷ ss) = h in cc)
 issues_some (asks.Shift name term to amount) s ss h = absurd (let impossible : ◌≡◌ {A = Settings} [] (s ∷ ss) = h in cc)
-issues_some (asks.Emit to chosen) s ss h = absurd (let impossible : ◌≡◌ {A = Settings} [] (s ∷ ss) = h in cc)
-issues_some (asks.Deliver message) s ss h = absurd (let impossible : ◌≡◌ {A = Settings} [] (s ∷ ss) = h in cc)
+issues_some (asks.Emit to versions chosen) s ss h = absurd (let impossible : ◌≡◌ {A = Settings} [] (s ∷ ss) = h in cc)
+issues_some (asks.Deliver read) s ss h = absurd (let impossible : ◌≡◌ {A = Settings} [] (s ∷ ss) = h in cc)
 
 -- after points were set
 pub holds_set : (config : Config) (clock : ℕ) (state next : State) (len : ℕ) (n : Node) (a : Asked) → Issues a → Holds config clock state len n → len < config.trace_cap → next ≡ state_set config.node clock (settings a) state →

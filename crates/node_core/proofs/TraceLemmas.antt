@@ -50,12 +50,12 @@ holds_new config state own few small e = record {
 }
 
 -- the replay of a trace one entry longer
-pub holds_grown : (config : Config) (clock : ℕ) (state : State) (old new : List Entry) (e : Entry) → new ≡ old ++ e ∷ [] → Holds config clock state (length old + 1) (after config.node (replay config.node (map call old)) (call e).ask (call e).words) → Holds config clock state (length new) (replay config.node (map call new))
+pub holds_grown : (config : Config) (clock : ℕ) (state : State) (old new : List Entry) (e : Entry) → new ≡ old ++ e ∷ [] → Holds config clock state (length old + 1) (after config.node (replay config.node (map (call config.nodes) old)) (call config.nodes e).ask (call config.nodes e).words) → Holds config clock state (length new) (replay config.node (map (call config.nodes) new))
 holds_grown config clock state old new e same h =
-    let grown : map call new ≡ map call old ++ call e ∷ [] = ap (λ (es : List Entry). map call es) same ∙ map-append call old (e ∷ []) in
+    let grown : map (call config.nodes) new ≡ map (call config.nodes) old ++ call config.nodes e ∷ [] = ap (λ (es : List Entry). map (call config.nodes) es) same ∙ map-append (call config.nodes) old (e ∷ []) in
     let longer : length new ≡ length old + 1 = ap (λ (es : List Entry). length es) same ∙ length-append old (e ∷ []) in
-    subst (λ (len : ℕ). Holds config clock state len (replay config.node (map call new))) (sym longer)
-    (subst (λ (n : Node). Holds config clock state (length old + 1) n) (sym (ap (λ (cs : List Call). replay config.node cs) grown ∙ replay_more config.node start (map call old) (call e))) h)
+    subst (λ (len : ℕ). Holds config clock state len (replay config.node (map (call config.nodes) new))) (sym longer)
+    (subst (λ (n : Node). Holds config clock state (length old + 1) n) (sym (ap (λ (cs : List Call). replay config.node cs) grown ∙ replay_more config.node start (map (call config.nodes) old) (call config.nodes e))) h)
 
 -- a key that is held is no later than the clock
 pub held_clock : (name : List ℕ) (ops : List Operation) (key : KeyValue) → key_of name ops ≡ Some key → key.clock ≤ clock_of ops

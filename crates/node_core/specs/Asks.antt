@@ -1,8 +1,11 @@
 -- What a node is asked and what it replies, without where texts lie in memory.
-use Rattle.std.specs.Prelude.{ℕ, Bool, List, string_bytes}
+use Rattle.std.specs.Prelude.{ℕ, Bool, List, [], string_bytes, Result, Ok, Err}
 use Rattle.actions.specs.Value.{TaskValue, task_value}
 use Rattle.stamp_register.specs.declared.key.Stamp.{Stamp}
 use Rattle.replica_state.specs.Operations.{Operation}
+use Rattle.delta_exchange.specs.declared.fault.WireFault.{WireFault}
+use Rattle.delta_exchange.specs.Messages.{MessageValue, operations_in}
+use Rattle.delta_exchange.specs.Reading.{message_at}
 use Rattle.node_core.specs.declared.trace.Ask.{Ask}
 use Rattle.node_core.specs.declared.trace.Ask.TheVariants as asks
 use Rattle.node_core.specs.declared.trace.PassReply.{PassReply}
@@ -11,8 +14,8 @@ use Rattle.node_core.specs.declared.trace.Reply.{Reply}
 use Rattle.node_core.specs.declared.trace.Reply.TheVariants as replies
 use Rattle.node_core.specs.declared.trace.Entry.{Entry}
 
--- what one node tells another: operations that it knows, the receiver's version that it counts on
--- (base), its own version (upto), and the version of the receiver that it knows (ack)
+-- what one node tells another: operations that it knows, the version of its own that it counts on the
+-- receiver to have (base), its own version (upto), and the version of the receiver that it has (ack)
 pub record Message : Type 0 where
   pub from : ℕ
   pub to : ℕ
@@ -21,15 +24,25 @@ pub record Message : Type 0 where
   pub ack : ℕ
   pub ops : List Operation
 
--- an emit asks for some of the operations that the node knows
+-- the versions that a message tells
+pub record Versions : Type 0 where
+  pub base : ℕ
+  pub upto : ℕ
+  pub ack : ℕ
+
+abbrev pub no_versions : Versions
+no_versions = record { base = 0; upto = 0; ack = 0 }
+
+-- an emit asks to tell these versions and some of the operations that the node knows; a delivery brings what its
+-- bytes were read as
 pub data Asked : Type 0 where
   Set : (name text : List ℕ) → Asked
   Remove : (name : List ℕ) → Asked
   Load : (text : List ℕ) → Asked
   Pass : (name : List ℕ) → Asked
   Shift : (name : List ℕ) (term to amount : ℕ) → Asked
-  Emit : (to : ℕ) (chosen : List Operation) → Asked
-  Deliver : (message : Message) → Asked
+  Emit : (to : ℕ) (versions : Versions) (chosen : List Operation) → Asked
+  Deliver : (read : Result Message WireFault) → Asked
 
 -- what a pass came to: the point isn't set, no term was triggered, or this one was
 pub data Passed : Type 0 where
@@ -43,7 +56,7 @@ pub data Answered : Type 0 where
   IsLoaded : (entries : ℕ) → Answered
   IsPassed : (passed : Passed) → Answered
   IsShifted : (total : ℕ) → Answered
-  IsEmitted : (message : Message) → Answered
+  IsEmitted : (read : Result Message WireFault) → Answered
   IsDelivered : (changed : Bool) → Answered
 
 -- an accepted call: what was asked, with which words, and the reply
@@ -52,24 +65,53 @@ pub record Call : Type 0 where
   pub words : List ℕ
   pub reply : Answered
 
-abbrev pub asked : Ask → Asked
-asked (asks.Set name text) = Set (string_bytes name) (string_bytes text)
-asked (asks.Remove name) = Remove (string_bytes name)
-asked (asks.Load text) = Load (string_bytes text)
-asked (asks.Pass name) = Pass (string_bytes name)
-asked (asks.Shift name term to amount) = Shift (string_bytes name) term to amount
+-- ---- the program's asks and replies as those of the definitions
+
+-- a message with the operations that its entries tell
+abbrev pub message_of : MessageValue → Message
+message_of m = record { from = m.from; to = m.to; base = m.base; upto = m.upto; ack = m.ack; ops = operations_in m }
+
+abbrev pub read_of : Result MessageValue WireFault → Result Message WireFault
+read_of (Ok m) = Ok (message_of m)
+read_of (Err fault) = Err fault
+
+-- what bytes are read as in a cluster of so many nodes
+unfoldable pub message_read : ℕ → List ℕ → Result Message WireFault
+message_read nodes bytes = read_of (message_at nodes bytes)
+
+-- the ask of an emit whose reply was read as this
+abbrev pub emit_of : ℕ → Result Message WireFault → Asked
+emit_of to (Ok m) = Emit to (record { base = m.base; upto = m.upto; ack = m.ack }) m.ops
+emit_of to (Err fault) = Emit to no_versions []
+
+abbrev pub emit_asked : ℕ → ℕ → Reply → Asked
+emit_asked nodes to (replies.Emit bytes) = emit_of to (message_read nodes bytes.items)
+emit_asked nodes to _ = Emit to no_versions []
+
+-- what is asked, where this is the reply
+abbrev pub asked : ℕ → Ask → Reply → Asked
+asked nodes (asks.Set name text) reply = Set (string_bytes name) (string_bytes text)
+asked nodes (asks.Remove name) reply = Remove (string_bytes name)
+asked nodes (asks.Load text) reply = Load (string_bytes text)
+asked nodes (asks.Pass name) reply = Pass (string_bytes name)
+asked nodes (asks.Shift name term to amount) reply = Shift (string_bytes name) term to amount
+asked nodes (asks.Emit to) reply = emit_asked nodes to reply
+asked nodes (asks.Deliver bytes) reply = Deliver (message_read nodes bytes.items)
 
 abbrev pub passed : PassReply → Passed
 passed passes.Unset = Unset
 passed (passes.NoTerm stamp) = NoTerm stamp
 passed (passes.Act stamp term task) = Act stamp term (task_value task)
 
-abbrev pub answered : Reply → Answered
-answered (replies.Set stamp) = IsSet stamp
-answered (replies.Remove stamp) = IsRemoved stamp
-answered (replies.Load entries) = IsLoaded entries
-answered (replies.Pass reply) = IsPassed (passed reply)
-answered (replies.Shift total) = IsShifted total
+abbrev pub answered : ℕ → Reply → Answered
+answered nodes (replies.Set stamp) = IsSet stamp
+answered nodes (replies.Remove stamp) = IsRemoved stamp
+answered nodes (replies.Load entries) = IsLoaded entries
+answered nodes (replies.Pass reply) = IsPassed (passed reply)
+answered nodes (replies.Shift total) = IsShifted total
+answered nodes (replies.Emit bytes) = IsEmitted (message_read nodes bytes.items)
+answered nodes (replies.Deliver changed) = IsDelivered changed
 
-abbrev pub call : Entry → Call
-call e = record { ask = asked e.ask; words = e.words.items; reply = answered e.reply }
+-- an entry of a node's trace, in a cluster of so many nodes
+abbrev pub call : ℕ → Entry → Call
+call nodes e = record { ask = asked nodes e.ask e.reply; words = e.words.items; reply = answered nodes e.reply }

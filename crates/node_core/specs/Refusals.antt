@@ -20,11 +20,12 @@ use Rattle.node_core.specs.declared.trace.Config.{Config}
 use Rattle.node_core.specs.declared.fault.NodeFault.{NodeFault}
 use Rattle.node_core.specs.declared.fault.NodeFault.TheVariants as faults
 use Rattle.node_core.specs.declared.fault.TextFault.TheVariants as texts
+use Rattle.delta_exchange.specs.declared.fault.WireFault.{WireFault}
 use Rattle.node_core.specs.Asks.{Asked, Message}
 use Rattle.node_core.specs.Asks as asks
 use Rattle.node_core.specs.Nodes.{Node, shown, setting_of, terms_in}
 use Rattle.node_core.specs.Passes.{has_rights_of, words_for}
-use Rattle.node_core.specs.Steps.{points_in}
+use Rattle.node_core.specs.Steps.{points_in, told}
 
 abbrev pub first_fault : List (Option NodeFault) → Option NodeFault
 first_fault [] = None
@@ -115,30 +116,47 @@ faults_of_setting config v name term to amount setting =
 abbrev pub faults_of_shift : Config → State → List ℕ → ℕ → ℕ → ℕ → List (Option NodeFault)
 faults_of_shift config v name term to amount = faults_of_setting config v name term to amount (setting_of v name)
 
--- the refusals of an ask, with what the node shows and the length of its trace
+abbrev pub bad_message : Result Message WireFault → Option NodeFault
+bad_message (Ok message) = None
+bad_message (Err fault) = Some (faults.BadMessage fault)
+
+-- the refusals of a message for what it is and what it says
+abbrev pub faults_of_message : Config → Node → Result Message WireFault → List (Option NodeFault)
+faults_of_message config n read =
+    bad_message read ∷ where_true (not ((told read).to == config.node)) faults.NotForMe ∷
+    where_true (list_any (is_ahead config.node (shown n)) (told read).ops) faults.OwnAhead ∷ where_true (nat_lt n.marks.version (told read).ack) faults.AckAhead ∷
+    where_true (list_any (overspends (fold ((told read).ops ++ n.ops))) (told read).ops) faults.Overspent ∷ []
+
+-- words are for a pass alone
+abbrev pub spare_words : List ℕ → Option NodeFault
+spare_words [] = None
+spare_words (word ∷ words) = Some (faults.BadWords 0)
+
+-- the refusals of an ask, with what the node shows and the length of its trace. Too many names in a message count only
+-- where nothing else of it is refused
 abbrev pub faults_of : Config → ℕ → Node → Asked → List ℕ → List (Option NodeFault)
 faults_of config entries n (asks.Set name text) words =
     where_true (is_full config entries) faults.TraceFull ∷ where_true (not (is_name name)) faults.BadName ∷ bad_actions (reading text) ∷
-    where_true (too_many (with_name name (shown n).names)) faults.TooManyPoints ∷ where_true (nat_lt most (n.marks.clock + 1)) faults.ClockFull ∷ []
+    where_true (too_many (with_name name (shown n).names)) faults.TooManyPoints ∷ where_true (nat_lt most (n.marks.clock + 1)) faults.ClockFull ∷ spare_words words ∷ []
 faults_of config entries n (asks.Remove name) words =
     where_true (is_full config entries) faults.TraceFull ∷ where_true (not (is_name name)) faults.BadName ∷
-    where_true (too_many (with_name name (shown n).names)) faults.TooManyPoints ∷ where_true (nat_lt most (n.marks.clock + 1)) faults.ClockFull ∷ []
+    where_true (too_many (with_name name (shown n).names)) faults.TooManyPoints ∷ where_true (nat_lt most (n.marks.clock + 1)) faults.ClockFull ∷ spare_words words ∷ []
 faults_of config entries n (asks.Load text) words =
     where_true (is_full config entries) faults.TraceFull ∷ bad_setting (setting_reading text) ∷
     where_true (too_many (with_names (map (λ point. point.0) (points_in text)) (shown n).names)) faults.TooManyPoints ∷
-    where_true (nat_lt most (n.marks.clock + length (points_in text))) faults.ClockFull ∷ []
+    where_true (nat_lt most (n.marks.clock + length (points_in text))) faults.ClockFull ∷ spare_words words ∷ []
 faults_of config entries n (asks.Pass name) words =
     where_true (is_full config entries) faults.TraceFull ∷ where_true (not (is_name name)) faults.BadName ∷
     where_true (not (length words == words_for (shown n) name)) (faults.BadWords (words_for (shown n) name)) ∷ []
 faults_of config entries n (asks.Shift name term to amount) words =
-    where_true (is_full config entries) faults.TraceFull ∷ where_true (not (is_name name)) faults.BadName ∷ faults_of_shift config (shown n) name term to amount
-faults_of config entries n (asks.Emit to chosen) words =
-    where_true (is_full config entries) faults.TraceFull ∷ where_true (is_bad_node config to) faults.BadNode ∷ []
-faults_of config entries n (asks.Deliver message) words =
-    let merged = fold (message.ops ++ n.ops) in
-    where_true (is_full config entries) faults.TraceFull ∷ where_true (not (message.to == config.node)) faults.NotForMe ∷
-    where_true (list_any (is_ahead config.node (shown n)) message.ops) faults.OwnAhead ∷ where_true (nat_lt n.marks.version message.ack) faults.AckAhead ∷
-    where_true (list_any (overspends merged) message.ops) faults.Overspent ∷ where_true (too_many merged.names) faults.TooManyPoints ∷ []
+    where_true (is_full config entries) faults.TraceFull ∷ where_true (not (is_name name)) faults.BadName ∷
+    first_fault (faults_of_shift config (shown n) name term to amount) ∷ spare_words words ∷ []
+faults_of config entries n (asks.Emit to versions chosen) words =
+    where_true (is_full config entries) faults.TraceFull ∷ where_true (is_bad_node config to) faults.BadNode ∷ spare_words words ∷ []
+faults_of config entries n (asks.Deliver read) words =
+    where_true (is_full config entries) faults.TraceFull ∷
+    where_true (is_none (first_fault (faults_of_message config n read)) && too_many (fold ((told read).ops ++ n.ops)).names) faults.TooManyPoints ∷
+    spare_words words ∷ faults_of_message config n read
 
 abbrev pub refusal_at : Config → ℕ → Node → Asked → List ℕ → Option NodeFault
 refusal_at config entries n ask words = first_fault (faults_of config entries n ask words)

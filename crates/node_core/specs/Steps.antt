@@ -11,7 +11,8 @@ use Rattle.replica_state.specs.Operations.{Operation, Set, Count, Shifts}
 use Rattle.replica_state.specs.States.{State}
 use Rattle.replica_state.specs.Folds.{fold, clock_of}
 use Rattle.replica_state.specs.Knowledge.{changes}
-use Rattle.node_core.specs.Asks.{Asked, Answered, Message}
+use Rattle.delta_exchange.specs.declared.fault.WireFault.{WireFault}
+use Rattle.node_core.specs.Asks.{Asked, Answered, Message, Versions}
 use Rattle.node_core.specs.Asks as asks
 use Rattle.node_core.specs.Nodes.{Node, Marks, shown, setting_of}
 use Rattle.node_core.specs.Passes.{ops_of_pass, reply_of_pass}
@@ -39,8 +40,16 @@ settings (asks.Remove name) = (name, None) ∷ []
 settings (asks.Load text) = map (λ point. (point.0, Some (canonical point.1))) (points_in text)
 settings (asks.Pass name) = []
 settings (asks.Shift name term to amount) = []
-settings (asks.Emit to chosen) = []
-settings (asks.Deliver message) = []
+settings (asks.Emit to versions chosen) = []
+settings (asks.Deliver read) = []
+
+-- what a delivery brings; bytes that are no message bring nothing
+abbrev pub nothing_told : Message
+nothing_told = record { from = 0; to = 0; base = 0; upto = 0; ack = 0; ops = [] }
+
+abbrev pub told : Result Message WireFault → Message
+told (Ok message) = message
+told (Err fault) = nothing_told
 
 -- their keys have consecutive clocks
 abbrev pub issued : ℕ → ℕ → List (List ℕ × Option (List ℕ)) → List Operation
@@ -58,8 +67,8 @@ added i n (asks.Remove name) words = issued i n.marks.clock (settings (asks.Remo
 added i n (asks.Load text) words = issued i n.marks.clock (settings (asks.Load text))
 added i n (asks.Pass name) words = ops_of_pass i (shown n) name words (setting_of (shown n) name)
 added i n (asks.Shift name term to amount) words = shift_under i (shown n) name term to amount ((shown n).key name)
-added i n (asks.Emit to chosen) words = []
-added i n (asks.Deliver message) words = message.ops
+added i n (asks.Emit to versions chosen) words = []
+added i n (asks.Deliver read) words = (told read).ops
 
 -- the clock counts the settings, and is raised to what a message carries
 abbrev pub clock_after : Node → Asked → ℕ
@@ -68,22 +77,22 @@ clock_after n (asks.Remove name) = n.marks.clock + 1
 clock_after n (asks.Load text) = n.marks.clock + length (points_in text)
 clock_after n (asks.Pass name) = n.marks.clock
 clock_after n (asks.Shift name term to amount) = n.marks.clock
-clock_after n (asks.Emit to chosen) = n.marks.clock
-clock_after n (asks.Deliver message) = max n.marks.clock (clock_of message.ops)
+clock_after n (asks.Emit to versions chosen) = n.marks.clock
+clock_after n (asks.Deliver read) = max n.marks.clock (clock_of (told read).ops)
 
 -- a message raises what is known of its sender, if nothing lies between what was known and its base
 abbrev pub known_by : Message → (ℕ → ℕ) → ℕ → ℕ
 known_by m known j = if j == m.from && (nat_le m.base (known j) && nat_lt (known j) m.upto) then m.upto else known j
 
 abbrev pub known_after : Node → Asked → ℕ → ℕ
-known_after n (asks.Deliver message) = known_by message n.marks.known
+known_after n (asks.Deliver read) = known_by (told read) n.marks.known
 known_after n _ = n.marks.known
 
 abbrev pub acked_by : Message → (ℕ → ℕ) → ℕ → ℕ
 acked_by m acked j = if j == m.from then max (acked j) m.ack else acked j
 
 abbrev pub acked_after : Node → Asked → ℕ → ℕ
-acked_after n (asks.Deliver message) = acked_by message n.marks.acked
+acked_after n (asks.Deliver read) = acked_by (told read) n.marks.acked
 acked_after n _ = n.marks.acked
 
 abbrev pub version_after : ℕ → Node → Asked → List ℕ → ℕ
@@ -106,10 +115,10 @@ after i n ask words =
       past = past_with (version_after i n ask words) (fold (added i n ask words ++ n.ops)) n.past;
     }
 
--- the message that an emit sends
-abbrev pub message_to : ℕ → Node → ℕ → List Operation → Message
-message_to i n to chosen =
-    record { from = i; to = to; base = n.marks.acked to; upto = n.marks.version; ack = n.marks.known to; ops = chosen }
+-- the message that an emit of node i sends
+abbrev pub message_to : ℕ → ℕ → Versions → List Operation → Message
+message_to i to versions chosen =
+    record { from = i; to = to; base = versions.base; upto = versions.upto; ack = versions.ack; ops = chosen }
 
 -- its reply
 abbrev pub reply : ℕ → Node → Asked → List ℕ → Answered
@@ -118,5 +127,5 @@ reply i n (asks.Remove name) words = asks.IsRemoved (record { clock = n.marks.cl
 reply i n (asks.Load text) words = asks.IsLoaded (length (points_in text))
 reply i n (asks.Pass name) words = asks.IsPassed (reply_of_pass i (shown n) name words (setting_of (shown n) name))
 reply i n (asks.Shift name term to amount) words = asks.IsShifted ((shown n).shifts name term i to + amount)
-reply i n (asks.Emit to chosen) words = asks.IsEmitted (message_to i n to chosen)
-reply i n (asks.Deliver message) words = asks.IsDelivered (changes (shown n) message.ops)
+reply i n (asks.Emit to versions chosen) words = asks.IsEmitted (Ok (message_to i to versions chosen))
+reply i n (asks.Deliver read) words = asks.IsDelivered (changes (shown n) (told read).ops)

@@ -4,6 +4,7 @@ use Rattle.std.specs.List.{filter_map, join_with_byte}
 use Rattle.actions.specs.FaultText.{fault_text, setting_fault_text}
 use Rattle.stamp_register.specs.Keys.{KeyValue}
 use Rattle.replica_state.specs.States.{State}
+use Rattle.delta_exchange.specs.FaultText.{wire_fault_text}
 use Rattle.node_core.specs.declared.fault.NodeFault.{NodeFault}
 use Rattle.node_core.specs.declared.fault.NodeFault.TheVariants as faults
 use Rattle.node_core.specs.declared.fault.TextFault.{TextFault}
@@ -29,6 +30,7 @@ node_fault_text faults.ZeroAmount = codes "N10 ZeroAmount"
 node_fault_text (faults.TooFewRights have) = codes "N11 TooFewRights have=" ++ decimal have
 node_fault_text faults.CellFull = codes "N12 CellFull"
 node_fault_text (faults.BadWords need) = codes "N14 BadWords need=" ++ decimal need
+node_fault_text (faults.BadMessage fault) = codes "N16 BadMessage " ++ wire_fault_text fault
 node_fault_text faults.NotForMe = codes "N17 NotForMe"
 node_fault_text faults.OwnAhead = codes "N18 OwnAhead"
 node_fault_text faults.AckAhead = codes "N19 AckAhead"

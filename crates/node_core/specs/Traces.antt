@@ -1,11 +1,11 @@
 -- Traces: the accepted calls of a node, and what they come to.
-use Rattle.std.specs.Prelude.{◌≡◌, ℕ, ◌+◌, List, [], ◌∷◌, ◌++◌, length, Option, None}
+use Rattle.std.specs.Prelude.{◌≡◌, ℕ, ◌+◌, ◌≤◌, List, [], ◌∷◌, ◌++◌, length, Option, None}
 use Rattle.replica_state.specs.Deltas.{IsDelta}
 use Rattle.node_core.specs.declared.trace.Config.{Config}
 use Rattle.node_core.specs.declared.fault.NodeFault.{NodeFault}
-use Rattle.node_core.specs.Asks.{Asked, Answered, Call}
+use Rattle.node_core.specs.Asks.{Asked, Answered, Call, Versions}
 use Rattle.node_core.specs.Asks as asks
-use Rattle.node_core.specs.Nodes.{Node, start, shown}
+use Rattle.node_core.specs.Nodes.{Node, Marks, start, shown}
 use Rattle.node_core.specs.Steps.{after, reply}
 use Rattle.node_core.specs.Refusals.{refusal_at}
 
@@ -38,9 +38,14 @@ entry_for k ask words = record { ask = ask; words = words; reply = reply_to k as
 abbrev pub after_call : Kept → Asked → List ℕ → Kept
 after_call k ask words = record { config = k.config; trace = k.trace ++ entry_for k ask words ∷ [] }
 
--- an emit sends what differs between the state that its receiver is known to have and the state now
+-- an emit tells no version that the node hasn't, and sends what differs between its state at the version that it
+-- counts on and its state now
+pub record MayTell (marks : Marks) (to : ℕ) (versions : Versions) : Type 0 where
+  pub upto : versions.upto ≤ marks.version
+  pub ack : versions.ack ≤ marks.known to
+
 abbrev pub SendsDelta : Node → Asked → Type 0
-SendsDelta n (asks.Emit to chosen) = IsDelta (n.past (n.marks.acked to)) (shown n) chosen
+SendsDelta n (asks.Emit to versions chosen) = MayTell n.marks to versions × IsDelta (n.past versions.base) (shown n) chosen
 SendsDelta n _ = Unit {0}
 
 -- a trace is legal where each call of it, from the start, is accepted and has the step's reply

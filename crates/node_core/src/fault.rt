@@ -1,6 +1,7 @@
 //! Why a node refuses.
 
 use actions::{ActionFault, SettingFault};
+use delta_exchange::WireFault;
 use std::alloc::{AllocError, AllocFailed};
 use std::error::Error;
 use std::fmt;
@@ -64,6 +65,8 @@ pub enum NodeFault {
     CellFull,
     /// A pass of this point needs another number of words.
     BadWords { need: u8 },
+    /// The bytes are no message.
+    BadMessage(WireFault),
     /// The message is for another node.
     NotForMe,
     /// The message says more of this node than the node knows itself.
@@ -99,6 +102,7 @@ impl fmt::Display for NodeFault {
             NodeFault::TooFewRights { have } => write!(f, "N11 TooFewRights have={have}"),
             NodeFault::CellFull => f.write_str("N12 CellFull"),
             NodeFault::BadWords { need } => write!(f, "N14 BadWords need={need}"),
+            NodeFault::BadMessage(fault) => write!(f, "N16 BadMessage {fault}"),
             NodeFault::NotForMe => f.write_str("N17 NotForMe"),
             NodeFault::OwnAhead => f.write_str("N18 OwnAhead"),
             NodeFault::AckAhead => f.write_str("N19 AckAhead"),

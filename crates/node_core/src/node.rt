@@ -56,9 +56,9 @@ impl Model for NodeCore {
 
     ghost Value = { Kept };
 
-    ghost view = { λ c. record { config = c.config; trace = map call c.trace.items } };
+    ghost view = { λ c. record { config = c.config; trace = map (call c.config.nodes) c.trace.items } };
 
-    ghost invariant = { λ c. Holds c.config c.clock (matrix_state c.state) (length c.trace.items) (replay c.config.node (map call c.trace.items)) };
+    ghost invariant = { λ c. Holds c.config c.clock (matrix_state c.state) (length c.trace.items) (replay c.config.node (map (call c.config.nodes) c.trace.items)) };
 }
 
 impl NodeCore {
@@ -237,7 +237,7 @@ impl NodeCore {
 
     /// The accepted calls.
     pub fn trace(&self) -> &Trace
-        ensures { map call result.now.items ≡ self.now.trace }
+        ensures { map (call self.now.config.nodes) result.now.items ≡ self.now.trace }
     {
         &self.trace
     }
@@ -362,10 +362,10 @@ impl NodeCore {
     ) -> Result<(), AllocError>
         requires room { length self.old.trace < self.old.config.trace_cap }
         requires clock { (node_of self.old).marks.clock + 1 < 2 ^ 64 }
-        requires setting { settings (call entry).ask ≡ (point, body_value body) ∷ [] }
-        requires words { (call entry).words ≡ [] }
-        requires reply { (call entry).reply ≡ reply_to self.old (call entry).ask [] }
-        ensures after { OnOk result (self.new ≡ after_call self.old (call entry).ask []) }
+        requires setting { settings (call self.old.config.nodes entry).ask ≡ (point, body_value body) ∷ [] }
+        requires words { (call self.old.config.nodes entry).words ≡ [] }
+        requires reply { (call self.old.config.nodes entry).reply ≡ reply_to self.old (call self.old.config.nodes entry).ask [] }
+        ensures after { OnOk result (self.new ≡ after_call self.old (call self.old.config.nodes entry).ask []) }
         ensures err { OnErr result (self.new ≡ self.old) }
     {
         self.trace.reserve(1)?;

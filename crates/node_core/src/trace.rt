@@ -39,6 +39,14 @@ pub enum Ask {
         to: u8,
         amount: u64,
     },
+    /// Makes a message to another node.
+    Emit {
+        to: u8,
+    },
+    /// Takes in a message of another node, as bytes.
+    Deliver {
+        message: Vec<u8>,
+    },
 }
 
 /// What a pass of a point came to. The caller carries the task out.
@@ -65,6 +73,10 @@ pub enum Reply {
     Pass(PassReply),
     /// How many rights were moved in all, from this node to that one.
     Shift(u64),
+    /// The bytes of the message.
+    Emit(Vec<u8>),
+    /// Whether settings or cells changed.
+    Deliver(bool),
 }
 
 /// An accepted call: what was asked, the words that a pass was given, and the answer.

@@ -7,4 +7,4 @@ pub invariant_of-self-2 : goal.invariant_of-self-2
 invariant_of-self-2 c =
     let node = c.self.inside in
     issue_kept node.config node.clock (matrix_state node.state) _ node.trace.items _ c.put.new.trace.items c.args.entry c.put.ensures c.in_ok-reserve.ensures.items c.self.invariant (rw (← c.self.view_is) at c.requires.room)
-    c.args.point (body_value c.args.body) c.requires.words c.requires.setting c.in_ok-set_key.ensures.ok
+    c.args.point (body_value c.args.body) c.requires.words (rw (← c.self.view_is) at c.requires.setting) c.in_ok-set_key.ensures.ok
