@@ -12,7 +12,7 @@ use Rattle.replica_state.proofs.KnownSets.{own_name}
 use Rattle.node_core.specs.Asks.{Asked, Message}
 use Rattle.node_core.specs.Asks as asks
 use Rattle.node_core.specs.Nodes.{Node, shown}
-use Rattle.node_core.specs.Steps.{settings, issued, shift_under}
+use Rattle.node_core.specs.Steps.{settings, issued, shift_under, told}
 use Rattle.cluster_model.specs.Worlds.{Cluster, World, Event, accepted, node_after, sent, world}
 use Rattle.cluster_model.specs.Schedules.{MaySend, Allows, AllowsDelta, IsSchedule, IsDeltaSchedule}
 use Rattle.cluster_model.specs.Histories.{state_of, ops_issued, ops_delivered, keys_by}
@@ -40,8 +40,8 @@ keys_in_ops i n (Some (asks.Remove name)) words op h = h
 keys_in_ops i n (Some (asks.Load text)) words op h = h
 keys_in_ops i n (Some (asks.Pass name)) words op h = absurd h
 keys_in_ops i n (Some (asks.Shift name term to amount)) words op h = absurd h
-keys_in_ops i n (Some (asks.Emit to chosen)) words op h = absurd h
-keys_in_ops i n (Some (asks.Deliver m)) words op h = absurd h
+keys_in_ops i n (Some (asks.Emit to versions chosen)) words op h = absurd h
+keys_in_ops i n (Some (asks.Deliver read)) words op h = absurd h
 
 -- ---- a hit is of a name that is set
 
@@ -74,8 +74,8 @@ own_hits i n (Some (asks.Shift other term to amount)) words name j k h = at ((sh
     at None q = absurd q
     at (Some key) (inl q) = absurd (cc)
     at (Some key) (inr q) = absurd q
-own_hits i n (Some (asks.Emit to chosen)) words name j k h = absurd h
-own_hits i n (Some (asks.Deliver m)) words name j k h = absurd h
+own_hits i n (Some (asks.Emit to versions chosen)) words name j k h = absurd h
+own_hits i n (Some (asks.Deliver read)) words name j k h = absurd h
 
 -- ---- over a schedule
 
@@ -91,7 +91,7 @@ delivered_closed c w e i allowed closed = at (accepted c w e i) refl
   where
     at : (a : Option Asked) → accepted c w e i ≡ a → IsClosed (ops_delivered a)
     at None p = nothing_closed
-    at (Some (asks.Deliver m)) p = closed.sent m (delivered_was_sent c w e i m allowed p)
+    at (Some (asks.Deliver read)) p = closed.sent (told read) (delivered_was_sent c w e i read allowed p)
     at (Some ask) p = nothing_closed
 
 node_closed : (i : ℕ) (n : Node) (a : Option Asked) (words : List ℕ) → IsClosed n.ops → IsClosed (ops_delivered a) → IsClosed (node_after i n a words).ops
@@ -117,8 +117,8 @@ sent_closed c w e i allowed m h = at (accepted c w e i) refl h
   where
     at : (a : Option Asked) → accepted c w e i ≡ a → IsIn m (sent i (w.node i) a) → IsClosed m.ops
     at None p q = absurd q
-    at (Some (asks.Emit to chosen)) p (inl q) = subst (λ (l : Message). IsClosed l.ops) (sym q) (may_send_closed (w.node i).ops chosen (emitted_may c w e i to chosen allowed p))
-    at (Some (asks.Emit to chosen)) p (inr q) = absurd q
+    at (Some (asks.Emit to versions chosen)) p (inl q) = subst (λ (l : Message). IsClosed l.ops) (sym q) (may_send_closed (w.node i).ops chosen (emitted_may c w e i to versions chosen allowed p).1)
+    at (Some (asks.Emit to versions chosen)) p (inr q) = absurd q
     at (Some ask) p q = absurd q
 
 pub closed_world : (c : Cluster) (es : List Event) → IsSchedule c es → ClosedWorld (world c es)
@@ -229,6 +229,6 @@ deltas_are_schedules c (e ∷ es) s =
   where
     allowed : IsSchedule c es → (a : Option Asked) → AllowsDelta (world c es) e.node a → Allows (world c es) e.node a
     allowed before None h = tt
-    allowed before (Some (asks.Emit to chosen)) h = delta_may_send c es before e.node _ chosen h
-    allowed before (Some (asks.Deliver m)) h = h
+    allowed before (Some (asks.Emit to versions chosen)) h = (h.0, delta_may_send c es before e.node _ chosen h.1)
+    allowed before (Some (asks.Deliver read)) h = h
     allowed before (Some ask) h = h

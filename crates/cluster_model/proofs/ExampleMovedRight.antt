@@ -1,5 +1,5 @@
 -- Two nodes: rights stay with the node that set the point, until one is moved.
-use Rattle.std.proofs.Common.{◌≡◌, ℕ, true, false, List, [], ◌∷◌, ◌++◌, Some, inl, inr, refl}
+use Rattle.std.proofs.Common.{◌≡◌, ℕ, true, false, List, [], ◌∷◌, ◌++◌, Some, Ok, inl, inr, refl}
 use Rattle.std.specs.Prelude.{pos, reverse, codes}
 use Rattle.std.specs.Fmt.{digits}
 use Rattle.actions.specs.Value.{off}
@@ -17,7 +17,7 @@ use Rattle.node_core.specs.Steps.{after}
 use Rattle.cluster_model.specs.Worlds.{Event}
 use Rattle.cluster_model.specs.Schedules.{IsSchedule}
 use Rattle.cluster_model.specs.Histories.{state_of, all_executions, moved, seen, all_held}
-use Rattle.cluster_model.proofs.Examples.{nodes, event, stamp, key_at, message, answers, may_send_one}
+use Rattle.cluster_model.proofs.Examples.{nodes, event, stamp, key_at, first_told, message, answers, may_tell, may_send_one}
 
 abbrev a : List ℕ
 a = codes "a"
@@ -38,23 +38,23 @@ second = message 0 1 2 moves
 abbrev stays : List Event
 stays =
     event 0 (asks.Set a (codes "2*off")) ∷
-    event 0 (asks.Emit 1 (Set a key ∷ [])) ∷
-    event 1 (asks.Deliver first) ∷
+    event 0 (asks.Emit 1 (first_told 1) (Set a key ∷ [])) ∷
+    event 1 (asks.Deliver (Ok first)) ∷
     event 1 (asks.Pass a) ∷ []
 
 abbrev moved_on : List Event
 moved_on =
     stays ++
     event 0 (asks.Shift a 0 1 1) ∷
-    event 0 (asks.Emit 1 moves) ∷
-    event 1 (asks.Deliver second) ∷
-    event 1 (asks.Deliver second) ∷
+    event 0 (asks.Emit 1 (first_told 2) moves) ∷
+    event 1 (asks.Deliver (Ok second)) ∷
+    event 1 (asks.Deliver (Ok second)) ∷
     event 1 (asks.Pass a) ∷
     event 1 (asks.Pass a) ∷ []
 
 stays_answers : answers (nodes 2) stays ≡
     Some (asks.IsSet (stamp 1 0)) ∷
-    Some (asks.IsEmitted first) ∷
+    Some (asks.IsEmitted (Ok first)) ∷
     Some (asks.IsDelivered true) ∷
     Some (asks.IsPassed (NoTerm (stamp 1 0))) ∷ []
 unfolding digits numbers after fold same_cell terms_in_text choice number_at short_number_at decimals_at percent_at pieces trimmed argument_at chance_at count_at time_at task_at term_at terms_at reading
@@ -70,11 +70,11 @@ other_has_none = refl
 
 moved_answers : answers (nodes 2) moved_on ≡
     Some (asks.IsSet (stamp 1 0)) ∷
-    Some (asks.IsEmitted first) ∷
+    Some (asks.IsEmitted (Ok first)) ∷
     Some (asks.IsDelivered true) ∷
     Some (asks.IsPassed (NoTerm (stamp 1 0))) ∷
     Some (asks.IsShifted 1) ∷
-    Some (asks.IsEmitted second) ∷
+    Some (asks.IsEmitted (Ok second)) ∷
     Some (asks.IsDelivered true) ∷
     Some (asks.IsDelivered false) ∷
     Some (asks.IsPassed (Act (stamp 1 0) 0 off)) ∷
@@ -84,7 +84,7 @@ moved_answers = refl
 
 moved_is_schedule : IsSchedule (nodes 2) (reverse moved_on)
 unfolding digits numbers after fold same_cell terms_in_text choice number_at short_number_at decimals_at percent_at pieces trimmed argument_at chance_at count_at time_at task_at term_at terms_at reading
-moved_is_schedule = (tt, (tt, (inr (inl refl), (inr (inl refl), (may_send_one a key moves moves (λ op h. h) refl refl (inr (inl refl)), (tt, (tt, (inl refl, (may_send_one a key (Set a key ∷ []) (Set a key ∷ []) (λ op h. h) refl refl (inl refl), (tt, tt))))))))))
+moved_is_schedule = (tt, (tt, (inr (inl refl), (inr (inl refl), ((may_tell _ 1 2 refl, may_send_one a key moves moves (λ op h. h) refl refl (inr (inl refl))), (tt, (tt, (inl refl, ((may_tell _ 1 1 refl, may_send_one a key (Set a key ∷ []) (Set a key ∷ []) (λ op h. h) refl refl (inl refl)), (tt, tt))))))))))
 
 seen_all_that_moved : seen (nodes 2) (reverse moved_on) a key 0 0 1 ≡ moved (nodes 2) (reverse moved_on) a key 0 0 1
 unfolding digits numbers after fold same_cell terms_in_text choice number_at short_number_at decimals_at percent_at pieces trimmed argument_at chance_at count_at time_at task_at term_at terms_at reading

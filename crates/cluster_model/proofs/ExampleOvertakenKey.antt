@@ -1,5 +1,5 @@
 -- Two nodes: a node that hasn't heard of a newer key goes on under the old one, and its executions count.
-use Rattle.std.proofs.Common.{◌≡◌, ℕ, true, List, [], ◌∷◌, Some, None, inl, inr, refl}
+use Rattle.std.proofs.Common.{◌≡◌, ℕ, true, List, [], ◌∷◌, Some, None, Ok, inl, inr, refl}
 use Rattle.std.specs.Prelude.{pos, reverse, codes}
 use Rattle.std.specs.Fmt.{digits}
 use Rattle.actions.specs.Value.{off, panic}
@@ -16,7 +16,7 @@ use Rattle.node_core.specs.Steps.{after}
 use Rattle.cluster_model.specs.Worlds.{Event}
 use Rattle.cluster_model.specs.Schedules.{IsSchedule}
 use Rattle.cluster_model.specs.Histories.{all_executions, held, all_in_transit}
-use Rattle.cluster_model.proofs.Examples.{nodes, event, stamp, key_at, message, answers, may_send_one}
+use Rattle.cluster_model.proofs.Examples.{nodes, event, stamp, key_at, first_told, message, answers, may_tell, may_send_one}
 
 abbrev p : List ℕ
 p = codes "p"
@@ -34,8 +34,8 @@ abbrev script : List Event
 script =
     event 0 (asks.Set p (codes "3*panic")) ∷
     event 0 (asks.Shift p 0 1 1) ∷
-    event 0 (asks.Emit 1 moves) ∷
-    event 1 (asks.Deliver first) ∷
+    event 0 (asks.Emit 1 (first_told 2) moves) ∷
+    event 1 (asks.Deliver (Ok first)) ∷
     event 0 (asks.Pass p) ∷
     event 0 (asks.Set p (codes "off")) ∷
     event 0 (asks.Pass p) ∷
@@ -45,7 +45,7 @@ script =
 answered : answers (nodes 2) script ≡
     Some (asks.IsSet (stamp 1 0)) ∷
     Some (asks.IsShifted 1) ∷
-    Some (asks.IsEmitted first) ∷
+    Some (asks.IsEmitted (Ok first)) ∷
     Some (asks.IsDelivered true) ∷
     Some (asks.IsPassed (Act (stamp 1 0) 0 (panic None))) ∷
     Some (asks.IsSet (stamp 2 0)) ∷
@@ -57,7 +57,7 @@ answered = refl
 
 is_schedule : IsSchedule (nodes 2) (reverse script)
 unfolding digits numbers after fold same_cell terms_in_text choice number_at short_number_at decimals_at percent_at pieces trimmed argument_at chance_at count_at time_at task_at term_at terms_at reading
-is_schedule = (tt, (tt, (tt, (tt, (tt, (inl refl, (may_send_one p key moves moves (λ op h. h) refl refl (inr (inl refl)), (tt, (tt, tt)))))))))
+is_schedule = (tt, (tt, (tt, (tt, (tt, (inl refl, ((may_tell _ 1 2 refl, may_send_one p key moves moves (λ op h. h) refl refl (inr (inl refl))), (tt, (tt, tt)))))))))
 
 executed : all_executions (nodes 2) (reverse script) (stamp 1 0) 0 ≡ 2
 unfolding digits numbers after fold same_cell terms_in_text choice number_at short_number_at decimals_at percent_at pieces trimmed argument_at chance_at count_at time_at task_at term_at terms_at reading

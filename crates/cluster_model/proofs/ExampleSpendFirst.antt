@@ -1,5 +1,5 @@
 -- A spend that is known before the shift that paid for it: its node has less than no rights for a while.
-use Rattle.std.proofs.Common.{◌≡◌, ℕ, true, false, List, [], ◌∷◌, ◌++◌, Some, inl, inr, refl}
+use Rattle.std.proofs.Common.{◌≡◌, ℕ, true, false, List, [], ◌∷◌, ◌++◌, Some, Ok, inl, inr, refl}
 use Rattle.std.specs.Prelude.{pos, ◌-ℤ◌, reverse, codes}
 use Rattle.std.specs.Fmt.{digits}
 use Rattle.actions.specs.Value.{off}
@@ -19,7 +19,7 @@ use Rattle.node_core.specs.Steps.{after}
 use Rattle.cluster_model.specs.Worlds.{Event}
 use Rattle.cluster_model.specs.Schedules.{IsSchedule}
 use Rattle.cluster_model.specs.Histories.{state_of}
-use Rattle.cluster_model.proofs.Examples.{nodes, event, stamp, key_at, message, answers, may_send_one}
+use Rattle.cluster_model.proofs.Examples.{nodes, event, stamp, key_at, first_told, message, answers, may_tell, may_send_one}
 
 abbrev a : List ℕ
 a = codes "a"
@@ -80,27 +80,27 @@ abbrev script : List Event
 script =
     event 0 (asks.Set a (codes "2*off")) ∷
     event 0 (asks.Shift a 0 1 1) ∷
-    event 0 (asks.Emit 1 moves) ∷
-    event 1 (asks.Deliver (message 0 1 2 moves)) ∷
+    event 0 (asks.Emit 1 (first_told 2) moves) ∷
+    event 1 (asks.Deliver (Ok (message 0 1 2 moves))) ∷
     event 1 (asks.Pass a) ∷
-    event 1 (asks.Emit 2 spend) ∷
-    event 2 (asks.Deliver (message 1 2 2 spend)) ∷ []
+    event 1 (asks.Emit 2 (first_told 2) spend) ∷
+    event 2 (asks.Deliver (Ok (message 1 2 2 spend))) ∷ []
 
 abbrev later : List Event
 later =
     script ++
-    event 0 (asks.Emit 2 moves) ∷
-    event 2 (asks.Deliver (message 0 2 2 moves)) ∷ []
+    event 0 (asks.Emit 2 (first_told 2) moves) ∷
+    event 2 (asks.Deliver (Ok (message 0 2 2 moves))) ∷ []
 
 answered : answers (nodes 3) later ≡
     Some (asks.IsSet (stamp 1 0)) ∷
     Some (asks.IsShifted 1) ∷
-    Some (asks.IsEmitted (message 0 1 2 moves)) ∷
+    Some (asks.IsEmitted (Ok (message 0 1 2 moves))) ∷
     Some (asks.IsDelivered true) ∷
     Some (asks.IsPassed (Act (stamp 1 0) 0 off)) ∷
-    Some (asks.IsEmitted (message 1 2 2 spend)) ∷
+    Some (asks.IsEmitted (Ok (message 1 2 2 spend))) ∷
     Some (asks.IsDelivered true) ∷
-    Some (asks.IsEmitted (message 0 2 2 moves)) ∷
+    Some (asks.IsEmitted (Ok (message 0 2 2 moves))) ∷
     Some (asks.IsDelivered true) ∷ []
 unfolding digits numbers after fold same_cell terms_in_text choice number_at short_number_at decimals_at percent_at pieces trimmed argument_at chance_at count_at time_at task_at term_at terms_at reading
 answered = refl
@@ -110,12 +110,12 @@ unfolding digits numbers after fold same_cell terms_in_text choice number_at sho
 is_schedule = (
   inr (inr (inl refl)),
   (
-    may_send_one a key moves moves (λ op h. h) refl refl (inr (inl refl)),
+    (may_tell _ 2 2 refl, may_send_one a key moves moves (λ op h. h) refl refl (inr (inl refl))),
     (
       inr (inl refl),
       (
-        may_send_one a key (Count (Execs a key 0 1) 1 ∷ Count (Hits a 1) 1 ∷ moves) spend held_by_1 refl refl (inr (inl refl)),
-        (tt, (inl refl, (may_send_one a key moves moves (λ op h. h) refl refl (inr (inl refl)), (tt, (tt, tt))))),
+        (may_tell _ 2 2 refl, may_send_one a key (Count (Execs a key 0 1) 1 ∷ Count (Hits a 1) 1 ∷ moves) spend held_by_1 refl refl (inr (inl refl))),
+        (tt, (inl refl, ((may_tell _ 1 2 refl, may_send_one a key moves moves (λ op h. h) refl refl (inr (inl refl))), (tt, (tt, tt))))),
       ),
     ),
   ),

@@ -1,5 +1,5 @@
 -- Three nodes: rights are handed on, and each node sees at last what was spent.
-use Rattle.std.proofs.Common.{◌≡◌, ℕ, true, false, List, [], ◌∷◌, Some, inl, inr, refl}
+use Rattle.std.proofs.Common.{◌≡◌, ℕ, true, false, List, [], ◌∷◌, Some, Ok, inl, inr, refl}
 use Rattle.std.specs.Prelude.{pos, reverse, codes}
 use Rattle.std.specs.Fmt.{digits}
 use Rattle.actions.specs.Value.{off}
@@ -17,7 +17,7 @@ use Rattle.node_core.specs.Steps.{after}
 use Rattle.cluster_model.specs.Worlds.{Event}
 use Rattle.cluster_model.specs.Schedules.{IsSchedule}
 use Rattle.cluster_model.specs.Histories.{state_of, all_executions, all_held, all_in_transit}
-use Rattle.cluster_model.proofs.Examples.{nodes, event, stamp, key_at, message, answers, may_send_one}
+use Rattle.cluster_model.proofs.Examples.{nodes, event, stamp, key_at, first_told, message, answers, may_tell, may_send_one}
 
 abbrev p : List ℕ
 p = codes "p"
@@ -42,30 +42,30 @@ abbrev script : List Event
 script =
     event 0 (asks.Set p (codes "5*off")) ∷
     event 0 (asks.Shift p 0 1 2) ∷
-    event 0 (asks.Emit 1 from_0) ∷
-    event 1 (asks.Deliver (message 0 1 2 from_0)) ∷
+    event 0 (asks.Emit 1 (first_told 2) from_0) ∷
+    event 1 (asks.Deliver (Ok (message 0 1 2 from_0))) ∷
     event 1 (asks.Shift p 0 2 1) ∷
     event 1 (asks.Pass p) ∷
-    event 1 (asks.Emit 2 from_1) ∷
-    event 2 (asks.Deliver (message 1 2 3 from_1)) ∷
+    event 1 (asks.Emit 2 (first_told 3) from_1) ∷
+    event 2 (asks.Deliver (Ok (message 1 2 3 from_1))) ∷
     event 2 (asks.Pass p) ∷
     event 2 (asks.Pass p) ∷
-    event 2 (asks.Emit 0 from_2) ∷
-    event 0 (asks.Deliver last) ∷
-    event 0 (asks.Deliver last) ∷ []
+    event 2 (asks.Emit 0 (first_told 3) from_2) ∷
+    event 0 (asks.Deliver (Ok last)) ∷
+    event 0 (asks.Deliver (Ok last)) ∷ []
 
 answered : answers (nodes 3) script ≡
     Some (asks.IsSet (stamp 1 0)) ∷
     Some (asks.IsShifted 2) ∷
-    Some (asks.IsEmitted (message 0 1 2 from_0)) ∷
+    Some (asks.IsEmitted (Ok (message 0 1 2 from_0))) ∷
     Some (asks.IsDelivered true) ∷
     Some (asks.IsShifted 1) ∷
     Some (asks.IsPassed (Act (stamp 1 0) 0 off)) ∷
-    Some (asks.IsEmitted (message 1 2 3 from_1)) ∷
+    Some (asks.IsEmitted (Ok (message 1 2 3 from_1))) ∷
     Some (asks.IsDelivered true) ∷
     Some (asks.IsPassed (Act (stamp 1 0) 0 off)) ∷
     Some (asks.IsPassed (NoTerm (stamp 1 0))) ∷
-    Some (asks.IsEmitted last) ∷
+    Some (asks.IsEmitted (Ok last)) ∷
     Some (asks.IsDelivered true) ∷
     Some (asks.IsDelivered false) ∷ []
 unfolding digits numbers after fold same_cell terms_in_text choice number_at short_number_at decimals_at percent_at pieces trimmed argument_at chance_at count_at time_at task_at term_at terms_at reading
@@ -78,12 +78,12 @@ is_schedule = (
   (
     inr (inr (inl refl)),
     (
-      may_send_one p key (Count (Hits p 2) 2 ∷ Count (Execs p key 0 2) 1 ∷ Count (Hits p 2) 1 ∷ from_1) from_2 held_by_2 refl refl (inr (inr (inr (inr (inr (inr (inl refl))))))),
+      (may_tell _ 0 3 refl, may_send_one p key (Count (Hits p 2) 2 ∷ Count (Execs p key 0 2) 1 ∷ Count (Hits p 2) 1 ∷ from_1) from_2 held_by_2 refl refl (inr (inr (inr (inr (inr (inr (inl refl)))))))),
       (
         tt,
         (
           tt,
-          (inr (inl refl), (may_send_one p key from_1 from_1 (λ op h. h) refl refl (inr (inr (inr (inr (inl refl))))), (tt, (tt, (inl refl, (may_send_one p key from_0 from_0 (λ op h. h) refl refl (inr (inl refl)), (tt, (tt, tt)))))))),
+          (inr (inl refl), ((may_tell _ 2 3 refl, may_send_one p key from_1 from_1 (λ op h. h) refl refl (inr (inr (inr (inr (inl refl)))))), (tt, (tt, (inl refl, ((may_tell _ 1 2 refl, may_send_one p key from_0 from_0 (λ op h. h) refl refl (inr (inl refl))), (tt, (tt, tt)))))))),
         ),
       ),
     ),

@@ -1,6 +1,6 @@
 -- What worked examples of schedules are written in. An example stands as a script: its first event first.
-use Rattle.std.proofs.Common.{◌≡◌, ℕ, ◌&&◌, Bool, true, not, List, [], ◌∷◌, inl, inr, sym, ◌∙◌, ap, subst, Option, Some, None}
-use Rattle.std.proofs.lemmas.Bool.{true≢false, and_parts, not-true}
+use Rattle.std.proofs.Common.{◌≡◌, ℕ, ◌&&◌, Bool, true, not, List, [], ◌∷◌, inl, inr, sym, ◌∙◌, ap, subst, arith, nat_le, Option, Some, None}
+use Rattle.std.proofs.lemmas.Bool.{true≢false, and_parts, not-true, leb-true}
 use Rattle.std.specs.Prelude.{reverse, option_map}
 use Rattle.std.specs.Str.{bytes_eq}
 use Rattle.stamp_register.specs.declared.key.Stamp.{Stamp}
@@ -8,8 +8,10 @@ use Rattle.stamp_register.specs.Keys.{KeyValue, same_key}
 use Rattle.replica_state.specs.Operations.{Cell, Hits, Execs, Shifts, Operation, Set, Count, IsIn, same_cell}
 use Rattle.replica_state.specs.Folds.{key_in}
 use Rattle.replica_state.proofs.Orders.{bytes_eq-true, same_key-true, same_cell-refl}
-use Rattle.node_core.specs.Asks.{Asked, Answered, Message}
+use Rattle.node_core.specs.Asks.{Asked, Answered, Message, Versions}
+use Rattle.node_core.specs.Nodes.{Marks}
 use Rattle.node_core.specs.Steps.{reply}
+use Rattle.node_core.specs.Traces.{MayTell}
 use Rattle.cluster_model.specs.Worlds.{Cluster, World, Event, accepted, world}
 use Rattle.cluster_model.specs.Schedules.{MaySend}
 use Rattle.cluster_model.proofs.Stamps.{carried_name}
@@ -26,7 +28,10 @@ stamp clock node = record { clock = clock; node = node }
 abbrev pub key_at : ℕ → ℕ → List ℕ → KeyValue
 key_at clock node text = record { clock = clock; node = node; body = Some text }
 
--- a message from a node that knew no version of the other
+-- what a node tells that knew no version of the other, and its message
+abbrev pub first_told : ℕ → Versions
+first_told upto = record { base = 0; upto = upto; ack = 0 }
+
 abbrev pub message : ℕ → ℕ → ℕ → List Operation → Message
 message from to upto ops = record { from = from; to = to; base = 0; upto = upto; ack = 0; ops = ops }
 
@@ -41,7 +46,10 @@ last_answers c (e ∷ es) = answer c (world c es) e ∷ last_answers c es
 abbrev pub answers : Cluster → List Event → List (Option Answered)
 answers c script = reverse (last_answers c (reverse script))
 
--- ---- what may be sent of one name
+-- ---- what may be told, and what may be sent of one name
+
+pub may_tell : (marks : Marks) (to upto : ℕ) → nat_le upto marks.version ≡ true → MayTell marks to (first_told upto)
+may_tell marks to upto h = record { upto = leb-true upto marks.version h; ack = omega arith }
 
 abbrev pub is_of_cell : List ℕ → KeyValue → Cell → Bool
 is_of_cell name key (Hits n node) = bytes_eq n name

@@ -1,6 +1,7 @@
 -- No message of the cluster is refused for what it says.
-use Rattle.std.proofs.Common.{◌≡◌, ℕ, ◌≤◌, ◌==◌, ◌&&◌, ◌||◌, zero, suc, Bool, true, false, cond, not, List, [], ◌∷◌, ◌++◌, length, inl, inr, refl, sym, ◌∙◌, ap, subst, arith, nat_lt, ⊎_elim, Option, Some, None}
+use Rattle.std.proofs.Common.{◌≡◌, ℕ, ◌≤◌, ◌==◌, ◌&&◌, ◌||◌, zero, suc, Bool, true, false, cond, not, List, [], ◌∷◌, ◌++◌, length, inl, inr, refl, sym, ◌∙◌, ap, subst, arith, nat_lt, ⊎_elim, Option, Some, None, Ok}
 use Rattle.std.proofs.lemmas.Bool.{true≢false, eqb-true, eq-eqb, and_parts, le-ltb}
+use Rattle.std.specs.Prelude.{is_none}
 use Rattle.std.specs.List.{list_any}
 use Rattle.actions.specs.Value.{TermValue}
 use Rattle.counters.specs.Sums.{numbers, sum_below}
@@ -19,8 +20,8 @@ use Rattle.node_core.specs.declared.fault.NodeFault.TheVariants as faults
 use Rattle.node_core.specs.Asks.{Asked, Message}
 use Rattle.node_core.specs.Asks as asks
 use Rattle.node_core.specs.Nodes.{Node, setting_of, terms_in}
-use Rattle.node_core.specs.Steps.{after}
-use Rattle.node_core.specs.Refusals.{first_fault, where_true, is_full, is_cell_ahead, is_ahead, is_above, any_below, is_overspent, overspends, too_many, refusal_at}
+use Rattle.node_core.specs.Steps.{after, told}
+use Rattle.node_core.specs.Refusals.{first_fault, where_true, is_full, is_cell_ahead, is_ahead, is_above, any_below, is_overspent, overspends, too_many, faults_of_message, refusal_at}
 use Rattle.node_core.proofs.Rights.{setting_parts}
 use Rattle.cluster_model.specs.Worlds.{Cluster, World, Event, config_of, accepted, node_after, sent, happens, world}
 use Rattle.cluster_model.specs.Schedules.{Allows, IsSchedule}
@@ -120,29 +121,29 @@ known_upto c w e i j marked allowed = at (accepted c w e i) refl
 
     at : (a : Option Asked) → accepted c w e i ≡ a → (node_after i (w.node i) a e.words).marks.known j ≤ (w.node j).marks.version
     at None p = marked.known i j
-    at (Some (asks.Deliver m)) p = of m _ (λ h. eqb-true j m.from (and_parts (j == m.from) _ h).0) (delivered_was_sent c w e i m allowed p)
+    at (Some (asks.Deliver read)) p = of (told read) _ (λ h. eqb-true j (told read).from (and_parts (j == (told read).from) _ h).0) (delivered_was_sent c w e i read allowed p)
     at (Some ask) p = marked.known i j
 
 record IsMarked (w : World) (m : Message) : Type 0 where
   pub upto : m.upto ≤ (w.node m.from).marks.version
   pub ack : m.ack ≤ (w.node m.to).marks.version
 
-sent_marks : (i : ℕ) (w : World) (a : Option Asked) (m : Message) → IsIn m (sent i (w.node i) a) → HasMarks w → IsMarked w m
-sent_marks i w None m h marked = absurd h
-sent_marks i w (Some (asks.Emit to chosen)) m (inl h) marked = subst (λ (l : Message). IsMarked w l) (sym h) (record { upto = omega arith; ack = marked.known i to })
-sent_marks i w (Some (asks.Emit to chosen)) m (inr h) marked = absurd h
-sent_marks i w (Some ask) m h marked = absurd h
-
 up : (a b c : ℕ) → a ≤ b → b ≤ c → a ≤ c
 up a b c h k = omega arith
+
+sent_marks : (i : ℕ) (w : World) (a : Option Asked) (m : Message) → Allows w i a → IsIn m (sent i (w.node i) a) → HasMarks w → IsMarked w m
+sent_marks i w None m allowed h marked = absurd h
+sent_marks i w (Some (asks.Emit to versions chosen)) m allowed (inl h) marked = subst (λ (l : Message). IsMarked w l) (sym h) (record { upto = allowed.0.upto; ack = up _ _ _ allowed.0.ack (marked.known i to) })
+sent_marks i w (Some (asks.Emit to versions chosen)) m allowed (inr h) marked = absurd h
+sent_marks i w (Some ask) m allowed h marked = absurd h
 
 marked_after : (c : Cluster) (w : World) (e : Event) → HasMarks w → Allows w e.node (accepted c w e e.node) → HasMarks (happens c w e)
 marked_after c w e marked allowed =
     let grows : (j : ℕ) → (w.node j).marks.version ≤ ((happens c w e).node j).marks.version = λ j. version_grows j (w.node j) (accepted c w e j) e.words in
     record {
       known = λ i j. up _ _ _ (known_upto c w e i j marked allowed) (grows j);
-      ack = λ m h. up _ _ _ (⊎_elim (marked.ack m) (λ k. (sent_marks e.node w (accepted c w e e.node) m k marked).ack) (IsIn-append_cases m _ _ h)) (grows m.to);
-      upto = λ m h. up _ _ _ (⊎_elim (marked.upto m) (λ k. (sent_marks e.node w (accepted c w e e.node) m k marked).upto) (IsIn-append_cases m _ _ h)) (grows m.from);
+      ack = λ m h. up _ _ _ (⊎_elim (marked.ack m) (λ k. (sent_marks e.node w (accepted c w e e.node) m allowed k marked).ack) (IsIn-append_cases m _ _ h)) (grows m.to);
+      upto = λ m h. up _ _ _ (⊎_elim (marked.upto m) (λ k. (sent_marks e.node w (accepted c w e e.node) m allowed k marked).upto) (IsIn-append_cases m _ _ h)) (grows m.from);
     }
 
 marked : (c : Cluster) (es : List Event) → IsSchedule c es → HasMarks (world c es)
@@ -224,21 +225,22 @@ module _ (c : Cluster) (es : List Event) (few : c.nodes ≤ numbers) (s : IsSche
       }
 
   -- the first refusal that applies is none of those
-  first_is_own : (full other ahead above over many : Bool) → (other ≡ false → above ≡ false) → ahead ≡ false → over ≡ false →
-      IsOwnReason (first_fault (where_true full faults.TraceFull ∷ where_true other faults.NotForMe ∷ where_true ahead faults.OwnAhead ∷ where_true above faults.AckAhead ∷ where_true over faults.Overspent ∷ where_true many faults.TooManyPoints ∷ []))
-  first_is_own true other ahead above over many p q r = tt
-  first_is_own false true ahead above over many p q r = tt
-  first_is_own false false true above over many p q r = true≢false q
-  first_is_own false false false true over many p q r = true≢false (p refl)
-  first_is_own false false false false true many p q r = true≢false r
-  first_is_own false false false false false true p q r = tt
+  first_is_own : (full many other ahead above over : Bool) → (other ≡ false → above ≡ false) → ahead ≡ false → over ≡ false →
+      IsOwnReason (first_fault (where_true full faults.TraceFull ∷ where_true many faults.TooManyPoints ∷ None ∷ None ∷ where_true other faults.NotForMe ∷ where_true ahead faults.OwnAhead ∷ where_true above faults.AckAhead ∷ where_true over faults.Overspent ∷ []))
+  first_is_own true many other ahead above over p q r = tt
+  first_is_own false true other ahead above over p q r = tt
+  first_is_own false false true ahead above over p q r = tt
+  first_is_own false false false true above over p q r = true≢false q
+  first_is_own false false false false true over p q r = true≢false (p refl)
+  first_is_own false false false false false true p q r = true≢false r
   first_is_own false false false false false false p q r = tt
 
-  own_reason : IsOwnReason (refusal_at (config_of c i) (length ((world c es).trace i)) ((world c es).node i) (asks.Deliver m) [])
+  own_reason : IsOwnReason (refusal_at (config_of c i) (length ((world c es).trace i)) ((world c es).node i) (asks.Deliver (Ok m)) [])
   own_reason =
       let is = honest_message in
-      first_is_own (is_full (config_of c i) (length ((world c es).trace i))) (not (m.to == i)) (list_any (is_ahead i (state_of c es i)) m.ops) (nat_lt ((world c es).node i).marks.version m.ack)
-      (list_any (overspends (fold merged)) m.ops) (too_many (fold merged).names)
+      first_is_own (is_full (config_of c i) (length ((world c es).trace i)))
+      (is_none (first_fault (faults_of_message (config_of c i) ((world c es).node i) (Ok m))) && too_many (fold merged).names)
+      (not (m.to == i)) (list_any (is_ahead i (state_of c es i)) m.ops) (nat_lt ((world c es).node i).marks.version m.ack) (list_any (overspends (fold merged)) m.ops)
       (λ e. le-ltb _ _ (is.acked (for_me (m.to == i) (eqb-true m.to i) e))) is.not_ahead is.not_overspent
     where
       for_me : (t : Bool) → (t ≡ true → m.to ≡ i) → not t ≡ false → m.to ≡ i
@@ -246,5 +248,5 @@ module _ (c : Cluster) (es : List Event) (few : c.nodes ≤ numbers) (s : IsSche
       for_me false f e = absurd (true≢false e)
 
 pub honest : (c : Cluster) (es : List Event) → c.nodes ≤ numbers → IsSchedule c es → (i : ℕ) (message : Message) → IsIn message (world c es).messages →
-    IsHonest c es i message × IsOwnReason (refusal_at (config_of c i) (length ((world c es).trace i)) ((world c es).node i) (asks.Deliver message) [])
+    IsHonest c es i message × IsOwnReason (refusal_at (config_of c i) (length ((world c es).trace i)) ((world c es).node i) (asks.Deliver (Ok message)) [])
 honest c es few s i m h = (honest_message c es few s i m h, own_reason c es few s i m h)

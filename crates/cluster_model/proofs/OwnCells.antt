@@ -15,7 +15,7 @@ use Rattle.node_core.specs.Asks.{Asked, Answered, Passed, Call}
 use Rattle.node_core.specs.Asks as asks
 use Rattle.node_core.specs.Nodes.{Node, shown, setting_of}
 use Rattle.node_core.specs.Passes.{ops_of_pass}
-use Rattle.node_core.specs.Steps.{after, reply, settings, issued, shift_under}
+use Rattle.node_core.specs.Steps.{after, reply, settings, issued, shift_under, told}
 use Rattle.cluster_model.specs.Worlds.{Cluster, World, Event, accepted, node_after, trace_after, world}
 use Rattle.cluster_model.specs.Schedules.{Allows, IsSchedule}
 use Rattle.cluster_model.specs.Histories.{state_of, ops_delivered, is_act_of, acts, executions, is_key, amount_moved, moved}
@@ -118,9 +118,9 @@ shift_step i n (Some (asks.Pass other)) words name key term j h =
 shift_step i n (Some (asks.Shift other t to amount)) words name key term j h =
     number_at-append (Shifts name key term i j) (shift_under i (shown n) other t to amount ((shown n).key other)) n.ops
     ∙ shift_of name other key term i j t to amount n.ops ((shown n).key other) refl
-shift_step i n (Some (asks.Emit to chosen)) words name key term j h = omega arith
-shift_step i n (Some (asks.Deliver m)) words name key term j h =
-    let e = number_at-append (Shifts name key term i j) m.ops n.ops in
+shift_step i n (Some (asks.Emit to versions chosen)) words name key term j h = omega arith
+shift_step i n (Some (asks.Deliver read)) words name key term j h =
+    let e = number_at-append (Shifts name key term i j) (told read).ops n.ops in
     omega (arith, e, h)
 
 -- the key of a name in the node's state that has the key's stamp is that key, and the name is its name
@@ -213,9 +213,9 @@ exec_step i n (Some (asks.Shift other t to amount)) words name key term count co
     let e = number_at-append (Execs name key term i) (shift_under i (shown n) other t to amount ((shown n).key other)) n.ops in
     let z = no_exec (shown n) name other key term i t to amount ((shown n).key other) in
     omega (arith, e, z)
-exec_step i n (Some (asks.Emit to chosen)) words name key term count counted one h = omega arith
-exec_step i n (Some (asks.Deliver m)) words name key term count counted one h =
-    let e = number_at-append (Execs name key term i) m.ops n.ops in
+exec_step i n (Some (asks.Emit to versions chosen)) words name key term count counted one h = omega arith
+exec_step i n (Some (asks.Deliver read)) words name key term count counted one h =
+    let e = number_at-append (Execs name key term i) (told read).ops n.ops in
     omega (arith, e, h)
 
 -- ---- over a schedule

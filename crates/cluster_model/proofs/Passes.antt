@@ -12,7 +12,7 @@ use Rattle.node_core.specs.Asks.{Passed, Unset, NoTerm, Act}
 use Rattle.node_core.specs.Asks as asks
 use Rattle.node_core.specs.Nodes.{Node, shown, setting_of}
 use Rattle.node_core.specs.Passes.{has_rights_of, may_run, task_in, triggered, next_hit, next_exec, execs_of_choice, execs_of_term, reply_of_choice, ops_of_pass, reply_of_pass}
-use Rattle.node_core.specs.Refusals.{first_fault, where_true, too_few, faults_of, refusal_at}
+use Rattle.node_core.specs.Refusals.{first_fault, where_true, too_few, faults_of_shift, faults_of, refusal_at}
 use Rattle.node_core.proofs.Rights.{IsSetting, setting_parts, chosen_may}
 
 -- ---- passes
@@ -109,7 +109,7 @@ pub record IsShifted (config : Config) (v : State) (name : List ℕ) (term to am
 pub shifted_is : (config : Config) (entries : ℕ) (n : Node) (name : List ℕ) (term to amount : ℕ) (words : List ℕ) → refusal_at config entries n (asks.Shift name term to amount) words ≡ None → IsShifted config (shown n) name term to amount
 shifted_is config entries n name term to amount words h =
     let all = none_applies (faults_of config entries n (asks.Shift name term to amount) words) h in
-    let places = all.1.1.1.1.1 in
+    let places = (none_applies (faults_of_shift config (shown n) name term to amount) all.1.1.0).1.1.1 in
     let where_to = or_parts (not (nat_lt to config.nodes)) (to == config.node) (not_true _ _ places.0) in
     let enough = not_true _ _ places.1.1.0 in
     record {

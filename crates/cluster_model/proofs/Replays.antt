@@ -1,5 +1,5 @@
 -- Each node is what its trace comes to, each event is a call of its node, and a delivery gives the least state above both.
-use Rattle.std.proofs.Common.{◌≡◌, ◌≢◌, ℕ, ◌+◌, ◌<◌, ◌≤◌, cond, arith, List, [], ◌∷◌, ◌++◌, length, refl, sym, ◌∙◌, ap, subst, Option, Some, None}
+use Rattle.std.proofs.Common.{◌≡◌, ◌≢◌, ℕ, ◌+◌, ◌<◌, ◌≤◌, cond, arith, List, [], ◌∷◌, ◌++◌, length, refl, sym, ◌∙◌, ap, subst, Option, Some, None, Ok}
 use Rattle.std.proofs.lemmas.Bool.{and_from, eq-eqb, lt-ltb}
 use Rattle.std.proofs.lemmas.List.{append-nil}
 use Rattle.std.specs.Prelude.{is_none}
@@ -134,7 +134,7 @@ sends_delta c w e i ask allowed h =
     of ask (subst (λ (a : Option Asked). AllowsDelta w i a) h (subst (λ j. AllowsDelta w j (accepted c w e j)) (sym here) allowed))
   where
     of : (a : Asked) → AllowsDelta w i (Some a) → SendsDelta (w.node i) a
-    of (asks.Emit to chosen) k = k
+    of (asks.Emit to versions chosen) k = k
     of a k = tt
 
 nothing_legal : (config : Config) → IsLegal config []
@@ -162,11 +162,11 @@ traces_are_legal c (e ∷ es) s i = at (traces_are_legal c es s.1 i) (accepted c
 
 -- ---- a delivery
 
-after_delivery : (i : ℕ) (n : Node) (m : Message) (words : List ℕ) → (node_after i n (Some (asks.Deliver m)) words).ops ≡ m.ops ++ n.ops
+after_delivery : (i : ℕ) (n : Node) (m : Message) (words : List ℕ) → (node_after i n (Some (asks.Deliver (Ok m))) words).ops ≡ m.ops ++ n.ops
 unfolding after
 after_delivery i n m words = refl
 
-pub delivery_is_least : (c : Cluster) (es : List Event) (e : Event) (i : ℕ) (m : Message) → accepted c (world c es) e i ≡ Some (asks.Deliver m) → IsDelivered c es e i m
+pub delivery_is_least : (c : Cluster) (es : List Event) (e : Event) (i : ℕ) (m : Message) → accepted c (world c es) e i ≡ Some (asks.Deliver (Ok m)) → IsDelivered c es e i m
 delivery_is_least c es e i m h =
     record {
       own = subst (λ (v : State). IsBelow (state_of c es i) v) (sym now) (union_above_right m.ops own);

@@ -67,8 +67,8 @@ shift_carries i v other name term to amount key (Some k) u op (inr h) c = absurd
 pub own_carries : (i : ℕ) (n : Node) (a : Option Asked) (words name : List ℕ) (key : KeyValue) (op : Operation) → IsIn op (ops_issued i n a words) → key_in name op ≡ Some key →
     IsIn (Set name key) (keys_by i n a) ⊎ ((shown n).key name ≡ Some key)
 own_carries i n None words name key op h c = absurd h
-own_carries i n (Some (asks.Deliver m)) words name key op h c = absurd h
-own_carries i n (Some (asks.Emit to chosen)) words name key op h c = absurd h
+own_carries i n (Some (asks.Deliver read)) words name key op h c = absurd h
+own_carries i n (Some (asks.Emit to versions chosen)) words name key op h c = absurd h
 own_carries i n (Some (asks.Pass other)) words name key op h c =
     let o = outcome_of i (shown n) other words in
     inr (pass_carries i (shown n) other name key o.outcome o.is op (subst (λ os. IsIn op os) o.ops h) c)
@@ -152,8 +152,8 @@ clock_grows i n (Some (asks.Remove name)) words = omega arith
 clock_grows i n (Some (asks.Load text)) words = omega arith
 clock_grows i n (Some (asks.Pass name)) words = omega arith
 clock_grows i n (Some (asks.Shift name term to amount)) words = omega arith
-clock_grows i n (Some (asks.Emit to chosen)) words = omega arith
-clock_grows i n (Some (asks.Deliver m)) words = omega arith
+clock_grows i n (Some (asks.Emit to versions chosen)) words = omega arith
+clock_grows i n (Some (asks.Deliver read)) words = omega arith
 
 keys_new : (i : ℕ) (n : Node) (a : Option Asked) (words name : List ℕ) (key : KeyValue) → IsIn (Set name key) (keys_by i n a) → IsNew i n.marks.clock (node_after i n a words).marks.clock key
 unfolding after
@@ -167,8 +167,8 @@ keys_new i n (Some (asks.Load text)) words name key h =
     record { above = new.above; upto = omega arith; node = new.node }
 keys_new i n (Some (asks.Pass other)) words name key h = absurd h
 keys_new i n (Some (asks.Shift other term to amount)) words name key h = absurd h
-keys_new i n (Some (asks.Emit to chosen)) words name key h = absurd h
-keys_new i n (Some (asks.Deliver m)) words name key h = absurd h
+keys_new i n (Some (asks.Emit to versions chosen)) words name key h = absurd h
+keys_new i n (Some (asks.Deliver read)) words name key h = absurd h
 
 keys_below : (c : Cluster) (w : World) (e : Event) (op : Operation) → IsIn op (keys_by e.node (w.node e.node) (accepted c w e e.node)) → e.node < c.nodes
 keys_below c w e op h = at (accepted c w e e.node) refl h

@@ -1,5 +1,5 @@
 -- What one event does to what a node knows and to the messages.
-use Rattle.std.proofs.Common.{◌≡◌, ℕ, ◌+◌, ◌<◌, ◌==◌, Bool, true, false, cond, List, [], ◌∷◌, ◌++◌, length, ◌⊎◌, inl, inr, refl, sym, ap, subst, arith, nat_lt, ⊎_elim, Option, Some, None}
+use Rattle.std.proofs.Common.{◌≡◌, ℕ, ◌+◌, ◌<◌, ◌==◌, Bool, true, false, cond, List, [], ◌∷◌, ◌++◌, length, ◌⊎◌, inl, inr, refl, sym, ap, subst, arith, nat_lt, ⊎_elim, Option, Some, None, Result}
 use Rattle.std.proofs.lemmas.Bool.{eqb-true, ltb-true, and_parts}
 use Rattle.std.specs.Prelude.{is_none}
 use Rattle.actions.specs.Value.{TermValue}
@@ -9,13 +9,15 @@ use Rattle.replica_state.specs.States.{State}
 use Rattle.replica_state.specs.Folds.{fold}
 use Rattle.replica_state.proofs.Sets.{IsIn-append_left, IsIn-append_right, IsIn-append_cases}
 use Rattle.replica_state.proofs.KnownSets.{same_members}
+use Rattle.delta_exchange.specs.declared.fault.WireFault.{WireFault}
 use Rattle.node_core.specs.declared.fault.NodeFault.{NodeFault}
-use Rattle.node_core.specs.Asks.{Asked, Message}
+use Rattle.node_core.specs.Asks.{Asked, Message, Versions}
 use Rattle.node_core.specs.Asks as asks
 use Rattle.node_core.specs.Nodes.{Node, shown, setting_of}
 use Rattle.node_core.specs.Passes.{ops_of_pass, triggered, execs_of_choice, execs_of_term, next_hit}
-use Rattle.node_core.specs.Steps.{after, added, settings, issued, shift_under}
+use Rattle.node_core.specs.Steps.{after, added, settings, issued, shift_under, told}
 use Rattle.node_core.specs.Refusals.{refusal_at}
+use Rattle.node_core.specs.Traces.{MayTell}
 use Rattle.cluster_model.specs.Worlds.{Cluster, World, Event, config_of, is_accepted, accepted, node_after, sent, happens, world}
 use Rattle.cluster_model.specs.Schedules.{MaySend, Allows, IsSchedule}
 use Rattle.cluster_model.specs.Histories.{ops_issued, ops_delivered, all_issued, all_delivered, all_learnt}
@@ -63,15 +65,15 @@ agreed c w e i = at (accepted c w e i) refl
     at (Some ask) p = (asked_is c w e i ask p).agreed
 
 -- what is delivered was sent
-pub delivered_was_sent : (c : Cluster) (w : World) (e : Event) (i : ℕ) (m : Message) → Allows w e.node (accepted c w e e.node) → accepted c w e i ≡ Some (asks.Deliver m) → IsIn m w.messages
-delivered_was_sent c w e i m allowed h =
-    let here = (asked_is c w e i (asks.Deliver m) h).here in
+pub delivered_was_sent : (c : Cluster) (w : World) (e : Event) (i : ℕ) (read : Result Message WireFault) → Allows w e.node (accepted c w e e.node) → accepted c w e i ≡ Some (asks.Deliver read) → IsIn (told read) w.messages
+delivered_was_sent c w e i read allowed h =
+    let here = (asked_is c w e i (asks.Deliver read) h).here in
     subst (λ (a : Option Asked). Allows w i a) h (subst (λ j. Allows w j (accepted c w e j)) (sym here) allowed)
 
--- what is sent is a choice of what the sender knows
-pub emitted_may : (c : Cluster) (w : World) (e : Event) (i to : ℕ) (chosen : List Operation) → Allows w e.node (accepted c w e e.node) → accepted c w e i ≡ Some (asks.Emit to chosen) → MaySend (w.node i).ops chosen
-emitted_may c w e i to chosen allowed h =
-    let here = (asked_is c w e i (asks.Emit to chosen) h).here in
+-- what is sent is a choice of what the sender knows, and of the versions that it may tell
+pub emitted_may : (c : Cluster) (w : World) (e : Event) (i to : ℕ) (versions : Versions) (chosen : List Operation) → Allows w e.node (accepted c w e e.node) → accepted c w e i ≡ Some (asks.Emit to versions chosen) → MayTell (w.node i).marks to versions × MaySend (w.node i).ops chosen
+emitted_may c w e i to versions chosen allowed h =
+    let here = (asked_is c w e i (asks.Emit to versions chosen) h).here in
     subst (λ (a : Option Asked). Allows w i a) h (subst (λ j. Allows w j (accepted c w e j)) (sym here) allowed)
 
 -- ---- a node's set only grows, by what it issues and what is delivered
@@ -80,7 +82,7 @@ pub gains : (i : ℕ) (n : Node) (a : Option Asked) (words : List ℕ) (op : Ope
     IsIn op (ops_issued i n a words) ⊎ (IsIn op (ops_delivered a) ⊎ IsIn op n.ops)
 unfolding after
 gains i n None words op h = inr (inr h)
-gains i n (Some (asks.Deliver m)) words op h = ⊎_elim (λ k. inr (inl k)) (λ k. inr (inr k)) (IsIn-append_cases op _ _ h)
+gains i n (Some (asks.Deliver read)) words op h = ⊎_elim (λ k. inr (inl k)) (λ k. inr (inr k)) (IsIn-append_cases op _ _ h)
 gains i n (Some ask) words op h = ⊎_elim (λ k. inl k) (λ k. inr (inr k)) (IsIn-append_cases op (added i n ask words) n.ops h)
 
 pub keeps : (i : ℕ) (n : Node) (a : Option Asked) (words : List ℕ) (op : Operation) → IsIn op n.ops → IsIn op (node_after i n a words).ops
@@ -91,13 +93,13 @@ keeps i n (Some ask) words op h = IsIn-append_right op (added i n ask words) n.o
 pub holds_issued : (i : ℕ) (n : Node) (a : Option Asked) (words : List ℕ) (op : Operation) → IsIn op (ops_issued i n a words) → IsIn op (node_after i n a words).ops
 unfolding after
 holds_issued i n None words op h = absurd h
-holds_issued i n (Some (asks.Deliver m)) words op h = absurd h
+holds_issued i n (Some (asks.Deliver read)) words op h = absurd h
 holds_issued i n (Some ask) words op h = IsIn-append_left op (added i n ask words) n.ops h
 
 pub holds_delivered : (i : ℕ) (n : Node) (a : Option Asked) (words : List ℕ) (op : Operation) → IsIn op (ops_delivered a) → IsIn op (node_after i n a words).ops
 unfolding after
 holds_delivered i n None words op h = absurd h
-holds_delivered i n (Some (asks.Deliver m)) words op h = IsIn-append_left op m.ops n.ops h
+holds_delivered i n (Some (asks.Deliver read)) words op h = IsIn-append_left op (told read).ops n.ops h
 holds_delivered i n (Some ask) words op h = absurd h
 
 -- ---- a node's set is what it issued and what was delivered to it
@@ -169,8 +171,8 @@ shift_by i v name term to amount (Some key) op (inr h) = absurd h
 
 pub own_ops : (i : ℕ) (n : Node) (a : Option Asked) (words : List ℕ) (op : Operation) → IsIn op (ops_issued i n a words) → writer op ≡ i
 own_ops i n None words op h = absurd h
-own_ops i n (Some (asks.Deliver m)) words op h = absurd h
-own_ops i n (Some (asks.Emit to chosen)) words op h = absurd h
+own_ops i n (Some (asks.Deliver read)) words op h = absurd h
+own_ops i n (Some (asks.Emit to versions chosen)) words op h = absurd h
 own_ops i n (Some (asks.Pass name)) words op h = pass_by i (shown n) name words (setting_of (shown n) name) op h
 own_ops i n (Some (asks.Shift name term to amount)) words op h = shift_by i (shown n) name term to amount ((shown n).key name) op h
 own_ops i n (Some (asks.Set name text)) words op h = issued_by i n.marks.clock (settings (asks.Set name text)) op h
@@ -188,7 +190,7 @@ delivered_from c w e i P allowed each op h = at (accepted c w e i) refl h
   where
     at : (a : Option Asked) → accepted c w e i ≡ a → IsIn op (ops_delivered a) → P op
     at None p q = absurd q
-    at (Some (asks.Deliver m)) p q = each m (delivered_was_sent c w e i m allowed p) op q
+    at (Some (asks.Deliver read)) p q = each (told read) (delivered_was_sent c w e i read allowed p) op q
     at (Some ask) p q = absurd q
 
 -- what a message carries, its sender knew
@@ -197,8 +199,8 @@ sent_was_held c w e i allowed m h op k = at (accepted c w e i) refl h
   where
     at : (a : Option Asked) → accepted c w e i ≡ a → IsIn m (sent i (w.node i) a) → IsIn op (w.node i).ops
     at None p q = absurd q
-    at (Some (asks.Emit to chosen)) p (inl q) = (emitted_may c w e i to chosen allowed p).held op (subst (λ (l : Message). IsIn op l.ops) q k)
-    at (Some (asks.Emit to chosen)) p (inr q) = absurd q
+    at (Some (asks.Emit to versions chosen)) p (inl q) = (emitted_may c w e i to versions chosen allowed p).1.held op (subst (λ (l : Message). IsIn op l.ops) q k)
+    at (Some (asks.Emit to versions chosen)) p (inr q) = absurd q
     at (Some ask) p q = absurd q
 
 pub known_after : (c : Cluster) (w : World) (e : Event) → IsKnown w → Allows w e.node (accepted c w e e.node) → IsKnown (happens c w e)

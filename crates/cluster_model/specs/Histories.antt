@@ -11,7 +11,7 @@ use Rattle.replica_state.specs.States.{State, budget}
 use Rattle.node_core.specs.Asks.{Asked, Answered, Passed, Act, Call}
 use Rattle.node_core.specs.Asks as asks
 use Rattle.node_core.specs.Nodes.{Node, shown}
-use Rattle.node_core.specs.Steps.{added, settings, issued}
+use Rattle.node_core.specs.Steps.{added, settings, issued, told}
 use Rattle.cluster_model.specs.Worlds.{Cluster, Event, accepted, world}
 
 -- the state of node i
@@ -21,11 +21,11 @@ state_of c es i = shown ((world c es).node i)
 -- the operations that node i issues by what it accepts, and those that come to it from others
 abbrev pub ops_issued : ℕ → Node → Option Asked → List ℕ → List Operation
 ops_issued i n None words = []
-ops_issued i n (Some (asks.Deliver message)) words = []
+ops_issued i n (Some (asks.Deliver read)) words = []
 ops_issued i n (Some ask) words = added i n ask words
 
 abbrev pub ops_delivered : Option Asked → List Operation
-ops_delivered (Some (asks.Deliver message)) = message.ops
+ops_delivered (Some (asks.Deliver read)) = (told read).ops
 ops_delivered _ = []
 
 abbrev pub all_issued : Cluster → List Event → ℕ → List Operation

@@ -1,5 +1,5 @@
 -- What holds of every schedule of a cluster.
-use Rattle.std.specs.Prelude.{◌≡◌, ◌≢◌, ℕ, ◌≤◌, ◌<◌, ◌==◌, ◌&&◌, Bool, false, pos, ◌+ℤ◌, ◌≤ℤ◌, List, [], ◌∷◌, ◌++◌, ◌↔◌, length, Option, Some, None, count_by}
+use Rattle.std.specs.Prelude.{◌≡◌, ◌≢◌, ℕ, ◌≤◌, ◌<◌, ◌==◌, ◌&&◌, Bool, false, pos, ◌+ℤ◌, ◌≤ℤ◌, List, [], ◌∷◌, ◌++◌, ◌↔◌, length, Option, Some, None, Ok, count_by}
 use Rattle.std.specs.List.{list_any}
 use Rattle.counters.specs.Sums.{numbers}
 use Rattle.stamp_register.specs.declared.key.Stamp.{Stamp}
@@ -61,7 +61,7 @@ pub record IsDelivered (c : Cluster) (es : List Event) (e : Event) (i : ℕ) (me
 
 abbrev pub DeliveryIsLeast : Type 0
 DeliveryIsLeast = (c : Cluster) (es : List Event) (e : Event) (i : ℕ) (message : Message) →
-    accepted c (world c es) e i ≡ Some (asks.Deliver message) → IsDelivered c es e i message
+    accepted c (world c es) e i ≡ Some (asks.Deliver (Ok message)) → IsDelivered c es e i message
 
 -- no stamp is issued twice
 abbrev pub has_stamp : Stamp → Operation → Bool
@@ -107,7 +107,7 @@ IsOwnReason (Some _) = ⊥
 -- so whichever node a message comes to, and however late, none refuses it for what it says
 abbrev pub HonestMessages : Type 0
 HonestMessages = (c : Cluster) (es : List Event) → c.nodes ≤ numbers → IsSchedule c es → (i : ℕ) (message : Message) → IsIn message (world c es).messages →
-    IsHonest c es i message × IsOwnReason (refusal_at (config_of c i) (length ((world c es).trace i)) ((world c es).node i) (asks.Deliver message) [])
+    IsHonest c es i message × IsOwnReason (refusal_at (config_of c i) (length ((world c es).trace i)) ((world c es).node i) (asks.Deliver (Ok message)) [])
 
 -- what differs between any earlier state and a node's own may be sent
 abbrev pub DeltaMaySend : Type 0

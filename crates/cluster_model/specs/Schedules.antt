@@ -5,7 +5,8 @@ use Rattle.replica_state.specs.Operations.{Cell, Hits, Operation, Set, Count, Is
 use Rattle.replica_state.specs.Folds.{key_in}
 use Rattle.node_core.specs.Asks.{Asked}
 use Rattle.node_core.specs.Asks as asks
-use Rattle.node_core.specs.Traces.{SendsDelta}
+use Rattle.node_core.specs.Steps.{told}
+use Rattle.node_core.specs.Traces.{MayTell, SendsDelta}
 use Rattle.cluster_model.specs.Worlds.{Cluster, World, Event, accepted, world}
 
 -- a node sends some of the operations that it knows, so that a message can spell them: of each name that
@@ -17,10 +18,11 @@ pub record MaySend (known chosen : List Operation) : Type 0 where
   pub with_hits : (name : List ℕ) (node number : ℕ) → IsIn (Count (Hits name node) number) chosen → (key : KeyValue) × IsIn (Set name key) chosen
   pub once : (cell : Cell) (a b : ℕ) → IsIn (Count cell a) chosen → IsIn (Count cell b) chosen → a ≡ b
 
--- what node i may accept: what is delivered was sent before
+-- what node i may accept: a message tells no version of its sender that the sender hasn't, and none of its receiver
+-- that the sender hasn't heard of; and what is delivered was sent before
 abbrev pub Allows : World → ℕ → Option Asked → Type 0
-Allows w i (Some (asks.Emit to chosen)) = MaySend (w.node i).ops chosen
-Allows w i (Some (asks.Deliver message)) = IsIn message w.messages
+Allows w i (Some (asks.Emit to versions chosen)) = MayTell (w.node i).marks to versions × MaySend (w.node i).ops chosen
+Allows w i (Some (asks.Deliver read)) = IsIn (told read) w.messages
 Allows w i _ = Unit {0}
 
 -- each event, of which the last stands first, is allowed in the world after those before it
@@ -28,9 +30,10 @@ abbrev pub IsSchedule : Cluster → List Event → Type 0
 IsSchedule c [] = Unit {0}
 IsSchedule c (e ∷ es) = Allows (world c es) e.node (accepted c (world c es) e e.node) × IsSchedule c es
 
--- the same, where each node sends what differs between its state and the version that it knows the receiver to have
+-- the same, where each node sends what differs between its state at the version that the message counts on and its
+-- state now
 abbrev pub AllowsDelta : World → ℕ → Option Asked → Type 0
-AllowsDelta w i (Some (asks.Emit to chosen)) = SendsDelta (w.node i) (asks.Emit to chosen)
+AllowsDelta w i (Some (asks.Emit to versions chosen)) = SendsDelta (w.node i) (asks.Emit to versions chosen)
 AllowsDelta w i a = Allows w i a
 
 abbrev pub IsDeltaSchedule : Cluster → List Event → Type 0

@@ -50,7 +50,7 @@ trace_after i n trace None words = trace
 trace_after i n trace (Some ask) words = trace ++ record { ask = ask; words = words; reply = reply i n ask words } ∷ []
 
 abbrev pub sent : ℕ → Node → Option Asked → List Message
-sent i n (Some (asks.Emit to chosen)) = message_to i n to chosen ∷ []
+sent i n (Some (asks.Emit to versions chosen)) = message_to i to versions chosen ∷ []
 sent i n _ = []
 
 abbrev pub happens : Cluster → World → Event → World

@@ -37,8 +37,9 @@ pub fn honest()
     ensures { HonestMessages }
 {}
 
-/// A node that sends what differs between its state and the version that it knows the receiver to
-/// have sends what a schedule lets it, and the traces of such nodes are legal.
+/// A node that sends what differs between its state at the version that its message counts on and
+/// its state now, and tells no version that it hasn't, sends what a schedule lets it, and the traces
+/// of such nodes are legal.
 pub fn deltas()
     ensures any { DeltaMaySend }
     ensures schedule { DeltasAreSchedules }

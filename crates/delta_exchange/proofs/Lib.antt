@@ -9,3 +9,4 @@ pub mod MessageLemmas
 pub mod WiderLemmas
 pub mod Examples
 pub mod ToldLemmas
+pub mod LawfulLemmas

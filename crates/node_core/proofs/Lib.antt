@@ -7,3 +7,6 @@ pub mod ShiftSteps
 pub mod Kept
 pub mod ShiftRefusals
 pub mod LoadRefusals
+pub mod Ahead
+pub mod BadMessages
+pub mod Overspent

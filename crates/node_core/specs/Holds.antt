@@ -1,8 +1,9 @@
 -- What the fields of a node are to what its trace comes to.
-use Rattle.std.specs.Prelude.{◌≡◌, ℕ, ◌<◌, ◌≤◌, ◌^◌, List, pos, ◌≤ℤ◌}
+use Rattle.std.specs.Prelude.{◌≡◌, ℕ, ◌<◌, ◌≤◌, ◌^◌, List, length, pos, ◌≤ℤ◌}
 use Rattle.replica_state.specs.States.{State, rights_of}
 use Rattle.replica_state.specs.Folds.{clock_of}
 use Rattle.node_core.specs.declared.trace.Config.{Config}
+use Rattle.delta_exchange.specs.Wholes.{AreLawful}
 use Rattle.node_core.specs.Nodes.{Node, shown}
 
 -- the clock and the state are those of the node that the trace comes to; no cell that the node writes is
@@ -18,3 +19,11 @@ pub record Holds (config : Config) (clock : ℕ) (state : State) (entries : ℕ)
   pub hits_few : (name : List ℕ) → state.hits name config.node ≤ entries
   pub execs_few : (name : List ℕ) (term : ℕ) → state.execs name term config.node ≤ entries
   pub own_rights : (name : List ℕ) (term : ℕ) → pos 0 ≤ℤ rights_of state name term config.node
+
+-- the version is that of the node, which is at most the number of its entries; and a message can tell all that the node
+-- knows, of few names
+pub record CanTell (config : Config) (version : ℕ) (entries : ℕ) (n : Node) : Type 0 where
+  pub version_is : n.marks.version ≡ version
+  pub few_versions : version ≤ entries
+  pub lawful : AreLawful config.nodes n.ops
+  pub few_names : length (shown n).names ≤ 256

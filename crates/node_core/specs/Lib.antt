@@ -8,3 +8,4 @@ pub mod Refusals
 pub mod Traces
 pub mod Holds
 pub mod Texts
+pub mod Deliveries

@@ -21,6 +21,7 @@ use Rattle.node_core.specs.declared.fault.NodeFault.{NodeFault}
 use Rattle.node_core.specs.declared.fault.NodeFault.TheVariants as faults
 use Rattle.node_core.specs.declared.fault.TextFault.TheVariants as texts
 use Rattle.delta_exchange.specs.declared.fault.WireFault.{WireFault}
+use Rattle.delta_exchange.specs.declared.fault.WireFault.TheVariants as wires
 use Rattle.node_core.specs.Asks.{Asked, Message}
 use Rattle.node_core.specs.Asks as asks
 use Rattle.node_core.specs.Nodes.{Node, shown, setting_of, terms_in}
@@ -119,6 +120,11 @@ faults_of_shift config v name term to amount = faults_of_setting config v name t
 abbrev pub bad_message : Result Message WireFault → Option NodeFault
 bad_message (Ok message) = None
 bad_message (Err fault) = Some (faults.BadMessage fault)
+
+-- want of memory is want of memory, wherever it was met
+abbrev pub wire_refusal : WireFault → NodeFault
+wire_refusal wires.OutOfMemory = faults.OutOfMemory
+wire_refusal fault = faults.BadMessage fault
 
 -- the refusals of a message for what it is and what it says
 abbrev pub faults_of_message : Config → Node → Result Message WireFault → List (Option NodeFault)

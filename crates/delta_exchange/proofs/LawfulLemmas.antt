@@ -1,0 +1,140 @@
+-- Operations that messages of a cluster can tell: none, those of two sets, and what a message tells.
+use Rattle.std.proofs.Common.{◌≡◌, ℕ, List, [], ◌∷◌, ◌++◌, map, ◌⊎◌, inl, inr, ⊎_elim, Option, Some, None, refl, sym, ap, subst}
+use Rattle.std.specs.Prelude.{is_some, IsTrue}
+use Rattle.std.specs.List.{flat_map, AllByRecursion}
+use Rattle.std.proofs.lemmas.List.Concat.{flat_map-cons}
+use Rattle.stamp_register.specs.Keys.{KeyValue}
+use Rattle.replica_state.specs.Operations.{Operation, Set, Count, Hits, Execs, Shifts, IsIn}
+use Rattle.replica_state.specs.Folds.{key_in, key_of}
+use Rattle.replica_state.proofs.Orders.{bytes_eq-refl}
+use Rattle.replica_state.proofs.Sets.{IsIn-append_left, IsIn-append_right, IsIn-append_cases, KeyUpto, key_of-is_in, key_of-mono}
+use Rattle.delta_exchange.specs.Messages.{EntryValue, MessageValue, operations_of, operations_in}
+use Rattle.delta_exchange.specs.Spelling.{IsHit, IsExec, IsShift, IsEntry, IsMessage}
+use Rattle.delta_exchange.specs.Wholes.{IsLawful, AreLawful}
+
+-- ---- members
+
+-- what holds of each holds of a member
+pub one_of : {A : Type 0} (P : A → Type 0) (xs : List A) → AllByRecursion P xs → (x : A) → IsIn x xs → P x
+one_of P [] all x h = absurd h
+one_of P (y ∷ xs) all x (inl e) = subst P (sym e) all.0
+one_of P (y ∷ xs) all x (inr h) = one_of P xs all.1 x h
+
+-- and what holds of each member holds of each
+pub all_of : {A : Type 0} (P : A → Type 0) (xs : List A) → ((x : A) → IsIn x xs → P x) → AllByRecursion P xs
+all_of P [] each = tt
+all_of P (x ∷ xs) each = (each x (inl refl), all_of P xs (λ y h. each y (inr h)))
+
+-- a member of a mapped list is made of one that is there
+pub mapped_from : {A B : Type 0} (f : A → B) (xs : List A) (y : B) → IsIn y (map f xs) → (x : A) × IsIn x xs × (y ≡ f x)
+mapped_from f [] y h = absurd h
+mapped_from f (x ∷ xs) y (inl e) = (x, inl refl, e)
+mapped_from f (x ∷ xs) y (inr h) =
+    let r = mapped_from f xs y h in
+    (r.0, inr r.1, r.2)
+
+pub mapped_in : {A B : Type 0} (f : A → B) (xs : List A) (x : A) → IsIn x xs → IsIn (f x) (map f xs)
+mapped_in f [] x h = absurd h
+mapped_in f (y ∷ xs) x (inl e) = inl (ap f e)
+mapped_in f (y ∷ xs) x (inr h) = inr (mapped_in f xs x h)
+
+-- ---- keys
+
+some_upto : (a b : Option KeyValue) → KeyUpto a b → IsTrue (is_some a) → IsTrue (is_some b)
+some_upto None b upto h = absurd cc
+some_upto (Some k) None upto h = absurd upto
+some_upto (Some k) (Some l) upto h = refl
+
+-- a name that is set has a key
+pub set_is_keyed : (name : List ℕ) (key : KeyValue) (ops : List Operation) → IsIn (Set name key) ops → IsTrue (is_some (key_of name ops))
+set_is_keyed name key ops h = some_upto (key_in name (Set name key)) (key_of name ops) (key_of-is_in name (Set name key) ops h) (rw (bytes_eq-refl name) refl)
+
+-- a name with a key has one with more operations
+pub keyed_with_more : (name : List ℕ) (a b : List Operation) → ((op : Operation) → IsIn op a → IsIn op b) → IsTrue (is_some (key_of name a)) → IsTrue (is_some (key_of name b))
+keyed_with_more name a b more h = some_upto (key_of name a) (key_of name b) (key_of-mono name a b more) h
+
+-- ---- none, and two sets
+
+pub lawful_none : (nodes : ℕ) → AreLawful nodes []
+lawful_none nodes = record { each = λ op h. absurd h; keyed = λ name node number h. absurd h }
+
+pub lawful_together : (nodes : ℕ) (a b : List Operation) → AreLawful nodes a → AreLawful nodes b → AreLawful nodes (a ++ b)
+lawful_together nodes a b h k = record {
+  each = λ op m. ⊎_elim (h.each op) (k.each op) (IsIn-append_cases op a b m);
+  keyed = λ name node number m. ⊎_elim
+      (λ l. keyed_with_more name a (a ++ b) (λ op i. IsIn-append_left op a b i) (h.keyed name node number l))
+      (λ l. keyed_with_more name b (a ++ b) (λ op i. IsIn-append_right op a b i) (k.keyed name node number l))
+      (IsIn-append_cases (Count (Hits name node) number) a b m);
+}
+
+-- ---- what a message tells
+
+module _ (e : EntryValue) where
+  abbrev pub hit_told : ℕ × ℕ → Operation
+  hit_told c = Count (Hits e.name c.0) c.1
+
+  abbrev pub exec_told : ℕ × ℕ × ℕ → Operation
+  exec_told c = Count (Execs e.name e.key c.0 c.1) c.2
+
+  abbrev pub shift_told : ℕ × ℕ × ℕ × ℕ → Operation
+  shift_told c = Count (Shifts e.name e.key c.0 c.1 c.2) c.3
+
+  -- an operation of the entry is its setting or that of one of its cells
+  pub told_of : (op : Operation) → IsIn op (operations_of e)
+      → (op ≡ Set e.name e.key) ⊎ (((c : ℕ × ℕ) × IsIn c e.hits × (op ≡ hit_told c)) ⊎ (((c : ℕ × ℕ × ℕ) × IsIn c e.execs × (op ≡ exec_told c)) ⊎ ((c : ℕ × ℕ × ℕ × ℕ) × IsIn c e.shifts × (op ≡ shift_told c))))
+  told_of op (inl h) = inl h
+  told_of op (inr h) = inr (⊎_elim
+      (λ l. inl (mapped_from hit_told e.hits op l))
+      (λ l. inr (⊎_elim (λ k. inl (mapped_from exec_told e.execs op k)) (λ k. inr (mapped_from shift_told e.shifts op k)) (IsIn-append_cases op (map exec_told e.execs) (map shift_told e.shifts) l)))
+      (IsIn-append_cases op (map hit_told e.hits) (map exec_told e.execs ++ map shift_told e.shifts) h))
+
+  entry_lawful : (nodes : ℕ) → IsEntry nodes e → (op : Operation) → IsIn op (operations_of e) → IsLawful nodes op
+  entry_lawful nodes h op k = by_kind (told_of op k)
+    where
+      by_kind : (op ≡ Set e.name e.key) ⊎ (((c : ℕ × ℕ) × IsIn c e.hits × (op ≡ hit_told c)) ⊎ (((c : ℕ × ℕ × ℕ) × IsIn c e.execs × (op ≡ exec_told c)) ⊎ ((c : ℕ × ℕ × ℕ × ℕ) × IsIn c e.shifts × (op ≡ shift_told c)))) → IsLawful nodes op
+      by_kind (inl s) = subst (IsLawful nodes) (sym s) (h.name, h.key)
+      by_kind (inr (inl (c, k, s))) =
+          let one = one_of (IsHit nodes) e.hits h.hits c k in
+          subst (IsLawful nodes) (sym s) (h.name, one.0, one.1.0)
+      by_kind (inr (inr (inl (c, k, s)))) =
+          let one = one_of (IsExec nodes e.key) e.execs h.execs c k in
+          subst (IsLawful nodes) (sym s) (h.name, h.key, one.0, one.1, one.2.0)
+      by_kind (inr (inr (inr (c, k, s)))) =
+          let one = one_of (IsShift nodes e.key) e.shifts h.shifts c k in
+          subst (IsLawful nodes) (sym s) (h.name, h.key, one.0, one.1, one.2, one.3, one.4.0)
+
+  -- a hit that the entry tells is of its name
+  hit_has_name : (name : List ℕ) (node number : ℕ) → IsIn (Count (Hits name node) number) (operations_of e) → e.name ≡ name
+  hit_has_name name node number k = by_kind (told_of (Count (Hits name node) number) k)
+    where
+      by_kind : (Count (Hits name node) number ≡ Set e.name e.key) ⊎ (((c : ℕ × ℕ) × IsIn c e.hits × (Count (Hits name node) number ≡ hit_told c)) ⊎ (((c : ℕ × ℕ × ℕ) × IsIn c e.execs × (Count (Hits name node) number ≡ exec_told c)) ⊎ ((c : ℕ × ℕ × ℕ × ℕ) × IsIn c e.shifts × (Count (Hits name node) number ≡ shift_told c)))) → e.name ≡ name
+      by_kind (inl s) = absurd cc
+      by_kind (inr (inl (c, k, s))) = cc
+      by_kind (inr (inr (inl (c, k, s)))) = absurd cc
+      by_kind (inr (inr (inr (c, k, s)))) = absurd cc
+
+-- what entries tell is what one of them tells
+pub told_by : (es : List EntryValue) (op : Operation) → IsIn op (flat_map operations_of es) → (e : EntryValue) × IsIn e es × IsIn op (operations_of e)
+told_by [] op h = absurd h
+told_by (e ∷ es) op h = ⊎_elim
+    (λ l. (e, inl refl, l))
+    (λ l. let r = told_by es op l in (r.0, inr r.1, r.2))
+    (IsIn-append_cases op (operations_of e) (flat_map operations_of es) (subst (IsIn op) (flat_map-cons operations_of e es) h))
+
+pub tells : (es : List EntryValue) (e : EntryValue) (op : Operation) → IsIn e es → IsIn op (operations_of e) → IsIn op (flat_map operations_of es)
+tells [] e op h k = absurd h
+tells (f ∷ es) e op (inl s) k =
+    subst (IsIn op) (sym (flat_map-cons operations_of f es)) (IsIn-append_left op (operations_of f) (flat_map operations_of es) (subst (λ g. IsIn op (operations_of g)) s k))
+tells (f ∷ es) e op (inr h) k =
+    subst (IsIn op) (sym (flat_map-cons operations_of f es)) (IsIn-append_right op (operations_of f) (flat_map operations_of es) (tells es e op h k))
+
+pub told_lawful : (nodes : ℕ) (m : MessageValue) → IsMessage nodes m → AreLawful nodes (operations_in m)
+told_lawful nodes m h = record {
+  each = λ op k.
+      let r = told_by m.entries op k in
+      entry_lawful r.0 nodes (one_of (IsEntry nodes) m.entries h.entries.each r.0 r.1) op r.2;
+  keyed = λ name node number k.
+      let r = told_by m.entries (Count (Hits name node) number) k in
+      let there = tells m.entries r.0 (Set r.0.name r.0.key) r.1 (inl refl) in
+      subst (λ (n : List ℕ). IsTrue (is_some (key_of n (operations_in m)))) (hit_has_name r.0 name node number r.2) (set_is_keyed r.0.name r.0.key (operations_in m) there);
+}

@@ -1,0 +1,107 @@
+-- What a message says of the node that it comes to, entry by entry.
+use Rattle.std.proofs.Common.{◌≡◌, ℕ, Bool, true, false, cond, not, ◌==◌, ◌&&◌, ◌||◌, nat_lt, List, [], ◌∷◌, ◌++◌, map, Option, Some, None, refl, sym, ◌∙◌, ap}
+use Rattle.std.specs.List.{list_any, flat_map}
+use Rattle.std.proofs.lemmas.List.Folds.{list_any-append}
+use Rattle.std.proofs.lemmas.List.Concat.{flat_map-cons}
+use Rattle.std.specs.Ordering.{is_le, is_eq, is_gt, match_ordering}
+use Rattle.std.specs.declared.cmp.Ordering.{Ordering}
+use Rattle.std.specs.declared.cmp.Ordering.TheVariants.{Less, Equal, Greater}
+use Rattle.stamp_register.specs.Keys.{KeyValue, key_le, same_key}
+use Rattle.stamp_register.proofs.KeyLemmas.{same_key-true, true-same_key, same_key-cmp}
+use Rattle.replica_state.specs.Operations.{Operation, Set, Count, Hits, Execs, Shifts}
+use Rattle.replica_state.specs.States.{State}
+use Rattle.replica_state.specs.Points.{standing}
+use Rattle.delta_exchange.specs.declared.message.NameEntry.{NameEntry}
+use Rattle.delta_exchange.specs.Messages.{EntryValue, entry_value, operations_of}
+use Rattle.node_core.specs.Refusals.{is_ahead, is_cell_ahead}
+use Rattle.node_core.specs.Deliveries.{ahead_by}
+
+-- ---- tests of lists
+
+any_map : {A B : Type 0} (p : B → Bool) (f : A → B) (xs : List A) → list_any p (map f xs) ≡ list_any (λ x. p (f x)) xs
+any_map p f [] = refl
+any_map p f (x ∷ xs) = ap (λ b. p (f x) || b) (any_map p f xs)
+
+any_same : {A : Type 0} (p q : A → Bool) (xs : List A) → ((x : A) → p x ≡ q x) → list_any p xs ≡ list_any q xs
+any_same p q [] h = refl
+any_same p q (x ∷ xs) h = (λ i. (h x i) || (any_same p q xs h i))
+
+-- one entry after the other
+pub any_told : (test : Operation → Bool) (es : List NameEntry) → list_any test (flat_map operations_of (map entry_value es)) ≡ list_any (λ e. list_any test (operations_of (entry_value e))) es
+any_told test [] = refl
+any_told test (e ∷ es) =
+    ap (list_any test) (flat_map-cons operations_of (entry_value e) (map entry_value es))
+    ∙ list_any-append test (operations_of (entry_value e)) (flat_map operations_of (map entry_value es))
+    ∙ ap (λ b. list_any test (operations_of (entry_value e)) || b) (any_told test es)
+
+-- ---- a key and the one that is held
+
+same_both : (x y : Bool) → (x ≡ true → y ≡ true) → (y ≡ true → x ≡ true) → x ≡ y
+same_both true y f g = sym (f refl)
+same_both false true f g = g refl
+same_both false false f g = refl
+
+same_turned : (a b : KeyValue) → same_key a b ≡ same_key b a
+same_turned a b = same_both (same_key a b) (same_key b a) (λ h. true-same_key b a (sym (same_key-true a b h))) (λ h. true-same_key a b (sym (same_key-true b a h)))
+
+by_order : (o : Ordering) (s : Bool) (own told : ℕ) → s ≡ is_eq o → cond s (nat_lt own told) (not (is_le o)) ≡ ahead_by o own told
+by_order Less s own told h = ap (λ b. cond b (nat_lt own told) (not true)) h
+by_order Equal s own told h = ap (λ b. cond b (nat_lt own told) (not true)) h
+by_order Greater s own told h = ap (λ b. cond b (nat_lt own told) (not false)) h
+
+pub cell_ahead : (key : KeyValue) (own told : ℕ) (held : Option KeyValue) → is_cell_ahead key told own held ≡ ahead_by (standing key held) own told
+cell_ahead key own told None = refl
+cell_ahead key own told (Some other) = by_order (standing key (Some other)) (same_key other key) own told (same_turned other key ∙ same_key-cmp key other)
+
+key_ahead : (i : ℕ) (v : State) (name : List ℕ) (key : KeyValue) (held : Option KeyValue) → v.key name ≡ held → is_ahead i v (Set name key) ≡ (key.node == i && is_gt (standing key held))
+key_ahead i v name key None h = rw h refl
+key_ahead i v name key (Some other) h = rw h (ap (λ b. key.node == i && b) (of (standing key (Some other))))
+  where
+    of : (o : Ordering) → not (is_le o) ≡ is_gt o
+    of Less = refl
+    of Equal = refl
+    of Greater = refl
+
+-- ---- an entry
+
+module _ (i : ℕ) (v : State) (e : EntryValue) where
+  abbrev order : Ordering
+  order = standing e.key (v.key e.name)
+
+  pub entry_ahead : list_any (is_ahead i v) (operations_of e) ≡
+      ((e.key.node == i && is_gt order) ||
+      (list_any (λ c. c.0 == i && nat_lt (v.hits e.name i) c.1) e.hits ||
+      (list_any (λ c. c.1 == i && ahead_by order (v.execs e.name c.0 i) c.2) e.execs ||
+      list_any (λ c. c.1 == i && ahead_by order (v.shifts e.name c.0 i c.2) c.3) e.shifts)))
+  entry_ahead = λ j. (key_ahead i v e.name e.key (v.key e.name) refl j) || (cells j)
+    where
+      hits : list_any (is_ahead i v) (map (λ c. Count (Hits e.name c.0) c.1) e.hits) ≡ list_any (λ c. c.0 == i && nat_lt (v.hits e.name i) c.1) e.hits
+      hits = any_map (is_ahead i v) (λ c. Count (Hits e.name c.0) c.1) e.hits
+
+      execs : list_any (is_ahead i v) (map (λ c. Count (Execs e.name e.key c.0 c.1) c.2) e.execs) ≡ list_any (λ c. c.1 == i && ahead_by order (v.execs e.name c.0 i) c.2) e.execs
+      execs = any_map (is_ahead i v) (λ c. Count (Execs e.name e.key c.0 c.1) c.2) e.execs
+          ∙ any_same _ (λ c. c.1 == i && ahead_by order (v.execs e.name c.0 i) c.2) e.execs (λ c. ap (λ b. c.1 == i && b) (cell_ahead e.key (v.execs e.name c.0 i) c.2 (v.key e.name)))
+
+      shifts : list_any (is_ahead i v) (map (λ c. Count (Shifts e.name e.key c.0 c.1 c.2) c.3) e.shifts) ≡ list_any (λ c. c.1 == i && ahead_by order (v.shifts e.name c.0 i c.2) c.3) e.shifts
+      shifts = any_map (is_ahead i v) (λ c. Count (Shifts e.name e.key c.0 c.1 c.2) c.3) e.shifts
+          ∙ any_same _ (λ c. c.1 == i && ahead_by order (v.shifts e.name c.0 i c.2) c.3) e.shifts (λ c. ap (λ b. c.1 == i && b) (cell_ahead e.key (v.shifts e.name c.0 i c.2) c.3 (v.key e.name)))
+
+      cells : list_any (is_ahead i v) (map (λ c. Count (Hits e.name c.0) c.1) e.hits ++ (map (λ c. Count (Execs e.name e.key c.0 c.1) c.2) e.execs ++ map (λ c. Count (Shifts e.name e.key c.0 c.1 c.2) c.3) e.shifts)) ≡
+          (list_any (λ c. c.0 == i && nat_lt (v.hits e.name i) c.1) e.hits ||
+          (list_any (λ c. c.1 == i && ahead_by order (v.execs e.name c.0 i) c.2) e.execs ||
+          list_any (λ c. c.1 == i && ahead_by order (v.shifts e.name c.0 i c.2) c.3) e.shifts))
+      cells =
+          list_any-append (is_ahead i v) (map (λ c. Count (Hits e.name c.0) c.1) e.hits) _
+          ∙ (λ j. (hits j) || ((list_any-append (is_ahead i v) (map (λ c. Count (Execs e.name e.key c.0 c.1) c.2) e.execs) (map (λ c. Count (Shifts e.name e.key c.0 c.1 c.2) c.3) e.shifts) ∙ (λ l. (execs l) || (shifts l))) j))
+
+  -- the same, test by test
+  pub ahead_is : (o : Ordering) → o ≡ order → (keys hits execs shifts : Bool) → keys ≡ (e.key.node == i && is_gt o) → hits ≡ list_any (λ c. c.0 == i && nat_lt (v.hits e.name i) c.1) e.hits →
+      execs ≡ list_any (λ c. c.1 == i && ahead_by o (v.execs e.name c.0 i) c.2) e.execs → shifts ≡ list_any (λ c. c.1 == i && ahead_by o (v.shifts e.name c.0 i c.2) c.3) e.shifts →
+      (keys || (hits || (execs || shifts))) ≡ list_any (is_ahead i v) (operations_of e)
+  ahead_is o at keys hits execs shifts k h x s =
+      (λ j. (k j) || ((h j) || ((x j) || (s j))))
+      ∙ (λ j. (e.key.node == i && is_gt (at j)) ||
+          (list_any (λ c. c.0 == i && nat_lt (v.hits e.name i) c.1) e.hits ||
+          (list_any (λ c. c.1 == i && ahead_by (at j) (v.execs e.name c.0 i) c.2) e.execs ||
+          list_any (λ c. c.1 == i && ahead_by (at j) (v.shifts e.name c.0 i c.2) c.3) e.shifts)))
+      ∙ sym entry_ahead

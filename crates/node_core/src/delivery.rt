@@ -1,0 +1,282 @@
+//! What a message says to the node that it is delivered to.
+
+ghost use Rattle.std.specs.Prelude.{◌≡◌, ◌⊎◌, ◌≤◌, ◌==◌, ◌&&◌, nat_lt, ℕ, [], map, IfOk, IfErr, Some, Ok, MatchOption};
+ghost use Rattle.std.specs.List.{flat_map, list_any};
+ghost use Rattle.std.specs.Ordering.{is_gt};
+ghost use Rattle.stamp_register.specs.Keys.{key_value};
+ghost use Rattle.replica_state.specs.Folds.{clock_of};
+ghost use Rattle.replica_state.specs.Points.{standing};
+ghost use Rattle.replica_state.specs.Slots.{matrix_state};
+ghost use Rattle.replica_state.specs.Operations.{count_at};
+ghost use Rattle.replica_state.specs.Unions.{key_order, number_both};
+ghost use Rattle.delta_exchange.specs.Messages.{entry_value, message_value, operations_of, operations_in};
+ghost use Rattle.delta_exchange.specs.Spelling.{IsMessage};
+ghost use Rattle.node_core.specs.Asks.{message_of, message_read};
+ghost use Rattle.node_core.specs.Refusals.{bad_message, wire_refusal, is_ahead};
+ghost use Rattle.node_core.specs.Deliveries.{ahead_by, are_overspent, execs_both, is_overspent_below, terms_both};
+
+use crate::State;
+use crate::fault::NodeFault;
+use crate::pass::setting_at;
+use actions::{Actions, Name};
+use delta_exchange::{Message, NameEntry, WireFault, decode};
+use replica_state::Replica;
+use stamp_register::Key;
+use std::alloc::Global;
+use std::cmp::Ordering;
+
+/// How a node refuses bytes that are refused so.
+fn refusal_for(fault: WireFault) -> NodeFault
+    ensures { result ≡ wire_refusal fault }
+{
+    match fault {
+        WireFault::OutOfMemory => NodeFault::OutOfMemory,
+        fault => NodeFault::BadMessage(fault),
+    }
+}
+
+/// The message that bytes are, or the refusal.
+pub(crate) fn read_message(alloc: Global, nodes: u8, bytes: &[u8]) -> Result<Message, NodeFault>
+    ensures ok { IfOk result (λ m. message_read nodes bytes.now ≡ Ok (message_of (message_value m))) }
+    ensures spelled { IfOk result (λ m. IsMessage nodes (message_value m)) }
+    ensures refused { IfErr result (λ f. (f ≡ NodeFault.OutOfMemory) ⊎ (bad_message (message_read nodes bytes.now) ≡ Some f)) }
+{
+    match decode(alloc, nodes, bytes) {
+        Ok(message) => Ok(message),
+        Err(fault) => Err(refusal_for(fault)),
+    }
+}
+
+/// How a key that is told of a name stands to the one that is held.
+fn standing(state: &State, name: &Name, key: &Key) -> Ordering
+    ensures { result ≡ standing (key_value key.now) ((matrix_state state.now).key name.now) }
+{
+    match state.key(name) {
+        Some(held) => key.cmp(held),
+        None => Ordering::Greater,
+    }
+}
+
+/// Whether a key that a node set and that stands so is one that it doesn't know itself.
+fn is_key_ahead(order: Ordering, me: u8, setter: u8) -> bool
+    ensures { result ≡ (setter == me && is_gt order) }
+{
+    setter == me && order == Ordering::Greater
+}
+
+/// Whether a number of a node's own that is told under a key which stands so is above what the
+/// node knows itself.
+fn is_number_ahead(order: Ordering, own: u64, told: u64) -> bool
+    ensures { result ≡ ahead_by order own told }
+{
+    match order {
+        Ordering::Less => false,
+        Ordering::Equal => own < told,
+        Ordering::Greater => true,
+    }
+}
+
+/// Whether more hits of a node's own are told than it knows itself.
+fn are_hits_ahead(state: &State, me: u8, name: &Name, hits: &[(u8, u64)]) -> bool
+    ensures { result ≡ list_any (λ c. c.0 == me && nat_lt ((matrix_state state.now).hits name.now me) c.1) hits.now }
+{
+    hits.iter()
+        .any(|(node, told)| *node == me && state.hits(name, me) < *told)
+}
+
+/// Whether more executions of a node's own are told, under a key that stands so, than it knows
+/// itself.
+fn are_execs_ahead(
+    state: &State,
+    me: u8,
+    name: &Name,
+    order: Ordering,
+    execs: &[(u8, u8, u64)],
+) -> bool
+    ensures { result ≡ list_any (λ c. c.1 == me && ahead_by order ((matrix_state state.now).execs name.now c.0 me) c.2) execs.now }
+{
+    execs
+        .iter()
+        .any(|(term, node, told)| *node == me
+            && is_number_ahead(order, state.exec(name, *term, me), *told))
+}
+
+/// Whether it is told that a node moved more rights, under a key that stands so, than it knows
+/// itself.
+fn are_shifts_ahead(
+    state: &State,
+    me: u8,
+    name: &Name,
+    order: Ordering,
+    shifts: &[(u8, u8, u8, u64)],
+) -> bool
+    ensures { result ≡ list_any (λ c. c.1 == me && ahead_by order ((matrix_state state.now).shifts name.now c.0 me c.2) c.3) shifts.now }
+{
+    shifts
+        .iter()
+        .any(|(term, from, to, told)| *from == me
+            && is_number_ahead(order, state.moved(name, *term, me, *to), *told))
+}
+
+/// Whether an entry says more of this node than it knows itself.
+fn is_entry_ahead(state: &State, me: u8, entry: &NameEntry) -> bool
+    ensures { result ≡ list_any (is_ahead me (matrix_state state.now)) (operations_of (entry_value entry.now)) }
+{
+    let order = standing(state, &entry.name, &entry.key);
+    if is_key_ahead(order, me, entry.key.node) {
+        return true;
+    }
+    if are_hits_ahead(state, me, &entry.name, &entry.hits) {
+        return true;
+    }
+    if are_execs_ahead(state, me, &entry.name, order, &entry.execs) {
+        return true;
+    }
+    are_shifts_ahead(state, me, &entry.name, order, &entry.shifts)
+}
+
+/// Whether one of the entries says more of this node than it knows itself.
+fn is_any_ahead(state: &State, me: u8, entries: &[NameEntry]) -> bool
+    ensures { result ≡ list_any (λ e. list_any (is_ahead me (matrix_state state.now)) (operations_of (entry_value e))) entries.now }
+{
+    entries.iter().any(|entry| is_entry_ahead(state, me, entry))
+}
+
+/// Whether a message says more of this node than it knows itself.
+pub(crate) fn is_message_ahead(state: &State, me: u8, message: &Message) -> bool
+    ensures { result ≡ list_any (is_ahead me (matrix_state state.now)) (operations_in (message_value message.now)) }
+{
+    is_any_ahead(state, me, &message.entries)
+}
+
+/// The greatest clock that entries tell.
+pub(crate) fn latest_clock(entries: &[NameEntry]) -> u64
+    ensures { result ≡ clock_of (flat_map operations_of (map entry_value entries.now)) }
+{
+    let mut clock = 0u64;
+    for entry in entries {
+        clock = entry.key.clock.max(clock);
+    }
+    clock
+}
+
+/// How the key that another state holds of a name stands to the one that is held here.
+fn standing_of(state: &State, told: &State, name: &Name) -> Ordering
+    ensures { result ≡ key_order ((matrix_state told.now).key name.now) ((matrix_state state.now).key name.now) }
+{
+    if let Some(key) = told.key(name) {
+        return standing(state, name, key);
+    }
+    match state.key(name) {
+        Some(_) => Ordering::Less,
+        None => Ordering::Equal,
+    }
+}
+
+/// The executions of a term at a node once both states are one, where the key that is told stands
+/// so.
+fn execs_at(
+    order: Ordering,
+    state: &State,
+    told: &State,
+    name: &Name,
+    term: u8,
+    node: u8,
+) -> u64
+    ensures { result ≡ number_both order ((matrix_state state.now).execs name.now term node) ((matrix_state told.now).execs name.now term node) }
+{
+    let held = state.exec(name, term, node);
+    let other = told.exec(name, term, node);
+    match order {
+        Ordering::Less => held,
+        Ordering::Equal => held.max(other),
+        Ordering::Greater => other,
+    }
+}
+
+/// The same at all nodes.
+fn execs_both(
+    nodes: u8,
+    order: Ordering,
+    state: &State,
+    told: &State,
+    name: &Name,
+    term: u8,
+) -> u128
+    ensures { result ≡ execs_both nodes order (matrix_state state.now) (matrix_state told.now) name.now term }
+{
+    let mut sum = 0u128;
+    for node in 0..nodes {
+        sum += u128::from(execs_at(order, state, told, name, term, node));
+    }
+    sum
+}
+
+/// Whether one of these terms would be executed more often than it is counted.
+fn is_term_overspent(
+    nodes: u8,
+    order: Ordering,
+    state: &State,
+    told: &State,
+    name: &Name,
+    actions: &Actions,
+) -> bool
+    ensures { result ≡ are_overspent nodes order (matrix_state state.now) (matrix_state told.now) name.now actions.now }
+{
+    for term in 0..actions.len() {
+        if let Some(count) = count_at(actions, term as u8) {
+            if execs_both(nodes, order, state, told, name, term as u8) > u128::from(count) {
+                return true;
+            }
+        }
+    }
+    false
+}
+
+/// What a point is set to once both states are one, if it is set.
+fn actions_both<'a>(
+    order: Ordering,
+    state: &'a State,
+    told: &'a State,
+    name: &Name,
+) -> Option<&'a Actions>
+    ensures { MatchOption result (terms_both order (matrix_state state.now) (matrix_state told.now) name.now ≡ []) (λ a. terms_both order (matrix_state state.now) (matrix_state told.now) name.now ≡ a.now) }
+{
+    let holder = match order {
+        Ordering::Less => state,
+        _ => told,
+    };
+    let (_, actions) = setting_at(holder, name)?;
+    Some(actions)
+}
+
+/// Whether a name would have a term that is executed more often than it is counted.
+fn is_name_overspent(nodes: u8, state: &State, told: &State, name: &Name) -> bool
+    ensures { result ≡ is_overspent_below nodes (matrix_state state.now) (matrix_state told.now) name.now }
+{
+    let order = standing_of(state, told, name);
+    match actions_both(order, state, told, name) {
+        Some(actions) => is_term_overspent(nodes, order, state, told, name, actions),
+        None => false,
+    }
+}
+
+/// The count of a term, if there is that term and it is counted.
+fn count_at(actions: &Actions, term: u8) -> Option<u64>
+    ensures { result ≡ count_at actions.now term }
+{
+    match actions.term(term) {
+        Some(found) => found.count,
+        None => None,
+    }
+}
+
+/// Whether one of the names that a message tells of would have a term that is executed more often
+/// than it is counted.
+fn is_any_overspent(nodes: u8, state: &State, told: &State, entries: &[NameEntry]) -> bool
+    ensures { result ≡ list_any (λ e. is_overspent_below nodes (matrix_state state.now) (matrix_state told.now) e.name) entries.now }
+{
+    entries
+        .iter()
+        .any(|entry| is_name_overspent(nodes, state, told, &entry.name))
+}
