@@ -10,3 +10,4 @@ pub mod LoadRefusals
 pub mod Ahead
 pub mod BadMessages
 pub mod Overspent
+pub mod Merged

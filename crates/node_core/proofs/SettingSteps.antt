@@ -36,7 +36,7 @@ swapped op a b = same_members (op ∷ (a ++ b)) (a ++ op ∷ b) to from
     from : (o : Operation) → IsIn o (a ++ op ∷ b) → IsIn o (op ∷ (a ++ b))
     from o h = ⊎_elim (λ k. inr (IsIn-append_left o a b k)) (λ k. ⊎_elim (λ e. inl e) (λ l. inr (IsIn-append_right o a b l)) k) (IsIn-append_cases o a (op ∷ b) h)
 
-turned : (a b : List Operation) → fold (a ++ b) ≡ fold (b ++ a)
+pub turned : (a b : List Operation) → fold (a ++ b) ≡ fold (b ++ a)
 turned a b = same_members (a ++ b) (b ++ a) (λ o h. other o a b h) (λ o h. other o b a h)
   where
     other : (o : Operation) (x y : List Operation) → IsIn o (x ++ y) → IsIn o (y ++ x)
@@ -79,7 +79,7 @@ pub names_set : (i clock : ℕ) (ss : Settings) (v : State) → (state_set i clo
 names_set i clock [] v = refl
 names_set i clock (s ∷ ss) v = names_set i (clock + 1) ss (with_key s.0 (new_key i clock s.1) v) ∙ ap (with_names (map (λ r. r.0) ss)) (names_key s.0 (new_key i clock s.1) v)
 
-names_united : (v w : State) → (union_of v w).names ≡ with_names w.names v.names
+pub names_united : (v w : State) → (union_of v w).names ≡ with_names w.names v.names
 unfolding union_of
 names_united v w = refl
 

@@ -1,0 +1,230 @@
+-- What a node knows once it learnt what a message tells.
+use Rattle.std.proofs.Common.{◌≡◌, ℕ, ◌+◌, ◌<◌, ◌≤◌, zero, suc, Bool, true, false, not, ◌||◌, max, List, [], ◌∷◌, ◌++◌, length, map, inl, inr, ⊎_elim, ◌⊎◌, ◌↔◌, Option, Some, None, IsTrue, refl, sym, ◌∙◌, ap, subst, arith, nat_le, ◌-◌}
+use Rattle.std.proofs.lemmas.Bool.{true≢false, cases_lt, le-leb}
+use Rattle.std.proofs.lemmas.List.{append-nil}
+use Rattle.std.specs.List.{list_any, flat_map}
+use Rattle.std.specs.Ordering.{match_ordering}
+use Rattle.std.specs.declared.cmp.Ordering.{Ordering}
+use Rattle.std.specs.declared.cmp.Ordering.TheVariants.{Less, Equal, Greater}
+use Rattle.counters.specs.Sums.{numbers, sum_below}
+use Rattle.actions.specs.Value.{TermValue}
+use Rattle.stamp_register.specs.Keys.{KeyValue, key_le, same_key}
+use Rattle.stamp_register.proofs.KeyLemmas.{same_key-true}
+use Rattle.replica_state.specs.Operations.{Operation, Set, Count, Hits, Execs, Shifts, IsIn, count_at}
+use Rattle.replica_state.specs.States.{State}
+use Rattle.replica_state.specs.Folds.{fold, name_in, key_in, key_of, number_at, at_key}
+use Rattle.replica_state.specs.StateOrder.{IsKeyBelow, IsBelow}
+use Rattle.replica_state.specs.Knowledge.{is_upto, knows, knows_count, changes}
+use Rattle.replica_state.specs.Unions.{key_order, number_both, with_names, union_of}
+use Rattle.replica_state.proofs.Sets.{KeyUpto, KeyUpto-trans, key_of-is_in, number_at-is_in, number_at-least}
+use Rattle.replica_state.proofs.KnownSets.{keys_only, below_not_above, own_name, union_above_left}
+use Rattle.replica_state.proofs.SetJoins.{fold-unites}
+use Rattle.replica_state.proofs.StateOrders.{stands_above, stands_equal, stands_below}
+use Rattle.replica_state.proofs.Changes.{any_false, false_any, changes_is_change}
+use Rattle.delta_exchange.specs.declared.message.NameEntry.{NameEntry}
+use Rattle.delta_exchange.specs.Messages.{EntryValue, entry_value, operations_of}
+use Rattle.delta_exchange.specs.Wholes.{AreLawful}
+use Rattle.node_core.specs.Nodes.{setting_of, setting_in, terms_in}
+use Rattle.node_core.specs.Refusals.{any_below, is_above, is_overspent, overspends}
+use Rattle.node_core.specs.Deliveries.{terms_both, execs_both, are_overspent, is_overspent_below}
+use Rattle.node_core.proofs.Ahead.{any_told}
+use Rattle.node_core.proofs.SettingSteps.{names_united, turned}
+
+-- ---- both states as one
+
+pub merged : (ops known : List Operation) (v t : State) → v ≡ fold known → t ≡ fold ops → fold (ops ++ known) ≡ union_of v t
+merged ops known v t e f = turned ops known ∙ sym (fold-unites known ops) ∙ (λ i. union_of ((sym e) i) ((sym f) i))
+
+pub merged_names : (ops known : List Operation) (v t : State) → v ≡ fold known → t ≡ fold ops → length (with_names t.names v.names) ≡ length (fold (ops ++ known)).names
+merged_names ops known v t e f = ap (λ ns. length ns) (sym (names_united v t) ∙ sym (ap (λ (s : State). s.names) (merged ops known v t e f)))
+
+-- ---- terms that are executed more often than they are counted
+
+module _ (v t : State) (name : List ℕ) where
+  abbrev order : Ordering
+  order = key_order (t.key name) (v.key name)
+
+  terms_by : (o : Ordering) → order ≡ o → terms_in (setting_of (union_of v t) name) ≡ terms_both o v t name
+  unfolding union_of
+  terms_by Less e = ap (λ k. terms_in (setting_in k)) (stands_below (v.key name) (t.key name) e).1
+  terms_by Equal e = ap (λ k. terms_in (setting_in k)) (stands_equal (v.key name) (t.key name) e).1
+  terms_by Greater e = ap (λ k. terms_in (setting_in k)) (stands_above (v.key name) (t.key name) e).1
+
+  execs_united : (term node : ℕ) → (union_of v t).execs name term node ≡ number_both order (v.execs name term node) (t.execs name term node)
+  unfolding union_of
+  execs_united term node = refl
+
+sum_same : (n : ℕ) (f g : ℕ → ℕ) → ((i : ℕ) → f i ≡ g i) → sum_below n f ≡ sum_below n g
+sum_same zero f g h = refl
+sum_same (suc n) f g h = λ i. h n i + sum_same n f g h i
+
+-- numbers that are 0 from some place on add nothing
+sum_upto : (n m : ℕ) (f : ℕ → ℕ) → ((i : ℕ) → n ≤ i → f i ≡ 0) → n ≤ m → sum_below m f ≡ sum_below n f
+sum_upto n zero f h low = let none : zero ≡ n = omega (arith, low) in ap (λ k. sum_below k f) none
+sum_upto n (suc m) f h low = by_place (cases_lt m n) (λ l. sum_upto n m f h l)
+  where
+    by_place : (m < n) ⊎ (n ≤ m) → (n ≤ m → sum_below m f ≡ sum_below n f) → sum_below (suc m) f ≡ sum_below n f
+    by_place (inl l) rest = let all : suc m ≡ n = omega (arith, low, l) in ap (λ k. sum_below k f) all
+    by_place (inr l) rest = let here = h m l in let same = rest l in omega (arith, here, same)
+
+any_same : (n : ℕ) (f g : ℕ → Bool) → ((i : ℕ) → f i ≡ g i) → any_below n f ≡ any_below n g
+any_same zero f g h = refl
+any_same (suc n) f g h = λ i. h n i || any_same n f g h i
+
+-- no node outside of the cluster executed anything
+no_execs_in : (nodes : ℕ) (ops : List Operation) → AreLawful nodes ops → (name : List ℕ) (key : KeyValue) (term node : ℕ) → nodes ≤ node → number_at (Execs name key term node) ops ≡ 0
+no_execs_in nodes ops lawful name key term node high =
+    let none = number_at-least (Execs name key term node) 0 ops (λ n h. absurd (let low = (lawful.each (Count (Execs name key term node) n) h).3 in omega (arith, low, high))) in
+    omega (arith, none)
+
+no_execs : (nodes : ℕ) (ops : List Operation) → AreLawful nodes ops → (name : List ℕ) (term node : ℕ) → nodes ≤ node → (fold ops).execs name term node ≡ 0
+unfolding fold
+no_execs nodes ops lawful name term node high = by_key (key_of name ops)
+  where
+    by_key : (o : Option KeyValue) → at_key o (λ key. number_at (Execs name key term node) ops) ≡ 0
+    by_key None = refl
+    by_key (Some key) = no_execs_in nodes ops lawful name key term node high
+
+none_both : (o : Ordering) (a b : ℕ) → a ≡ 0 → b ≡ 0 → number_both o a b ≡ 0
+none_both Less a b h k = h
+none_both Equal a b h k = omega (arith, h, k)
+none_both Greater a b h k = k
+
+module _ (nodes : ℕ) (few : nodes ≤ numbers) (ops known : List Operation) (v t : State) (is_v : v ≡ fold known) (is_t : t ≡ fold ops) (lawful : AreLawful nodes known) (told : AreLawful nodes ops) where
+  execs_none : (name : List ℕ) (term node : ℕ) → nodes ≤ node → number_both (key_order (t.key name) (v.key name)) (v.execs name term node) (t.execs name term node) ≡ 0
+  execs_none name term node high =
+      none_both (key_order (t.key name) (v.key name)) (v.execs name term node) (t.execs name term node)
+      (ap (λ (s : State). s.execs name term node) is_v ∙ no_execs nodes known lawful name term node high)
+      (ap (λ (s : State). s.execs name term node) is_t ∙ no_execs nodes ops told name term node high)
+
+  all_execs : (name : List ℕ) (term : ℕ) → sum_below numbers ((union_of v t).execs name term) ≡ execs_both nodes (key_order (t.key name) (v.key name)) v t name term
+  all_execs name term =
+      sum_same numbers ((union_of v t).execs name term) (λ node. number_both (key_order (t.key name) (v.key name)) (v.execs name term node) (t.execs name term node)) (execs_united v t name term)
+      ∙ sum_upto nodes numbers (λ node. number_both (key_order (t.key name) (v.key name)) (v.execs name term node) (t.execs name term node)) (execs_none name term) few
+
+  name_overspent : (name : List ℕ) → is_overspent (union_of v t) name (terms_in (setting_of (union_of v t) name)) ≡ is_overspent_below nodes v t name
+  name_overspent name =
+      ap (is_overspent (union_of v t) name) (terms_by v t name (key_order (t.key name) (v.key name)) refl)
+      ∙ any_same (length (terms_both (key_order (t.key name) (v.key name)) v t name)) _ _
+          (λ term. ap (is_above (count_at (terms_both (key_order (t.key name) (v.key name)) v t name) term)) (all_execs name term))
+
+  -- each operation of an entry is of its name
+  abbrev here : List ℕ → Bool
+  here name = is_overspent_below nodes v t name
+
+  overspends_as : (op : Operation) → overspends (fold (ops ++ known)) op ≡ here (name_in op)
+  overspends_as op = ap (λ (s : State). overspends s op) (merged ops known v t is_v is_t) ∙ name_overspent (name_in op)
+
+  all_here : {C : Type 0} (f : C → Operation) (name : List ℕ) → ((c : C) → name_in (f c) ≡ name) → (cs : List C) (rest : List Operation) →
+      (here name || list_any (overspends (fold (ops ++ known))) rest) ≡ here name → (here name || list_any (overspends (fold (ops ++ known))) (map f cs ++ rest)) ≡ here name
+  all_here f name h [] rest e = e
+  all_here f name h (c ∷ cs) rest e =
+      ap (λ b. here name || (b || list_any (overspends (fold (ops ++ known))) (map f cs ++ rest))) (overspends_as (f c) ∙ ap here (h c))
+      ∙ twice (here name) _ ∙ all_here f name h cs rest e
+    where
+      twice : (a b : Bool) → (a || (a || b)) ≡ (a || b)
+      twice true b = refl
+      twice false b = refl
+
+  entry_overspent : (e : EntryValue) → list_any (overspends (fold (ops ++ known))) (operations_of e) ≡ here e.name
+  entry_overspent e =
+      ap (λ b. b || list_any (overspends (fold (ops ++ known))) (map (λ c. Count (Hits e.name c.0) c.1) e.hits ++ (map (λ c. Count (Execs e.name e.key c.0 c.1) c.2) e.execs ++ map (λ c. Count (Shifts e.name e.key c.0 c.1 c.2) c.3) e.shifts)))
+          (overspends_as (Set e.name e.key))
+      ∙ all_here (λ c. Count (Hits e.name c.0) c.1) e.name (λ c. refl) e.hits _
+          (all_here (λ c. Count (Execs e.name e.key c.0 c.1) c.2) e.name (λ c. refl) e.execs _
+          (subst (λ os. (here e.name || list_any (overspends (fold (ops ++ known))) os) ≡ here e.name) (append-nil (map (λ c. Count (Shifts e.name e.key c.0 c.1 c.2) c.3) e.shifts))
+          (all_here (λ c. Count (Shifts e.name e.key c.0 c.1 c.2) c.3) e.name (λ c. refl) e.shifts [] (or_none (here e.name)))))
+    where
+      or_none : (b : Bool) → (b || false) ≡ b
+      or_none true = refl
+      or_none false = refl
+
+  any_as : (es : List NameEntry) → list_any (λ e. list_any (overspends (fold (ops ++ known))) (operations_of (entry_value e))) es ≡ list_any (λ e. here e.name) es
+  any_as [] = refl
+  any_as (e ∷ es) = λ i. entry_overspent (entry_value e) i || any_as es i
+
+  pub overspends_told : (es : List NameEntry) → ops ≡ flat_map operations_of (map entry_value es) → list_any (λ e. is_overspent_below nodes v t e.name) es ≡ list_any (overspends (fold (ops ++ known))) ops
+  overspends_told es is =
+      sym (any_as es) ∙ sym (any_told (overspends (fold (ops ++ known))) es) ∙ ap (list_any (overspends (fold (ops ++ known)))) (sym is)
+
+-- ---- whether anything changes
+
+true_upto : (a b : Option KeyValue) → KeyUpto a b → is_upto a b ≡ true
+true_upto None b h = refl
+true_upto (Some a) None h = absurd h
+true_upto (Some a) (Some b) h = h
+
+-- a count under a key that is at most the one that is known, where the count is known if the key is that one
+count_known : (key : KeyValue) (number here : ℕ) (held : Option KeyValue) → KeyUpto (Some key) held → (held ≡ Some key → number ≤ here) → knows_count key number here held ≡ true
+count_known key number here None upto h = absurd upto
+count_known key number here (Some other) upto h = by_test (same_key other key) refl
+  where
+    by_test : (b : Bool) → same_key other key ≡ b → knows_count key number here (Some other) ≡ true
+    by_test true e = rw e (le-leb number here (h (ap Some (same_key-true other key e))))
+    by_test false e = rw e upto
+
+module _ (a b : List Operation) (below : IsBelow (fold a) (fold b)) where
+  keys_below : (name : List ℕ) → KeyUpto (key_of name a) (key_of name b)
+  unfolding fold
+  keys_below name = keys_only name (fold a) (fold b) (below name)
+
+  hits_below : (name : List ℕ) (node : ℕ) → number_at (Hits name node) a ≤ (fold b).hits name node
+  unfolding fold
+  hits_below name node = (below name).hits node
+
+  carried : (name : List ℕ) (key : KeyValue) (op : Operation) → IsIn op a → key_in name op ≡ Some key → KeyUpto (Some key) (key_of name a)
+  carried name key op h c = subst (λ (o : Option KeyValue). KeyUpto o (key_of name a)) c (key_of-is_in name op a h)
+
+  same_keys : (name : List ℕ) (key : KeyValue) → KeyUpto (Some key) (key_of name a) → (fold b).key name ≡ Some key → key_of name a ≡ Some key
+  unfolding fold
+  same_keys name key low is = ⊎_elim (λ less. absurd (below_not_above (key_of name a) (key_of name b) less (subst (λ (o : Option KeyValue). KeyUpto o (key_of name a)) (sym is) low))) (λ rest. rest.0 ∙ is) (below name).cells
+
+  execs_below : (name : List ℕ) (key : KeyValue) (term node : ℕ) → KeyUpto (Some key) (key_of name a) → (fold b).key name ≡ Some key → number_at (Execs name key term node) a ≤ (fold b).execs name term node
+  unfolding fold
+  execs_below name key term node low is =
+      ⊎_elim (λ less. absurd (below_not_above (key_of name a) (key_of name b) less (subst (λ (o : Option KeyValue). KeyUpto o (key_of name a)) (sym is) low)))
+      (λ rest. subst (λ (o : Option KeyValue). at_key o (λ k. number_at (Execs name k term node) a) ≤ (fold b).execs name term node) (same_keys name key low is) (rest.1 term node))
+      (below name).cells
+
+  shifts_below : (name : List ℕ) (key : KeyValue) (term from to : ℕ) → KeyUpto (Some key) (key_of name a) → (fold b).key name ≡ Some key → number_at (Shifts name key term from to) a ≤ (fold b).shifts name term from to
+  unfolding fold
+  shifts_below name key term from to low is =
+      ⊎_elim (λ less. absurd (below_not_above (key_of name a) (key_of name b) less (subst (λ (o : Option KeyValue). KeyUpto o (key_of name a)) (sym is) low)))
+      (λ rest. subst (λ (o : Option KeyValue). at_key o (λ k. number_at (Shifts name k term from to) a) ≤ (fold b).shifts name term from to) (same_keys name key low is) (rest.2 term from to))
+      (below name).cells
+
+  held_key : (name : List ℕ) (o : Option KeyValue) → KeyUpto o (key_of name b) → KeyUpto o ((fold b).key name)
+  unfolding fold
+  held_key name o h = h
+
+  known : (op : Operation) → IsIn op a → knows (fold b) op ≡ true
+  known (Set name key) h = true_upto (Some key) ((fold b).key name) (held_key name (Some key) (KeyUpto-trans (Some key) (key_of name a) (key_of name b) (carried name key (Set name key) h (own_name name key)) (keys_below name)))
+  known (Count (Hits name node) number) h = let low = number_at-is_in (Hits name node) number a h in let upto = hits_below name node in le-leb number ((fold b).hits name node) (omega (arith, low, upto))
+  known (Count (Execs name key term node) number) h =
+      let under = carried name key (Count (Execs name key term node) number) h (own_name name key) in
+      let low = number_at-is_in (Execs name key term node) number a h in
+      count_known key number ((fold b).execs name term node) ((fold b).key name) (held_key name (Some key) (KeyUpto-trans (Some key) (key_of name a) (key_of name b) under (keys_below name)))
+      (λ is. let upto = execs_below name key term node under is in omega (arith, low, upto))
+  known (Count (Shifts name key term from to) number) h =
+      let under = carried name key (Count (Shifts name key term from to) number) h (own_name name key) in
+      let low = number_at-is_in (Shifts name key term from to) number a h in
+      count_known key number ((fold b).shifts name term from to) ((fold b).key name) (held_key name (Some key) (KeyUpto-trans (Some key) (key_of name a) (key_of name b) under (keys_below name)))
+      (λ is. let upto = shifts_below name key term from to under is in omega (arith, low, upto))
+
+  none_new : changes (fold b) a ≡ false
+  none_new = false_any (λ op. not (knows (fold b) op)) a (λ op h. ap not (known op h))
+
+-- something changes where what is told isn't below what is known
+pub changes_unless : (a b : List Operation) (v t : State) → v ≡ fold b → t ≡ fold a → (r : Bool) → (IsTrue r ↔ IsBelow t v) → not r ≡ changes v a
+changes_unless a b v t is_v is_t r below = by_result r refl ∙ ap (λ (s : State). changes s a) (sym is_v)
+  where
+    by_change : (c : Bool) → changes (fold b) a ≡ c → r ≡ false → true ≡ changes (fold b) a
+    by_change true e f = sym e
+    by_change false e f =
+        let upto : IsBelow (fold a) (fold b) = subst (λ (s : State). IsBelow (fold a) s) ((changes_is_change a b).0 e) (union_above_left a b) in
+        let holds : IsTrue r = below.1 (subst (λ (s : State). IsBelow s v) (sym is_t) (subst (λ (s : State). IsBelow (fold a) s) (sym is_v) upto)) in
+        absurd (true≢false (sym holds ∙ f))
+
+    by_result : (b' : Bool) → r ≡ b' → not b' ≡ changes (fold b) a
+    by_result true e = sym (none_new a b (subst (λ (s : State). IsBelow s (fold b)) is_t (subst (λ (s : State). IsBelow t s) is_v (below.0 e))))
+    by_result false e = by_change (changes (fold b) a) refl e
