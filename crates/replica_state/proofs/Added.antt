@@ -10,11 +10,12 @@ use Rattle.std.specs.declared.cmp.Ordering.TheVariants.{Less, Equal, Greater}
 use Rattle.stamp_register.specs.Keys.{KeyValue, key_le, same_key, key_rank}
 use Rattle.replica_state.specs.declared.point.Counted.TheVariants as kinds
 use Rattle.replica_state.specs.declared.point.Count.{Count}
+use Rattle.replica_state.specs.declared.point.Counted.{Counted}
 use Rattle.replica_state.specs.Operations.{Hits, Execs, Shifts, Operation, Set, Count as Counting, same_cell, IsWellFormed}
 use Rattle.replica_state.specs.Folds.{fold, names_of, greater, key_in, key_of, number_at, at_key, name_in, holds_name}
 use Rattle.replica_state.specs.States.{State, with_name}
 use Rattle.replica_state.specs.Points.{standing, learned}
-use Rattle.replica_state.specs.OpSets.{held_at, with_held, key_told, count_told}
+use Rattle.replica_state.specs.OpSets.{held_at, with_held, key_told, count_told, cell_told, operation_told}
 use Rattle.replica_state.proofs.Orders.{key_le-trans, key_le-other, same_key-cmp, same_key-true, same_key-refl, bytes_eq-true}
 use Rattle.replica_state.proofs.FoldSteps.{max_zero}
 
@@ -218,3 +219,20 @@ well_formed-holds (Counting (Shifts n key term from to) m) h = refl
 -- with its parts by themselves
 pub added_parts : (v : State) (o : Operation) (name : List ℕ) (key : Option KeyValue) (count : Option Count) → name ≡ name_in o → key ≡ key_told o → count ≡ count_told o → IsWellFormed o → (ops : List Operation) → v ≡ fold ops → with_held name (learned key count (held_at v name)) v ≡ fold (o ∷ ops)
 added_parts v o name key count n k c h ops e = (λ i. with_held (n i) (learned (k i) (c i) (held_at v (n i))) v) ∙ added v o (well_formed-holds o h) ops e
+
+-- the same of what a setting or a count tells
+pub added_told : (v : State) (name : List ℕ) (key : KeyValue) (told : Option Count) (carried : Option KeyValue) → ((n : List ℕ) → carried ≡ key_told (operation_told n key told)) → IsWellFormed (operation_told name key told) → (ops : List Operation) → v ≡ fold ops → with_held name (learned carried told (held_at v name)) v ≡ fold (operation_told name key told ∷ ops)
+added_told v name key told carried k h ops e = added_parts v (operation_told name key told) name carried told (named told) (k name) (counted told) h ops e
+  where
+    of_cell : (c : Counted) (n : ℕ) → (name ≡ name_in (Counting (cell_told name key c) n)) × (Some (record { counted = c; number = n }) ≡ count_told (Counting (cell_told name key c) n))
+    of_cell (kinds.Hits node) n = (refl, refl)
+    of_cell (kinds.Execs term node) n = (refl, refl)
+    of_cell (kinds.Shifts term from to) n = (refl, refl)
+
+    named : (t : Option Count) → name ≡ name_in (operation_told name key t)
+    named None = refl
+    named (Some t) = (of_cell t.counted t.number).0
+
+    counted : (t : Option Count) → t ≡ count_told (operation_told name key t)
+    counted None = refl
+    counted (Some t) = (of_cell t.counted t.number).1

@@ -90,3 +90,13 @@ count_told (Set n key) = None
 count_told (Count (cells.Hits n node) number) = Some (record { counted = Hits node; number = number })
 count_told (Count (cells.Execs n key term node) number) = Some (record { counted = Execs term node; number = number })
 count_told (Count (cells.Shifts n key term from to) number) = Some (record { counted = Shifts term from to; number = number })
+
+-- the operation of a name and its key that a setting or a count tells
+abbrev pub cell_told : List ℕ → KeyValue → Counted → cells.Cell
+cell_told name key (Hits node) = cells.Hits name node
+cell_told name key (Execs term node) = cells.Execs name key term node
+cell_told name key (Shifts term from to) = cells.Shifts name key term from to
+
+abbrev pub operation_told : List ℕ → KeyValue → Option Counting → Operation
+operation_told name key None = Set name key
+operation_told name key (Some told) = Count (cell_told name key told.counted) told.number

@@ -16,4 +16,5 @@ mod tests;
 pub use matrix::Matrix;
 pub use op::Op;
 pub use op_set::OpSet;
+pub use point::{Count, Counted};
 pub use replica::Replica;

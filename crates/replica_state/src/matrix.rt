@@ -14,7 +14,7 @@ ghost use Rattle.replica_state.specs.Slots.{IsTold, slot_held, slot_key, slot_nu
 ghost use Rattle.replica_state.specs.declared.point.Counted.TheVariants.{Hits, Execs};
 
 use crate::op::Op;
-use crate::point::{Count, Counted};
+use crate::point::{Count, Counted, key_with};
 use crate::replica::Replica;
 use crate::slot::{self, Slot};
 use actions::Name;
@@ -41,7 +41,7 @@ impl Matrix {
     }
 
     // Learns what an operation of a name says that has this key or none, and this count or none.
-    fn learn(
+    fn take_told(
         &mut self,
         alloc: Global,
         name: &Name,
@@ -136,7 +136,17 @@ impl Replica for Matrix {
     }
 
     fn add(&mut self, alloc: Global, op: &Op) -> Result<(), AllocError> {
-        self.learn(alloc, op.name(), op.key(), op.count())
+        self.take_told(alloc, op.name(), op.key(), op.count())
+    }
+
+    fn learn(
+        &mut self,
+        alloc: Global,
+        name: &Name,
+        key: &Key,
+        told: Option<Count>,
+    ) -> Result<(), AllocError> {
+        self.take_told(alloc, name, key_with(key, told), told)
     }
 
     fn set_key(&mut self, alloc: Global, name: Name, key: Key) -> Result<(), AllocError> {

@@ -13,7 +13,7 @@ ghost use Rattle.replica_state.specs.Unions.{both_held, union_of, IsHeldBelow};
 ghost use Rattle.replica_state.specs.OpSets.{state_of, cell_of, held_at, with_held, no_points, IsSet, IsSetBelow};
 
 use crate::op::Op;
-use crate::point::{Count, Counted, Point};
+use crate::point::{Count, Counted, Point, key_with};
 use crate::replica::Replica;
 use actions::Name;
 use lattice_laws::Join;
@@ -50,7 +50,7 @@ impl OpSet {
     }
 
     // Learns what an operation of a name says that has this key or none, and this count or none.
-    fn learn(
+    fn take_told(
         &mut self,
         alloc: Global,
         name: &Name,
@@ -170,7 +170,17 @@ impl Replica for OpSet {
     }
 
     fn add(&mut self, alloc: Global, op: &Op) -> Result<(), AllocError> {
-        self.learn(alloc, op.name(), op.key(), op.count())
+        self.take_told(alloc, op.name(), op.key(), op.count())
+    }
+
+    fn learn(
+        &mut self,
+        alloc: Global,
+        name: &Name,
+        key: &Key,
+        told: Option<Count>,
+    ) -> Result<(), AllocError> {
+        self.take_told(alloc, name, key_with(key, told), told)
     }
 
     fn set_key(&mut self, alloc: Global, name: Name, key: Key) -> Result<(), AllocError> {

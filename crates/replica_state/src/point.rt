@@ -9,6 +9,7 @@ ghost use Rattle.counters.specs.Budgets.{rights, total_spent};
 ghost use Rattle.stamp_register.specs.Keys.{key_value};
 ghost use Rattle.replica_state.specs.Points.{same_counted, is_hits, term_of, number_of, raised, fresh, budget_under, nothing, held_of, standing, learned, passed, moved};
 ghost use Rattle.replica_state.specs.Unions.{both_held, if_counts, IsHeldBelow};
+ghost use Rattle.replica_state.specs.OpSets.{key_told, operation_told};
 ghost use Rattle.replica_state.specs.declared.point.Counted.{Counted};
 ghost use Rattle.replica_state.specs.declared.point.Counted.TheVariants.{Hits, Execs};
 
@@ -17,9 +18,9 @@ use stamp_register::Key;
 use std::alloc::{AllocError, Global};
 use std::cmp::Ordering;
 
-/// What a count counts.
+/// What is counted of a point: its hits and, under its key, executions and shifted rights.
 #[derive(Clone, Copy, Debug)]
-pub(crate) enum Counted {
+pub enum Counted {
     /// The hits of a node.
     Hits { node: u8 },
     /// The executions of a term at a node.
@@ -28,11 +29,11 @@ pub(crate) enum Counted {
     Shifts { term: u8, from: u8, to: u8 },
 }
 
-/// A number of what is counted.
+/// How much was counted of one thing, in all.
 #[derive(Clone, Copy, Debug)]
-pub(crate) struct Count {
-    pub(crate) counted: Counted,
-    pub(crate) number: u64,
+pub struct Count {
+    pub counted: Counted,
+    pub number: u64,
 }
 
 /// What nothing has overtaken of one name: its key, and counts of hits and under that key. Where
@@ -45,7 +46,7 @@ pub(crate) struct Point {
 
 impl Counted {
     /// The count that says so many.
-    pub(crate) fn times(self, number: u64) -> Count
+    pub fn times(self, number: u64) -> Count
         ensures { result ≡ record { counted = self; number = number } }
     {
         Count {
@@ -98,6 +99,20 @@ impl Counted {
         ensures { result ≡ (same_key || is_hits self) }
     {
         same_key || self.is_hits()
+    }
+}
+
+/// The key that goes with what is told of a name: with a setting and with what is counted under the
+/// key. A hit belongs to no key.
+pub(crate) fn key_with<'a>(key: &'a Key, told: Option<Count>) -> Option<&'a Key>
+    ensures { (name : List ℕ) → option_map key_value (option_copied result) ≡ key_told (operation_told name (key_value key.now) told) }
+{
+    match told {
+        None => Some(key),
+        Some(count) => match count.counted {
+            Counted::Hits { .. } => None,
+            _ => Some(key),
+        },
     }
 }
 

@@ -6,10 +6,12 @@ ghost use Rattle.stamp_register.specs.Keys.{key_value};
 ghost use Rattle.replica_state.specs.Operations.{Operation, operation, IsWellFormed};
 ghost use Rattle.replica_state.specs.States.{State, with_name, with_key, with_pass, with_shifts, total_hits, rights_of, spent_of};
 ghost use Rattle.replica_state.specs.Folds.{fold};
+ghost use Rattle.replica_state.specs.OpSets.{operation_told};
 ghost use Rattle.replica_state.specs.StateOrder.{OrdersByState};
 ghost use Rattle.replica_state.specs.Unions.{with_names};
 
 use crate::op::Op;
+use crate::point::Count;
 use actions::Name;
 use lattice_laws::Join;
 use stamp_register::Key;
@@ -29,6 +31,21 @@ pub trait Replica: Join {
     fn add(&mut self, alloc: Global, op: &Op) -> Result<(), AllocError>
         requires { IsWellFormed (operation op.now) }
         ensures ok { OnOk result ((ops : List Operation) → state self.old ≡ fold ops → state self.new ≡ fold (operation op.now ∷ ops)) }
+        ensures err { OnErr result (state self.new ≡ state self.old) };
+
+    /// Learns an operation of a point without a copy of its key being made for it: its setting or,
+    /// with a count, what is counted of the point, which of a hit is under no key. Where the state
+    /// was that of some set, it is then that of the set with the operation. On want of memory the
+    /// state is as it was.
+    fn learn(
+        &mut self,
+        alloc: Global,
+        name: &Name,
+        key: &Key,
+        told: Option<Count>,
+    ) -> Result<(), AllocError>
+        requires { IsWellFormed (operation_told name.now (key_value key.now) told) }
+        ensures ok { OnOk result ((ops : List Operation) → state self.old ≡ fold ops → state self.new ≡ fold (operation_told name.now (key_value key.now) told ∷ ops)) }
         ensures err { OnErr result (state self.new ≡ state self.old) };
 
     /// Gives a point another key, of which nothing was executed or shifted yet.

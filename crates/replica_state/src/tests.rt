@@ -7,6 +7,7 @@ mod joins;
 mod merges;
 mod mixed;
 mod steps;
+mod told;
 
 use super::*;
 use crate::budget::count_of;

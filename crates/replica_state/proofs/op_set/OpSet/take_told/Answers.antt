@@ -9,7 +9,7 @@ use Rattle.replica_state.specs.Points.{learned}
 use Rattle.replica_state.specs.OpSets.{state_of, shown, point_at, held_at, with_held}
 use Rattle.replica_state.proofs.Learned.{on_ok, on_err}
 use Rattle.replica_state.proofs.Shown.{lent_step, kept_step, added_step}
-use Rattle.replica_state.proofs.op_set.OpSet.learn.Goals as goal
+use Rattle.replica_state.proofs.op_set.OpSet.take_told.Goals as goal
 
 pub returns-in-Some-clause-ok : goal.returns-in-Some-clause-ok
 unfolding state_of

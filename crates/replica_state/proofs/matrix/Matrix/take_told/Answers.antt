@@ -7,7 +7,7 @@ use Rattle.replica_state.specs.Slots.{matrix_state, slot_held}
 use Rattle.replica_state.proofs.Learned.{on_ok, on_err}
 use Rattle.replica_state.proofs.SlotLemmas.{not_found}
 use Rattle.replica_state.proofs.Slots.{changed_to, unchanged, added_to, held_found, held_absent, told_not_bottom, none_told}
-use Rattle.replica_state.proofs.matrix.Matrix.learn.Goals as goal
+use Rattle.replica_state.proofs.matrix.Matrix.take_told.Goals as goal
 
 pub returns-in-Some-clause-ok : goal.returns-in-Some-clause-ok
 unfolding matrix_state
