@@ -10,3 +10,5 @@ pub mod WiderLemmas
 pub mod Examples
 pub mod ToldLemmas
 pub mod LawfulLemmas
+pub mod Entries
+pub mod ToldSteps

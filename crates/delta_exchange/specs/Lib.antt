@@ -3,3 +3,4 @@ pub mod Messages
 pub mod Spelling
 pub mod Reading
 pub mod Wholes
+pub mod Told

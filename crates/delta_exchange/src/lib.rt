@@ -28,12 +28,14 @@ mod cells;
 mod entry;
 mod fault;
 pub mod laws;
+mod learning;
 mod message;
 mod reading;
 mod wire;
 mod writing;
 
 pub use fault::WireFault;
+pub use learning::told;
 pub use message::{Message, NameEntry};
 pub use reading::decode;
 pub use writing::encode;

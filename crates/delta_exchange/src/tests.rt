@@ -3,6 +3,7 @@
 
 mod altered;
 mod faults;
+mod known;
 mod whole;
 
 use super::*;

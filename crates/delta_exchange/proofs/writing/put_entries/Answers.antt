@@ -1,14 +1,9 @@
-use Rattle.std.proofs.Common.{ℕ, List, [], ◌∷◌, map}
-use Rattle.std.specs.List.{AllByRecursion}
 use Rattle.std.proofs.lemmas.List.Elements.{All-from_recursion}
 use Rattle.delta_exchange.specs.declared.message.NameEntry.{NameEntry}
 use Rattle.delta_exchange.specs.Messages.{entry_value}
 use Rattle.delta_exchange.specs.Spelling.{IsEntry}
+use Rattle.delta_exchange.proofs.Entries.{each_is}
 use Rattle.delta_exchange.proofs.writing.put_entries.Goals as goal
-
-each_is : (nodes : ℕ) (es : List NameEntry) → AllByRecursion (IsEntry nodes) (map entry_value es) → AllByRecursion (λ e. IsEntry nodes (entry_value e)) es
-each_is nodes [] h = tt
-each_is nodes (e ∷ es) h = (h.0, each_is nodes es h.1)
 
 pub put_entry-requires : goal.put_entry-requires
 put_entry-requires c =

@@ -1,0 +1,22 @@
+use Rattle.std.proofs.Common.{sym, subst}
+use Rattle.std.proofs.lemmas.List.Elements.{All-from_recursion}
+use Rattle.delta_exchange.specs.declared.message.NameEntry.{NameEntry}
+use Rattle.delta_exchange.specs.Messages.{entry_value, operations_of}
+use Rattle.delta_exchange.specs.Spelling.{IsEntry}
+use Rattle.delta_exchange.specs.Told.{HasLearned}
+use Rattle.delta_exchange.proofs.Entries.{each_is}
+use Rattle.delta_exchange.proofs.ToldSteps.{learned_next_entry}
+use Rattle.delta_exchange.proofs.learning.told.Goals as goal
+
+pub learn_entry-requires : goal.learn_entry-requires
+learn_entry-requires g c =
+    let entries = c.args.message.now.entries.items in
+    let nodes = c.requires.0 in
+    let all = All-from_recursion (λ (e : NameEntry). IsEntry nodes (entry_value e)) entries (each_is nodes entries c.requires.1.entries.each) in
+    (nodes, subst (λ (e : NameEntry). IsEntry nodes (entry_value e)) (sym (rw c.deref-entry-items.ensures.value at c.entry-item.is)) (all c.loop-entry.entry-index c.entry-item.result (rw c.deref-entry-items.ensures.value at c.loop-entry-test.true)))
+
+pub loop-entry-preserved : goal.loop-entry-preserved
+loop-entry-preserved g c =
+    let state = g.R.Replica.state in
+    let learned = subst (λ (e : NameEntry). HasLearned (state c.loop-entry.replica) (state c.learn_entry.new.replica) (operations_of (entry_value e))) (rw c.deref-entry-items.ensures.value at c.entry-item.is) c.in_ok-learn_entry.ensures in
+    learned_next_entry c.args.message.now.entries.items (state c.empty-replica.result) (state c.loop-entry.replica) (state c.learn_entry.new.replica) c.loop-entry.entry-index c.entry-item.result (rw c.deref-entry-items.ensures.value at c.loop-entry-test.true) c.loop-entry.invariant learned
