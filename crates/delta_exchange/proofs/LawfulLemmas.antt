@@ -6,7 +6,7 @@ use Rattle.std.proofs.lemmas.List.Concat.{flat_map-cons}
 use Rattle.stamp_register.specs.Keys.{KeyValue}
 use Rattle.replica_state.specs.Operations.{Operation, Set, Count, Hits, Execs, Shifts, IsIn}
 use Rattle.replica_state.specs.Folds.{key_in, key_of}
-use Rattle.replica_state.proofs.Orders.{bytes_eq-refl}
+use Rattle.replica_state.proofs.KnownSets.{own_name}
 use Rattle.replica_state.proofs.Sets.{IsIn-append_left, IsIn-append_right, IsIn-append_cases, KeyUpto, key_of-is_in, key_of-mono}
 use Rattle.delta_exchange.specs.Messages.{EntryValue, MessageValue, operations_of, operations_in}
 use Rattle.delta_exchange.specs.Spelling.{IsHit, IsExec, IsShift, IsEntry, IsMessage}
@@ -45,9 +45,13 @@ some_upto None b upto h = absurd cc
 some_upto (Some k) None upto h = absurd upto
 some_upto (Some k) (Some l) upto h = refl
 
--- a name that is set has a key
+-- a name of which an operation carries a key has one
+pub is_keyed : (name : List ℕ) (key : KeyValue) (op : Operation) (ops : List Operation) → IsIn op ops → key_in name op ≡ Some key → IsTrue (is_some (key_of name ops))
+is_keyed name key op ops h e = some_upto (key_in name op) (key_of name ops) (key_of-is_in name op ops h) (ap is_some e)
+
+-- so has one that is set
 pub set_is_keyed : (name : List ℕ) (key : KeyValue) (ops : List Operation) → IsIn (Set name key) ops → IsTrue (is_some (key_of name ops))
-set_is_keyed name key ops h = some_upto (key_in name (Set name key)) (key_of name ops) (key_of-is_in name (Set name key) ops h) (rw (bytes_eq-refl name) refl)
+set_is_keyed name key ops h = is_keyed name key (Set name key) ops h (own_name name key)
 
 -- a name with a key has one with more operations
 pub keyed_with_more : (name : List ℕ) (a b : List Operation) → ((op : Operation) → IsIn op a → IsIn op b) → IsTrue (is_some (key_of name a)) → IsTrue (is_some (key_of name b))

@@ -12,3 +12,8 @@ pub mod ToldLemmas
 pub mod LawfulLemmas
 pub mod Entries
 pub mod ToldSteps
+pub mod LawfulStates
+pub mod BelowLemmas
+pub mod HeldCells
+pub mod HeldEntries
+pub mod WholeLemmas

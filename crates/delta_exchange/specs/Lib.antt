@@ -4,3 +4,4 @@ pub mod Spelling
 pub mod Reading
 pub mod Wholes
 pub mod Told
+pub mod Cells

@@ -25,7 +25,7 @@ fn read_value(whole: Whole, rest: &[u8]) -> Result<(u64, &[u8]), WireFault>
 }
 
 /// Whether the key sets a counted term of this number.
-fn is_counted(key: &Key, term: u8) -> bool
+pub(crate) fn is_counted(key: &Key, term: u8) -> bool
     ensures { result ≡ is_some (count_of (key_value key.now) term) }
 {
     let term = key.actions().and_then(|actions| actions.term(term));

@@ -27,6 +27,7 @@
 mod cells;
 mod entry;
 mod fault;
+mod held;
 pub mod laws;
 mod learning;
 mod message;
@@ -36,6 +37,7 @@ mod writing;
 
 pub use fault::WireFault;
 pub use learning::told;
+pub use held::whole;
 pub use message::{Message, NameEntry};
 pub use reading::decode;
 pub use writing::encode;

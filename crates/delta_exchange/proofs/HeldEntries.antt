@@ -1,0 +1,210 @@
+-- The entries of a state: which they are, in which order they stand, that they can be written, and in how many bytes.
+use Rattle.std.proofs.Common.{◌≡◌, ℕ, zero, suc, ◌*◌, ◌<◌, ◌≤◌, ◌^◌, ◌&&◌, true, false, List, [], ◌∷◌, length, map, ⊎_elim, inl, inr, Option, Some, None, refl, sym, ap, subst, ◌∙◌, length-append, arith}
+use Rattle.std.specs.Prelude.{is_some, IsTrue, nat_lt, nat_le, slice_get}
+use Rattle.std.specs.List.{list_all}
+use Rattle.std.specs.Ordering.{nat_cmp}
+use Rattle.std.specs.Cmp.Lexicographic.{slice_cmp}
+use Rattle.std.specs.declared.cmp.Ordering.TheVariants.{Less}
+use Rattle.std.proofs.lemmas.Bool.{cases_lt, and_parts}
+use Rattle.std.proofs.lemmas.Bool.Decides.{nat_tests}
+use Rattle.std.proofs.lemmas.Option.{slice_get_past}
+use Rattle.actions.specs.Limits.{max_name}
+use Rattle.actions.specs.Names.{is_name_byte, is_name}
+use Rattle.actions.proofs.Complete.{reading_complete}
+use Rattle.stamp_register.specs.Keys.{KeyValue, terms_read, terms_in_text, terms_set}
+use Rattle.replica_state.specs.Operations.{IsIn, count_in, count_under, count_of}
+use Rattle.replica_state.specs.States.{State}
+use Rattle.replica_state.proofs.Names.{IsAscending}
+use Rattle.delta_exchange.specs.Messages.{EntryValue}
+use Rattle.delta_exchange.specs.Spelling.{IsHit, IsExec, IsShift, IsBody, IsKey, IsEntry, hit_bytes, exec_bytes, shift_bytes, body_bytes, entry_bytes}
+use Rattle.delta_exchange.specs.Cells.{hit_cells, exec_cells, shift_cells, entry_of, entry_under, entry_at, entries_of, EntryFits}
+use Rattle.delta_exchange.proofs.LawfulLemmas.{one_of, all_of}
+use Rattle.delta_exchange.proofs.LawfulStates.{IsLawfulState}
+use Rattle.delta_exchange.proofs.BelowLemmas.{ascends, below_in, in_below, length_below, ascending_below, length_flat}
+use Rattle.delta_exchange.proofs.HeldCells.{hit_member, few_hits, hits_ascend, exec_member, few_execs, execs_ascend, shift_member, few_shifts, shifts_ascend}
+
+-- ---- names by their places
+
+place_in : (names : List (List ℕ)) (name : List ℕ) → IsIn name names → (i : ℕ) × (i < length names) × (slice_get names i ≡ Some name)
+place_in [] name h = absurd h
+place_in (n ∷ names) name (inl e) = (0, omega arith, ap Some (sym e))
+place_in (n ∷ names) name (inr h) =
+    let r = place_in names name h in
+    (suc r.0, omega (arith, r.1), r.2)
+
+get_in : (names : List (List ℕ)) (i : ℕ) (name : List ℕ) → slice_get names i ≡ Some name → IsIn name names
+get_in [] i name e = absurd cc
+get_in (n ∷ names) zero name e = let same : n ≡ name = cc in inl (sym same)
+get_in (n ∷ names) (suc i) name e = inr (get_in names i name e)
+
+get_less : (names : List (List ℕ)) (i j : ℕ) (a b : List ℕ) → IsAscending names → i < j → slice_get names i ≡ Some a → slice_get names j ≡ Some b → slice_cmp nat_cmp a b ≡ Less
+get_less [] i j a b h lt e f = absurd cc
+get_less (n ∷ names) i zero a b h lt e f = absurd (omega (arith, lt))
+get_less (n ∷ names) zero (suc j) a b h lt e f =
+    let same : n ≡ a = cc in
+    subst (λ m. slice_cmp nat_cmp m b ≡ Less) same (h.0 b (get_in names j b f))
+get_less (n ∷ names) (suc i) (suc j) a b h lt e f = get_less names i j a b h.1 (omega (arith, lt)) e f
+
+-- ---- terms of a key
+
+body_below : (body : Option (List ℕ)) (term : ℕ) → IsBody body → IsTrue (is_some (count_under (terms_set body) term)) → term < 16
+unfolding terms_in_text
+body_below None term h counted = absurd cc
+body_below (Some text) term h counted = ⊎_elim (λ lt. lt) (λ more. absurd (none more)) (cases_lt term 16)
+  where
+    read : terms_in_text text ≡ Some h.1
+    read = ap terms_read (reading_complete text h.1 h.2)
+
+    none : 16 ≤ term → ⊥
+    none more =
+        let few = h.2.few in
+        let past = slice_get_past h.1 term (omega (arith, few, more)) in
+        let uncounted : count_under (terms_in_text text) term ≡ None = ap (λ terms. count_under terms term) read ∙ ap count_in past in
+        let impossible : false ≡ true = subst (λ (count : Option ℕ). IsTrue (is_some count)) uncounted counted in
+        cc
+
+pub term_below : (nodes : ℕ) (key : KeyValue) (term : ℕ) → IsKey nodes key → IsTrue (is_some (count_of key term)) → term < 16
+term_below nodes key term h counted = body_below key.body term h.body counted
+
+-- ---- which entries there are
+
+module _ (v : State) (nodes : ℕ) where
+  record IsEntryAt (place : Option (List ℕ)) (e : EntryValue) : Type 0 where
+    pub name : List ℕ
+    pub key : KeyValue
+    pub found : place ≡ Some name
+    pub keyed : v.key name ≡ Some key
+    pub is : e ≡ entry_of v nodes name key
+
+  pub record IsEntryHeld (e : EntryValue) : Type 0 where
+    pub name : List ℕ
+    pub key : KeyValue
+    pub held : IsIn name v.names
+    pub keyed : v.key name ≡ Some key
+    pub is : e ≡ entry_of v nodes name key
+
+  in_under : (name : List ℕ) (k : Option KeyValue) (e : EntryValue) → IsIn e (entry_under v nodes name k) → (key : KeyValue) × (k ≡ Some key) × (e ≡ entry_of v nodes name key)
+  in_under name None e h = absurd h
+  in_under name (Some key) e (inl s) = (key, refl, s)
+  in_under name (Some key) e (inr h) = absurd h
+
+  in_place : (place : Option (List ℕ)) (e : EntryValue) → IsIn e (entry_at v nodes place) → IsEntryAt place e
+  in_place None e h = absurd h
+  in_place (Some name) e h =
+      let r = in_under name (v.key name) e h in
+      record { name = name; key = r.0; found = refl; keyed = r.1; is = r.2 }
+
+  pub entry_member : (e : EntryValue) → IsIn e (entries_of v nodes) → IsEntryHeld e
+  entry_member e h =
+      let r = below_in (λ index. entry_at v nodes (slice_get v.names index)) (length v.names) e h in
+      let one = in_place (slice_get v.names r.0) e r.2 in
+      record { name = one.name; key = one.key; held = get_in v.names r.0 one.name one.found; keyed = one.keyed; is = one.is }
+
+  pub member_entry : (name : List ℕ) (key : KeyValue) → IsIn name v.names → v.key name ≡ Some key → IsIn (entry_of v nodes name key) (entries_of v nodes)
+  member_entry name key h e =
+      let r = place_in v.names name h in
+      in_below (λ index. entry_at v nodes (slice_get v.names index)) (length v.names) r.0 (entry_of v nodes name key) r.1
+      (subst (λ place. IsIn (entry_of v nodes name key) (entry_at v nodes place)) (sym r.2)
+      (subst (λ k. IsIn (entry_of v nodes name key) (entry_under v nodes name k)) (sym e) (inl refl)))
+
+  one_under : (name : List ℕ) (k : Option KeyValue) → length (entry_under v nodes name k) ≤ 1
+  one_under name None = omega arith
+  one_under name (Some key) = omega arith
+
+  one_at : (place : Option (List ℕ)) → length (entry_at v nodes place) ≤ 1
+  one_at None = omega arith
+  one_at (Some name) = one_under name (v.key name)
+
+  pub few_entries : length v.names ≤ 256 → length (entries_of v nodes) ≤ 256 * 1
+  few_entries few = length_below (λ index. entry_at v nodes (slice_get v.names index)) 1 (length v.names) 256 few (λ index. one_at (slice_get v.names index))
+
+  under_ascends : (name : List ℕ) (k : Option KeyValue) → IsAscending (map (λ e. e.name) (entry_under v nodes name k))
+  under_ascends name None = tt
+  under_ascends name (Some key) = (λ m h. absurd h, tt)
+
+  at_ascends : (place : Option (List ℕ)) → IsAscending (map (λ e. e.name) (entry_at v nodes place))
+  at_ascends None = tt
+  at_ascends (Some name) = under_ascends name (v.key name)
+
+  pub entries_ascend : IsAscending v.names → IsAscending (map (λ e. e.name) (entries_of v nodes))
+  entries_ascend h = ascending_below (λ index. entry_at v nodes (slice_get v.names index)) (λ (e : EntryValue). e.name) (length v.names)
+      (λ index. at_ascends (slice_get v.names index))
+      (λ i j c d lt k l.
+      let a = in_place (slice_get v.names i) c k in
+      let b = in_place (slice_get v.names j) d l in
+      rw (a.is, b.is) (get_less v.names i j a.name b.name h lt a.found b.found))
+
+  -- ---- they can be written
+
+  module _ (lawful : IsLawfulState nodes v) (few : nodes ≤ 16) where
+    hit_is : (name : List ℕ) (c : ℕ × ℕ) → c.1 < 2 ^ 64 → IsIn c (hit_cells v name nodes) → IsHit nodes c
+    hit_is name c fits h =
+        let r = hit_member v name nodes c h in
+        let a : c.0 ≡ r.node = ap (λ (x : ℕ × ℕ). x.0) r.is in
+        let b : c.1 ≡ v.hits name r.node = ap (λ (x : ℕ × ℕ). x.1) r.is in
+        (omega (arith, a, r.below), (omega (arith, b, r.some), fits))
+
+    exec_is : (name : List ℕ) (key : KeyValue) (c : ℕ × ℕ × ℕ) → c.2 < 2 ^ 64 → IsIn c (exec_cells v name key nodes) → IsExec nodes key c
+    exec_is name key c fits h =
+        let r = exec_member v name nodes key c h in
+        let t : c.0 ≡ r.term = ap (λ (x : ℕ × ℕ × ℕ). x.0) r.row.is in
+        let a : c.1 ≡ r.row.node = ap (λ (x : ℕ × ℕ × ℕ). x.1) r.row.is in
+        let b : c.2 ≡ v.execs name r.term r.row.node = ap (λ (x : ℕ × ℕ × ℕ). x.2) r.row.is in
+        ((subst (λ term. IsTrue (is_some (count_of key term))) (sym t) r.counted, omega (arith, t, r.below)), omega (arith, a, r.row.below), (omega (arith, b, r.row.some), fits))
+
+    shift_is : (name : List ℕ) (key : KeyValue) (c : ℕ × ℕ × ℕ × ℕ) → c.3 < 2 ^ 64 → IsIn c (shift_cells v name key nodes) → IsShift nodes key c
+    shift_is name key c fits h =
+        let r = shift_member v name nodes key c h in
+        let t : c.0 ≡ r.term = ap (λ (x : ℕ × ℕ × ℕ × ℕ). x.0) r.rows.row.is in
+        let a : c.1 ≡ r.rows.from = ap (λ (x : ℕ × ℕ × ℕ × ℕ). x.1) r.rows.row.is in
+        let b : c.2 ≡ r.rows.row.to = ap (λ (x : ℕ × ℕ × ℕ × ℕ). x.2) r.rows.row.is in
+        let d : c.3 ≡ v.shifts name r.term r.rows.from r.rows.row.to = ap (λ (x : ℕ × ℕ × ℕ × ℕ). x.3) r.rows.row.is in (
+          (subst (λ term. IsTrue (is_some (count_of key term))) (sym t) r.counted, omega (arith, t, r.below)),
+          omega (arith, a, r.rows.below),
+          omega (arith, b, r.rows.row.below),
+          λ e. r.rows.row.apart (sym b ∙ e ∙ a),
+          (omega (arith, d, r.rows.row.some), fits),
+        )
+
+    pub entry_is : (name : List ℕ) (key : KeyValue) → IsIn name v.names → v.key name ≡ Some key → EntryFits (entry_of v nodes name key) → IsEntry nodes (entry_of v nodes name key)
+    entry_is name key held keyed fits =
+        let hits = few_hits v name nodes few in
+        let execs = few_execs v name nodes key few in
+        let shifts = few_shifts v name nodes key few in
+        record {
+          name = lawful.named name held;
+          key = lawful.key name key keyed;
+          few_hits = omega (arith, hits);
+          hits = all_of (IsHit nodes) (hit_cells v name nodes) (λ c h. hit_is name c (one_of (λ (x : ℕ × ℕ). x.1 < 2 ^ 64) (hit_cells v name nodes) fits.0 c h) h);
+          hits_ascend = ascends _ (hits_ascend v name nodes);
+          few_execs = omega (arith, execs);
+          execs = all_of (IsExec nodes key) (exec_cells v name key nodes) (λ c h. exec_is name key c (one_of (λ (x : ℕ × ℕ × ℕ). x.2 < 2 ^ 64) (exec_cells v name key nodes) fits.1 c h) h);
+          execs_ascend = ascends _ (execs_ascend v name nodes key);
+          few_shifts = omega (arith, shifts);
+          shifts = all_of (IsShift nodes key) (shift_cells v name key nodes) (λ c h. shift_is name key c (one_of (λ (x : ℕ × ℕ × ℕ × ℕ). x.3 < 2 ^ 64) (shift_cells v name key nodes) fits.2 c h) h);
+          shifts_ascend = ascends _ (shifts_ascend v name nodes key);
+        }
+
+-- ---- in how many bytes
+
+body_short : (body : Option (List ℕ)) → IsBody body → length (body_bytes body) ≤ 1027
+body_short None h = omega arith
+body_short (Some text) h =
+    let short = h.2.short in
+    simp length-append (omega (arith, short))
+
+name_short : (name : List ℕ) → IsTrue (is_name name) → length name ≤ 128
+name_short name h =
+    let size = and_parts (nat_lt 0 (length name) && nat_le (length name) max_name) (list_all is_name_byte name) h in
+    let most = and_parts (nat_lt 0 (length name)) (nat_le (length name) max_name) size.0 in
+    let e : nat_le (length name) 128 ≡ true = most.1 in
+    grind (arith, nat_tests)
+
+pub entry_short : (nodes : ℕ) (e : EntryValue) → IsEntry nodes e → length e.hits ≤ 16 → length e.execs ≤ 256 → length e.shifts ≤ 4096 → length (entry_bytes e) ≤ 48930
+entry_short nodes e h hits execs shifts =
+    let name = name_short e.name h.name in
+    let body = body_short e.key.body h.key.body in
+    let a = length_flat hit_bytes 9 e.hits (λ c i. omega arith) in
+    let b = length_flat exec_bytes 10 e.execs (λ c i. omega arith) in
+    let d = length_flat shift_bytes 11 e.shifts (λ c i. omega arith) in
+    simp length-append (omega (arith, name, body, a, b, d, hits, execs, shifts))

@@ -1,0 +1,163 @@
+-- All that a state holds, as a message: it can be written, and it tells the state.
+use Rattle.std.proofs.Common.{◌≡◌, ◌≢◌, ℕ, ◌<◌, ◌≤◌, ◌⊎◌, inl, inr, List, [], ◌++◌, length, map, Option, Some, None, refl, sym, ap, subst, ◌∙◌, length-append, arith}
+use Rattle.std.specs.Prelude.{is_some, IsTrue}
+use Rattle.std.specs.List.{flat_map}
+use Rattle.stamp_register.specs.Keys.{KeyValue}
+use Rattle.replica_state.specs.Operations.{Operation, Set, Count, Hits, Execs, Shifts, IsIn}
+use Rattle.replica_state.specs.States.{State}
+use Rattle.replica_state.specs.Folds.{fold}
+use Rattle.replica_state.specs.Deltas.{IsSameAt, IsInDelta, IsDelta}
+use Rattle.replica_state.proofs.Sets.{IsIn-append_left, IsIn-append_right}
+use Rattle.delta_exchange.specs.Messages.{EntryValue, operations_of, operations_in}
+use Rattle.delta_exchange.specs.Spelling.{IsEntry, IsMessage, entry_bytes, message_bytes, max_message}
+use Rattle.delta_exchange.specs.Wholes.{AreLawful, IsWhole}
+use Rattle.delta_exchange.specs.Cells.{hit_cells, exec_cells, shift_cells, entry_of, entries_of, whole_of, EntryFits, EntriesFit}
+use Rattle.delta_exchange.proofs.LawfulLemmas.{one_of, all_of, mapped_in, hit_told, exec_told, shift_told, told_of, told_by, tells}
+use Rattle.delta_exchange.proofs.LawfulStates.{IsLawfulState, lawful_state}
+use Rattle.delta_exchange.proofs.BelowLemmas.{ascends, length_flat}
+use Rattle.delta_exchange.proofs.HeldCells.{hit_member, member_hit, few_hits, exec_member, member_exec, few_execs, shift_member, member_shift, few_shifts}
+use Rattle.delta_exchange.proofs.HeldEntries.{term_below, entry_member, member_entry, few_entries, entries_ascend, entry_is, entry_short}
+
+some_key : (o : Option KeyValue) → IsTrue (is_some o) → (key : KeyValue) × (o ≡ Some key)
+some_key None h = absurd cc
+some_key (Some key) h = (key, refl)
+
+-- where no key was before, the setting is new
+unset : (v : State) (name : List ℕ) (key : KeyValue) → v.key name ≡ Some key → IsSameAt (fold []) v name → ⊥
+unfolding fold
+unset v name key e same = let impossible : None ≡ Some key = same.key ∙ e in absurd cc
+
+module _ (v : State) (nodes : ℕ) where
+  -- ---- what it tells is held
+
+  entry_tells : (name : List ℕ) (key : KeyValue) → v.key name ≡ Some key → (op : Operation) → IsIn op (operations_of (entry_of v nodes name key)) → IsInDelta (fold []) v op
+  unfolding fold
+  entry_tells name key e op h = by_kind (told_of (entry_of v nodes name key) op h)
+    where
+      by_kind : (op ≡ Set name key) ⊎ (((c : ℕ × ℕ) × IsIn c (hit_cells v name nodes) × (op ≡ hit_told (entry_of v nodes name key) c))
+          ⊎ (((c : ℕ × ℕ × ℕ) × IsIn c (exec_cells v name key nodes) × (op ≡ exec_told (entry_of v nodes name key) c))
+          ⊎ ((c : ℕ × ℕ × ℕ × ℕ) × IsIn c (shift_cells v name key nodes) × (op ≡ shift_told (entry_of v nodes name key) c))))
+          → IsInDelta (fold []) v op
+      by_kind (inl s) = subst (IsInDelta (fold []) v) (sym s) (e, unset v name key e)
+      by_kind (inr (inl (c, k, s))) =
+          let r = hit_member v name nodes c k in
+          let there : IsInDelta (fold []) v (Count (Hits name r.node) (v.hits name r.node)) = (refl, r.some, λ z. r.some (sym z)) in
+          subst (IsInDelta (fold []) v) (sym (s ∙ ap (hit_told (entry_of v nodes name key)) r.is)) there
+      by_kind (inr (inr (inl (c, k, s)))) =
+          let r = exec_member v name nodes key c k in
+          let there : IsInDelta (fold []) v (Count (Execs name key r.term r.row.node) (v.execs name r.term r.row.node)) =
+          record { of_key = e; is_now = refl; positive = r.row.some; differs = λ _ z. r.row.some (sym z) } in
+          subst (IsInDelta (fold []) v) (sym (s ∙ ap (exec_told (entry_of v nodes name key)) r.row.is)) there
+      by_kind (inr (inr (inr (c, k, s)))) =
+          let r = shift_member v name nodes key c k in
+          let there : IsInDelta (fold []) v (Count (Shifts name key r.term r.rows.from r.rows.row.to) (v.shifts name r.term r.rows.from r.rows.row.to)) =
+          record { of_key = e; is_now = refl; positive = r.rows.row.some; differs = λ _ z. r.rows.row.some (sym z) } in
+          subst (IsInDelta (fold []) v) (sym (s ∙ ap (shift_told (entry_of v nodes name key)) r.rows.row.is)) there
+
+  whole_tells : (op : Operation) → IsIn op (flat_map operations_of (entries_of v nodes)) → IsInDelta (fold []) v op
+  whole_tells op h =
+      let r = told_by (entries_of v nodes) op h in
+      let e = entry_member v nodes r.0 r.1 in
+      entry_tells e.name e.key e.keyed op (subst (λ x. IsIn op (operations_of x)) e.is r.2)
+
+  module _ (lawful : IsLawfulState nodes v) where
+    -- ---- what is held it tells
+
+    from_entry : (name : List ℕ) (key : KeyValue) (op : Operation) → IsIn name v.names → v.key name ≡ Some key → IsIn op (operations_of (entry_of v nodes name key)) → IsIn op (flat_map operations_of (entries_of v nodes))
+    from_entry name key op h e k = tells (entries_of v nodes) (entry_of v nodes name key) op (member_entry v nodes name key h e) k
+
+    with_hits : (name : List ℕ) (key : KeyValue) (c : ℕ × ℕ) → IsIn c (hit_cells v name nodes) → IsIn (Count (Hits name c.0) c.1) (operations_of (entry_of v nodes name key))
+    with_hits name key c h =
+        let e = entry_of v nodes name key in
+        inr (IsIn-append_left (hit_told e c) (map (hit_told e) e.hits) (map (exec_told e) e.execs ++ map (shift_told e) e.shifts) (mapped_in (hit_told e) e.hits c h))
+
+    with_execs : (name : List ℕ) (key : KeyValue) (c : ℕ × ℕ × ℕ) → IsIn c (exec_cells v name key nodes) → IsIn (Count (Execs name key c.0 c.1) c.2) (operations_of (entry_of v nodes name key))
+    with_execs name key c h =
+        let e = entry_of v nodes name key in
+        inr (IsIn-append_right (exec_told e c) (map (hit_told e) e.hits) (map (exec_told e) e.execs ++ map (shift_told e) e.shifts)
+        (IsIn-append_left (exec_told e c) (map (exec_told e) e.execs) (map (shift_told e) e.shifts) (mapped_in (exec_told e) e.execs c h)))
+
+    with_shifts : (name : List ℕ) (key : KeyValue) (c : ℕ × ℕ × ℕ × ℕ) → IsIn c (shift_cells v name key nodes) → IsIn (Count (Shifts name key c.0 c.1 c.2) c.3) (operations_of (entry_of v nodes name key))
+    with_shifts name key c h =
+        let e = entry_of v nodes name key in
+        inr (IsIn-append_right (shift_told e c) (map (hit_told e) e.hits) (map (exec_told e) e.execs ++ map (shift_told e) e.shifts)
+        (IsIn-append_right (shift_told e c) (map (exec_told e) e.execs) (map (shift_told e) e.shifts) (mapped_in (shift_told e) e.shifts c h)))
+
+    told : (op : Operation) → IsInDelta (fold []) v op → IsIn op (flat_map operations_of (entries_of v nodes))
+    told (Set name key) d = from_entry name key (Set name key) (lawful.key_name name key d.0) d.0 (inl refl)
+    told (Count (Hits name node) number) d =
+        let some : v.hits name node ≢ 0 = λ z. d.1 (d.0 ∙ z) in
+        let named = lawful.hit_name name node some in
+        let key = some_key (v.key name) (lawful.keyed name named) in
+        let there = with_hits name key.0 (node, v.hits name node) (member_hit v name nodes node (lawful.hits name node some) some) in
+        subst (λ n. IsIn (Count (Hits name node) n) (flat_map operations_of (entries_of v nodes))) (sym d.0) (from_entry name key.0 (Count (Hits name node) (v.hits name node)) named key.1 there)
+    told (Count (Execs name key term node) number) d =
+        let some : v.execs name term node ≢ 0 = λ z. d.positive (d.is_now ∙ z) in
+        let named = lawful.key_name name key d.of_key in
+        let at = lawful.execs name key term node d.of_key some in
+        let below = term_below nodes key term (lawful.key name key d.of_key) at.0.0 in
+        let there = with_execs name key (term, node, v.execs name term node) (member_exec v name nodes key term node below at.0.0 at.1 some) in
+        subst (λ n. IsIn (Count (Execs name key term node) n) (flat_map operations_of (entries_of v nodes))) (sym d.is_now) (from_entry name key (Count (Execs name key term node) (v.execs name term node)) named d.of_key there)
+    told (Count (Shifts name key term from to) number) d =
+        let some : v.shifts name term from to ≢ 0 = λ z. d.positive (d.is_now ∙ z) in
+        let named = lawful.key_name name key d.of_key in
+        let at = lawful.shifts name key term from to d.of_key some in
+        let below = term_below nodes key term (lawful.key name key d.of_key) at.0.0 in
+        let there = with_shifts name key (term, from, to, v.shifts name term from to) (member_shift v name nodes key term from to below at.0.0 at.1 at.2 at.3 some) in
+        subst (λ n. IsIn (Count (Shifts name key term from to) n) (flat_map operations_of (entries_of v nodes))) (sym d.is_now) (from_entry name key (Count (Shifts name key term from to) (v.shifts name term from to)) named d.of_key there)
+
+    tells_all : (from to : ℕ) → IsDelta (fold []) v (operations_in (whole_of v nodes from to))
+    tells_all from to op = (whole_tells op, told op)
+
+    -- ---- it can be written
+
+    module _ (few : nodes ≤ 16) (fit : EntriesFit (entries_of v nodes)) where
+      each_is : (e : EntryValue) → IsIn e (entries_of v nodes) → IsEntry nodes e × (length (entry_bytes e) ≤ 48930)
+      each_is e h =
+          let r = entry_member v nodes e h in
+          let fits : EntryFits (entry_of v nodes r.name r.key) = subst EntryFits r.is (one_of EntryFits (entries_of v nodes) fit e h) in
+          let is = entry_is v nodes lawful few r.name r.key r.held r.keyed fits in
+          let short = entry_short nodes (entry_of v nodes r.name r.key) is (few_hits v r.name nodes few) (few_execs v r.name nodes r.key few) (few_shifts v r.name nodes r.key few) in
+          subst (λ x. IsEntry nodes x × (length (entry_bytes x) ≤ 48930)) (sym r.is) (is, short)
+
+      can_be_written : (from to : ℕ) → from < nodes → to < nodes → to ≢ from → length v.names ≤ 256 → IsMessage nodes (whole_of v nodes from to)
+      can_be_written from to lt less apart names =
+          let entries = few_entries v nodes names in
+          record {
+            few_nodes = omega (arith, few);
+            from = lt;
+            to = less;
+            apart = apart;
+            base = omega arith;
+            upto = omega arith;
+            ack = omega arith;
+            entries = record {
+              few = omega (arith, entries);
+              each = all_of (IsEntry nodes) (entries_of v nodes) (λ e h. (each_is e h).0);
+              ascend = ascends _ (entries_ascend v nodes lawful.ascending);
+            };
+          }
+
+      keeps_to_limit : (from to : ℕ) → length v.names ≤ 256 → length (message_bytes (whole_of v nodes from to)) ≤ max_message
+      keeps_to_limit from to names =
+          let entries = few_entries v nodes names in
+          let bytes = length_flat entry_bytes 48930 (entries_of v nodes) (λ e h. (each_is e h).1) in
+          simp length-append (omega (arith, entries, bytes))
+
+      pub is_whole : (from to : ℕ) → from < nodes → to < nodes → to ≢ from → length v.names ≤ 256 → IsWhole nodes from to v (whole_of v nodes from to)
+      is_whole from to lt less apart names = record {
+        sender = refl;
+        receiver = refl;
+        base = refl;
+        upto = refl;
+        ack = refl;
+        spelled = can_be_written from to lt less apart names;
+        short = keeps_to_limit from to names;
+        all = tells_all from to;
+      }
+
+-- where the state is that of lawful operations
+pub whole_is_whole : (v : State) (nodes from to : ℕ) → (ops : List Operation) × (v ≡ fold ops) × AreLawful nodes ops → nodes ≤ 16 → from < nodes → to < nodes → to ≢ from → length v.names ≤ 256
+    → EntriesFit (entries_of v nodes) → IsWhole nodes from to v (whole_of v nodes from to)
+whole_is_whole v nodes from to (ops, same, lawful) few lt less apart names fit =
+    is_whole v nodes (subst (IsLawfulState nodes) (sym same) (lawful_state nodes ops lawful)) few fit from to lt less apart names

@@ -1,0 +1,11 @@
+use Rattle.std.proofs.Common.{subst}
+use Rattle.delta_exchange.specs.Cells.{EntriesFit}
+use Rattle.delta_exchange.proofs.WholeLemmas.{whole_is_whole}
+use Rattle.delta_exchange.proofs.held.whole.Goals as goal
+
+pub returns-clause-whole : goal.returns-clause-whole
+returns-clause-whole g c =
+    let v = g.R.Replica.state c.args.replica.now in
+    let held = c.in_ok-entries.ensures in
+    let is = whole_is_whole v c.args.nodes c.args.from c.args.to c.requires.lawful c.requires.nodes c.requires.from c.requires.to c.requires.apart c.requires.few (subst EntriesFit held.entries held.fit) in
+    rw held.entries is
