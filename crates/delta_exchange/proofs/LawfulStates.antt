@@ -1,5 +1,5 @@
 -- What the state of lawful operations holds: names that can be told, each with a key, and cells of its nodes and terms.
-use Rattle.std.proofs.Common.{◌≡◌, ◌≢◌, ℕ, ◌<◌, ◌≤◌, Bool, true, false, cond, List, [], ◌∷◌, ◌⊎◌, inl, inr, Some, None, refl, sym, ap, subst, arith}
+use Rattle.std.proofs.Common.{◌≡◌, ◌≢◌, ℕ, max, ◌<◌, ◌≤◌, Bool, true, false, cond, List, [], ◌∷◌, ◌⊎◌, inl, inr, Some, None, refl, sym, ap, subst, arith}
 use Rattle.std.specs.Prelude.{is_some, IsTrue}
 use Rattle.std.proofs.lemmas.Bool.{cases_lt}
 use Rattle.actions.specs.Names.{is_name}
@@ -25,16 +25,18 @@ number_is cell (Count other n) = at (same_cell other cell) refl
     at true e = inr (ap (λ x. Count x n) (sym (same_cell-true other cell e)))
     at false e = inl refl
 
-pub number_held : (cell : Cell) (ops : List Operation) → number_at cell ops ≢ 0 → (n : ℕ) × IsIn (Count cell n) ops
+pub number_held : (cell : Cell) (ops : List Operation) → number_at cell ops ≢ 0 → (n : ℕ) × IsIn (Count cell n) ops × (number_at cell ops ≤ n)
 number_held cell [] h = absurd (h refl)
-number_held cell (op ∷ ops) h = at (number_held cell ops) (cases_lt 0 (number_at cell ops)) (number_is cell op)
+number_held cell (op ∷ ops) h = at (number_held cell ops) (cases_lt (number_in cell op) (number_at cell ops)) (number_is cell op)
   where
-    at : (number_at cell ops ≢ 0 → (n : ℕ) × IsIn (Count cell n) ops) → (0 < number_at cell ops) ⊎ (number_at cell ops ≤ 0) → (number_in cell op ≡ 0) ⊎ (Count cell (number_in cell op) ≡ op) → (n : ℕ) × IsIn (Count cell n) (op ∷ ops)
-    at rest (inl some) is =
-        let r = rest (λ z. absurd (omega (arith, z, some))) in
-        (r.0, inr r.1)
-    at rest (inr none) (inl z) = absurd (h (omega (arith, z, none)))
-    at rest (inr none) (inr s) = (number_in cell op, inl s)
+    at : (number_at cell ops ≢ 0 → (n : ℕ) × IsIn (Count cell n) ops × (number_at cell ops ≤ n)) → (number_in cell op < number_at cell ops) ⊎ (number_at cell ops ≤ number_in cell op)
+        → (number_in cell op ≡ 0) ⊎ (Count cell (number_in cell op) ≡ op) → (n : ℕ) × IsIn (Count cell n) (op ∷ ops) × (max (number_in cell op) (number_at cell ops) ≤ n)
+    at rest (inl less) is =
+        let r = rest (λ z. absurd (omega (arith, z, less))) in
+        let upto = r.2 in
+        (r.0, inr r.1, omega (arith, less, upto))
+    at rest (inr more) (inl z) = absurd (h (omega (arith, z, more)))
+    at rest (inr more) (inr s) = (number_in cell op, inl s, omega (arith, more))
 
 -- ---- the key that an operation carries
 

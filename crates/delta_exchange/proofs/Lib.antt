@@ -17,3 +17,4 @@ pub mod BelowLemmas
 pub mod HeldCells
 pub mod HeldEntries
 pub mod WholeLemmas
+pub mod StateAgain

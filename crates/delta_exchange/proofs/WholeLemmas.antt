@@ -23,7 +23,7 @@ some_key None h = absurd cc
 some_key (Some key) h = (key, refl)
 
 -- where no key was before, the setting is new
-unset : (v : State) (name : List ℕ) (key : KeyValue) → v.key name ≡ Some key → IsSameAt (fold []) v name → ⊥
+pub unset : (v : State) (name : List ℕ) (key : KeyValue) → v.key name ≡ Some key → IsSameAt (fold []) v name → ⊥
 unfolding fold
 unset v name key e same = let impossible : None ≡ Some key = same.key ∙ e in absurd cc
 
