@@ -25,6 +25,15 @@ use stamp_register::Key;
 use std::alloc::Global;
 use std::cmp::Ordering;
 
+/// What a message comes to at a node: a state that knows just what it tells, the greatest clock of
+/// its keys, and whether the node learns anything.
+#[derive(Debug, Drop)]
+pub(crate) struct Delivery {
+    pub(crate) told: State,
+    pub(crate) clock: u64,
+    pub(crate) changed: bool,
+}
+
 /// How a node refuses bytes that are refused so.
 fn refusal_for(fault: WireFault) -> NodeFault
     ensures { result ≡ wire_refusal fault }

@@ -1,31 +1,38 @@
 //! A node and its calls.
 
-ghost use Rattle.std.specs.Prelude.{◌≡◌, ◌≢◌, ℕ, List, [], nat_lt, IsSome, ◌∷◌, ◌++◌, vec_len, vec_capacity, length, ◌^◌, ◌+◌, ◌≤◌, ◌<◌, ◌⊎◌, ◌↔◌, pos, ◌≤ℤ◌, map, IfOk, IfErr, OnOk, OnErr, IsTrue, Some, None, Ok, string_bytes, true, false};
+ghost use Rattle.std.specs.Prelude.{◌≡◌, ◌≢◌, ℕ, List, [], nat_lt, IsSome, ◌∷◌, ◌++◌, vec_len, vec_capacity, length, ◌^◌, ◌+◌, ◌≤◌, ◌<◌, ◌⊎◌, ◌↔◌, pos, ◌≤ℤ◌, map, IfOk, IfErr, OnOk, OnErr, IsTrue, Option, Some, None, Ok, string_bytes, true, false};
 ghost use Rattle.actions.specs.Names.{is_name};
 ghost use Rattle.actions.specs.Reading.{reading};
 ghost use Rattle.stamp_register.specs.Keys.{body_value};
+ghost use Rattle.replica_state.specs.Operations.{IsIn};
 ghost use Rattle.replica_state.specs.Folds.{fold};
+ghost use Rattle.replica_state.specs.Unions.{with_names};
 ghost use Rattle.replica_state.specs.Slots.{matrix_state};
 ghost use Rattle.replica_state.specs.States.{rights_of, spent_of, total_hits, with_name};
 ghost use Rattle.node_core.specs.Asks as asks;
-ghost use Rattle.node_core.specs.Asks.{passed, call};
+ghost use Rattle.delta_exchange.specs.Spelling.{IsBody};
+ghost use Rattle.node_core.specs.Asks.{no_versions, emit_of, message_read, passed, call};
 ghost use Rattle.node_core.specs.Nodes.{shown};
 ghost use Rattle.node_core.specs.Passes.{words_for};
 ghost use Rattle.node_core.specs.Refusals.{first_fault, is_bad_config, most, too_many, where_true};
 ghost use Rattle.node_core.specs.Outcomes.{IsHeld, state_set};
 ghost use Rattle.node_core.specs.Steps.{points_in, settings};
 ghost use Rattle.node_core.specs.Traces.{refusal, reply_to, after_call, node_of};
+ghost use Rattle.node_core.specs.Deliveries.{IsDelivery, TellsAll};
 ghost use Rattle.node_core.specs.Texts.{list_text};
 ghost use Rattle.node_core.specs.Stamps.{HasStamp};
 
 use crate::State;
+use crate::delivery::{Delivery, is_any_overspent, is_message_ahead, latest_clock, read_message};
 use crate::fault::{NodeFault, TextFault};
 use crate::list::list_of;
-use crate::load::{read_points, state_with};
+use crate::load::{read_points, set_to, state_with};
 use crate::pass::{Outcome, count, outcome_of, words_needed};
 use crate::shift::total_with;
 use crate::trace::{Ask, Config, Entry, PassReply, Reply, Trace};
+use delta_exchange::{encode, told, whole};
 use actions::{ActionFault, Actions, Name, NameFault, parse_actions};
+use lattice_laws::Join;
 use replica_state::Replica;
 use stamp_register::{Body, Key, Stamp};
 use std::alloc::{AllocError, Global};
@@ -43,6 +50,8 @@ const MAX_NAMES: usize = 256;
 pub struct NodeCore {
     config: Config,
     clock: u64,
+    // How many accepted calls changed the state.
+    version: u64,
     state: State,
     trace: Trace,
 }
@@ -52,13 +61,13 @@ impl Model for NodeCore {
     ghost use Rattle.replica_state.specs.Slots.{matrix_state};
     ghost use Rattle.node_core.specs.Asks.{call};
     ghost use Rattle.node_core.specs.Traces.{Kept, replay};
-    ghost use Rattle.node_core.specs.Holds.{Holds};
+    ghost use Rattle.node_core.specs.Holds.{Holds, CanTell};
 
     ghost Value = { Kept };
 
     ghost view = { λ c. record { config = c.config; trace = map (call c.config.nodes) c.trace.items } };
 
-    ghost invariant = { λ c. Holds c.config c.clock (matrix_state c.state) (length c.trace.items) (replay c.config.node (map (call c.config.nodes) c.trace.items)) };
+    ghost invariant = { λ c. Holds c.config c.clock (matrix_state c.state) (length c.trace.items) (replay c.config.node (map (call c.config.nodes) c.trace.items)) × CanTell c.config c.version (length c.trace.items) (replay c.config.node (map (call c.config.nodes) c.trace.items)) };
 }
 
 impl NodeCore {
@@ -74,6 +83,7 @@ impl NodeCore {
         Ok(NodeCore {
             config,
             clock: 0,
+            version: 0,
             state: State::empty(alloc),
             trace: Vec::new(alloc),
         })
@@ -96,7 +106,7 @@ impl NodeCore {
             words: Vec::new(alloc),
             reply: Reply::Set(stamp),
         };
-        self.issue(alloc, point, Body::Set(actions), entry)?;
+        self.issue(alloc, point, set_to(actions), entry)?;
         Ok(stamp)
     }
 
@@ -154,6 +164,37 @@ impl NodeCore {
         let (point, total) = self.shift_checked(alloc, name, term, to, amount)?;
         self.move_rights(alloc, point, term, to, amount, total)?;
         Ok(total)
+    }
+
+    /// Makes a message to another node that tells all that this one knows, and answers its bytes.
+    pub fn emit(&mut self, alloc: Global, to: u8) -> Result<Vec<u8>, NodeFault>
+        ensures ok { IfOk result (λ b. (refusal self.old (asks.Emit to no_versions []) [] ≡ None) × (reply_to self.old (emit_of to (message_read self.old.config.nodes b.items)) [] ≡ asks.IsEmitted (message_read self.old.config.nodes b.items))) }
+        // What it tells.
+        ensures all { IfOk result (λ b. TellsAll self.old to b.items) }
+        ensures after { IfOk result (λ b. self.new ≡ after_call self.old (emit_of to (message_read self.old.config.nodes b.items)) []) }
+        ensures refused { IfErr result (λ f. (f ≡ NodeFault.OutOfMemory) ⊎ (refusal self.old (asks.Emit to no_versions []) [] ≡ Some f)) }
+        ensures err { OnErr result (self.new ≡ self.old) }
+    {
+        self.emit_checked(to)?;
+        let message = self.message_to(alloc, to)?;
+        let recorded = Vec::from_slice(alloc, &message)?;
+        self.record_message(alloc, to, recorded)?;
+        Ok(message)
+    }
+
+    /// Takes in a message of another node, as bytes, and answers whether settings or cells changed.
+    /// Bytes that are no message, or that say more of this node than it knows itself, are refused,
+    /// and nothing of them is kept.
+    pub fn deliver(&mut self, alloc: Global, message: &[u8]) -> Result<bool, NodeFault>
+        ensures ok { IfOk result (λ changed. (refusal self.old (asks.Deliver (message_read self.old.config.nodes message.now)) [] ≡ None) × (reply_to self.old (asks.Deliver (message_read self.old.config.nodes message.now)) [] ≡ asks.IsDelivered changed)) }
+        ensures after { OnOk result (self.new ≡ after_call self.old (asks.Deliver (message_read self.old.config.nodes message.now)) []) }
+        ensures refused { IfErr result (λ f. (f ≡ NodeFault.OutOfMemory) ⊎ (refusal self.old (asks.Deliver (message_read self.old.config.nodes message.now)) [] ≡ Some f)) }
+        ensures err { OnErr result (self.new ≡ self.old) }
+    {
+        let delivery = self.deliver_checked(alloc, message)?;
+        let changed = delivery.changed;
+        self.learn(alloc, delivery, Vec::from_slice(alloc, message)?)?;
+        Ok(changed)
     }
 
     /// Passes a point, with a random word for each of its terms whose chance is below 100%.
@@ -278,6 +319,7 @@ impl NodeCore {
             spent,
         } = outcome;
         count(&mut self.state, alloc, me, &point, is_set, spent)?;
+        self.version += u64::from(is_set);
         let entry = Entry {
             ask: Ask::Pass {
                 name: point.into_text(),
@@ -297,6 +339,7 @@ impl NodeCore {
         text: &str,
     ) -> Result<(Name, Actions), NodeFault>
         ensures ok { IfOk result (λ p. (refusal self.now (asks.Set name.now text.now) [] ≡ None) × (p.0 ≡ name.now) × (reading text.now ≡ Ok p.1)) }
+        ensures few { OnOk result (IsTrue (is_name name.now) × (too_many (with_name name.now (shown (node_of self.now)).names) ≡ false)) }
         ensures room { OnOk result ((length self.now.trace < self.now.config.trace_cap) × ((node_of self.now).marks.clock + 1 < 2 ^ 64)) }
         ensures refused { IfErr result (λ f. (f ≡ NodeFault.OutOfMemory) ⊎ (refusal self.now (asks.Set name.now text.now) [] ≡ Some f)) }
     {
@@ -316,6 +359,7 @@ impl NodeCore {
     // The name, or the refusal.
     fn remove_checked(&self, alloc: Global, name: &str) -> Result<Name, NodeFault>
         ensures ok { IfOk result (λ p. (refusal self.now (asks.Remove name.now) [] ≡ None) × (p ≡ name.now)) }
+        ensures few { OnOk result (IsTrue (is_name name.now) × (too_many (with_name name.now (shown (node_of self.now)).names) ≡ false)) }
         ensures room { OnOk result ((length self.now.trace < self.now.config.trace_cap) × ((node_of self.now).marks.clock + 1 < 2 ^ 64)) }
         ensures refused { IfErr result (λ f. (f ≡ NodeFault.OutOfMemory) ⊎ (refusal self.now (asks.Remove name.now) [] ≡ Some f)) }
     {
@@ -363,6 +407,9 @@ impl NodeCore {
         requires room { length self.old.trace < self.old.config.trace_cap }
         requires clock { (node_of self.old).marks.clock + 1 < 2 ^ 64 }
         requires setting { settings (call self.old.config.nodes entry).ask ≡ (point, body_value body) ∷ [] }
+        requires named { IsTrue (is_name point) }
+        requires body { IsBody (body_value body) }
+        requires few { too_many (with_name point (shown (node_of self.old)).names) ≡ false }
         requires words { (call self.old.config.nodes entry).words ≡ [] }
         requires reply { (call self.old.config.nodes entry).reply ≡ reply_to self.old (call self.old.config.nodes entry).ask [] }
         ensures after { OnOk result (self.new ≡ after_call self.old (call self.old.config.nodes entry).ask []) }
@@ -376,6 +423,7 @@ impl NodeCore {
         };
         self.state.set_key(alloc, point, key)?;
         self.clock += 1;
+        self.version += 1;
         put(&mut self.trace, entry);
         Ok(())
     }
@@ -386,6 +434,8 @@ impl NodeCore {
         ensures ok { IfOk result (λ p. (refusal self.now (asks.Load text.now) [] ≡ None) × (p.1 ≡ length (points_in text.now))) }
         ensures state { IfOk result (λ p. matrix_state p.0 ≡ state_set self.now.config.node (node_of self.now).marks.clock (settings (asks.Load text.now)) (fold [])) }
         ensures room { IfOk result (λ p. (length self.now.trace < self.now.config.trace_cap) × ((node_of self.now).marks.clock + p.1 < 2 ^ 64)) }
+        ensures told { OnOk result ((s : List ℕ × Option (List ℕ)) → IsIn s (settings (asks.Load text.now)) → IsTrue (is_name s.0) × IsBody s.1) }
+        ensures few { IfOk result (λ p. length (with_names (matrix_state p.0).names (shown (node_of self.now)).names) ≤ 256) }
         ensures refused { IfErr result (λ f. (f ≡ NodeFault.OutOfMemory) ⊎ (refusal self.now (asks.Load text.now) [] ≡ Some f)) }
     {
         if self.trace.len() >= self.config.trace_cap as usize {
@@ -417,6 +467,8 @@ impl NodeCore {
         requires room { length self.old.trace < self.old.config.trace_cap }
         requires entries { entries ≡ length (points_in (string_bytes text)) }
         requires clock { (node_of self.old).marks.clock + entries < 2 ^ 64 }
+        requires told { (s : List ℕ × Option (List ℕ)) → IsIn s (settings (asks.Load (string_bytes text))) → IsTrue (is_name s.0) × IsBody s.1 }
+        requires few { length (with_names (matrix_state loaded).names (shown (node_of self.old)).names) ≤ 256 }
         requires state { matrix_state loaded ≡ state_set self.old.config.node (node_of self.old).marks.clock (settings (asks.Load (string_bytes text))) (fold []) }
         ensures after { OnOk result (self.new ≡ after_call self.old (asks.Load (string_bytes text)) []) }
         ensures err { OnErr result (self.new ≡ self.old) }
@@ -424,6 +476,7 @@ impl NodeCore {
         self.trace.reserve(1)?;
         self.state.merge(alloc, loaded)?;
         self.clock += u64::from(entries);
+        self.version += u64::from(entries > 0);
         let entry = Entry {
             ask: Ask::Load { text },
             words: Vec::new(alloc),
@@ -476,6 +529,7 @@ impl NodeCore {
         let me = self.config.node;
         self.trace.reserve(1)?;
         self.state.count_shift(alloc, &point, term, me, to, total)?;
+        self.version += 1;
         let entry = Entry {
             ask: Ask::Shift {
                 name: point.into_text(),
@@ -485,6 +539,117 @@ impl NodeCore {
             },
             words: Vec::new(alloc),
             reply: Reply::Shift(total),
+        };
+        put(&mut self.trace, entry);
+        Ok(())
+    }
+
+    // Whether a message to a node is refused.
+    fn emit_checked(&self, to: u8) -> Result<(), NodeFault>
+        ensures ok { OnOk result (refusal self.now (asks.Emit to no_versions []) [] ≡ None) }
+        ensures room { OnOk result ((length self.now.trace < self.now.config.trace_cap) × (to < self.now.config.nodes) × (to ≢ self.now.config.node)) }
+        ensures refused { IfErr result (λ f. refusal self.now (asks.Emit to no_versions []) [] ≡ Some f) }
+    {
+        if self.trace.len() >= self.config.trace_cap as usize {
+            return Err(NodeFault::TraceFull);
+        }
+        if to >= self.config.nodes || to == self.config.node {
+            return Err(NodeFault::BadNode);
+        }
+        Ok(())
+    }
+
+    // The bytes of a message to another node that tells all that this one knows.
+    fn message_to(&self, alloc: Global, to: u8) -> Result<Vec<u8>, AllocError>
+        requires to { (to < self.now.config.nodes) × (to ≢ self.now.config.node) }
+        ensures { IfOk result (λ b. TellsAll self.now to b.items) }
+    {
+        let message = whole(
+            alloc,
+            &self.state,
+            self.config.nodes,
+            self.config.node,
+            to,
+        )?;
+        encode(alloc, &message)
+    }
+
+    // Records a message that was made.
+    fn record_message(&mut self, alloc: Global, to: u8, message: Vec<u8>) -> Result<(), AllocError>
+        requires room { length self.old.trace < self.old.config.trace_cap }
+        requires reply { reply_to self.old (emit_of to (message_read self.old.config.nodes message.items)) [] ≡ asks.IsEmitted (message_read self.old.config.nodes message.items) }
+        ensures after { OnOk result (self.new ≡ after_call self.old (emit_of to (message_read self.old.config.nodes message.items)) []) }
+        ensures err { OnErr result (self.new ≡ self.old) }
+    {
+        self.trace.reserve(1)?;
+        let entry = Entry {
+            ask: Ask::Emit { to },
+            words: Vec::new(alloc),
+            reply: Reply::Emit(message),
+        };
+        put(&mut self.trace, entry);
+        Ok(())
+    }
+
+    // What a message comes to, or the refusal.
+    fn deliver_checked(&self, alloc: Global, bytes: &[u8]) -> Result<Delivery, NodeFault>
+        ensures ok { OnOk result (refusal self.now (asks.Deliver (message_read self.now.config.nodes bytes.now)) [] ≡ None) }
+        ensures delivery { IfOk result (λ d. IsDelivery self.now.config (node_of self.now) (message_read self.now.config.nodes bytes.now) (matrix_state d.told) d.clock d.changed) }
+        ensures room { OnOk result (length self.now.trace < self.now.config.trace_cap) }
+        ensures refused { IfErr result (λ f. (f ≡ NodeFault.OutOfMemory) ⊎ (refusal self.now (asks.Deliver (message_read self.now.config.nodes bytes.now)) [] ≡ Some f)) }
+    {
+        if self.trace.len() >= self.config.trace_cap as usize {
+            return Err(NodeFault::TraceFull);
+        }
+        let message = read_message(alloc, self.config.nodes, bytes)?;
+        if message.to != self.config.node {
+            return Err(NodeFault::NotForMe);
+        }
+        if is_message_ahead(&self.state, self.config.node, &message) {
+            return Err(NodeFault::OwnAhead);
+        }
+        if message.ack > self.version {
+            return Err(NodeFault::AckAhead);
+        }
+        let told: State = told(alloc, &message)?;
+        if is_any_overspent(self.config.nodes, &self.state, &told, &message.entries) {
+            return Err(NodeFault::Overspent);
+        }
+        if self.state.names_together(&told) > MAX_NAMES {
+            return Err(NodeFault::TooManyPoints);
+        }
+        Ok(Delivery {
+            changed: !told.below(&self.state),
+            clock: latest_clock(&message.entries),
+            told,
+        })
+    }
+
+    // Learns what a message tells, as an accepted call asks.
+    fn learn(
+        &mut self,
+        alloc: Global,
+        delivery: Delivery,
+        message: Vec<u8>,
+    ) -> Result<(), AllocError>
+        requires room { length self.old.trace < self.old.config.trace_cap }
+        requires delivery { IsDelivery self.old.config (node_of self.old) (message_read self.old.config.nodes message.items) (matrix_state delivery.told) delivery.clock delivery.changed }
+        ensures after { OnOk result (self.new ≡ after_call self.old (asks.Deliver (message_read self.old.config.nodes message.items)) []) }
+        ensures err { OnErr result (self.new ≡ self.old) }
+    {
+        self.trace.reserve(1)?;
+        let Delivery {
+            told,
+            clock,
+            changed,
+        } = delivery;
+        self.state.merge(alloc, told)?;
+        self.clock = self.clock.max(clock);
+        self.version += u64::from(changed);
+        let entry = Entry {
+            ask: Ask::Deliver { message },
+            words: Vec::new(alloc),
+            reply: Reply::Deliver(changed),
         };
         put(&mut self.trace, entry);
         Ok(())
