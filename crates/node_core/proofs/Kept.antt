@@ -1,5 +1,5 @@
 -- What a node holds stays in step with its trace, when an entry is put at its end.
-use Rattle.std.proofs.Common.{◌≡◌, ◌≢◌, ℕ, ◌+◌, ◌<◌, Bool, true, List, [], ◌∷◌, ◌++◌, length, map, Option, Some, None, refl, subst, sym, ◌∙◌, ap}
+use Rattle.std.proofs.Common.{◌≡◌, ◌≢◌, ℕ, ◌+◌, ◌<◌, max, Bool, true, List, [], ◌∷◌, ◌++◌, length, map, Option, Some, None, Result, refl, subst, sym, ◌∙◌, ap}
 use Rattle.std.proofs.lemmas.List.{length-map}
 use Rattle.std.specs.Option.{IsSome}
 use Rattle.std.proofs.lemmas.Bool.{true≢false}
@@ -8,17 +8,20 @@ use Rattle.stamp_register.specs.Keys.{KeyValue}
 use Rattle.replica_state.specs.States.{State, with_key, with_shifts, rights_of}
 use Rattle.replica_state.specs.Operations.{Operation}
 use Rattle.replica_state.specs.Folds.{fold}
+use Rattle.delta_exchange.specs.declared.fault.WireFault.{WireFault}
 use Rattle.node_core.specs.declared.trace.Config.{Config}
 use Rattle.node_core.specs.declared.trace.Entry.{Entry}
-use Rattle.node_core.specs.Asks.{call, Asked, Load, Pass, Shift}
+use Rattle.node_core.specs.Asks.{call, Asked, Message, Load, Pass, Shift, Deliver, emit_of}
 use Rattle.node_core.specs.Nodes.{shown, setting_of}
 use Rattle.node_core.specs.Passes.{ops_of_pass}
 use Rattle.node_core.specs.Outcomes.{ops_done, state_done, state_set, IsHeld}
-use Rattle.node_core.specs.Steps.{after, new_key, issued, settings, points_in}
+use Rattle.node_core.specs.Steps.{after, new_key, issued, settings, points_in, told}
 use Rattle.node_core.specs.Traces.{replay}
 use Rattle.node_core.specs.Holds.{Holds}
+use Rattle.node_core.specs.Deliveries.{IsDelivery}
 use Rattle.node_core.proofs.TraceLemmas.{holds_grown, holds_pass}
-use Rattle.node_core.proofs.SettingSteps.{Issues, issues_some, issues_load, fold_alone, fold_merged, holds_set}
+use Rattle.node_core.proofs.SettingSteps.{Issues, issues_some, issues_load, fold_alone, fold_merged, holds_set, turned}
+use Rattle.node_core.proofs.DeliverySteps.{holds_emit, holds_delivered}
 use Rattle.node_core.proofs.ShiftSteps.{holds_shift}
 
 module _ (config : Config) (clock : ℕ) (state next : State) (old mid new : List Entry) (e : Entry) (grown : new ≡ mid ++ e ∷ []) (same : mid ≡ old) (h : Holds config clock state (length old) (replay config.node (map (call config.nodes) old))) (room : length (map (call config.nodes) old) < config.trace_cap) where
@@ -69,3 +72,18 @@ module _ (config : Config) (clock : ℕ) (state next : State) (old mid new : Lis
           (holds_shift config clock state next (length old) (replay config.node (map (call config.nodes) old)) name term to amount key h space here (subst (λ (v : State). IsHeld v name) h.state_is set.1) enough.0
           (subst (λ (v : State). pos amount ≤ℤ rights_of v name term config.node) h.state_is enough.1)
           (s ∙ ap (λ t. with_shifts name term config.node to t state) (more ∙ ap (λ (v : State). v.shifts name term config.node to + amount) h.state_is)))
+
+  pub deliver_kept : (read : Result Message WireFault) (brought : State) (later : ℕ) (changed : Bool) (last : ℕ) → (call config.nodes e).ask ≡ Deliver read → (call config.nodes e).words ≡ [] → IsDelivery config (replay config.node (map (call config.nodes) old)) read brought later changed →
+      ((a b : List Operation) → state ≡ fold a → brought ≡ fold b → next ≡ fold (a ++ b)) → last ≡ max clock later → Holds config last next (length new) (replay config.node (map (call config.nodes) new))
+  deliver_kept read brought later changed last is with d merged late =
+      let n = replay config.node (map (call config.nodes) old) in
+      subst (λ k. Holds config k next (length new) (replay config.node (map (call config.nodes) new))) (sym late)
+      (put (max clock later) (Deliver read) [] is with
+      (holds_delivered config clock state next (length old) n read brought later changed h space d (merged n.ops (told read).ops (sym h.state_is) d.state_is ∙ turned n.ops (told read).ops)))
+
+-- a message that was made leaves the state
+pub emit_kept : (config : Config) (clock : ℕ) (state : State) (old mid new : List Entry) (e : Entry) → new ≡ mid ++ e ∷ [] → mid ≡ old → Holds config clock state (length old) (replay config.node (map (call config.nodes) old)) → length (map (call config.nodes) old) < config.trace_cap →
+    (to : ℕ) (read : Result Message WireFault) → (call config.nodes e).ask ≡ emit_of to read → (call config.nodes e).words ≡ [] → Holds config clock state (length new) (replay config.node (map (call config.nodes) new))
+emit_kept config clock state old mid new e grown same h room to read is with =
+    put config clock state state old mid new e grown same h room clock (emit_of to read) [] is with
+    (holds_emit config clock state (length old) (replay config.node (map (call config.nodes) old)) to read h (space config clock state state old mid new e grown same h room))

@@ -11,3 +11,10 @@ pub mod Ahead
 pub mod BadMessages
 pub mod Overspent
 pub mod Merged
+pub mod SettingNames
+pub mod Telling
+pub mod DeliverRefusals
+pub mod OwnDelivered
+pub mod DeliverySteps
+pub mod LawfulSteps
+pub mod KeptTelling

@@ -34,7 +34,7 @@ pub any_true : (n k : ℕ) (test : ℕ → Bool) → k < n → test k ≡ true �
 any_true zero k test low h = absurd (omega (arith, low))
 any_true (suc n) k test low h = any_next n k test h (below_next k n low) (λ l. any_true n k test l h)
 
-clock-append : (xs ys : List Operation) → clock_of (xs ++ ys) ≡ max (clock_of xs) (clock_of ys)
+pub clock-append : (xs ys : List Operation) → clock_of (xs ++ ys) ≡ max (clock_of xs) (clock_of ys)
 clock-append [] ys = omega arith
 clock-append (x ∷ xs) ys = let rest = clock-append xs ys in omega (arith, rest)
 

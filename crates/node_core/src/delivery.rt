@@ -282,7 +282,7 @@ fn count_at(actions: &Actions, term: u8) -> Option<u64>
 
 /// Whether one of the names that a message tells of would have a term that is executed more often
 /// than it is counted.
-fn is_any_overspent(nodes: u8, state: &State, told: &State, entries: &[NameEntry]) -> bool
+pub(crate) fn is_any_overspent(nodes: u8, state: &State, told: &State, entries: &[NameEntry]) -> bool
     ensures { result ≡ list_any (λ e. is_overspent_below nodes (matrix_state state.now) (matrix_state told.now) e.name) entries.now }
 {
     entries

@@ -499,6 +499,7 @@ impl NodeCore {
         ensures room { OnOk result (length self.now.trace < self.now.config.trace_cap) }
         ensures set { OnOk result (IsSome ((shown (node_of self.now)).key name.now) × IsHeld (shown (node_of self.now)) name.now) }
         ensures enough { OnOk result ((to ≢ self.now.config.node) × (pos amount ≤ℤ rights_of (shown (node_of self.now)) name.now term self.now.config.node)) }
+        ensures there { OnOk result ((to < self.now.config.nodes) × (0 < amount)) }
         ensures refused { IfErr result (λ f. (f ≡ NodeFault.OutOfMemory) ⊎ (refusal self.now (asks.Shift name.now term to amount) [] ≡ Some f)) }
     {
         if self.trace.len() >= self.config.trace_cap as usize {
@@ -522,6 +523,7 @@ impl NodeCore {
         requires room { length self.old.trace < self.old.config.trace_cap }
         requires set { IsSome ((shown (node_of self.old)).key point) × IsHeld (shown (node_of self.old)) point }
         requires enough { (to ≢ self.old.config.node) × (pos amount ≤ℤ rights_of (shown (node_of self.old)) point term self.old.config.node) }
+        requires there { (to < self.old.config.nodes) × (0 < amount) }
         requires total { total ≡ (shown (node_of self.old)).shifts point term self.old.config.node to + amount }
         ensures after { OnOk result (self.new ≡ after_call self.old (asks.Shift point term to amount) []) }
         ensures err { OnErr result (self.new ≡ self.old) }

@@ -1,6 +1,6 @@
 //! What a pass of a point comes to.
 
-ghost use Rattle.std.specs.Prelude.{◌≡◌, ℕ, length, ◌+◌, ◌^◌, ◌≤◌, ◌<◌, ◌≤ℤ◌, pos, ◌↔◌, IfOk, OnOk, OnErr, IsSome, IsTrue, true, Some, None, MatchOption};
+ghost use Rattle.std.specs.Prelude.{◌≡◌, ℕ, length, ◌+◌, ◌^◌, ◌≤◌, ◌<◌, ◌≤ℤ◌, pos, ◌↔◌, IfOk, OnOk, OnErr, IsSome, IfSome, IsTrue, true, Some, None, MatchOption};
 ghost use Rattle.stamp_register.specs.Keys.{key_value};
 ghost use Rattle.replica_state.specs.Slots.{matrix_state};
 ghost use Rattle.replica_state.specs.States.{rights_of};
@@ -90,7 +90,8 @@ fn reply_for(
 
 /// The triggered term, if it is counted.
 fn spent_term(actions: &Actions, chosen: Option<u8>) -> Option<u8>
-    ensures { result ≡ spent_by actions.now chosen }
+    ensures value { result ≡ spent_by actions.now chosen }
+    ensures low { IfSome result (λ term. term < 2 ^ 8) }
 {
     let term = chosen?;
     match actions.term(term) {
@@ -147,6 +148,7 @@ pub(crate) fn outcome_of(
     ensures ops { IfOk result (λ o. ops_of_pass me (matrix_state state.now) name.now words.now (setting_of (matrix_state state.now) name.now) ≡ ops_done me (matrix_state state.now) name.now o.is_set o.spent) }
     ensures key { IfOk result (λ o. o.is_set ≡ true → IsSome ((matrix_state state.now).key name.now)) }
     ensures held { IfOk result (λ o. o.is_set ≡ true → IsHeld (matrix_state state.now) name.now) }
+    ensures low { IfOk result (λ o. IfSome o.spent (λ term. term < 2 ^ 8)) }
     ensures rights { IfOk result (λ o. (term : ℕ) → o.spent ≡ Some term → pos 1 ≤ℤ rights_of (matrix_state state.now) name.now term me) }
 {
     let Some((key, actions)) = setting_at(state, name) else {

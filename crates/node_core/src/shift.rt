@@ -26,6 +26,7 @@ pub(crate) fn total_with(
     ensures ok { IfOk result (λ total. (first_fault (faults_of_shift config (matrix_state state.now) name.now term to amount) ≡ None) × (total ≡ (matrix_state state.now).shifts name.now term config.node to + amount)) }
     ensures set { OnOk result (IsSome ((matrix_state state.now).key name.now) × IsHeld (matrix_state state.now) name.now) }
     ensures enough { OnOk result ((to ≢ config.node) × (pos amount ≤ℤ rights_of (matrix_state state.now) name.now term config.node)) }
+    ensures there { OnOk result ((to < config.nodes) × (0 < amount)) }
     ensures refused { IfErr result (λ f. first_fault (faults_of_shift config (matrix_state state.now) name.now term to amount) ≡ Some f) }
 {
     let Some((_, actions)) = setting_at(state, name) else {

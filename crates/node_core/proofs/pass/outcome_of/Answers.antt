@@ -5,4 +5,4 @@ use Rattle.node_core.proofs.Rights.{spent_right}
 use Rattle.node_core.proofs.pass.outcome_of.Goals as goal
 
 pub returns-clause-rights : goal.returns-clause-rights
-returns-clause-rights c = λ term spends. spent_right c.args.me (matrix_state c.args.state.now) c.args.name.now c.args.words.now (key_value c.in-Some.key.now) c.in-Some.actions.now c.triggered_term-chosen.result term c.in-Some.ensures.value c.triggered_term-chosen.ensures (sym c.spent_term.ensures ∙ spends)
+returns-clause-rights c = λ term spends. spent_right c.args.me (matrix_state c.args.state.now) c.args.name.now c.args.words.now (key_value c.in-Some.key.now) c.in-Some.actions.now c.triggered_term-chosen.result term c.in-Some.ensures.value c.triggered_term-chosen.ensures (sym c.spent_term.ensures.value ∙ spends)

@@ -15,9 +15,9 @@ returns-then-names_together-gt-MAX_NAMES-clause-refused c =
     let items = node.trace.ok.0 in
     let counted = length-map node.trace.items (call node.config.nodes) in
     let low = c.if-len-self.false in
-    let held = subst (λ (k : ℕ). Holds node.config node.clock (matrix_state node.state) k (replay node.config.node (map (call node.config.nodes) node.trace.items))) (sym counted) c.self.invariant in
+    let held = subst (λ (k : ℕ). Holds node.config node.clock (matrix_state node.state) k (replay node.config.node (map (call node.config.nodes) node.trace.items))) (sym counted) c.self.invariant.0 in
     inr (rw (← c.self.view_is) (too_many_names node.config node.clock (matrix_state node.state) (matrix_state c.in_ok-loaded.loaded) (length (map (call node.config.nodes) node.trace.items)) (replay node.config.node (map (call node.config.nodes) node.trace.items)) held (omega (arith, taken, items, counted, low))
-    c.args.text.now c.in_ok-points.points.items c.in_ok-points.ensures.ok _ c.names_together.result c.in_ok-loaded.ensures c.names_together.ensures c.if-names_together-gt-MAX_NAMES.true))
+    c.args.text.now c.in_ok-points.points.items c.in_ok-points.ensures.ok _ c.names_together.result c.in_ok-loaded.ensures.value c.names_together.ensures c.if-names_together-gt-MAX_NAMES.true))
 
 pub returns-then-not-has_clocks-clause-refused : goal.returns-then-not-has_clocks-clause-refused
 returns-then-not-has_clocks-clause-refused c =
@@ -26,13 +26,13 @@ returns-then-not-has_clocks-clause-refused c =
     let items = node.trace.ok.0 in
     let counted = length-map node.trace.items (call node.config.nodes) in
     let low = c.if-len-self.false in
-    let held = subst (λ (k : ℕ). Holds node.config node.clock (matrix_state node.state) k (replay node.config.node (map (call node.config.nodes) node.trace.items))) (sym counted) c.self.invariant in
+    let held = subst (λ (k : ℕ). Holds node.config node.clock (matrix_state node.state) k (replay node.config.node (map (call node.config.nodes) node.trace.items))) (sym counted) c.self.invariant.0 in
     let some = c.len-entries.ensures in
     let points = c.in_ok-points.points.ok.0 in
     let same = c.from.ensures in
     let high = c.if-not-has_clocks.true in
     inr (rw (← c.self.view_is) (clock_full node.config node.clock (matrix_state node.state) (matrix_state c.in_ok-loaded.loaded) (length (map (call node.config.nodes) node.trace.items)) (replay node.config.node (map (call node.config.nodes) node.trace.items)) held (omega (arith, taken, items, counted, low))
-    c.args.text.now c.in_ok-points.points.items c.in_ok-points.ensures.ok _ c.names_together.result c.in_ok-loaded.ensures c.names_together.ensures c.if-names_together-gt-MAX_NAMES.false (omega (arith, some, points, same, high))))
+    c.args.text.now c.in_ok-points.points.items c.in_ok-points.ensures.ok _ c.names_together.result c.in_ok-loaded.ensures.value c.names_together.ensures c.if-names_together-gt-MAX_NAMES.false (omega (arith, some, points, same, high))))
 
 pub returns-clause-ok : goal.returns-clause-ok
 returns-clause-ok c =
@@ -41,13 +41,13 @@ returns-clause-ok c =
     let items = node.trace.ok.0 in
     let counted = length-map node.trace.items (call node.config.nodes) in
     let low = c.if-len-self.false in
-    let held = subst (λ (k : ℕ). Holds node.config node.clock (matrix_state node.state) k (replay node.config.node (map (call node.config.nodes) node.trace.items))) (sym counted) c.self.invariant in
+    let held = subst (λ (k : ℕ). Holds node.config node.clock (matrix_state node.state) k (replay node.config.node (map (call node.config.nodes) node.trace.items))) (sym counted) c.self.invariant.0 in
     let some = c.len-entries.ensures in
     let points = c.in_ok-points.points.ok.0 in
     let same = c.from.ensures in
     let fits = c.if-not-has_clocks.false in
     let few = c.in_ok-points.ensures.few in (
       rw (← c.self.view_is) (no_refusal node.config node.clock (matrix_state node.state) (matrix_state c.in_ok-loaded.loaded) (length (map (call node.config.nodes) node.trace.items)) (replay node.config.node (map (call node.config.nodes) node.trace.items)) held (omega (arith, taken, items, counted, low))
-          c.args.text.now c.in_ok-points.points.items c.in_ok-points.ensures.ok _ c.names_together.result c.in_ok-loaded.ensures c.names_together.ensures c.if-names_together-gt-MAX_NAMES.false (omega (arith, some, points, same, fits, few))),
+          c.args.text.now c.in_ok-points.points.items c.in_ok-points.ensures.ok _ c.names_together.result c.in_ok-loaded.ensures.value c.names_together.ensures c.if-names_together-gt-MAX_NAMES.false (omega (arith, some, points, same, fits, few))),
       some ∙ points ∙ sym (ap (λ r. length (points_read r)) c.in_ok-points.ensures.ok),
     )
