@@ -4,6 +4,7 @@
 mod altered;
 mod faults;
 mod known;
+mod held;
 mod whole;
 
 use super::*;
