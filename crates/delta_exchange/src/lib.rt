@@ -22,6 +22,12 @@
 //! let message = decode(alloc, nodes, &bytes)?;
 //! let same_bytes = encode(alloc, &message)?;
 //! ```
+//!
+//! `whole` is the message of all that a replica holds:
+//!
+//! ```rust
+//! let message = whole(alloc, &replica, nodes, from, to)?;
+//! ```
 #![tactic(auto)]
 
 mod cells;
