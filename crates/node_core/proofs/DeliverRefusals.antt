@@ -1,16 +1,29 @@
 -- The refusals of a delivery whose bytes were read.
-use Rattle.std.proofs.Common.{◌≡◌, ℕ, ◌<◌, ◌≤◌, Bool, true, false, not, ◌&&◌, ◌==◌, nat_lt, List, [], ◌∷◌, ◌++◌, length, Option, Some, None, Result, Ok, refl, sym, ◌∙◌, ap, arith}
+use Rattle.std.proofs.Common.{◌≡◌, ℕ, ◌<◌, ◌≤◌, Bool, true, false, not, ◌&&◌, ◌==◌, nat_lt, List, [], ◌∷◌, ◌++◌, length, map, ◌↔◌, IsTrue, subst, Option, Some, None, Result, Ok, refl, sym, ◌∙◌, ap, arith}
 use Rattle.std.proofs.lemmas.Bool.Decides.{nat_tests}
 use Rattle.std.specs.Prelude.{nat_le, is_none}
-use Rattle.std.specs.List.{list_any}
-use Rattle.replica_state.specs.Folds.{fold}
+use Rattle.std.proofs.lemmas.Bool.{eq-eqb}
+use Rattle.std.specs.List.{list_any, flat_map}
+use Rattle.counters.specs.Sums.{numbers}
+use Rattle.replica_state.specs.States.{State}
+use Rattle.replica_state.specs.Folds.{fold, clock_of}
+use Rattle.replica_state.specs.StateOrder.{IsBelow}
+use Rattle.replica_state.specs.Knowledge.{changes}
+use Rattle.replica_state.specs.Unions.{with_names}
+use Rattle.delta_exchange.specs.declared.message.NameEntry.{NameEntry}
+use Rattle.delta_exchange.specs.Messages.{MessageValue, entry_value, operations_of, operations_in}
+use Rattle.delta_exchange.specs.Spelling.{IsMessage}
+use Rattle.delta_exchange.proofs.LawfulLemmas.{told_lawful}
 use Rattle.delta_exchange.specs.declared.fault.WireFault.{WireFault}
 use Rattle.node_core.specs.declared.trace.Config.{Config}
 use Rattle.node_core.specs.declared.fault.NodeFault.{NodeFault}
 use Rattle.node_core.specs.declared.fault.NodeFault.TheVariants as faults
-use Rattle.node_core.specs.Asks.{Message, Deliver}
+use Rattle.node_core.specs.Asks.{Message, Deliver, message_of}
 use Rattle.node_core.specs.Nodes.{Node, shown}
 use Rattle.node_core.specs.Refusals.{is_ahead, overspends, too_many, refusal_at, bad_message, first_fault}
+use Rattle.node_core.specs.Holds.{Holds, CanTell}
+use Rattle.node_core.specs.Deliveries.{IsDelivery, is_overspent_below}
+use Rattle.node_core.proofs.Merged.{merged_names, overspends_told, changes_unless}
 
 module _ (config : Config) (entries : ℕ) (n : Node) (room : entries < config.trace_cap) (read : Result Message WireFault) where
   has_room : nat_le config.trace_cap entries ≡ false
@@ -45,3 +58,62 @@ module _ (config : Config) (entries : ℕ) (n : Node) (room : entries < config.t
             not_refused few =
                 let fits : too_many (fold (m.ops ++ n.ops)).names ≡ false = grind (arith, nat_tests, few) in
                 rw (has_room, is, mine, behind, known, within, fits) refl
+
+-- the same by what the node's code finds
+module _ (config : Config) (clock version : ℕ) (state : State) (entries : ℕ) (n : Node) (h : Holds config clock state entries n) (t : CanTell config version entries n) (room : entries < config.trace_cap) (read : Result Message WireFault) (m : MessageValue) (is : read ≡ Ok (message_of m))
+    (spelled : IsMessage config.nodes m) (mine : m.to ≡ config.node) (ahead : Bool) (ahead_is : ahead ≡ list_any (is_ahead config.node state) (operations_in m)) where
+  mine_is : (m.to == config.node) ≡ true
+  mine_is = eq-eqb m.to config.node mine
+
+  ahead_of : ahead ≡ list_any (is_ahead config.node (shown n)) (operations_in m)
+  ahead_of = ahead_is ∙ sym (ap (λ (v : State). list_any (is_ahead config.node v) (operations_in m)) h.state_is)
+
+  pub refused_ahead : ahead ≡ true → refusal_at config entries n (Deliver read) [] ≡ Some faults.OwnAhead
+  refused_ahead so = own_ahead config entries n room read (message_of m) is mine_is (sym ahead_of ∙ so)
+
+  module _ (behind : ahead ≡ false) where
+    pub refused_ack : version < m.ack → refusal_at config entries n (Deliver read) [] ≡ Some faults.AckAhead
+    refused_ack high =
+        let at = t.version_is in
+        let above : nat_lt n.marks.version m.ack ≡ true = grind (arith, nat_tests, at, high) in
+        ack_ahead config entries n room read (message_of m) is mine_is (sym ahead_of ∙ behind) above
+
+    module _ (known : m.ack ≤ version) (brought : State) (brings : brought ≡ fold (operations_in m)) (es : List NameEntry) (are : map entry_value es ≡ m.entries) (over : Bool) (over_is : over ≡ list_any (λ e. is_overspent_below config.nodes state brought e.name) es) where
+      known_is : nat_lt n.marks.version m.ack ≡ false
+      known_is = let at = t.version_is in grind (arith, nat_tests, at, known)
+
+      unfolded : 256 ≡ numbers
+      unfolding numbers
+      unfolded = refl
+
+      few_nodes : config.nodes ≤ numbers
+      few_nodes = let all = unfolded in let few = h.few in omega (arith, all, few)
+
+      over_of : over ≡ list_any (overspends (fold (operations_in m ++ n.ops))) (operations_in m)
+      over_of =
+          over_is ∙ overspends_told config.nodes few_nodes (operations_in m) n.ops state brought (sym h.state_is) brings t.lawful (told_lawful config.nodes m spelled) es (ap (flat_map operations_of) (sym are))
+
+      pub refused_overspent : over ≡ true → refusal_at config entries n (Deliver read) [] ≡ Some faults.Overspent
+      refused_overspent so = overspent config entries n room read (message_of m) is mine_is (sym ahead_of ∙ behind) known_is (sym over_of ∙ so)
+
+      module _ (within : over ≡ false) (names : ℕ) (names_are : names ≡ length (with_names brought.names state.names)) where
+        names_of_both : names ≡ length (fold (operations_in m ++ n.ops)).names
+        names_of_both = names_are ∙ merged_names (operations_in m) n.ops state brought (sym h.state_is) brings
+
+        pub refused_many : 256 < names → refusal_at config entries n (Deliver read) [] ≡ Some faults.TooManyPoints
+        refused_many many = let same = names_of_both in too_many_points config entries n room read (message_of m) is mine_is (sym ahead_of ∙ behind) known_is (sym over_of ∙ within) (omega (arith, same, many))
+
+        pub delivery_accepted : names ≤ 256 → refusal_at config entries n (Deliver read) [] ≡ None
+        delivery_accepted few = let same = names_of_both in not_refused config entries n room read (message_of m) is mine_is (sym ahead_of ∙ behind) known_is (sym over_of ∙ within) (omega (arith, same, few))
+
+        pub delivery_is : names ≤ 256 → (below : Bool) → (IsTrue below ↔ IsBelow brought state) → (later : ℕ) → later ≡ clock_of (operations_in m) → IsDelivery config n read brought later (not below)
+        delivery_is few below upto later last =
+            subst (λ r. IsDelivery config n r brought later (not below)) (sym is)
+            (record {
+              state_is = brings;
+              clock_is = last;
+              changes_so = changes_unless (operations_in m) n.ops state brought (sym h.state_is) brings below upto ∙ sym (ap (λ (v : State). changes v (operations_in m)) h.state_is);
+              lawful = told_lawful config.nodes m spelled;
+              behind = sym ahead_of ∙ behind;
+              few_names = (let same = names_of_both in omega (arith, same, few));
+            })

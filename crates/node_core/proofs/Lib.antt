@@ -18,3 +18,4 @@ pub mod OwnDelivered
 pub mod DeliverySteps
 pub mod LawfulSteps
 pub mod KeptTelling
+pub mod Replied

@@ -1,9 +1,12 @@
 -- The names of the points that a setting text sets.
-use Rattle.std.proofs.Common.{◌≡◌, ℕ, List, [], ◌∷◌, IsTrue, inl, inr, sym, subst}
+use Rattle.std.proofs.Common.{◌≡◌, ℕ, List, [], ◌∷◌, map, Option, Some, IsTrue, inl, inr, sym, subst}
 use Rattle.actions.specs.Value.{TermValue}
 use Rattle.actions.specs.Names.{is_name}
 use Rattle.actions.specs.SettingGrammar.{Entry, blank, setting, SetEach, SpellsSetting}
+use Rattle.actions.specs.Canonical.{canonical}
 use Rattle.replica_state.specs.Operations.{IsIn}
+use Rattle.delta_exchange.specs.Spelling.{IsBody}
+use Rattle.delta_exchange.proofs.LawfulLemmas.{mapped_from}
 
 each_named : (es : List Entry) (points : List (List ℕ × List TermValue)) → SetEach es points → (s : List ℕ × List TermValue) → IsIn s points → IsTrue (is_name s.0)
 each_named [] [] h s k = absurd k
@@ -15,3 +18,10 @@ each_named (setting before name text after ∷ es) (p ∷ ps) h s (inr k) = each
 
 pub points_named : (text : List ℕ) (points : List (List ℕ × List TermValue)) → SpellsSetting text points → (s : List ℕ × List TermValue) → IsIn s points → IsTrue (is_name s.0)
 points_named text points h s k = each_named h.entries.0 points h.entries.1 s k
+
+-- what each of those points is set to can be told, where each of its texts can
+pub settings_told : (points : List (List ℕ × List TermValue)) → ((s : List ℕ × List TermValue) → IsIn s points → IsTrue (is_name s.0)) → ((s : List ℕ × List TermValue) → IsIn s points → IsBody (Some (canonical s.1))) →
+    (s : List ℕ × Option (List ℕ)) → IsIn s (map (λ point. (point.0, Some (canonical point.1))) points) → IsTrue (is_name s.0) × IsBody s.1
+settings_told points named bodies s h =
+    let r = mapped_from (λ (point : List ℕ × List TermValue). (point.0, Some (canonical point.1))) points s h in
+    subst (λ (q : List ℕ × Option (List ℕ)). IsTrue (is_name q.0) × IsBody q.1) (sym r.2) (named r.0 r.1, bodies r.0 r.1)

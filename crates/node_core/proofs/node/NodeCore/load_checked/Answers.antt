@@ -1,6 +1,12 @@
-use Rattle.std.proofs.Common.{ℕ, inr, arith, ap, sym, ◌∙◌, subst, map, length}
+use Rattle.std.proofs.Common.{ℕ, List, Option, Some, IsTrue, inr, arith, ap, sym, ◌∙◌, subst, map, length}
 use Rattle.std.proofs.lemmas.List.{length-map}
+use Rattle.actions.specs.Value.{TermValue}
+use Rattle.actions.specs.Canonical.{canonical}
+use Rattle.actions.specs.Names.{is_name}
+use Rattle.replica_state.specs.Operations.{IsIn}
 use Rattle.replica_state.specs.Slots.{matrix_state}
+use Rattle.delta_exchange.specs.Spelling.{IsBody}
+use Rattle.node_core.proofs.SettingNames.{settings_told}
 use Rattle.node_core.specs.Asks.{call}
 use Rattle.node_core.specs.Steps.{points_read}
 use Rattle.node_core.specs.Traces.{replay}
@@ -51,3 +57,8 @@ returns-clause-ok c =
           c.args.text.now c.in_ok-points.points.items c.in_ok-points.ensures.ok _ c.names_together.result c.in_ok-loaded.ensures.value c.names_together.ensures c.if-names_together-gt-MAX_NAMES.false (omega (arith, some, points, same, fits, few))),
       some ∙ points ∙ sym (ap (λ r. length (points_read r)) c.in_ok-points.ensures.ok),
     )
+
+pub returns-clause-told : goal.returns-clause-told
+returns-clause-told c =
+    subst (λ (points : List (List ℕ × List TermValue)). (s : List ℕ × Option (List ℕ)) → IsIn s (map (λ point. (point.0, Some (canonical point.1))) points) → IsTrue (is_name s.0) × IsBody s.1)
+    (sym (ap points_read c.in_ok-points.ensures.ok)) (settings_told c.in_ok-points.points.items c.in_ok-points.ensures.named c.in_ok-loaded.ensures.bodies)

@@ -1,0 +1,11 @@
+use Rattle.std.proofs.Common.{sym, ◌∙◌, subst, List, ℕ}
+use Rattle.node_core.specs.Deliveries.{TellsAll}
+use Rattle.node_core.proofs.Replied.{replied}
+use Rattle.node_core.proofs.node.NodeCore.emit.Goals as goal
+
+pub record_message-requires-clause-reply : goal.record_message-requires-clause-reply
+record_message-requires-clause-reply c =
+    replied c.args.self.now c.args.to _ (subst (λ (bytes : List ℕ). TellsAll c.args.self.now c.args.to bytes) (sym c.deref.ensures.value ∙ sym c.in_ok-recorded.ensures.items) c.in_ok-message.ensures)
+
+pub returns-clause-ok : goal.returns-clause-ok
+returns-clause-ok c = (c.in_ok-emit_checked.ensures.ok, replied c.args.self.now c.args.to _ c.in_ok-message.ensures)
