@@ -14,6 +14,7 @@ use Rattle.delta_exchange.specs.declared.fault.WireFault.{WireFault}
 use Rattle.delta_exchange.specs.Messages.{MessageValue}
 use Rattle.delta_exchange.specs.Spelling.{message_bytes}
 use Rattle.delta_exchange.specs.Wholes.{AreLawful, IsWhole}
+use Rattle.delta_exchange.specs.Cells.{whole_of}
 use Rattle.node_core.specs.declared.trace.Config.{Config}
 use Rattle.node_core.specs.Asks.{Message}
 use Rattle.node_core.specs.Nodes.{Node, shown, setting_of, terms_in}
@@ -56,4 +57,5 @@ pub record IsDelivery (config : Config) (n : Node) (read : Result Message WireFa
 pub record TellsAll (k : Kept) (to : ℕ) (bytes : List ℕ) : Type 0 where
   pub message : MessageValue
   pub whole : IsWhole k.config.nodes k.config.node to (shown (node_of k)) message
+  pub is : message ≡ whole_of (shown (node_of k)) k.config.nodes k.config.node to
   pub written : bytes ≡ message_bytes message
