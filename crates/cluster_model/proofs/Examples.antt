@@ -49,7 +49,7 @@ answers c script = reverse (last_answers c (reverse script))
 -- ---- what may be told, and what may be sent of one name
 
 pub may_tell : (marks : Marks) (to upto : ℕ) → nat_le upto marks.version ≡ true → MayTell marks to (first_told upto)
-may_tell marks to upto h = record { upto = leb-true upto marks.version h; ack = omega arith }
+may_tell marks to upto h = record { base = omega arith; upto = leb-true upto marks.version h; ack = omega arith }
 
 abbrev pub is_of_cell : List ℕ → KeyValue → Cell → Bool
 is_of_cell name key (Hits n node) = bytes_eq n name

@@ -3,10 +3,10 @@ use Rattle.std.proofs.Common.{◌≡◌, ℕ, Bool, true, false, cond, not, ◌=
 use Rattle.std.specs.List.{list_any, flat_map}
 use Rattle.std.proofs.lemmas.List.Folds.{list_any-append}
 use Rattle.std.proofs.lemmas.List.Concat.{flat_map-cons}
-use Rattle.std.specs.Ordering.{is_le, is_eq, is_gt, match_ordering}
+use Rattle.std.specs.Ordering.{is_le, is_eq, is_gt}
 use Rattle.std.specs.declared.cmp.Ordering.{Ordering}
 use Rattle.std.specs.declared.cmp.Ordering.TheVariants.{Less, Equal, Greater}
-use Rattle.stamp_register.specs.Keys.{KeyValue, key_le, same_key}
+use Rattle.stamp_register.specs.Keys.{KeyValue, same_key}
 use Rattle.stamp_register.proofs.KeyLemmas.{same_key-true, true-same_key, same_key-cmp}
 use Rattle.replica_state.specs.Operations.{Operation, Set, Count, Hits, Execs, Shifts}
 use Rattle.replica_state.specs.States.{State}
@@ -101,7 +101,7 @@ module _ (i : ℕ) (v : State) (e : EntryValue) where
   ahead_is o at keys hits execs shifts k h x s =
       (λ j. (k j) || ((h j) || ((x j) || (s j))))
       ∙ (λ j. (e.key.node == i && is_gt (at j)) ||
-          (list_any (λ c. c.0 == i && nat_lt (v.hits e.name i) c.1) e.hits ||
-          (list_any (λ c. c.1 == i && ahead_by (at j) (v.execs e.name c.0 i) c.2) e.execs ||
-          list_any (λ c. c.1 == i && ahead_by (at j) (v.shifts e.name c.0 i c.2) c.3) e.shifts)))
+      (list_any (λ c. c.0 == i && nat_lt (v.hits e.name i) c.1) e.hits ||
+      (list_any (λ c. c.1 == i && ahead_by (at j) (v.execs e.name c.0 i) c.2) e.execs ||
+      list_any (λ c. c.1 == i && ahead_by (at j) (v.shifts e.name c.0 i c.2) c.3) e.shifts)))
       ∙ sym entry_ahead

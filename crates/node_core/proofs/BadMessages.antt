@@ -1,5 +1,5 @@
 -- Bytes that are refused.
-use Rattle.std.proofs.Common.{◌≡◌, ℕ, ◌⊎◌, inl, inr, Result, Some, refl, ap}
+use Rattle.std.proofs.Common.{◌≡◌, ◌⊎◌, inl, inr, Result, Some, refl, ap}
 use Rattle.delta_exchange.specs.declared.fault.WireFault.{WireFault}
 use Rattle.delta_exchange.specs.declared.fault.WireFault.TheVariants as wires
 use Rattle.delta_exchange.specs.Messages.{MessageValue}

@@ -1,7 +1,7 @@
 -- The refusals of a delivery whose bytes were read.
-use Rattle.std.proofs.Common.{◌≡◌, ℕ, ◌<◌, ◌≤◌, Bool, true, false, not, ◌&&◌, ◌==◌, nat_lt, List, [], ◌∷◌, ◌++◌, length, map, ◌↔◌, IsTrue, subst, Option, Some, None, Result, Ok, refl, sym, ◌∙◌, ap, arith}
+use Rattle.std.proofs.Common.{◌≡◌, ℕ, ◌<◌, ◌≤◌, Bool, true, false, not, ◌==◌, nat_lt, List, [], ◌++◌, length, map, ◌↔◌, IsTrue, subst, Some, None, Result, Ok, refl, sym, ◌∙◌, ap, arith}
 use Rattle.std.proofs.lemmas.Bool.Decides.{nat_tests}
-use Rattle.std.specs.Prelude.{nat_le, is_none}
+use Rattle.std.specs.Prelude.{nat_le}
 use Rattle.std.proofs.lemmas.Bool.{eq-eqb}
 use Rattle.std.specs.List.{list_any, flat_map}
 use Rattle.counters.specs.Sums.{numbers}
@@ -20,7 +20,7 @@ use Rattle.node_core.specs.declared.fault.NodeFault.{NodeFault}
 use Rattle.node_core.specs.declared.fault.NodeFault.TheVariants as faults
 use Rattle.node_core.specs.Asks.{Message, Deliver, message_of}
 use Rattle.node_core.specs.Nodes.{Node, shown}
-use Rattle.node_core.specs.Refusals.{is_ahead, overspends, too_many, refusal_at, bad_message, first_fault}
+use Rattle.node_core.specs.Refusals.{is_ahead, overspends, too_many, refusal_at, bad_message}
 use Rattle.node_core.specs.Holds.{Holds, CanTell}
 use Rattle.node_core.specs.Deliveries.{IsDelivery, is_overspent_below}
 use Rattle.node_core.proofs.Merged.{merged_names, overspends_told, changes_unless}

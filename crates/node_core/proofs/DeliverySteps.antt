@@ -1,11 +1,11 @@
 -- What a node holds after it made a message, and after one was delivered to it.
-use Rattle.std.proofs.Common.{◌≡◌, ℕ, ◌+◌, ◌<◌, ◌≤◌, max, Bool, List, [], ◌++◌, length, Result, Ok, Err, refl, sym, ◌∙◌, ap, subst, arith}
+use Rattle.std.proofs.Common.{◌≡◌, ℕ, ◌+◌, ◌<◌, ◌≤◌, max, Bool, [], ◌++◌, Result, Ok, Err, sym, ap, subst, arith}
 use Rattle.replica_state.specs.States.{State}
 use Rattle.replica_state.specs.Folds.{fold, clock_of}
 use Rattle.delta_exchange.specs.declared.fault.WireFault.{WireFault}
 use Rattle.node_core.specs.declared.trace.Config.{Config}
 use Rattle.node_core.specs.Asks.{Message, Deliver, emit_of}
-use Rattle.node_core.specs.Nodes.{Node, shown}
+use Rattle.node_core.specs.Nodes.{Node}
 use Rattle.node_core.specs.Steps.{after, told}
 use Rattle.node_core.specs.Holds.{Holds}
 use Rattle.node_core.specs.Deliveries.{IsDelivery}

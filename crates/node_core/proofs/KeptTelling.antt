@@ -12,7 +12,7 @@ use Rattle.actions.specs.Names.{is_name}
 use Rattle.counters.specs.Budgets.{Budget, rights}
 use Rattle.stamp_register.specs.Keys.{KeyValue}
 use Rattle.replica_state.specs.States.{State, with_name, with_shifts, budget, budget_under, rights_of}
-use Rattle.replica_state.specs.Operations.{Operation, IsIn, count_of}
+use Rattle.replica_state.specs.Operations.{IsIn, count_of}
 use Rattle.replica_state.specs.Folds.{fold, clock_of}
 use Rattle.replica_state.specs.Knowledge.{changes}
 use Rattle.replica_state.specs.Unions.{with_names}
@@ -26,7 +26,7 @@ use Rattle.node_core.specs.Asks.{call, Asked, Message, Load, Pass, Shift, Delive
 use Rattle.node_core.specs.Nodes.{Node, shown, setting_of}
 use Rattle.node_core.specs.Passes.{ops_of_pass}
 use Rattle.node_core.specs.Outcomes.{ops_done, state_done, state_set, IsHeld}
-use Rattle.node_core.specs.Steps.{after, added, new_key, issued, settings, points_in, shift_under, told}
+use Rattle.node_core.specs.Steps.{after, added, issued, settings, points_in, shift_under, told}
 use Rattle.node_core.specs.Traces.{replay}
 use Rattle.node_core.specs.Holds.{Holds, CanTell}
 use Rattle.node_core.specs.Deliveries.{IsDelivery}
@@ -112,13 +112,13 @@ module _ (config : Config) (clock version : ℕ) (state : State) (old mid new : 
       let same : fold n.ops ≡ state = h.state_is in
       let then = (holds_pass config clock state (state_done config.node state name is_set spent) (length old) n name words is_set spent h space ops held key (λ k s. (right k s).1) refl).state_is in
       let adds : ops_of_pass config.node (shown n) name words (setting_of (shown n) name) ≡ ops_done config.node (fold n.ops) name is_set spent =
-          ap (λ (v : State). ops_of_pass config.node v name words (setting_of v name)) same ∙ ops ∙ sym (ap (λ (v : State). ops_done config.node v name is_set spent) same) in
+      ap (λ (v : State). ops_of_pass config.node v name words (setting_of v name)) same ∙ ops ∙ sym (ap (λ (v : State). ops_done config.node v name is_set spent) same) in
       subst (λ k. CanTell config (version + k) (length new) (replay config.node (map (call config.nodes) new))) (sym counted)
       (put (version + from_bool is_set) (Pass name) words is with
       (tell_after config version (length old) n (Pass name) words is_set t
       (ap (changes (shown n)) adds ∙ pass_changes config.node (fold n.ops) name is_set spent)
       (subst (λ os. AreLawful config.nodes (os ++ n.ops)) (sym adds) (pass_lawful config.nodes config.node n.ops name is_set spent h.own t.lawful
-          (λ b. subst (λ (v : State). IsSome (v.key name)) (sym same) (key b)) (λ k s. ((right k s).0, subst (λ (v : State). pos 1 ≤ℤ rights_of v name k config.node) (sym same) (right k s).1))))
+      (λ b. subst (λ (v : State). IsSome (v.key name)) (sym same) (key b)) (λ k s. ((right k s).0, subst (λ (v : State). pos 1 ≤ℤ rights_of v name k config.node) (sym same) (right k s).1))))
       (subst (λ ns. length ns ≤ 256) (sym (sym (ap (λ (v : State). v.names) (shown_after config.node n (Pass name) words)) ∙ ap (λ (v : State). v.names) then ∙ done_names config.node state name is_set spent ∙ ap (λ (v : State). v.names) (sym same))) t.few_names)))
 
   pub shift_tell : (name : List ℕ) (term to amount : ℕ) → (call config.nodes e).ask ≡ Shift name term to amount → (call config.nodes e).words ≡ [] → IsSome ((shown n).key name) × IsHeld (shown n) name → (to ≢ config.node) × (pos amount ≤ℤ rights_of (shown n) name term config.node) →
@@ -131,7 +131,7 @@ module _ (config : Config) (clock version : ℕ) (state : State) (old mid new : 
           let same : fold n.ops ≡ state = h.state_is in
           let adds : shift_under config.node (shown n) name term to amount ((shown n).key name) ≡ shift_under config.node (shown n) name term to amount (Some key) = ap (shift_under config.node (shown n) name term to amount) here in
           let then = (holds_shift config clock state (with_shifts name term config.node to (state.shifts name term config.node to + amount) state) (length old) n name term to amount key h space
-              (sym (ap (λ (v : State). v.key name) same) ∙ here) (subst (λ (v : State). IsHeld v name) same set.1) enough.0 (subst (λ (v : State). pos amount ≤ℤ rights_of v name term config.node) same enough.1) refl).state_is in
+          (sym (ap (λ (v : State). v.key name) same) ∙ here) (subst (λ (v : State). IsHeld v name) same set.1) enough.0 (subst (λ (v : State). pos amount ≤ℤ rights_of v name term config.node) same enough.1) refl).state_is in
           put (version + 1) (Shift name term to amount) [] is with
           (tell_after config version (length old) n (Shift name term to amount) [] true t
           (ap (changes (shown n)) adds ∙ shift_changes config.node (shown n) name term to amount key there.1 here)

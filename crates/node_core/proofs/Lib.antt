@@ -19,3 +19,4 @@ pub mod DeliverySteps
 pub mod LawfulSteps
 pub mod KeptTelling
 pub mod Replied
+pub mod SpareWords

@@ -1,32 +1,30 @@
 -- What a node knows once it learnt what a message tells.
-use Rattle.std.proofs.Common.{◌≡◌, ℕ, ◌+◌, ◌<◌, ◌≤◌, zero, suc, Bool, true, false, not, ◌||◌, max, List, [], ◌∷◌, ◌++◌, length, map, inl, inr, ⊎_elim, ◌⊎◌, ◌↔◌, Option, Some, None, IsTrue, refl, sym, ◌∙◌, ap, subst, arith, nat_le, ◌-◌}
+use Rattle.std.proofs.Common.{◌≡◌, ℕ, ◌+◌, ◌<◌, ◌≤◌, zero, suc, Bool, true, false, not, ◌||◌, List, [], ◌∷◌, ◌++◌, length, map, inl, inr, ⊎_elim, ◌⊎◌, ◌↔◌, Option, Some, None, IsTrue, refl, sym, ◌∙◌, ap, subst, arith}
 use Rattle.std.proofs.lemmas.Bool.{true≢false, cases_lt, le-leb}
 use Rattle.std.proofs.lemmas.List.{append-nil}
 use Rattle.std.specs.List.{list_any, flat_map}
-use Rattle.std.specs.Ordering.{match_ordering}
 use Rattle.std.specs.declared.cmp.Ordering.{Ordering}
 use Rattle.std.specs.declared.cmp.Ordering.TheVariants.{Less, Equal, Greater}
 use Rattle.counters.specs.Sums.{numbers, sum_below}
-use Rattle.actions.specs.Value.{TermValue}
-use Rattle.stamp_register.specs.Keys.{KeyValue, key_le, same_key}
+use Rattle.stamp_register.specs.Keys.{KeyValue, same_key}
 use Rattle.stamp_register.proofs.KeyLemmas.{same_key-true}
 use Rattle.replica_state.specs.Operations.{Operation, Set, Count, Hits, Execs, Shifts, IsIn, count_at}
 use Rattle.replica_state.specs.States.{State}
 use Rattle.replica_state.specs.Folds.{fold, name_in, key_in, key_of, number_at, at_key}
-use Rattle.replica_state.specs.StateOrder.{IsKeyBelow, IsBelow}
+use Rattle.replica_state.specs.StateOrder.{IsBelow}
 use Rattle.replica_state.specs.Knowledge.{is_upto, knows, knows_count, changes}
 use Rattle.replica_state.specs.Unions.{key_order, number_both, with_names, union_of}
 use Rattle.replica_state.proofs.Sets.{KeyUpto, KeyUpto-trans, key_of-is_in, number_at-is_in, number_at-least}
 use Rattle.replica_state.proofs.KnownSets.{keys_only, below_not_above, own_name, union_above_left}
 use Rattle.replica_state.proofs.SetJoins.{fold-unites}
 use Rattle.replica_state.proofs.StateOrders.{stands_above, stands_equal, stands_below}
-use Rattle.replica_state.proofs.Changes.{any_false, false_any, changes_is_change}
+use Rattle.replica_state.proofs.Changes.{false_any, changes_is_change}
 use Rattle.delta_exchange.specs.declared.message.NameEntry.{NameEntry}
 use Rattle.delta_exchange.specs.Messages.{EntryValue, entry_value, operations_of}
 use Rattle.delta_exchange.specs.Wholes.{AreLawful}
 use Rattle.node_core.specs.Nodes.{setting_of, setting_in, terms_in}
 use Rattle.node_core.specs.Refusals.{any_below, is_above, is_overspent, overspends}
-use Rattle.node_core.specs.Deliveries.{terms_both, execs_both, are_overspent, is_overspent_below}
+use Rattle.node_core.specs.Deliveries.{terms_both, execs_both, is_overspent_below}
 use Rattle.node_core.proofs.Ahead.{any_told}
 use Rattle.node_core.proofs.SettingSteps.{names_united, turned}
 
@@ -106,7 +104,7 @@ module _ (nodes : ℕ) (few : nodes ≤ numbers) (ops known : List Operation) (v
   name_overspent name =
       ap (is_overspent (union_of v t) name) (terms_by v t name (key_order (t.key name) (v.key name)) refl)
       ∙ any_same (length (terms_both (key_order (t.key name) (v.key name)) v t name)) _ _
-          (λ term. ap (is_above (count_at (terms_both (key_order (t.key name) (v.key name)) v t name) term)) (all_execs name term))
+      (λ term. ap (is_above (count_at (terms_both (key_order (t.key name) (v.key name)) v t name) term)) (all_execs name term))
 
   -- each operation of an entry is of its name
   abbrev here : List ℕ → Bool
@@ -129,11 +127,11 @@ module _ (nodes : ℕ) (few : nodes ≤ numbers) (ops known : List Operation) (v
   entry_overspent : (e : EntryValue) → list_any (overspends (fold (ops ++ known))) (operations_of e) ≡ here e.name
   entry_overspent e =
       ap (λ b. b || list_any (overspends (fold (ops ++ known))) (map (λ c. Count (Hits e.name c.0) c.1) e.hits ++ (map (λ c. Count (Execs e.name e.key c.0 c.1) c.2) e.execs ++ map (λ c. Count (Shifts e.name e.key c.0 c.1 c.2) c.3) e.shifts)))
-          (overspends_as (Set e.name e.key))
+      (overspends_as (Set e.name e.key))
       ∙ all_here (λ c. Count (Hits e.name c.0) c.1) e.name (λ c. refl) e.hits _
-          (all_here (λ c. Count (Execs e.name e.key c.0 c.1) c.2) e.name (λ c. refl) e.execs _
-          (subst (λ os. (here e.name || list_any (overspends (fold (ops ++ known))) os) ≡ here e.name) (append-nil (map (λ c. Count (Shifts e.name e.key c.0 c.1 c.2) c.3) e.shifts))
-          (all_here (λ c. Count (Shifts e.name e.key c.0 c.1 c.2) c.3) e.name (λ c. refl) e.shifts [] (or_none (here e.name)))))
+      (all_here (λ c. Count (Execs e.name e.key c.0 c.1) c.2) e.name (λ c. refl) e.execs _
+      (subst (λ os. (here e.name || list_any (overspends (fold (ops ++ known))) os) ≡ here e.name) (append-nil (map (λ c. Count (Shifts e.name e.key c.0 c.1 c.2) c.3) e.shifts))
+      (all_here (λ c. Count (Shifts e.name e.key c.0 c.1 c.2) c.3) e.name (λ c. refl) e.shifts [] (or_none (here e.name)))))
     where
       or_none : (b : Bool) → (b || false) ≡ b
       or_none true = refl

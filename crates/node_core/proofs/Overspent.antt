@@ -1,10 +1,9 @@
 -- Tests over the numbers of terms, and the clocks of entries.
-use Rattle.std.proofs.Common.{◌≡◌, ℕ, ◌+◌, ◌<◌, ◌≤◌, zero, suc, Bool, true, false, ◌||◌, max, List, [], ◌∷◌, ◌++◌, length, map, take, ◌⊎◌, inl, inr, refl, sym, ◌∙◌, ap, subst, arith}
+use Rattle.std.proofs.Common.{◌≡◌, ℕ, ◌+◌, ◌<◌, ◌≤◌, zero, suc, Bool, true, false, ◌||◌, max, List, [], ◌∷◌, ◌++◌, length, map, take, ◌⊎◌, inl, inr, refl, ◌∙◌, ap, arith}
 use Rattle.std.specs.List.{flat_map}
 use Rattle.std.specs.Prelude.{slice_index_or}
 use Rattle.std.proofs.lemmas.List.{take_more, map-append}
 use Rattle.std.proofs.lemmas.List.Concat.{flat_map-append}
-use Rattle.stamp_register.specs.Keys.{KeyValue}
 use Rattle.replica_state.specs.Operations.{Operation, Count, Hits, Execs, Shifts}
 use Rattle.replica_state.specs.Folds.{clock_in, clock_of}
 use Rattle.delta_exchange.specs.declared.message.NameEntry.{NameEntry}
@@ -59,9 +58,9 @@ pub clock_more : (es : List NameEntry) (i : ℕ) (d : NameEntry) → i < length 
 clock_more es i d low =
     let e : NameEntry = slice_index_or es i d in
     let grown : flat_map operations_of (map entry_value (take (i + 1) es)) ≡ flat_map operations_of (map entry_value (take i es)) ++ flat_map operations_of (entry_value e ∷ []) =
-        ap (λ xs. flat_map operations_of (map entry_value xs)) (take_more es i d low)
-        ∙ ap (flat_map operations_of) (map-append entry_value (take i es) (e ∷ []))
-        ∙ flat_map-append operations_of (map entry_value (take i es)) (entry_value e ∷ []) in
+    ap (λ xs. flat_map operations_of (map entry_value xs)) (take_more es i d low)
+    ∙ ap (flat_map operations_of) (map-append entry_value (take i es) (e ∷ []))
+    ∙ flat_map-append operations_of (map entry_value (take i es)) (entry_value e ∷ []) in
     let whole = ap clock_of grown in
     let parts = clock-append (flat_map operations_of (map entry_value (take i es))) (flat_map operations_of (entry_value e ∷ [])) in
     let last = clock-append (operations_of (entry_value e)) [] in

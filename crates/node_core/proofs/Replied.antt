@@ -1,10 +1,9 @@
 -- The reply of an emit whose bytes tell all.
 use Rattle.std.proofs.Common.{◌≡◌, ℕ, List, [], Ok, refl, sym, ◌∙◌, ap, subst}
-use Rattle.delta_exchange.specs.Messages.{MessageValue}
 use Rattle.delta_exchange.specs.Spelling.{message_bytes}
 use Rattle.delta_exchange.specs.Reading.{message_at}
 use Rattle.delta_exchange.proofs.MessageLemmas.{message_again}
-use Rattle.node_core.specs.Asks.{IsEmitted, Message, message_of, read_of, message_read, emit_of}
+use Rattle.node_core.specs.Asks.{IsEmitted, message_of, read_of, message_read, emit_of}
 use Rattle.node_core.specs.Traces.{Kept, reply_to}
 use Rattle.node_core.specs.Deliveries.{TellsAll}
 

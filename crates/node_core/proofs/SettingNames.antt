@@ -1,5 +1,5 @@
 -- The names of the points that a setting text sets.
-use Rattle.std.proofs.Common.{◌≡◌, ℕ, List, [], ◌∷◌, map, Option, Some, IsTrue, inl, inr, sym, subst}
+use Rattle.std.proofs.Common.{ℕ, List, [], ◌∷◌, map, Option, Some, IsTrue, inl, inr, sym, subst}
 use Rattle.actions.specs.Value.{TermValue}
 use Rattle.actions.specs.Names.{is_name}
 use Rattle.actions.specs.SettingGrammar.{Entry, blank, setting, SetEach, SpellsSetting}

@@ -1,13 +1,11 @@
 -- A message can tell all that a node knows, after one more call too.
-use Rattle.std.proofs.Common.{◌≡◌, ℕ, ◌+◌, ◌<◌, ◌≤◌, Bool, true, false, cond, List, [], ◌∷◌, ◌++◌, length, map, subst, length-append, Option, Some, None, refl, sym, ◌∙◌, ap, arith}
+use Rattle.std.proofs.Common.{◌≡◌, ℕ, ◌+◌, ◌≤◌, Bool, true, false, cond, List, [], ◌∷◌, ◌++◌, length, map, subst, length-append, Option, Some, None, refl, sym, ◌∙◌, ap, arith}
 use Rattle.std.proofs.lemmas.List.{map-append}
 use Rattle.std.specs.Int.{from_bool}
 use Rattle.stamp_register.specs.Keys.{KeyValue}
-use Rattle.replica_state.specs.Operations.{Operation}
 use Rattle.replica_state.specs.States.{State, with_name, with_key, with_hits, with_execs, with_shifts}
 use Rattle.replica_state.specs.Folds.{fold}
 use Rattle.replica_state.specs.Knowledge.{changes}
-use Rattle.replica_state.specs.Unions.{with_names}
 use Rattle.delta_exchange.specs.Wholes.{AreLawful}
 use Rattle.delta_exchange.proofs.LawfulLemmas.{lawful_none}
 use Rattle.node_core.specs.declared.trace.Config.{Config}

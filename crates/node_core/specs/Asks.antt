@@ -1,5 +1,5 @@
 -- What a node is asked and what it replies, without where texts lie in memory.
-use Rattle.std.specs.Prelude.{ℕ, Bool, List, [], string_bytes, Result, Ok, Err}
+use Rattle.std.specs.Prelude.{ℕ, Bool, true, false, List, [], string_bytes, Result, Ok, Err}
 use Rattle.actions.specs.Value.{TaskValue, task_value}
 use Rattle.stamp_register.specs.declared.key.Stamp.{Stamp}
 use Rattle.replica_state.specs.Operations.{Operation}
@@ -97,6 +97,20 @@ asked nodes (asks.Pass name) reply = Pass (string_bytes name)
 asked nodes (asks.Shift name term to amount) reply = Shift (string_bytes name) term to amount
 asked nodes (asks.Emit to) reply = emit_asked nodes to reply
 asked nodes (asks.Deliver bytes) reply = Deliver (message_read nodes bytes.items)
+
+-- what is asked, before there is a reply: of an emit no versions and no operations are chosen yet
+abbrev pub asked_first : ℕ → Ask → Asked
+asked_first nodes (asks.Set name text) = Set (string_bytes name) (string_bytes text)
+asked_first nodes (asks.Remove name) = Remove (string_bytes name)
+asked_first nodes (asks.Load text) = Load (string_bytes text)
+asked_first nodes (asks.Pass name) = Pass (string_bytes name)
+asked_first nodes (asks.Shift name term to amount) = Shift (string_bytes name) term to amount
+asked_first nodes (asks.Emit to) = Emit to no_versions []
+asked_first nodes (asks.Deliver bytes) = Deliver (message_read nodes bytes.items)
+
+abbrev pub is_pass : Ask → Bool
+is_pass (asks.Pass name) = true
+is_pass _ = false
 
 abbrev pub passed : PassReply → Passed
 passed passes.Unset = Unset

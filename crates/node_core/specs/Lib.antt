@@ -9,3 +9,4 @@ pub mod Traces
 pub mod Holds
 pub mod Texts
 pub mod Deliveries
+pub mod Applied

@@ -38,9 +38,10 @@ entry_for k ask words = record { ask = ask; words = words; reply = reply_to k as
 abbrev pub after_call : Kept → Asked → List ℕ → Kept
 after_call k ask words = record { config = k.config; trace = k.trace ++ entry_for k ask words ∷ [] }
 
--- an emit tells no version that the node hasn't, and sends what differs between its state at the version that it
+-- an emit tells no version that the node hasn't, counts on none that its receiver isn't known to have, and sends what differs between its state at the version that it
 -- counts on and its state now
 pub record MayTell (marks : Marks) (to : ℕ) (versions : Versions) : Type 0 where
+  pub base : versions.base ≤ marks.acked to
   pub upto : versions.upto ≤ marks.version
   pub ack : versions.ack ≤ marks.known to
 

@@ -104,10 +104,8 @@ fn are_execs_ahead(
 ) -> bool
     ensures { result ≡ list_any (λ c. c.1 == me && ahead_by order ((matrix_state state.now).execs name.now c.0 me) c.2) execs.now }
 {
-    execs
-        .iter()
-        .any(|(term, node, told)| *node == me
-            && is_number_ahead(order, state.exec(name, *term, me), *told))
+    execs.iter().any(|(term, node, told)| *node == me
+        && is_number_ahead(order, state.exec(name, *term, me), *told))
 }
 
 /// Whether it is told that a node moved more rights, under a key that stands so, than it knows
@@ -121,10 +119,8 @@ fn are_shifts_ahead(
 ) -> bool
     ensures { result ≡ list_any (λ c. c.1 == me && ahead_by order ((matrix_state state.now).shifts name.now c.0 me c.2) c.3) shifts.now }
 {
-    shifts
-        .iter()
-        .any(|(term, from, to, told)| *from == me
-            && is_number_ahead(order, state.moved(name, *term, me, *to), *told))
+    shifts.iter().any(|(term, from, to, told)| *from == me
+        && is_number_ahead(order, state.moved(name, *term, me, *to), *told))
 }
 
 /// Whether an entry says more of this node than it knows itself.
@@ -184,14 +180,7 @@ fn standing_of(state: &State, told: &State, name: &Name) -> Ordering
 
 /// The executions of a term at a node once both states are one, where the key that is told stands
 /// so.
-fn execs_at(
-    order: Ordering,
-    state: &State,
-    told: &State,
-    name: &Name,
-    term: u8,
-    node: u8,
-) -> u64
+fn execs_at(order: Ordering, state: &State, told: &State, name: &Name, term: u8, node: u8) -> u64
     ensures { result ≡ number_both order ((matrix_state state.now).execs name.now term node) ((matrix_state told.now).execs name.now term node) }
 {
     let held = state.exec(name, term, node);
@@ -282,7 +271,12 @@ fn count_at(actions: &Actions, term: u8) -> Option<u64>
 
 /// Whether one of the names that a message tells of would have a term that is executed more often
 /// than it is counted.
-pub(crate) fn is_any_overspent(nodes: u8, state: &State, told: &State, entries: &[NameEntry]) -> bool
+pub(crate) fn is_any_overspent(
+    nodes: u8,
+    state: &State,
+    told: &State,
+    entries: &[NameEntry],
+) -> bool
     ensures { result ≡ list_any (λ e. is_overspent_below nodes (matrix_state state.now) (matrix_state told.now) e.name) entries.now }
 {
     entries

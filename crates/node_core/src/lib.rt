@@ -2,6 +2,7 @@
 //! trace of the calls that it accepted, from which all that it holds follows.
 #![tactic(auto)]
 
+mod apply;
 mod delivery;
 mod fault;
 mod list;

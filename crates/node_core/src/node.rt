@@ -30,8 +30,8 @@ use crate::load::{read_points, set_to, state_with};
 use crate::pass::{Outcome, count, outcome_of, words_needed};
 use crate::shift::total_with;
 use crate::trace::{Ask, Config, Entry, PassReply, Reply, Trace};
-use delta_exchange::{encode, told, whole};
 use actions::{ActionFault, Actions, Name, NameFault, parse_actions};
+use delta_exchange::{encode, told, whole};
 use lattice_laws::Join;
 use replica_state::Replica;
 use stamp_register::{Body, Key, Stamp};
@@ -332,7 +332,7 @@ impl NodeCore {
     }
 
     // The name and the actions, or the refusal.
-    fn set_checked(
+    pub(crate) fn set_checked(
         &self,
         alloc: Global,
         name: &str,
@@ -357,7 +357,7 @@ impl NodeCore {
     }
 
     // The name, or the refusal.
-    fn remove_checked(&self, alloc: Global, name: &str) -> Result<Name, NodeFault>
+    pub(crate) fn remove_checked(&self, alloc: Global, name: &str) -> Result<Name, NodeFault>
         ensures ok { IfOk result (λ p. (refusal self.now (asks.Remove name.now) [] ≡ None) × (p ≡ name.now)) }
         ensures few { OnOk result (IsTrue (is_name name.now) × (too_many (with_name name.now (shown (node_of self.now)).names) ≡ false)) }
         ensures room { OnOk result ((length self.now.trace < self.now.config.trace_cap) × ((node_of self.now).marks.clock + 1 < 2 ^ 64)) }
@@ -430,7 +430,7 @@ impl NodeCore {
 
     // The points of a setting in a state of their own, and how many entries there are, or the
     // refusal.
-    fn load_checked(&self, alloc: Global, text: &str) -> Result<(State, u16), NodeFault>
+    pub(crate) fn load_checked(&self, alloc: Global, text: &str) -> Result<(State, u16), NodeFault>
         ensures ok { IfOk result (λ p. (refusal self.now (asks.Load text.now) [] ≡ None) × (p.1 ≡ length (points_in text.now))) }
         ensures state { IfOk result (λ p. matrix_state p.0 ≡ state_set self.now.config.node (node_of self.now).marks.clock (settings (asks.Load text.now)) (fold [])) }
         ensures room { IfOk result (λ p. (length self.now.trace < self.now.config.trace_cap) × ((node_of self.now).marks.clock + p.1 < 2 ^ 64)) }
@@ -487,7 +487,7 @@ impl NodeCore {
     }
 
     // The name and how many rights are moved in all, or the refusal.
-    fn shift_checked(
+    pub(crate) fn shift_checked(
         &self,
         alloc: Global,
         name: &str,
@@ -547,7 +547,7 @@ impl NodeCore {
     }
 
     // Whether a message to a node is refused.
-    fn emit_checked(&self, to: u8) -> Result<(), NodeFault>
+    pub(crate) fn emit_checked(&self, to: u8) -> Result<(), NodeFault>
         ensures ok { OnOk result (refusal self.now (asks.Emit to no_versions []) [] ≡ None) }
         ensures room { OnOk result ((length self.now.trace < self.now.config.trace_cap) × (to < self.now.config.nodes) × (to ≢ self.now.config.node)) }
         ensures refused { IfErr result (λ f. refusal self.now (asks.Emit to no_versions []) [] ≡ Some f) }
@@ -566,13 +566,7 @@ impl NodeCore {
         requires to { (to < self.now.config.nodes) × (to ≢ self.now.config.node) }
         ensures { IfOk result (λ b. TellsAll self.now to b.items) }
     {
-        let message = whole(
-            alloc,
-            &self.state,
-            self.config.nodes,
-            self.config.node,
-            to,
-        )?;
+        let message = whole(alloc, &self.state, self.config.nodes, self.config.node, to)?;
         encode(alloc, &message)
     }
 
@@ -594,7 +588,7 @@ impl NodeCore {
     }
 
     // What a message comes to, or the refusal.
-    fn deliver_checked(&self, alloc: Global, bytes: &[u8]) -> Result<Delivery, NodeFault>
+    pub(crate) fn deliver_checked(&self, alloc: Global, bytes: &[u8]) -> Result<Delivery, NodeFault>
         ensures ok { OnOk result (refusal self.now (asks.Deliver (message_read self.now.config.nodes bytes.now)) [] ≡ None) }
         ensures delivery { IfOk result (λ d. IsDelivery self.now.config (node_of self.now) (message_read self.now.config.nodes bytes.now) (matrix_state d.told) d.clock d.changed) }
         ensures room { OnOk result (length self.now.trace < self.now.config.trace_cap) }

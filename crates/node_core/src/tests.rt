@@ -1,6 +1,7 @@
 //! Examples from outside. A call that is refused memory has to leave the node as it was, and is
 //! then made a second time: so all of these also pass where any one allocation fails.
 
+mod applied;
 mod calls;
 mod memory;
 mod refusals;

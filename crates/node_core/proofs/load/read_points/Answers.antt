@@ -1,4 +1,3 @@
-use Rattle.actions.specs.Names.{is_name}
 use Rattle.node_core.proofs.SettingNames.{points_named}
 use Rattle.node_core.proofs.load.read_points.Goals as goal
 

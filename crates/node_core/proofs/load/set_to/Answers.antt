@@ -1,6 +1,5 @@
-use Rattle.std.proofs.Common.{sym, subst, Some, refl}
+use Rattle.std.proofs.Common.{subst, refl}
 use Rattle.std.specs.Str.{IsUtf8}
-use Rattle.delta_exchange.specs.Spelling.{IsBody}
 use Rattle.node_core.proofs.load.set_to.Goals as goal
 
 pub returns-clause-told : goal.returns-clause-told

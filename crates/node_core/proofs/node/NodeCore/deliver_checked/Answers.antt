@@ -1,4 +1,4 @@
-use Rattle.std.proofs.Common.{◌≡◌, ◌<◌, ℕ, List, inr, inl, arith, ap, sym, ◌∙◌, subst, map, length, refl}
+use Rattle.std.proofs.Common.{◌<◌, ℕ, List, inr, arith, ap, sym, ◌∙◌, subst, map, length, refl}
 use Rattle.std.proofs.lemmas.List.{length-map}
 use Rattle.std.specs.List.{list_any, flat_map}
 use Rattle.replica_state.specs.Slots.{matrix_state}
@@ -110,4 +110,3 @@ returns-clause-delivery c =
     rw (← c.self.view_is) (delivery_is node.config node.clock node.version (matrix_state node.state) entries n held tells room read m c.in_ok-message.ensures.ok c.in_ok-message.ensures.spelled c.if-message-self.false c.is_message_ahead.result c.is_message_ahead.ensures c.if-is_message_ahead.false c.if-message-self-2.false (matrix_state c.in_ok-told.told) c.in_ok-told.ensures c.in_ok-message.message.entries.items refl c.is_any_overspent.result (c.is_any_overspent.ensures ∙ ap (list_any _) c.deref.ensures.value) c.if-is_any_overspent.false c.names_together.result c.names_together.ensures c.if-names_together-gt-MAX_NAMES.false
     c.below.result (λ b. ordered.0 (c.below.ensures.value.0 b), λ b. c.below.ensures.value.1 (ordered.1 b))
     c.latest_clock.result (c.latest_clock.ensures ∙ ap (λ (es : List NameEntry). clock_of (flat_map operations_of (map entry_value es))) c.deref-2.ensures.value))
-

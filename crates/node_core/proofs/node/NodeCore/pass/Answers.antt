@@ -1,4 +1,4 @@
-use Rattle.std.proofs.Common.{◌≡◌, ◌<◌, ◌^◌, ℕ, Option, Some, subst}
+use Rattle.std.proofs.Common.{◌<◌, ◌^◌, ℕ, Option, subst}
 use Rattle.std.specs.Option.{IfSome}
 use Rattle.replica_state.specs.Slots.{matrix_state}
 use Rattle.node_core.specs.Asks.{Pass}

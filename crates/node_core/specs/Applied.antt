@@ -1,0 +1,22 @@
+-- Calls that are given as values.
+use Rattle.node_core.specs.declared.fault.NodeFault.{NodeFault}
+use Rattle.node_core.specs.declared.fault.NodeFault.TheVariants as faults
+use Rattle.node_core.specs.declared.trace.Ask.{Ask}
+use Rattle.node_core.specs.declared.trace.Ask.TheVariants as asks
+use Rattle.node_core.specs.declared.trace.Reply.{Reply}
+use Rattle.node_core.specs.declared.trace.Reply.TheVariants as replies
+use Rattle.node_core.specs.Traces.{Kept}
+use Rattle.node_core.specs.Deliveries.{TellsAll}
+
+-- why a delivery that is refused so is refused with words
+abbrev pub delivery_refused_with : NodeFault → NodeFault
+delivery_refused_with faults.TraceFull = faults.TraceFull
+delivery_refused_with faults.TooManyPoints = faults.TooManyPoints
+delivery_refused_with faults.OutOfMemory = faults.OutOfMemory
+delivery_refused_with _ = faults.BadWords 0
+
+-- the reply to an emit tells all that the node knows
+abbrev pub TellsIfEmit : Kept → Ask → Reply → Type 0
+TellsIfEmit k (asks.Emit to) (replies.Emit bytes) = TellsAll k to bytes.items
+TellsIfEmit k (asks.Emit to) _ = ⊥
+TellsIfEmit k _ reply = Unit {0}

@@ -1,0 +1,135 @@
+//! Calls that are given as values.
+
+use super::*;
+
+fn text(alloc: Global, text: &str) -> Result<String, Fail> {
+    match String::from_str(alloc, text) {
+        Err(_) => Ok(String::from_str(alloc, text)?),
+        first => Ok(first?),
+    }
+}
+
+fn passed_text(alloc: Global, reply: &PassReply) -> Result<String, Fail> {
+    match reply {
+        PassReply::Unset => text(alloc, "unset"),
+        PassReply::NoTerm { stamp } => shown(alloc, stamp),
+        PassReply::Act { stamp, term, task } => {
+            let mut act = shown(alloc, stamp)?;
+            for part in [shown(alloc, term)?, shown(alloc, task)?] {
+                act = joined(alloc, &act, &part)?;
+            }
+            Ok(act)
+        }
+    }
+}
+
+fn joined(alloc: Global, first: &str, second: &str) -> Result<String, Fail> {
+    match format!(in alloc; "{first} {second}") {
+        Err(_) => Ok(format!(in alloc; "{first} {second}")?),
+        both => Ok(both?),
+    }
+}
+
+fn reply_text(alloc: Global, reply: &Reply) -> Result<String, Fail> {
+    match reply {
+        Reply::Set(stamp) => shown(alloc, stamp),
+        Reply::Remove(stamp) => shown(alloc, stamp),
+        Reply::Load(entries) => shown(alloc, entries),
+        Reply::Pass(passed) => passed_text(alloc, passed),
+        Reply::Shift(total) => shown(alloc, total),
+        Reply::Emit(message) => shown(alloc, &message.len()),
+        Reply::Deliver(changed) => shown(alloc, changed),
+    }
+}
+
+/// The reply, or the fault, of a call.
+fn applied(alloc: Global, node: &mut NodeCore, ask: &Ask, words: &[u32]) -> Result<String, Fail> {
+    let entries = node.trace().len();
+    let first = match node.apply(alloc, ask, words) {
+        Err(NodeFault::OutOfMemory) if node.trace().len() == entries => node.apply(
+            alloc, ask, words,
+        ),
+        first => first,
+    };
+    match first {
+        Ok(entry) => reply_text(alloc, &entry.reply),
+        Err(fault) => shown(alloc, &fault),
+    }
+}
+
+fn set_ask(alloc: Global, name: &str, actions: &str) -> Result<Ask, Fail> {
+    Ok(Ask::Set {
+        name: text(alloc, name)?,
+        text: text(alloc, actions)?,
+    })
+}
+
+fn pass_ask(alloc: Global, name: &str) -> Result<Ask, Fail> {
+    Ok(Ask::Pass {
+        name: text(alloc, name)?,
+    })
+}
+
+fn shift_ask(alloc: Global, name: &str, to: u8, amount: u64) -> Result<Ask, Fail> {
+    Ok(Ask::Shift {
+        name: text(alloc, name)?,
+        term: 0,
+        to,
+        amount,
+    })
+}
+
+#[test]
+fn count_of_three_through_apply(alloc: Global) -> Result<(), Fail> {
+    let mut node = node(alloc, 100)?;
+    let set = set_ask(alloc, "p", "20%3*print(still alive!)->panic")?;
+    let pass = pass_ask(alloc, "p")?;
+    assert!(applied(alloc, &mut node, &set, &[])? == "1.0");
+    for _ in 0..3 {
+        assert!(applied(alloc, &mut node, &pass, &[0])? == "1.0 0 print(still alive!)");
+    }
+    assert!(applied(alloc, &mut node, &pass, &[0])? == "1.0 1 panic");
+    assert!(applied(alloc, &mut node, &pass, &[])? == "N14 BadWords need=1");
+    assert!(node.trace().len() == 5);
+    Ok(())
+}
+
+#[test]
+fn each_ask_through_apply(alloc: Global) -> Result<(), Fail> {
+    let mut node = NodeCore::new(alloc, config(2, 9))?;
+    let load = Ask::Load {
+        text: text(alloc, "a=5*off;b=off")?,
+    };
+    let remove = Ask::Remove {
+        name: text(alloc, "b")?,
+    };
+    let message = Vec::from_slice(alloc, b"FPG")?;
+    assert!(applied(alloc, &mut node, &load, &[])? == "2");
+    assert!(applied(alloc, &mut node, &remove, &[])? == "3.0");
+    assert!(applied(alloc, &mut node, &shift_ask(alloc, "a", 1, 2)?, &[])? == "2");
+    assert!(applied(alloc, &mut node, &Ask::Emit { to: 1 }, &[])? == "93");
+    let refused = applied(alloc, &mut node, &Ask::Deliver { message }, &[])?;
+    assert!(refused == "N16 BadMessage W2 Short offset=0");
+    assert!(node.trace().len() == 4);
+    Ok(())
+}
+
+#[test]
+fn spare_words_are_refused_last_but_before_a_message(alloc: Global) -> Result<(), Fail> {
+    let mut node = NodeCore::new(alloc, config(2, 1))?;
+    let good = set_ask(alloc, "a", "off")?;
+    assert!(applied(alloc, &mut node, &good, &[1])? == "N14 BadWords need=0");
+    let bad = set_ask(alloc, "a!", "off")?;
+    assert!(applied(alloc, &mut node, &bad, &[1])? == "N2 BadName");
+    let shift = shift_ask(alloc, "a", 1, 1)?;
+    assert!(applied(alloc, &mut node, &shift, &[1])? == "N6 NotSet");
+    assert!(applied(alloc, &mut node, &Ask::Emit { to: 0 }, &[1])? == "N9 BadNode");
+    assert!(applied(alloc, &mut node, &Ask::Emit { to: 1 }, &[1])? == "N14 BadWords need=0");
+    let message = Vec::from_slice(alloc, b"FPG")?;
+    let deliver = Ask::Deliver { message };
+    assert!(applied(alloc, &mut node, &deliver, &[1])? == "N14 BadWords need=0");
+    assert!(node.trace().is_empty());
+    assert!(applied(alloc, &mut node, &good, &[])? == "1.0");
+    assert!(applied(alloc, &mut node, &deliver, &[1])? == "N1 TraceFull");
+    Ok(())
+}
