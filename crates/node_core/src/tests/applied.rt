@@ -80,22 +80,26 @@ fn shift_ask(alloc: Global, name: &str, to: u8, amount: u64) -> Result<Ask, Fail
 }
 
 #[test]
-fn count_of_three_through_apply(alloc: Global) -> Result<(), Fail> {
+fn count_of_three_through_apply(rt: HostRuntime) -> Result<(), Fail> {
+    let alloc = rt.alloc();
     let mut node = node(alloc, 100)?;
     let set = set_ask(alloc, "p", "20%3*print(still alive!)->panic")?;
     let pass = pass_ask(alloc, "p")?;
-    assert!(applied(alloc, &mut node, &set, &[])? == "1.0");
+    assert!(rt; applied(alloc, &mut node, &set, &[])?.as_str() == "1.0");
     for _ in 0..3 {
-        assert!(applied(alloc, &mut node, &pass, &[0])? == "1.0 0 print(still alive!)");
+        assert!(rt;
+            applied(alloc, &mut node, &pass, &[0])?.as_str() == "1.0 0 print(still alive!)"
+        );
     }
-    assert!(applied(alloc, &mut node, &pass, &[0])? == "1.0 1 panic");
-    assert!(applied(alloc, &mut node, &pass, &[])? == "N14 BadWords need=1");
-    assert!(node.trace().len() == 5);
+    assert!(rt; applied(alloc, &mut node, &pass, &[0])?.as_str() == "1.0 1 panic");
+    assert!(rt; applied(alloc, &mut node, &pass, &[])?.as_str() == "N14 BadWords need=1");
+    assert!(rt; node.trace().len() == 5);
     Ok(())
 }
 
 #[test]
-fn each_ask_through_apply(alloc: Global) -> Result<(), Fail> {
+fn each_ask_through_apply(rt: HostRuntime) -> Result<(), Fail> {
+    let alloc = rt.alloc();
     let mut node = NodeCore::new(alloc, config(2, 9))?;
     let load = Ask::Load {
         text: text(alloc, "a=5*off;b=off")?,
@@ -104,32 +108,35 @@ fn each_ask_through_apply(alloc: Global) -> Result<(), Fail> {
         name: text(alloc, "b")?,
     };
     let message = Vec::from_slice(alloc, b"FPG")?;
-    assert!(applied(alloc, &mut node, &load, &[])? == "2");
-    assert!(applied(alloc, &mut node, &remove, &[])? == "3.0");
-    assert!(applied(alloc, &mut node, &shift_ask(alloc, "a", 1, 2)?, &[])? == "2");
-    assert!(applied(alloc, &mut node, &Ask::Emit { to: 1 }, &[])? == "93");
+    assert!(rt; applied(alloc, &mut node, &load, &[])?.as_str() == "2");
+    assert!(rt; applied(alloc, &mut node, &remove, &[])?.as_str() == "3.0");
+    assert!(rt; applied(alloc, &mut node, &shift_ask(alloc, "a", 1, 2)?, &[])?.as_str() == "2");
+    assert!(rt; applied(alloc, &mut node, &Ask::Emit { to: 1 }, &[])?.as_str() == "84");
     let refused = applied(alloc, &mut node, &Ask::Deliver { message }, &[])?;
-    assert!(refused == "N16 BadMessage W2 Short offset=0");
-    assert!(node.trace().len() == 4);
+    assert!(rt; refused.as_str() == "N16 BadMessage W2 Short offset=0");
+    assert!(rt; node.trace().len() == 4);
     Ok(())
 }
 
 #[test]
-fn spare_words_are_refused_last_but_before_a_message(alloc: Global) -> Result<(), Fail> {
+fn spare_words_are_refused_last_but_before_a_message(rt: HostRuntime) -> Result<(), Fail> {
+    let alloc = rt.alloc();
     let mut node = NodeCore::new(alloc, config(2, 1))?;
     let good = set_ask(alloc, "a", "off")?;
-    assert!(applied(alloc, &mut node, &good, &[1])? == "N14 BadWords need=0");
+    assert!(rt; applied(alloc, &mut node, &good, &[1])?.as_str() == "N14 BadWords need=0");
     let bad = set_ask(alloc, "a!", "off")?;
-    assert!(applied(alloc, &mut node, &bad, &[1])? == "N2 BadName");
+    assert!(rt; applied(alloc, &mut node, &bad, &[1])?.as_str() == "N2 BadName");
     let shift = shift_ask(alloc, "a", 1, 1)?;
-    assert!(applied(alloc, &mut node, &shift, &[1])? == "N6 NotSet");
-    assert!(applied(alloc, &mut node, &Ask::Emit { to: 0 }, &[1])? == "N9 BadNode");
-    assert!(applied(alloc, &mut node, &Ask::Emit { to: 1 }, &[1])? == "N14 BadWords need=0");
+    assert!(rt; applied(alloc, &mut node, &shift, &[1])?.as_str() == "N6 NotSet");
+    assert!(rt; applied(alloc, &mut node, &Ask::Emit { to: 0 }, &[1])?.as_str() == "N9 BadNode");
+    assert!(rt;
+        applied(alloc, &mut node, &Ask::Emit { to: 1 }, &[1])?.as_str() == "N14 BadWords need=0"
+    );
     let message = Vec::from_slice(alloc, b"FPG")?;
     let deliver = Ask::Deliver { message };
-    assert!(applied(alloc, &mut node, &deliver, &[1])? == "N14 BadWords need=0");
-    assert!(node.trace().is_empty());
-    assert!(applied(alloc, &mut node, &good, &[])? == "1.0");
-    assert!(applied(alloc, &mut node, &deliver, &[1])? == "N1 TraceFull");
+    assert!(rt; applied(alloc, &mut node, &deliver, &[1])?.as_str() == "N14 BadWords need=0");
+    assert!(rt; node.trace().is_empty());
+    assert!(rt; applied(alloc, &mut node, &good, &[])?.as_str() == "1.0");
+    assert!(rt; applied(alloc, &mut node, &deliver, &[1])?.as_str() == "N1 TraceFull");
     Ok(())
 }
