@@ -42,8 +42,8 @@ mod wire;
 mod writing;
 
 pub use fault::WireFault;
-pub use learning::told;
 pub use held::whole;
+pub use learning::told;
 pub use message::{Message, NameEntry};
 pub use reading::decode;
 pub use writing::encode;
