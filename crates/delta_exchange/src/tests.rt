@@ -3,6 +3,7 @@
 
 mod altered;
 mod faults;
+mod greatest;
 mod known;
 mod held;
 mod whole;
