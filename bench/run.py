@@ -1,5 +1,5 @@
 #!/usr/bin/env python3
-"""Times scripts of passes, loads and shifts, and raises and joins of maps. See README.md beside this file."""
+"""Times scripts of passes, loads and shifts, raises and joins of maps, and messages. See README.md beside this file."""
 
 import os
 import subprocess
@@ -28,6 +28,10 @@ SETTINGS = {
 # What is done with maps of so many keys: made of as many raises; each key raised again, in its place;
 # two maps joined; a map of one key joined in, for each key.
 WORKS = ("build", "raise", "join", "take")
+
+# Messages of so many names, each of them read and written so often.
+NAMES = (64, 128, 256)
+TIMES = 100
 
 
 def build(crate, *arguments):
@@ -102,23 +106,47 @@ def time_calls(program):
         print(f"{name:<24}{first / few * 1e6:>14.2f}{second / many * 1e6:>8.2f}{second / first:>7.2f}{memory:>10.1f}")
 
 
-def spent(program, work, keys):
-    """Seconds of a processor."""
-    child = subprocess.Popen([program, work, str(keys)], stdout=subprocess.DEVNULL)
+def spent(program, *words):
+    """Seconds of a processor, and the most memory in MiB."""
+    child = subprocess.Popen([program, *map(str, words)], stdout=subprocess.DEVNULL)
     _, status, usage = os.wait4(child.pid, 0)
     child.returncode = os.waitstatus_to_exitcode(status)
     if child.returncode != 0:
-        sys.exit(f"{program} {work} {keys}: status {child.returncode}")
-    return usage.ru_utime + usage.ru_stime
+        sys.exit(f"{program} {words}: status {child.returncode}")
+    return usage.ru_utime + usage.ru_stime, usage.ru_maxrss / 1024
 
 
 def time_maps(program):
     few, many = KEYS
     print(f"\n{'work':<12}{f'ms, {few} keys':>20}{many:>8}{'ratio':>7}")
     for work in WORKS:
-        rounds = [[spent(program, work, keys) for keys in KEYS] for _ in range(ROUNDS)]
+        rounds = [[spent(program, work, keys)[0] for keys in KEYS] for _ in range(ROUNDS)]
         first, second = (min(times) * 1e3 for times in zip(*rounds))
         print(f"{work:<12}{first:>20.0f}{second:>8.0f}{second / first:>7.2f}")
+
+
+def message_bytes(program, names):
+    words = subprocess.run([program, "encode", str(names), "0"], check=True, capture_output=True).stdout.split()
+    return int(words[0])
+
+
+def time_messages(program):
+    """What is spent without reading or writing is left out of the times."""
+    few, many, most = NAMES
+    lengths = [message_bytes(program, names) for names in NAMES]
+    print(f"\n{'message':<9}{f'MB/s, {few} names':>16}{many:>7}{most:>7}{'ratio':>7}{f'ms, {lengths[-1]} bytes':>20}{'most MiB':>10}")
+    for work in ("decode", "encode"):
+        rounds = [
+            [spent(program, work, names, times)[0] for names in NAMES for times in (0, TIMES)] for _ in range(ROUNDS)
+        ]
+        best = [min(times) for times in zip(*rounds)]
+        seconds = [(after - before) / TIMES for before, after in zip(best[::2], best[1::2])]
+        speeds = [length / time / 1e6 for length, time in zip(lengths, seconds)]
+        _, memory = spent(program, work, most, 1)
+        print(
+            f"{work:<9}{speeds[0]:>16.0f}{speeds[1]:>7.0f}{speeds[2]:>7.0f}{seconds[1] / seconds[0]:>7.2f}"
+            f"{seconds[2] * 1e3:>20.1f}{memory:>10.1f}"
+        )
 
 
 def main():
@@ -126,6 +154,7 @@ def main():
     time_passes(failreg)
     time_calls(failreg)
     time_maps(build("map_times", "build", "1"))
+    time_messages(build("message_times", "encode", "1", "1"))
 
 
 if __name__ == "__main__":
