@@ -1,5 +1,5 @@
 #!/usr/bin/env python3
-"""Times scripts of passes, loads and shifts, raises and joins of maps, and messages. See README.md beside this file."""
+"""Times scripts of passes, loads, shifts and exchanges, work on maps, and messages. See README.md beside this file."""
 
 import os
 import subprocess
@@ -11,6 +11,8 @@ PASSES = (100_000, 200_000)
 POINTS = (1, 256)
 LOADS = (500, 1_000)
 SHIFTS = (100_000, 200_000)
+CLUSTERS = (2, 4, 16)
+EXCHANGES = (2_000, 4_000)
 KEYS = (100_000, 200_000)
 ROUNDS = 11
 
@@ -63,6 +65,23 @@ def shift_script(shifts):
     return "\n".join(lines).encode()
 
 
+def exchange_script(nodes, exchanges):
+    """Nodes of 16 points pass 8 times each, in turn; then one sends all that it knows to the next. The rights are shared out first."""
+    lines = [f"nodes {nodes} 4294967295"]
+    for point in range(16):
+        lines.append(f"set 0 p{point} 1000000*off")
+        lines += [f"shift 0 p{point} 0 {to} {1000000 // nodes}" for to in range(1, nodes)]
+    for to in range(1, nodes):
+        lines += [f"emit 0 {to}", f"deliver {to} {to - 1}"]
+    message = nodes - 1
+    for number in range(exchanges):
+        sender, receiver = number % nodes, (number + 1) % nodes
+        lines += [f"pass {sender} p{(number + place) % 16}" for place in range(8)]
+        lines += [f"emit {sender} {receiver}", f"deliver {receiver} {message}"]
+        message += 1
+    return "\n".join(lines).encode()
+
+
 def run(program, text, answer, count):
     """Seconds of a processor, and the most memory in MiB. So many lines begin with the answer."""
     with tempfile.TemporaryFile() as source, tempfile.TemporaryFile() as output:
@@ -104,6 +123,16 @@ def time_calls(program):
         (first, second), memory = timed(program, [make(count) for count in counts], answer, counts)
         few, many = counts
         print(f"{name:<24}{first / few * 1e6:>14.2f}{second / many * 1e6:>8.2f}{second / first:>7.2f}{memory:>10.1f}")
+
+
+def time_exchanges(program):
+    few, many = EXCHANGES
+    print(f"\n{'nodes':<7}{f'us an exchange, {few}':>22}{many:>8}{'ratio':>7}{'most MiB':>10}")
+    for nodes in CLUSTERS:
+        texts = [exchange_script(nodes, count) for count in EXCHANGES]
+        counts = [count + nodes - 1 for count in EXCHANGES]
+        (first, second), memory = timed(program, texts, b"changed", counts)
+        print(f"{nodes:<7}{first / few * 1e6:>22.1f}{second / many * 1e6:>8.1f}{second / first:>7.2f}{memory:>10.1f}")
 
 
 def spent(program, *words):
@@ -153,6 +182,7 @@ def main():
     failreg = build("failreg", "--help")
     time_passes(failreg)
     time_calls(failreg)
+    time_exchanges(failreg)
     time_maps(build("map_times", "build", "1"))
     time_messages(build("message_times", "encode", "1", "1"))
 
