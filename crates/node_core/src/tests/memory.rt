@@ -96,3 +96,45 @@ fn refused_memory_sets_and_moves_nothing(rt: HostRuntime) -> Result<(), Fail> {
     );
     Ok(())
 }
+
+// The same of messages: one is made, and one that tells of a held name and of a new one is taken in.
+#[test]
+fn refused_memory_tells_nothing(rt: HostRuntime) -> Result<(), Fail> {
+    let alloc = rt.alloc();
+    let a = named(alloc, "a")?;
+    let b = named(alloc, "b")?;
+    let mut node = node_of(alloc, 0, 2)?;
+    load(alloc, &mut node, "a=3*off;b=2*yield")?;
+    pass(alloc, &mut node, "a", &[])?;
+    shift(alloc, &mut node, "a", 0, 1, 1)?;
+    let mut other = node_of(alloc, 1, 2)?;
+    load(alloc, &mut other, "b=panic;c=off")?;
+    pass(alloc, &mut other, "b", &[])?;
+    let before = known(alloc, &node, &a, &b)?;
+    let message = match node.emit(alloc, 1) {
+        Ok(message) => message,
+        Err(fault) => {
+            assert!(rt; fault == NodeFault::OutOfMemory);
+            assert!(rt; node.trace().len() == 3);
+            node.emit(alloc, 1)?
+        }
+    };
+    assert!(rt; known(alloc, &node, &a, &b)?.as_str() == before.as_str());
+    let before = known(alloc, &other, &a, &b)?;
+    let changed = match other.deliver(alloc, &message) {
+        Ok(changed) => changed,
+        Err(fault) => {
+            assert!(rt; fault == NodeFault::OutOfMemory);
+            assert!(rt; other.trace().len() == 2);
+            assert!(rt; known(alloc, &other, &a, &b)?.as_str() == before.as_str());
+            other.deliver(alloc, &message)?
+        }
+    };
+    assert!(rt; changed);
+    assert!(rt; other.trace().len() == 3);
+    assert_eq!(rt;
+        known(alloc, &other, &a, &b)?.as_str(),
+        "a=3*off;b=2*yield;c=off | 1 1 0 1 1 | 2 0 0 0 1"
+    );
+    Ok(())
+}

@@ -2,20 +2,6 @@ use super::*;
 use actions::{ActionFault, SettingFault};
 use replica_state::Replica;
 
-/// The points `p0` to `p255`, each set to `off`.
-fn full_setting(alloc: Global) -> Result<String, Fail> {
-    let mut text = with_room(alloc, 4_096)?;
-    for number in 0..256u16 {
-        if number > 0 {
-            text.push(';')?;
-        }
-        text.push('p')?;
-        text.push_str(shown(alloc, &number)?.as_str())?;
-        text.push_str("=off")?;
-    }
-    Ok(text)
-}
-
 #[test]
 fn loads_and_lists(rt: HostRuntime) -> Result<(), Fail> {
     let alloc = rt.alloc();
