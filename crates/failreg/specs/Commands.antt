@@ -20,10 +20,13 @@ pub data CallValue : Type 0 where
   spent : (name : List ℕ) (term : ℕ) → CallValue
   hits : (name : List ℕ) → CallValue
 
--- a cluster of so many nodes, each with a trace of so many entries at most; or a call of a node
+-- a cluster of so many nodes, each with a trace of so many entries at most; a call of a node; a message of a node to
+-- another; or a delivery of a message, by its number, to a node
 pub data CommandValue : Type 0 where
   nodes : (count cap : ℕ) → CommandValue
   ask : (node : ℕ) (call : CallValue) → CommandValue
+  emit : (node to : ℕ) → CommandValue
+  deliver : (node message : ℕ) → CommandValue
 
 -- a command of the code, without where its texts lie in memory
 abbrev pub call_value : Call → CallValue
@@ -40,6 +43,8 @@ call_value (calls.Hits name) = hits (name.now)
 abbrev pub command_value : Command → CommandValue
 command_value (commands.Nodes count cap) = nodes count cap
 command_value (commands.Ask node call) = ask node (call_value call)
+command_value (commands.Emit node to) = emit node to
+command_value (commands.Deliver node message) = deliver node message
 
 infixl 10 ◌>>=◌
 abbrev pub ◌>>=◌ : {A B : Type 0} → Option A → (A → Option B) → Option B
@@ -153,10 +158,28 @@ list_in rest = do
   node ← byte_of rest
   Some (ask node list)
 
+-- `emit <node> <to>`
+abbrev pub emit_in : List ℕ → Option CommandValue
+emit_in rest = do
+  parts ← cut_of rest
+  node ← byte_of (parts.0)
+  to ← byte_of (parts.1)
+  Some (emit node to)
+
+-- `deliver <node> <message>`
+abbrev pub deliver_in : List ℕ → Option CommandValue
+deliver_in rest = do
+  parts ← cut_of rest
+  node ← byte_of (parts.0)
+  message ← word_of (parts.1)
+  Some (deliver node message)
+
 abbrev pub command_after : List ℕ → List ℕ → Option CommandValue
 command_after word rest =
     if bytes_eq word (codes "nodes") then nodes_in rest else
-    (if bytes_eq word (codes "list") then list_in rest else ask_in word rest)
+    (if bytes_eq word (codes "list") then list_in rest else
+    (if bytes_eq word (codes "emit") then emit_in rest else
+    (if bytes_eq word (codes "deliver") then deliver_in rest else ask_in word rest)))
 
 -- what a line asks for, where it has one of the forms
 abbrev pub command_of : List ℕ → Option CommandValue

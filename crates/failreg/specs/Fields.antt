@@ -33,7 +33,7 @@ number_of most text = if nat_lt 0 (length text) && list_all is_ascii_digit text 
 abbrev pub byte_of : List ℕ → Option ℕ
 byte_of text = number_of 255 text
 
--- the number of a trace's limit, or a random word
+-- the number of a trace's limit, a random word, or the number of a message
 abbrev pub word_of : List ℕ → Option ℕ
 word_of text = number_of 4294967295 text
 

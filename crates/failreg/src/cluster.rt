@@ -1,11 +1,11 @@
-//! The nodes of a script, and their calls. Nodes exchange nothing yet.
+//! The nodes of a script, their calls, and the messages between them.
 
-ghost use Rattle.std.specs.Prelude.{◌≡◌, ◌≢◌, false, IsTrue, IfOk, IfErr, OnOk, Some, None, if◌then◌else◌, option_map, [], vec_items};
+ghost use Rattle.std.specs.Prelude.{◌≡◌, ◌≢◌, false, IsTrue, IfOk, IfErr, OnOk, Some, None, if◌then◌else◌, option_map, [], length, map, vec_items};
 ghost use Rattle.actions.specs.Names.{is_name};
 ghost use Rattle.node_core.specs.declared.fault.NodeFault.TheVariants.{OutOfMemory};
 ghost use Rattle.failreg.specs.Commands.{call_value, set, remove, load, pass, shift, rights, spent, hits};
 ghost use Rattle.failreg.specs.Replies.{reply_text};
-ghost use Rattle.failreg.specs.Clusters.{is_cluster_size, new_nodes, call_text, node_after, ask_text, cluster_after_ask};
+ghost use Rattle.failreg.specs.Clusters.{is_cluster_size, new_cluster, call_text, node_after, ask_text, cluster_after_ask, emit_refusal, bytes_told, emitted_text, node_after_emit, messages_after, emit_text, cluster_after_emit, deliver_text, node_after_deliver, delivery_text, cluster_after_deliver};
 
 use crate::command::Call;
 use crate::reply::Reply;
@@ -14,19 +14,20 @@ use node_core::{Config, NodeCore, NodeFault};
 use std::alloc::{AllocError, Global};
 use std::marker::Model;
 
-/// The nodes of a script, by their numbers.
+/// The nodes of a script, by their numbers, and the bytes of all messages that they made.
 #[derive(Drop)]
 pub struct Cluster {
     nodes: Vec<NodeCore>,
+    messages: Vec<Vec<u8>>,
 }
 
 impl Model for Cluster {
-    ghost use Rattle.std.specs.Prelude.{List};
-    ghost use Rattle.node_core.specs.Traces.{Kept};
+    ghost use Rattle.std.specs.Prelude.{map, vec_items};
+    ghost use Rattle.failreg.specs.Clusters.{ClusterValue};
 
-    ghost Value = { List Kept };
+    ghost Value = { ClusterValue };
 
-    ghost view = { λ c. c.nodes.items };
+    ghost view = { λ c. record { nodes = c.nodes.items; messages = map vec_items c.messages.items } };
 }
 
 fn set_point(
@@ -161,10 +162,41 @@ fn call_node(alloc: Global, node: &mut NodeCore, call: Call<'_>) -> Result<Reply
     }
 }
 
+// Puts a message of a node to another behind the others.
+fn emit_into(
+    alloc: Global,
+    node: &mut NodeCore,
+    to: u8,
+    messages: &mut Vec<Vec<u8>>,
+) -> Result<Reply, AllocError>
+    ensures reply { IfOk result (λ reply. reply_text reply ≡ emitted_text (emit_refusal node.old to) (length (map vec_items messages.old.items))) }
+    ensures node { OnOk result (node.new ≡ node_after_emit node.old to) }
+    ensures messages { OnOk result (map vec_items messages.new.items ≡ messages_after (emit_refusal node.old to) (map vec_items messages.old.items) (bytes_told node.old to)) }
+{
+    match node.emit(alloc, to) {
+        Ok(message) => {
+            let number = messages.len();
+            messages.push(message)?;
+            Ok(Reply::Message(number))
+        }
+        Err(refusal) => Reply::refused(refusal),
+    }
+}
+
+fn deliver_to(alloc: Global, node: &mut NodeCore, message: &[u8]) -> Result<Reply, AllocError>
+    ensures reply { IfOk result (λ reply. reply_text reply ≡ deliver_text node.old message.now) }
+    ensures after { OnOk result (node.new ≡ node_after_deliver node.old message.now) }
+{
+    match node.deliver(alloc, message) {
+        Ok(changed) => Ok(Reply::Delivered(changed)),
+        Err(fault) => Reply::refused(fault),
+    }
+}
+
 impl Cluster {
     /// So many nodes, each of which accepts so many calls.
     pub fn new(alloc: Global, count: u8, trace_cap: u32) -> Result<Cluster, NodeFault>
-        ensures ok { IfOk result (λ cluster. IsTrue (is_cluster_size count) × (cluster ≡ new_nodes count trace_cap)) }
+        ensures ok { IfOk result (λ cluster. IsTrue (is_cluster_size count) × (cluster ≡ new_cluster count trace_cap)) }
         ensures refused { IfErr result (λ fault. fault ≢ OutOfMemory → (is_cluster_size count ≡ false) × (fault ≡ NodeFault.BadConfig)) }
     {
         if count == 0 {
@@ -182,7 +214,8 @@ impl Cluster {
                 return Err(NodeFault::OutOfMemory);
             }
         }
-        Ok(Cluster { nodes })
+        let messages = Vec::new(alloc);
+        Ok(Cluster { nodes, messages })
     }
 
     /// Calls a node. A refused call changes nothing.
@@ -195,5 +228,34 @@ impl Cluster {
             return Ok(Reply::NoNode);
         }
         call_node(alloc, &mut self.nodes[node], call)
+    }
+    /// Makes a message of a node to another, and keeps it. A refused message changes nothing.
+    pub fn emit(&mut self, alloc: Global, from: u8, to: u8) -> Result<Reply, AllocError>
+        ensures reply { IfOk result (λ reply. reply_text reply ≡ emit_text self.old from to) }
+        ensures after { OnOk result (self.new ≡ cluster_after_emit self.old from to) }
+    {
+        let from = from as usize;
+        if from >= self.nodes.len() {
+            Ok(Reply::NoNode)
+        } else {
+            self.messages.reserve(1)?;
+            emit_into(alloc, &mut self.nodes[from], to, &mut self.messages)
+        }
+    }
+
+    /// Delivers a message, by its number, to a node. A refused delivery changes nothing.
+    pub fn deliver(&mut self, alloc: Global, to: u8, message: u32) -> Result<Reply, AllocError>
+        ensures reply { IfOk result (λ reply. reply_text reply ≡ delivery_text self.old to message) }
+        ensures after { OnOk result (self.new ≡ cluster_after_deliver self.old to message) }
+    {
+        let to = to as usize;
+        let message = message as usize;
+        if to >= self.nodes.len() {
+            Ok(Reply::NoNode)
+        } else if message >= self.messages.len() {
+            Ok(Reply::NoMessage)
+        } else {
+            deliver_to(alloc, &mut self.nodes[to], &self.messages[message])
+        }
     }
 }

@@ -4,7 +4,7 @@ ghost use Rattle.std.specs.Prelude.{◌≡◌, ◌==◌, option_map, IfOk};
 ghost use Rattle.std.specs.Vec.{vec_items};
 ghost use Rattle.std.specs.List.{slice_split};
 ghost use Rattle.failreg.specs.Fields.{space};
-ghost use Rattle.failreg.specs.Commands.{call_value, command_value, words_of, nodes_in, set_in, remove_in, load_in, pass_in, shift_in, rights_in, spent_in, hits_in, call_in, ask_in, list_in, command_of};
+ghost use Rattle.failreg.specs.Commands.{call_value, command_value, words_of, nodes_in, set_in, remove_in, load_in, pass_in, shift_in, rights_in, spent_in, hits_in, call_in, ask_in, list_in, emit_in, deliver_in, command_of};
 
 use crate::fields::{amount, byte, cut, field, word};
 use std::alloc::{AllocError, Global};
@@ -54,6 +54,10 @@ pub enum Command<'a> {
     Nodes { count: u8, trace_cap: u32 },
     /// A call of a node.
     Ask { node: u8, call: Call<'a> },
+    /// A message of a node to another.
+    Emit { node: u8, to: u8 },
+    /// A delivery of a message, by its number, to a node.
+    Deliver { node: u8, message: u32 },
 }
 
 fn nodes_command(rest: &str) -> Option<Command<'_>>
@@ -201,6 +205,24 @@ fn list_command(rest: &str) -> Option<Command<'_>>
     Some(Command::Ask { node, call })
 }
 
+fn emit_command(rest: &str) -> Option<Command<'_>>
+    ensures { option_map command_value result ≡ emit_in rest.now }
+{
+    let (node, to) = cut(rest)?;
+    let node = byte(node)?;
+    let to = byte(to)?;
+    Some(Command::Emit { node, to })
+}
+
+fn deliver_command(rest: &str) -> Option<Command<'_>>
+    ensures { option_map command_value result ≡ deliver_in rest.now }
+{
+    let (node, message) = cut(rest)?;
+    let node = byte(node)?;
+    let message = word(message)?;
+    Some(Command::Deliver { node, message })
+}
+
 /// What a line asks for, where it has one of the forms.
 pub fn read_command(alloc: Global, line: &str) -> Result<Option<Command<'_>>, AllocError>
     ensures { IfOk result (λ command. option_map command_value command ≡ command_of line.now) }
@@ -211,6 +233,8 @@ pub fn read_command(alloc: Global, line: &str) -> Result<Option<Command<'_>>, Al
     match word {
         "nodes" => Ok(nodes_command(rest)),
         "list" => Ok(list_command(rest)),
+        "emit" => Ok(emit_command(rest)),
+        "deliver" => Ok(deliver_command(rest)),
         _ => ask_command(alloc, word, rest),
     }
 }

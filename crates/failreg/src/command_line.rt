@@ -34,6 +34,11 @@ Each line of the script, and what it prints where it is accepted:
                                       shifted <total>: moves rights to node
                                       <to>; total is what <node> has moved
                                       there under the point's stamp
+  emit <node> <to>                    message <number>: makes a message to
+                                      node <to> of all that <node> knows;
+                                      numbers count from 0 over the script
+  deliver <node> <message>            changed, or same where <node> learnt
+                                      nothing of it
   list <node>                         the points that are set, perhaps none
   rights <node> <name> <term> <of>    the rights that node <of> has left, as
                                       <node> sees it
@@ -41,12 +46,14 @@ Each line of the script, and what it prints where it is accepted:
   hits <node> <name>                  how often the point was passed, as <node>
                                       sees it
 A pass takes one word, a number below 2^32, for each term whose chance is below
-100%. An amount is a number below 2^64. A stamp is <clock>.<node>. Nodes
-exchange nothing yet: rights that are shifted don't arrive. Fields are separated
-by one space. Empty lines and lines that begin with `#` are skipped.
+100%. An amount is a number below 2^64. A stamp is <clock>.<node>. A node knows
+of another only what a message told it, and a message may be delivered late,
+again or never. Fields are separated by one space. Empty lines and lines that
+begin with `#` are skipped.
 
-A call that is refused prints `refused ` and the reason, and any other line
-prints `bad line`; the script goes on. The status is then 0. It is 1 where the
+A call that is refused prints `refused ` and the reason: `NoNode` where the node
+isn't there, and then `NoMessage` where the message isn't. Any other line prints
+`bad line`; the script goes on. The status is then 0. It is 1 where the
 script can't be read, is longer than 16777216 bytes, or can't be answered, and
 the reason stands on standard error.
 

@@ -21,6 +21,10 @@ pub enum Reply {
     Pass(PassReply),
     /// How many rights were shifted there in all, under the point's stamp.
     Shifted(u64),
+    /// The number of a message that was made.
+    Message(usize),
+    /// Whether a node learnt anything of a message.
+    Delivered(bool),
     List(String),
     /// Rights can be below 0 in the view of another node.
     Rights(i128),
@@ -28,6 +32,7 @@ pub enum Reply {
     Count(u128),
     Refused(NodeFault),
     NoNode,
+    NoMessage,
     BadLine,
 }
 
@@ -47,11 +52,15 @@ impl fmt::Display for Reply {
                 write!(f, "act {stamp} {term} {task}")
             }
             Reply::Shifted(total) => write!(f, "shifted {total}"),
+            Reply::Message(number) => write!(f, "message {number}"),
+            Reply::Delivered(true) => f.write_str("changed"),
+            Reply::Delivered(false) => f.write_str("same"),
             Reply::List(text) => f.write_str(text.as_str()),
             Reply::Rights(number) => write!(f, "{number}"),
             Reply::Count(number) => write!(f, "{number}"),
             Reply::Refused(fault) => write!(f, "refused {fault}"),
             Reply::NoNode => f.write_str("refused NoNode"),
+            Reply::NoMessage => f.write_str("refused NoMessage"),
             Reply::BadLine => f.write_str("bad line"),
         }
     }

@@ -41,6 +41,8 @@ fn run_command_on(
     match command {
         Command::Nodes { .. } => Ok(Reply::BadLine),
         Command::Ask { node, call } => cluster.ask(alloc, node, call),
+        Command::Emit { node, to } => cluster.emit(alloc, node, to),
+        Command::Deliver { node, message } => cluster.deliver(alloc, node, message),
     }
 }
 
@@ -56,7 +58,9 @@ fn run_command(
         Some(cluster) => Ok(Some(run_command_on(alloc, cluster, command)?)),
         None => match command {
             Command::Nodes { count, trace_cap } => start_cluster(alloc, cluster, count, trace_cap),
-            Command::Ask { .. } => Ok(Some(Reply::BadLine)),
+            Command::Ask { .. } | Command::Emit { .. } | Command::Deliver { .. } => {
+                Ok(Some(Reply::BadLine))
+            }
         },
     }
 }

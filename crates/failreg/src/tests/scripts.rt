@@ -36,6 +36,60 @@ refused N14 BadWords need=1
 p=20%3*print(still alive!)->panic
 ";
 
+/// Three nodes share a count: the script of the README.
+const SHARED: &str = "\
+nodes 3 100
+# five panics in the whole cluster, and no more: two are moved to node 1, one to node 2
+set 0 p 5*panic->off
+shift 0 p 0 1 2
+shift 0 p 0 2 1
+# the others hear of it
+emit 0 1
+deliver 1 0
+emit 0 2
+deliver 2 1
+# node 2 runs out
+pass 2 p
+pass 2 p
+# node 1 gives it a right of its own, which it spends
+shift 1 p 0 2 1
+emit 1 2
+deliver 2 2
+pass 2 p
+pass 2 p
+# node 0 hears of that: two were spent, and two, one and none are left
+emit 2 0
+deliver 0 3
+spent 0 p 0
+rights 0 p 0 0
+rights 0 p 0 1
+rights 0 p 0 2
+";
+
+/// What it prints.
+const SHARED_OUTPUT: &str = "\
+set 1.0
+shifted 2
+shifted 1
+message 0
+changed
+message 1
+changed
+act 1.0 0 panic
+act 1.0 1 off
+shifted 1
+message 2
+changed
+act 1.0 0 panic
+act 1.0 1 off
+message 3
+changed
+2
+2
+1
+0
+";
+
 fn played(alloc: Global, script: &[u8]) -> Result<Vec<u8>, ScriptFault> {
     let mut output = Vec::new(alloc);
     let mut reader = Watched::new(script);
@@ -152,16 +206,12 @@ fn shifts(rt: HostRuntime) -> Result<(), Fail> {
     for (script, want) in [
         // What is refused, before the first shift.
         (
-            "nodes 2 100\nset 0 a 2*off\nshift 0 a 0 1 0\nshift 0 a 0 1 3\nshift 0 a 0 0 1\nshift 0 a 1 1 1\nshift 0 b 0 1 0\nset 0 c off\nshift 0 c 0 1 1\nset 0 bad! off\npass 0 a 7\nset 2 a off\n",
-            "set 1.0\nrefused N10 ZeroAmount\nrefused N11 TooFewRights have=2\nrefused N9 BadNode\nrefused N7 NoSuchTerm\nrefused N6 NotSet\nset 2.0\nrefused N8 NotCounted\nrefused N2 BadName\nrefused N14 BadWords need=0\nrefused NoNode\n",
+            "nodes 2 100\nset 0 a 2*off\nshift 0 a 0 1 0\nshift 0 a 0 1 3\nshift 0 a 0 0 1\nshift 0 a 1 1 1\nshift 0 b 0 1 0\nset 0 c off\nshift 0 c 0 1 1\nset 0 bad! off\npass 0 a 7\nemit 0 1\ndeliver 0 0\ndeliver 1 5\nset 2 a off\n",
+            "set 1.0\nrefused N10 ZeroAmount\nrefused N11 TooFewRights have=2\nrefused N9 BadNode\nrefused N7 NoSuchTerm\nrefused N6 NotSet\nset 2.0\nrefused N8 NotCounted\nrefused N2 BadName\nrefused N14 BadWords need=0\nmessage 0\nrefused N17 NotForMe\nrefused NoMessage\nrefused NoNode\n",
         ),
         (
             "nodes 2 100\nset 0 a 2*off\nshift 0 a 0 1 1\nrights 0 a 0 0\nrights 0 a 0 1\n",
             "set 1.0\nshifted 1\n1\n1\n",
-        ),
-        (
-            "nodes 2 100\nset 0 p 3*panic\nshift 0 p 0 1 1\n",
-            "set 1.0\nshifted 1\n",
         ),
         // The answer is the total, and the other node hasn't heard of it.
         (
@@ -172,6 +222,52 @@ fn shifts(rt: HostRuntime) -> Result<(), Fail> {
         (
             "nodes 2 100\nset 0 a 18446744073709551615*off\nshift 0 a 0 1 18446744073709551615\nshift 0 a 0 1 1\npass 0 a\n",
             "set 1.0\nshifted 18446744073709551615\nrefused N11 TooFewRights have=0\nnone 1.0\n",
+        ),
+        // There and back again, by messages.
+        (
+            "nodes 2 100\nset 0 a 18446744073709551615*off\nshift 0 a 0 1 18446744073709551615\nemit 0 1\ndeliver 1 0\nshift 1 a 0 0 18446744073709551615\nemit 1 0\ndeliver 0 1\nshift 0 a 0 1 1\npass 0 a\n",
+            "set 1.0\nshifted 18446744073709551615\nmessage 0\nchanged\nshifted 18446744073709551615\nmessage 1\nchanged\nrefused N12 CellFull\nact 1.0 0 off\n",
+        ),
+    ] {
+        let output = played(rt.alloc(), script.as_bytes()).map_err(|_| "refused")?;
+        assert_eq!(rt; output.as_slice(), want.as_bytes(), "of {script}");
+    }
+    Ok(())
+}
+
+#[test]
+fn messages(rt: HostRuntime) -> Result<(), Fail> {
+    for (script, want) in [
+        (SHARED, SHARED_OUTPUT),
+        // Rights stay with the setter until they are moved.
+        (
+            "nodes 2 100\nset 0 a 2*off\nemit 0 1\ndeliver 1 0\npass 1 a\nrights 0 a 0 0\nrights 1 a 0 1\nshift 0 a 0 1 1\nemit 0 1\ndeliver 1 1\ndeliver 1 1\npass 1 a\npass 1 a\n",
+            "set 1.0\nmessage 0\nchanged\nnone 1.0\n2\n0\nshifted 1\nmessage 1\nchanged\nsame\nact 1.0 0 off\nnone 1.0\n",
+        ),
+        // An overtaken key goes on where the newer one wasn't heard of.
+        (
+            "nodes 2 100\nset 0 p 3*panic\nshift 0 p 0 1 1\nemit 0 1\ndeliver 1 0\npass 0 p\nset 0 p off\npass 0 p\npass 1 p\npass 1 p\n",
+            "set 1.0\nshifted 1\nmessage 0\nchanged\nact 1.0 0 panic\nset 2.0\nact 2.0 0 off\nact 1.0 0 panic\nnone 1.0\n",
+        ),
+        // Of two settings at once the one with the greater stamp stays.
+        (
+            "nodes 2 100\nset 0 a off\nset 1 a panic\nemit 0 1\nemit 1 0\ndeliver 1 0\ndeliver 0 1\nlist 0\nlist 1\n",
+            "set 1.0\nset 1.1\nmessage 0\nmessage 1\nsame\nchanged\na=panic\na=panic\n",
+        ),
+        // An old setting comes again after the removal.
+        (
+            "nodes 2 100\nset 0 a off\nemit 0 1\ndeliver 1 0\npass 1 a\nremove 1 a\ndeliver 1 0\nlist 1\npass 1 a\nhits 1 a\nemit 1 0\ndeliver 0 1\nlist 0\n",
+            "set 1.0\nmessage 0\nchanged\nact 1.0 0 off\nremoved 2.1\nsame\n\nunset\n1\nmessage 1\nchanged\n\n",
+        ),
+        // Three nodes.
+        (
+            "nodes 3 100\nset 0 p 5*off\nshift 0 p 0 1 2\nemit 0 1\ndeliver 1 0\nshift 1 p 0 2 1\npass 1 p\nemit 1 2\ndeliver 2 1\npass 2 p\npass 2 p\nemit 2 0\ndeliver 0 2\ndeliver 0 2\nspent 0 p 0\nhits 0 p\nrights 0 p 0 0\nrights 0 p 0 1\nrights 0 p 0 2\n",
+            "set 1.0\nshifted 2\nmessage 0\nchanged\nshifted 1\nact 1.0 0 off\nmessage 1\nchanged\nact 1.0 0 off\nnone 1.0\nmessage 2\nchanged\nsame\n2\n3\n3\n0\n0\n",
+        ),
+        // No node comes before no message, and refused emits have no number.
+        (
+            "nodes 2 3\nemit 2 0\nemit 0 0\nemit 0 2\nemit 255 255\ndeliver 2 0\ndeliver 0 0\nemit 0 1\ndeliver 2 0\ndeliver 2 1\ndeliver 1 1\ndeliver 1 4294967295\ndeliver 01 000\nemit 1 0\nemit 1 0\nemit 1 0\nemit 0 1\n",
+            "refused NoNode\nrefused N9 BadNode\nrefused N9 BadNode\nrefused NoNode\nrefused NoNode\nrefused NoMessage\nmessage 0\nrefused NoNode\nrefused NoNode\nrefused NoMessage\nrefused NoMessage\nsame\nmessage 1\nmessage 2\nrefused N1 TraceFull\nmessage 3\n",
         ),
     ] {
         let output = played(rt.alloc(), script.as_bytes()).map_err(|_| "refused")?;
@@ -201,7 +297,7 @@ fn clusters(rt: HostRuntime) -> Result<(), Fail> {
 }
 
 // Each of these lines is bad, in a cluster of one node and before there is one.
-const BAD: [&str; 51] = [
+const BAD: [&str; 63] = [
     "fly",
     " ",
     "nodes",
@@ -253,6 +349,18 @@ const BAD: [&str; 51] = [
     "shift 0 a 0 256 1",
     "shift 0 a 0 1 18446744073709551616",
     "shift 0 a 0 1 -1",
+    "emit",
+    "emit 0",
+    "emit 0 ",
+    "emit 0 1 ",
+    "emit 0 1 1",
+    "emit 256 1",
+    "emit 0 256",
+    "deliver 0",
+    "deliver 0  0",
+    "deliver 0 0 0",
+    "deliver 256 0",
+    "deliver 0 4294967296",
 ];
 
 #[test]
@@ -266,12 +374,14 @@ fn bad_lines(rt: HostRuntime) -> Result<(), Fail> {
             "of {line}"
         );
     }
-    // Lines of calls that nodes don't have yet.
-    for line in ["emit 0 1", "deliver 0 0", "report 0"] {
-        let script = format!(in rt.alloc(); "nodes 2 9\n{line}")?;
-        let output = played(rt.alloc(), script.as_bytes()).map_err(|_| "refused")?;
-        assert_eq!(rt; output.as_slice(), b"bad line\n".as_slice(), "of {line}");
-    }
+    // A line of a call that nodes don't have, and calls before there is a node.
+    let output = played(rt.alloc(), b"emit 0 1\ndeliver 0 0\nnodes 2 9\nreport 0\n").map_err(
+        |_| "refused",
+    )?;
+    assert_eq!(rt;
+        output.as_slice(),
+        b"bad line\nbad line\nbad line\n".as_slice()
+    );
     // Bytes that are no text.
     let output = played(rt.alloc(), b"nodes 1 9\n#\xff\nset 0 a off\xff\nlist 0").map_err(
         |_| "refused",
