@@ -18,20 +18,20 @@ fn refused_memory_changes_nothing(rt: HostRuntime) -> Result<(), Fail> {
     let mut node = node(alloc, 100)?;
     let p = named(alloc, "p")?;
     let before = view(&node, &p);
-    if let Err(fault) = node.set(alloc, "p", "20%2*print(a)->off") {
+    if let Err(fault) = try_set(alloc, &mut node, "p", "20%2*print(a)->off") {
         assert_eq!(rt; fault, NodeFault::OutOfMemory);
         assert_eq!(rt; view(&node, &p), before);
         assert_eq!(rt;
-            node.set(alloc, "p", "20%2*print(a)->off")?,
+            try_set(alloc, &mut node, "p", "20%2*print(a)->off")?,
             Stamp { clock: 1, node: 0 }
         );
     }
     for spent in [1, 2] {
         let before = view(&node, &p);
-        if let Err(fault) = node.pass_with(alloc, "p", &[0]) {
+        if let Err(fault) = try_pass(alloc, &mut node, "p", &[0]) {
             assert_eq!(rt; fault, NodeFault::OutOfMemory);
             assert_eq!(rt; view(&node, &p), before);
-            assert_eq!(rt; term_of(&node.pass_with(alloc, "p", &[0])?), 0);
+            assert_eq!(rt; term_of(&try_pass(alloc, &mut node, "p", &[0])?), 0);
         }
         assert_eq!(rt;
             view(&node, &p),
@@ -45,10 +45,10 @@ fn refused_memory_changes_nothing(rt: HostRuntime) -> Result<(), Fail> {
         );
     }
     let before = view(&node, &p);
-    if let Err(fault) = node.set(alloc, "p", "off") {
+    if let Err(fault) = try_set(alloc, &mut node, "p", "off") {
         assert_eq!(rt; fault, NodeFault::OutOfMemory);
         assert_eq!(rt; view(&node, &p), before);
-        node.set(alloc, "p", "off")?;
+        try_set(alloc, &mut node, "p", "off")?;
     }
     assert_eq!(rt; view(&node, &p), (4, 2, 0, 0, 0));
     assert_eq!(rt; list(alloc, &node)?.as_str(), "p=off");
@@ -59,35 +59,41 @@ fn refused_memory_changes_nothing(rt: HostRuntime) -> Result<(), Fail> {
 #[test]
 fn refused_memory_sets_and_moves_nothing(rt: HostRuntime) -> Result<(), Fail> {
     let alloc = rt.alloc();
-    let mut node = NodeCore::new(alloc, config(2, 100))?;
+    let mut node = try_node(alloc, config(2, 100))?;
     let p = named(alloc, "p")?;
     let before = view(&node, &p);
-    if let Err(fault) = node.load(alloc, "p=off;q=3*yield;p=2*panic;r=off") {
+    if let Err(fault) = try_load(alloc, &mut node, "p=off;q=3*yield;p=2*panic;r=off") {
         assert_eq!(rt; fault, NodeFault::OutOfMemory);
         assert_eq!(rt; view(&node, &p), before);
         assert_eq!(rt; list(alloc, &node)?.as_str(), "");
-        assert_eq!(rt; node.load(alloc, "p=off;q=3*yield;p=2*panic;r=off")?, 4);
+        assert_eq!(rt;
+            try_load(alloc, &mut node, "p=off;q=3*yield;p=2*panic;r=off")?,
+            4
+        );
     }
     let before = view(&node, &p);
-    if let Err(fault) = node.load(alloc, "a=off;q=yield;z=off") {
+    if let Err(fault) = try_load(alloc, &mut node, "a=off;q=yield;z=off") {
         assert_eq!(rt; fault, NodeFault::OutOfMemory);
         assert_eq!(rt; view(&node, &p), before);
         assert_eq!(rt; list(alloc, &node)?.as_str(), "p=2*panic;q=3*yield;r=off");
-        assert_eq!(rt; node.load(alloc, "a=off;q=yield;z=off")?, 3);
+        assert_eq!(rt; try_load(alloc, &mut node, "a=off;q=yield;z=off")?, 3);
     }
     let before = view(&node, &p);
-    if let Err(fault) = node.shift(alloc, "p", 0, 1, 1) {
+    if let Err(fault) = try_shift(alloc, &mut node, "p", 0, 1, 1) {
         assert_eq!(rt; fault, NodeFault::OutOfMemory);
         assert_eq!(rt; view(&node, &p), before);
         assert_eq!(rt; node.rights(&p, 0, 1), 0);
-        assert_eq!(rt; node.shift(alloc, "p", 0, 1, 1)?, 1);
+        assert_eq!(rt; try_shift(alloc, &mut node, "p", 0, 1, 1)?, 1);
     }
     assert_eq!(rt; view(&node, &p), (3, 0, 0, 1, 0));
     let before = view(&node, &p);
-    if let Err(fault) = node.remove(alloc, "s") {
+    if let Err(fault) = try_remove(alloc, &mut node, "s") {
         assert_eq!(rt; fault, NodeFault::OutOfMemory);
         assert_eq!(rt; view(&node, &p), before);
-        assert_eq!(rt; node.remove(alloc, "s")?, Stamp { clock: 8, node: 0 });
+        assert_eq!(rt;
+            try_remove(alloc, &mut node, "s")?,
+            Stamp { clock: 8, node: 0 }
+        );
     }
     assert_eq!(rt; view(&node, &p), (4, 0, 0, 1, 0));
     assert_eq!(rt;
@@ -111,23 +117,23 @@ fn refused_memory_tells_nothing(rt: HostRuntime) -> Result<(), Fail> {
     load(alloc, &mut other, "b=panic;c=off")?;
     pass(alloc, &mut other, "b", &[])?;
     let before = known(alloc, &node, &a, &b)?;
-    let message = match node.emit(alloc, 1) {
+    let message = match try_emit(alloc, &mut node, 1) {
         Ok(message) => message,
         Err(fault) => {
             assert!(rt; fault == NodeFault::OutOfMemory);
             assert!(rt; node.trace().len() == 3);
-            node.emit(alloc, 1)?
+            try_emit(alloc, &mut node, 1)?
         }
     };
     assert!(rt; known(alloc, &node, &a, &b)?.as_str() == before.as_str());
     let before = known(alloc, &other, &a, &b)?;
-    let changed = match other.deliver(alloc, &message) {
+    let changed = match try_deliver(alloc, &mut other, &message) {
         Ok(changed) => changed,
         Err(fault) => {
             assert!(rt; fault == NodeFault::OutOfMemory);
             assert!(rt; other.trace().len() == 2);
             assert!(rt; known(alloc, &other, &a, &b)?.as_str() == before.as_str());
-            other.deliver(alloc, &message)?
+            try_deliver(alloc, &mut other, &message)?
         }
     };
     assert!(rt; changed);

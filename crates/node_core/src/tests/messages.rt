@@ -167,7 +167,7 @@ fn other_nodes(rt: HostRuntime) -> Result<(), Fail> {
 #[test]
 fn full_trace(rt: HostRuntime) -> Result<(), Fail> {
     let alloc = rt.alloc();
-    let mut node = NodeCore::new(alloc, config(2, 1))?;
+    let mut node = try_node(alloc, config(2, 1))?;
     emit(alloc, &mut node, 1)?;
     // The first refusal that applies is the answer.
     for to in [1, 0] {

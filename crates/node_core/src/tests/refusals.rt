@@ -108,7 +108,7 @@ fn configurations(rt: HostRuntime) -> Result<(), Fail> {
         (0, 17, false),
         (1, 1, false),
     ] {
-        let made = NodeCore::new(
+        let made = try_node(
             alloc,
             Config {
                 node,

@@ -1,7 +1,7 @@
 use super::*;
 
 fn node_of_two(alloc: Global) -> Result<NodeCore, Fail> {
-    Ok(NodeCore::new(alloc, config(2, 100))?)
+    Ok(try_node(alloc, config(2, 100))?)
 }
 
 #[test]
