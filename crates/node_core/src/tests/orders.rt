@@ -13,59 +13,55 @@ struct Letter {
 }
 
 #[derive(Drop)]
-struct Cluster {
+struct Nodes {
     first: NodeCore,
     second: NodeCore,
     third: NodeCore,
-    letters: Vec<Letter>,
 }
 
-impl Cluster {
-    fn node(&mut self, number: u8) -> &mut NodeCore {
+impl Nodes {
+    fn at(&mut self, number: u8) -> &mut NodeCore {
         match number {
             0 => &mut self.first,
             1 => &mut self.second,
             _ => &mut self.third,
         }
     }
+}
 
+#[derive(Drop)]
+struct Cluster {
+    nodes: Nodes,
+    letters: Vec<Letter>,
+}
+
+impl Cluster {
     // Makes a message, and keeps it.
     fn write(&mut self, alloc: Global, from: u8, to: u8) -> Result<(), Fail> {
-        let message = emit(alloc, self.node(from), to)?;
+        let message = emit(alloc, self.nodes.at(from), to)?;
         self.letters.push(Letter { to, message })?;
         Ok(())
     }
 
     fn set(&mut self, alloc: Global, number: u8, name: &str, text: &str) -> Result<(), Fail> {
-        set(alloc, self.node(number), name, text)?;
+        set(alloc, self.nodes.at(number), name, text)?;
         Ok(())
     }
 
     fn pass(&mut self, alloc: Global, number: u8, name: &str) -> Result<(), Fail> {
-        pass(alloc, self.node(number), name, &[])?;
+        pass(alloc, self.nodes.at(number), name, &[])?;
         Ok(())
     }
 
     fn shift(&mut self, alloc: Global, from: u8, name: &str, to: u8) -> Result<(), Fail> {
-        shift(alloc, self.node(from), name, 0, to, 1)?;
+        shift(alloc, self.nodes.at(from), name, 0, to, 1)?;
         Ok(())
     }
 
     // Takes a message that was kept to its node.
     fn take(&mut self, alloc: Global, letter: usize) -> Result<(), Fail> {
-        let Cluster {
-            first,
-            second,
-            third,
-            letters,
-        } = self;
-        if let Some(Letter { to, message }) = letters.get(letter) {
-            let node = match *to {
-                0 => first,
-                1 => second,
-                _ => third,
-            };
-            deliver(alloc, node, message)?;
+        if let Some(Letter { to, message }) = self.letters.get(letter) {
+            deliver(alloc, self.nodes.at(*to), message)?;
         }
         Ok(())
     }
@@ -81,7 +77,7 @@ impl Cluster {
     fn all_know(&self, alloc: Global, wanted: &str) -> Result<bool, Fail> {
         let a = named(alloc, "a")?;
         let b = named(alloc, "b")?;
-        for node in [&self.first, &self.second, &self.third] {
+        for node in [&self.nodes.first, &self.nodes.second, &self.nodes.third] {
             if known(alloc, node, &a, &b)?.as_str() != wanted {
                 return Ok(false);
             }
@@ -95,18 +91,18 @@ fn new_cluster(alloc: Global) -> Result<Cluster, Fail> {
         Err(_) => Vec::with_capacity(alloc, 20)?,
         Ok(room) => room,
     };
-    Ok(Cluster {
+    let nodes = Nodes {
         first: node_of(alloc, 0, 3)?,
         second: node_of(alloc, 1, 3)?,
         third: node_of(alloc, 2, 3)?,
-        letters,
-    })
+    };
+    Ok(Cluster { nodes, letters })
 }
 
 /// Node 0 sets both points, and all know of it: by messages 0 and 1.
 fn begun(alloc: Global) -> Result<Cluster, Fail> {
     let mut cluster = new_cluster(alloc)?;
-    load(alloc, &mut cluster.first, "a=4*off;b=3*yield->off")?;
+    load(alloc, &mut cluster.nodes.first, "a=4*off;b=3*yield->off")?;
     cluster.write(alloc, 0, 1)?;
     cluster.write(alloc, 0, 2)?;
     cluster.take_all(alloc, &[0, 1])?;
