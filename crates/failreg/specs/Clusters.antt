@@ -91,7 +91,6 @@ messages_after None messages bytes = messages ++ bytes ∷ []
 messages_after (Some fault) messages bytes = messages
 
 -- what a node prints of a delivery, and the node after it
-
 abbrev pub deliver_text : Kept → List ℕ → List ℕ
 deliver_text k bytes = event_text (refusal k (asks.Deliver (message_read k.config.nodes bytes)) []) (reply_to k (asks.Deliver (message_read k.config.nodes bytes)) [])
 
