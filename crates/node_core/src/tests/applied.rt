@@ -42,10 +42,19 @@ fn reply_text(alloc: Global, reply: &Reply) -> Result<String, Fail> {
     }
 }
 
+fn try_apply(
+    alloc: Global,
+    node: &mut NodeCore,
+    ask: &Ask,
+    words: &[u32],
+) -> Result<Entry, NodeFault> {
+    node.apply(alloc, ask, words)
+}
+
 /// The reply, or the fault, of a call.
 fn applied(alloc: Global, node: &mut NodeCore, ask: &Ask, words: &[u32]) -> Result<String, Fail> {
     let entries = node.trace().len();
-    let first = match node.apply(alloc, ask, words) {
+    let first = match try_apply(alloc, node, ask, words) {
         Err(NodeFault::OutOfMemory) if node.trace().len() == entries => node.apply(
             alloc, ask, words,
         ),
@@ -100,7 +109,7 @@ fn count_of_three_through_apply(rt: HostRuntime) -> Result<(), Fail> {
 #[test]
 fn each_ask_through_apply(rt: HostRuntime) -> Result<(), Fail> {
     let alloc = rt.alloc();
-    let mut node = NodeCore::new(alloc, config(2, 9))?;
+    let mut node = try_node(alloc, config(2, 9))?;
     let load = Ask::Load {
         text: text(alloc, "a=5*off;b=off")?,
     };
@@ -121,7 +130,7 @@ fn each_ask_through_apply(rt: HostRuntime) -> Result<(), Fail> {
 #[test]
 fn spare_words_are_refused_last_but_before_a_message(rt: HostRuntime) -> Result<(), Fail> {
     let alloc = rt.alloc();
-    let mut node = NodeCore::new(alloc, config(2, 1))?;
+    let mut node = try_node(alloc, config(2, 1))?;
     let good = set_ask(alloc, "a", "off")?;
     assert!(rt; applied(alloc, &mut node, &good, &[1])?.as_str() == "N14 BadWords need=0");
     let bad = set_ask(alloc, "a!", "off")?;
