@@ -53,10 +53,10 @@ fn try_apply(
 
 /// The reply, or the fault, of a call.
 fn applied(alloc: Global, node: &mut NodeCore, ask: &Ask, words: &[u32]) -> Result<String, Fail> {
-    let entries = node.trace().len();
+    let entries = entries_of(node);
     let first = match try_apply(alloc, node, ask, words) {
-        Err(NodeFault::OutOfMemory) if node.trace().len() == entries => node.apply(
-            alloc, ask, words,
+        Err(NodeFault::OutOfMemory) if entries_of(node) == entries => try_apply(
+            alloc, node, ask, words,
         ),
         first => first,
     };
