@@ -176,9 +176,9 @@ fn delivered(alloc: Global, node: &mut NodeCore, message: &[u8]) -> Result<Strin
     }
 }
 
-/// What `emit` is refused for, in print; nothing where a message is made.
-fn refusal_to_emit(alloc: Global, node: &mut NodeCore, to: u8) -> Result<String, Fail> {
-    match emit(alloc, node, to) {
+/// What a call is refused for, in print; nothing where it is accepted.
+fn refusal<T: Drop>(alloc: Global, answer: Result<T, NodeFault>) -> Result<String, Fail> {
+    match answer {
         Ok(_) => with_room(alloc, 1),
         Err(fault) => shown(alloc, &fault),
     }

@@ -124,7 +124,7 @@ fn greatest_clock(rt: HostRuntime) -> Result<(), Fail> {
     let mut node = node_of(alloc, 1, 2)?;
     assert!(rt; deliver(alloc, &mut node, &message)?);
     let after = set(alloc, &mut node, "b", "off");
-    assert!(rt; after.err() == Some(NodeFault::ClockFull));
+    assert!(rt; refusal(alloc, after)?.as_str() == "N5 ClockFull");
     Ok(())
 }
 
@@ -152,7 +152,7 @@ fn other_nodes(rt: HostRuntime) -> Result<(), Fail> {
     let alloc = rt.alloc();
     let mut node = node_of(alloc, 0, 3)?;
     for to in [0, 3, 255] {
-        let refused = refusal_to_emit(alloc, &mut node, to)?;
+        let refused = refusal(alloc, emit(alloc, &mut node, to))?;
         assert!(rt; refused.as_str() == "N9 BadNode", "{to}");
     }
     assert!(rt; node.trace().is_empty());
@@ -171,7 +171,7 @@ fn full_trace(rt: HostRuntime) -> Result<(), Fail> {
     emit(alloc, &mut node, 1)?;
     // The first refusal that applies is the answer.
     for to in [1, 0] {
-        let refused = refusal_to_emit(alloc, &mut node, to)?;
+        let refused = refusal(alloc, emit(alloc, &mut node, to))?;
         assert!(rt; refused.as_str() == "N1 TraceFull", "{to}");
     }
     for message in [EMPTY.as_slice(), &[]] {

@@ -8,25 +8,25 @@ fn full_trace(rt: HostRuntime) -> Result<(), Fail> {
     set(alloc, &mut node, "a", "off")?;
     pass(alloc, &mut node, "a", &[])?;
     assert_eq!(rt;
-        pass(alloc, &mut node, "a", &[]).err(),
-        Some(NodeFault::TraceFull)
+        refusal(alloc, pass(alloc, &mut node, "a", &[]))?.as_str(),
+        "N1 TraceFull"
     );
     assert_eq!(rt;
-        remove(alloc, &mut node, "a").err(),
-        Some(NodeFault::TraceFull)
+        refusal(alloc, remove(alloc, &mut node, "a"))?.as_str(),
+        "N1 TraceFull"
     );
     assert_eq!(rt;
-        load(alloc, &mut node, "a=yield").err(),
-        Some(NodeFault::TraceFull)
+        refusal(alloc, load(alloc, &mut node, "a=yield"))?.as_str(),
+        "N1 TraceFull"
     );
     assert_eq!(rt;
-        shift(alloc, &mut node, "a", 0, 1, 1).err(),
-        Some(NodeFault::TraceFull)
+        refusal(alloc, shift(alloc, &mut node, "a", 0, 1, 1))?.as_str(),
+        "N1 TraceFull"
     );
     // The first refusal that applies is the answer.
     assert_eq!(rt;
-        set(alloc, &mut node, "bad!", "fly").err(),
-        Some(NodeFault::TraceFull)
+        refusal(alloc, set(alloc, &mut node, "bad!", "fly"))?.as_str(),
+        "N1 TraceFull"
     );
     assert_eq!(rt; list(alloc, &node)?.as_str(), "a=off");
     Ok(())
@@ -37,8 +37,8 @@ fn no_calls_at_all(rt: HostRuntime) -> Result<(), Fail> {
     let alloc = rt.alloc();
     let mut node = node(alloc, 0)?;
     assert_eq!(rt;
-        set(alloc, &mut node, "a", "off").err(),
-        Some(NodeFault::TraceFull)
+        refusal(alloc, set(alloc, &mut node, "a", "off"))?.as_str(),
+        "N1 TraceFull"
     );
     Ok(())
 }
@@ -48,29 +48,29 @@ fn names_texts_and_words(rt: HostRuntime) -> Result<(), Fail> {
     let alloc = rt.alloc();
     let mut node = node(alloc, 9)?;
     assert_eq!(rt;
-        set(alloc, &mut node, "bad!", "fly").err(),
-        Some(NodeFault::BadName)
+        refusal(alloc, set(alloc, &mut node, "bad!", "fly"))?.as_str(),
+        "N2 BadName"
     );
     assert_eq!(rt;
-        set(alloc, &mut node, "a", "off->").err(),
-        Some(NodeFault::BadActions(TextFault::Actions(ActionFault::NoTask { term: 1 })))
+        refusal(alloc, set(alloc, &mut node, "a", "off->"))?.as_str(),
+        "N3 BadActions A6 NoTask term=1"
     );
     set(alloc, &mut node, "a", "20%off")?;
     assert_eq!(rt;
-        pass(alloc, &mut node, "a", &[]).err(),
-        Some(NodeFault::BadWords { need: 1 })
+        refusal(alloc, pass(alloc, &mut node, "a", &[]))?.as_str(),
+        "N14 BadWords need=1"
     );
     assert_eq!(rt;
-        pass(alloc, &mut node, "a", &[0, 0]).err(),
-        Some(NodeFault::BadWords { need: 1 })
+        refusal(alloc, pass(alloc, &mut node, "a", &[0, 0]))?.as_str(),
+        "N14 BadWords need=1"
     );
     assert_eq!(rt;
-        pass(alloc, &mut node, "b", &[7]).err(),
-        Some(NodeFault::BadWords { need: 0 })
+        refusal(alloc, pass(alloc, &mut node, "b", &[7]))?.as_str(),
+        "N14 BadWords need=0"
     );
     assert_eq!(rt;
-        pass(alloc, &mut node, "", &[]).err(),
-        Some(NodeFault::BadName)
+        refusal(alloc, pass(alloc, &mut node, "", &[]))?.as_str(),
+        "N2 BadName"
     );
     assert_eq!(rt; node.trace().len(), 1);
     Ok(())
@@ -85,8 +85,8 @@ fn points_past_256(rt: HostRuntime) -> Result<(), Fail> {
         set(alloc, &mut node, name.as_str(), "off")?;
     }
     assert_eq!(rt;
-        set(alloc, &mut node, "q", "off").err(),
-        Some(NodeFault::TooManyPoints)
+        refusal(alloc, set(alloc, &mut node, "q", "off"))?.as_str(),
+        "N4 TooManyPoints"
     );
     assert_eq!(rt;
         set(alloc, &mut node, "0", "yield")?,

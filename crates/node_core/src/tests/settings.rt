@@ -1,5 +1,4 @@
 use super::*;
-use actions::{ActionFault, SettingFault};
 use replica_state::Replica;
 
 #[test]
@@ -9,19 +8,16 @@ fn loads_and_lists(rt: HostRuntime) -> Result<(), Fail> {
     assert_eq!(rt; load(alloc, &mut node, ";a=off; ;b=2*return()")?, 2);
     assert_eq!(rt; list(alloc, &node)?.as_str(), "a=off;b=2*return()");
     assert_eq!(rt;
-        load(alloc, &mut node, "a=yield;b=bad").err(),
-        Some(NodeFault::BadActions(TextFault::Setting(SettingFault::BadActions {
-            entry: 1,
-            fault: ActionFault::UnknownTask { term: 0 }
-        })))
+        refusal(alloc, load(alloc, &mut node, "a=yield;b=bad"))?.as_str(),
+        "N3 BadActions S4 BadActions entry=1 A7 UnknownTask term=0"
     );
     assert_eq!(rt;
-        load(alloc, &mut node, "c=yield;d").err(),
-        Some(NodeFault::BadActions(TextFault::Setting(SettingFault::NoEquals { entry: 1 })))
+        refusal(alloc, load(alloc, &mut node, "c=yield;d"))?.as_str(),
+        "N3 BadActions S2 NoEquals entry=1"
     );
     assert_eq!(rt;
-        load(alloc, &mut node, "c=yield;d =off").err(),
-        Some(NodeFault::BadName)
+        refusal(alloc, load(alloc, &mut node, "c=yield;d =off"))?.as_str(),
+        "N2 BadName"
     );
     assert_eq!(rt; list(alloc, &node)?.as_str(), "a=off;b=2*return()");
     assert_eq!(rt; load(alloc, &mut node, "")?, 0);
@@ -59,16 +55,16 @@ fn loads_256_points(rt: HostRuntime) -> Result<(), Fail> {
     let text = full_setting(alloc)?;
     assert_eq!(rt; load(alloc, &mut node, text.as_str())?, 256);
     assert_eq!(rt;
-        set(alloc, &mut node, "q", "off").err(),
-        Some(NodeFault::TooManyPoints)
+        refusal(alloc, set(alloc, &mut node, "q", "off"))?.as_str(),
+        "N4 TooManyPoints"
     );
     assert_eq!(rt;
-        load(alloc, &mut node, "p7=panic;q=off").err(),
-        Some(NodeFault::TooManyPoints)
+        refusal(alloc, load(alloc, &mut node, "p7=panic;q=off"))?.as_str(),
+        "N4 TooManyPoints"
     );
     assert_eq!(rt;
-        remove(alloc, &mut node, "q").err(),
-        Some(NodeFault::TooManyPoints)
+        refusal(alloc, remove(alloc, &mut node, "q"))?.as_str(),
+        "N4 TooManyPoints"
     );
     assert_eq!(rt;
         set(alloc, &mut node, "p0", "yield")?,
@@ -96,8 +92,8 @@ fn longest_setting(rt: HostRuntime) -> Result<(), Fail> {
     assert_eq!(rt; load(alloc, &mut node, text.as_str())?, 1);
     text.push(' ')?;
     assert_eq!(rt;
-        load(alloc, &mut node, text.as_str()).err(),
-        Some(NodeFault::BadActions(TextFault::Setting(SettingFault::TooLong)))
+        refusal(alloc, load(alloc, &mut node, text.as_str()))?.as_str(),
+        "N3 BadActions S1 TooLong"
     );
     Ok(())
 }
@@ -119,12 +115,12 @@ fn removes(rt: HostRuntime) -> Result<(), Fail> {
     assert_eq!(rt; remove(alloc, &mut node, "b")?, Stamp { clock: 3, node: 0 });
     assert_eq!(rt; node.state().names(), 2);
     assert_eq!(rt;
-        remove(alloc, &mut node, "b!").err(),
-        Some(NodeFault::BadName)
+        refusal(alloc, remove(alloc, &mut node, "b!"))?.as_str(),
+        "N2 BadName"
     );
     assert_eq!(rt;
-        shift(alloc, &mut node, "a", 0, 1, 1).err(),
-        Some(NodeFault::NotSet)
+        refusal(alloc, shift(alloc, &mut node, "a", 0, 1, 1))?.as_str(),
+        "N6 NotSet"
     );
     Ok(())
 }

@@ -18,8 +18,8 @@ fn moves_rights(rt: HostRuntime) -> Result<(), Fail> {
     assert_eq!(rt; term_of(&pass(alloc, &mut node, "a", &[])?), 0);
     assert_eq!(rt; term_of(&pass(alloc, &mut node, "a", &[])?), 101);
     assert_eq!(rt;
-        shift(alloc, &mut node, "a", 0, 1, 1).err(),
-        Some(NodeFault::TooFewRights { have: 0 })
+        refusal(alloc, shift(alloc, &mut node, "a", 0, 1, 1))?.as_str(),
+        "N11 TooFewRights have=0"
     );
     assert_eq!(rt; node.rights(&a, 0, 0), 0);
     assert_eq!(rt; node.rights(&a, 0, 1), 2);
@@ -33,20 +33,18 @@ fn refuses_in_order(rt: HostRuntime) -> Result<(), Fail> {
     let mut node = node_of_two(alloc)?;
     set(alloc, &mut node, "a", "2*off->yield")?;
     for (name, term, to, amount, fault) in [
-        ("a!", 9, 0, 0, NodeFault::BadName),
-        ("b", 9, 0, 0, NodeFault::NotSet),
-        ("a", 2, 0, 0, NodeFault::NoSuchTerm),
-        ("a", 1, 0, 0, NodeFault::NotCounted),
-        ("a", 0, 0, 0, NodeFault::BadNode),
-        ("a", 0, 2, 0, NodeFault::BadNode),
-        ("a", 0, 1, 0, NodeFault::ZeroAmount),
-        ("a", 0, 1, 3, NodeFault::TooFewRights { have: 2 }),
-        ("a", 0, 1, u64::MAX, NodeFault::TooFewRights { have: 2 }),
+        ("a!", 9, 0, 0, "N2 BadName"),
+        ("b", 9, 0, 0, "N6 NotSet"),
+        ("a", 2, 0, 0, "N7 NoSuchTerm"),
+        ("a", 1, 0, 0, "N8 NotCounted"),
+        ("a", 0, 0, 0, "N9 BadNode"),
+        ("a", 0, 2, 0, "N9 BadNode"),
+        ("a", 0, 1, 0, "N10 ZeroAmount"),
+        ("a", 0, 1, 3, "N11 TooFewRights have=2"),
+        ("a", 0, 1, u64::MAX, "N11 TooFewRights have=2"),
     ] {
-        assert_eq!(rt;
-            shift(alloc, &mut node, name, term, to, amount).err(),
-            Some(fault)
-        );
+        let answer = shift(alloc, &mut node, name, term, to, amount);
+        assert_eq!(rt; refusal(alloc, answer)?.as_str(), fault);
     }
     assert_eq!(rt; node.trace().len(), 1);
     Ok(())
