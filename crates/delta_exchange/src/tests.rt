@@ -4,8 +4,8 @@
 mod altered;
 mod faults;
 mod greatest;
-mod known;
 mod held;
+mod known;
 mod whole;
 
 use super::*;
