@@ -229,6 +229,7 @@ impl Cluster {
         }
         call_node(alloc, &mut self.nodes[node], call)
     }
+
     /// Makes a message of a node to another, and keeps it. A refused message changes nothing.
     pub fn emit(&mut self, alloc: Global, from: u8, to: u8) -> Result<Reply, AllocError>
         ensures reply { IfOk result (λ reply. reply_text reply ≡ emit_text self.old from to) }
