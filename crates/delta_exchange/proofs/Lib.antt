@@ -18,4 +18,3 @@ pub mod HeldCells
 pub mod HeldEntries
 pub mod WholeLemmas
 pub mod StateAgain
-pub mod HeldExamples

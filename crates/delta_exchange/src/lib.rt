@@ -47,6 +47,3 @@ pub use learning::told;
 pub use message::{Message, NameEntry};
 pub use reading::decode;
 pub use writing::encode;
-
-#[cfg(test)]
-mod tests;

@@ -1,3 +1,5 @@
+//! Messages of which bytes are left out or altered.
+
 use super::*;
 
 /// Where the fields of `ONE_NAME` begin.
@@ -5,40 +7,46 @@ const FIELDS: [usize; 22] = [
     0, 4, 5, 6, 14, 22, 30, 32, 33, 34, 42, 43, 44, 46, 51, 52, 53, 61, 63, 64, 65, 73,
 ];
 
-/// The fault of `ONE_NAME` with one byte set to another value.
-fn fault_with(alloc: Global, index: usize, value: u8) -> Option<WireFault> {
+/// `ONE_NAME` with one byte set to another value.
+fn altered(index: usize, value: u8) -> [u8; 75] {
     let mut bytes = ONE_NAME;
     if let Some(byte) = bytes.get_mut(index) {
         *byte = value;
     }
-    fault(alloc, &bytes)
+    bytes
+}
+
+/// Where the field begins that is cut off at this length.
+fn field_at(len: usize) -> usize {
+    FIELDS
+        .iter()
+        .copied()
+        .filter(|offset| *offset <= len)
+        .last()
+        .unwrap_or(0)
 }
 
 #[test]
 fn a_byte_fewer_or_more(rt: HostRuntime) -> Result<(), Fail> {
-    let alloc = rt.alloc();
-    assert_eq!(rt;
-        fault(alloc, &EMPTY[..31]),
-        Some(WireFault::Short { offset: 30 })
-    );
-    assert_eq!(rt; fault(alloc, &[]), Some(WireFault::Short { offset: 0 }));
-    let longer = joined(alloc, &[&EMPTY, &[0]])?;
-    assert_eq!(rt; fault(alloc, &longer), Some(WireFault::Long { offset: 32 }));
+    for (count, more, wanted) in [
+        (31, [].as_slice(), Some(WireFault::Short { offset: 30 })),
+        (0, [].as_slice(), Some(WireFault::Short { offset: 0 })),
+        (32, [].as_slice(), None),
+        (32, [0].as_slice(), Some(WireFault::Long { offset: 32 })),
+    ] {
+        let bytes = joined(rt.alloc(), &EMPTY, count, &[more])?;
+        assert_eq!(rt; fault(rt.alloc(), &bytes), wanted, "{count} bytes");
+    }
     Ok(())
 }
 
 #[test]
 fn each_cut(rt: HostRuntime) {
     for len in 0..75 {
-        let mut field = 0;
-        for offset in FIELDS {
-            if offset <= len {
-                field = offset;
-            }
-        }
+        let offset = field_at(len);
         assert_eq!(rt;
             fault(rt.alloc(), &ONE_NAME[..len]),
-            Some(WireFault::Short { offset: field }),
+            Some(WireFault::Short { offset }),
             "{len} bytes"
         );
     }
@@ -46,15 +54,13 @@ fn each_cut(rt: HostRuntime) {
 
 #[test]
 fn each_byte_at_each_value(rt: HostRuntime) -> Result<(), Fail> {
-    let alloc = rt.alloc();
     let mut read = 0u32;
     for index in 0..75 {
         for value in 0..=255 {
-            let mut bytes = ONE_NAME;
-            bytes[index] = value;
-            match written_again(alloc, &bytes) {
+            let bytes = altered(index, value);
+            match written_again(rt.alloc(), &bytes) {
                 Ok(again) => {
-                    assert_eq!(rt; again.as_slice(), bytes.as_slice());
+                    assert!(rt; again.as_slice() == bytes.as_slice());
                     read = read.wrapping_add(1);
                 }
                 Err(fault) => assert!(rt; fault != WireFault::OutOfMemory),
@@ -68,7 +74,6 @@ fn each_byte_at_each_value(rt: HostRuntime) -> Result<(), Fail> {
 
 #[test]
 fn one_byte_altered(rt: HostRuntime) {
-    let alloc = rt.alloc();
     for (index, value, wanted) in [
         (0, 0, WireFault::Magic { offset: 0 }),
         (4, 2, WireFault::BadNode { offset: 4 }),
@@ -87,7 +92,7 @@ fn one_byte_altered(rt: HostRuntime) {
         (72, 0, WireFault::ZeroCell { offset: 65 }),
     ] {
         assert_eq!(rt;
-            fault_with(alloc, index, value),
+            fault(rt.alloc(), &altered(index, value)),
             Some(wanted),
             "byte {index} at {value}"
         );

@@ -4,7 +4,7 @@ use Rattle.actions.specs.Canonical.{canonical}
 use Rattle.actions.specs.Names.{is_name}
 use Rattle.delta_exchange.specs.Spelling.{IsCanonicalText}
 use Rattle.delta_exchange.proofs.Examples.{setting_has_spelling}
-use Rattle.delta_exchange.proofs.tests.whole.written_setting.Goals as goal
+use Rattle.delta_exchange_tests.proofs.tests.written.try_written_setting.Goals as goal
 
 pub encode-requires : goal.encode-requires
 encode-requires c =

@@ -4,11 +4,12 @@
 mod altered;
 mod faults;
 mod greatest;
-mod held;
 mod known;
+mod printed;
 mod whole;
+mod written;
 
-use super::*;
+use delta_exchange::{Message, NameEntry, WireFault, decode, encode, told, whole};
 use std::alloc::{AllocError, Global};
 use std::fmt::Display;
 use std::test::Fail;
@@ -37,6 +38,12 @@ const ONE_NAME: [u8; 75] = [
     0, 0, // no shift cell
 ];
 
+/// The removed point b, up to its tag.
+const REMOVED_B: [u8; 12] = [1, b'b', 0, 0, 0, 0, 0, 0, 0, 1, 0, 0];
+
+/// No cells.
+const NO_CELLS: [u8; 5] = [0, 0, 0, 0, 0];
+
 fn decoded(alloc: Global, bytes: &[u8]) -> Result<Message, WireFault> {
     match decode(alloc, 2, bytes) {
         Err(WireFault::OutOfMemory) => decode(alloc, 2, bytes),
@@ -61,33 +68,19 @@ fn try_written_again(alloc: Global, bytes: &[u8]) -> Result<Vec<u8>, WireFault> 
     Ok(encode(alloc, &message)?)
 }
 
-fn shown<T: Display>(alloc: Global, value: &T) -> Result<String, Fail> {
-    match format!(in alloc; "{value}") {
-        Err(_) => Ok(format!(in alloc; "{value}")?),
-        first => Ok(first?),
+/// So many bytes of a message, and these behind them.
+fn joined(alloc: Global, first: &[u8], count: usize, rest: &[&[u8]]) -> Result<Vec<u8>, Fail> {
+    let first = first.get(..count).ok_or("there are so many bytes")?;
+    match try_joined(alloc, first, rest) {
+        Err(_) => Ok(try_joined(alloc, first, rest)?),
+        bytes => Ok(bytes?),
     }
 }
 
-/// One part behind the other.
-fn joined(alloc: Global, parts: &[&[u8]]) -> Result<Vec<u8>, Fail> {
-    match try_joined(alloc, parts) {
-        Err(_) => Ok(try_joined(alloc, parts)?),
-        first => Ok(first?),
-    }
-}
-
-fn try_joined(alloc: Global, parts: &[&[u8]]) -> Result<Vec<u8>, AllocError> {
-    let mut bytes = Vec::new(alloc);
-    for part in parts {
+fn try_joined(alloc: Global, first: &[u8], rest: &[&[u8]]) -> Result<Vec<u8>, AllocError> {
+    let mut bytes = Vec::from_slice(alloc, first)?;
+    for part in rest {
         bytes.extend_from_slice(part)?;
     }
     Ok(bytes)
-}
-
-/// Bytes of zeros.
-fn zeros(alloc: Global, len: usize) -> Result<Vec<u8>, Fail> {
-    match vec![in alloc; 0; len] {
-        Err(_) => Ok(vec![in alloc; 0; len]?),
-        first => Ok(first?),
-    }
 }

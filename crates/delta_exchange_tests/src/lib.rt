@@ -1,0 +1,5 @@
+//! What is tested of messages.
+#![tactic(auto)]
+
+#[cfg(test)]
+mod tests;
