@@ -1,73 +1,67 @@
 //! Action texts, and scripts that drive a cluster of failpoint registries.
 #![tactic(auto)]
 
-ghost use Rattle.std.specs.Prelude.{◌≡◌, IsOk, IfOk};
+ghost use Rattle.std.specs.Prelude.{◌≡◌, ◌<◌, ◌⊎◌, true, false, length, IsOk, IfOk, IfSome};
 ghost use Rattle.std.specs.Process.{exit_status};
+ghost use Rattle.std.specs.Io.KnownBytes.{Appends};
 ghost use Rattle.actions.specs.Reading.{reading};
+ghost use Rattle.scripts.specs.Script.{script_text};
+ghost use Rattle.scripts.specs.Watched.{has_failed, has_unflushed, inner_of};
 
-mod cluster;
-mod command;
 mod command_line;
-mod fault;
-mod fields;
-mod reply;
-mod run;
-mod script;
-mod streams;
+mod finish;
 #[cfg(test)]
 mod tests;
-mod watched;
 
 use actions::parse_actions;
 use command_line::{Invocation, read_command_line};
-pub use fault::ScriptFault;
-pub use run::run_script;
+use finish::{finish_parse, finish_script, finish_unread};
+use scripts::{MOST_BYTES, Watched, run_script};
 use std::io;
+use std::io::{Read, Write};
 use std::process::ExitCode;
-pub use watched::Watched;
 
 fn main(rt: HostRuntime) -> anyhow::Result<ExitCode> {
     let alloc = rt.alloc();
     let words: Vec<String> = std::env::args(&rt)?.collect(alloc)?;
-    let invocation = match read_command_line(alloc, words.as_slice()) {
-        Ok(invocation) => invocation,
-        Err(error) => {
-            error.print(&rt)?;
-            return Ok(ExitCode::from(error.exit_code() as u8));
+    match read_command_line(alloc, words.as_slice()) {
+        Ok(Invocation::Parse(text)) => parse(&rt, text),
+        Ok(Invocation::Sim) => {
+            let mut reader = Watched::new(rt.reader());
+            let mut writer = Watched::new(io::writer(&rt));
+            sim(&rt, &mut reader, &mut writer)
         }
-    };
-    match invocation {
-        Invocation::Parse(text) => parse(&rt, text),
-        Invocation::Sim => sim(&rt),
+        Err(error) => finish_unread(&rt, &error),
     }
 }
 
 // Prints the canonical spelling of an action text.
 fn parse<R: Print + Eprint + AllocGlobal>(rt: &R, text: &str) -> anyhow::Result<ExitCode>
     // Only a text that can be read has status 0.
-    ensures { IfOk result (λ code. exit_status code ≡ 0 → IsOk (reading text.now)) }
+    ensures done { IfOk result (λ code. exit_status code ≡ 0 → IsOk (reading text.now)) }
+    ensures known { IfOk result (λ code. (exit_status code ≡ 0) ⊎ (exit_status code ≡ 1)) }
 {
-    match parse_actions(rt.alloc(), text) {
-        Ok(actions) => {
-            println!(rt; "{}", actions.text())?;
-            Ok(ExitCode::SUCCESS)
-        }
-        Err(fault) => {
-            eprintln!(rt; "refused {fault}")?;
-            Ok(ExitCode::FAILURE)
-        }
-    }
+    let actions = parse_actions(rt.alloc(), text);
+    finish_parse(rt, actions)
 }
 
-// Runs the script on standard input.
-fn sim<R: Print + Eprint + Input + AllocGlobal>(rt: &R) -> anyhow::Result<ExitCode> {
-    let mut reader = Watched::new(rt.reader());
-    let mut writer = Watched::new(io::writer(rt));
-    match run_script(rt.alloc(), &mut reader, &mut writer) {
-        Ok(()) => Ok(ExitCode::SUCCESS),
-        Err(fault) => {
-            eprintln!(rt; "refused {fault}")?;
-            Ok(ExitCode::FAILURE)
-        }
-    }
+// Runs the script that a reader gives.
+fn sim<R: Eprint + AllocGlobal, I: Read, O: Write>(
+    rt: &R,
+    reader: &mut Watched<I>,
+    writer: &mut Watched<O>,
+) -> anyhow::Result<ExitCode>
+    requires reader { has_failed reader.old ≡ false }
+    requires writer { has_failed writer.old ≡ false }
+    // With status 0 the whole text of what was read is written and flushed.
+    ensures done { IfOk result (λ code. exit_status code ≡ 0 → IfSome (I.remaining (inner_of reader.old)) (λ input.
+        Appends (O.contents (inner_of writer.old)) (O.contents (inner_of writer.new)) (script_text input))) }
+    ensures flushed { IfOk result (λ code. exit_status code ≡ 0 → has_unflushed writer.new ≡ false) }
+    ensures read_failed { IfOk result (λ code. has_failed reader.new ≡ true → exit_status code ≡ 1) }
+    ensures write_failed { IfOk result (λ code. has_failed writer.new ≡ true → exit_status code ≡ 1) }
+    ensures long { IfOk result (λ code. IfSome (I.remaining (inner_of reader.old)) (λ input. MOST_BYTES < length input → exit_status code ≡ 1)) }
+    ensures known { IfOk result (λ code. (exit_status code ≡ 0) ⊎ (exit_status code ≡ 1)) }
+{
+    let run = run_script(rt.alloc(), reader, writer);
+    finish_script(rt, run)
 }

@@ -1,6 +1,3 @@
-//! Runs of scripts, and readers and writers that fail.
+//! What the program prints, and its statuses.
 
 mod program;
-mod scripts;
-mod streams;
-mod watched;

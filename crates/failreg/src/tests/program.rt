@@ -1,11 +1,12 @@
-//! What the program prints of an action text.
+//! What the program prints, and its exit status.
 
-use crate::parse;
+use crate::{parse, sim};
+use scripts::Watched;
 use std::alloc::Global;
 use std::cell::RefCell;
 use std::fmt::{Display, Write};
 use std::io;
-use std::io::ErrorKind;
+use std::io::{ErrorKind, Read};
 use std::process::ExitCode;
 use std::test::Fail;
 
@@ -15,6 +16,16 @@ struct Screen {
     alloc: Global,
     output: RefCell<String>,
     errors: RefCell<String>,
+}
+
+impl Screen {
+    fn new(alloc: Global) -> Screen {
+        Screen {
+            alloc,
+            output: RefCell::new(String::new(alloc)),
+            errors: RefCell::new(String::new(alloc)),
+        }
+    }
 }
 
 impl Alloc for Screen {
@@ -77,15 +88,65 @@ fn texts(rt: HostRuntime) -> Result<(), Fail> {
             "refused A10 BadByte offset=3\n",
         ),
     ] {
-        let screen = Screen {
-            alloc: rt.alloc(),
-            output: RefCell::new(String::new(rt.alloc())),
-            errors: RefCell::new(String::new(rt.alloc())),
-        };
+        let screen = Screen::new(rt.alloc());
         let ended = parse(&screen, text).map_err(|_| "not printed")?;
         assert_eq!(rt; ended, status, "of {text}");
         assert_eq!(rt; screen.output.into_inner().as_str(), output);
         assert_eq!(rt; screen.errors.into_inner().as_str(), errors);
     }
+    Ok(())
+}
+
+// A reader or a writer of which each call fails.
+#[derive(Drop)]
+struct Broken;
+
+impl Read for Broken {
+    fn read(&mut self, _buf: &mut [u8]) -> io::Result<usize> {
+        Err(io::Error::from(ErrorKind::BrokenPipe))
+    }
+}
+
+impl io::Write for Broken {
+    fn write(&mut self, _buf: &[u8]) -> io::Result<usize> {
+        Err(io::Error::from(ErrorKind::BrokenPipe))
+    }
+
+    fn flush(&mut self) -> io::Result<()> {
+        Err(io::Error::from(ErrorKind::BrokenPipe))
+    }
+}
+
+// The status of a script, and what is said of it.
+fn ended<I: Read, O: io::Write>(
+    alloc: Global,
+    reader: I,
+    writer: O,
+) -> Result<(ExitCode, String), Fail> {
+    let screen = Screen::new(alloc);
+    let mut reader = Watched::new(reader);
+    let mut writer = Watched::new(writer);
+    let status = sim(&screen, &mut reader, &mut writer).map_err(|_| "not said")?;
+    Ok((status, screen.errors.into_inner()))
+}
+
+#[test]
+fn a_script_is_done(rt: HostRuntime) -> Result<(), Fail> {
+    let mut output = Vec::new(rt.alloc());
+    let (status, errors) = ended(rt.alloc(), b"fly\n".as_slice(), &mut output)?;
+    assert_eq!(rt; status, ExitCode::SUCCESS);
+    assert_eq!(rt; errors.as_str(), "");
+    assert_eq!(rt; output.as_slice(), b"bad line\n".as_slice());
+    Ok(())
+}
+
+#[test]
+fn a_script_is_refused(rt: HostRuntime) -> Result<(), Fail> {
+    let (status, errors) = ended(rt.alloc(), Broken, Vec::new(rt.alloc()))?;
+    assert_eq!(rt; status, ExitCode::FAILURE);
+    assert_eq!(rt; errors.as_str(), "refused P2 ReadFailed\n");
+    let (status, errors) = ended(rt.alloc(), b"".as_slice(), Broken)?;
+    assert_eq!(rt; status, ExitCode::FAILURE);
+    assert_eq!(rt; errors.as_str(), "refused P3 WriteFailed\n");
     Ok(())
 }

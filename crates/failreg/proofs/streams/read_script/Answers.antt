@@ -1,9 +1,0 @@
-use Rattle.std.proofs.Common.{arith}
-use Rattle.std.proofs.lemmas.Grind.{common_steps}
-use Rattle.failreg.proofs.Flows.{TakesUpTo-then}
-use Rattle.failreg.proofs.streams.read_script.Goals as goal
-
-pub returns-in_err-extend_from_slice-clause-taken :
-    goal.returns-in_err-extend_from_slice-clause-taken
-returns-in_err-extend_from_slice-clause-taken g c =
-    TakesUpTo-then 16777217 c.in-Ok.count _ _ _ c.loop-chunk.script.items _ c.loop-chunk.invariant.taken c.in-Ok.ensures.bytes.0 (let bound = c.in-Ok.ensures.bound in let len = c.loop-chunk.script.ok.0 in grind (arith, common_steps))

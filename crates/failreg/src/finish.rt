@@ -1,0 +1,56 @@
+//! How the program ends: what it says last, and its exit status.
+
+ghost use Rattle.std.specs.Prelude.{◌≡◌, ◌↔◌, IfOk, IsOk, IsErr};
+ghost use Rattle.std.specs.Process.{exit_status};
+ghost use Rattle.clap.specs.Values.{kind_of};
+ghost use Rattle.failreg.specs.Statuses.{unread_status};
+
+use actions::{ActionFault, Actions};
+use scripts::ScriptFault;
+use std::fmt::Display;
+use std::process::ExitCode;
+
+// Says why something was refused.
+fn refuse<R: Eprint, E: Display + Drop>(rt: &R, fault: E) -> anyhow::Result<ExitCode>
+    ensures { IfOk result (λ code. exit_status code ≡ 1) }
+{
+    eprintln!(rt; "refused {fault}")?;
+    Ok(ExitCode::FAILURE)
+}
+
+/// After an action text was read: prints its canonical spelling, or why it was refused.
+pub fn finish_parse<R: Print + Eprint>(
+    rt: &R,
+    actions: Result<Actions, ActionFault>,
+) -> anyhow::Result<ExitCode>
+    ensures done { IfOk result (λ code. exit_status code ≡ 0 ↔ IsOk actions) }
+    ensures refused { IfOk result (λ code. exit_status code ≡ 1 ↔ IsErr actions) }
+{
+    match actions {
+        Ok(actions) => {
+            println!(rt; "{}", actions.text())?;
+            Ok(ExitCode::SUCCESS)
+        }
+        Err(fault) => refuse(rt, fault),
+    }
+}
+
+/// After a script was run: prints why it was refused, if it was.
+pub fn finish_script<R: Eprint>(rt: &R, run: Result<(), ScriptFault>) -> anyhow::Result<ExitCode>
+    ensures done { IfOk result (λ code. exit_status code ≡ 0 ↔ IsOk run) }
+    ensures refused { IfOk result (λ code. exit_status code ≡ 1 ↔ IsErr run) }
+{
+    match run {
+        Ok(()) => Ok(ExitCode::SUCCESS),
+        Err(fault) => refuse(rt, fault),
+    }
+}
+
+/// Where a command line asks for no run: prints the help that it asks for, or what is wrong with
+/// it.
+pub fn finish_unread<R: Print + Eprint>(rt: &R, error: &clap::Error) -> anyhow::Result<ExitCode>
+    ensures { IfOk result (λ code. exit_status code ≡ unread_status (kind_of error.now)) }
+{
+    error.print(rt)?;
+    Ok(ExitCode::from(error.exit_code() as u8))
+}

@@ -1,0 +1,11 @@
+use Rattle.std.proofs.Common.{◌≡◌, ◌<◌, ◌≤◌, map}
+use Rattle.std.specs.List.{range_with_len}
+use Rattle.scripts.specs.Clusters.{new_node}
+use Rattle.scripts.proofs.cluster.Cluster.new.Given as goal
+
+-- the nodes so far are new ones, and the first of them is made in a cluster of a right size alone
+abbrev pub invariant-loop-node : goal.invariant-loop-node
+invariant-loop-node l = record {
+  made : l.nodes.items ≡ map (new_node l.count l.trace_cap) (range_with_len 0 l.node);
+  few : 0 < l.node → l.count ≤ 16;
+}

@@ -1,0 +1,10 @@
+use Rattle.std.proofs.Common.{arith, rules}
+use Rattle.std.proofs.lemmas.Grind.{common_steps}
+use Rattle.scripts.proofs.Flows.{GivesBefore-then}
+use Rattle.scripts.proofs.streams.write_text.Goals as goal
+
+pub loop-rest-preserved : goal.loop-rest-preserved
+loop-rest-preserved g c = record {
+  given = GivesBefore-then c.in-Ok.count c.loop-rest.rest.now _ c.args.text.now _ _ _ c.loop-rest.invariant.given (search rules) (grind (arith, common_steps));
+  failed = grind (arith, common_steps);
+}

@@ -1,0 +1,8 @@
+pub mod Watched
+pub mod Streams
+pub mod Fields
+pub mod Commands
+pub mod Replies
+pub mod Clusters
+pub mod Script
+pub mod FaultText

@@ -1,0 +1,240 @@
+//! What a line asks for.
+
+ghost use Rattle.std.specs.Prelude.{◌≡◌, ◌==◌, option_map, IfOk};
+ghost use Rattle.std.specs.Vec.{vec_items};
+ghost use Rattle.std.specs.List.{slice_split};
+ghost use Rattle.scripts.specs.Fields.{space};
+ghost use Rattle.scripts.specs.Commands.{call_value, command_value, words_of, nodes_in, set_in, remove_in, load_in, pass_in, shift_in, rights_in, spent_in, hits_in, call_in, ask_in, list_in, emit_in, deliver_in, command_of};
+
+use crate::fields::{amount, byte, cut, field, word};
+use std::alloc::{AllocError, Global};
+
+/// What is asked of one node.
+#[derive(Drop)]
+pub enum Call<'a> {
+    Set {
+        name: &'a str,
+        text: &'a str,
+    },
+    Remove {
+        name: &'a str,
+    },
+    Load {
+        text: &'a str,
+    },
+    Pass {
+        name: &'a str,
+        words: Vec<u32>,
+    },
+    Shift {
+        name: &'a str,
+        term: u8,
+        to: u8,
+        amount: u64,
+    },
+    List,
+    Rights {
+        name: &'a str,
+        term: u8,
+        of: u8,
+    },
+    Spent {
+        name: &'a str,
+        term: u8,
+    },
+    Hits {
+        name: &'a str,
+    },
+}
+
+/// What a line asks for.
+#[derive(Drop)]
+pub enum Command<'a> {
+    /// A cluster of so many nodes, each of which accepts so many calls.
+    Nodes { count: u8, trace_cap: u32 },
+    /// A call of a node.
+    Ask { node: u8, call: Call<'a> },
+    /// A message of a node to another.
+    Emit { node: u8, to: u8 },
+    /// A delivery of a message, by its number, to a node.
+    Deliver { node: u8, message: u32 },
+}
+
+fn nodes_command(rest: &str) -> Option<Command<'_>>
+    ensures { option_map command_value result ≡ nodes_in rest.now }
+{
+    let (count, trace_cap) = cut(rest)?;
+    let count = byte(count)?;
+    let trace_cap = word(trace_cap)?;
+    Some(Command::Nodes { count, trace_cap })
+}
+
+fn set_call(rest: &str) -> Option<Call<'_>>
+    ensures { option_map call_value result ≡ set_in rest.now }
+{
+    let (name, text) = cut(rest)?;
+    let name = field(name)?;
+    Some(Call::Set { name, text })
+}
+
+fn remove_call(rest: &str) -> Option<Call<'_>>
+    ensures { option_map call_value result ≡ remove_in rest.now }
+{
+    let name = field(rest)?;
+    Some(Call::Remove { name })
+}
+
+fn load_call(rest: &str) -> Option<Call<'_>>
+    ensures { option_map call_value result ≡ load_in rest.now }
+{
+    Some(Call::Load { text: rest })
+}
+
+fn words_in(alloc: Global, text: &str) -> Result<Option<Vec<u32>>, AllocError>
+    ensures { IfOk result (λ words. option_map vec_items words ≡ words_of (slice_split (λ byte. byte == space) text.now)) }
+{
+    let mut words = Vec::new(alloc);
+    for field in text.split(' ') {
+        let Some(number) = word(field) else {
+            return Ok(None);
+        };
+        words.push(number)?;
+    }
+    Ok(Some(words))
+}
+
+fn pass_call(alloc: Global, rest: &str) -> Result<Option<Call<'_>>, AllocError>
+    ensures { IfOk result (λ call. option_map call_value call ≡ pass_in rest.now) }
+{
+    let (name, words) = match cut(rest) {
+        None => (rest, Some(Vec::new(alloc))),
+        Some((name, words)) => (name, words_in(alloc, words)?),
+    };
+    match (field(name), words) {
+        (Some(name), Some(words)) => Ok(Some(Call::Pass { name, words })),
+        _ => Ok(None),
+    }
+}
+
+fn shift_call(rest: &str) -> Option<Call<'_>>
+    ensures { option_map call_value result ≡ shift_in rest.now }
+{
+    let (name, rest) = cut(rest)?;
+    let name = field(name)?;
+    let (term, rest) = cut(rest)?;
+    let term = byte(term)?;
+    let (to, amount_text) = cut(rest)?;
+    let to = byte(to)?;
+    let amount = amount(amount_text)?;
+    Some(Call::Shift {
+        name,
+        term,
+        to,
+        amount,
+    })
+}
+
+fn rights_call(rest: &str) -> Option<Call<'_>>
+    ensures { option_map call_value result ≡ rights_in rest.now }
+{
+    let (name, numbers) = cut(rest)?;
+    let name = field(name)?;
+    let (term, of) = cut(numbers)?;
+    let term = byte(term)?;
+    let of = byte(of)?;
+    Some(Call::Rights { name, term, of })
+}
+
+fn spent_call(rest: &str) -> Option<Call<'_>>
+    ensures { option_map call_value result ≡ spent_in rest.now }
+{
+    let (name, term) = cut(rest)?;
+    let name = field(name)?;
+    let term = byte(term)?;
+    Some(Call::Spent { name, term })
+}
+
+fn hits_call(rest: &str) -> Option<Call<'_>>
+    ensures { option_map call_value result ≡ hits_in rest.now }
+{
+    let name = field(rest)?;
+    Some(Call::Hits { name })
+}
+
+/// What follows the node's number, by the line's first word.
+fn read_call<'a>(alloc: Global, word: &str, rest: &'a str) -> Result<Option<Call<'a>>, AllocError>
+    ensures { IfOk result (λ call. option_map call_value call ≡ call_in word.now rest.now) }
+{
+    match word {
+        "set" => Ok(set_call(rest)),
+        "remove" => Ok(remove_call(rest)),
+        "load" => Ok(load_call(rest)),
+        "pass" => pass_call(alloc, rest),
+        "shift" => Ok(shift_call(rest)),
+        "rights" => Ok(rights_call(rest)),
+        "spent" => Ok(spent_call(rest)),
+        "hits" => Ok(hits_call(rest)),
+        _ => Ok(None),
+    }
+}
+
+fn ask_command<'a>(
+    alloc: Global,
+    word: &str,
+    rest: &'a str,
+) -> Result<Option<Command<'a>>, AllocError>
+    ensures { IfOk result (λ command. option_map command_value command ≡ ask_in word.now rest.now) }
+{
+    let Some((node, rest)) = cut(rest) else {
+        return Ok(None);
+    };
+    let Some(node) = byte(node) else {
+        return Ok(None);
+    };
+    let Some(call) = read_call(alloc, word, rest)? else {
+        return Ok(None);
+    };
+    Ok(Some(Command::Ask { node, call }))
+}
+
+fn list_command(rest: &str) -> Option<Command<'_>>
+    ensures { option_map command_value result ≡ list_in rest.now }
+{
+    let node = byte(rest)?;
+    let call = Call::List;
+    Some(Command::Ask { node, call })
+}
+
+fn emit_command(rest: &str) -> Option<Command<'_>>
+    ensures { option_map command_value result ≡ emit_in rest.now }
+{
+    let (node, to) = cut(rest)?;
+    let node = byte(node)?;
+    let to = byte(to)?;
+    Some(Command::Emit { node, to })
+}
+
+fn deliver_command(rest: &str) -> Option<Command<'_>>
+    ensures { option_map command_value result ≡ deliver_in rest.now }
+{
+    let (node, message) = cut(rest)?;
+    let node = byte(node)?;
+    let message = word(message)?;
+    Some(Command::Deliver { node, message })
+}
+
+/// What a line asks for, where it has one of the forms.
+pub fn read_command(alloc: Global, line: &str) -> Result<Option<Command<'_>>, AllocError>
+    ensures { IfOk result (λ command. option_map command_value command ≡ command_of line.now) }
+{
+    let Some((word, rest)) = cut(line) else {
+        return Ok(None);
+    };
+    match word {
+        "nodes" => Ok(nodes_command(rest)),
+        "list" => Ok(list_command(rest)),
+        "emit" => Ok(emit_command(rest)),
+        "deliver" => Ok(deliver_command(rest)),
+        _ => ask_command(alloc, word, rest),
+    }
+}
