@@ -1,10 +1,10 @@
 //! Action texts that were read.
 
-ghost use Rattle.std.specs.Prelude.{◌≡◌, ◌≤◌, ◌<◌, List, length, map, slice_get, option_map, string_bytes, IfOk, Ok};
+ghost use Rattle.std.specs.Prelude.{◌≡◌, ◌≤◌, ◌<◌, List, length, map, slice_get, option_map, position, string_bytes, IfOk, IfSome, Ok};
 ghost use Rattle.actions.specs.Value.{TermValue, term_value};
 ghost use Rattle.actions.specs.Grammar.{SpellsActions};
 ghost use Rattle.actions.specs.Canonical.{canonical};
-ghost use Rattle.actions.specs.Reading.{Gives, reading};
+ghost use Rattle.actions.specs.Reading.{Gives, is_bad_byte, reading};
 ghost use Rattle.actions.specs.Choice.{words_needed};
 
 use crate::fault::ActionFault;
@@ -56,10 +56,16 @@ pub fn parse_actions(alloc: Global, text: &str) -> Result<Actions, ActionFault>
     // What is read is spelled so.
     ensures found { IfOk result (λ a. SpellsActions text.now a) }
     // What is spelled so is read, unless memory runs out.
-    ensures only { (terms : List TermValue) → SpellsActions text.now terms → Gives (λ a. a) result (Ok terms) }
+    ensures only { (terms : List TermValue) → SpellsActions text.now terms
+        → Gives (λ a. a) result (Ok terms) }
 
     // Each refusal is the first one.
     ensures exact { Gives (λ a. a) result (reading text.now) }
+
+    // A text that is too long, and else one with a bad byte, is never refused for want of memory.
+    ensures long { 1024 < length text.now → result ≡ Err ActionFault.TooLong }
+    ensures bad_byte { length text.now ≤ 1024
+        → IfSome (position is_bad_byte text.now) (λ i. result ≡ Err (ActionFault.BadByte i)) }
 
     // The canonical text is another spelling, and no longer.
     ensures canonical_text { IfOk result (λ a. SpellsActions (canonical a) a) }

@@ -1,6 +1,6 @@
 //! Reading an action text: one function for each step, in the order in which they refuse.
 
-ghost use Rattle.std.specs.Prelude.{◌≡◌, ◌≤◌, length, map, option_map, position, IfOk};
+ghost use Rattle.std.specs.Prelude.{◌≡◌, ◌≤◌, ◌<◌, length, map, option_map, position, IfOk, IfSome};
 ghost use Rattle.actions.specs.Value.{task_value, term_value};
 ghost use Rattle.actions.specs.Reading.{Gives, is_bad_byte, argument_at, chance_at, count_at, time_at, task_at, term_at, terms_at, reading, pieces, trimmed};
 
@@ -19,7 +19,10 @@ const MAX_TERMS: usize = 16;
 /// The terms of a text.
 #[tactic(auto, unfolding(crate::specs::Reading::reading))]
 pub(crate) fn read_terms(alloc: Global, text: &str) -> Result<Vec<Term>, ActionFault>
-    ensures { Gives (λ v. map term_value v.items) result (reading text.now) }
+    ensures exact { Gives (λ v. map term_value v.items) result (reading text.now) }
+    ensures long { MAX_TEXT < length text.now → result ≡ Err ActionFault.TooLong }
+    ensures bad_byte { length text.now ≤ MAX_TEXT
+        → IfSome (position is_bad_byte text.now) (λ i. result ≡ Err (ActionFault.BadByte i)) }
 {
     if text.len() > MAX_TEXT {
         return Err(ActionFault::TooLong);

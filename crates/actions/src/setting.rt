@@ -1,6 +1,6 @@
 //! Setting texts, which set many points.
 
-ghost use Rattle.std.specs.Prelude.{◌≡◌, ◌<◌, ◌^◌, ℕ, List, length, map, not, if◌then◌else◌, IfOk, Ok, Err};
+ghost use Rattle.std.specs.Prelude.{◌≡◌, ◌<◌, ◌^◌, ◌↔◌, ℕ, List, false, length, map, not, if◌then◌else◌, IfOk, IsErrOf, Ok, Err};
 ghost use Rattle.actions.specs.Value.{TermValue};
 ghost use Rattle.actions.specs.Names.{is_name};
 ghost use Rattle.actions.specs.Reading.{reading};
@@ -27,10 +27,13 @@ pub fn parse_setting(alloc: Global, text: &str) -> Result<Vec<(Name, Actions)>, 
     // What is read is spelled so.
     ensures found { IfOk result (λ points. SpellsSetting text.now points.items) }
     // What is spelled so is read, unless memory runs out.
-    ensures only { (points : List (List ℕ × List TermValue)) → SpellsSetting text.now points → Gives (λ v. v.items) result (Ok points) }
+    ensures only { (points : List (List ℕ × List TermValue)) → SpellsSetting text.now points
+        → Gives (λ v. v.items) result (Ok points) }
     // Each refusal is the first one.
     ensures exact { Gives (λ v. v.items) result (setting_reading text.now) }
     ensures few { IfOk result (λ points. length points.items < 2 ^ 16) }
+    // A text that is too long is never refused for want of memory.
+    ensures long { 65536 < length text.now → result ≡ Err SettingFault.TooLong }
 {
     if text.len() > MAX_SETTING {
         return Err(SettingFault::TooLong);
@@ -74,7 +77,9 @@ fn parse_entry(alloc: Global, entry: u16, text: &str) -> Result<(Name, Actions),
 }
 
 fn parse_entry_name(alloc: Global, entry: u16, text: &str) -> Result<Name, SettingFault>
-    ensures { Gives (λ n. n) result (if not (is_name text.now) then Err (BadName entry) else Ok text.now) }
+    ensures exact { Gives (λ n. n) result
+        (if not (is_name text.now) then Err (BadName entry) else Ok text.now) }
+    ensures bad { IsErrOf result (SettingFault.BadName entry) ↔ (is_name text.now ≡ false) }
 {
     match Name::parse(alloc, text) {
         Ok(name) => Ok(name),
