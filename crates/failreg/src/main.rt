@@ -37,9 +37,9 @@ fn main(rt: HostRuntime) -> anyhow::Result<ExitCode> {
 
 // Prints the canonical spelling of an action text.
 fn parse<R: Print + Eprint + AllocGlobal>(rt: &R, text: &str) -> anyhow::Result<ExitCode>
-    // Only a text that can be read has status 0.
+    // Only a text that can be read has status 0; any other has status 1.
     ensures done { IfOk result (λ code. exit_status code ≡ 0 → IsOk (reading text.now)) }
-    ensures known { IfOk result (λ code. (exit_status code ≡ 0) ⊎ (exit_status code ≡ 1)) }
+    ensures status { IfOk result (λ code. (exit_status code ≡ 0) ⊎ (exit_status code ≡ 1)) }
 {
     let actions = parse_actions(rt.alloc(), text);
     finish_parse(rt, actions)
@@ -57,10 +57,12 @@ fn sim<R: Eprint + AllocGlobal, I: Read, O: Write>(
     ensures done { IfOk result (λ code. exit_status code ≡ 0 → IfSome (I.remaining (inner_of reader.old)) (λ input.
         Appends (O.contents (inner_of writer.old)) (O.contents (inner_of writer.new)) (script_text input))) }
     ensures flushed { IfOk result (λ code. exit_status code ≡ 0 → has_unflushed writer.new ≡ false) }
+    // A script that is too long, or that can't be read or answered, has status 1.
     ensures read_failed { IfOk result (λ code. has_failed reader.new ≡ true → exit_status code ≡ 1) }
     ensures write_failed { IfOk result (λ code. has_failed writer.new ≡ true → exit_status code ≡ 1) }
-    ensures long { IfOk result (λ code. IfSome (I.remaining (inner_of reader.old)) (λ input. MOST_BYTES < length input → exit_status code ≡ 1)) }
-    ensures known { IfOk result (λ code. (exit_status code ≡ 0) ⊎ (exit_status code ≡ 1)) }
+    ensures long { IfOk result (λ code. IfSome (I.remaining (inner_of reader.old)) (λ input.
+        MOST_BYTES < length input → exit_status code ≡ 1)) }
+    ensures status { IfOk result (λ code. (exit_status code ≡ 0) ⊎ (exit_status code ≡ 1)) }
 {
     let run = run_script(rt.alloc(), reader, writer);
     finish_script(rt, run)

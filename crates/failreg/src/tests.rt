@@ -1,3 +1,3 @@
-//! What the program prints, and its statuses.
+//! Scripts that end, and what the program says of them.
 
 mod program;

@@ -1,6 +1,6 @@
-//! What the program prints, and its exit status.
+//! What the program says of a script that fails, and its exit status.
 
-use crate::{parse, sim};
+use crate::sim;
 use scripts::Watched;
 use std::alloc::Global;
 use std::cell::RefCell;
@@ -10,11 +10,10 @@ use std::io::{ErrorKind, Read};
 use std::process::ExitCode;
 use std::test::Fail;
 
-// A runtime that keeps what is printed.
+// A runtime that keeps what is printed to standard error.
 #[derive(Drop)]
 struct Screen {
     alloc: Global,
-    output: RefCell<String>,
     errors: RefCell<String>,
 }
 
@@ -22,7 +21,6 @@ impl Screen {
     fn new(alloc: Global) -> Screen {
         Screen {
             alloc,
-            output: RefCell::new(String::new(alloc)),
             errors: RefCell::new(String::new(alloc)),
         }
     }
@@ -44,20 +42,6 @@ fn append<D: Display + Drop>(to: &RefCell<String>, value: D, end: &str) -> io::R
     Ok(())
 }
 
-impl Print for Screen {
-    fn print<D: Display + Drop>(&self, value: D) -> io::Result<()> {
-        append(&self.output, value, "")
-    }
-
-    fn println<D: Display + Drop>(&self, value: D) -> io::Result<()> {
-        append(&self.output, value, "\n")
-    }
-
-    fn write_all(&self, _bytes: &[u8]) -> io::Result<()> {
-        Err(io::Error::from(ErrorKind::Unsupported))
-    }
-}
-
 impl Eprint for Screen {
     fn eprint<D: Display + Drop>(&self, value: D) -> io::Result<()> {
         append(&self.errors, value, "")
@@ -66,35 +50,6 @@ impl Eprint for Screen {
     fn eprintln<D: Display + Drop>(&self, value: D) -> io::Result<()> {
         append(&self.errors, value, "\n")
     }
-}
-
-#[test]
-fn texts(rt: HostRuntime) -> Result<(), Fail> {
-    for (text, status, output, errors) in [
-        (
-            " 020.50%3*print(a(b)c) -> panic",
-            ExitCode::SUCCESS,
-            "20.5%3*print(a(b)c)->panic\n",
-            "",
-        ),
-        ("100.0000%off", ExitCode::SUCCESS, "off\n", ""),
-        ("return()", ExitCode::SUCCESS, "return()\n", ""),
-        ("", ExitCode::FAILURE, "", "refused A6 NoTask term=0\n"),
-        ("off->", ExitCode::FAILURE, "", "refused A6 NoTask term=1\n"),
-        (
-            "off;",
-            ExitCode::FAILURE,
-            "",
-            "refused A10 BadByte offset=3\n",
-        ),
-    ] {
-        let screen = Screen::new(rt.alloc());
-        let ended = parse(&screen, text).map_err(|_| "not printed")?;
-        assert_eq!(rt; ended, status, "of {text}");
-        assert_eq!(rt; screen.output.into_inner().as_str(), output);
-        assert_eq!(rt; screen.errors.into_inner().as_str(), errors);
-    }
-    Ok(())
 }
 
 // A reader or a writer of which each call fails.
@@ -118,7 +73,7 @@ impl io::Write for Broken {
 }
 
 // The status of a script, and what is said of it.
-fn ended<I: Read, O: io::Write>(
+fn ended<I: Read + Drop, O: io::Write + Drop>(
     alloc: Global,
     reader: I,
     writer: O,
@@ -141,10 +96,15 @@ fn a_script_is_done(rt: HostRuntime) -> Result<(), Fail> {
 }
 
 #[test]
-fn a_script_is_refused(rt: HostRuntime) -> Result<(), Fail> {
+fn a_script_is_not_read(rt: HostRuntime) -> Result<(), Fail> {
     let (status, errors) = ended(rt.alloc(), Broken, Vec::new(rt.alloc()))?;
     assert_eq!(rt; status, ExitCode::FAILURE);
     assert_eq!(rt; errors.as_str(), "refused P2 ReadFailed\n");
+    Ok(())
+}
+
+#[test]
+fn an_output_is_not_written(rt: HostRuntime) -> Result<(), Fail> {
     let (status, errors) = ended(rt.alloc(), b"".as_slice(), Broken)?;
     assert_eq!(rt; status, ExitCode::FAILURE);
     assert_eq!(rt; errors.as_str(), "refused P3 WriteFailed\n");
