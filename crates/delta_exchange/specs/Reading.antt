@@ -33,6 +33,11 @@ abbrev pub Gives : {X Y : Type 0} → (X → Y) → Result X WireFault → Resul
 Gives view (Ok x) read = read ≡ Ok (view x)
 Gives view (Err e) read = Fails e read
 
+-- what is read is what a function returned, which takes no memory
+abbrev pub GivesAlways : {X Y : Type 0} → (X → Y) → Result X WireFault → Result Y WireFault → Type 0
+GivesAlways view (Ok x) read = read ≡ Ok (view x)
+GivesAlways view (Err e) read = read ≡ Err e
+
 -- a value if the test holds, and else the fault
 abbrev pub wants : {A : Type 0} → Bool → WireFault → A → Result A WireFault
 wants test fault x = if test then Ok x else Err fault
@@ -207,6 +212,15 @@ versions_at all left = do
   ack ← number_at all w64 upto.1
   Ok ((base.0, upto.0, ack.0), ack.1)
 
+-- the fields before the entries: from, to and the versions
+unfoldable pub header_at : ℕ → ℕ → List ℕ → Result ((ℕ × ℕ × (ℕ × ℕ × ℕ)) × List ℕ) WireFault
+header_at all nodes left = do
+  after ← magic_at all left
+  from ← node_at all nodes after
+  to ← other_node_at all nodes from.0 from.1
+  versions ← versions_at all to.1
+  Ok ((from.0, to.0, versions.0), versions.1)
+
 -- all fields, after which no bytes are left
 unfoldable pub fields_at : ℕ → ℕ → List ℕ → Result MessageValue WireFault
 fields_at all nodes left = do
@@ -222,3 +236,9 @@ unfoldable pub message_at : ℕ → List ℕ → Result MessageValue WireFault
 message_at nodes bytes = do
   few ← wants (nat_le (length bytes) max_message) (faults.TooBig max_message) bytes
   fields_at (length bytes) nodes few
+
+-- the fields before the entries, of bytes that aren't too many
+unfoldable pub header_of : ℕ → List ℕ → Result ((ℕ × ℕ × (ℕ × ℕ × ℕ)) × List ℕ) WireFault
+header_of nodes bytes = do
+  few ← wants (nat_le (length bytes) max_message) (faults.TooBig max_message) bytes
+  header_at (length bytes) nodes few

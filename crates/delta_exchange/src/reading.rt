@@ -1,10 +1,10 @@
 //! Reading a message.
 
-ghost use Rattle.std.specs.Prelude.{◌≡◌, map, IfOk, Ok};
+ghost use Rattle.std.specs.Prelude.{◌≡◌, map, IfOk, IfErr, Ok};
 ghost use Rattle.std.specs.Int.{w16};
 ghost use Rattle.delta_exchange.specs.Messages.{MessageValue, entry_value, message_value};
 ghost use Rattle.delta_exchange.specs.Spelling.{SpellsMessage};
-ghost use Rattle.delta_exchange.specs.Reading.{Gives, entries_at, magic_at, versions_at, fields_at, message_at};
+ghost use Rattle.delta_exchange.specs.Reading.{Gives, GivesAlways, entries_at, magic_at, versions_at, header_at, header_of, fields_at, message_at};
 
 use crate::entry::read_entry;
 use crate::fault::WireFault;
@@ -18,7 +18,7 @@ const MAX_MESSAGE: usize = 16_777_216;
 /// What is left after the first four bytes.
 #[tactic(auto, unfolding(crate::specs::Reading::magic_at))]
 fn read_magic(whole: Whole, rest: &[u8]) -> Result<&[u8], WireFault>
-    ensures { Gives (λ x. x.now) result (magic_at whole.len rest.now) }
+    ensures { GivesAlways (λ x. x.now) result (magic_at whole.len rest.now) }
 {
     let (first, after) = read_bytes(whole, MAGIC.len(), rest)?;
     if first != MAGIC {
@@ -32,7 +32,7 @@ fn read_magic(whole: Whole, rest: &[u8]) -> Result<&[u8], WireFault>
 /// The sender's version that is known, its version, and the receiver's version that it has.
 #[tactic(auto, unfolding(crate::specs::Reading::versions_at))]
 fn read_versions(whole: Whole, rest: &[u8]) -> Result<((u64, u64, u64), &[u8]), WireFault>
-    ensures { Gives (λ x. (x.0, x.1.now)) result (versions_at whole.len rest.now) }
+    ensures { GivesAlways (λ x. (x.0, x.1.now)) result (versions_at whole.len rest.now) }
 {
     let (base, rest) = read_u64(whole, rest)?;
     let (upto, rest) = read_u64(whole, rest)?;
@@ -59,9 +59,10 @@ fn read_entries(
     Ok((entries, rest))
 }
 
-#[tactic(auto, unfolding(crate::specs::Reading::fields_at))]
+#[tactic(auto, unfolding(crate::specs::Reading::fields_at, crate::specs::Reading::header_at))]
 fn read_fields(alloc: Global, whole: Whole, bytes: &[u8]) -> Result<Message, WireFault>
-    ensures { Gives message_value result (fields_at whole.len whole.nodes bytes.now) }
+    ensures exact { Gives message_value result (fields_at whole.len whole.nodes bytes.now) }
+    ensures header { IfErr (header_at whole.len whole.nodes bytes.now) (λ fault. result ≡ Err fault) }
 {
     let rest = read_magic(whole, bytes)?;
     let (from, rest) = read_node(whole, rest)?;
@@ -83,9 +84,10 @@ fn read_fields(alloc: Global, whole: Whole, bytes: &[u8]) -> Result<Message, Wir
     })
 }
 
-#[tactic(auto, unfolding(crate::specs::Reading::message_at))]
+#[tactic(auto, unfolding(crate::specs::Reading::message_at, crate::specs::Reading::header_of))]
 fn read_message(alloc: Global, nodes: u8, bytes: &[u8]) -> Result<Message, WireFault>
-    ensures { Gives message_value result (message_at nodes bytes.now) }
+    ensures exact { Gives message_value result (message_at nodes bytes.now) }
+    ensures header { IfErr (header_of nodes bytes.now) (λ fault. result ≡ Err fault) }
 {
     if bytes.len() > MAX_MESSAGE {
         return Err(WireFault::TooBig {
@@ -101,8 +103,8 @@ fn read_message(alloc: Global, nodes: u8, bytes: &[u8]) -> Result<Message, WireF
 
 /// The message that the bytes are, in a cluster of so many nodes, numbered from 0.
 ///
-/// Otherwise the answer is the first fault from left to right, or `OutOfMemory` in its place. It
-/// goes over the bytes once.
+/// Otherwise the answer is the first fault from left to right. `OutOfMemory` may stand in place of
+/// one from the entries on, and of a message. It goes over the bytes once.
 pub fn decode(alloc: Global, nodes: u8, bytes: &[u8]) -> Result<Message, WireFault>
     // What is read is spelled so.
     ensures found { IfOk result (λ m. SpellsMessage nodes bytes.now (message_value m)) }
@@ -111,6 +113,8 @@ pub fn decode(alloc: Global, nodes: u8, bytes: &[u8]) -> Result<Message, WireFau
 
     // Which fault it is.
     ensures exact { Gives message_value result (message_at nodes bytes.now) }
+    // No memory is needed to see that there are too many bytes, or a fault before the entries.
+    ensures header { IfErr (header_of nodes bytes.now) (λ fault. result ≡ Err fault) }
 {
     read_message(alloc, nodes, bytes)
 }

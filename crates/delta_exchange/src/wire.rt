@@ -5,7 +5,7 @@
 
 ghost use Rattle.std.specs.Prelude.{◌≡◌, length};
 ghost use Rattle.std.specs.Int.{w16, w64};
-ghost use Rattle.delta_exchange.specs.Reading.{Gives, offset, bytes_at, byte_at, number_at, node_at, other_node_at};
+ghost use Rattle.delta_exchange.specs.Reading.{GivesAlways, offset, bytes_at, byte_at, number_at, node_at, other_node_at};
 
 use crate::fault::WireFault;
 
@@ -39,7 +39,7 @@ impl Whole {
 /// So many bytes.
 #[tactic(auto, unfolding(crate::specs::Reading::bytes_at))]
 pub(crate) fn read_bytes(whole: Whole, len: usize, rest: &[u8]) -> Result<(&[u8], &[u8]), WireFault>
-    ensures { Gives (λ x. (x.0.now, x.1.now)) result (bytes_at whole.len len rest.now) }
+    ensures { GivesAlways (λ x. (x.0.now, x.1.now)) result (bytes_at whole.len len rest.now) }
 {
     if rest.len() < len {
         return Err(WireFault::Short {
@@ -51,7 +51,7 @@ pub(crate) fn read_bytes(whole: Whole, len: usize, rest: &[u8]) -> Result<(&[u8]
 
 #[tactic(auto, unfolding(crate::specs::Reading::byte_at))]
 pub(crate) fn read_byte(whole: Whole, rest: &[u8]) -> Result<(u8, &[u8]), WireFault>
-    ensures { Gives (λ x. (x.0, x.1.now)) result (byte_at whole.len rest.now) }
+    ensures { GivesAlways (λ x. (x.0, x.1.now)) result (byte_at whole.len rest.now) }
 {
     match rest {
         [] => Err(WireFault::Short {
@@ -63,7 +63,7 @@ pub(crate) fn read_byte(whole: Whole, rest: &[u8]) -> Result<(u8, &[u8]), WireFa
 
 #[tactic(auto, unfolding(crate::specs::Reading::number_at))]
 pub(crate) fn read_u16(whole: Whole, rest: &[u8]) -> Result<(u16, &[u8]), WireFault>
-    ensures { Gives (λ x. (x.0, x.1.now)) result (number_at whole.len w16 rest.now) }
+    ensures { GivesAlways (λ x. (x.0, x.1.now)) result (number_at whole.len w16 rest.now) }
 {
     let Some((number, after)) = rest.split_first_chunk() else {
         return Err(WireFault::Short {
@@ -75,7 +75,7 @@ pub(crate) fn read_u16(whole: Whole, rest: &[u8]) -> Result<(u16, &[u8]), WireFa
 
 #[tactic(auto, unfolding(crate::specs::Reading::number_at))]
 pub(crate) fn read_u64(whole: Whole, rest: &[u8]) -> Result<(u64, &[u8]), WireFault>
-    ensures { Gives (λ x. (x.0, x.1.now)) result (number_at whole.len w64 rest.now) }
+    ensures { GivesAlways (λ x. (x.0, x.1.now)) result (number_at whole.len w64 rest.now) }
 {
     let Some((number, after)) = rest.split_first_chunk() else {
         return Err(WireFault::Short {
@@ -88,7 +88,7 @@ pub(crate) fn read_u64(whole: Whole, rest: &[u8]) -> Result<(u64, &[u8]), WireFa
 /// A node's number.
 #[tactic(auto, unfolding(crate::specs::Reading::node_at))]
 pub(crate) fn read_node(whole: Whole, rest: &[u8]) -> Result<(u8, &[u8]), WireFault>
-    ensures { Gives (λ x. (x.0, x.1.now)) result (node_at whole.len whole.nodes rest.now) }
+    ensures { GivesAlways (λ x. (x.0, x.1.now)) result (node_at whole.len whole.nodes rest.now) }
 {
     let (node, after) = read_byte(whole, rest)?;
     if node >= whole.nodes {
@@ -102,7 +102,7 @@ pub(crate) fn read_node(whole: Whole, rest: &[u8]) -> Result<(u8, &[u8]), WireFa
 /// The number of a node other than this one.
 #[tactic(auto, unfolding(crate::specs::Reading::other_node_at))]
 pub(crate) fn read_other_node(whole: Whole, from: u8, rest: &[u8]) -> Result<(u8, &[u8]), WireFault>
-    ensures { Gives (λ x. (x.0, x.1.now)) result (other_node_at whole.len whole.nodes from rest.now) }
+    ensures { GivesAlways (λ x. (x.0, x.1.now)) result (other_node_at whole.len whole.nodes from rest.now) }
 {
     let (to, after) = read_node(whole, rest)?;
     if to == from {

@@ -16,8 +16,8 @@ is_found nodes bytes (Err e) few fits given = tt
 
 pub returns-clause-found : goal.returns-clause-found
 returns-clause-found c =
-    is_found c.args.nodes c.args.bytes.now c.read_message.result (omega arith) (λ i. omega (arith, c.type_inv.bytes i)) c.read_message.ensures
+    is_found c.args.nodes c.args.bytes.now c.read_message.result (omega arith) (λ i. omega (arith, c.type_inv.bytes i)) c.read_message.ensures.exact
 
 pub returns-clause-only : goal.returns-clause-only
 returns-clause-only c = λ m h.
-    subst (λ read. Gives message_value c.read_message.result read) (message_again c.args.nodes c.args.bytes.now m h) c.read_message.ensures
+    subst (λ read. Gives message_value c.read_message.result read) (message_again c.args.nodes c.args.bytes.now m h) c.read_message.ensures.exact
