@@ -20,3 +20,4 @@ pub mod LawfulSteps
 pub mod KeptTelling
 pub mod Replied
 pub mod SpareWords
+pub mod MemoryLemmas

@@ -112,6 +112,11 @@ abbrev pub is_pass : Ask → Bool
 is_pass (asks.Pass name) = true
 is_pass _ = false
 
+-- the bytes of a delivery
+abbrev pub bytes_of : Ask → List ℕ
+bytes_of (asks.Deliver bytes) = bytes.items
+bytes_of _ = []
+
 abbrev pub passed : PassReply → Passed
 passed passes.Unset = Unset
 passed (passes.NoTerm stamp) = NoTerm stamp

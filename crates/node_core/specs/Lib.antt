@@ -9,4 +9,5 @@ pub mod Traces
 pub mod Holds
 pub mod Texts
 pub mod Deliveries
+pub mod Memory
 pub mod Applied

@@ -2,7 +2,7 @@
 
 ghost use Rattle.std.specs.Prelude.{◌≡◌, ◌⊎◌, ◌∷◌, false, ℕ, List, [], IfOk, IfErr, OnOk, OnErr, Some, None};
 ghost use Rattle.node_core.specs.declared.trace.Reply.{Reply};
-ghost use Rattle.node_core.specs.Asks.{asked, asked_first, answered, call, is_pass};
+ghost use Rattle.node_core.specs.Asks.{asked, asked_first, answered, bytes_of, call, is_pass};
 ghost use Rattle.node_core.specs.Applied.{delivery_refused_with, TellsIfEmit};
 ghost use Rattle.node_core.specs.Traces.{refusal, reply_to, entry_for, after_call};
 
@@ -15,7 +15,9 @@ use std::alloc::{AllocError, Global};
 impl Ask {
     /// A value of its own that asks the same. The only error is want of memory.
     pub fn copied(&self, alloc: Global) -> Result<Ask, AllocError>
-        ensures { IfOk result (λ copy. (nodes : ℕ) (reply : Reply) → asked nodes copy reply ≡ asked nodes self.now reply) }
+        ensures same { IfOk result (λ copy. (nodes : ℕ) (reply : Reply) → asked nodes copy reply ≡ asked nodes self.now reply) }
+        // Also of bytes that are no message.
+        ensures bytes { IfOk result (λ copy. bytes_of copy ≡ bytes_of self.now) }
     {
         Ok(match self {
             Ask::Set { name, text } => Ask::Set {

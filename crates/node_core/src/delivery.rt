@@ -1,6 +1,6 @@
 //! What a message says to the node that it is delivered to.
 
-ghost use Rattle.std.specs.Prelude.{◌≡◌, ◌⊎◌, ◌≤◌, ◌==◌, ◌&&◌, nat_lt, ℕ, [], map, IfOk, IfErr, Some, Ok, MatchOption};
+ghost use Rattle.std.specs.Prelude.{◌≡◌, ◌⊎◌, ◌≤◌, ◌==◌, ◌&&◌, nat_lt, ℕ, [], map, IfOk, IfErr, OnOk, IsOk, IsErrOf, Some, Ok, MatchOption};
 ghost use Rattle.std.specs.List.{flat_map, list_any};
 ghost use Rattle.std.specs.Ordering.{is_gt};
 ghost use Rattle.stamp_register.specs.Keys.{key_value};
@@ -10,6 +10,7 @@ ghost use Rattle.replica_state.specs.Slots.{matrix_state};
 ghost use Rattle.replica_state.specs.Operations.{count_at};
 ghost use Rattle.replica_state.specs.Unions.{key_order, number_both};
 ghost use Rattle.delta_exchange.specs.Messages.{entry_value, message_value, operations_of, operations_in};
+ghost use Rattle.delta_exchange.specs.Reading.{header_of};
 ghost use Rattle.delta_exchange.specs.Spelling.{IsMessage};
 ghost use Rattle.node_core.specs.Asks.{message_of, message_read};
 ghost use Rattle.node_core.specs.Refusals.{bad_message, wire_refusal, is_ahead};
@@ -49,6 +50,8 @@ pub(crate) fn read_message(alloc: Global, nodes: u8, bytes: &[u8]) -> Result<Mes
     ensures ok { IfOk result (λ m. message_read nodes bytes.now ≡ Ok (message_of (message_value m))) }
     ensures spelled { IfOk result (λ m. IsMessage nodes (message_value m)) }
     ensures refused { IfErr result (λ f. (f ≡ NodeFault.OutOfMemory) ⊎ (bad_message (message_read nodes bytes.now) ≡ Some f)) }
+    ensures header { OnOk result (IsOk (header_of nodes bytes.now)) }
+    ensures memory { IsErrOf result NodeFault.OutOfMemory → IsOk (header_of nodes bytes.now) }
 {
     match decode(alloc, nodes, bytes) {
         Ok(message) => Ok(message),

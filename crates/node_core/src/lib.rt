@@ -18,6 +18,3 @@ pub use trace::{Ask, Config, Entry, PassReply, Reply, Trace};
 
 /// What holds a node's state.
 pub type State = replica_state::Matrix;
-
-#[cfg(test)]
-mod tests;

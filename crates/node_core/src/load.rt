@@ -1,6 +1,6 @@
 //! Setting many points at once.
 
-ghost use Rattle.std.specs.Prelude.{◌≡◌, ◌⊎◌, ◌+◌, ◌<◌, ◌^◌, ◌≤◌, ℕ, List, [], length, map, IfOk, IfErr, OnOk, IsTrue, Ok, Some};
+ghost use Rattle.std.specs.Prelude.{◌≡◌, ◌⊎◌, ◌+◌, ◌<◌, ◌^◌, ◌≤◌, ℕ, List, [], length, map, IfOk, IfErr, IsErrOf, OnOk, IsTrue, Ok, Some};
 ghost use Rattle.actions.specs.Value.{TermValue};
 ghost use Rattle.actions.specs.Names.{is_name};
 ghost use Rattle.actions.specs.Canonical.{canonical};
@@ -26,6 +26,8 @@ pub(crate) fn read_points(alloc: Global, text: &str) -> Result<Vec<(Name, Action
     ensures few { IfOk result (λ points. length points.items < 2 ^ 16) }
     ensures named { IfOk result (λ points. (s : List ℕ × List TermValue) → IsIn s points.items → IsTrue (is_name s.0)) }
     ensures refused { IfErr result (λ f. (f ≡ NodeFault.OutOfMemory) ⊎ (bad_setting (setting_reading text.now) ≡ Some f)) }
+    ensures short { OnOk result (length text.now ≤ 65536) }
+    ensures memory { IsErrOf result NodeFault.OutOfMemory → length text.now ≤ 65536 }
 {
     match parse_setting(alloc, text) {
         Ok(points) => Ok(points),

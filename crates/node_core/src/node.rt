@@ -1,6 +1,6 @@
 //! A node and its calls.
 
-ghost use Rattle.std.specs.Prelude.{◌≡◌, ◌≢◌, ℕ, List, [], nat_lt, IsSome, ◌∷◌, ◌++◌, vec_len, vec_capacity, length, ◌^◌, ◌+◌, ◌≤◌, ◌<◌, ◌⊎◌, ◌↔◌, pos, ◌≤ℤ◌, map, IfOk, IfErr, OnOk, OnErr, IsTrue, Option, Some, None, Ok, string_bytes, true, false};
+ghost use Rattle.std.specs.Prelude.{◌≡◌, ◌≢◌, ℕ, List, [], nat_lt, IsSome, ◌∷◌, ◌++◌, vec_len, vec_capacity, length, ◌^◌, ◌+◌, ◌≤◌, ◌<◌, ◌⊎◌, ◌↔◌, pos, ◌≤ℤ◌, map, IfOk, IfErr, OnOk, OnErr, IsOk, IsErrOf, IsTrue, Option, Some, None, Ok, string_bytes, true, false};
 ghost use Rattle.actions.specs.Names.{is_name};
 ghost use Rattle.actions.specs.Reading.{reading};
 ghost use Rattle.stamp_register.specs.Keys.{body_value};
@@ -10,15 +10,17 @@ ghost use Rattle.replica_state.specs.Unions.{with_names};
 ghost use Rattle.replica_state.specs.Slots.{matrix_state};
 ghost use Rattle.replica_state.specs.States.{rights_of, spent_of, total_hits, with_name};
 ghost use Rattle.node_core.specs.Asks as asks;
+ghost use Rattle.delta_exchange.specs.Reading.{header_of};
 ghost use Rattle.delta_exchange.specs.Spelling.{IsBody};
 ghost use Rattle.node_core.specs.Asks.{no_versions, emit_of, message_read, passed, call};
 ghost use Rattle.node_core.specs.Nodes.{shown};
 ghost use Rattle.node_core.specs.Passes.{words_for};
-ghost use Rattle.node_core.specs.Refusals.{first_fault, is_bad_config, most, too_many, where_true};
+ghost use Rattle.node_core.specs.Refusals.{bad_actions, first_fault, is_bad_config, most, too_many, where_true};
 ghost use Rattle.node_core.specs.Outcomes.{IsHeld, state_set};
 ghost use Rattle.node_core.specs.Steps.{points_in, settings};
 ghost use Rattle.node_core.specs.Traces.{refusal, reply_to, after_call, node_of};
 ghost use Rattle.node_core.specs.Deliveries.{IsDelivery, TellsAll};
+ghost use Rattle.node_core.specs.Memory.{IsReadable, SetNeedsMemory, NameNeedsMemory, LoadNeedsMemory, EmitNeedsMemory, DeliveryNeedsMemory};
 ghost use Rattle.node_core.specs.Texts.{list_text};
 ghost use Rattle.node_core.specs.Stamps.{HasStamp};
 
@@ -94,6 +96,7 @@ impl NodeCore {
         ensures ok { IfOk result (λ s. (refusal self.old (asks.Set name.now text.now) [] ≡ None) × (reply_to self.old (asks.Set name.now text.now) [] ≡ asks.IsSet s)) }
         ensures after { OnOk result (self.new ≡ after_call self.old (asks.Set name.now text.now) []) }
         ensures refused { IfErr result (λ f. (f ≡ NodeFault.OutOfMemory) ⊎ (refusal self.old (asks.Set name.now text.now) [] ≡ Some f)) }
+        ensures memory { IsErrOf result NodeFault.OutOfMemory → SetNeedsMemory self.old name.now text.now }
         ensures err { OnErr result (self.new ≡ self.old) }
     {
         let (point, actions) = self.set_checked(alloc, name, text)?;
@@ -116,6 +119,7 @@ impl NodeCore {
         ensures ok { IfOk result (λ s. (refusal self.old (asks.Remove name.now) [] ≡ None) × (reply_to self.old (asks.Remove name.now) [] ≡ asks.IsRemoved s)) }
         ensures after { OnOk result (self.new ≡ after_call self.old (asks.Remove name.now) []) }
         ensures refused { IfErr result (λ f. (f ≡ NodeFault.OutOfMemory) ⊎ (refusal self.old (asks.Remove name.now) [] ≡ Some f)) }
+        ensures memory { IsErrOf result NodeFault.OutOfMemory → NameNeedsMemory self.old name.now }
         ensures err { OnErr result (self.new ≡ self.old) }
     {
         let point = self.remove_checked(alloc, name)?;
@@ -138,6 +142,7 @@ impl NodeCore {
         ensures ok { IfOk result (λ n. (refusal self.old (asks.Load text.now) [] ≡ None) × (reply_to self.old (asks.Load text.now) [] ≡ asks.IsLoaded n)) }
         ensures after { OnOk result (self.new ≡ after_call self.old (asks.Load text.now) []) }
         ensures refused { IfErr result (λ f. (f ≡ NodeFault.OutOfMemory) ⊎ (refusal self.old (asks.Load text.now) [] ≡ Some f)) }
+        ensures memory { IsErrOf result NodeFault.OutOfMemory → LoadNeedsMemory self.old text.now }
         ensures err { OnErr result (self.new ≡ self.old) }
     {
         let (loaded, entries) = self.load_checked(alloc, text)?;
@@ -159,6 +164,7 @@ impl NodeCore {
         ensures ok { IfOk result (λ total. (refusal self.old (asks.Shift name.now term to amount) [] ≡ None) × (reply_to self.old (asks.Shift name.now term to amount) [] ≡ asks.IsShifted total)) }
         ensures after { OnOk result (self.new ≡ after_call self.old (asks.Shift name.now term to amount) []) }
         ensures refused { IfErr result (λ f. (f ≡ NodeFault.OutOfMemory) ⊎ (refusal self.old (asks.Shift name.now term to amount) [] ≡ Some f)) }
+        ensures memory { IsErrOf result NodeFault.OutOfMemory → NameNeedsMemory self.old name.now }
         ensures err { OnErr result (self.new ≡ self.old) }
     {
         let (point, total) = self.shift_checked(alloc, name, term, to, amount)?;
@@ -173,6 +179,7 @@ impl NodeCore {
         ensures all { IfOk result (λ b. TellsAll self.old to b.items) }
         ensures after { IfOk result (λ b. self.new ≡ after_call self.old (emit_of to (message_read self.old.config.nodes b.items)) []) }
         ensures refused { IfErr result (λ f. (f ≡ NodeFault.OutOfMemory) ⊎ (refusal self.old (asks.Emit to no_versions []) [] ≡ Some f)) }
+        ensures memory { IsErrOf result NodeFault.OutOfMemory → EmitNeedsMemory self.old to }
         ensures err { OnErr result (self.new ≡ self.old) }
     {
         self.emit_checked(to)?;
@@ -189,6 +196,7 @@ impl NodeCore {
         ensures ok { IfOk result (λ changed. (refusal self.old (asks.Deliver (message_read self.old.config.nodes message.now)) [] ≡ None) × (reply_to self.old (asks.Deliver (message_read self.old.config.nodes message.now)) [] ≡ asks.IsDelivered changed)) }
         ensures after { OnOk result (self.new ≡ after_call self.old (asks.Deliver (message_read self.old.config.nodes message.now)) []) }
         ensures refused { IfErr result (λ f. (f ≡ NodeFault.OutOfMemory) ⊎ (refusal self.old (asks.Deliver (message_read self.old.config.nodes message.now)) [] ≡ Some f)) }
+        ensures memory { IsErrOf result NodeFault.OutOfMemory → DeliveryNeedsMemory self.old message.now }
         ensures err { OnErr result (self.new ≡ self.old) }
     {
         let delivery = self.deliver_checked(alloc, message)?;
@@ -207,6 +215,7 @@ impl NodeCore {
         ensures ok { IfOk result (λ r. (refusal self.old (asks.Pass name.now) words.now ≡ None) × (reply_to self.old (asks.Pass name.now) words.now ≡ asks.IsPassed (passed r))) }
         ensures after { OnOk result (self.new ≡ after_call self.old (asks.Pass name.now) words.now) }
         ensures refused { IfErr result (λ f. (f ≡ NodeFault.OutOfMemory) ⊎ (refusal self.old (asks.Pass name.now) words.now ≡ Some f)) }
+        ensures memory { IsErrOf result NodeFault.OutOfMemory → NameNeedsMemory self.old name.now }
         ensures err { OnErr result (self.new ≡ self.old) }
     {
         let point = self.pass_checked(alloc, name, words)?;
@@ -288,6 +297,7 @@ impl NodeCore {
         ensures ok { IfOk result (λ p. (refusal self.now (asks.Pass name.now) words.now ≡ None) × (p ≡ name.now)) }
         ensures room { OnOk result ((length self.now.trace < self.now.config.trace_cap) × (length words.now ≡ words_for (shown (node_of self.now)) name.now)) }
         ensures refused { IfErr result (λ f. (f ≡ NodeFault.OutOfMemory) ⊎ (refusal self.now (asks.Pass name.now) words.now ≡ Some f)) }
+        ensures memory { IsErrOf result NodeFault.OutOfMemory → NameNeedsMemory self.now name.now }
     {
         if self.trace.len() >= self.config.trace_cap as usize {
             return Err(NodeFault::TraceFull);
@@ -342,16 +352,17 @@ impl NodeCore {
         ensures few { OnOk result (IsTrue (is_name name.now) × (too_many (with_name name.now (shown (node_of self.now)).names) ≡ false)) }
         ensures room { OnOk result ((length self.now.trace < self.now.config.trace_cap) × ((node_of self.now).marks.clock + 1 < 2 ^ 64)) }
         ensures refused { IfErr result (λ f. (f ≡ NodeFault.OutOfMemory) ⊎ (refusal self.now (asks.Set name.now text.now) [] ≡ Some f)) }
+        ensures readable { OnOk result (IsReadable text.now) }
+        ensures memory { IsErrOf result NodeFault.OutOfMemory → SetNeedsMemory self.now name.now text.now }
     {
         if self.trace.len() >= self.config.trace_cap as usize {
             return Err(NodeFault::TraceFull);
         }
-        let point = read_name(alloc, name)?;
-        let actions = match parse_actions(alloc, text) {
-            Ok(actions) => actions,
-            Err(ActionFault::OutOfMemory) => return Err(NodeFault::OutOfMemory),
-            Err(fault) => return Err(NodeFault::BadActions(TextFault::Actions(fault))),
+        let point = match read_name(alloc, name) {
+            Ok(point) => point,
+            Err(fault) => return Err(setting_refusal(alloc, fault, text)),
         };
+        let actions = read_actions(alloc, text)?;
         self.check_room(&point)?;
         Ok((point, actions))
     }
@@ -362,6 +373,7 @@ impl NodeCore {
         ensures few { OnOk result (IsTrue (is_name name.now) × (too_many (with_name name.now (shown (node_of self.now)).names) ≡ false)) }
         ensures room { OnOk result ((length self.now.trace < self.now.config.trace_cap) × ((node_of self.now).marks.clock + 1 < 2 ^ 64)) }
         ensures refused { IfErr result (λ f. (f ≡ NodeFault.OutOfMemory) ⊎ (refusal self.now (asks.Remove name.now) [] ≡ Some f)) }
+        ensures memory { IsErrOf result NodeFault.OutOfMemory → NameNeedsMemory self.now name.now }
     {
         if self.trace.len() >= self.config.trace_cap as usize {
             return Err(NodeFault::TraceFull);
@@ -437,6 +449,8 @@ impl NodeCore {
         ensures told { OnOk result ((s : List ℕ × Option (List ℕ)) → IsIn s (settings (asks.Load text.now)) → IsTrue (is_name s.0) × IsBody s.1) }
         ensures few { IfOk result (λ p. length (with_names (matrix_state p.0).names (shown (node_of self.now)).names) ≤ 256) }
         ensures refused { IfErr result (λ f. (f ≡ NodeFault.OutOfMemory) ⊎ (refusal self.now (asks.Load text.now) [] ≡ Some f)) }
+        ensures short { OnOk result (length text.now ≤ 65536) }
+        ensures memory { IsErrOf result NodeFault.OutOfMemory → LoadNeedsMemory self.now text.now }
     {
         if self.trace.len() >= self.config.trace_cap as usize {
             return Err(NodeFault::TraceFull);
@@ -501,6 +515,7 @@ impl NodeCore {
         ensures enough { OnOk result ((to ≢ self.now.config.node) × (pos amount ≤ℤ rights_of (shown (node_of self.now)) name.now term self.now.config.node)) }
         ensures there { OnOk result ((to < self.now.config.nodes) × (0 < amount)) }
         ensures refused { IfErr result (λ f. (f ≡ NodeFault.OutOfMemory) ⊎ (refusal self.now (asks.Shift name.now term to amount) [] ≡ Some f)) }
+        ensures memory { IsErrOf result NodeFault.OutOfMemory → NameNeedsMemory self.now name.now }
     {
         if self.trace.len() >= self.config.trace_cap as usize {
             return Err(NodeFault::TraceFull);
@@ -593,6 +608,8 @@ impl NodeCore {
         ensures delivery { IfOk result (λ d. IsDelivery self.now.config (node_of self.now) (message_read self.now.config.nodes bytes.now) (matrix_state d.told) d.clock d.changed) }
         ensures room { OnOk result (length self.now.trace < self.now.config.trace_cap) }
         ensures refused { IfErr result (λ f. (f ≡ NodeFault.OutOfMemory) ⊎ (refusal self.now (asks.Deliver (message_read self.now.config.nodes bytes.now)) [] ≡ Some f)) }
+        ensures header { OnOk result (IsOk (header_of self.now.config.nodes bytes.now)) }
+        ensures memory { IsErrOf result NodeFault.OutOfMemory → DeliveryNeedsMemory self.now bytes.now }
     {
         if self.trace.len() >= self.config.trace_cap as usize {
             return Err(NodeFault::TraceFull);
@@ -656,11 +673,44 @@ impl NodeCore {
 fn read_name(alloc: Global, text: &str) -> Result<Name, NodeFault>
     ensures ok { IfOk result (λ n. (is_name text.now ≡ true) × (n ≡ text.now)) }
     ensures refused { IfErr result (λ f. (f ≡ NodeFault.OutOfMemory) ⊎ ((f ≡ NodeFault.BadName) × (is_name text.now ≡ false))) }
+    ensures bad { IsErrOf result NodeFault.BadName ↔ (is_name text.now ≡ false) }
+    ensures memory { IsErrOf result NodeFault.OutOfMemory → is_name text.now ≡ true }
 {
     match Name::parse(alloc, text) {
         Ok(name) => Ok(name),
         Err(NameFault::BadName) => Err(NodeFault::BadName),
         Err(NameFault::OutOfMemory) => Err(NodeFault::OutOfMemory),
+    }
+}
+
+// The actions that a text is.
+fn read_actions(alloc: Global, text: &str) -> Result<Actions, NodeFault>
+    ensures ok { IfOk result (λ a. reading text.now ≡ Ok a) }
+    ensures refused { IfErr result (λ f. (f ≡ NodeFault.OutOfMemory) ⊎ (bad_actions (reading text.now) ≡ Some f)) }
+    ensures readable { OnOk result (IsReadable text.now) }
+    ensures memory { IsErrOf result NodeFault.OutOfMemory → IsReadable text.now }
+{
+    match parse_actions(alloc, text) {
+        Ok(actions) => Ok(actions),
+        Err(ActionFault::OutOfMemory) => Err(NodeFault::OutOfMemory),
+        Err(fault) => Err(NodeFault::BadActions(TextFault::Actions(fault))),
+    }
+}
+
+// Why a setting is refused whose name is refused so. What refuses the text stands before a want of
+// memory for the name.
+fn setting_refusal(alloc: Global, fault: NodeFault, text: &str) -> NodeFault
+    ensures name { fault ≢ NodeFault.OutOfMemory → result ≡ fault }
+    ensures text { fault ≡ NodeFault.OutOfMemory
+        → (result ≡ NodeFault.OutOfMemory) ⊎ (bad_actions (reading text.now) ≡ Some result) }
+    ensures memory { result ≡ NodeFault.OutOfMemory → IsReadable text.now }
+{
+    if fault != NodeFault::OutOfMemory {
+        return fault;
+    }
+    match read_actions(alloc, text) {
+        Ok(_) => fault,
+        Err(refused) => refused,
     }
 }
 

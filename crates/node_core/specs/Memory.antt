@@ -1,0 +1,31 @@
+-- Which calls need memory: those that no refusal stops before the first of it is taken. No other call is refused for want of it.
+use Rattle.std.specs.Prelude.{◌≡◌, ◌≢◌, ℕ, ◌≤◌, ◌<◌, List, length, position, true, IsOk, None}
+use Rattle.actions.specs.Names.{is_name}
+use Rattle.actions.specs.Reading.{is_bad_byte}
+use Rattle.delta_exchange.specs.Reading.{header_of}
+use Rattle.node_core.specs.Traces.{Kept}
+
+-- the trace takes one more call
+abbrev pub HasRoom : Kept → Type 0
+HasRoom k = length k.trace < k.config.trace_cap
+
+-- a text that is too long or has a bad byte is refused before its terms are read
+abbrev pub IsReadable : List ℕ → Type 0
+IsReadable text = (length text ≤ 1024) × (position is_bad_byte text ≡ None)
+
+abbrev pub SetNeedsMemory : Kept → List ℕ → List ℕ → Type 0
+SetNeedsMemory k name text = HasRoom k × (is_name name ≡ true) × IsReadable text
+
+-- a removal, a pass or a shift
+abbrev pub NameNeedsMemory : Kept → List ℕ → Type 0
+NameNeedsMemory k name = HasRoom k × (is_name name ≡ true)
+
+abbrev pub LoadNeedsMemory : Kept → List ℕ → Type 0
+LoadNeedsMemory k text = HasRoom k × (length text ≤ 65536)
+
+abbrev pub EmitNeedsMemory : Kept → ℕ → Type 0
+EmitNeedsMemory k to = HasRoom k × (to < k.config.nodes) × (to ≢ k.config.node)
+
+-- a message is refused for what stands before its entries first
+abbrev pub DeliveryNeedsMemory : Kept → List ℕ → Type 0
+DeliveryNeedsMemory k bytes = HasRoom k × IsOk (header_of k.config.nodes bytes)

@@ -1,0 +1,35 @@
+//! Examples from outside.
+//!
+//! Most are stories: tables of calls and looks, each with what it answers in print, which one
+//! function plays. All of them also pass where any one allocation fails: a call that is refused
+//! memory has to leave the node as it was, and is then made a second time.
+
+mod asks;
+mod calls;
+mod exchange;
+mod large;
+mod limits;
+mod messages;
+mod nodes;
+mod orders;
+mod prints;
+mod refusals;
+mod settings;
+mod shifts;
+mod stage;
+
+use actions::{Name, NameFault, Task};
+use node_core::{Ask, Config, NodeCore, NodeFault, PassReply, Reply};
+use nodes::{
+    ALONE, FIRST_OF_TWO, SECOND_OF_TWO, ask_twice, by_call, by_value, empty_node, name_of,
+};
+use prints::{
+    answer_text, config_text, copy_of, full_setting, list, numbered_text, room, text_of,
+    text_of_both, text_with_room, view,
+};
+use replica_state::Replica;
+use stage::{Cast, Line, Step, answer_with, difference, empty_cast, first_other, rights};
+use stamp_register::Stamp;
+use std::alloc::{AllocError, Global};
+use std::fmt::Display;
+use std::test::Fail;

@@ -1,0 +1,116 @@
+//! Nodes and their calls. None of these states anything, so that the proofs of what calls them have
+//! no contracts to take apart.
+
+use super::*;
+
+pub const ALONE: Config = Config {
+    node: 0,
+    nodes: 1,
+    trace_cap: 100,
+};
+
+pub const FIRST_OF_TWO: Config = Config {
+    node: 0,
+    nodes: 2,
+    trace_cap: 100,
+};
+
+pub const SECOND_OF_TWO: Config = Config {
+    node: 1,
+    nodes: 2,
+    trace_cap: 100,
+};
+
+/// A node that has accepted no call.
+pub fn empty_node(alloc: Global, config: Config) -> Result<NodeCore, NodeFault> {
+    NodeCore::new(alloc, config)
+}
+
+fn parse_name(alloc: Global, text: &str) -> Result<Name, NameFault> {
+    Name::parse(alloc, text)
+}
+
+/// A name of a text that is one.
+pub fn name_of(alloc: Global, text: &str) -> Result<Name, Fail> {
+    match parse_name(alloc, text) {
+        Err(NameFault::OutOfMemory) => Ok(parse_name(alloc, text)?),
+        first => Ok(first?),
+    }
+}
+
+fn set(alloc: Global, node: &mut NodeCore, name: &str, text: &str) -> Result<Reply, NodeFault> {
+    Ok(Reply::Set(node.set(alloc, name, text)?))
+}
+
+fn remove(alloc: Global, node: &mut NodeCore, name: &str) -> Result<Reply, NodeFault> {
+    Ok(Reply::Remove(node.remove(alloc, name)?))
+}
+
+fn load(alloc: Global, node: &mut NodeCore, text: &str) -> Result<Reply, NodeFault> {
+    Ok(Reply::Load(node.load(alloc, text)?))
+}
+
+fn pass(alloc: Global, node: &mut NodeCore, name: &str, words: &[u32]) -> Result<Reply, NodeFault> {
+    Ok(Reply::Pass(node.pass_with(alloc, name, words)?))
+}
+
+fn shift(
+    alloc: Global,
+    node: &mut NodeCore,
+    name: &str,
+    term: u8,
+    to: u8,
+    amount: u64,
+) -> Result<Reply, NodeFault> {
+    Ok(Reply::Shift(node.shift(alloc, name, term, to, amount)?))
+}
+
+fn emit(alloc: Global, node: &mut NodeCore, to: u8) -> Result<Reply, NodeFault> {
+    Ok(Reply::Emit(node.emit(alloc, to)?))
+}
+
+fn deliver(alloc: Global, node: &mut NodeCore, message: &[u8]) -> Result<Reply, NodeFault> {
+    Ok(Reply::Deliver(node.deliver(alloc, message)?))
+}
+
+/// What a node answers to the call that an ask stands for.
+pub fn by_call(
+    alloc: Global,
+    node: &mut NodeCore,
+    ask: &Ask,
+    words: &[u32],
+) -> Result<Reply, NodeFault> {
+    match ask {
+        Ask::Set { name, text } => set(alloc, node, name, text),
+        Ask::Remove { name } => remove(alloc, node, name),
+        Ask::Load { text } => load(alloc, node, text),
+        Ask::Pass { name } => pass(alloc, node, name, words),
+        Ask::Shift {
+            name,
+            term,
+            to,
+            amount,
+        } => shift(alloc, node, name, *term, *to, *amount),
+        Ask::Emit { to } => emit(alloc, node, *to),
+        Ask::Deliver { message } => deliver(alloc, node, message),
+    }
+}
+
+/// What it answers to the ask as a value.
+pub fn by_value(
+    alloc: Global,
+    node: &mut NodeCore,
+    ask: &Ask,
+    words: &[u32],
+) -> Result<Reply, NodeFault> {
+    let entry = node.apply(alloc, ask, words)?;
+    Ok(entry.reply)
+}
+
+/// What a call answers, made again where memory is refused.
+pub fn ask_twice(alloc: Global, node: &mut NodeCore, ask: &Ask) -> Result<Reply, NodeFault> {
+    match by_call(alloc, node, ask, &[]) {
+        Err(NodeFault::OutOfMemory) => by_call(alloc, node, ask, &[]),
+        first => first,
+    }
+}
