@@ -265,7 +265,7 @@ fn joined<J: Join>(rt: &impl Abort, alloc: Global, one: &J, other: &J) -> Result
 }
 
 #[test]
-fn joins(rt: HostRuntime) -> Result<(), Fail> {
+fn joins_hits(rt: HostRuntime) -> Result<(), Fail> {
     let alloc = rt.alloc();
     let mut one = HitCounter::new(alloc);
     assert!(rt; one.is_bottom());
@@ -276,6 +276,12 @@ fn joins(rt: HostRuntime) -> Result<(), Fail> {
     assert!(rt; !other.below(&one));
     let both = joined(&rt, alloc, &one, &other)?;
     assert_eq!(rt; hits(&both), (5, 7, 12));
+    Ok(())
+}
+
+#[test]
+fn joins_budgets(rt: HostRuntime) -> Result<(), Fail> {
+    let alloc = rt.alloc();
     let mut one = Budget::new(alloc);
     assert!(rt; one.is_bottom());
     one.raise_spent(alloc, 0, 1)?;
