@@ -10,8 +10,6 @@ mod op_set;
 mod point;
 mod replica;
 mod slot;
-#[cfg(test)]
-mod tests;
 
 pub use matrix::Matrix;
 pub use op::Op;

@@ -2,8 +2,8 @@
 
 use super::joins::{copied, same};
 use super::{Step, add, answers, name, op_on, wanted};
-use crate::{Matrix, OpSet, Replica};
 use actions::Name;
+use replica_state::{Matrix, OpSet, Replica};
 use std::alloc::Global;
 use std::process::Abort;
 use std::test::Fail;

@@ -3,14 +3,14 @@
 ghost use Rattle.std.specs.Prelude.{◌≤◌, ℕ, IfOk};
 
 use super::{answers, key, name, wanted};
-use crate::{Matrix, OpSet, Replica};
 use actions::Name;
+use replica_state::{Matrix, OpSet, Replica};
 use std::alloc::Global;
 use std::process::Abort;
 use std::test::Fail;
 
 /// A replica with one key, of which nothing is executed.
-#[tactic(auto, unfolding(crate::specs::States::with_key, crate::specs::Folds::fold))]
+#[tactic(auto, unfolding(replica_state::specs::States::with_key, replica_state::specs::Folds::fold))]
 fn with_key<R: Replica>(alloc: Global, name: &Name) -> Result<R, Fail>
     ensures execs { IfOk result (λ r. (term i : ℕ) → (R.state r).execs name.now term i ≤ 0) }
 {

@@ -1,7 +1,7 @@
 //! Operations that both replicas learn one by one, and what they answer after each.
 
 use super::{Seen, Step, add, answers, name, op_of, wanted};
-use crate::{Matrix, OpSet, Replica};
+use replica_state::{Matrix, OpSet, Replica};
 use std::alloc::Global;
 use std::process::Abort;
 use std::test::Fail;

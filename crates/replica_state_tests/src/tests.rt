@@ -1,5 +1,6 @@
 ghost use Rattle.std.specs.Prelude.{◌≡◌, ◌+◌, ◌<◌, ◌≤◌, ◌^◌, ℕ, true, IsSome, IfOk};
-ghost use Rattle.replica_state.specs.Operations.{operation, IsWellFormed};
+ghost use Rattle.stamp_register.specs.Keys.{key_value};
+ghost use Rattle.replica_state.specs.Operations.{operation, count_of, IsWellFormed};
 ghost use Rattle.replica_state.specs.OpSets.{state_of};
 
 mod counted;
@@ -9,9 +10,8 @@ mod mixed;
 mod steps;
 mod told;
 
-use super::*;
-use crate::budget::count_of;
 use actions::{ActionFault, Name, NameFault, parse_actions};
+use replica_state::{Matrix, Op, OpSet, Replica};
 use stamp_register::{Body, Key};
 use std::alloc::Global;
 use std::process::Abort;
@@ -136,6 +136,19 @@ fn op_on(alloc: Global, text: &str, term: u8, step: Step) -> Result<Op, Fail> {
             total,
         },
     })
+}
+
+/// The count of a term, if the key has it and it is counted.
+fn count_of(key: &Key, term: u8) -> Option<u64>
+    ensures { result ≡ count_of (key_value key.now) term }
+{
+    match key.actions() {
+        Some(actions) => match actions.term(term) {
+            Some(term) => term.count,
+            None => None,
+        },
+        None => None,
+    }
 }
 
 fn is_well_formed(op: &Op) -> bool

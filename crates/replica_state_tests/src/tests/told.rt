@@ -5,10 +5,9 @@ ghost use Rattle.stamp_register.specs.Keys.{key_value};
 ghost use Rattle.replica_state.specs.Operations.{IsWellFormed};
 ghost use Rattle.replica_state.specs.OpSets.{operation_told};
 
-use super::{Seen, Step, add, answers, key, name, op_of, wanted};
-use crate::budget::count_of;
-use crate::{Count, Counted, Matrix, OpSet, Replica};
+use super::{Seen, Step, add, answers, count_of, key, name, op_of, wanted};
 use actions::Name;
+use replica_state::{Count, Counted, Matrix, OpSet, Replica};
 use stamp_register::Key;
 use std::alloc::Global;
 use std::process::Abort;

@@ -3,8 +3,8 @@
 
 use super::joins::{copied, join_in, joined, same};
 use super::{Step, add, name, op_on};
-use crate::{Matrix, OpSet, Replica};
 use actions::Name;
+use replica_state::{Matrix, OpSet, Replica};
 use std::alloc::Global;
 use std::process::Abort;
 use std::test::Fail;

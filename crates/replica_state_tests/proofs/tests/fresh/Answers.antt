@@ -5,7 +5,7 @@ use Rattle.stamp_register.specs.Keys.{KeyValue, key_value}
 use Rattle.replica_state.specs.States.{State, with_key}
 use Rattle.replica_state.specs.Folds.{fold}
 use Rattle.replica_state.proofs.Orders.{bytes_eq-refl}
-use Rattle.replica_state.proofs.tests.fresh.Goals as goal
+use Rattle.replica_state_tests.proofs.tests.fresh.Goals as goal
 
 has_key : (name : List ℕ) (key : KeyValue) → IsSome ((with_key name key (fold [])).key name)
 unfolding with_key fold

@@ -2,8 +2,8 @@
 //! by then: so these also pass where any one allocation fails.
 
 use super::{Seen, Step, add, answers, key, name, op_of, op_on, wanted};
-use crate::{Matrix, OpSet, Replica};
 use lattice_laws::Join;
+use replica_state::{Matrix, OpSet, Replica};
 use std::alloc::{AllocError, Global};
 use std::process::Abort;
 use std::test::Fail;

@@ -3,7 +3,7 @@ use Rattle.std.specs.Str.{bytes_eq}
 use Rattle.std.specs.Option.{IsSome}
 use Rattle.replica_state.specs.OpSets.{state_of}
 use Rattle.replica_state.specs.States.{State, with_pass, with_hits, with_execs}
-use Rattle.replica_state.proofs.tests.count.Goals as goal
+use Rattle.replica_state_tests.proofs.tests.count.Goals as goal
 
 -- a fact of the state after a pass that holds after none holds after a try
 tried : {A E : Type 0} (r : Result A E) (P : State → Type 0) (v w p : State) → OnOk r (w ≡ p) → OnErr r (w ≡ v) → P p → P v → P w

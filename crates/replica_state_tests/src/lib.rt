@@ -1,0 +1,5 @@
+//! What is tested of replicas.
+#![tactic(auto)]
+
+#[cfg(test)]
+mod tests;
