@@ -74,18 +74,23 @@ fn raise(
 /// The greater number is the join.
 #[test]
 fn numbers(rt: HostRuntime) -> Result<(), Fail> {
-    let alloc = rt.alloc();
-    assert_eq!(rt; Max(3).joined(alloc, &Max(5))?, Max(5));
-    assert_eq!(rt; Max(5).joined(alloc, &Max(3))?, Max(5));
-    assert_eq!(rt; Max(7).copied(alloc)?, Max(7));
-    assert!(rt; Max(3).below(&Max(5)));
-    assert!(rt; !Max(5).below(&Max(3)));
-    assert!(rt; Max(0).is_bottom());
-    assert!(rt; !Max(1).is_bottom());
-    let mut held = Max(3);
-    held.join_in(alloc, Max(5))?;
-    held.join_in(alloc, Max(4))?;
-    assert_eq!(rt; held, Max(5));
+    for (one, other, both, is_below) in [(3, 5, 5, true), (5, 3, 5, false), (5, 4, 5, false)] {
+        let mut held = Max(one);
+        assert_eq!(rt; held.below(&Max(other)), is_below);
+        assert_eq!(rt; held.joined(rt.alloc(), &Max(other))?, Max(both));
+        held.join_in(rt.alloc(), Max(other))?;
+        assert_eq!(rt; held, Max(both));
+    }
+    Ok(())
+}
+
+/// 0 is the bottom.
+#[test]
+fn least_number(rt: HostRuntime) -> Result<(), Fail> {
+    for (number, is_bottom) in [(0, true), (1, false), (7, false)] {
+        let copy = Max(number).copied(rt.alloc())?;
+        assert_eq!(rt; (copy, copy.is_bottom()), (Max(number), is_bottom));
+    }
     Ok(())
 }
 
@@ -95,19 +100,23 @@ fn raises(rt: HostRuntime) -> Result<(), Fail> {
     let alloc = rt.alloc();
     let mut map = MapOf::new(alloc);
     assert!(rt; map.is_empty());
-    map.raise(alloc, 7u8, Max(3))?;
-    map.raise(alloc, 7, Max(1))?;
-    assert_eq!(rt; map.get(&7).copied(), Some(Max(3)));
-    map.raise(alloc, 2, Max(0))?;
-    assert_eq!(rt; map.get(&2).copied(), None);
-    map.raise(alloc, 4, Max(8))?;
-    assert_eq!(rt; map.len(), 2);
-    assert!(rt; !map.is_empty());
-    let (key, value) = map.at(0).ok_or("no entry")?;
-    assert_eq!(rt; (*key, *value), (4, Max(8)));
-    assert!(rt; map.at(2).is_none());
-    let keys = map.iter().map(|e| *e.0).collect::<Vec<u8>>(alloc)?;
-    assert_eq!(rt; keys.as_slice(), [4, 7].as_slice());
+    for (key, number, want) in [
+        (7u8, 3, Some(Max(3))),
+        (7, 1, Some(Max(3))),
+        (2, 0, None),
+        (4, 8, Some(Max(8))),
+    ] {
+        map.raise(alloc, key, Max(number))?;
+        assert_eq!(rt; map.get(&key).copied(), want);
+        assert!(rt; !map.is_empty());
+    }
+    let entries = map
+        .iter()
+        .map(|(key, value)| (*key, value.0))
+        .collect::<Vec<(u8, u64)>>(alloc)?;
+    assert_eq!(rt; entries.as_slice(), [(4, 8), (7, 3)].as_slice());
+    let places = (map.at(0).map(|e| *e.0), map.at(2).map(|e| *e.0), map.len());
+    assert_eq!(rt; places, (Some(4), None, 2));
     Ok(())
 }
 
@@ -121,12 +130,13 @@ fn maps(rt: HostRuntime) -> Result<(), Fail> {
     let both = left.joined(alloc, &right)?;
     assert_eq!(rt; cells(&both), (5, 0, 6, 2));
     assert_eq!(rt; cells(&both.copied(alloc)?), (5, 0, 6, 2));
-    assert!(rt; left.below(&both));
-    assert!(rt; right.below(&both));
-    assert!(rt; !both.below(&left));
-    assert!(rt; !both.below(&right));
-    assert!(rt; !both.is_bottom());
-    assert!(rt; Table::new(alloc).is_bottom());
+    let parts_below = left.below(&both) && right.below(&both);
+    let both_below = both.below(&left) || both.below(&right);
+    let bottoms = (both.is_bottom(), Table::new(alloc).is_bottom());
+    assert_eq!(rt;
+        (parts_below, both_below, bottoms),
+        (true, false, (false, true))
+    );
     Ok(())
 }
 
@@ -187,63 +197,109 @@ fn takes_in(rt: HostRuntime) -> Result<(), Fail> {
     Ok(())
 }
 
+fn pair((first, second): (u64, u64)) -> Both {
+    PairOf {
+        first: Max(first),
+        second: Max(second),
+    }
+}
+
+/// What two pairs come to, joined beside them and in place of a copy.
+fn joined_pairs(alloc: Global, one: &Both, other: (u64, u64)) -> Result<(Both, Both), AllocError> {
+    let joined = one.joined(alloc, &pair(other))?;
+    let mut grown = one.copied(alloc)?;
+    grown.join_in(alloc, pair(other))?;
+    Ok((joined, grown))
+}
+
 /// Of pairs each part joins with its like.
 #[test]
 fn pairs(rt: HostRuntime) -> Result<(), Fail> {
-    let alloc = rt.alloc();
-    let left = PairOf {
-        first: Max(4),
-        second: Max(1),
-    };
-    let mut both = PairOf {
-        first: Max(2),
-        second: Max(3),
-    };
-    let joined = both.joined(alloc, &left)?;
-    assert_eq!(rt; (joined.first, joined.second), (Max(4), Max(3)));
-    assert!(rt; left.below(&joined));
-    assert!(rt; !joined.below(&left));
-    assert!(rt; !left.is_bottom());
-    let copy: Both = left.copied(alloc)?;
-    assert_eq!(rt; (copy.first, copy.second), (Max(4), Max(1)));
-    both.join_in(alloc, left)?;
-    assert_eq!(rt; (both.first, both.second), (Max(4), Max(3)));
-    both.join_in(
-        alloc,
-        PairOf {
-            first: Max(5),
-            second: Max(6),
-        },
-    )?;
-    assert_eq!(rt; (both.first, both.second), (Max(5), Max(6)));
+    for (one, other, both, is_below) in [
+        ((2, 3), (4, 1), (4, 3), (false, false)),
+        ((4, 1), (4, 3), (4, 3), (true, false)),
+        ((4, 3), (5, 6), (5, 6), (true, false)),
+        ((0, 0), (0, 0), (0, 0), (true, true)),
+    ] {
+        let left = pair(one);
+        let joined = joined_pairs(rt.alloc(), &left, other)?;
+        assert_eq!(rt; joined, (pair(both), pair(both)));
+        let right = pair(other);
+        assert_eq!(rt; (left.below(&right), right.below(&left)), is_below);
+        assert_eq!(rt; left.is_bottom(), one == (0, 0));
+    }
     Ok(())
 }
 
-fn held(keyed: &LexOf<u8, Row>) -> Option<(u8, u64)> {
-    let (key, row) = keyed.held()?;
+fn held(value: &LexOf<u8, Row>) -> Option<(u8, u64)> {
+    let (key, row) = value.held()?;
     Some((*key, number(row, 1)))
+}
+
+fn keyed(alloc: Global, (key, value): (u8, u64)) -> Result<LexOf<u8, Row>, AllocError> {
+    Ok(LexOf::of(key, row(alloc, 1, value)?))
+}
+
+/// What two values come to, joined beside them and in place, and whether each is below the other.
+#[derive(Clone, Copy, Debug, PartialEq, Eq)]
+struct Met {
+    joined: Option<(u8, u64)>,
+    in_place: Option<(u8, u64)>,
+    is_below: (bool, bool),
+}
+
+fn meet(alloc: Global, one: (u8, u64), other: (u8, u64)) -> Result<Met, AllocError> {
+    let one = keyed(alloc, one)?;
+    let other = keyed(alloc, other)?;
+    let joined = one.joined(alloc, &other)?;
+    let is_below = (one.below(&other), other.below(&one));
+    let mut grown = one.copied(alloc)?;
+    grown.join_in(alloc, other)?;
+    Ok(Met {
+        joined: held(&joined),
+        in_place: held(&grown),
+        is_below,
+    })
 }
 
 /// The greater key wins, and equal keys join.
 #[test]
-fn keyed(rt: HostRuntime) -> Result<(), Fail> {
-    let alloc = rt.alloc();
-    let old = LexOf::of(1u8, row(alloc, 1, 9)?);
-    let new = LexOf::of(2, row(alloc, 1, 3)?);
-    assert_eq!(rt; held(&old.joined(alloc, &new)?), Some((2, 3)));
-    assert_eq!(rt; held(&new.joined(alloc, &old)?), Some((2, 3)));
-    assert!(rt; old.below(&new));
-    assert!(rt; !new.below(&old));
-    let equal = LexOf::of(2, row(alloc, 1, 5)?);
-    assert_eq!(rt; held(&new.joined(alloc, &equal)?), Some((2, 5)));
-    assert_eq!(rt; held(&new.copied(alloc)?), Some((2, 3)));
+fn keys_and_values(rt: HostRuntime) -> Result<(), Fail> {
+    for (one, other, both, is_below) in [
+        ((1, 9), (2, 3), (2, 3), (true, false)),
+        ((2, 3), (1, 9), (2, 3), (false, true)),
+        ((2, 3), (2, 5), (2, 5), (true, false)),
+        ((2, 5), (2, 3), (2, 5), (false, true)),
+        ((2, 3), (2, 3), (2, 3), (true, true)),
+    ] {
+        let want = Met {
+            joined: Some(both),
+            in_place: Some(both),
+            is_below,
+        };
+        assert_eq!(rt; meet(rt.alloc(), one, other)?, want);
+    }
+    Ok(())
+}
+
+/// Nothing takes what comes, and keeps it where less comes after it.
+#[test]
+fn nothing_held(rt: HostRuntime) -> Result<(), Fail> {
     let mut kept = LexOf::nothing();
     assert!(rt; kept.is_bottom());
-    assert!(rt; !new.is_bottom());
-    kept.join_in(alloc, old)?;
-    kept.join_in(alloc, equal)?;
-    kept.join_in(alloc, new)?;
-    assert_eq!(rt; held(&kept), Some((2, 5)));
+    for (next, want) in [((1, 9), (1, 9)), ((2, 5), (2, 5)), ((2, 3), (2, 5))] {
+        kept.join_in(rt.alloc(), keyed(rt.alloc(), next)?)?;
+        assert_eq!(rt; held(&kept), Some(want));
+        assert!(rt; !kept.is_bottom());
+    }
+    Ok(())
+}
+
+/// What is held is changed where it stands.
+#[test]
+fn changes_what_is_held(rt: HostRuntime) -> Result<(), Fail> {
+    let alloc = rt.alloc();
+    let mut kept = keyed(alloc, (2, 5))?;
     let raised = kept.change(|row| row.raise(alloc, 1, Max(8)));
     raised.ok_or("nothing is held")??;
     assert_eq!(rt; held(&kept), Some((2, 8)));
@@ -257,5 +313,66 @@ fn keys(rt: HostRuntime) -> Result<(), Fail> {
     assert_eq!(rt; Held::copied(&7u8, alloc)?, 7);
     let keyed = LexOf::of(Held::copied(&3u8, alloc)?, Max(4));
     assert_eq!(rt; keyed.held().map(|e| (e.0, e.1)), Some((3, Max(4))));
+    Ok(())
+}
+
+/// A key of a large map.
+#[derive(Clone, Copy, Debug, PartialEq, Eq, PartialOrd, Ord)]
+struct Place(u64);
+
+impl Held for Place {
+    fn copied(&self, _alloc: Global) -> Result<Place, AllocError> {
+        Ok(*self)
+    }
+}
+
+type Places = MapOf<Place, Max>;
+
+/// So many places from this one on, each with the number.
+fn places(alloc: Global, from: u32, keys: u32, number: u64) -> Result<Places, AllocError> {
+    let mut map = MapOf::new(alloc);
+    for place in 0..keys {
+        map.raise(
+            alloc,
+            Place(u64::from(from) + u64::from(place)),
+            Max(number),
+        )?;
+    }
+    Ok(map)
+}
+
+/// A map that took in another one in place, of as many keys, half of which are its own too.
+fn taken_in(alloc: Global, half: u32, keys: u32) -> Result<Places, AllocError> {
+    let mut map = places(alloc, 0, keys, 1)?;
+    map.join_in(alloc, places(alloc, half, keys, 2)?)?;
+    Ok(map)
+}
+
+fn number_at(map: &Places, place: u64) -> u64 {
+    match map.get(&Place(place)) {
+        Some(value) => value.0,
+        None => 0,
+    }
+}
+
+/// Maps of more keys than are joined in place, and of so many that the stack has no room for each
+/// of them.
+#[test]
+fn takes_in_many(rt: HostRuntime) -> Result<(), Fail> {
+    for (half, keys, len, at) in [
+        (150, 300, 450, [149, 150, 449, 450]),
+        (
+            100_000,
+            200_000,
+            300_000,
+            [99_999, 100_000, 299_999, 300_000],
+        ),
+    ] {
+        let map = taken_in(rt.alloc(), half, keys)?;
+        assert_eq!(rt; map.len(), len);
+        for (place, want) in at.into_iter().zip([1, 2, 2, 0]) {
+            assert_eq!(rt; number_at(&map, place), want, "at {place}");
+        }
+    }
     Ok(())
 }
