@@ -8,3 +8,6 @@ loop-rest-preserved g c = record {
   given = GivesBefore-then c.in-Ok.count c.loop-rest.rest.now _ c.args.text.now _ _ _ c.loop-rest.invariant.given (search rules) (grind (arith, common_steps));
   failed = grind (arith, common_steps);
 }
+
+pub returns-clause-flushed : goal.returns-clause-flushed
+returns-clause-flushed g c = grind (arith, common_steps)
