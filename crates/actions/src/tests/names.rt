@@ -1,6 +1,6 @@
 use super::{copied_key, repeated, shown};
 use crate::{Name, NameFault};
-use std::alloc::Global;
+use std::alloc::{AllocError, Global};
 use std::test::Fail;
 
 fn named(alloc: Global, text: &str) -> Result<Name, NameFault> {
@@ -10,23 +10,36 @@ fn named(alloc: Global, text: &str) -> Result<Name, NameFault> {
     }
 }
 
+fn copied(alloc: Global, name: &Name) -> Result<Name, AllocError> {
+    match name.copied(alloc) {
+        Err(_) => name.copied(alloc),
+        first => first,
+    }
+}
+
 #[test]
 fn names(rt: HostRuntime) -> Result<(), Fail> {
     for text in ["a", "a::b", "Z9_-.:", "raft.store-3:before_save"] {
         let name = named(rt.alloc(), text)?;
-        assert_eq!(rt; name.text(), text);
-        let copy = match name.copied(rt.alloc()) {
-            Err(_) => name.copied(rt.alloc())?,
-            first => first?,
-        };
-        assert!(rt; copy == name);
+        let copy = copied(rt.alloc(), &name)?;
+        assert!(rt; copy == name && name.text() == text, "at {text}");
         assert_eq!(rt; copy.into_text().as_str(), text);
     }
-    let longest = repeated(rt.alloc(), "a", 127, "a")?;
-    assert_eq!(rt;
-        named(rt.alloc(), longest.as_str())?.text(),
-        longest.as_str()
-    );
+    Ok(())
+}
+
+#[test]
+fn longest_name(rt: HostRuntime) -> Result<(), Fail> {
+    let text = repeated(rt.alloc(), "a", 127, "a")?;
+    assert_eq!(rt; named(rt.alloc(), text.as_str())?.text(), text.as_str());
+    Ok(())
+}
+
+#[test]
+fn too_long_name(rt: HostRuntime) -> Result<(), Fail> {
+    let text = repeated(rt.alloc(), "a", 128, "a")?;
+    let fault = named(rt.alloc(), text.as_str()).err();
+    assert_eq!(rt; fault, Some(NameFault::BadName));
     Ok(())
 }
 
@@ -38,26 +51,27 @@ fn not_names(rt: HostRuntime) -> Result<(), Fail> {
         let fault = named(rt.alloc(), text).err();
         assert_eq!(rt; fault, Some(NameFault::BadName), "at {text}");
     }
-    let long = repeated(rt.alloc(), "a", 128, "a")?;
-    assert_eq!(rt;
-        named(rt.alloc(), long.as_str()).err(),
-        Some(NameFault::BadName)
-    );
-    assert_eq!(rt; shown(rt.alloc(), &NameFault::BadName)?.as_str(), "BadName");
-    assert_eq!(rt;
-        shown(rt.alloc(), &NameFault::OutOfMemory)?.as_str(),
-        "OutOfMemory"
-    );
+    Ok(())
+}
+
+#[test]
+fn name_faults(rt: HostRuntime) -> Result<(), Fail> {
+    for (fault, want) in [
+        (NameFault::BadName, "BadName"),
+        (NameFault::OutOfMemory, "OutOfMemory"),
+    ] {
+        assert_eq!(rt; shown(rt.alloc(), &fault)?.as_str(), want);
+    }
     Ok(())
 }
 
 #[test]
 fn name_order(rt: HostRuntime) -> Result<(), Fail> {
-    let first = named(rt.alloc(), "Z")?;
-    let second = named(rt.alloc(), "a")?;
-    let third = named(rt.alloc(), "a.b")?;
-    assert!(rt; first < second && second < third);
-    assert!(rt; first != second);
+    for (lower, higher) in [("Z", "a"), ("a", "a.b")] {
+        let lower = named(rt.alloc(), lower)?;
+        let higher = named(rt.alloc(), higher)?;
+        assert!(rt; lower < higher && lower != higher);
+    }
     Ok(())
 }
 

@@ -28,10 +28,8 @@ fn canonical_texts(rt: HostRuntime) -> Result<(), Fail> {
         ("print(50%)", "print(50%)"),
         ("panic(2*3)", "panic(2*3)"),
     ] {
-        let actions = parsed(rt.alloc(), text)?;
-        assert_eq!(rt; actions.text(), want, "at {text}");
-        let again = parsed(rt.alloc(), want)?;
-        assert_eq!(rt; again.text(), want, "again");
+        assert_eq!(rt; parsed(rt.alloc(), text)?.text(), want, "at {text}");
+        assert_eq!(rt; parsed(rt.alloc(), want)?.text(), want, "again");
     }
     Ok(())
 }
@@ -83,9 +81,13 @@ fn refused_texts(rt: HostRuntime) -> Result<(), Fail> {
         ("print(\x7f)", "A10 BadByte offset=6"),
     ] {
         let fault = refused(rt.alloc(), text)?;
-        let printed = shown(rt.alloc(), &fault)?;
-        assert_eq!(rt; printed.as_str(), want, "at {text}");
+        assert_eq!(rt; shown(rt.alloc(), &fault)?.as_str(), want, "at {text}");
     }
+    Ok(())
+}
+
+#[test]
+fn want_of_memory_is_shown(rt: HostRuntime) -> Result<(), Fail> {
     let printed = shown(rt.alloc(), &ActionFault::OutOfMemory)?;
     assert_eq!(rt; printed.as_str(), "A11 OutOfMemory");
     Ok(())
@@ -95,16 +97,6 @@ fn refused_texts(rt: HostRuntime) -> Result<(), Fail> {
 fn most_terms(rt: HostRuntime) -> Result<(), Fail> {
     let text = repeated(rt.alloc(), "off->", 15, "off")?;
     assert_eq!(rt; parsed(rt.alloc(), text.as_str())?.text(), text.as_str());
-    let text = repeated(rt.alloc(), "off->", 15, "fly")?;
-    let fault = refused(rt.alloc(), text.as_str())?;
-    assert_eq!(rt; fault, ActionFault::UnknownTask { term: 15 });
-    let text = repeated(rt.alloc(), "off->", 16, "off")?;
-    let fault = refused(rt.alloc(), text.as_str())?;
-    assert_eq!(rt; shown(rt.alloc(), &fault)?.as_str(), "A2 TooManyTerms");
-    // This is found before a term is read.
-    let text = repeated(rt.alloc(), "fly->", 16, "off")?;
-    let fault = refused(rt.alloc(), text.as_str())?;
-    assert_eq!(rt; fault, ActionFault::TooManyTerms);
     Ok(())
 }
 
@@ -112,12 +104,22 @@ fn most_terms(rt: HostRuntime) -> Result<(), Fail> {
 fn longest_text(rt: HostRuntime) -> Result<(), Fail> {
     let text = repeated(rt.alloc(), " ", 1021, "off")?;
     assert_eq!(rt; parsed(rt.alloc(), text.as_str())?.text(), "off");
-    let text = repeated(rt.alloc(), " ", 1022, "off")?;
-    let fault = refused(rt.alloc(), text.as_str())?;
-    assert_eq!(rt; shown(rt.alloc(), &fault)?.as_str(), "A1 TooLong");
-    // This is found before a bad byte is.
-    let text = repeated(rt.alloc(), ";", 1024, ";")?;
-    let fault = refused(rt.alloc(), text.as_str())?;
-    assert_eq!(rt; fault, ActionFault::TooLong);
+    Ok(())
+}
+
+/// The number of terms is found before a term is read, and the length before a bad byte is.
+#[test]
+fn too_many_or_too_long(rt: HostRuntime) -> Result<(), Fail> {
+    for (piece, times, last, want) in [
+        ("off->", 15, "fly", "A7 UnknownTask term=15"),
+        ("off->", 16, "off", "A2 TooManyTerms"),
+        ("fly->", 16, "off", "A2 TooManyTerms"),
+        (" ", 1022, "off", "A1 TooLong"),
+        (";", 1024, ";", "A1 TooLong"),
+    ] {
+        let text = repeated(rt.alloc(), piece, times, last)?;
+        let fault = refused(rt.alloc(), text.as_str())?;
+        assert_eq!(rt; shown(rt.alloc(), &fault)?.as_str(), want);
+    }
     Ok(())
 }

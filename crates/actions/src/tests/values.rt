@@ -1,5 +1,5 @@
 use super::{copied_key, parsed, shown};
-use crate::{Actions, Task};
+use crate::{Actions, Task, Term};
 use std::alloc::{AllocError, Global};
 use std::cmp::Ordering;
 use std::test::Fail;
@@ -7,17 +7,23 @@ use std::test::Fail;
 #[test]
 fn parts(rt: HostRuntime) -> Result<(), Fail> {
     let actions = parsed(rt.alloc(), " 020.50%3*print(a(b)c) -> panic")?;
-    assert_eq!(rt; actions.len(), 2);
-    assert_eq!(rt; actions.words_needed(), 1);
-    let first = actions.term(0).ok_or("no term")?;
-    assert_eq!(rt; first.ppm, 205000);
-    assert_eq!(rt; first.count, Some(3));
-    assert_eq!(rt; shown(rt.alloc(), &first.task)?.as_str(), "print(a(b)c)");
-    let second = actions.term(1).ok_or("no term")?;
-    assert_eq!(rt; second.ppm, 1000000);
-    assert_eq!(rt; second.count, None);
-    assert!(rt; matches!(&second.task, Task::Panic(None)));
+    for (index, ppm, count, task) in [
+        (0, 205000, Some(3), "print(a(b)c)"),
+        (1, 1000000, None, "panic"),
+    ] {
+        let term = actions.term(index).ok_or("no term")?;
+        assert_eq!(rt; (term.ppm, term.count), (ppm, count));
+        assert_eq!(rt; shown(rt.alloc(), &term.task)?.as_str(), task);
+    }
     assert!(rt; actions.term(2).is_none());
+    Ok(())
+}
+
+#[test]
+fn panic_without_a_message(rt: HostRuntime) -> Result<(), Fail> {
+    let actions = parsed(rt.alloc(), "panic")?;
+    let term = actions.term(0).ok_or("no term")?;
+    assert!(rt; matches!(&term.task, Task::Panic(None)));
     Ok(())
 }
 
@@ -41,9 +47,13 @@ fn percentages(rt: HostRuntime) -> Result<(), Fail> {
 
 #[test]
 fn words_for_terms_below_all(rt: HostRuntime) -> Result<(), Fail> {
-    let actions = parsed(rt.alloc(), "0%off->100%off->2*off->99.9999%off")?;
-    assert_eq!(rt; actions.len(), 4);
-    assert_eq!(rt; actions.words_needed(), 2);
+    for (text, terms, words) in [
+        ("0%off->100%off->2*off->99.9999%off", 4, 2),
+        (" 020.50%3*print(a(b)c) -> panic", 2, 1),
+    ] {
+        let actions = parsed(rt.alloc(), text)?;
+        assert_eq!(rt; (actions.len(), actions.words_needed()), (terms, words));
+    }
     Ok(())
 }
 
@@ -98,9 +108,13 @@ fn comparisons(rt: HostRuntime) -> Result<(), Fail> {
     ] {
         let one = parsed(rt.alloc(), one)?;
         let other = parsed(rt.alloc(), other)?;
-        assert!(rt; one.cmp(&other) == want, "at {}", one.text());
+        let is_equal = want == Ordering::Equal;
+        assert!(rt;
+            one.cmp(&other) == want && (one == other) == is_equal,
+            "at {}",
+            one.text()
+        );
         assert!(rt; one.partial_cmp(&other) == Some(want), "at {}", one.text());
-        assert_eq!(rt; one == other, want == Ordering::Equal, "at {}", one.text());
     }
     Ok(())
 }
@@ -110,16 +124,28 @@ fn copies(rt: HostRuntime) -> Result<(), Fail> {
     for text in ["20.5%3*print(a(b)c)->panic", "return()->sleep(7)->off"] {
         let actions = parsed(rt.alloc(), text)?;
         let copy = copied(rt.alloc(), &actions)?;
-        assert!(rt; copy == actions);
-        assert_eq!(rt; copy.text(), text);
-        assert_eq!(rt; copy.len(), actions.len());
-        let term = copy.term(1).ok_or("no term")?;
-        let again = match term.copied(rt.alloc()) {
-            Err(_) => term.copied(rt.alloc())?,
-            first => first?,
-        };
-        let whole = actions.term(1).ok_or("no term")?;
-        assert!(rt; shown(rt.alloc(), &again)? == shown(rt.alloc(), whole)?);
+        assert!(rt; copy == actions && copy.text() == text && copy.len() == actions.len());
+    }
+    Ok(())
+}
+
+fn copied_term(alloc: Global, term: &Term) -> Result<Term, AllocError> {
+    match term.copied(alloc) {
+        Err(_) => term.copied(alloc),
+        first => first,
+    }
+}
+
+#[test]
+fn terms_of_copies(rt: HostRuntime) -> Result<(), Fail> {
+    for (text, want) in [
+        ("20.5%3*print(a(b)c)->5*panic", "5*panic"),
+        ("return()->7%sleep(7)->off", "7%sleep(7)"),
+    ] {
+        let actions = parsed(rt.alloc(), text)?;
+        let copy = copied(rt.alloc(), &actions)?;
+        let term = copied_term(rt.alloc(), copy.term(1).ok_or("no term")?)?;
+        assert_eq!(rt; shown(rt.alloc(), &term)?.as_str(), want);
     }
     Ok(())
 }
