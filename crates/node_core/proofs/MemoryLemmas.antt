@@ -1,5 +1,5 @@
 -- What a want of memory says of the bytes that were read.
-use Rattle.std.proofs.Common.{◌≡◌, ◌≢◌, ◌≤◌, ◌<◌, ℕ, List, length, Bool, true, false, Result, Ok, Err, Option, Some, None, IsOk, IfErr, IfSome, refl, ◌∷◌, [], arith, rules}
+use Rattle.std.proofs.Common.{◌≡◌, ◌≢◌, ℕ, List, length, Bool, true, false, Result, Ok, Err, IsOk, IfErr, ◌∷◌, [], rules}
 use Rattle.std.specs.Prelude.{nat_le, nat_lt, bytes_eq, not, ◌==◌}
 use Rattle.std.specs.Int.{w64, byte_len}
 use Rattle.delta_exchange.specs.declared.fault.WireFault.{WireFault}

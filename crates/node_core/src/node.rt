@@ -20,7 +20,7 @@ ghost use Rattle.node_core.specs.Outcomes.{IsHeld, state_set};
 ghost use Rattle.node_core.specs.Steps.{points_in, settings};
 ghost use Rattle.node_core.specs.Traces.{refusal, reply_to, after_call, node_of};
 ghost use Rattle.node_core.specs.Deliveries.{IsDelivery, TellsAll};
-ghost use Rattle.node_core.specs.Memory.{IsReadable, SetNeedsMemory, NameNeedsMemory, LoadNeedsMemory, EmitNeedsMemory, DeliveryNeedsMemory};
+ghost use Rattle.node_core.specs.Memory.{HasRoom, IsReadable, SetNeedsMemory, NameNeedsMemory, LoadNeedsMemory, EmitNeedsMemory, DeliveryNeedsMemory};
 ghost use Rattle.node_core.specs.Texts.{list_text};
 ghost use Rattle.node_core.specs.Stamps.{HasStamp};
 
@@ -292,6 +292,18 @@ impl NodeCore {
         &self.trace
     }
 
+    // Whether the trace takes one more call.
+    fn check_trace(&self) -> Result<(), NodeFault>
+        ensures ok { OnOk result (HasRoom self.now) }
+        ensures full { IfErr result (λ f. (f ≡ NodeFault.TraceFull)
+            × (self.now.config.trace_cap ≤ length self.now.trace)) }
+    {
+        if self.trace.len() >= self.config.trace_cap as usize {
+            return Err(NodeFault::TraceFull);
+        }
+        Ok(())
+    }
+
     // The name, or the refusal.
     fn pass_checked(&self, alloc: Global, name: &str, words: &[u32]) -> Result<Name, NodeFault>
         ensures ok { IfOk result (λ p. (refusal self.now (asks.Pass name.now) words.now ≡ None) × (p ≡ name.now)) }
@@ -299,9 +311,7 @@ impl NodeCore {
         ensures refused { IfErr result (λ f. (f ≡ NodeFault.OutOfMemory) ⊎ (refusal self.now (asks.Pass name.now) words.now ≡ Some f)) }
         ensures memory { IsErrOf result NodeFault.OutOfMemory → NameNeedsMemory self.now name.now }
     {
-        if self.trace.len() >= self.config.trace_cap as usize {
-            return Err(NodeFault::TraceFull);
-        }
+        self.check_trace()?;
         let point = read_name(alloc, name)?;
         let need = words_needed(&self.state, &point);
         if words.len() != need as usize {
@@ -355,9 +365,7 @@ impl NodeCore {
         ensures readable { OnOk result (IsReadable text.now) }
         ensures memory { IsErrOf result NodeFault.OutOfMemory → SetNeedsMemory self.now name.now text.now }
     {
-        if self.trace.len() >= self.config.trace_cap as usize {
-            return Err(NodeFault::TraceFull);
-        }
+        self.check_trace()?;
         let point = match read_name(alloc, name) {
             Ok(point) => point,
             Err(fault) => return Err(setting_refusal(alloc, fault, text)),
@@ -375,9 +383,7 @@ impl NodeCore {
         ensures refused { IfErr result (λ f. (f ≡ NodeFault.OutOfMemory) ⊎ (refusal self.now (asks.Remove name.now) [] ≡ Some f)) }
         ensures memory { IsErrOf result NodeFault.OutOfMemory → NameNeedsMemory self.now name.now }
     {
-        if self.trace.len() >= self.config.trace_cap as usize {
-            return Err(NodeFault::TraceFull);
-        }
+        self.check_trace()?;
         let point = read_name(alloc, name)?;
         self.check_room(&point)?;
         Ok(point)
@@ -452,9 +458,7 @@ impl NodeCore {
         ensures short { OnOk result (length text.now ≤ 65536) }
         ensures memory { IsErrOf result NodeFault.OutOfMemory → LoadNeedsMemory self.now text.now }
     {
-        if self.trace.len() >= self.config.trace_cap as usize {
-            return Err(NodeFault::TraceFull);
-        }
+        self.check_trace()?;
         let points = read_points(alloc, text)?;
         let entries = points.len() as u16;
         let has_clocks = self.clock <= u64::MAX - u64::from(entries);
@@ -517,9 +521,7 @@ impl NodeCore {
         ensures refused { IfErr result (λ f. (f ≡ NodeFault.OutOfMemory) ⊎ (refusal self.now (asks.Shift name.now term to amount) [] ≡ Some f)) }
         ensures memory { IsErrOf result NodeFault.OutOfMemory → NameNeedsMemory self.now name.now }
     {
-        if self.trace.len() >= self.config.trace_cap as usize {
-            return Err(NodeFault::TraceFull);
-        }
+        self.check_trace()?;
         let point = read_name(alloc, name)?;
         let total = total_with(&self.state, self.config, &point, term, to, amount)?;
         Ok((point, total))
@@ -567,9 +569,7 @@ impl NodeCore {
         ensures room { OnOk result ((length self.now.trace < self.now.config.trace_cap) × (to < self.now.config.nodes) × (to ≢ self.now.config.node)) }
         ensures refused { IfErr result (λ f. refusal self.now (asks.Emit to no_versions []) [] ≡ Some f) }
     {
-        if self.trace.len() >= self.config.trace_cap as usize {
-            return Err(NodeFault::TraceFull);
-        }
+        self.check_trace()?;
         if to >= self.config.nodes || to == self.config.node {
             return Err(NodeFault::BadNode);
         }
@@ -611,9 +611,7 @@ impl NodeCore {
         ensures header { OnOk result (IsOk (header_of self.now.config.nodes bytes.now)) }
         ensures memory { IsErrOf result NodeFault.OutOfMemory → DeliveryNeedsMemory self.now bytes.now }
     {
-        if self.trace.len() >= self.config.trace_cap as usize {
-            return Err(NodeFault::TraceFull);
-        }
+        self.check_trace()?;
         let message = read_message(alloc, self.config.nodes, bytes)?;
         if message.to != self.config.node {
             return Err(NodeFault::NotForMe);
