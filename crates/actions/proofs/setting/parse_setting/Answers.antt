@@ -1,4 +1,4 @@
-use Rattle.std.proofs.Common.{◌≡◌, ◌^◌, ◌<◌, ◌≤◌, ℕ, Bor, List, length, Result, Ok, Err, ap, subst, ◌∙◌, arith}
+use Rattle.std.proofs.Common.{◌≡◌, ◌^◌, ◌<◌, ◌≤◌, ℕ, Bor, List, length, Result, Ok, Err, refl, ap, subst, ◌∙◌, arith}
 use Rattle.std.specs.Prelude.{IfOk}
 use Rattle.std.proofs.lemmas.Bool.{le-ltb}
 use Rattle.std.proofs.lemmas.List.{length-map}
@@ -38,6 +38,9 @@ parse_entries-requires c =
       ap length c.in_ok-entries.ensures,
       length-map c.in_ok-entries.entries.items (λ (x : Bor (List ℕ)). x.now),
     )
+
+pub returns-then-text-gt-MAX_SETTING-clause-long : goal.returns-then-text-gt-MAX_SETTING-clause-long
+returns-then-text-gt-MAX_SETTING-clause-long c = λ _. refl
 
 pub returns-clause-found : goal.returns-clause-found
 returns-clause-found c =
