@@ -24,8 +24,8 @@ use nodes::{
     ALONE, FIRST_OF_TWO, SECOND_OF_TWO, ask_twice, by_call, by_value, empty_node, name_of,
 };
 use prints::{
-    answer_text, config_text, copy_of, full_setting, list, numbered_text, room, text_of,
-    text_of_both, text_with_room, view,
+    answer_text, config_text, copy_of, list, numbered_text, room, text_of, text_of_both,
+    text_with_room, view,
 };
 use replica_state::Replica;
 use stage::{Cast, Line, Step, answer_with, difference, empty_cast, first_other, rights};

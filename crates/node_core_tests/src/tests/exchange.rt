@@ -1,4 +1,4 @@
-//! Sixteen nodes tell each other of 256 points.
+//! Sixteen nodes tell each other of sixteen points each.
 
 use super::*;
 
@@ -19,38 +19,39 @@ fn empty_nodes(alloc: Global) -> Result<Vec<NodeCore>, Fail> {
     Ok(nodes)
 }
 
-/// Sets the points `p0` to `p255`, and moves a right of p99 to each other node.
-fn share_points(alloc: Global, node: &mut NodeCore) -> Result<(), Fail> {
+/// Sixteen points, each with the node's number in its name.
+fn points_of(alloc: Global, node: u8) -> Result<String, Fail> {
+    let mut setting = text_with_room(alloc, 256)?;
+    for point in 0..16u8 {
+        if point > 0 {
+            setting.push(';')?;
+        }
+        setting.push_str(text_of(alloc, &node)?.as_str())?;
+        setting.push(':')?;
+        setting.push_str(text_of(alloc, &point)?.as_str())?;
+        setting.push_str("=9*off")?;
+    }
+    Ok(setting)
+}
+
+/// Sets the points of a node there, and passes the last of them.
+fn set_points(alloc: Global, node: &mut NodeCore, number: u8) -> Result<(), Fail> {
     let load = Ask::Load {
-        text: full_setting(alloc, "16*off")?,
+        text: points_of(alloc, number)?,
     };
     ask_twice(alloc, node, &load)?;
-    for to in 1..NODES {
-        let shift = Ask::Shift {
-            name: copy_of(alloc, "p99")?,
-            term: 0,
-            to,
-            amount: 1,
-        };
-        ask_twice(alloc, node, &shift)?;
-    }
+    let mut name = text_of(alloc, &number)?;
+    name.push_str(":15")?;
+    ask_twice(alloc, node, &Ask::Pass { name })?;
     Ok(())
 }
 
-/// What a node tells another after it has passed p99.
-fn message_after_pass(
-    alloc: Global,
-    nodes: &mut [NodeCore],
-    from: u8,
-    to: u8,
-) -> Result<Vec<u8>, Fail> {
+/// What a node tells another once it has set its points.
+fn message_of(alloc: Global, nodes: &mut [NodeCore], from: u8, to: u8) -> Result<Vec<u8>, Fail> {
     let Some(node) = nodes.get_mut(usize::from(from)) else {
         return Err(Fail::new("no such node"));
     };
-    let pass = Ask::Pass {
-        name: copy_of(alloc, "p99")?,
-    };
-    ask_twice(alloc, node, &pass)?;
+    set_points(alloc, node, from)?;
     match ask_twice(alloc, node, &Ask::Emit { to })? {
         Reply::Emit(message) => Ok(message),
         _ => Err(Fail::new("no message")),
@@ -65,29 +66,21 @@ fn tell(alloc: Global, nodes: &mut [NodeCore], to: u8, message: Vec<u8>) -> Resu
     Ok(())
 }
 
-/// One node after the other passes p99 and tells the next one; the last one tells the first.
-fn tell_round(alloc: Global, nodes: &mut [NodeCore]) -> Result<(), Fail> {
-    for from in 0..NODES {
-        let to = (from + 1) % NODES;
-        let message = message_after_pass(alloc, nodes, from, to)?;
-        tell(alloc, nodes, to, message)?;
-    }
-    Ok(())
-}
-
-/// Sixteen nodes that have told each other, once round.
+/// Sixteen nodes: one after the other has told the next one, and the last one the first.
 fn nodes_after_round(alloc: Global) -> Result<Vec<NodeCore>, Fail> {
     let mut nodes = empty_nodes(alloc)?;
-    if let Some(first) = nodes.first_mut() {
-        share_points(alloc, first)?;
+    for from in 0..NODES {
+        let to = (from + 1) % NODES;
+        let message = message_of(alloc, &mut nodes, from, to)?;
+        tell(alloc, &mut nodes, to, message)?;
     }
-    tell_round(alloc, &mut nodes)?;
     Ok(nodes)
 }
 
+/// What a node shows, and how many names it holds.
 fn view_at(alloc: Global, nodes: &[NodeCore], number: usize) -> Result<String, Fail> {
     match nodes.get(number) {
-        Some(node) => view(alloc, node),
+        Some(node) => numbered_text(alloc, view(alloc, node)?.as_str(), node.state().names()),
         None => copy_of(alloc, "no such node"),
     }
 }
@@ -99,7 +92,6 @@ fn all_nodes_are_told(rt: HostRuntime) -> Result<(), Fail> {
     let first = view_at(alloc, &nodes, 0)?;
     let last = view_at(alloc, &nodes, 15)?;
     assert!(rt; first.as_str() == last.as_str());
-    // Each node has executed the one right that it had of the last point in the list.
-    assert!(rt; first.as_str().ends_with(" | 0 0 0 16 16"));
+    assert!(rt; first.as_str().ends_with(" 256"));
     Ok(())
 }

@@ -42,9 +42,23 @@ fn points_past_256(rt: HostRuntime) -> Result<(), Fail> {
     Ok(())
 }
 
+/// The points `p0` to `p255`, each set to `off`.
+fn full_setting(alloc: Global) -> Result<String, Fail> {
+    let mut text = text_with_room(alloc, 4_096)?;
+    for number in 0..256u16 {
+        if number > 0 {
+            text.push(';')?;
+        }
+        text.push('p')?;
+        text.push_str(text_of(alloc, &number)?.as_str())?;
+        text.push_str("=off")?;
+    }
+    Ok(text)
+}
+
 fn load_ask(alloc: Global) -> Result<Ask, Fail> {
     Ok(Ask::Load {
-        text: full_setting(alloc, "off")?,
+        text: full_setting(alloc)?,
     })
 }
 

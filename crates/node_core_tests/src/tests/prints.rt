@@ -18,21 +18,6 @@ pub fn text_with_room(alloc: Global, bytes: usize) -> Result<String, Fail> {
     }
 }
 
-/// The points `p0` to `p255`, each set to these actions.
-pub fn full_setting(alloc: Global, actions: &str) -> Result<String, Fail> {
-    let mut text = text_with_room(alloc, 4_096)?;
-    for number in 0..256u16 {
-        if number > 0 {
-            text.push(';')?;
-        }
-        text.push('p')?;
-        text.push_str(text_of(alloc, &number)?.as_str())?;
-        text.push('=')?;
-        text.push_str(actions)?;
-    }
-    Ok(text)
-}
-
 pub fn copy_of(alloc: Global, text: &str) -> Result<String, Fail> {
     match String::from_str(alloc, text) {
         Err(_) => Ok(String::from_str(alloc, text)?),
