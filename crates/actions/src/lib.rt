@@ -28,6 +28,3 @@ pub use fault::{ActionFault, SettingFault};
 pub use name::{Name, NameFault};
 pub use setting::parse_setting;
 pub use task::{Task, Term};
-
-#[cfg(test)]
-mod tests;

@@ -9,8 +9,6 @@ mod cells;
 mod fault;
 mod hits;
 pub mod laws;
-#[cfg(test)]
-mod tests;
 
 pub use budget::Budget;
 pub use fault::CounterFault;

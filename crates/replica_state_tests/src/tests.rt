@@ -7,68 +7,17 @@ mod counted;
 mod joins;
 mod merges;
 mod mixed;
+mod readers;
 mod steps;
 mod told;
 
 use actions::{ActionFault, Name, NameFault, parse_actions};
+use readers::{Seen, all_names, all_names_with, answers, shows, wanted};
 use replica_state::{Matrix, Op, OpSet, Replica};
 use stamp_register::{Body, Key};
 use std::alloc::Global;
 use std::process::Abort;
 use std::test::Fail;
-
-/// What the readers answer of a name and its first term, at the nodes 0 and 1.
-#[derive(Clone, Copy, Debug, PartialEq, Eq)]
-struct Seen {
-    clock: u64,
-    hits: (u64, u64),
-    execs: (u64, u64),
-    moved: (u64, u64),
-    rights: (i128, i128),
-    sums: (u128, u128),
-    names: (usize, usize),
-}
-
-fn clock_of<R: Replica>(replica: &R, name: &Name) -> u64 {
-    match replica.key(name) {
-        Some(key) => key.clock,
-        None => 0,
-    }
-}
-
-fn answers<R: Replica>(replica: &R, name: &Name) -> Seen {
-    Seen {
-        clock: clock_of(replica, name),
-        hits: (replica.hits(name, 0), replica.hits(name, 1)),
-        execs: (replica.exec(name, 0, 0), replica.exec(name, 0, 1)),
-        moved: (replica.moved(name, 0, 0, 1), replica.moved(name, 0, 1, 0)),
-        rights: (replica.rights(name, 0, 0), replica.rights(name, 0, 1)),
-        sums: (replica.total_hits(name), replica.spent(name, 0)),
-        names: (replica.names(), replica.names_with(name)),
-    }
-}
-
-/// What is wanted where one name is held, and what no other node hit or spent.
-fn wanted(
-    clock: u64,
-    hits: (u64, u64),
-    execs: (u64, u64),
-    moved: (u64, u64),
-    rights: (i128, i128),
-) -> Seen {
-    Seen {
-        clock,
-        hits,
-        execs,
-        moved,
-        rights,
-        sums: (
-            u128::from(hits.0) + u128::from(hits.1),
-            u128::from(execs.0) + u128::from(execs.1),
-        ),
-        names: (1, 1),
-    }
-}
 
 fn name(alloc: Global, text: &str) -> Result<Name, Fail> {
     match Name::parse(alloc, text) {
@@ -180,8 +129,9 @@ fn add<R: Replica>(rt: &impl Abort, alloc: Global, replica: &mut R, name: &Name,
     assert!(rt; fits);
     let before = answers(replica, name);
     if replica.add(alloc, op).is_err() {
-        assert_eq!(rt; answers(replica, name), before);
-        assert!(rt; replica.add(alloc, op).is_ok());
+        let is_unchanged = shows(replica, name, before);
+        let again = replica.add(alloc, op).is_ok();
+        assert!(rt; is_unchanged && again);
     }
 }
 
@@ -226,9 +176,9 @@ fn pass(
     let before = answers(set, name);
     let counted = count(set, alloc, name, node, spent, most);
     if !counted {
-        assert_eq!(rt; answers(set, name), before);
+        let is_unchanged = shows(set, name, before);
         let again = count(set, alloc, name, node, spent, most + 1);
-        assert!(rt; again);
+        assert!(rt; is_unchanged && again);
     }
 }
 
@@ -237,7 +187,8 @@ fn set_key(rt: &impl Abort, set: &mut OpSet, alloc: Global, name: &Name) -> Resu
     let before = answers(set, name);
     let key = key(alloc, 2, 1, "5*off")?;
     if set.set_key(alloc, name.copied(alloc)?, key).is_err() {
-        assert_eq!(rt; answers(set, name), before);
+        let is_unchanged = shows(set, name, before);
+        assert!(rt; is_unchanged);
         return Err("memory was refused")?;
     }
     Ok(())
@@ -260,13 +211,13 @@ fn order_of_names<R: Replica>(rt: &impl Abort, alloc: Global) -> Result<(), Fail
     for text in ["b", "a", "b", "c"] {
         replica.set_key(alloc, name(alloc, text)?, key(alloc, 1, 0, "off")?)?;
     }
-    assert_eq!(rt; replica.names(), 3);
     for (index, want) in ["a", "b", "c"].iter().enumerate() {
         let at = replica.name_at(index).ok_or("no name")?;
-        assert_eq!(rt; at.text(), *want);
-        assert_eq!(rt; replica.names_with(at), 3);
+        let is_wanted = at.text() == *want && all_names_with(&replica, at) == 3;
+        assert!(rt; is_wanted);
     }
-    assert!(rt; replica.name_at(3).is_none());
+    let is_all = all_names(&replica) == 3 && replica.name_at(3).is_none();
+    assert!(rt; is_all);
     Ok(())
 }
 
@@ -287,14 +238,10 @@ fn passes(rt: HostRuntime) -> Result<(), Fail> {
     pass(&rt, &mut set, alloc, &a, 0, Some(0), 2);
     pass(&rt, &mut set, alloc, &a, 1, Some(0), 4);
     pass(&rt, &mut set, alloc, &a, 0, Some(0), 6);
-    assert_eq!(rt;
-        answers(&set, &a),
-        wanted(1, (3, 1), (2, 1), (0, 0), (0, -1))
-    );
+    let passed = shows(&set, &a, wanted(1, (3, 1), (2, 1), (0, 0), (0, -1)));
+    assert!(rt; passed);
     set_key(&rt, &mut set, alloc, &a)?;
-    assert_eq!(rt;
-        answers(&set, &a),
-        wanted(2, (3, 1), (0, 0), (0, 0), (0, 5))
-    );
+    let changed = shows(&set, &a, wanted(2, (3, 1), (0, 0), (0, 0), (0, 5)));
+    assert!(rt; changed);
     Ok(())
 }

@@ -5,6 +5,3 @@ mod key;
 pub mod laws;
 
 pub use key::{Body, Key, Stamp};
-
-#[cfg(test)]
-mod tests;

@@ -1,7 +1,8 @@
 //! Replicas that are joined. What memory is refused to is asked again, and nothing may have changed
 //! by then: so these also pass where any one allocation fails.
 
-use super::{Seen, Step, add, answers, key, name, op_of, op_on, wanted};
+use super::readers::{Seen, all_names, clock_of, shows, wanted};
+use super::{Step, add, key, name, op_of, op_on};
 use lattice_laws::Join;
 use replica_state::{Matrix, OpSet, Replica};
 use std::alloc::{AllocError, Global};
@@ -63,14 +64,13 @@ fn check<R: Replica>(
 ) -> Result<(), Fail> {
     let a = name(alloc, "a")?;
     let both = joined(alloc, left, right)?;
-    assert_eq!(rt; answers(&both, &a), want);
-    assert_eq!(rt; answers(&joined(alloc, right, left)?, &a), want);
-    assert!(rt; left.below(&both) && right.below(&both));
+    let turned = joined(alloc, right, left)?;
     let mut grown = copied(alloc, left)?;
-    assert!(rt; same(&grown, left));
+    let is_copy = same(&grown, left);
     join_in(rt, alloc, &mut grown, right)?;
-    assert_eq!(rt; answers(&grown, &a), want);
-    assert!(rt; same(&grown, &both));
+    let is_above = left.below(&both) && right.below(&both);
+    let is_wanted = shows(&both, &a, want) && shows(&turned, &a, want) && shows(&grown, &a, want);
+    assert!(rt; is_copy && is_above && is_wanted && same(&grown, &both));
     Ok(())
 }
 
@@ -78,20 +78,16 @@ fn copy_before_shift<R: Replica>(rt: &impl Abort, alloc: Global) -> Result<(), F
     let a = name(alloc, "a")?;
     let spent = [Step::Set(1, 0, "2*off"), Step::Exec(1, 0, "2*off", 1, 1)];
     let mut replica: R = learned(rt, alloc, &spent)?;
-    assert_eq!(rt;
-        answers(&replica, &a),
-        wanted(1, (0, 0), (0, 1), (0, 0), (2, -1))
-    );
+    let overspent = shows(&replica, &a, wanted(1, (0, 0), (0, 1), (0, 0), (2, -1)));
+    assert!(rt; overspent);
     let early = copied(alloc, &replica)?;
     let shift = op_of(alloc, Step::Shift(1, 0, "2*off", 0, 1, 1))?;
     add(rt, alloc, &mut replica, &a, &shift);
     let paid = wanted(1, (0, 0), (0, 1), (1, 0), (1, 0));
-    assert_eq!(rt; answers(&replica, &a), paid);
+    let is_later = shows(&replica, &a, paid) && early.below(&replica) && !replica.below(&early);
+    assert!(rt; is_later);
     check(rt, alloc, &early, &replica, paid)?;
-    check(rt, alloc, &replica, &early, paid)?;
-    assert!(rt; early.below(&replica));
-    assert!(rt; !replica.below(&early));
-    Ok(())
+    check(rt, alloc, &replica, &early, paid)
 }
 
 /// A spend at node 1 is known before the shift that pays for it. What was known before the shift
@@ -116,11 +112,10 @@ fn keys_of_one_stamp<R: Replica>(rt: &impl Abort, alloc: Global) -> Result<(), F
     let left: R = learned(rt, alloc, &smaller)?;
     let right: R = learned(rt, alloc, &greater)?;
     let want = wanted(5, (4, 7), (1, 0), (0, 0), (3, 0));
+    let neither = !left.below(&right) && !right.below(&left);
+    assert!(rt; neither);
     check(rt, alloc, &left, &right, want)?;
-    check(rt, alloc, &right, &left, want)?;
-    assert!(rt; !left.below(&right));
-    assert!(rt; !right.below(&left));
-    Ok(())
+    check(rt, alloc, &right, &left, want)
 }
 
 /// Of one clock and one node the greater text holds, and with it what is counted under it. Hits go
@@ -143,16 +138,10 @@ fn cells_of_one_key<R: Replica>(rt: &impl Abort, alloc: Global) -> Result<(), Fa
     ];
     let left: R = learned(rt, alloc, &one)?;
     let right: R = learned(rt, alloc, &another)?;
-    check(
-        rt,
-        alloc,
-        &left,
-        &right,
-        wanted(1, (0, 0), (3, 2), (4, 0), (2, 2)),
-    )?;
-    assert!(rt; !left.below(&right));
-    assert!(rt; !right.below(&left));
-    Ok(())
+    let neither = !left.below(&right) && !right.below(&left);
+    assert!(rt; neither);
+    let want = wanted(1, (0, 0), (3, 2), (4, 0), (2, 2));
+    check(rt, alloc, &left, &right, want)
 }
 
 /// Under one key each cell has the greater number.
@@ -165,11 +154,10 @@ fn same_key(rt: HostRuntime) -> Result<(), Fail> {
 fn bottom_of_joins<R: Replica>(rt: &impl Abort, alloc: Global) -> Result<(), Fail> {
     let none = R::empty(alloc);
     let hit: R = learned(rt, alloc, &[Step::Hit(0, 1)])?;
-    assert!(rt; none.is_bottom());
-    assert!(rt; copied(alloc, &none)?.is_bottom());
-    assert!(rt; !hit.is_bottom());
-    assert!(rt; none.below(&hit));
-    assert!(rt; !hit.below(&none));
+    let copy = copied(alloc, &none)?;
+    let are_bottoms = none.is_bottom() && copy.is_bottom() && !hit.is_bottom();
+    let is_below = none.below(&hit) && !hit.below(&none);
+    assert!(rt; are_bottoms && is_below);
     let want = wanted(0, (1, 0), (0, 0), (0, 0), (0, 0));
     check(rt, alloc, &none, &hit, want)?;
     check(rt, alloc, &hit, &none, want)
@@ -201,8 +189,8 @@ fn two_names<R: Replica>(rt: &impl Abort, alloc: Global) -> Result<bool, Fail> {
     let mut both = joined(alloc, &first, &second)?;
     let above = first.below(&both) && second.below(&both) && !both.below(&first);
     join_in(rt, alloc, &mut both, &first)?;
-    let clock = both.key(&name(alloc, "b")?).map(|key| key.clock);
-    Ok(above && R::empty(alloc).is_bottom() && both.names() == 2 && clock == Some(2))
+    let clock = clock_of(&both, &name(alloc, "b")?);
+    Ok(above && R::empty(alloc).is_bottom() && all_names(&both) == 2 && clock == 2)
 }
 
 /// Replicas are joined through their own bound.
@@ -234,7 +222,7 @@ fn many_names(rt: HostRuntime) -> Result<(), Fail> {
     let mut few: Matrix = with_hits(&rt, alloc, 10)?;
     let many: Matrix = with_hits(&rt, alloc, 300)?;
     join_in(&rt, alloc, &mut few, &many)?;
-    assert!(rt; same(&few, &many));
-    assert_eq!(rt; few.names(), 300);
+    let is_all = same(&few, &many) && all_names(&few) == 300;
+    assert!(rt; is_all);
     Ok(())
 }

@@ -1,7 +1,8 @@
 //! Replicas that take in another one, and shifts that a replica counts itself.
 
 use super::joins::{copied, same};
-use super::{Step, add, answers, name, op_on, wanted};
+use super::readers::{all_names, answers, clock_of, moved_from, shows, wanted};
+use super::{Step, add, name, op_on};
 use actions::Name;
 use replica_state::{Matrix, OpSet, Replica};
 use std::alloc::Global;
@@ -39,24 +40,29 @@ fn merge<R: Replica>(
     Ok(())
 }
 
+fn both_names<R: Replica>(left: &R, right: &R) -> usize {
+    left.names_together(right)
+}
+
 fn three_names<R: Replica>(rt: &impl Abort, alloc: Global) -> Result<(), Fail> {
     let mut left: R = with_two(rt, alloc, ("a", 1), ("b", 2))?;
     let right: R = with_two(rt, alloc, ("b", 5), ("c", 4))?;
     let none = R::empty(alloc);
-    assert_eq!(rt; left.names_together(&right), 3);
-    assert_eq!(rt; right.names_together(&left), 3);
-    assert_eq!(rt; left.names_together(&left), 2);
-    assert_eq!(rt; left.names_together(&none), 2);
-    assert_eq!(rt; none.names_together(&left), 2);
+    let are_three = both_names(&left, &right) == 3 && both_names(&right, &left) == 3;
+    let are_two = both_names(&left, &left) == 2
+        && both_names(&left, &none) == 2
+        && both_names(&none, &left) == 2;
+    assert!(rt; are_three && are_two);
     merge(rt, alloc, &mut left, &right)?;
-    assert_eq!(rt; left.names(), 3);
+    let is_above = right.below(&left) && all_names(&left) == 3;
+    assert!(rt; is_above);
     for (text, clock) in [("a", 1), ("b", 5), ("c", 4)] {
-        let held = left.key(&name(alloc, text)?).map(|key| key.clock);
-        assert_eq!(rt; held, Some(clock));
+        let held = clock_of(&left, &name(alloc, text)?);
+        assert_eq!(rt; held, clock);
     }
-    assert!(rt; right.below(&left));
     merge(rt, alloc, &mut left, &none)?;
-    assert_eq!(rt; left.names(), 3);
+    let names = all_names(&left);
+    assert_eq!(rt; names, 3);
     Ok(())
 }
 
@@ -69,7 +75,7 @@ fn merges(rt: HostRuntime) -> Result<(), Fail> {
 /// Counts that node 0 moved so many rights to node 1, and says whether it did.
 fn shift<R: Replica>(alloc: Global, replica: &mut R, name: &Name, total: u64) -> bool {
     let has_key = replica.key(name).is_some();
-    let is_more = replica.moved(name, 0, 0, 1) <= total;
+    let is_more = moved_from(replica, name, 0, 0, 1) <= total;
     has_key && is_more && replica.count_shift(alloc, name, 0, 0, 1, total).is_ok()
 }
 
@@ -79,15 +85,13 @@ fn moved_rights<R: Replica>(rt: &impl Abort, alloc: Global) -> Result<(), Fail> 
     for total in [1, 1, 2] {
         let before = answers(&replica, &a);
         if !shift(alloc, &mut replica, &a, total) {
-            assert_eq!(rt; answers(&replica, &a), before);
+            let is_unchanged = shows(&replica, &a, before);
             let moved = shift(alloc, &mut replica, &a, total);
-            assert!(rt; moved);
+            assert!(rt; is_unchanged && moved);
         }
-        let left = 2 - i128::from(total);
-        assert_eq!(rt;
-            answers(&replica, &a),
-            wanted(1, (0, 0), (0, 0), (total, 0), (left, i128::from(total)))
-        );
+        let rights = (2 - i128::from(total), i128::from(total));
+        let is_wanted = shows(&replica, &a, wanted(1, (0, 0), (0, 0), (total, 0), rights));
+        assert!(rt; is_wanted);
     }
     let other = name(alloc, "b")?;
     let moved = shift(alloc, &mut replica, &other, 1);

@@ -2,6 +2,10 @@
 //! they then answer, side by side.
 
 use super::joins::{copied, join_in, joined, same};
+use super::readers::{
+    all_hits, all_names, all_names_with, all_spent, clock_of, execs_at, hits_at, moved_from,
+    rights_at,
+};
 use super::{Step, add, name, op_on};
 use actions::Name;
 use replica_state::{Matrix, OpSet, Replica};
@@ -93,33 +97,32 @@ fn backwards<R: Replica>(rt: &impl Abort, alloc: Global) -> Result<R, Fail> {
     Ok(replica)
 }
 
-fn same_term<R: Replica, S: Replica>(rt: &impl Abort, left: &R, right: &S, name: &Name, term: u8) {
-    assert_eq!(rt; left.spent(name, term), right.spent(name, term));
+fn same_term<R: Replica, S: Replica>(left: &R, right: &S, name: &Name, term: u8) -> bool {
+    let mut is_same = all_spent(left, name, term) == all_spent(right, name, term);
     for node in 0..4 {
-        assert_eq!(rt; left.exec(name, term, node), right.exec(name, term, node));
-        assert_eq!(rt;
-            left.rights(name, term, node),
-            right.rights(name, term, node)
-        );
+        is_same = is_same
+            && execs_at(left, name, term, node) == execs_at(right, name, term, node)
+            && rights_at(left, name, term, node) == rights_at(right, name, term, node);
         for to in 0..4 {
-            assert_eq!(rt;
-                left.moved(name, term, node, to),
-                right.moved(name, term, node, to)
-            );
+            is_same = is_same
+                && moved_from(left, name, term, node, to)
+                    == moved_from(right, name, term, node, to);
         }
     }
+    is_same
 }
 
-fn same_name<R: Replica, S: Replica>(rt: &impl Abort, left: &R, right: &S, name: &Name) {
-    assert_eq!(rt; left.key(name), right.key(name));
-    assert_eq!(rt; left.total_hits(name), right.total_hits(name));
-    assert_eq!(rt; left.names_with(name), right.names_with(name));
+fn same_name<R: Replica, S: Replica>(left: &R, right: &S, name: &Name) -> bool {
+    let mut is_same = left.key(name) == right.key(name)
+        && all_hits(left, name) == all_hits(right, name)
+        && all_names_with(left, name) == all_names_with(right, name);
     for node in 0..4 {
-        assert_eq!(rt; left.hits(name, node), right.hits(name, node));
+        is_same = is_same && hits_at(left, name, node) == hits_at(right, name, node);
     }
     for term in 0..5 {
-        same_term(rt, left, right, name, term);
+        is_same = is_same && same_term(left, right, name, term);
     }
+    is_same
 }
 
 /// Whether two replicas answer equally by every reader. Nobody names `d`, and the greatest node
@@ -130,33 +133,43 @@ fn side_by_side<R: Replica, S: Replica>(
     left: &R,
     right: &S,
 ) -> Result<(), Fail> {
+    let mut is_same = all_names(left) == all_names(right);
     for text in ["a", "b", "c", "d"] {
-        same_name(rt, left, right, &name(alloc, text)?);
+        is_same = is_same && same_name(left, right, &name(alloc, text)?);
     }
-    assert_eq!(rt; left.names(), right.names());
     for index in 0..5 {
-        assert_eq!(rt; left.name_at(index), right.name_at(index));
+        is_same = is_same && left.name_at(index) == right.name_at(index);
     }
+    assert!(rt; is_same);
     Ok(())
 }
 
-/// Each name with the hits, the executions of its terms and the rights of its first term.
+/// A name's clock, hits, executions of three terms and rights of the first term.
+type Known = (u64, u128, (u128, u128, u128), (i128, i128, i128));
+
+fn known_of<R: Replica>(replica: &R, name: &Name) -> Known {
+    let spent = |term: u8| all_spent(replica, name, term);
+    let rights = |node: u8| rights_at(replica, name, 0, node);
+    (
+        clock_of(replica, name),
+        all_hits(replica, name),
+        (spent(0), spent(1), spent(2)),
+        (rights(0), rights(1), rights(2)),
+    )
+}
+
 fn known<R: Replica>(rt: &impl Abort, alloc: Global, replica: &R) -> Result<(), Fail> {
-    let wanted = [
-        ("a", 3, 22, (14, 6, 14), (-10, -12, 15)),
-        ("b", 2, 22, (12, 12, 4), (-14, 2, 5)),
-        ("c", 4, 22, (0, 0, 0), (0, 0, 0)),
+    let wanted: [(&str, Known); 3] = [
+        ("a", (3, 22, (14, 6, 14), (-10, -12, 15))),
+        ("b", (2, 22, (12, 12, 4), (-14, 2, 5))),
+        ("c", (4, 22, (0, 0, 0), (0, 0, 0))),
     ];
-    assert_eq!(rt; replica.names(), 3);
-    for (text, clock, hits, spent, rights) in wanted {
-        let name = name(alloc, text)?;
-        let of_term = |term: u8| replica.spent(&name, term);
-        let at_node = |node: u8| replica.rights(&name, 0, node);
-        assert_eq!(rt; replica.key(&name).map(|key| key.clock), Some(clock));
-        assert_eq!(rt; replica.total_hits(&name), hits);
-        assert_eq!(rt; (of_term(0), of_term(1), of_term(2)), spent);
-        assert_eq!(rt; (at_node(0), at_node(1), at_node(2)), rights);
+    for (text, want) in wanted {
+        let known = known_of(replica, &name(alloc, text)?);
+        assert_eq!(rt; known, want);
     }
+    let names = all_names(replica);
+    assert_eq!(rt; names, 3);
     Ok(())
 }
 
@@ -198,9 +211,9 @@ fn halves<R: Replica>(rt: &impl Abort, alloc: Global) -> Result<(), Fail> {
     side_by_side(rt, alloc, &plain, &both)?;
     side_by_side(rt, alloc, &plain, &turned)?;
     side_by_side(rt, alloc, &plain, &grown)?;
-    assert!(rt; same(&both, &whole) && same(&turned, &whole) && same(&grown, &whole));
-    assert!(rt; first.below(&whole) && !whole.below(&first));
-    assert!(rt; second.below(&whole) && !whole.is_bottom());
+    let are_whole = same(&both, &whole) && same(&turned, &whole) && same(&grown, &whole);
+    let are_below = first.below(&whole) && !whole.below(&first) && second.below(&whole);
+    assert!(rt; are_whole && are_below && !whole.is_bottom());
     Ok(())
 }
 

@@ -1,6 +1,7 @@
 //! Operations that both replicas learn one by one, and what they answer after each.
 
-use super::{Seen, Step, add, answers, name, op_of, wanted};
+use super::readers::{Seen, shows, wanted};
+use super::{Step, add, name, op_of};
 use replica_state::{Matrix, OpSet, Replica};
 use std::alloc::Global;
 use std::process::Abort;
@@ -12,7 +13,8 @@ fn follow<R: Replica>(rt: &impl Abort, alloc: Global, steps: &[(Step, Seen)]) ->
     for (step, want) in steps {
         let op = op_of(alloc, *step)?;
         add(rt, alloc, &mut replica, &name, &op);
-        assert_eq!(rt; answers(&replica, &name), *want);
+        let is_wanted = shows(&replica, &name, *want);
+        assert!(rt; is_wanted);
     }
     Ok(())
 }

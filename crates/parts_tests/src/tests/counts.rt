@@ -1,4 +1,4 @@
-use super::*;
+use counters::{Budget, CounterFault, HitCounter};
 use lattice_laws::Join;
 use std::alloc::{AllocError, Global};
 use std::process::Abort;

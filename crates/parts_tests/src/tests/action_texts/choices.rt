@@ -1,5 +1,5 @@
 use super::parsed;
-use crate::decide;
+use actions::decide;
 use std::alloc::Global;
 use std::test::Fail;
 

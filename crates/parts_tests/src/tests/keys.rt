@@ -1,8 +1,8 @@
 //! Examples from outside. A refused allocation is tried a second time.
 
-use super::*;
 use actions::{ActionFault, parse_actions};
 use lattice_laws::Held;
+use stamp_register::{Body, Key};
 use std::alloc::{AllocError, Global};
 use std::cmp::Ordering;
 use std::test::Fail;

@@ -1,5 +1,5 @@
 use super::{repeated, shown};
-use crate::{ActionFault, Actions, Name, SettingFault, parse_setting};
+use actions::{ActionFault, Actions, Name, SettingFault, parse_setting};
 use std::alloc::{AllocError, Global};
 use std::test::Fail;
 

@@ -1,5 +1,5 @@
 use super::{parsed, repeated, shown};
-use crate::{ActionFault, parse_actions};
+use actions::{ActionFault, parse_actions};
 use std::alloc::Global;
 use std::test::Fail;
 

@@ -7,7 +7,7 @@ mod settings;
 mod texts;
 mod values;
 
-use super::*;
+use actions::{ActionFault, Actions, parse_actions};
 use lattice_laws::Held;
 use std::alloc::{AllocError, Global};
 use std::fmt::Display;

@@ -1,5 +1,5 @@
 use super::{copied_key, repeated, shown};
-use crate::{Name, NameFault};
+use actions::{Name, NameFault};
 use std::alloc::{AllocError, Global};
 use std::test::Fail;
 

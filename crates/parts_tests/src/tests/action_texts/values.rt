@@ -1,5 +1,5 @@
 use super::{copied_key, parsed, shown};
-use crate::{Actions, Task, Term};
+use actions::{Actions, Task, Term};
 use std::alloc::{AllocError, Global};
 use std::cmp::Ordering;
 use std::test::Fail;

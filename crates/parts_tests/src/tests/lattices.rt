@@ -1,4 +1,4 @@
-use super::*;
+use lattice_laws::{Held, Join, LexOf, MapOf, Max, PairOf};
 use std::alloc::{AllocError, Global};
 use std::mem;
 use std::process::Abort;
