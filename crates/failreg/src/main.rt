@@ -10,8 +10,6 @@ ghost use Rattle.scripts.specs.Watched.{has_failed, has_unflushed, inner_of};
 
 mod command_line;
 mod finish;
-#[cfg(test)]
-mod tests;
 
 use actions::parse_actions;
 use command_line::{Invocation, read_command_line};

@@ -24,7 +24,7 @@ use nodes::{
     ALONE, FIRST_OF_TWO, SECOND_OF_TWO, ask_twice, by_call, by_value, empty_node, name_of,
 };
 use prints::{
-    answer_text, config_text, copy_of, list, numbered_text, room, text_of, text_of_both,
+    answer_text, config_text, copy_of, list, numbered_text, printed, room, text_of, text_of_both,
     text_with_room, view,
 };
 use replica_state::Replica;

@@ -95,8 +95,8 @@ fn loads_256_points(rt: HostRuntime) -> Result<(), Fail> {
     let mut node = empty_node(alloc, ALONE)?;
     // Names that are held take no more room.
     for _ in 0..2u8 {
-        let answer = ask_twice(alloc, &mut node, &load_ask(alloc)?);
-        assert_eq!(rt; answer_text(alloc, &answer)?.as_str(), "256");
+        let answer = printed(alloc, &mut node, &load_ask(alloc)?)?;
+        assert_eq!(rt; answer.as_str(), "256");
     }
     Ok(())
 }
@@ -138,8 +138,8 @@ fn longest_setting(rt: HostRuntime) -> Result<(), Fail> {
     let mut node = empty_node(alloc, ALONE)?;
     for (bytes, wanted) in [(65_536, "1"), (65_537, "N3 BadActions S1 TooLong")] {
         let text = long_setting(alloc, bytes)?;
-        let answer = ask_twice(alloc, &mut node, &Ask::Load { text });
-        assert_eq!(rt; answer_text(alloc, &answer)?.as_str(), wanted);
+        let answer = printed(alloc, &mut node, &Ask::Load { text })?;
+        assert_eq!(rt; answer.as_str(), wanted);
     }
     Ok(())
 }

@@ -86,6 +86,12 @@ pub fn answer_text(alloc: Global, answer: &Result<Reply, NodeFault>) -> Result<S
     }
 }
 
+/// What a call answers in print, made again where memory is refused.
+pub fn printed(alloc: Global, node: &mut NodeCore, ask: &Ask) -> Result<String, Fail> {
+    let answer = ask_twice(alloc, node, ask);
+    answer_text(alloc, &answer)
+}
+
 fn try_config_text(alloc: Global, config: &Config) -> Result<String, AllocError> {
     let Config {
         node,

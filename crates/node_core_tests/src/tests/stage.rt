@@ -260,7 +260,8 @@ pub fn answer_of(
     let Err(fault) = first else {
         return Ok(first);
     };
-    if all_of(alloc, node)? != before {
+    let is_unchanged = all_of(alloc, node)? == before;
+    if !is_unchanged {
         return Err(Fail::new("a refused call changed the node"));
     }
     if fault == NodeFault::OutOfMemory {
@@ -351,8 +352,18 @@ pub fn answer_with(
     step: &Step,
     words: &[u32],
 ) -> Result<String, Fail> {
-    let Some(ask) = ask_of(alloc, &[], step)? else {
-        return copy_of(alloc, "no call");
-    };
-    answer_text(alloc, &answer_of(alloc, node, true, &ask, words)?)
+    match ask_of(alloc, &[], step)? {
+        Some(ask) => value_text(alloc, node, &ask, words),
+        None => copy_of(alloc, "no call"),
+    }
+}
+
+fn value_text(
+    alloc: Global,
+    node: &mut NodeCore,
+    ask: &Ask,
+    words: &[u32],
+) -> Result<String, Fail> {
+    let answer = answer_of(alloc, node, true, ask, words)?;
+    answer_text(alloc, &answer)
 }

@@ -1,3 +1,0 @@
-//! Scripts that end, and what the program says of them.
-
-mod program;
