@@ -2,7 +2,7 @@
 
 ghost use Rattle.std.specs.Prelude.{◌≤◌, ℕ, IfOk};
 
-use super::readers::{answers, hits_at, shows, wanted};
+use super::readers::{answers, shows, wanted};
 use super::{key, name};
 use actions::Name;
 use replica_state::{Matrix, OpSet, Replica};
@@ -26,19 +26,32 @@ fn count<R: Replica>(alloc: Global, replica: &mut R, name: &Name) -> bool
     requires execs { (term i : ℕ) → (R.state replica.old).execs name.now term i ≤ 0 }
 {
     let has_key = replica.key(name).is_some();
-    let has_room = hits_at(replica, name, 1) < u64::MAX;
+    let has_room = replica.hits(name, 1) < u64::MAX;
     has_key && has_room && replica.count_pass(alloc, name, 1, Some(0)).is_ok()
+}
+
+/// Counts a pass at node 1. If its memory is refused, nothing may have changed.
+fn pass<R: Replica>(
+    rt: &impl Abort,
+    alloc: Global,
+    replica: &mut R,
+    name: &Name,
+) -> Result<(), Fail>
+    requires execs { (term i : ℕ) → (R.state replica.old).execs name.now term i ≤ 0 }
+{
+    let before = answers(replica, name);
+    if !count(alloc, replica, name) {
+        let is_unchanged = shows(replica, name, before);
+        assert!(rt; is_unchanged);
+        return Err("the pass was not counted")?;
+    }
+    Ok(())
 }
 
 fn overtaken<R: Replica>(rt: &impl Abort, alloc: Global) -> Result<(), Fail> {
     let a = name(alloc, "a")?;
     let mut replica: R = with_key(alloc, &a)?;
-    let before = answers(&replica, &a);
-    if !count(alloc, &mut replica, &a) {
-        let is_unchanged = shows(&replica, &a, before);
-        assert!(rt; is_unchanged);
-        return Err("the pass was not counted")?;
-    }
+    pass(rt, alloc, &mut replica, &a)?;
     let counted = shows(&replica, &a, wanted(1, (0, 1), (0, 1), (0, 0), (2, -1)));
     assert!(rt; counted);
     replica.set_key(alloc, a.copied(alloc)?, key(alloc, 2, 1, "5*off")?)?;

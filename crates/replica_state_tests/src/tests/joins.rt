@@ -74,18 +74,31 @@ fn check<R: Replica>(
     Ok(())
 }
 
-fn copy_before_shift<R: Replica>(rt: &impl Abort, alloc: Global) -> Result<(), Fail> {
-    let a = name(alloc, "a")?;
+/// A replica that knows a spend at node 1, and not yet the shift that pays for it.
+fn overspent<R: Replica>(rt: &impl Abort, alloc: Global) -> Result<R, Fail> {
     let spent = [Step::Set(1, 0, "2*off"), Step::Exec(1, 0, "2*off", 1, 1)];
-    let mut replica: R = learned(rt, alloc, &spent)?;
-    let overspent = shows(&replica, &a, wanted(1, (0, 0), (0, 1), (0, 0), (2, -1)));
-    assert!(rt; overspent);
-    let early = copied(alloc, &replica)?;
+    let replica: R = learned(rt, alloc, &spent)?;
+    let a = name(alloc, "a")?;
+    let is_wanted = shows(&replica, &a, wanted(1, (0, 0), (0, 1), (0, 0), (2, -1)));
+    assert!(rt; is_wanted);
+    Ok(replica)
+}
+
+/// Learns the shift.
+fn pay<R: Replica>(rt: &impl Abort, alloc: Global, replica: &mut R) -> Result<(), Fail> {
+    let a = name(alloc, "a")?;
     let shift = op_of(alloc, Step::Shift(1, 0, "2*off", 0, 1, 1))?;
-    add(rt, alloc, &mut replica, &a, &shift);
-    let paid = wanted(1, (0, 0), (0, 1), (1, 0), (1, 0));
-    let is_later = shows(&replica, &a, paid) && early.below(&replica) && !replica.below(&early);
+    add(rt, alloc, replica, &a, &shift);
+    Ok(())
+}
+
+fn copy_before_shift<R: Replica>(rt: &impl Abort, alloc: Global) -> Result<(), Fail> {
+    let mut replica: R = overspent(rt, alloc)?;
+    let early = copied(alloc, &replica)?;
+    pay(rt, alloc, &mut replica)?;
+    let is_later = early.below(&replica) && !replica.below(&early);
     assert!(rt; is_later);
+    let paid = wanted(1, (0, 0), (0, 1), (1, 0), (1, 0));
     check(rt, alloc, &early, &replica, paid)?;
     check(rt, alloc, &replica, &early, paid)
 }
@@ -204,13 +217,25 @@ fn replicas(rt: HostRuntime) -> Result<(), Fail> {
     Ok(())
 }
 
+/// Learns a hit of a name with this number.
+fn add_hit<R: Replica>(
+    rt: &impl Abort,
+    alloc: Global,
+    replica: &mut R,
+    place: u32,
+) -> Result<(), Fail> {
+    let text = format!(in alloc; "p{place}")?;
+    let op = op_on(alloc, text.as_str(), 0, Step::Hit(0, 1))?;
+    let name = name(alloc, text.as_str())?;
+    add(rt, alloc, replica, &name, &op);
+    Ok(())
+}
+
 /// A replica in which this many names have a hit.
 fn with_hits<R: Replica>(rt: &impl Abort, alloc: Global, names: u32) -> Result<R, Fail> {
     let mut replica = R::empty(alloc);
     for place in 0..names {
-        let text = format!(in alloc; "p{place}")?;
-        let op = op_on(alloc, text.as_str(), 0, Step::Hit(0, 1))?;
-        add(rt, alloc, &mut replica, &name(alloc, text.as_str())?, &op);
+        add_hit(rt, alloc, &mut replica, place)?;
     }
     Ok(replica)
 }

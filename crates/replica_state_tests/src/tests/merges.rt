@@ -1,7 +1,7 @@
 //! Replicas that take in another one, and shifts that a replica counts itself.
 
 use super::joins::{copied, same};
-use super::readers::{all_names, answers, clock_of, moved_from, shows, wanted};
+use super::readers::{all_names, answers, clock_of, shows, wanted};
 use super::{Step, add, name, op_on};
 use actions::Name;
 use replica_state::{Matrix, OpSet, Replica};
@@ -75,7 +75,7 @@ fn merges(rt: HostRuntime) -> Result<(), Fail> {
 /// Counts that node 0 moved so many rights to node 1, and says whether it did.
 fn shift<R: Replica>(alloc: Global, replica: &mut R, name: &Name, total: u64) -> bool {
     let has_key = replica.key(name).is_some();
-    let is_more = moved_from(replica, name, 0, 0, 1) <= total;
+    let is_more = replica.moved(name, 0, 0, 1) <= total;
     has_key && is_more && replica.count_shift(alloc, name, 0, 0, 1, total).is_ok()
 }
 
