@@ -248,50 +248,76 @@ fn raises(rt: HostRuntime) -> Result<(), Fail> {
 /// nothing may have changed, and it is asked again.
 fn joined<J: Join>(rt: &impl Abort, alloc: Global, one: &J, other: &J) -> Result<J, AllocError> {
     let both = one.joined(alloc, other)?;
-    assert!(rt; one.below(&both));
-    assert!(rt; other.below(&both));
-    assert!(rt; !both.is_bottom());
-    let mut copy = one.copied(alloc)?;
-    let first = other.copied(alloc)?;
-    let second = other.copied(alloc)?;
-    if copy.join_in(alloc, first).is_err() {
-        assert!(rt; copy.below(one));
-        assert!(rt; one.below(&copy));
-        copy.join_in(alloc, second)?;
-    }
-    assert!(rt; copy.below(&both));
-    assert!(rt; both.below(&copy));
+    let is_above = one.below(&both) && other.below(&both) && !both.is_bottom();
+    let copy = joined_in_place(rt, alloc, one, other)?;
+    assert!(rt; is_above && same(&copy, &both));
     Ok(both)
+}
+
+/// Whether two values mean the same.
+fn same<J: Join>(one: &J, other: &J) -> bool {
+    one.below(other) && other.below(one)
+}
+
+fn joined_in_place<J: Join>(
+    rt: &impl Abort,
+    alloc: Global,
+    one: &J,
+    other: &J,
+) -> Result<J, AllocError> {
+    let mut copy = one.copied(alloc)?;
+    if copy.join_in(alloc, other.copied(alloc)?).is_err() {
+        let is_unchanged = same(&copy, one);
+        assert!(rt; is_unchanged);
+        copy.join_in(alloc, other.copied(alloc)?)?;
+    }
+    Ok(copy)
+}
+
+/// A counter of which these calls were made.
+fn called(alloc: Global, calls: &[HitCall]) -> Result<HitCounter, CounterFault> {
+    let mut counter = HitCounter::new(alloc);
+    for call in calls {
+        call_hits(alloc, &mut counter, *call)?;
+    }
+    Ok(counter)
+}
+
+/// A budget of which these calls were made.
+fn taken(alloc: Global, steps: &[Step]) -> Result<Budget, CounterFault> {
+    let mut budget = Budget::new(alloc);
+    for step in steps {
+        take(alloc, &mut budget, *step)?;
+    }
+    Ok(budget)
 }
 
 #[test]
 fn joins_hits(rt: HostRuntime) -> Result<(), Fail> {
     let alloc = rt.alloc();
-    let mut one = HitCounter::new(alloc);
-    assert!(rt; one.is_bottom());
-    one.raise(alloc, 0, 5)?;
-    let mut other = HitCounter::new(alloc);
-    other.raise(alloc, 0, 4)?;
-    other.raise(alloc, 1, 7)?;
-    assert!(rt; !other.below(&one));
+    let one = called(alloc, &[HitCall::Raise(0, 5)])?;
+    let other = called(alloc, &[HitCall::Raise(0, 4), HitCall::Raise(1, 7)])?;
+    let is_least = HitCounter::new(alloc).is_bottom();
+    assert!(rt; is_least && !other.below(&one));
     let both = joined(&rt, alloc, &one, &other)?;
-    assert_eq!(rt; hits(&both), (5, 7, 12));
+    let seen = hits(&both);
+    assert_eq!(rt; seen, (5, 7, 12));
     Ok(())
 }
 
 #[test]
 fn joins_budgets(rt: HostRuntime) -> Result<(), Fail> {
     let alloc = rt.alloc();
-    let mut one = Budget::new(alloc);
-    assert!(rt; one.is_bottom());
-    one.raise_spent(alloc, 0, 1)?;
-    one.raise_moved(alloc, 0, 1, 1)?;
-    let mut other = Budget::new(alloc);
-    other.raise_moved(alloc, 0, 1, 2)?;
-    other.raise_moved(alloc, 1, 0, 1)?;
-    assert!(rt; !one.below(&other));
+    let one = taken(alloc, &[Step::RaiseSpent(0, 1), Step::RaiseMoved(0, 1, 1)])?;
+    let other = taken(
+        alloc,
+        &[Step::RaiseMoved(0, 1, 2), Step::RaiseMoved(1, 0, 1)],
+    )?;
+    let is_least = Budget::new(alloc).is_bottom();
+    assert!(rt; is_least && !one.below(&other));
     let both = joined(&rt, alloc, &one, &other)?;
-    assert_eq!(rt; shown(&both), wanted((1, 0), (2, 1), (0, 1), 1));
+    let is_wanted = shown(&both) == wanted((1, 0), (2, 1), (0, 1), 1);
+    assert!(rt; is_wanted);
     Ok(())
 }
 

@@ -27,25 +27,42 @@ fn removed(clock: u64, node: u8) -> Key {
     }
 }
 
+/// A clock, a node and a text, or none where the point is removed.
+type Written = (u64, u8, Option<&'static str>);
+
+const ASCENDING: [Written; 9] = [
+    (0, 255, None),
+    (1, 0, None),
+    (1, 0, Some("2*off")),
+    (1, 0, Some("off")),
+    (1, 0, Some("off->off")),
+    (1, 1, None),
+    (1, 1, Some("off")),
+    (2, 0, Some("delay(5)")),
+    (u64::MAX, 0, None),
+];
+
+fn key_of(alloc: Global, (clock, node, text): Written) -> Result<Key, Fail> {
+    match text {
+        Some(text) => set(alloc, clock, node, text),
+        None => Ok(removed(clock, node)),
+    }
+}
+
+/// How two keys are ordered, and whether they are equal.
+fn order_of(alloc: Global, one: Written, other: Written) -> Result<(Ordering, bool), Fail> {
+    let one = key_of(alloc, one)?;
+    let other = key_of(alloc, other)?;
+    Ok((one.cmp(&other), one == other))
+}
+
 #[test]
 fn keys_go_by_clock_node_and_body(rt: HostRuntime) -> Result<(), Fail> {
-    let alloc = rt.alloc();
-    let ascending = [
-        removed(0, 255),
-        removed(1, 0),
-        set(alloc, 1, 0, "2*off")?,
-        set(alloc, 1, 0, "off")?,
-        set(alloc, 1, 0, "off->off")?,
-        removed(1, 1),
-        set(alloc, 1, 1, "off")?,
-        set(alloc, 2, 0, "delay(5)")?,
-        removed(u64::MAX, 0),
-    ];
-    for (i, one) in ascending.iter().enumerate() {
-        for (j, another) in ascending.iter().enumerate() {
+    for (i, one) in ASCENDING.iter().enumerate() {
+        for (j, other) in ASCENDING.iter().enumerate() {
+            let order = order_of(rt.alloc(), *one, *other)?;
             let wanted = i.cmp(&j);
-            assert_eq!(rt; one.cmp(another), wanted, "{i} and {j}");
-            assert_eq!(rt; one == another, wanted == Ordering::Equal, "{i} and {j}");
+            assert_eq!(rt; order, (wanted, wanted == Ordering::Equal), "{i} and {j}");
         }
     }
     Ok(())

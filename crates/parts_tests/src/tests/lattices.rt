@@ -174,6 +174,14 @@ fn raises_in_place(rt: HostRuntime) -> Result<(), Fail> {
     Ok(())
 }
 
+fn three_lines(alloc: Global) -> Result<Table, AllocError> {
+    let mut table = MapOf::new(alloc);
+    table.raise(alloc, 1, two(alloc, 7, 2)?)?;
+    table.raise(alloc, 2, two(alloc, 3, 9)?)?;
+    table.raise(alloc, 3, row(alloc, 1, 8)?)?;
+    Ok(table)
+}
+
 /// A map takes in another one with old and new keys. A refusal leaves every cell, and a line that
 /// was new before it isn't there.
 #[test]
@@ -181,19 +189,16 @@ fn takes_in(rt: HostRuntime) -> Result<(), Fail> {
     let alloc = rt.alloc();
     let mut map = table(alloc, 2, 1, 4)?;
     for _ in 0..2 {
-        let mut other = MapOf::new(alloc);
-        other.raise(alloc, 1, two(alloc, 7, 2)?)?;
-        other.raise(alloc, 2, two(alloc, 3, 9)?)?;
-        other.raise(alloc, 3, row(alloc, 1, 8)?)?;
+        let other = three_lines(alloc)?;
         let before = cells(&map);
         if map.join_in(alloc, other).is_err() {
-            assert_eq!(rt; cells(&map), before);
-            assert_eq!(rt; map.len(), 1);
+            let is_unchanged = cells(&map) == before && map.len() == 1;
+            assert!(rt; is_unchanged);
         }
     }
-    assert_eq!(rt; cells(&map), (7, 2, 4, 9));
     map.join_in(alloc, MapOf::new(alloc))?;
-    assert_eq!(rt; map.len(), 3);
+    let seen = (cells(&map), map.len());
+    assert_eq!(rt; seen, ((7, 2, 4, 9), 3));
     Ok(())
 }
 

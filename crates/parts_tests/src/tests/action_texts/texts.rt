@@ -3,6 +3,12 @@ use actions::{ActionFault, parse_actions};
 use std::alloc::Global;
 use std::test::Fail;
 
+/// Whether a text has this canonical text.
+fn is_read_as(alloc: Global, text: &str, want: &str) -> Result<bool, Fail> {
+    let actions = parsed(alloc, text)?;
+    Ok(actions.text() == want)
+}
+
 #[test]
 fn canonical_texts(rt: HostRuntime) -> Result<(), Fail> {
     for (text, want) in [
@@ -28,8 +34,9 @@ fn canonical_texts(rt: HostRuntime) -> Result<(), Fail> {
         ("print(50%)", "print(50%)"),
         ("panic(2*3)", "panic(2*3)"),
     ] {
-        assert_eq!(rt; parsed(rt.alloc(), text)?.text(), want, "at {text}");
-        assert_eq!(rt; parsed(rt.alloc(), want)?.text(), want, "again");
+        let is_canonical = is_read_as(rt.alloc(), text, want)?
+            && is_read_as(rt.alloc(), want, want)?;
+        assert!(rt; is_canonical, "at {text}");
     }
     Ok(())
 }
@@ -40,6 +47,11 @@ fn refused(alloc: Global, text: &str) -> Result<ActionFault, Fail> {
         Err(ActionFault::OutOfMemory) => Ok(parse_actions(alloc, text).err().ok_or("it is read")?),
         first => Ok(first.err().ok_or("it is read")?),
     }
+}
+
+fn refused_text(alloc: Global, text: &str) -> Result<String, Fail> {
+    let fault = refused(alloc, text)?;
+    shown(alloc, &fault)
 }
 
 #[test]
@@ -80,8 +92,8 @@ fn refused_texts(rt: HostRuntime) -> Result<(), Fail> {
         ("101%off\n->;", "A10 BadByte offset=7"),
         ("print(\x7f)", "A10 BadByte offset=6"),
     ] {
-        let fault = refused(rt.alloc(), text)?;
-        assert_eq!(rt; shown(rt.alloc(), &fault)?.as_str(), want, "at {text}");
+        let fault = refused_text(rt.alloc(), text)?;
+        assert_eq!(rt; fault.as_str(), want, "at {text}");
     }
     Ok(())
 }
@@ -118,8 +130,8 @@ fn too_many_or_too_long(rt: HostRuntime) -> Result<(), Fail> {
         (";", 1024, ";", "A1 TooLong"),
     ] {
         let text = repeated(rt.alloc(), piece, times, last)?;
-        let fault = refused(rt.alloc(), text.as_str())?;
-        assert_eq!(rt; shown(rt.alloc(), &fault)?.as_str(), want);
+        let fault = refused_text(rt.alloc(), text.as_str())?;
+        assert_eq!(rt; fault.as_str(), want);
     }
     Ok(())
 }

@@ -64,6 +64,17 @@ fn copied_task(alloc: Global, task: &Task) -> Result<Task, AllocError> {
     }
 }
 
+/// A copy of the task of a text's first term, which shows what that shows.
+fn first_task(alloc: Global, text: &str) -> Result<Task, Fail> {
+    let actions = parsed(alloc, text)?;
+    let term = actions.term(0).ok_or("no term")?;
+    let copy = copied_task(alloc, &term.task)?;
+    if shown(alloc, &term.task)?.as_str() != shown(alloc, &copy)?.as_str() {
+        return Err(Fail::new("a copy shows something else"));
+    }
+    Ok(copy)
+}
+
 #[test]
 fn tasks(rt: HostRuntime) -> Result<(), Fail> {
     for (text, want) in [
@@ -80,11 +91,9 @@ fn tasks(rt: HostRuntime) -> Result<(), Fail> {
         ("yield", "yield"),
         ("delay(18446744073709551615)", "delay(18446744073709551615)"),
     ] {
-        let actions = parsed(rt.alloc(), text)?;
-        let term = actions.term(0).ok_or("no term")?;
-        assert_eq!(rt; shown(rt.alloc(), &term.task)?.as_str(), want);
-        let copy = copied_task(rt.alloc(), &term.task)?;
-        assert_eq!(rt; shown(rt.alloc(), &copy)?.as_str(), want);
+        let task = first_task(rt.alloc(), text)?;
+        let shown_as = shown(rt.alloc(), &task)?;
+        assert_eq!(rt; shown_as.as_str(), want);
     }
     Ok(())
 }
