@@ -56,3 +56,7 @@ pub returns-clause-few : goal.returns-clause-few
 returns-clause-few c =
     few (λ v. v.items) c.parse_entries.result c.args.text.now
     (exact (λ v. v.items) c.parse_entries.result c.args.text.now c.deref.result.now c.in_ok-entries.entries.items c.if-text-gt-MAX_SETTING.false c.deref.ensures.value c.in_ok-entries.ensures c.parse_entries.ensures)
+
+pub returns-clause-exact : goal.returns-clause-exact
+returns-clause-exact c =
+    exact (λ v. v.items) c.parse_entries.result c.args.text.now c.deref.result.now c.in_ok-entries.entries.items c.if-text-gt-MAX_SETTING.false c.deref.ensures.value c.in_ok-entries.ensures c.parse_entries.ensures
