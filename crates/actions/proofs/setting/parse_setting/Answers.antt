@@ -42,17 +42,16 @@ parse_entries-requires c =
 pub returns-then-text-gt-MAX_SETTING-clause-long : goal.returns-then-text-gt-MAX_SETTING-clause-long
 returns-then-text-gt-MAX_SETTING-clause-long c = λ _. refl
 
+pub returns-clause-exact : goal.returns-clause-exact
+returns-clause-exact c =
+    exact (λ v. v.items) c.parse_entries.result c.args.text.now c.deref.result.now c.in_ok-entries.entries.items c.if-text-gt-MAX_SETTING.false c.deref.ensures.value c.in_ok-entries.ensures c.parse_entries.ensures
+
 pub returns-clause-found : goal.returns-clause-found
-returns-clause-found c =
-    found (λ v. v.items) c.parse_entries.result c.args.text.now
-    (exact (λ v. v.items) c.parse_entries.result c.args.text.now c.deref.result.now c.in_ok-entries.entries.items c.if-text-gt-MAX_SETTING.false c.deref.ensures.value c.in_ok-entries.ensures c.parse_entries.ensures)
+returns-clause-found c = found (λ v. v.items) c.parse_entries.result c.args.text.now (returns-clause-exact c)
 
 pub returns-clause-only : goal.returns-clause-only
 returns-clause-only c = λ points h.
-    subst (Gives (λ v. v.items) c.parse_entries.result) (setting_complete c.args.text.now points h)
-    (exact (λ v. v.items) c.parse_entries.result c.args.text.now c.deref.result.now c.in_ok-entries.entries.items c.if-text-gt-MAX_SETTING.false c.deref.ensures.value c.in_ok-entries.ensures c.parse_entries.ensures)
+    subst (Gives (λ v. v.items) c.parse_entries.result) (setting_complete c.args.text.now points h) (returns-clause-exact c)
 
 pub returns-clause-few : goal.returns-clause-few
-returns-clause-few c =
-    few (λ v. v.items) c.parse_entries.result c.args.text.now
-    (exact (λ v. v.items) c.parse_entries.result c.args.text.now c.deref.result.now c.in_ok-entries.entries.items c.if-text-gt-MAX_SETTING.false c.deref.ensures.value c.in_ok-entries.ensures c.parse_entries.ensures)
+returns-clause-few c = few (λ v. v.items) c.parse_entries.result c.args.text.now (returns-clause-exact c)
