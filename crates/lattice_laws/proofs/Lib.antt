@@ -1,5 +1,6 @@
 pub mod Joins
 pub mod LexJoins
+pub mod PairJoins
 pub mod Entries
 pub mod Turns
 pub mod Takings

@@ -4,7 +4,7 @@ use Rattle.std.proofs.lemmas.Bool.{true≢false}
 use Rattle.std.proofs.lemmas.Slice.Eq.{bytes_eq-Decides}
 use Rattle.std.proofs.lemmas.Map.Text.{is_eq-slice_cmp}
 use Rattle.std.proofs.lemmas.Cmp.{nat_list_cmp_total, upto}
-use Rattle.std.specs.Ordering.{nat_cmp, is_le, is_eq, is_gt, ordering_reverse}
+use Rattle.std.specs.Ordering.{nat_cmp, ordering_then, is_le, is_eq, is_gt, ordering_reverse}
 use Rattle.std.specs.Cmp.Lexicographic.{slice_cmp}
 use Rattle.std.specs.declared.cmp.Ordering.{Ordering}
 use Rattle.std.specs.declared.cmp.Ordering.TheVariants.{Less, Equal, Greater}
@@ -77,3 +77,9 @@ key_le-antisym a b h k = same_key-true a b (same_key-cmp a b ∙ both_le _ _ (na
 
 pub key_le-other : (a b : KeyValue) → key_le a b ≡ false → key_le b a ≡ true
 key_le-other a b h = one_le _ _ (nat_list_cmp_total.antisymm (key_rank a) (key_rank b)) h
+
+-- three answers of `cmp`, of which the first that isn't Equal decides
+pub then_assoc : (a b c : Ordering) → ordering_then (ordering_then a b) c ≡ ordering_then a (ordering_then b c)
+then_assoc Less b c = refl
+then_assoc Equal b c = refl
+then_assoc Greater b c = refl
