@@ -13,7 +13,7 @@ use std::alloc::{AllocError, Global};
 use std::fmt::Display;
 use std::test::Fail;
 
-fn parsed(alloc: Global, text: &str) -> Result<Actions, Fail> {
+pub(super) fn parsed(alloc: Global, text: &str) -> Result<Actions, Fail> {
     match parse_actions(alloc, text) {
         Err(ActionFault::OutOfMemory) => Ok(parse_actions(alloc, text)?),
         first => Ok(first?),
@@ -49,7 +49,7 @@ fn try_repeated(
     Ok(text)
 }
 
-fn copied_key<S: Held>(alloc: Global, key: &S) -> Result<S, AllocError> {
+pub(super) fn copied_key<S: Held>(alloc: Global, key: &S) -> Result<S, AllocError> {
     match key.copied(alloc) {
         Err(_) => key.copied(alloc),
         first => first,

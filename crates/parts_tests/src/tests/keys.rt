@@ -1,21 +1,16 @@
 //! Examples from outside. A refused allocation is tried a second time.
 
-use actions::{ActionFault, parse_actions};
-use lattice_laws::Held;
+use super::action_texts::{copied_key, parsed};
 use stamp_register::{Body, Key};
-use std::alloc::{AllocError, Global};
+use std::alloc::Global;
 use std::cmp::Ordering;
 use std::test::Fail;
 
 fn set(alloc: Global, clock: u64, node: u8, text: &str) -> Result<Key, Fail> {
-    let actions = match parse_actions(alloc, text) {
-        Err(ActionFault::OutOfMemory) => parse_actions(alloc, text)?,
-        first => first?,
-    };
     Ok(Key {
         clock,
         node,
-        body: Body::Set(actions),
+        body: Body::Set(parsed(alloc, text)?),
     })
 }
 
@@ -108,13 +103,6 @@ fn the_next_key_has_the_next_clock(rt: HostRuntime) -> Result<(), Fail> {
     assert!(rt; Key::next(u64::MAX - 1, 0, Body::Removed) == Some(removed(u64::MAX, 0)));
     assert!(rt; Key::next(u64::MAX, 0, Body::Removed).is_none());
     Ok(())
-}
-
-fn copied_key<S: Held>(alloc: Global, key: &S) -> Result<S, AllocError> {
-    match key.copied(alloc) {
-        Err(_) => key.copied(alloc),
-        first => first,
-    }
 }
 
 #[test]
