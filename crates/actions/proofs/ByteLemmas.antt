@@ -1,12 +1,11 @@
 -- Where a byte stands first in a list, and steps of reading that did not fail.
-use Rattle.std.proofs.Common.{◌≡◌, ℕ, ◌+◌, ◌<◌, Bool, true, false, cond, eqb, not, List, [], ◌∷◌, ◌++◌, length, get_or, drop, Option, Some, None, Result, Ok, Err, refl, sym, ap, ◌∙◌, arith, append_assoc, length-append}
+use Rattle.std.proofs.Common.{◌≡◌, ℕ, ◌+◌, ◌<◌, Bool, true, false, cond, eqb, not, List, [], ◌∷◌, ◌++◌, length, get_or, drop, Option, Some, None, Ok, refl, sym, ap, ◌∙◌, arith, append_assoc, length-append}
+use Rattle.std.specs.Prelude.{ok_or}
 use Rattle.std.specs.List.{list_all, position_or_len}
 use Rattle.std.proofs.lemmas.Bool.{eq-eqb, ne_eqb, eqb-true, and_parts, and_from, ltb-true, lt-ltb, le-ltb}
 use Rattle.std.proofs.lemmas.List.{take_at, drop_at, length_push}
 use Rattle.std.proofs.lemmas.List.Sums.{split_at_first, passes_at_first}
-use Rattle.actions.specs.declared.fault.ActionFault.{ActionFault}
-use Rattle.actions.specs.Bytes.{has, before, after}
-use Rattle.actions.specs.Reading.{◌>>=◌, or_refuse}
+use Rattle.actions.specs.Bytes.{has_byte, text_before, text_after}
 
 -- ---- steps that did not fail
 
@@ -16,23 +15,9 @@ pub branch : {A P : Type 0} (b : Bool) (x y z : A) → (b ≡ true → x ≡ z �
 branch true x y z f g e = f refl e
 branch false x y z f g e = g refl e
 
-pub bind_ok : {A B : Type 0} (r : Result A ActionFault) (f : A → Result B ActionFault) (y : B) → (r >>= f) ≡ Ok y
-    → (x : A) × (r ≡ Ok x) × (f x ≡ Ok y)
-bind_ok (Ok x) f y e = (x, refl, e)
-bind_ok (Err d) f y e = absurd cc
-
-pub refuse_ok : {A : Type 0} (d : ActionFault) (o : Option A) (y : A) → or_refuse d o ≡ Ok y → o ≡ Some y
+pub refuse_ok : {F A : Type 0} (d : F) (o : Option A) (y : A) → ok_or o d ≡ Ok y → o ≡ Some y
 refuse_ok d (Some x) y e = cc
 refuse_ok d None y e = absurd cc
-
-abbrev pub done : {A : Type 0} → A → Result A ActionFault
-done x = Ok x
-
-pub ok_is : {A : Type 0} (x y : A) → done x ≡ done y → x ≡ y
-ok_is x y e = cc
-
-pub err_is_ok : {A P : Type 0} (d : ActionFault) (y : A) → Err d ≡ done y → P
-err_is_ok d y e = absurd cc
 
 -- ---- a byte that is not there
 
@@ -72,25 +57,25 @@ place_none c [] h = refl
 place_none c (x ∷ xs) h =
     let a = and_parts (not (eqb x c)) (lacks c xs) h in rw a.0 (omega (arith, place_none c xs a.1))
 
-pub has_none : (c : ℕ) (xs : List ℕ) → lacks c xs ≡ true → has c xs ≡ false
+pub has_none : (c : ℕ) (xs : List ℕ) → lacks c xs ≡ true → has_byte c xs ≡ false
 has_none c xs h = le-ltb (place c xs) (length xs) (omega (arith, place_none c xs h))
 
-pub has_at : (c : ℕ) (xs ys : List ℕ) → lacks c xs ≡ true → has c (xs ++ c ∷ ys) ≡ true
+pub has_at : (c : ℕ) (xs ys : List ℕ) → lacks c xs ≡ true → has_byte c (xs ++ c ∷ ys) ≡ true
 has_at c xs ys h =
     lt-ltb (place c (xs ++ c ∷ ys)) (length (xs ++ c ∷ ys)) (omega (arith, place_at c xs ys h, length-append xs (c ∷ ys)))
 
-pub before_at : (c : ℕ) (xs ys : List ℕ) → lacks c xs ≡ true → before c (xs ++ c ∷ ys) ≡ xs
+pub before_at : (c : ℕ) (xs ys : List ℕ) → lacks c xs ≡ true → text_before c (xs ++ c ∷ ys) ≡ xs
 before_at c xs ys h = rw (place_at c xs ys h) (take_at xs (c ∷ ys) (length xs) refl)
 
-pub after_at : (c : ℕ) (xs ys : List ℕ) → lacks c xs ≡ true → after c (xs ++ c ∷ ys) ≡ ys
+pub after_at : (c : ℕ) (xs ys : List ℕ) → lacks c xs ≡ true → text_after c (xs ++ c ∷ ys) ≡ ys
 after_at c xs ys h =
     rw (place_at c xs ys h) (ap (drop (length xs + 1)) (sym (append_assoc xs (c ∷ []) ys)) ∙ drop_at (xs ++ c ∷ []) ys
     (length xs + 1) (length_push xs c))
 
 -- a list with the byte is what stands before its first, the byte, and what follows
-pub parts_at : (c : ℕ) (xs : List ℕ) → has c xs ≡ true → xs ≡ before c xs ++ c ∷ after c xs
+pub parts_at : (c : ℕ) (xs : List ℕ) → has_byte c xs ≡ true → xs ≡ text_before c xs ++ c ∷ text_after c xs
 parts_at c xs h =
     let lt : place c xs < length xs = ltb-true (place c xs) (length xs) h in
     let it : get_or xs (place c xs) 0 ≡ c =
     eqb-true (get_or xs (place c xs) 0) c (passes_at_first (λ b. eqb b c) xs 0 lt) in
-    split_at_first (λ b. eqb b c) xs 0 lt ∙ ap (λ (x : ℕ). before c xs ++ x ∷ after c xs) it
+    split_at_first (λ b. eqb b c) xs 0 lt ∙ ap (λ (x : ℕ). text_before c xs ++ x ∷ text_after c xs) it

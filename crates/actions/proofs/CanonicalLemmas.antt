@@ -9,11 +9,11 @@ use Rattle.std.proofs.lemmas.List.{append-nil, take_at, length-replicate, replic
 use Rattle.std.proofs.lemmas.Str.{digit_value_digit}
 use Rattle.std.proofs.lemmas.Str.Parse.{digit_from_value}
 use Rattle.std.proofs.lemmas.Fmt.{decimal_is_IsNumeral, length-decimal-le}
-use Rattle.actions.specs.Numbers.{filled}
+use Rattle.actions.specs.Numbers.{four_decimals}
 use Rattle.actions.specs.Value.{TaskValue, off, «return», sleep, panic, print, pause, yield, delay, TermValue}
 use Rattle.actions.specs.Grammar
-use Rattle.actions.specs.Grammar.{Percent, percent_text, PercentIs, chance_text, ChanceIs, count_text, CountIs, word_of, argument_text, TimeIs, ArgumentIs, Written, core_text, written_text, Means, SpellsTerm, SpellEach, SpellsActions, IsPlain, IsShort, IsNumber, joined, LacksArrow}
-use Rattle.actions.specs.Bytes.{without_end, closing, dash, greater_sign, opening, percent_sign, point, space, star, zero_digit}
+use Rattle.actions.specs.Grammar.{Percent, percent_text, PercentIs, chance_text, ChanceIs, count_text, CountIs, word_of, argument_text, TimeIs, ArgumentIs, WrittenTerm, core_text, written_text, Means, SpellsTerm, SpellEach, SpellsActions, IsPlain, IsShort, IsNumber, with_arrows, LacksArrow}
+use Rattle.actions.specs.Bytes.{without_end, closing_parenthesis, dash, greater_sign, opening_parenthesis, percent_sign, point, space, star, zero_digit}
 use Rattle.actions.specs.Canonical.{digit, four_digits, percent_of, chance_of, argument_of, canonical_term, term_text, canonical}
 use Rattle.actions.proofs.NumberLemmas.{own, digits_below, filled_below}
 use Rattle.actions.specs.Reading.{is_bad_byte}
@@ -71,7 +71,7 @@ four_of_value a b c d h =
 
 -- ---- decimals without the zeros at their end
 
-filled_kept : (ds : List ℕ) → length ds ≡ 4 → filled (without_end zero_digit ds) ≡ ds
+filled_kept : (ds : List ℕ) → length ds ≡ 4 → four_decimals (without_end zero_digit ds) ≡ ds
 filled_kept ds four =
     let kept = without_end zero_digit ds in
     let r = end_parts zero_digit ds in
@@ -111,11 +111,11 @@ four_digits_are n h =
     let below : (d : ℕ) → d < 10 → digit_value (digit d) < 10 = λ d lt. omega (arith, value_of_digit d lt, lt) in
     (below (n / 1000) (omega arith), (below (n / 100 % 10) (omega arith), (below (n / 10 % 10) (omega arith), (below (n % 10) (omega arith), tt))))
 
-some_kept : (kept : List ℕ) (n : ℕ) → digits_value 10 (filled kept) ≡ n → 0 < n → 0 < length kept
+some_kept : (kept : List ℕ) (n : ℕ) → digits_value 10 (four_decimals kept) ≡ n → 0 < n → 0 < length kept
 some_kept [] n e some = omega (arith, e)
 some_kept (x ∷ xs) n e some = omega arith
 
-kept_value : (n : ℕ) → n < 10000 → digits_value 10 (filled (without_end zero_digit (four_digits n))) ≡ n
+kept_value : (n : ℕ) → n < 10000 → digits_value 10 (four_decimals (without_end zero_digit (four_digits n))) ≡ n
 kept_value n h = ap (digits_value 10) (filled_kept (four_digits n) refl) ∙ value_of_four n h
 
 kept_short : (n : ℕ) → n < 10000 → 0 < n → IsShort 4 (without_end zero_digit (four_digits n))
@@ -151,7 +151,7 @@ chance_means ppm le =
     cond_both (eqb ppm 1000000) None (Some (percent_of ppm)) (λ ch. ChanceIs ch ppm) (λ e. eqb-true ppm 1000000 e)
     (λ _. percent_means ppm le)
 
-filled_is : (ds : List ℕ) → 0 < length ds → length ds ≤ 4 → filled ds ≡ ds ++ replicate (4 - length ds) zero_digit
+filled_is : (ds : List ℕ) → 0 < length ds → length ds ≤ 4 → four_decimals ds ≡ ds ++ replicate (4 - length ds) zero_digit
 filled_is [] some few = absurd (omega arith)
 filled_is (a ∷ []) some few = refl
 filled_is (a ∷ b ∷ []) some few = refl
@@ -160,7 +160,7 @@ filled_is (a ∷ b ∷ c ∷ d ∷ []) some few = refl
 filled_is (a ∷ b ∷ c ∷ d ∷ e ∷ ds) some few = absurd (omega arith)
 
 four_filled : (ds : List ℕ) → 0 < length ds → length ds ≤ 4 → AllDigits 10 ds
-    → four_digits (digits_value 10 (filled ds)) ≡ filled ds
+    → four_digits (digits_value 10 (four_decimals ds)) ≡ four_decimals ds
 four_filled [] some few h = absurd (omega arith)
 four_filled (a ∷ []) some few h =
     four_of_value a zero_digit zero_digit zero_digit (h.0, (omega arith, (omega arith, (omega arith, tt))))
@@ -172,9 +172,9 @@ four_filled (a ∷ b ∷ c ∷ d ∷ e ∷ ds) some few h = absurd (omega arith)
 
 -- the decimals of a number are no more than those that were read
 decimals_shortest : (ds : List ℕ) → IsShort 4 ds
-    → length (without_end zero_digit (four_digits (digits_value 10 (filled ds)))) ≤ length ds
+    → length (without_end zero_digit (four_digits (digits_value 10 (four_decimals ds)))) ≤ length ds
 decimals_shortest ds h =
-    let same : without_end zero_digit (four_digits (digits_value 10 (filled ds))) ≡ without_end zero_digit ds =
+    let same : without_end zero_digit (four_digits (digits_value 10 (four_decimals ds))) ≡ without_end zero_digit ds =
     ap (without_end zero_digit) (four_filled ds h.0.0 h.1 h.0.1 ∙ filled_is ds h.0.0 h.1)
     ∙ end_dropped zero_digit ds (4 - length ds) in
     rw same (kept_length ds)
@@ -188,7 +188,7 @@ percent_shortest (Grammar.whole ds) ppm h =
 percent_shortest (Grammar.pointed ds decimals) ppm h =
     let small = filled_below decimals (own.from decimals h.1.0.1) h.1.0.0 h.1.1 in
     let v : ppm / 10000 ≡ digits_value 10 ds = omega (arith, h.2, small) in
-    let part : ppm % 10000 ≡ digits_value 10 (filled decimals) = omega (arith, h.2, small) in
+    let part : ppm % 10000 ≡ digits_value 10 (four_decimals decimals) = omega (arith, h.2, small) in
     let front = decimal_shortest ds (ppm / 10000) h.0.0 v (omega (arith, h.3)) in
     let back : length (without_end zero_digit (four_digits (ppm % 10000))) ≤ length decimals =
     rw part (decimals_shortest decimals h.1) in
@@ -261,8 +261,8 @@ time_shortest (Some ds) n h =
     omega (
       arith,
       decimal_shortest ds n h.0 h.1 h.2,
-      length-append ds (closing ∷ []),
-      length-append (decimal n) (closing ∷ []),
+      length-append ds (closing_parenthesis ∷ []),
+      length-append (decimal n) (closing_parenthesis ∷ []),
     )
 
 same_length : (a b : Option (List ℕ)) → a ≡ b → length (argument_text b) ≤ length (argument_text a)
@@ -287,7 +287,7 @@ chance_most : (ch : Option Percent) (ppm : ℕ) → ChanceIs ch ppm → ppm ≤ 
 chance_most None ppm h = omega (arith, h)
 chance_most (Some p) ppm h = percent_most p ppm h
 
-pub canonical_means : (w : Written) (t : TermValue) → Means w t → Means (canonical_term t) t
+pub canonical_means : (w : WrittenTerm) (t : TermValue) → Means w t → Means (canonical_term t) t
 canonical_means w t m = record {
   chance = chance_means t.ppm (chance_most w.chance t.ppm m.chance);
   count = count_means t.count (count_fits w.count t.count m.count);
@@ -295,7 +295,7 @@ canonical_means w t m = record {
   argument = argument_means w.argument t.task m.argument;
 }
 
-core_length : (w : Written)
+core_length : (w : WrittenTerm)
     → length (core_text w) ≡ length (chance_text w.chance) + length (count_text w.count) + length w.word + length
     (argument_text w.argument)
 core_length w =
@@ -306,7 +306,7 @@ core_length w =
       length-append w.word (argument_text w.argument),
     )
 
-term_length : (w : Written) → length (core_text w) ≤ length (written_text w)
+term_length : (w : WrittenTerm) → length (core_text w) ≤ length (written_text w)
 term_length w =
     omega (
       arith,
@@ -314,7 +314,7 @@ term_length w =
       length-append (core_text w) (replicate w.after space),
     )
 
-pub term_shortest : (w : Written) (t : TermValue) → Means w t → length (term_text t) ≤ length (written_text w)
+pub term_shortest : (w : WrittenTerm) (t : TermValue) → Means w t → length (term_text t) ≤ length (written_text w)
 term_shortest w t m =
     omega (
       arith,
@@ -330,7 +330,7 @@ term_shortest w t m =
 -- ---- whole texts
 
 joined_shortest : (ps : List (List ℕ)) (ts : List TermValue) → SpellEach ps ts
-    → length (canonical ts) ≤ length (joined ps)
+    → length (canonical ts) ≤ length (with_arrows ps)
 joined_shortest [] [] h = omega arith
 joined_shortest [] (t ∷ ts) h = absurd h
 joined_shortest (p ∷ ps) [] h = absurd h
@@ -343,7 +343,7 @@ joined_shortest (p ∷ q ∷ ps) (t ∷ u ∷ ts) h =
       term_shortest h.1.0 t h.1.1,
       ap (λ (x : List ℕ). length x) h.1.2,
       joined_shortest (q ∷ ps) (u ∷ ts) h.2,
-      length-append p (dash ∷ greater_sign ∷ joined (q ∷ ps)),
+      length-append p (dash ∷ greater_sign ∷ with_arrows (q ∷ ps)),
       length-append (term_text t) (dash ∷ greater_sign ∷ canonical (u ∷ ts)),
     )
 
@@ -408,7 +408,7 @@ count_plain None n h = tt
 count_plain (Some ds) None h = absurd h
 count_plain (Some ds) (Some n) h = plain-append ds (star ∷ []) (numeral_plain ds h.0) (sign_plain star refl)
 
-head_plain : (w : Written) (t : TermValue) → Means w t → AllPlain (head_text w)
+head_plain : (w : WrittenTerm) (t : TermValue) → Means w t → AllPlain (head_text w)
 head_plain w t m =
     plain-append (chance_text w.chance) (count_text w.count ++ w.word) (chance_plain w.chance t.ppm m.chance)
     (plain-append (count_text w.count) w.word (count_plain w.count t.count m.count)
@@ -421,11 +421,11 @@ Clean s = (no_arrow s ≡ true) × AllPlain s
 time_clean : (n : ℕ) → n < 2 ^ 64 → Clean (argument_text (Some (decimal n)))
 time_clean n h =
     let d = (decimal_number n h).0 in (
-      no_arrow_after (opening ∷ decimal n) (closing ∷ []) (digits_lack dash (decimal n) refl d) refl,
+      no_arrow_after (opening_parenthesis ∷ decimal n) (closing_parenthesis ∷ []) (digits_lack dash (decimal n) refl d) refl,
       (
-        plain opening refl,
-        plain-append (decimal n) (closing ∷ []) (numeral_plain (decimal n) d)
-            (sign_plain closing refl),
+        plain opening_parenthesis refl,
+        plain-append (decimal n) (closing_parenthesis ∷ []) (numeral_plain (decimal n) d)
+            (sign_plain closing_parenthesis refl),
       ),
     )
 
@@ -448,7 +448,7 @@ argument_clean argument yield h c = (refl, tt)
 argument_clean argument (delay n) h c = time_clean n (time_fits argument n h)
 
 -- the argument of a clean piece
-argument_in : (w : Written) → Clean (written_text w) → Clean (argument_text w.argument)
+argument_in : (w : WrittenTerm) → Clean (written_text w) → Clean (argument_text w.argument)
 argument_in w h =
     let whole : written_text w ≡ (replicate w.before space ++ head_text w) ++
     (argument_text w.argument ++ replicate w.after space) =
@@ -467,7 +467,7 @@ argument_in w h =
           (replicate w.after space) plains,
     )
 
-term_clean : (w : Written) (t : TermValue) → Means w t → Clean (written_text w) → Clean (term_text t)
+term_clean : (w : WrittenTerm) (t : TermValue) → Means w t → Clean (written_text w) → Clean (term_text t)
 term_clean w t m h =
     let n = canonical_means w t m in
     let c = argument_clean w.argument t.task m.argument (argument_in w h) in
@@ -479,10 +479,10 @@ term_clean w t m h =
     subst Clean (sym (core_is v)) both
 
 -- the canonical text of a term spells it
-term_spells : (w : Written) (t : TermValue) → Means w t → SpellsTerm (term_text t) t
+term_spells : (w : WrittenTerm) (t : TermValue) → Means w t → SpellsTerm (term_text t) t
 term_spells w t m = (canonical_term t, canonical_means w t m, sym (append-nil (term_text t)))
 
-each_canonical : (ps : List (List ℕ)) (ts : List TermValue) → SpellEach ps ts → AllPlain (joined ps)
+each_canonical : (ps : List (List ℕ)) (ts : List TermValue) → SpellEach ps ts → AllPlain (with_arrows ps)
     → SpellEach (map term_text ts) ts × AllPlain (canonical ts)
 each_canonical [] [] h k = (tt, tt)
 each_canonical [] (t ∷ ts) h k = absurd h
@@ -493,8 +493,8 @@ each_canonical (p ∷ []) (t ∷ []) h k =
 each_canonical (p ∷ []) (t ∷ u ∷ ts) h k = absurd h.2
 each_canonical (p ∷ q ∷ ps) (t ∷ []) h k = absurd h.2
 each_canonical (p ∷ q ∷ ps) (t ∷ u ∷ ts) h k =
-    let front = plain_front p (dash ∷ greater_sign ∷ joined (q ∷ ps)) k in
-    let back = plain_back p (dash ∷ greater_sign ∷ joined (q ∷ ps)) k in
+    let front = plain_front p (dash ∷ greater_sign ∷ with_arrows (q ∷ ps)) k in
+    let back = plain_back p (dash ∷ greater_sign ∷ with_arrows (q ∷ ps)) k in
     let c = term_clean h.1.0 t h.1.1 (subst Clean h.1.2 (no_arrow_from p h.0, front)) in
     let others = each_canonical (q ∷ ps) (u ∷ ts) h.2 back.1.1 in (
       (lacks_arrow (term_text t) c.0, term_spells h.1.0 t h.1.1, others.0),

@@ -7,14 +7,14 @@ use Rattle.std.specs.Str.Parse.{IsNumeral, digits_value}
 use Rattle.std.proofs.lemmas.Bool.{lt-ltb, le-ltb, le-leb, eq-eqb, ne_eqb, and_parts, or_from}
 use Rattle.std.proofs.lemmas.List.{append-nil, take_at, get_or_at, same_from_push, length_push}
 use Rattle.actions.specs.Value.{TaskValue, off, «return», sleep, panic, print, pause, yield, delay, TermValue}
-use Rattle.actions.specs.Numbers.{number_at, short_number_at, decimals_at, percent_at, filled}
-use Rattle.actions.specs.Reading.{argument_at, chance_at, count_at, time_at, task_at, term_at, terms_at, trimmed, is_bad_byte, reading, pieces}
+use Rattle.actions.specs.Numbers.{number_at, short_number_at, decimals_at, percent_at, four_decimals}
+use Rattle.actions.specs.Reading.{argument_at, chance_at, count_at, time_at, task_at, term_at, terms_at, trimmed_text, is_bad_byte, reading, pieces}
 use Rattle.actions.specs.Grammar
-use Rattle.actions.specs.Grammar.{Percent, percent_text, PercentIs, chance_text, ChanceIs, count_text, CountIs, word_of, argument_text, TimeIs, ArgumentIs, Written, core_text, written_text, Means, SpellsTerm, SpellEach, SpellsActions, IsPlain, IsShort, IsNumber}
+use Rattle.actions.specs.Grammar.{Percent, percent_text, PercentIs, chance_text, ChanceIs, count_text, CountIs, word_of, argument_text, TimeIs, ArgumentIs, WrittenTerm, core_text, written_text, Means, SpellsTerm, SpellEach, SpellsActions, IsPlain, IsShort, IsNumber}
 use Rattle.actions.proofs.NumberLemmas.{own}
 use Rattle.actions.proofs.ByteLemmas.{lacks, lacks-append, lacks_from, has_none, has_at, before_at, after_at}
 use Rattle.actions.proofs.TrimLemmas.{trimmed_between}
-use Rattle.actions.specs.Bytes.{closing, delete, opening, percent_sign, point, semicolon, space, star}
+use Rattle.actions.specs.Bytes.{closing_parenthesis, delete, opening_parenthesis, percent_sign, point, semicolon, space, star}
 use Rattle.actions.proofs.PieceLemmas.{NoArrows, no_arrow_from, pieces_joined}
 
 -- ---- numbers
@@ -29,7 +29,7 @@ short_complete : (most : ℕ) (ds : List ℕ) → IsShort most ds → short_numb
 unfolding short_number_at
 short_complete most ds h = rw (own.from ds h.0.1, lt-ltb 0 (length ds) h.0.0, le-leb (length ds) most h.1) refl
 
-decimals_complete : (ds : List ℕ) → IsShort 4 ds → decimals_at ds ≡ Some (digits_value 10 (filled ds))
+decimals_complete : (ds : List ℕ) → IsShort 4 ds → decimals_at ds ≡ Some (digits_value 10 (four_decimals ds))
 unfolding decimals_at
 decimals_complete ds h = rw (short_complete 4 ds h) refl
 
@@ -47,14 +47,14 @@ percent_complete (Grammar.whole ds) ppm h =
     ) (ap Some (sym h.1))
 percent_complete (Grammar.pointed ds decimals) ppm h =
     let absent = digits_lack point ds refl h.0.0 in
-    let le : digits_value 10 ds * 10000 + digits_value 10 (filled decimals) ≤ 1000000 = omega (arith, h.2, h.3) in
+    let le : digits_value 10 ds * 10000 + digits_value 10 (four_decimals decimals) ≤ 1000000 = omega (arith, h.2, h.3) in
     rw (
       has_at point ds decimals absent,
       before_at point ds decimals absent,
       after_at point ds decimals absent,
       short_complete 3 ds h.0,
       decimals_complete decimals h.1,
-      le-leb (digits_value 10 ds * 10000 + digits_value 10 (filled decimals)) 1000000 le,
+      le-leb (digits_value 10 ds * 10000 + digits_value 10 (four_decimals decimals)) 1000000 le,
     ) (ap Some (sym h.2))
 
 -- ---- which bytes the parts of a term lack
@@ -133,28 +133,28 @@ count_complete k (Some ds) (Some n) rest h absent =
     ∙ rw (has_at star ds rest there, before_at star ds rest there, after_at star ds rest there, number_complete ds n h) refl
 
 closed : (head a : List ℕ)
-    → get_or (head ++ opening ∷ (a ++ closing ∷ [])) (length (head ++ opening ∷ (a ++ closing ∷ [])) - 1) 0 ≡ closing
+    → get_or (head ++ opening_parenthesis ∷ (a ++ closing_parenthesis ∷ [])) (length (head ++ opening_parenthesis ∷ (a ++ closing_parenthesis ∷ [])) - 1) 0 ≡ closing_parenthesis
 closed head a =
-    let same : head ++ opening ∷ (a ++ closing ∷ []) ≡ (head ++ opening ∷ a) ++ closing ∷ [] =
-    sym (append_assoc head (opening ∷ a) (closing ∷ [])) in
-    let n : length ((head ++ opening ∷ a) ++ closing ∷ []) - 1 ≡ length (head ++ opening ∷ a) =
-    omega (arith, length_push (head ++ opening ∷ a) closing) in
+    let same : head ++ opening_parenthesis ∷ (a ++ closing_parenthesis ∷ []) ≡ (head ++ opening_parenthesis ∷ a) ++ closing_parenthesis ∷ [] =
+    sym (append_assoc head (opening_parenthesis ∷ a) (closing_parenthesis ∷ [])) in
+    let n : length ((head ++ opening_parenthesis ∷ a) ++ closing_parenthesis ∷ []) - 1 ≡ length (head ++ opening_parenthesis ∷ a) =
+    omega (arith, length_push (head ++ opening_parenthesis ∷ a) closing_parenthesis) in
     ap (λ (t : List ℕ). get_or t (length t - 1) 0) same
-    ∙ ap (λ (i : ℕ). get_or ((head ++ opening ∷ a) ++ closing ∷ []) i 0) n
-    ∙ get_or_at (head ++ opening ∷ a) closing [] 0 (length (head ++ opening ∷ a)) refl
+    ∙ ap (λ (i : ℕ). get_or ((head ++ opening_parenthesis ∷ a) ++ closing_parenthesis ∷ []) i 0) n
+    ∙ get_or_at (head ++ opening_parenthesis ∷ a) closing_parenthesis [] 0 (length (head ++ opening_parenthesis ∷ a)) refl
 
-argument_complete : (k : ℕ) (head : List ℕ) (argument : Option (List ℕ)) → lacks opening head ≡ true
+argument_complete : (k : ℕ) (head : List ℕ) (argument : Option (List ℕ)) → lacks opening_parenthesis head ≡ true
     → argument_at k (head ++ argument_text argument) ≡ Ok (head, argument)
 unfolding argument_at
-argument_complete k head None absent = ap (argument_at k) (append-nil head) ∙ rw (has_none opening head absent) refl
+argument_complete k head None absent = ap (argument_at k) (append-nil head) ∙ rw (has_none opening_parenthesis head absent) refl
 argument_complete k head (Some a) absent =
-    let inner : take (length (a ++ closing ∷ []) - 1) (a ++ closing ∷ []) ≡ a =
-    take_at a (closing ∷ []) (length (a ++ closing ∷ []) - 1) (omega (arith, length_push a closing)) in
+    let inner : take (length (a ++ closing_parenthesis ∷ []) - 1) (a ++ closing_parenthesis ∷ []) ≡ a =
+    take_at a (closing_parenthesis ∷ []) (length (a ++ closing_parenthesis ∷ []) - 1) (omega (arith, length_push a closing_parenthesis)) in
     rw (
-      has_at opening head (a ++ closing ∷ []) absent,
-      eq-eqb (get_or (head ++ opening ∷ (a ++ closing ∷ [])) (length (head ++ opening ∷ (a ++ closing ∷ [])) - 1) 0) closing (closed head a),
-      before_at opening head (a ++ closing ∷ []) absent,
-      after_at opening head (a ++ closing ∷ []) absent,
+      has_at opening_parenthesis head (a ++ closing_parenthesis ∷ []) absent,
+      eq-eqb (get_or (head ++ opening_parenthesis ∷ (a ++ closing_parenthesis ∷ [])) (length (head ++ opening_parenthesis ∷ (a ++ closing_parenthesis ∷ [])) - 1) 0) closing_parenthesis (closed head a),
+      before_at opening_parenthesis head (a ++ closing_parenthesis ∷ []) absent,
+      after_at opening_parenthesis head (a ++ closing_parenthesis ∷ []) absent,
       inner,
     ) refl
 
@@ -177,16 +177,16 @@ task_complete k argument (delay n) h = rw (time_complete k argument n h) refl
 
 -- ---- a term
 
-abbrev pub head_text : Written → List ℕ
+abbrev pub head_text : WrittenTerm → List ℕ
 head_text w = chance_text w.chance ++ (count_text w.count ++ w.word)
 
-pub core_is : (w : Written) → core_text w ≡ head_text w ++ argument_text w.argument
+pub core_is : (w : WrittenTerm) → core_text w ≡ head_text w ++ argument_text w.argument
 core_is w =
     ap (λ (x : List ℕ). chance_text w.chance ++ x)
     (sym (append_assoc (count_text w.count) w.word (argument_text w.argument)))
     ∙ sym (append_assoc (chance_text w.chance) (count_text w.count ++ w.word) (argument_text w.argument))
 
-pub head_lacks : (c : ℕ) (w : Written) (t : TermValue) → Means w t → is_ascii_digit c ≡ false → is_letter c ≡ false
+pub head_lacks : (c : ℕ) (w : WrittenTerm) (t : TermValue) → Means w t → is_ascii_digit c ≡ false → is_letter c ≡ false
     → eqb point c ≡ false → eqb percent_sign c ≡ false → eqb star c ≡ false → lacks c (head_text w) ≡ true
 head_lacks c w t m no_digit no_letter no_point no_sign no_star =
     lacks-append c (chance_text w.chance) (count_text w.count ++ w.word)
@@ -194,10 +194,10 @@ head_lacks c w t m no_digit no_letter no_point no_sign no_star =
     (lacks-append c (count_text w.count) w.word (count_lacks c w.count t.count no_digit no_star m.count)
     (rw m.word (word_lacks c t.task no_letter)))
 
-term_complete : (k : ℕ) (w : Written) (t : TermValue) → Means w t → term_at k (core_text w) ≡ Ok t
+term_complete : (k : ℕ) (w : WrittenTerm) (t : TermValue) → Means w t → term_at k (core_text w) ≡ Ok t
 unfolding term_at
 term_complete k w t m =
-    let argument = argument_complete k (head_text w) w.argument (head_lacks opening w t m refl refl refl refl refl) in
+    let argument = argument_complete k (head_text w) w.argument (head_lacks opening_parenthesis w t m refl refl refl refl refl) in
     let tail_lacks =
     lacks-append percent_sign (count_text w.count) w.word (count_lacks percent_sign w.count t.count refl refl m.count)
     (rw m.word (word_lacks percent_sign t.task refl)) in
@@ -208,7 +208,7 @@ term_complete k w t m =
 
 -- ---- with spaces round it
 
-head_some : (w : Written) (t : TermValue) → Means w t → 0 < length (head_text w)
+head_some : (w : WrittenTerm) (t : TermValue) → Means w t → 0 < length (head_text w)
 head_some w t m =
     let some : 0 < length w.word = rw m.word (word_some t.task) in
     omega (
@@ -241,11 +241,11 @@ core_ends : (head : List ℕ) (argument : Option (List ℕ)) → lacks space hea
     → head ++ argument_text argument ≢ front ++ space ∷ []
 core_ends head None h front e = ends_without space head h front (sym (append-nil head) ∙ e)
 core_ends head (Some a) h front e =
-    let pushed : (head ++ opening ∷ a) ++ closing ∷ [] ≡ front ++ space ∷ [] =
-    append_assoc head (opening ∷ a) (closing ∷ []) ∙ e in
-    omega (arith, (same_from_push (head ++ opening ∷ a) front closing space pushed).1)
+    let pushed : (head ++ opening_parenthesis ∷ a) ++ closing_parenthesis ∷ [] ≡ front ++ space ∷ [] =
+    append_assoc head (opening_parenthesis ∷ a) (closing_parenthesis ∷ []) ∙ e in
+    omega (arith, (same_from_push (head ++ opening_parenthesis ∷ a) front closing_parenthesis space pushed).1)
 
-pub trimmed_term : (w : Written) (t : TermValue) → Means w t → trimmed (written_text w) ≡ core_text w
+pub trimmed_term : (w : WrittenTerm) (t : TermValue) → Means w t → trimmed_text (written_text w) ≡ core_text w
 trimmed_term w t m =
     let absent = head_lacks space w t m refl refl refl refl refl in
     let some = head_some w t m in
@@ -255,9 +255,9 @@ trimmed_term w t m =
     (λ (x : List ℕ). x ++ replicate w.after space) (sym (core_is w)) ∙ e))
     (λ front e. core_ends (head_text w) w.argument absent front (sym (core_is w) ∙ e))
 
-piece_complete : (k : ℕ) (piece : List ℕ) (t : TermValue) → SpellsTerm piece t → term_at k (trimmed piece) ≡ Ok t
+piece_complete : (k : ℕ) (piece : List ℕ) (t : TermValue) → SpellsTerm piece t → term_at k (trimmed_text piece) ≡ Ok t
 piece_complete k piece t s =
-    ap (λ (x : List ℕ). term_at k (trimmed x)) s.2 ∙ ap (term_at k) (trimmed_term s.0 t s.1) ∙ term_complete k s.0 t s.1
+    ap (λ (x : List ℕ). term_at k (trimmed_text x)) s.2 ∙ ap (term_at k) (trimmed_term s.0 t s.1) ∙ term_complete k s.0 t s.1
 
 terms_complete : (k : ℕ) (ps : List (List ℕ)) (ts : List TermValue) → SpellEach ps ts → terms_at k ps ≡ Ok ts
 unfolding terms_at

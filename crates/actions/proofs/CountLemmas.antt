@@ -4,11 +4,13 @@ use Rattle.std.specs.List.{filter, slice_split, onto_first}
 use Rattle.std.proofs.lemmas.Bool.{cond_both, ltb-true, ltb-false}
 use Rattle.actions.specs.declared.fault.SettingFault.TheVariants as faults
 use Rattle.actions.specs.Bytes.{semicolon, space}
-use Rattle.actions.specs.Reading.{trimmed}
-use Rattle.actions.specs.SettingReading.{◌>>=◌, entry_at, entries_at, entries, setting_reading}
+use Rattle.actions.specs.Reading.{trimmed_text}
+use Rattle.refusals.specs.Refusals.{◌>>=◌}
+use Rattle.refusals.proofs.StepLemmas.{bind_ok, ok_is, err_is_ok}
+use Rattle.actions.specs.SettingReading.{entry_at, entries_at, entries, setting_reading}
 use Rattle.actions.proofs.ByteLemmas.{branch}
 use Rattle.actions.proofs.TrimLemmas.{trimmed_parts}
-use Rattle.actions.proofs.EntryLemmas.{Point, nonempty, bind_ok, ok_is, err_is_ok}
+use Rattle.actions.proofs.EntryLemmas.{Point, nonempty}
 
 -- each part with one byte for what ends it
 abbrev weight : List (List ℕ) → ℕ
@@ -28,26 +30,26 @@ weight_split p (b ∷ bs) =
     (λ _. omega (arith, others))
     (λ _. omega (arith, others, weight_onto b (slice_split p bs) (omega (arith, others))))
 
-trimmed_no_longer : (part : List ℕ) → length (trimmed part) ≤ length part
+trimmed_no_longer : (part : List ℕ) → length (trimmed_text part) ≤ length part
 trimmed_no_longer part =
     let p = trimmed_parts part in
     omega (
       arith,
       ap length p.2,
-      length-append (replicate p.0 space) (trimmed part ++ replicate p.1 space),
-      length-append (trimmed part) (replicate p.1 space),
+      length-append (replicate p.0 space) (trimmed_text part ++ replicate p.1 space),
+      length-append (trimmed_text part) (replicate p.1 space),
     )
 
 abbrev kept : List (List ℕ) → List (List ℕ)
-kept parts = filter nonempty (map trimmed parts)
+kept parts = filter nonempty (map trimmed_text parts)
 
 kept_weigh_two : (parts : List (List ℕ)) → 2 * length (kept parts) ≤ weight parts
 kept_weigh_two [] = omega arith
 kept_weigh_two (part ∷ parts) =
     let others = kept_weigh_two parts in
-    cond_both (nonempty (trimmed part)) (trimmed part ∷ kept parts) (kept parts)
+    cond_both (nonempty (trimmed_text part)) (trimmed_text part ∷ kept parts) (kept parts)
     (λ (x : List (List ℕ)). 2 * length x ≤ length part + 1 + weight parts)
-    (λ some. omega (arith, others, ltb-true 0 (length (trimmed part)) some, trimmed_no_longer part))
+    (λ some. omega (arith, others, ltb-true 0 (length (trimmed_text part)) some, trimmed_no_longer part))
     (λ _. omega (arith, others))
 
 -- each takes a byte and what ends it

@@ -1,11 +1,13 @@
 -- Steps of reading entries that did not fail, and reading them one after the other, as a loop does.
 use Rattle.std.proofs.Common.{◌≡◌, ℕ, ◌+◌, ◌<◌, ◌≤◌, Bool, ltb, map, length, get_or, drop, Bor, List, [], ◌∷◌, ◌++◌, Result, Ok, Err, refl, sym, ap, ◌∙◌, append_assoc}
 use Rattle.std.proofs.lemmas.List.{append-nil, drop_more, drop_all}
+use Rattle.refusals.specs.Refusals.{◌>>=◌, FailsUnless}
+use Rattle.refusals.proofs.StepLemmas.{ok_is, err_is_ok, fails_along}
 use Rattle.actions.specs.declared.fault.ActionFault.{ActionFault}
 use Rattle.actions.specs.declared.fault.SettingFault.{SettingFault}
 use Rattle.actions.specs.declared.fault.SettingFault.TheVariants as faults
 use Rattle.actions.specs.Value.{TermValue}
-use Rattle.actions.specs.SettingReading.{◌>>=◌, Fails, terms_read, entry_at, entries_at}
+use Rattle.actions.specs.SettingReading.{is_want_of_memory, terms_read, entry_at, entries_at}
 
 abbrev pub Point : Type 0
 Point = List ℕ × List TermValue
@@ -18,20 +20,6 @@ abbrev pub nonempty : List ℕ → Bool
 nonempty entry = ltb 0 (length entry)
 
 -- ---- steps that did not fail
-
-abbrev pub done : {A : Type 0} → A → Result A SettingFault
-done x = Ok x
-
-pub ok_is : {A : Type 0} (x y : A) → done x ≡ done y → x ≡ y
-ok_is x y e = cc
-
-pub err_is_ok : {A P : Type 0} (d : SettingFault) (y : A) → Err d ≡ done y → P
-err_is_ok d y e = absurd cc
-
-pub bind_ok : {A B : Type 0} (r : Result A SettingFault) (f : A → Result B SettingFault) (y : B) → (r >>= f) ≡ Ok y
-    → (x : A) × (r ≡ Ok x) × (f x ≡ Ok y)
-bind_ok (Ok x) f y e = (x, refl, e)
-bind_ok (Err d) f y e = absurd cc
 
 pub terms_ok : (k : ℕ) (r : Result (List TermValue) ActionFault) (ts : List TermValue) → terms_read k r ≡ Ok ts → r ≡ Ok ts
 terms_ok k (Ok xs) ts e = ap Ok (ok_is xs ts e)
@@ -65,19 +53,10 @@ stops f front k entry others total h so_far =
     let one : with_front front (entries_at k (entry ∷ others)) ≡ Err f = rw h refl in
     sym so_far ∙ one
 
--- one reading fails as another does, where it passes each refusal on
-fails_along : {A : Type 0} (e : SettingFault) (first : Result A SettingFault) (whole : Reads)
-    → ((f : SettingFault) → first ≡ Err f → whole ≡ Err f) → Fails e first → Fails e whole
-fails_along faults.OutOfMemory first whole passed h = tt
-fails_along faults.TooLong first whole passed h = passed faults.TooLong h
-fails_along (faults.NoEquals k) first whole passed h = passed (faults.NoEquals k) h
-fails_along (faults.BadName k) first whole passed h = passed (faults.BadName k) h
-fails_along (faults.BadActions k f) first whole passed h = passed (faults.BadActions k f) h
-
 ends : (e : SettingFault) (front : List Point) (k : ℕ) (entry : List ℕ) (others : List (List ℕ)) (total : Reads)
-    → Fails e (entry_at k entry) → with_front front (entries_at k (entry ∷ others)) ≡ total → Fails e total
+    → FailsUnless is_want_of_memory e (entry_at k entry) → with_front front (entries_at k (entry ∷ others)) ≡ total → FailsUnless is_want_of_memory e total
 ends e front k entry others total h so_far =
-    fails_along e (entry_at k entry) total (λ f refused. stops f front k entry others total refused so_far) h
+    fails_along is_want_of_memory e (entry_at k entry) total (λ f refused. stops f front k entry others total refused so_far) h
 
 is_done : (front : List Point) (k : ℕ) (total : Reads) → with_front front (entries_at k []) ≡ total
     → total ≡ Ok front
@@ -102,8 +81,8 @@ goes_on_at front parts i d n total lt h so_far =
     (ap (λ (x : List (List ℕ)). with_front front (entries_at i x)) (sym (at_turn parts i d lt)) ∙ so_far)
 
 pub ends_at : (e : SettingFault) (front : List Point) (parts : List (Bor (List ℕ))) (i : ℕ) (d : Bor (List ℕ)) (total : Reads)
-    → i < length parts → Fails e (entry_at i (get_or parts i d).now)
-    → with_front front (entries_at i (texts (drop i parts))) ≡ total → Fails e total
+    → i < length parts → FailsUnless is_want_of_memory e (entry_at i (get_or parts i d).now)
+    → with_front front (entries_at i (texts (drop i parts))) ≡ total → FailsUnless is_want_of_memory e total
 ends_at e front parts i d total lt h so_far =
     ends e front i (get_or parts i d).now (texts (drop (i + 1) parts)) total h
     (ap (λ (x : List (List ℕ)). with_front front (entries_at i x)) (sym (at_turn parts i d lt)) ∙ so_far)

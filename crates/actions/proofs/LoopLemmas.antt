@@ -1,10 +1,11 @@
 -- Reading terms one after the other, as a loop does.
 use Rattle.std.proofs.Common.{◌≡◌, ℕ, ◌+◌, ◌<◌, ◌≤◌, map, length, get_or, drop, Bor, List, [], ◌∷◌, ◌++◌, Result, Ok, Err, refl, sym, ap, ◌∙◌, append_assoc}
 use Rattle.std.proofs.lemmas.List.{append-nil, drop_more, drop_all}
+use Rattle.refusals.specs.Refusals.{◌>>=◌, FailsUnless}
+use Rattle.refusals.proofs.StepLemmas.{fails_along}
 use Rattle.actions.specs.declared.fault.ActionFault.{ActionFault}
-use Rattle.actions.specs.declared.fault.ActionFault.TheVariants as faults
 use Rattle.actions.specs.Value.{TermValue}
-use Rattle.actions.specs.Reading.{◌>>=◌, Fails, term_at, terms_at, trimmed}
+use Rattle.actions.specs.Reading.{is_want_of_memory, term_at, terms_at, trimmed_text}
 
 abbrev Reads : Type 0
 Reads = Result (List TermValue) ActionFault
@@ -19,7 +20,7 @@ regroup front n (Ok x) = ap Ok (sym (append_assoc front (n ∷ []) x))
 regroup front n (Err f) = refl
 
 pub goes_on : (front : List TermValue) (k : ℕ) (piece : List ℕ) (others : List (List ℕ)) (n : TermValue) (total : Reads)
-    → term_at k (trimmed piece) ≡ Ok n
+    → term_at k (trimmed_text piece) ≡ Ok n
     → with_front front (terms_at k (piece ∷ others)) ≡ total → with_front (front ++ n ∷ []) (terms_at (k + 1) others) ≡ total
 unfolding terms_at
 goes_on front k piece others n total h so_far =
@@ -28,32 +29,18 @@ goes_on front k piece others n total h so_far =
     sym one ∙ so_far
 
 stops : (f : ActionFault) (front : List TermValue) (k : ℕ) (piece : List ℕ) (others : List (List ℕ)) (total : Reads)
-    → term_at k (trimmed piece) ≡ Err f
+    → term_at k (trimmed_text piece) ≡ Err f
     → with_front front (terms_at k (piece ∷ others)) ≡ total → total ≡ Err f
 unfolding terms_at
 stops f front k piece others total h so_far =
     let one : with_front front (terms_at k (piece ∷ others)) ≡ Err f = rw h refl in
     sym so_far ∙ one
 
--- one reading fails as another does, where it passes each refusal on
-fails_along : {A : Type 0} (e : ActionFault) (first : Result A ActionFault) (whole : Reads)
-    → ((f : ActionFault) → first ≡ Err f → whole ≡ Err f) → Fails e first → Fails e whole
-fails_along faults.OutOfMemory first whole passed h = tt
-fails_along faults.TooLong first whole passed h = passed faults.TooLong h
-fails_along faults.TooManyTerms first whole passed h = passed faults.TooManyTerms h
-fails_along (faults.Unclosed k) first whole passed h = passed (faults.Unclosed k) h
-fails_along (faults.BadPercent k) first whole passed h = passed (faults.BadPercent k) h
-fails_along (faults.BadCount k) first whole passed h = passed (faults.BadCount k) h
-fails_along (faults.NoTask k) first whole passed h = passed (faults.NoTask k) h
-fails_along (faults.UnknownTask k) first whole passed h = passed (faults.UnknownTask k) h
-fails_along (faults.NeedsTime k) first whole passed h = passed (faults.NeedsTime k) h
-fails_along (faults.BadTime k) first whole passed h = passed (faults.BadTime k) h
-fails_along (faults.BadByte i) first whole passed h = passed (faults.BadByte i) h
-
 pub ends : (e : ActionFault) (front : List TermValue) (k : ℕ) (piece : List ℕ) (others : List (List ℕ)) (total : Reads)
-    → Fails e (term_at k (trimmed piece)) → with_front front (terms_at k (piece ∷ others)) ≡ total → Fails e total
+    → FailsUnless is_want_of_memory e (term_at k (trimmed_text piece))
+    → with_front front (terms_at k (piece ∷ others)) ≡ total → FailsUnless is_want_of_memory e total
 ends e front k piece others total h so_far =
-    fails_along e (term_at k (trimmed piece)) total (λ f refused. stops f front k piece others total refused so_far) h
+    fails_along is_want_of_memory e (term_at k (trimmed_text piece)) total (λ f refused. stops f front k piece others total refused so_far) h
 
 pub is_done : (front : List TermValue) (k : ℕ) (total : Reads) → with_front front (terms_at k []) ≡ total
     → total ≡ Ok front
@@ -70,7 +57,7 @@ at_turn : (parts : List (Bor (List ℕ))) (i : ℕ) (d : Bor (List ℕ)) → i <
 at_turn parts i d lt = ap texts (drop_more parts i d lt)
 
 pub goes_on_at : (front : List TermValue) (parts : List (Bor (List ℕ))) (i : ℕ) (d : Bor (List ℕ)) (n : TermValue) (total : Reads)
-    → i < length parts → term_at i (trimmed (get_or parts i d).now) ≡ Ok n
+    → i < length parts → term_at i (trimmed_text (get_or parts i d).now) ≡ Ok n
     → with_front front (terms_at i (texts (drop i parts))) ≡ total
     → with_front (front ++ n ∷ []) (terms_at (i + 1) (texts (drop (i + 1) parts))) ≡ total
 goes_on_at front parts i d n total lt h so_far =
@@ -78,8 +65,8 @@ goes_on_at front parts i d n total lt h so_far =
     (ap (λ (x : List (List ℕ)). with_front front (terms_at i x)) (sym (at_turn parts i d lt)) ∙ so_far)
 
 pub ends_at : (e : ActionFault) (front : List TermValue) (parts : List (Bor (List ℕ))) (i : ℕ) (d : Bor (List ℕ)) (total : Reads)
-    → i < length parts → Fails e (term_at i (trimmed (get_or parts i d).now))
-    → with_front front (terms_at i (texts (drop i parts))) ≡ total → Fails e total
+    → i < length parts → FailsUnless is_want_of_memory e (term_at i (trimmed_text (get_or parts i d).now))
+    → with_front front (terms_at i (texts (drop i parts))) ≡ total → FailsUnless is_want_of_memory e total
 ends_at e front parts i d total lt h so_far =
     ends e front i (get_or parts i d).now (texts (drop (i + 1) parts)) total h
     (ap (λ (x : List (List ℕ)). with_front front (terms_at i x)) (sym (at_turn parts i d lt)) ∙ so_far)

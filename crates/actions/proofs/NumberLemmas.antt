@@ -5,7 +5,7 @@ use Rattle.std.specs.Result.{OkIff, result_ok}
 use Rattle.std.specs.Str.Parse.{digits_value, ParsesUnsigned}
 use Rattle.std.proofs.lemmas.Bool.{cases_lt, lt-ltb, le-ltb, le-leb, lt-leb, ltb-true, leb-true, and_parts}
 use Rattle.std.proofs.lemmas.Str.Parse.{IsNumeralModel, numerals_by_value, parse_digits, digits_value_short}
-use Rattle.actions.specs.Numbers.{are_digits, number_at, short_number_at, decimals_at, filled}
+use Rattle.actions.specs.Numbers.{are_digits, number_at, short_number_at, decimals_at, four_decimals}
 
 pub own : IsNumeralModel (λ ds. are_digits ds ≡ true) (digits_value 10)
 own = numerals_by_value _ (search rules)
@@ -80,7 +80,7 @@ short_fits most bs (Some n) e =
 
 -- decimals filled with zeros
 pub filled_value : (ds : List ℕ) → 0 < length ds → length ds ≤ 4
-    → digits_value 10 (filled ds) ≡ digits_value 10 ds * 10 ^ (4 - length ds)
+    → digits_value 10 (four_decimals ds) ≡ digits_value 10 ds * 10 ^ (4 - length ds)
 filled_value [] some few = absurd (omega arith)
 filled_value (a ∷ []) some few = omega arith
 filled_value (a ∷ b ∷ []) some few = omega arith
@@ -90,7 +90,7 @@ filled_value (a ∷ b ∷ c ∷ d ∷ e ∷ ds) some few = absurd (omega arith)
 
 -- the ten-thousandths are below 10000
 pub filled_below : (ds : List ℕ) → are_digits ds ≡ true → 0 < length ds → length ds ≤ 4
-    → digits_value 10 (filled ds) < 10000
+    → digits_value 10 (four_decimals ds) < 10000
 filled_below [] d some few = absurd (omega arith)
 filled_below (a ∷ []) d some few = omega (arith, digits_below 1 (a ∷ []) d (omega arith))
 filled_below (a ∷ b ∷ []) d some few = omega (arith, digits_below 2 (a ∷ b ∷ []) d (omega arith))
@@ -104,5 +104,5 @@ unfolding decimals_at
 decimals_is ds n e =
     let p = short_parts 4 ds n e in
     let v = filled_value ds p.1 p.2 in
-    let same : digits_value 10 (filled ds) ≡ n * 10 ^ (4 - length ds) = rw (← p.3) v in
+    let same : digits_value 10 (four_decimals ds) ≡ n * 10 ^ (4 - length ds) = rw (← p.3) v in
     (rw e (ap Some same), rw (← same) (filled_below ds p.0 p.1 p.2))

@@ -12,7 +12,7 @@ use Rattle.std.proofs.lemmas.Iterator.Splits.{YieldsList-from_shown_while}
 use Rattle.actions.specs.Reading.{pieces}
 use Rattle.actions.proofs.ByteLemmas.{lacks}
 use Rattle.actions.specs.Bytes.{dash, greater_sign}
-use Rattle.actions.specs.Grammar.{arrow, LacksArrow, joined}
+use Rattle.actions.specs.Grammar.{arrow, LacksArrow, with_arrows}
 
 -- the two bytes aren't `->`
 not_arrow : (a b : ℕ) → (a ≡ dash → b ≡ greater_sign → ⊥) → (eqb a dash && eqb b greater_sign) ≡ false
@@ -107,7 +107,7 @@ no_arrow_from (a ∷ b ∷ bs) h =
 
 -- ---- the pieces, joined again
 
-joined_onto : (a : ℕ) (ps : List (List ℕ)) → joined (onto_first a ps) ≡ a ∷ joined ps
+joined_onto : (a : ℕ) (ps : List (List ℕ)) → with_arrows (onto_first a ps) ≡ a ∷ with_arrows ps
 joined_onto a [] = refl
 joined_onto a (p ∷ []) = refl
 joined_onto a (p ∷ q ∷ ps) = refl
@@ -124,17 +124,17 @@ some_pieces (a ∷ b ∷ bs) =
     cond_both (eqb a dash && eqb b greater_sign) ([] ∷ pieces bs) (onto_first a (pieces (b ∷ bs)))
     (λ (x : List (List ℕ)). 0 < length x) (λ _. omega arith) (λ _. some_onto a (pieces (b ∷ bs)))
 
-joined_empty : (ps : List (List ℕ)) → 0 < length ps → joined ([] ∷ ps) ≡ dash ∷ greater_sign ∷ joined ps
+joined_empty : (ps : List (List ℕ)) → 0 < length ps → with_arrows ([] ∷ ps) ≡ dash ∷ greater_sign ∷ with_arrows ps
 joined_empty [] h = absurd (omega arith)
 joined_empty (p ∷ ps) h = refl
 
-pub joined_pieces : (s : List ℕ) → joined (pieces s) ≡ s
+pub joined_pieces : (s : List ℕ) → with_arrows (pieces s) ≡ s
 unfolding pieces
 joined_pieces [] = refl
 joined_pieces (a ∷ []) = refl
 joined_pieces (a ∷ b ∷ bs) =
     cond_both (eqb a dash && eqb b greater_sign) ([] ∷ pieces bs) (onto_first a (pieces (b ∷ bs)))
-    (λ (x : List (List ℕ)). joined x ≡ a ∷ b ∷ bs)
+    (λ (x : List (List ℕ)). with_arrows x ≡ a ∷ b ∷ bs)
     (λ e.
     let both = and_parts (eqb a dash) (eqb b greater_sign) e in
     joined_empty (pieces bs) (some_pieces bs) ∙ ap (λ (x : List ℕ). dash ∷ greater_sign ∷ x) (joined_pieces bs)
@@ -199,11 +199,11 @@ cut_first (a ∷ b ∷ xs) ys h =
     let later : pieces ((b ∷ xs) ++ dash ∷ greater_sign ∷ ys) ≡ (b ∷ xs) ∷ pieces ys = cut_first (b ∷ xs) ys both.1 in
     rw (not-true (eqb a dash && eqb b greater_sign) both.0, later) refl
 
-pub pieces_joined : (ps : List (List ℕ)) → 0 < length ps → NoArrows ps → pieces (joined ps) ≡ ps
+pub pieces_joined : (ps : List (List ℕ)) → 0 < length ps → NoArrows ps → pieces (with_arrows ps) ≡ ps
 pieces_joined [] some h = absurd (omega arith)
 pieces_joined (p ∷ []) some h = cut_none p h.0
 pieces_joined (p ∷ q ∷ ps) some h =
-    cut_first p (joined (q ∷ ps)) h.0 ∙ ap (λ (x : List (List ℕ)). p ∷ x) (pieces_joined (q ∷ ps) (omega arith) h.1)
+    cut_first p (with_arrows (q ∷ ps)) h.0 ∙ ap (λ (x : List (List ℕ)). p ∷ x) (pieces_joined (q ∷ ps) (omega arith) h.1)
 
 -- ---- `->` in a part and in a whole
 

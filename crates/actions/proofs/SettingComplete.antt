@@ -6,7 +6,7 @@ use Rattle.std.proofs.lemmas.List.{append-nil, same_from_push}
 use Rattle.actions.specs.Bytes.{equals_sign, semicolon, space}
 use Rattle.actions.specs.Names.{is_name, is_name_byte}
 use Rattle.actions.specs.Grammar.{IsPlain, SpellsActions}
-use Rattle.actions.specs.Reading.{trimmed}
+use Rattle.actions.specs.Reading.{trimmed_text}
 use Rattle.actions.specs.SettingGrammar.{Entry, blank, setting, entry_text, EndsBare, SetEach, SpellsSetting}
 use Rattle.actions.specs.SettingReading.{entry_at, entries_at, entries, setting_reading}
 use Rattle.actions.proofs.ByteLemmas.{lacks, lacks-append, lacks_from, has_at, before_at, after_at}
@@ -77,10 +77,10 @@ bare_behind name (t ∷ ts) bare front e =
     bare rest (parts ∙ ap (λ (x : ℕ). rest ++ x ∷ []) is_space)
 
 trimmed_setting : (m : ℕ) (name text : List ℕ) (n : ℕ) → is_name name ≡ true → EndsBare text
-    → trimmed (entry_text (setting m name text n)) ≡ name ++ equals_sign ∷ text
+    → trimmed_text (entry_text (setting m name text n)) ≡ name ++ equals_sign ∷ text
 trimmed_setting m name text n named bare =
     let tail = equals_sign ∷ (text ++ replicate n space) in
-    ap (λ (x : List ℕ). trimmed (replicate m space ++ x)) (sym (append_assoc name (equals_sign ∷ text) (replicate n space)))
+    ap (λ (x : List ℕ). trimmed_text (replicate m space ++ x)) (sym (append_assoc name (equals_sign ∷ text) (replicate n space)))
     ∙ trimmed_between m n (name ++ equals_sign ∷ text)
     (λ rest e. begins_without space name tail (name_lacks space name refl named) (name_parts name named).0 rest
     (sym (append_assoc name (equals_sign ∷ text) (replicate n space)) ∙ e))
@@ -101,9 +101,9 @@ entry_complete k name text point named same spelled =
 
 -- ---- the entries
 
-trimmed_blank : (n : ℕ) → trimmed (replicate n space) ≡ []
+trimmed_blank : (n : ℕ) → trimmed_text (replicate n space) ≡ []
 trimmed_blank n =
-    ap (λ (x : List ℕ). trimmed x) (sym (append-nil (replicate n space)))
+    ap (λ (x : List ℕ). trimmed_text x) (sym (append-nil (replicate n space)))
     ∙ trimmed_between n 0 [] (λ rest e. omega (arith, ap length e))
     (λ front e. omega (arith, ap length e, length-append front (space ∷ [])))
 
@@ -112,7 +112,7 @@ some_setting name text =
     lt-ltb 0 (length (name ++ equals_sign ∷ text)) (omega (arith, length-append name (equals_sign ∷ text)))
 
 parts_complete : (k : ℕ) (es : List Entry) (points : List Point) → SetEach es points
-    → entries_at k (filter nonempty (map trimmed (map entry_text es))) ≡ Ok points
+    → entries_at k (filter nonempty (map trimmed_text (map entry_text es))) ≡ Ok points
 unfolding entries_at
 parts_complete k [] [] h = refl
 parts_complete k [] (point ∷ points) h = absurd h
@@ -150,7 +150,7 @@ unfolding entries
 entries_complete [] [] h = parts_complete 0 (blank 0 ∷ []) [] tt
 entries_complete [] (point ∷ points) h = absurd h
 entries_complete (e ∷ es) points h =
-    ap (λ (x : List (List ℕ)). entries_at 0 (filter nonempty (map trimmed x)))
+    ap (λ (x : List (List ℕ)). entries_at 0 (filter nonempty (map trimmed_text x)))
     (split_joined semicolon (entry_text e) (map entry_text es) (all_lack (e ∷ es) points h))
     ∙ parts_complete 0 (e ∷ es) points h
 

@@ -6,17 +6,19 @@ use Rattle.std.proofs.lemmas.Bool.{cases_eq, eq-eqb, ne_eqb, not-false, ltb-fals
 use Rattle.std.proofs.lemmas.List.{nil_from_length, same_from_push, replicate-append-replicate}
 use Rattle.std.proofs.lemmas.List.Splits.{join_with_byte-slice_split}
 use Rattle.actions.specs.declared.fault.SettingFault.TheVariants as faults
-use Rattle.actions.specs.Bytes.{has, before, after, onto_kept, without_end, equals_sign, semicolon, space}
+use Rattle.actions.specs.Bytes.{has_byte, text_before, text_after, onto_kept, without_end, equals_sign, semicolon, space}
 use Rattle.actions.specs.Names.{is_name}
 use Rattle.actions.specs.Grammar.{SpellsActions}
-use Rattle.actions.specs.Reading.{front_trimmed, reading, trimmed}
+use Rattle.actions.specs.Reading.{front_trimmed_text, reading, trimmed_text}
 use Rattle.actions.specs.SettingGrammar
 use Rattle.actions.specs.SettingGrammar.{Entry, entry_text, EndsBare, SetEach, SpellsSetting}
-use Rattle.actions.specs.SettingReading.{◌>>=◌, terms_read, entry_at, entries_at, entries, setting_reading}
+use Rattle.refusals.specs.Refusals.{◌>>=◌}
+use Rattle.refusals.proofs.StepLemmas.{bind_ok, ok_is, err_is_ok}
+use Rattle.actions.specs.SettingReading.{terms_read, entry_at, entries_at, entries, setting_reading}
 use Rattle.actions.proofs.ByteLemmas.{branch, parts_at}
 use Rattle.actions.proofs.TrimLemmas.{trimmed_parts}
 use Rattle.actions.proofs.Sound.{reading_sound}
-use Rattle.actions.proofs.EntryLemmas.{Point, nonempty, bind_ok, ok_is, err_is_ok, terms_ok}
+use Rattle.actions.proofs.EntryLemmas.{Point, nonempty, terms_ok}
 
 -- ---- what trimming leaves has no space at its end
 
@@ -36,9 +38,9 @@ without_end_bare : (c : ℕ) (s front : List ℕ) → without_end c s ≢ front 
 without_end_bare c [] front e = omega (arith, ap length e, length-append front (c ∷ []))
 without_end_bare c (b ∷ bs) front e = kept_bare c b (without_end c bs) (without_end_bare c bs) front e
 
-trimmed_bare : (s : List ℕ) → EndsBare (trimmed s)
-unfolding trimmed
-trimmed_bare s = without_end_bare space (front_trimmed s)
+trimmed_bare : (s : List ℕ) → EndsBare (trimmed_text s)
+unfolding trimmed_text
+trimmed_bare s = without_end_bare space (front_trimmed_text s)
 
 -- ---- one entry
 
@@ -47,16 +49,16 @@ abbrev Sets : List ℕ → List ℕ → Point → Type 0
 Sets name text point = IsTrue (is_name name) × (point.0 ≡ name) × SpellsActions text point.1 × EndsBare text
 
 entry_sound : (k : ℕ) (entry : List ℕ) (point : Point) → EndsBare entry → entry_at k entry ≡ Ok point
-    → Sets (before equals_sign entry) (after equals_sign entry) point
-    × (entry ≡ before equals_sign entry ++ equals_sign ∷ after equals_sign entry)
+    → Sets (text_before equals_sign entry) (text_after equals_sign entry) point
+    × (entry ≡ text_before equals_sign entry ++ equals_sign ∷ text_after equals_sign entry)
 unfolding entry_at
 entry_sound k entry point bare e =
-    let name = before equals_sign entry in
-    let text = after equals_sign entry in
-    branch (not (has equals_sign entry)) _ _ _
+    let name = text_before equals_sign entry in
+    let text = text_after equals_sign entry in
+    branch (not (has_byte equals_sign entry)) _ _ _
     (λ _ given. err_is_ok (faults.NoEquals k) point given)
     (λ there given.
-    let parts = parts_at equals_sign entry (not-false (has equals_sign entry) there) in
+    let parts = parts_at equals_sign entry (not-false (has_byte equals_sign entry) there) in
     branch (not (is_name name)) _ _ _
     (λ _ found. err_is_ok (faults.BadName k) point found)
     (λ named found.
@@ -72,10 +74,10 @@ entry_sound k entry point bare e =
 
 -- ---- the entries
 
-blank_part : (part : List ℕ) → nonempty (trimmed part) ≡ false → (n : ℕ) × (part ≡ replicate n space)
+blank_part : (part : List ℕ) → nonempty (trimmed_text part) ≡ false → (n : ℕ) × (part ≡ replicate n space)
 blank_part part empty =
     let p = trimmed_parts part in
-    let nothing = nil_from_length (trimmed part) (omega (arith, ltb-false 0 (length (trimmed part)) empty)) in (
+    let nothing = nil_from_length (trimmed_text part) (omega (arith, ltb-false 0 (length (trimmed_text part)) empty)) in (
       p.0 + p.1,
       p.2 ∙ ap (λ (x : List ℕ). replicate p.0 space ++ (x ++ replicate p.1 space)) nothing
           ∙ replicate-append-replicate p.0 p.1 space,
@@ -85,7 +87,7 @@ blank_part part empty =
 abbrev Written : List (List ℕ) → List Point → Type 0
 Written parts points = (es : List Entry) × SetEach es points × (parts ≡ map entry_text es)
 
-blank_written : (part : List ℕ) (parts : List (List ℕ)) (points : List Point) → nonempty (trimmed part) ≡ false
+blank_written : (part : List ℕ) (parts : List (List ℕ)) (points : List Point) → nonempty (trimmed_text part) ≡ false
     → Written parts points → Written (part ∷ parts) points
 blank_written part parts points empty others =
     let p = blank_part part empty in (
@@ -95,12 +97,12 @@ blank_written part parts points empty others =
     )
 
 set_written : (k : ℕ) (part : List ℕ) (parts : List (List ℕ)) (point : Point) (points : List Point)
-    → entry_at k (trimmed part) ≡ Ok point → Written parts points → Written (part ∷ parts) (point ∷ points)
+    → entry_at k (trimmed_text part) ≡ Ok point → Written parts points → Written (part ∷ parts) (point ∷ points)
 set_written k part parts point points read others =
     let p = trimmed_parts part in
-    let s = entry_sound k (trimmed part) point (trimmed_bare part) read in
-    let name = before equals_sign (trimmed part) in
-    let text = after equals_sign (trimmed part) in
+    let s = entry_sound k (trimmed_text part) point (trimmed_bare part) read in
+    let name = text_before equals_sign (trimmed_text part) in
+    let text = text_after equals_sign (trimmed_text part) in
     let whole : part ≡ replicate p.0 space ++ (name ++ equals_sign ∷ (text ++ replicate p.1 space)) =
     p.2 ∙ ap (λ (x : List ℕ). replicate p.0 space ++ (x ++ replicate p.1 space)) s.1
     ∙ ap (λ (x : List ℕ). replicate p.0 space ++ x) (append_assoc name (equals_sign ∷ text) (replicate p.1 space)) in (
@@ -118,14 +120,14 @@ turn k true entry others points kept dropped e = kept refl e
 turn k false entry others points kept dropped e = dropped refl e
 
 parts_sound : (k : ℕ) (parts : List (List ℕ)) (points : List Point)
-    → entries_at k (filter nonempty (map trimmed parts)) ≡ Ok points → Written parts points
+    → entries_at k (filter nonempty (map trimmed_text parts)) ≡ Ok points → Written parts points
 unfolding entries_at
 parts_sound k [] points e = subst (λ (ps : List Point). Written [] ps) (ok_is [] points e) ([], tt, refl)
 parts_sound k (part ∷ parts) points e =
-    let others = filter nonempty (map trimmed parts) in
-    turn k (nonempty (trimmed part)) (trimmed part) others points
+    let others = filter nonempty (map trimmed_text parts) in
+    turn k (nonempty (trimmed_text part)) (trimmed_text part) others points
     (λ _ read.
-    let a = bind_ok (entry_at k (trimmed part)) (λ first. entries_at (k + 1) others >>= λ rest. Ok (first ∷ rest)) points read in
+    let a = bind_ok (entry_at k (trimmed_text part)) (λ first. entries_at (k + 1) others >>= λ rest. Ok (first ∷ rest)) points read in
     let b = bind_ok (entries_at (k + 1) others) (λ rest. Ok (a.0 ∷ rest)) points a.2 in
     subst (λ (ps : List Point). Written (part ∷ parts) ps) (ok_is (a.0 ∷ b.0) points b.2)
     (set_written k part parts a.0 b.0 a.1 (parts_sound (k + 1) parts b.0 b.1)))

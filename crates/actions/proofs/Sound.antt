@@ -1,22 +1,24 @@
 -- What is read is spelled so.
 use Rattle.std.proofs.Common.{◌≡◌, ℕ, suc, ◌+◌, ◌-◌, ◌*◌, ◌^◌, ◌<◌, ◌≤◌, true, false, cond, eqb, ltb, leb, not, ◌&&◌, List, [], ◌∷◌, ◌++◌, length, get_or, take, replicate, Option, Some, None, Result, Ok, Err, refl, sym, ap, subst, ◌∙◌, arith, append_assoc, length-append}
-use Rattle.std.specs.Prelude.{codes, bytes_eq, option_and_then, position, ◌||◌}
+use Rattle.std.specs.Prelude.{codes, bytes_eq, ok_or, option_and_then, position, ◌||◌}
 use Rattle.std.specs.List.{AllByRecursion, position_or_len}
 use Rattle.std.proofs.lemmas.List.Sums.{prefix_len-le-length}
 use Rattle.std.specs.Str.Parse.{IsNumeral, digits_value}
 use Rattle.std.proofs.lemmas.Bool.{eqb-true, ltb-true, ltb-false, leb-true, and_parts, not-false, not-true, or_parts, eqb-false}
 use Rattle.std.proofs.lemmas.List.{append-nil, take_at}
 use Rattle.std.proofs.lemmas.Slice.Eq.{bytes_eq-Decides}
+use Rattle.refusals.specs.Refusals.{◌>>=◌}
+use Rattle.refusals.proofs.StepLemmas.{bind_ok, gives, ok_is, err_is_ok}
 use Rattle.actions.specs.declared.fault.ActionFault.{ActionFault}
 use Rattle.actions.specs.declared.fault.ActionFault.TheVariants as faults
 use Rattle.actions.specs.Value.{TaskValue, off, «return», sleep, panic, print, pause, yield, delay, TermValue}
-use Rattle.actions.specs.Numbers.{are_digits, number_at, short_number_at, decimals_at, percent_at, filled}
-use Rattle.actions.specs.Bytes.{has, before, after, closing, delete, opening, percent_sign, point, semicolon, space, star}
-use Rattle.actions.specs.Reading.{◌>>=◌, or_refuse, argument_at, chance_at, count_at, time_at, task_at, term_at, terms_at, trimmed, is_bad_byte, barred, reading, pieces}
+use Rattle.actions.specs.Numbers.{are_digits, number_at, short_number_at, decimals_at, percent_at, four_decimals}
+use Rattle.actions.specs.Bytes.{has_byte, text_before, text_after, closing_parenthesis, delete, opening_parenthesis, percent_sign, point, semicolon, space, star}
+use Rattle.actions.specs.Reading.{argument_at, chance_at, count_at, time_at, task_at, term_at, terms_at, trimmed_text, is_bad_byte, unless_bad_byte, reading, pieces}
 use Rattle.actions.specs.Grammar
-use Rattle.actions.specs.Grammar.{Percent, percent_text, PercentIs, chance_text, ChanceIs, count_text, CountIs, word_of, argument_text, TimeIs, ArgumentIs, Written, core_text, written_text, Means, SpellsTerm, SpellEach, SpellsActions, IsPlain, IsShort, IsNumber}
+use Rattle.actions.specs.Grammar.{Percent, percent_text, PercentIs, chance_text, ChanceIs, count_text, CountIs, word_of, argument_text, TimeIs, ArgumentIs, WrittenTerm, core_text, written_text, Means, SpellsTerm, SpellEach, SpellsActions, IsPlain, IsShort, IsNumber}
 use Rattle.actions.proofs.NumberLemmas.{own, guard_some, short_parts}
-use Rattle.actions.proofs.ByteLemmas.{branch, bind_ok, refuse_ok, done, ok_is, err_is_ok, parts_at}
+use Rattle.actions.proofs.ByteLemmas.{branch, refuse_ok, parts_at}
 use Rattle.actions.proofs.TermLemmas.{last_of}
 use Rattle.actions.proofs.TrimLemmas.{trimmed_parts}
 use Rattle.actions.proofs.PieceLemmas.{NoArrows, lacks_arrow, none_in_pieces, some_pieces, joined_pieces}
@@ -45,11 +47,11 @@ some_bind : {A B : Type 0} (o : Option A) (f : A → Option B) (y : B) → optio
 some_bind (Some x) f y e = (x, refl, e)
 some_bind None f y e = absurd cc
 
-decimals_sound : (ds : List ℕ) (n : ℕ) → decimals_at ds ≡ Some n → IsShort 4 ds × (digits_value 10 (filled ds) ≡ n)
+decimals_sound : (ds : List ℕ) (n : ℕ) → decimals_at ds ≡ Some n → IsShort 4 ds × (digits_value 10 (four_decimals ds) ≡ n)
 unfolding decimals_at
 decimals_sound ds n e =
-    let a = some_bind (short_number_at 4 ds) (λ _. Some (digits_value 10 (filled ds))) n e in
-    let same : digits_value 10 (filled ds) ≡ n = let f = a.2 in cc in
+    let a = some_bind (short_number_at 4 ds) (λ _. Some (digits_value 10 (four_decimals ds))) n e in
+    let same : digits_value 10 (four_decimals ds) ≡ n = let f = a.2 in cc in
     ((short_sound 4 ds a.0 a.1).0, same)
 
 -- a percentage is at most all parts
@@ -63,7 +65,7 @@ pub percent_sound : (text : List ℕ) (ppm : ℕ) → percent_at text ≡ Some p
     → (p : Percent) × PercentIs p ppm × (text ≡ percent_text p)
 unfolding percent_at
 percent_sound text ppm e =
-    branch (not (has point text)) _ _ _
+    branch (not (has_byte point text)) _ _ _
     (λ lacking given.
     let a =
     some_bind (short_number_at 3 text) (λ n. cond (leb (n * 10000) 1000000) (Some (n * 10000)) None) ppm given in
@@ -73,21 +75,21 @@ percent_sound text ppm e =
     (Grammar.whole text, (s.0, value, c.1), refl))
     (λ there given.
     let a =
-    some_bind (short_number_at 3 (before point text))
+    some_bind (short_number_at 3 (text_before point text))
     (λ n. option_and_then (λ part. cond (leb (n * 10000 + part) 1000000) (Some (n * 10000 + part)) None)
-    (decimals_at (after point text))) ppm given in
+    (decimals_at (text_after point text))) ppm given in
     let b =
-    some_bind (decimals_at (after point text))
+    some_bind (decimals_at (text_after point text))
     (λ part. cond (leb (a.0 * 10000 + part) 1000000) (Some (a.0 * 10000 + part)) None) ppm a.2 in
-    let s = short_sound 3 (before point text) a.0 a.1 in
-    let d = decimals_sound (after point text) b.0 b.1 in
+    let s = short_sound 3 (text_before point text) a.0 a.1 in
+    let d = decimals_sound (text_after point text) b.0 b.1 in
     let c = capped (a.0 * 10000 + b.0) ppm b.2 in
-    let value : ppm ≡ digits_value 10 (before point text) * 10000 + digits_value 10 (filled (after point text)) =
+    let value : ppm ≡ digits_value 10 (text_before point text) * 10000 + digits_value 10 (four_decimals (text_after point text)) =
     omega (arith, c.0, s.1, d.1) in (
-      Grammar.pointed (before point text) (after point text),
+      Grammar.pointed (text_before point text) (text_after point text),
       (s.0, d.0, value, c.1),
       parts_at point text
-          (not-false (has point text) there),
+          (not-false (has_byte point text) there),
     ))
     e
 
@@ -97,26 +99,26 @@ argument_sound : (k : ℕ) (text head : List ℕ) (argument : Option (List ℕ))
     → text ≡ head ++ argument_text argument
 unfolding argument_at
 argument_sound k text head argument e =
-    branch (not (has opening text)) _ _ _
+    branch (not (has_byte opening_parenthesis text)) _ _ _
     (λ lacking given.
     let same = ok_is (text, None) (head, argument) given in
     subst (λ (p : List ℕ × Option (List ℕ)). text ≡ p.0 ++ argument_text p.1) same (sym (append-nil text)))
     (λ there given.
-    let parts = parts_at opening text (not-false (has opening text) there) in
-    let a = after opening text in
-    branch (eqb (get_or text (length text - 1) 0) closing) _ _ _
+    let parts = parts_at opening_parenthesis text (not-false (has_byte opening_parenthesis text) there) in
+    let a = text_after opening_parenthesis text in
+    branch (eqb (get_or text (length text - 1) 0) closing_parenthesis) _ _ _
     (λ closed found.
-    let last = eqb-true (get_or text (length text - 1) 0) closing closed in
-    let l = last_of (before opening text) a (subst (λ (t : List ℕ). get_or t (length t - 1) 0 ≡ closing) parts last) in
+    let last = eqb-true (get_or text (length text - 1) 0) closing_parenthesis closed in
+    let l = last_of (text_before opening_parenthesis text) a (subst (λ (t : List ℕ). get_or t (length t - 1) 0 ≡ closing_parenthesis) parts last) in
     let inner : take (length a - 1) a ≡ l.0 =
     ap (λ (x : List ℕ). take (length x - 1) x) l.1
-    ∙ take_at l.0 (closing ∷ []) (length (l.0 ++ closing ∷ []) - 1) (omega (arith, length-append l.0 (closing ∷ []))) in
-    let whole : text ≡ before opening text ++ argument_text (Some (take (length a - 1) a)) =
+    ∙ take_at l.0 (closing_parenthesis ∷ []) (length (l.0 ++ closing_parenthesis ∷ []) - 1) (omega (arith, length-append l.0 (closing_parenthesis ∷ []))) in
+    let whole : text ≡ text_before opening_parenthesis text ++ argument_text (Some (take (length a - 1) a)) =
     parts
-    ∙ ap (λ (x : List ℕ). before opening text ++ opening ∷ x)
-    (l.1 ∙ ap (λ (x : List ℕ). x ++ closing ∷ []) (sym inner)) in
+    ∙ ap (λ (x : List ℕ). text_before opening_parenthesis text ++ opening_parenthesis ∷ x)
+    (l.1 ∙ ap (λ (x : List ℕ). x ++ closing_parenthesis ∷ []) (sym inner)) in
     subst (λ (p : List ℕ × Option (List ℕ)). text ≡ p.0 ++ argument_text p.1)
-    (ok_is (before opening text, Some (take (length a - 1) a)) (head, argument) found) whole)
+    (ok_is (text_before opening_parenthesis text, Some (take (length a - 1) a)) (head, argument) found) whole)
     (λ unclosed found. err_is_ok (faults.Unclosed k) (head, argument) found)
     given)
     e
@@ -125,44 +127,44 @@ chance_sound : (k : ℕ) (head : List ℕ) (ppm : ℕ) (rest : List ℕ) → cha
     → (ch : Option Percent) × ChanceIs ch ppm × (head ≡ chance_text ch ++ rest)
 unfolding chance_at
 chance_sound k head ppm rest e =
-    branch (not (has percent_sign head)) _ _ _
+    branch (not (has_byte percent_sign head)) _ _ _
     (λ lacking given.
     subst (λ (p : ℕ × List ℕ). (ch : Option Percent) × ChanceIs ch p.0 × (head ≡ chance_text ch ++ p.1))
     (ok_is (1000000, head) (ppm, rest) given) (None, refl, refl))
     (λ there given.
-    let parts = parts_at percent_sign head (not-false (has percent_sign head) there) in
+    let parts = parts_at percent_sign head (not-false (has_byte percent_sign head) there) in
     let b =
-    bind_ok (or_refuse (faults.BadPercent k) (percent_at (before percent_sign head)))
-    (λ n. Ok (n, after percent_sign head)) (ppm, rest) given in
+    bind_ok (ok_or (percent_at (text_before percent_sign head)) (faults.BadPercent k))
+    (λ n. Ok (n, text_after percent_sign head)) (ppm, rest) given in
     let p =
-    percent_sound (before percent_sign head) b.0
-    (refuse_ok (faults.BadPercent k) (percent_at (before percent_sign head)) b.0 b.1) in
-    let whole : head ≡ chance_text (Some p.0) ++ after percent_sign head =
-    parts ∙ ap (λ (x : List ℕ). x ++ percent_sign ∷ after percent_sign head) p.2
-    ∙ sym (append_assoc (percent_text p.0) (percent_sign ∷ []) (after percent_sign head)) in
+    percent_sound (text_before percent_sign head) b.0
+    (refuse_ok (faults.BadPercent k) (percent_at (text_before percent_sign head)) b.0 b.1) in
+    let whole : head ≡ chance_text (Some p.0) ++ text_after percent_sign head =
+    parts ∙ ap (λ (x : List ℕ). x ++ percent_sign ∷ text_after percent_sign head) p.2
+    ∙ sym (append_assoc (percent_text p.0) (percent_sign ∷ []) (text_after percent_sign head)) in
     subst (λ (q : ℕ × List ℕ). (ch : Option Percent) × ChanceIs ch q.0 × (head ≡ chance_text ch ++ q.1))
-    (ok_is (b.0, after percent_sign head) (ppm, rest) b.2) (Some p.0, p.1, whole))
+    (ok_is (b.0, text_after percent_sign head) (ppm, rest) b.2) (Some p.0, p.1, whole))
     e
 
 count_sound : (k : ℕ) (head : List ℕ) (n : Option ℕ) (rest : List ℕ) → count_at k head ≡ Ok (n, rest)
     → (ds : Option (List ℕ)) × CountIs ds n × (head ≡ count_text ds ++ rest)
 unfolding count_at
 count_sound k head n rest e =
-    branch (not (has star head)) _ _ _
+    branch (not (has_byte star head)) _ _ _
     (λ lacking given.
     subst (λ (p : Option ℕ × List ℕ). (ds : Option (List ℕ)) × CountIs ds p.0 × (head ≡ count_text ds ++ p.1))
     (ok_is (None, head) (n, rest) given) (None, tt, refl))
     (λ there given.
-    let parts = parts_at star head (not-false (has star head) there) in
+    let parts = parts_at star head (not-false (has_byte star head) there) in
     let b =
-    bind_ok (or_refuse (faults.BadCount k) (number_at (before star head))) (λ n. Ok (Some n, after star head))
+    bind_ok (ok_or (number_at (text_before star head)) (faults.BadCount k)) (λ n. Ok (Some n, text_after star head))
     (n, rest) given in
     let p =
-    number_sound (before star head) b.0 (refuse_ok (faults.BadCount k) (number_at (before star head)) b.0 b.1) in
-    let whole : head ≡ count_text (Some (before star head)) ++ after star head =
-    parts ∙ sym (append_assoc (before star head) (star ∷ []) (after star head)) in
+    number_sound (text_before star head) b.0 (refuse_ok (faults.BadCount k) (number_at (text_before star head)) b.0 b.1) in
+    let whole : head ≡ count_text (Some (text_before star head)) ++ text_after star head =
+    parts ∙ sym (append_assoc (text_before star head) (star ∷ []) (text_after star head)) in
     subst (λ (q : Option ℕ × List ℕ). (ds : Option (List ℕ)) × CountIs ds q.0 × (head ≡ count_text ds ++ q.1))
-    (ok_is (Some b.0, after star head) (n, rest) b.2) (Some (before star head), p, whole))
+    (ok_is (Some b.0, text_after star head) (n, rest) b.2) (Some (text_before star head), p, whole))
     e
 
 time_sound : (k : ℕ) (argument : Option (List ℕ)) (n : ℕ) → time_at k argument ≡ Ok n → TimeIs argument n
@@ -178,7 +180,7 @@ is_word : (word w : List ℕ) → bytes_eq word w ≡ true → word ≡ w
 is_word word w e = (bytes_eq-Decides word w).0 e
 
 made : (word : List ℕ) (argument : Option (List ℕ)) (a task : TaskValue) → bytes_eq word (word_of a) ≡ true
-    → ArgumentIs argument a → Ok a ≡ done task → Fits word argument task
+    → ArgumentIs argument a → Ok a ≡ gives ActionFault task → Fits word argument task
 made word argument a task e h given = subst (Fits word argument) (ok_is a task given) (is_word word (word_of a) e, h)
 
 task_sound : (k : ℕ) (word : List ℕ) (argument : Option (List ℕ)) (task : TaskValue) → task_at k word argument ≡ Ok task
@@ -202,7 +204,7 @@ task_sound k word argument task e =
     g) g) g) g) g) g) g) g) e
 
 term_sound : (k : ℕ) (text : List ℕ) (t : TermValue) → term_at k text ≡ Ok t
-    → (w : Written) × Means w t × (text ≡ core_text w)
+    → (w : WrittenTerm) × Means w t × (text ≡ core_text w)
 unfolding term_at
 term_sound k text t e =
     let a = bind_ok (argument_at k text) (λ parts. do
@@ -222,7 +224,7 @@ term_sound k text t e =
     let chance = chance_sound k a.0.0 b.0.0 b.0.1 b.1 in
     let count = count_sound k b.0.1 c.0.0 c.0.1 c.1 in
     let task = task_sound k c.0.1 a.0.1 d.0 d.1 in
-    let w : Written =
+    let w : WrittenTerm =
     record { before = 0; chance = chance.0; count = count.0; word = c.0.1; argument = a.0.1; after = 0 } in
     let made : TermValue = record { ppm = b.0.0; count = c.0.0; task = d.0 } in
     let means : Means w made = record { chance = chance.1; count = count.1; word = task.0; argument = task.1 } in
@@ -231,14 +233,14 @@ term_sound k text t e =
     let whole : text ≡ core_text w = argument ∙ ap (λ (x : List ℕ). x ++ argument_text a.0.1) heads
     ∙ append_assoc (chance_text chance.0) (count_text count.0 ++ c.0.1) (argument_text a.0.1)
     ∙ ap (λ (x : List ℕ). chance_text chance.0 ++ x) (append_assoc (count_text count.0) c.0.1 (argument_text a.0.1)) in
-    subst (λ (u : TermValue). (v : Written) × Means v u × (text ≡ core_text v)) (ok_is made t d.2) (w, means, whole)
+    subst (λ (u : TermValue). (v : WrittenTerm) × Means v u × (text ≡ core_text v)) (ok_is made t d.2) (w, means, whole)
 
 -- with spaces round it
-piece_sound : (k : ℕ) (piece : List ℕ) (t : TermValue) → term_at k (trimmed piece) ≡ Ok t → SpellsTerm piece t
+piece_sound : (k : ℕ) (piece : List ℕ) (t : TermValue) → term_at k (trimmed_text piece) ≡ Ok t → SpellsTerm piece t
 piece_sound k piece t e =
-    let s = term_sound k (trimmed piece) t e in
+    let s = term_sound k (trimmed_text piece) t e in
     let p = trimmed_parts piece in
-    let w : Written = record s.0 { before = p.0; after = p.1 } in
+    let w : WrittenTerm = record s.0 { before = p.0; after = p.1 } in
     let means : Means w t = record { chance = s.1.chance; count = s.1.count; word = s.1.word; argument = s.1.argument } in
     (w, means, p.2 ∙ ap (λ (x : List ℕ). replicate p.0 space ++ (x ++ replicate p.1 space)) s.2)
 
@@ -248,7 +250,7 @@ unfolding terms_at
 terms_sound k [] ts h e =
     subst (λ (us : List TermValue). SpellEach [] us × (length {A = List ℕ} [] ≡ length us)) (ok_is [] ts e) (tt, refl)
 terms_sound k (p ∷ ps) ts h e =
-    let a = bind_ok (term_at k (trimmed p)) (λ first. terms_at (k + 1) ps >>= λ rest. Ok (first ∷ rest)) ts e in
+    let a = bind_ok (term_at k (trimmed_text p)) (λ first. terms_at (k + 1) ps >>= λ rest. Ok (first ∷ rest)) ts e in
     let b = bind_ok (terms_at (k + 1) ps) (λ rest. Ok (a.0 ∷ rest)) ts a.2 in
     let others = terms_sound (k + 1) ps b.0 h.1 b.1 in
     subst (λ (us : List TermValue). SpellEach (p ∷ ps) us × (suc (length ps) ≡ length us)) (ok_is (a.0 ∷ b.0) ts b.2)
@@ -270,7 +272,7 @@ all_plain (b ∷ bs) e =
     (λ _ none. absurd (omega (arith, none)))
     e
 
-not_barred : (o : Option ℕ) (read : Result (List TermValue) ActionFault) (ts : List TermValue) → barred o read ≡ Ok ts
+not_barred : (o : Option ℕ) (read : Result (List TermValue) ActionFault) (ts : List TermValue) → unless_bad_byte o read ≡ Ok ts
     → (o ≡ None) × (read ≡ Ok ts)
 not_barred (Some i) read ts e = err_is_ok (faults.BadByte i) ts e
 not_barred None read ts e = (refl, e)

@@ -6,20 +6,20 @@ use Rattle.std.proofs.lemmas.Bool.{cases_eq, eq-eqb, ne_eqb}
 use Rattle.std.proofs.lemmas.List.{take-append-drop, drop_all, append-nil}
 use lib.Utf8.{encode}
 use Rattle.actions.specs.Bytes.{onto_kept, without_end, space}
-use Rattle.actions.specs.Reading.{front_trimmed, trimmed}
+use Rattle.actions.specs.Reading.{front_trimmed_text, trimmed_text}
 
 -- ---- at the front
 
 pub front_same : (s : List ℕ) (ns : List ℕ) (r : List ℕ) → CutsPrefixes (FindsCharPrefix space) s ns r
-    → front_trimmed s ≡ front_trimmed r
+    → front_trimmed_text s ≡ front_trimmed_text r
 unfolding encode
-front_same s [] r h = ap front_trimmed (sym h)
+front_same s [] r h = ap front_trimmed_text (sym h)
 front_same s (n ∷ ns) r h =
     let m = h.0 in
     let whole : m ≡ space ∷ drop n m = h.2.split in
-    front_same s ns m h.1 ∙ ap front_trimmed whole ∙ ap front_trimmed (sym h.3)
+    front_same s ns m h.1 ∙ ap front_trimmed_text whole ∙ ap front_trimmed_text (sym h.3)
 
-pub front_kept : (r : List ℕ) → ((rest : List ℕ) → r ≢ space ∷ rest) → front_trimmed r ≡ r
+pub front_kept : (r : List ℕ) → ((rest : List ℕ) → r ≢ space ∷ rest) → front_trimmed_text r ≡ r
 front_kept [] h = refl
 front_kept (b ∷ bs) h = rw (ne_eqb b space (λ e. h bs (ap (λ (c : ℕ). c ∷ bs) e))) refl
 
@@ -29,7 +29,7 @@ unfolding encode
 front_left r None h z = h
 front_left r (Some n) h z = λ rest e. omega (arith, h.ends, z)
 
-pub front_is : (s r : List ℕ) → IsTrimStartMatches (FindsCharPrefix space) s r → front_trimmed s ≡ r
+pub front_is : (s r : List ℕ) → IsTrimStartMatches (FindsCharPrefix space) s r → front_trimmed_text s ≡ r
 front_is s r h = front_same s h.0.0 r h.0.1 ∙ front_kept r (front_left r h.1.0 h.1.1 h.1.2)
 
 -- ---- at the end
@@ -71,13 +71,13 @@ pub end_is : (s r : List ℕ) → IsTrimEndMatches (FindsCharSuffix space) s r �
 end_is s r h = end_same s h.0.0 r h.0.1 ∙ end_kept space r (end_left r h.1.0 h.1.1 h.1.2)
 
 pub trimmed_is : (s m r : List ℕ) → IsTrimStartMatches (FindsCharPrefix space) s m
-    → IsTrimEndMatches (FindsCharSuffix space) m r → r ≡ trimmed s
-unfolding trimmed
+    → IsTrimEndMatches (FindsCharSuffix space) m r → r ≡ trimmed_text s
+unfolding trimmed_text
 trimmed_is s m r h k = sym (ap (without_end space) (front_is s m h) ∙ end_is m r k)
 
 -- ---- what trimming leaves out
 
-front_parts : (s : List ℕ) → (n : ℕ) × (s ≡ replicate n space ++ front_trimmed s)
+front_parts : (s : List ℕ) → (n : ℕ) × (s ≡ replicate n space ++ front_trimmed_text s)
 front_parts [] = (0, refl)
 front_parts (b ∷ bs) =
     elim (cases_eq b space) [
@@ -102,16 +102,16 @@ end_parts c (b ∷ bs) =
     end_parts c bs in let k = kept_parts c b (without_end c bs) r.0 in (k.0, ap (λ (x : List ℕ). b ∷ x) r.1 ∙ k.1)
 
 -- a text is spaces, what trimming leaves, and spaces
-pub trimmed_parts : (s : List ℕ) → (m : ℕ) × (n : ℕ) × (s ≡ replicate m space ++ (trimmed s ++ replicate n space))
-unfolding trimmed
+pub trimmed_parts : (s : List ℕ) → (m : ℕ) × (n : ℕ) × (s ≡ replicate m space ++ (trimmed_text s ++ replicate n space))
+unfolding trimmed_text
 trimmed_parts s =
     let a =
-    front_parts s in let b = end_parts space (front_trimmed s) in
+    front_parts s in let b = end_parts space (front_trimmed_text s) in
     (a.0, b.0, a.1 ∙ ap (λ (x : List ℕ). replicate a.0 space ++ x) b.1)
 
 -- ---- what trimming leaves of a text between spaces
 
-front_dropped : (n : ℕ) (s : List ℕ) → front_trimmed (replicate n space ++ s) ≡ front_trimmed s
+front_dropped : (n : ℕ) (s : List ℕ) → front_trimmed_text (replicate n space ++ s) ≡ front_trimmed_text s
 front_dropped zero s = refl
 front_dropped (suc n) s = front_dropped n s
 
@@ -121,8 +121,8 @@ end_dropped c s (suc n) =
     ap (without_end c) (sym (append_assoc s (c ∷ []) (replicate n c))) ∙ end_dropped c (s ++ c ∷ []) n ∙ end_one c s
 
 pub trimmed_between : (m n : ℕ) (s : List ℕ) → ((rest : List ℕ) → s ++ replicate n space ≢ space ∷ rest)
-    → ((front : List ℕ) → s ≢ front ++ space ∷ []) → trimmed (replicate m space ++ (s ++ replicate n space)) ≡ s
-unfolding trimmed
+    → ((front : List ℕ) → s ≢ front ++ space ∷ []) → trimmed_text (replicate m space ++ (s ++ replicate n space)) ≡ s
+unfolding trimmed_text
 trimmed_between m n s begins ends =
     ap (without_end space) (front_dropped m (s ++ replicate n space) ∙ front_kept (s ++ replicate n space) begins)
     ∙ end_dropped space s n ∙ end_kept space s ends

@@ -8,11 +8,11 @@ space = 32
 abbrev pub percent_sign : ℕ
 percent_sign = 37
 
-abbrev pub opening : ℕ
-opening = 40
+abbrev pub opening_parenthesis : ℕ
+opening_parenthesis = 40
 
-abbrev pub closing : ℕ
-closing = 41
+abbrev pub closing_parenthesis : ℕ
+closing_parenthesis = 41
 
 abbrev pub star : ℕ
 star = 42
@@ -45,16 +45,16 @@ abbrev pub delete : ℕ
 delete = 127
 
 -- the byte stands in the text
-abbrev pub has : ℕ → List ℕ → Bool
-has c text = nat_lt (position_or_len (λ b. b == c) text) (length text)
+abbrev pub has_byte : ℕ → List ℕ → Bool
+has_byte c text = nat_lt (position_or_len (λ b. b == c) text) (length text)
 
 -- what stands before its first place
-abbrev pub before : ℕ → List ℕ → List ℕ
-before c text = before_first (λ b. b == c) text
+abbrev pub text_before : ℕ → List ℕ → List ℕ
+text_before c text = before_first (λ b. b == c) text
 
 -- what stands after its first place
-abbrev pub after : ℕ → List ℕ → List ℕ
-after c text = after_first (λ b. b == c) text
+abbrev pub text_after : ℕ → List ℕ → List ℕ
+text_after c text = after_first (λ b. b == c) text
 
 abbrev pub onto_kept : ℕ → ℕ → List ℕ → List ℕ
 onto_kept c b [] = if b == c then [] else b ∷ []

@@ -3,7 +3,7 @@ use Rattle.std.specs.Prelude.{ℕ, ◌+◌, ◌/◌, ◌%◌, List, [], ◌∷�
 use Rattle.actions.specs.Limits.{all_parts, parts_per_cent}
 use Rattle.actions.specs.Bytes.{without_end, zero_digit}
 use Rattle.actions.specs.Value.{TaskValue, off, «return», sleep, panic, print, pause, yield, delay, TermValue}
-use Rattle.actions.specs.Grammar.{Percent, whole, pointed, word_of, argument_text, Written, core_text, joined}
+use Rattle.actions.specs.Grammar.{Percent, whole, pointed, word_of, argument_text, WrittenTerm, core_text, with_arrows}
 
 -- the byte of a digit
 abbrev pub digit : ℕ → ℕ
@@ -39,7 +39,7 @@ abbrev pub task_text : TaskValue → List ℕ
 task_text task = word_of task ++ argument_text (argument_of task)
 
 -- how a term is written canonically: with no spaces
-abbrev pub canonical_term : TermValue → Written
+abbrev pub canonical_term : TermValue → WrittenTerm
 canonical_term t = record {
   before = 0;
   chance = chance_of t.ppm;
@@ -53,4 +53,4 @@ abbrev pub term_text : TermValue → List ℕ
 term_text t = core_text (canonical_term t)
 
 abbrev pub canonical : List TermValue → List ℕ
-canonical ts = joined (map term_text ts)
+canonical ts = with_arrows (map term_text ts)

@@ -30,5 +30,6 @@ abbrev pub setting_fault_text : SettingFault → List ℕ
 setting_fault_text settings.TooLong = codes "S1 TooLong"
 setting_fault_text (settings.NoEquals k) = codes "S2 NoEquals entry=" ++ decimal k
 setting_fault_text (settings.BadName k) = codes "S3 BadName entry=" ++ decimal k
-setting_fault_text (settings.BadActions k fault) = codes "S4 BadActions entry=" ++ (decimal k ++ (codes " " ++ fault_text fault))
+setting_fault_text (settings.BadActions k fault) =
+    codes "S4 BadActions entry=" ++ (decimal k ++ (codes " " ++ fault_text fault))
 setting_fault_text settings.OutOfMemory = codes "S5 OutOfMemory"

@@ -4,7 +4,7 @@ use Rattle.std.specs.List.{AllByRecursion}
 use Rattle.std.specs.Str.Parse.{IsNumeral, digits_value}
 use Rattle.actions.specs.Limits.{max_text, max_terms, all_parts, parts_per_cent}
 use Rattle.actions.specs.Bytes.{space, semicolon, delete}
-use Rattle.actions.specs.Numbers.{filled}
+use Rattle.actions.specs.Numbers.{four_decimals}
 use Rattle.actions.specs.Value.{TaskValue, off, «return», sleep, panic, print, pause, yield, delay, TermValue}
 
 -- ds is one to so many digits
@@ -33,7 +33,7 @@ PercentIs (whole ds) ppm =
 PercentIs (pointed ds decimals) ppm =
     IsShort 3 ds
     × IsShort 4 decimals
-    × (ppm ≡ digits_value 10 ds * parts_per_cent + digits_value 10 (filled decimals))
+    × (ppm ≡ digits_value 10 ds * parts_per_cent + digits_value 10 (four_decimals decimals))
     × (ppm ≤ all_parts)
 
 -- nothing where no percentage is written
@@ -87,7 +87,7 @@ ArgumentIs a yield = Unit {0}
 ArgumentIs a (delay n) = TimeIs a n
 
 -- a term as it is written, part by part, with so many spaces before and after it
-pub record Written : Type 0 where
+pub record WrittenTerm : Type 0 where
   pub before : ℕ
   pub chance : Option Percent
   pub count : Option (List ℕ)
@@ -96,14 +96,14 @@ pub record Written : Type 0 where
   pub after : ℕ
 
 -- without the spaces
-abbrev pub core_text : Written → List ℕ
+abbrev pub core_text : WrittenTerm → List ℕ
 core_text w = chance_text w.chance ++ (count_text w.count ++ (w.word ++ argument_text w.argument))
 
-abbrev pub written_text : Written → List ℕ
+abbrev pub written_text : WrittenTerm → List ℕ
 written_text w = replicate w.before space ++ (core_text w ++ replicate w.after space)
 
 -- a term that is written so means this
-pub record Means (w : Written) (t : TermValue) : Type 0 where
+pub record Means (w : WrittenTerm) (t : TermValue) : Type 0 where
   pub chance : ChanceIs w.chance t.ppm
   pub count : CountIs w.count t.count
   pub word : w.word ≡ word_of t.task
@@ -111,7 +111,7 @@ pub record Means (w : Written) (t : TermValue) : Type 0 where
 
 -- the text spells the term
 abbrev pub SpellsTerm : List ℕ → TermValue → Type 0
-SpellsTerm text t = (w : Written) × Means w t × (text ≡ written_text w)
+SpellsTerm text t = (w : WrittenTerm) × Means w t × (text ≡ written_text w)
 
 abbrev pub arrow : List ℕ
 arrow = codes "->"
@@ -121,10 +121,10 @@ abbrev pub LacksArrow : List ℕ → Type 0
 LacksArrow text = (front back : List ℕ) → text ≢ front ++ (arrow ++ back)
 
 -- the pieces with an arrow between each two
-abbrev pub joined : List (List ℕ) → List ℕ
-joined [] = []
-joined (p ∷ []) = p
-joined (p ∷ q ∷ ps) = p ++ (arrow ++ joined (q ∷ ps))
+abbrev pub with_arrows : List (List ℕ) → List ℕ
+with_arrows [] = []
+with_arrows (p ∷ []) = p
+with_arrows (p ∷ q ∷ ps) = p ++ (arrow ++ with_arrows (q ∷ ps))
 
 -- the pieces spell the terms, one each
 abbrev pub SpellEach : List (List ℕ) → List TermValue → Type 0
@@ -142,4 +142,4 @@ pub record SpellsActions (text : List ℕ) (terms : List TermValue) : Type 0 whe
   pub plain : AllByRecursion IsPlain text
   pub some : 0 < length terms
   pub few : length terms ≤ max_terms
-  pub pieces : (ps : List (List ℕ)) × SpellEach ps terms × (text ≡ joined ps)
+  pub pieces : (ps : List (List ℕ)) × SpellEach ps terms × (text ≡ with_arrows ps)

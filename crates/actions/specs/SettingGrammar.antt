@@ -1,4 +1,5 @@
--- The grammar of setting texts, as of fail-rs's FAILPOINTS: a relation between whole texts and what they set.
+-- The grammar of setting texts, as of fail-rs's FAILPOINTS: a relation between whole texts and what
+-- they set.
 use Rattle.std.specs.Prelude.{◌≡◌, ◌≢◌, ℕ, ◌≤◌, List, [], ◌∷◌, ◌++◌, length, map, replicate, codes, IsTrue}
 use Rattle.std.specs.List.{join_with_byte}
 use Rattle.actions.specs.Limits.{max_setting}
@@ -7,14 +8,16 @@ use Rattle.actions.specs.Names.{is_name}
 use Rattle.actions.specs.Value.{TermValue}
 use Rattle.actions.specs.Grammar.{SpellsActions}
 
--- an entry as it is written: only spaces, or a name and an action text, with so many spaces before and after them
+-- an entry as it is written: only spaces, or a name and an action text, with so many spaces before
+-- and after them
 pub data Entry : Type 0 where
   blank : (spaces : ℕ) → Entry
   setting : (before : ℕ) (name text : List ℕ) (after : ℕ) → Entry
 
 abbrev pub entry_text : Entry → List ℕ
 entry_text (blank spaces) = replicate spaces space
-entry_text (setting before name text after) = replicate before space ++ (name ++ (codes "=" ++ (text ++ replicate after space)))
+entry_text (setting before name text after) =
+    replicate before space ++ (name ++ (codes "=" ++ (text ++ replicate after space)))
 
 -- its last byte, if it has one, is no space
 abbrev pub EndsBare : List ℕ → Type 0

@@ -1,33 +1,29 @@
 -- Reading a setting text entry by entry, with the first refusal.
-use Rattle.std.specs.Prelude.{◌≡◌, ℕ, ◌+◌, ◌==◌, not, nat_lt, List, [], ◌∷◌, length, map, filter, if◌then◌else◌, Result, Ok, Err}
+use Rattle.std.specs.Prelude.{ℕ, ◌+◌, ◌==◌, Bool, true, false, not, nat_lt, List, [], ◌∷◌, length, map, filter, if◌then◌else◌, Result, Ok, Err}
 use Rattle.std.specs.List.{slice_split}
+use Rattle.refusals.specs.Refusals.{◌>>=◌, GivesUnless}
 use Rattle.actions.specs.declared.fault.ActionFault.{ActionFault}
 use Rattle.actions.specs.declared.fault.SettingFault.{SettingFault}
 use Rattle.actions.specs.declared.fault.SettingFault.TheVariants as faults
 use Rattle.actions.specs.Limits.{max_setting}
-use Rattle.actions.specs.Bytes.{has, before, after, equals_sign, semicolon}
+use Rattle.actions.specs.Bytes.{has_byte, text_before, text_after, equals_sign, semicolon}
 use Rattle.actions.specs.Names.{is_name}
-use Rattle.actions.specs.Reading.{reading, trimmed}
+use Rattle.actions.specs.Reading.{reading, trimmed_text}
 use Rattle.actions.specs.Value.{TermValue}
 
-infixl 10 ◌>>=◌
-abbrev pub ◌>>=◌ : {A B : Type 0} → Result A SettingFault → (A → Result B SettingFault) → Result B SettingFault
-(Ok x) >>= f = f x
-(Err e) >>= f = Err e
-
--- what is read is this fault; a want of memory says nothing of that
-abbrev pub Fails : {Y : Type 0} → SettingFault → Result Y SettingFault → Type 0
-Fails faults.OutOfMemory read = Unit {0}
-Fails e read = read ≡ Err e
+-- memory was refused
+abbrev pub is_want_of_memory : SettingFault → Bool
+is_want_of_memory faults.OutOfMemory = true
+is_want_of_memory fault = false
 
 -- what is read is what a function returned, seen by `view`, unless memory ran out
 abbrev pub Gives : {X Y : Type 0} → (X → Y) → Result X SettingFault → Result Y SettingFault → Type 0
-Gives view (Ok x) read = read ≡ Ok (view x)
-Gives view (Err e) read = Fails e read
+Gives = GivesUnless is_want_of_memory
 
 -- the entries that aren't only spaces, without the spaces at both ends
 unfoldable pub entries : List ℕ → List (List ℕ)
-entries text = filter (λ entry. nat_lt 0 (length entry)) (map trimmed (slice_split (λ byte. byte == semicolon) text))
+entries text =
+    filter (λ entry. nat_lt 0 (length entry)) (map trimmed_text (slice_split (λ byte. byte == semicolon) text))
 
 -- the terms of entry k, whose offsets are counted from their text's own start
 abbrev pub terms_read : ℕ → Result (List TermValue) ActionFault → Result (List TermValue) SettingFault
@@ -37,11 +33,11 @@ terms_read k (Err fault) = Err (faults.BadActions k fault)
 -- entry k; the first `=` ends its name
 unfoldable pub entry_at : ℕ → List ℕ → Result (List ℕ × List TermValue) SettingFault
 entry_at k entry =
-    if not (has equals_sign entry) then Err (faults.NoEquals k)
-    else if not (is_name (before equals_sign entry)) then Err (faults.BadName k)
+    if not (has_byte equals_sign entry) then Err (faults.NoEquals k)
+    else if not (is_name (text_before equals_sign entry)) then Err (faults.BadName k)
     else (do
-      terms ← terms_read k (reading (after equals_sign entry))
-      Ok (before equals_sign entry, terms))
+      terms ← terms_read k (reading (text_after equals_sign entry))
+      Ok (text_before equals_sign entry, terms))
 
 -- the entries from number k on
 unfoldable pub entries_at : ℕ → List (List ℕ) → Result (List (List ℕ × List TermValue)) SettingFault

@@ -205,7 +205,8 @@ impl PartialOrd for Actions {
 
     ghost partial_cmp = { as_partial_cmp (on canonical (slice_cmp nat_cmp)) };
 
-    ghost laws = { partial_order_from_own_ties (Prim.search (comparing, rules)) (Prim.search (comparing, rules)) };
+    ghost laws = { partial_order_from_own_ties (Prim.search (comparing, rules))
+        (Prim.search (comparing, rules)) };
 
     fn partial_cmp(&self, other: &Actions) -> Option<Ordering> {
         Some(self.cmp(other))

@@ -29,7 +29,8 @@ fn first_triggered(terms: &[Term], words: &[u32], may: &[bool]) -> Option<u8>
     requires words { length words.now ≡ words_needed (map term_value terms.now) }
     requires terms { length terms.now ≤ length may.now }
     requires few { length may.now ≤ 256 }
-    ensures { result ≡ choice (map term_value terms.now) words.now (λ k. slice_index_or may.now k false) }
+    ensures { result
+        ≡ choice (map term_value terms.now) words.now (λ k. slice_index_or may.now k false) }
 {
     let mut next = 0;
     for (index, term) in terms.iter().enumerate() {

@@ -9,8 +9,8 @@ ghost use Rattle.actions.specs.Choice.{choice, IsFirstTriggered};
 
 /// A text spells at most one list of terms.
 pub fn text_spells_one_value()
-    ensures { (text : List ℕ) (ts us : List TermValue) → SpellsActions text ts → SpellsActions text us
-        → ts ≡ us }
+    ensures { (text : List ℕ) (ts us : List TermValue)
+        → SpellsActions text ts → SpellsActions text us → ts ≡ us }
 {}
 
 /// A value that some text spells is spelled by its canonical text too, and by no shorter text.

@@ -2,7 +2,7 @@
 
 ghost use Rattle.std.specs.Prelude.{◌≡◌, ◌≤◌, ◌<◌, length, map, option_map, position, IfOk, IfSome};
 ghost use Rattle.actions.specs.Value.{task_value, term_value};
-ghost use Rattle.actions.specs.Reading.{Gives, is_bad_byte, argument_at, chance_at, count_at, time_at, task_at, term_at, terms_at, reading, pieces, trimmed};
+ghost use Rattle.actions.specs.Reading.{Gives, is_bad_byte, argument_at, chance_at, count_at, time_at, task_at, term_at, terms_at, reading, pieces, trimmed_text};
 
 use crate::fault::ActionFault;
 use crate::numbers::parse_number;
@@ -53,7 +53,8 @@ fn split_pieces<'a>(alloc: Global, text: &'a str) -> Result<Vec<&'a str>, AllocE
 
 fn parse_terms(alloc: Global, pieces: &[&str]) -> Result<Vec<Term>, ActionFault>
     requires { length pieces.now ≤ MAX_TERMS }
-    ensures { Gives (λ v. map term_value v.items) result (terms_at 0 (map (λ x. x.now) pieces.now)) }
+    ensures { Gives (λ v. map term_value v.items) result
+        (terms_at 0 (map (λ x. x.now) pieces.now)) }
 {
     let mut terms = Vec::new(alloc);
     for (index, piece) in pieces.iter().enumerate() {
@@ -64,7 +65,7 @@ fn parse_terms(alloc: Global, pieces: &[&str]) -> Result<Vec<Term>, ActionFault>
 
 /// The text without the spaces at its ends.
 pub(crate) fn trim_spaces(text: &str) -> &str
-    ensures { result.now ≡ trimmed text.now }
+    ensures { result.now ≡ trimmed_text text.now }
 {
     // `trim` would take other white space too.
     text.trim_start_matches(' ').trim_end_matches(' ')
@@ -85,7 +86,8 @@ fn parse_term(alloc: Global, term: u8, text: &str) -> Result<Term, ActionFault>
 /// The head of a term, which is what stands before its argument, and the argument.
 #[tactic(auto, unfolding(crate::specs::Reading::argument_at))]
 fn split_argument(term: u8, text: &str) -> Result<(&str, Option<&str>), ActionFault>
-    ensures { Gives (λ x. (x.0.now, option_map (λ a. a.now) x.1)) result (argument_at term text.now) }
+    ensures { Gives (λ x. (x.0.now, option_map (λ a. a.now) x.1)) result
+        (argument_at term text.now) }
 {
     let Some((head, rest)) = text.split_once('(') else {
         return Ok((text, None));
@@ -127,7 +129,8 @@ fn parse_task(
     word: &str,
     argument: Option<&str>,
 ) -> Result<Task, ActionFault>
-    ensures { Gives task_value result (task_at term word.now (option_map (λ a. a.now) argument.entry)) }
+    ensures { Gives task_value result
+        (task_at term word.now (option_map (λ a. a.now) argument.entry)) }
 {
     match word {
         "" => Err(ActionFault::NoTask { term }),

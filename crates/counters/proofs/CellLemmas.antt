@@ -47,19 +47,27 @@ zero-either true = refl
 zero-either false = refl
 
 -- an entry more adds its number
-pub total-entry : (k : ℕ) (v : Max) (rest : Cells) → k < 256 → AreApart ((k, v) ∷ rest) → sum_below numbers (cell ((k, v) ∷ rest)) ≡ v.0 + sum_below numbers (cell rest)
+pub total-entry : (k : ℕ) (v : Max) (rest : Cells) → k < 256 → AreApart ((k, v) ∷ rest)
+    → sum_below numbers (cell ((k, v) ∷ rest)) ≡ v.0 + sum_below numbers (cell rest)
 unfolding cell
 total-entry k v rest below apart = sum-entry zero_max numbers (λ q (held : Max). held.0) (λ q. refl) k v rest (below-numbers k below) apart
 
 -- unless it is left out
-total_of_others-entry : (node k : ℕ) (v : Max) (rest : Cells) → k < 256 → AreApart ((k, v) ∷ rest) → sum_others numbers node (cell ((k, v) ∷ rest)) ≡ cond (k == node) 0 v.0 + sum_others numbers node (cell rest)
+total_of_others-entry : (node k : ℕ) (v : Max) (rest : Cells) → k < 256 → AreApart ((k, v) ∷ rest)
+    → sum_others numbers node (cell ((k, v) ∷ rest)) ≡ cond (k == node) 0 v.0 + sum_others numbers node (cell rest)
 unfolding cell
-total_of_others-entry node k v rest below apart = sum-entry zero_max numbers (λ q (held : Max). cond (q == node) 0 held.0) (λ q. zero-either (q == node)) k v rest (below-numbers k below) apart
+total_of_others-entry node k v rest below apart =
+    sum-entry zero_max numbers (λ q (held : Max). cond (q == node) 0 held.0) (λ q. zero-either (q == node)) k v rest
+    (below-numbers k below) apart
 
 -- and a row more its number at the node
-total_from_others-entry : (node k : ℕ) (v : Cells) (rest : Rows) → k < 256 → AreApart ((k, v) ∷ rest) → sum_others numbers node (λ from. row_cell ((k, v) ∷ rest) from node) ≡ cond (k == node) 0 (cell v node) + sum_others numbers node (λ from. row_cell rest from node)
+total_from_others-entry : (node k : ℕ) (v : Cells) (rest : Rows) → k < 256 → AreApart ((k, v) ∷ rest)
+    → sum_others numbers node (λ from. row_cell ((k, v) ∷ rest) from node)
+    ≡ cond (k == node) 0 (cell v node) + sum_others numbers node (λ from. row_cell rest from node)
 unfolding cell row_cell
-total_from_others-entry node k v rest below apart = sum-entry [] numbers (λ q (held : Cells). cond (q == node) 0 (cell held node)) (λ q. zero-either (q == node)) k v rest (below-numbers k below) apart
+total_from_others-entry node k v rest below apart =
+    sum-entry [] numbers (λ q (held : Cells). cond (q == node) 0 (cell held node))
+    (λ q. zero-either (q == node)) k v rest (below-numbers k below) apart
 
 -- what a test for one node chooses
 pub chosen-same : (i k n m : ℕ) → i ≡ k → cond (i == k) n m ≡ n
@@ -76,17 +84,32 @@ chosen-other i k n m ne = at (i == k) refl
     at true e = absurd (ne (eqb-true i k e))
     at false e = refl
 
-pub total_of_others-counted : (node k : ℕ) (v : Max) (rest : Cells) → k < 256 → AreApart ((k, v) ∷ rest) → k ≢ node → sum_others numbers node (cell ((k, v) ∷ rest)) ≡ v.0 + sum_others numbers node (cell rest)
-total_of_others-counted node k v rest below apart ne = total_of_others-entry node k v rest below apart ∙ ap (λ n. n + sum_others numbers node (cell rest)) (chosen-other k node 0 v.0 ne)
+pub total_of_others-counted : (node k : ℕ) (v : Max) (rest : Cells) → k < 256 → AreApart ((k, v) ∷ rest) → k ≢ node
+    → sum_others numbers node (cell ((k, v) ∷ rest)) ≡ v.0 + sum_others numbers node (cell rest)
+total_of_others-counted node k v rest below apart ne =
+    total_of_others-entry node k v rest below apart
+    ∙ ap (λ n. n + sum_others numbers node (cell rest)) (chosen-other k node 0 v.0 ne)
 
-pub total_of_others-left_out : (node k : ℕ) (v : Max) (rest : Cells) → k < 256 → AreApart ((k, v) ∷ rest) → k ≡ node → sum_others numbers node (cell ((k, v) ∷ rest)) ≡ 0 + sum_others numbers node (cell rest)
-total_of_others-left_out node k v rest below apart same = total_of_others-entry node k v rest below apart ∙ ap (λ n. n + sum_others numbers node (cell rest)) (chosen-same k node 0 v.0 same)
+pub total_of_others-left_out : (node k : ℕ) (v : Max) (rest : Cells) → k < 256 → AreApart ((k, v) ∷ rest) → k ≡ node
+    → sum_others numbers node (cell ((k, v) ∷ rest)) ≡ 0 + sum_others numbers node (cell rest)
+total_of_others-left_out node k v rest below apart same =
+    total_of_others-entry node k v rest below apart
+    ∙ ap (λ n. n + sum_others numbers node (cell rest)) (chosen-same k node 0 v.0 same)
 
-pub total_from_others-counted : (node k : ℕ) (v : Cells) (rest : Rows) → k < 256 → AreApart ((k, v) ∷ rest) → k ≢ node → sum_others numbers node (λ from. row_cell ((k, v) ∷ rest) from node) ≡ cell v node + sum_others numbers node (λ from. row_cell rest from node)
-total_from_others-counted node k v rest below apart ne = total_from_others-entry node k v rest below apart ∙ ap (λ n. n + sum_others numbers node (λ from. row_cell rest from node)) (chosen-other k node 0 (cell v node) ne)
+pub total_from_others-counted : (node k : ℕ) (v : Cells) (rest : Rows) → k < 256 → AreApart ((k, v) ∷ rest) → k ≢ node
+    → sum_others numbers node (λ from. row_cell ((k, v) ∷ rest) from node)
+    ≡ cell v node + sum_others numbers node (λ from. row_cell rest from node)
+total_from_others-counted node k v rest below apart ne =
+    total_from_others-entry node k v rest below apart
+    ∙ ap (λ n. n + sum_others numbers node (λ from. row_cell rest from node)) (chosen-other k node 0 (cell v node) ne)
 
-pub total_from_others-left_out : (node k : ℕ) (v : Cells) (rest : Rows) → k < 256 → AreApart ((k, v) ∷ rest) → k ≡ node → sum_others numbers node (λ from. row_cell ((k, v) ∷ rest) from node) ≡ 0 + sum_others numbers node (λ from. row_cell rest from node)
-total_from_others-left_out node k v rest below apart same = total_from_others-entry node k v rest below apart ∙ ap (λ n. n + sum_others numbers node (λ from. row_cell rest from node)) (chosen-same k node 0 (cell v node) same)
+pub total_from_others-left_out : (node k : ℕ) (v : Cells) (rest : Rows) → k < 256 → AreApart ((k, v) ∷ rest)
+    → k ≡ node
+    → sum_others numbers node (λ from. row_cell ((k, v) ∷ rest) from node)
+    ≡ 0 + sum_others numbers node (λ from. row_cell rest from node)
+total_from_others-left_out node k v rest below apart same =
+    total_from_others-entry node k v rest below apart
+    ∙ ap (λ n. n + sum_others numbers node (λ from. row_cell rest from node)) (chosen-same k node 0 (cell v node) same)
 
 -- each number is one of 64 bits
 pub cell-bound : (cells : Cells) → AreCells cells → (q : ℕ) → cell cells q < 2 ^ 64
@@ -95,7 +118,9 @@ cell-bound cells h q = admitted_at nat_cmp IsNumber IsAtMost zero_max max_order 
 
 pub row_cell-bound : (rows : Rows) → AreRows rows → (from to : ℕ) → row_cell rows from to < 2 ^ 64
 unfolding row_cell
-row_cell-bound rows h from to = cell-bound (value_at nat_cmp [] rows from) (admitted_at nat_cmp AreCells (MapOrder nat_cmp IsAtMost zero_max) [] (map_order nat_cmp max_order) rows h from) to
+row_cell-bound rows h from to =
+    cell-bound (value_at nat_cmp [] rows from)
+    (admitted_at nat_cmp AreCells (MapOrder nat_cmp IsAtMost zero_max) [] (map_order nat_cmp max_order) rows h from) to
 
 -- so all of them fit 128 bits
 bound : (f : ℕ → ℕ) → ((i : ℕ) → f i < 2 ^ 64) → sum_below numbers f ≤ 256 * 2 ^ 64

@@ -4,7 +4,7 @@ use Rattle.std.proofs.lemmas.Bool.{eqb-true, eqb-false}
 use Rattle.std.proofs.lemmas.Int.{ints}
 use Rattle.std.specs.Prelude.{pos, ◌+ℤ◌, ◌-ℤ◌}
 use Rattle.counters.specs.Sums.{numbers, sum_below, sum_others, int_sum_below}
-use Rattle.counters.specs.Budgets.{given, gone, total_spent, RemainingAndSpentAreTheCount}
+use Rattle.counters.specs.Budgets.{given_to, gone_from, total_spent, RemainingAndSpentAreTheCount}
 use Rattle.counters.proofs.SumLemmas.{sum-same, sum-add, sum-at, sum-swap}
 
 -- a sum of differences
@@ -26,12 +26,13 @@ from_to n s =
     either i j true false e f = absurd (eqb-false i j f (sym (eqb-true j i e)))
     either i j false true e f = absurd (eqb-false j i e (sym (eqb-true i j f)))
 
-balanced : (all came own out spent count : ℕ) (all_gone : ℕ) → own ≡ count → all ≡ own + came → all_gone ≡ out + spent → out ≡ came → (pos all -ℤ pos all_gone) +ℤ pos spent ≡ pos count
+balanced : (all came own out spent count : ℕ) (all_gone : ℕ) → own ≡ count → all ≡ own + came → all_gone ≡ out + spent
+    → out ≡ came → (pos all -ℤ pos all_gone) +ℤ pos spent ≡ pos count
 balanced all came own out spent count all_gone a b c d = omega (arith, ints)
 
 pub remaining_and_spent : RemainingAndSpentAreTheCount
 remaining_and_spent b below =
-    (λ p. int_sum-differences numbers (given b) (gone b) p +ℤ pos (total_spent b)) ∙
+    (λ p. int_sum-differences numbers (given_to b) (gone_from b) p +ℤ pos (total_spent b)) ∙
     balanced _ _ _ _ _ _ _
     (sum-at numbers b.setter b.count below)
     (sum-add numbers (λ i. cond (i == b.setter) b.count 0) (λ i. sum_others numbers i (λ j. b.shifted j i)))

@@ -49,7 +49,9 @@ unfolding row_cell
 moved_bottom from to = cells_bottom to
 
 is_zero : (m : Max) → IsNumber m → IsAtMost m zero_max ⊎ (IsAtMost m zero_max → ⊥)
-is_zero m h = ⊎_elim (λ e. inl (let below : m.0 ≤ 0 = omega arith in below)) (λ ne. inr (λ (below : IsAtMost m zero_max). let low : m.0 ≤ 0 = below in ne (omega arith))) (cases_eq m.0 0)
+is_zero m h =
+    ⊎_elim (λ e. inl (let below : m.0 ≤ 0 = omega arith in below))
+    (λ ne. inr (λ (below : IsAtMost m zero_max). let low : m.0 ≤ 0 = below in ne (omega arith))) (cases_eq m.0 0)
 
 -- a join has the greater number in each cell
 pub cells_join : JoinsByCell AreCells CellsOrder
@@ -58,10 +60,15 @@ cells_join x y j join node = max_join _ _ _ (join_at nat_cmp_total max_order is_
 
 rows_join : (x y j : Rows) → IsJoin AreRows RowsOrder x y j → (from to : ℕ) → row_cell j from to ≡ max (row_cell x from to) (row_cell y from to)
 unfolding row_cell
-rows_join x y j join from to = cells_join (value_at nat_cmp [] x from) (value_at nat_cmp [] y from) (value_at nat_cmp [] j from) (join_at nat_cmp_total (map_order nat_cmp max_order) (is_empty nat_cmp_total max_order) x y j join from) to
+rows_join x y j join from to =
+    cells_join (value_at nat_cmp [] x from) (value_at nat_cmp [] y from) (value_at nat_cmp [] j from)
+    (join_at nat_cmp_total (map_order nat_cmp max_order) (is_empty nat_cmp_total max_order) x y j join from) to
 
 pub shares_join : JoinsByShare AreShares SharesOrder
-shares_join x y j join = (cells_join x.first y.first j.first (join_first AreCells CellsOrder AreRows RowsOrder x y j join), rows_join x.second y.second j.second (join_second AreCells CellsOrder AreRows RowsOrder x y j join))
+shares_join x y j join = (
+  cells_join x.first y.first j.first (join_first AreCells CellsOrder AreRows RowsOrder x y j join),
+  rows_join x.second y.second j.second (join_second AreCells CellsOrder AreRows RowsOrder x y j join),
+)
 
 -- and what has the greater number in each cell is a join
 pub cells_join_from : (x y j : Cells) → AreCells x → AreCells y → AreCells j → HasGreaterCells x y j → IsJoin AreCells CellsOrder x y j
@@ -71,7 +78,11 @@ cells_join_from x y j a b c greater = record {
   admitted_join = c;
   above_first = (cells_order x j).1 (λ node. let here = greater node in omega arith);
   above_second = (cells_order y j).1 (λ node. let here = greater node in omega arith);
-  least = λ u d l m. (cells_order j u).1 (λ node. let here = greater node in let first = (cells_order x u).0 l node in let second = (cells_order y u).0 m node in omega arith);
+  least = λ u d l m. (cells_order j u).1 (λ node.
+      let here = greater node in
+      let first = (cells_order x u).0 l node in
+      let second = (cells_order y u).0 m node in
+      omega arith);
 }
 
 pub shares_join_from : (x y j : Shares) → AreShares x → AreShares y → AreShares j → HasGreaterShares x y j → IsJoin AreShares SharesOrder x y j

@@ -26,20 +26,30 @@ module _ {J : Type 0} (bottom : J) where
   value_at-past k v rest distinct = ap (λ (o : Option J). unwrap_or o bottom) (none_after nat_cmp_total (k, v) rest k distinct (at_itself k))
 
   -- an entry more adds what it counts for
-  pub sum-entry : (n : ℕ) (counts : ℕ → J → ℕ) → ((q : ℕ) → counts q bottom ≡ 0) → (k : ℕ) (v : J) (rest : List (ℕ × J)) → k < n → IsDistinct (eq_by_cmp nat_cmp) (keys_of ((k, v) ∷ rest)) → sum_below n (λ q. counts q (value_at nat_cmp bottom ((k, v) ∷ rest) q)) ≡ counts k v + sum_below n (λ q. counts q (value_at nat_cmp bottom rest q))
+  pub sum-entry : (n : ℕ) (counts : ℕ → J → ℕ) → ((q : ℕ) → counts q bottom ≡ 0)
+      → (k : ℕ) (v : J) (rest : List (ℕ × J)) → k < n → IsDistinct (eq_by_cmp nat_cmp) (keys_of ((k, v) ∷ rest))
+      → sum_below n (λ q. counts q (value_at nat_cmp bottom ((k, v) ∷ rest) q))
+      ≡ counts k v + sum_below n (λ q. counts q (value_at nat_cmp bottom rest q))
   sum-entry n counts none k v rest below distinct =
       sum-same n _ (λ q. cond (q == k) (counts k v) 0 + counts q (value_at nat_cmp bottom rest q)) (λ q l. at q (q == k) refl) ∙
       sum-add n (λ q. cond (q == k) (counts k v) 0) (λ q. counts q (value_at nat_cmp bottom rest q)) ∙
       ap (λ m. m + sum_below n (λ q. counts q (value_at nat_cmp bottom rest q))) (sum-at n k (counts k v) below)
     where
-      at : (q : ℕ) (t : Bool) → (q == k) ≡ t → counts q (value_at nat_cmp bottom ((k, v) ∷ rest) q) ≡ cond t (counts k v) 0 + counts q (value_at nat_cmp bottom rest q)
+      at : (q : ℕ) (t : Bool) → (q == k) ≡ t
+          → counts q (value_at nat_cmp bottom ((k, v) ∷ rest) q)
+          ≡ cond t (counts k v) 0 + counts q (value_at nat_cmp bottom rest q)
       at q true e =
           let same : q ≡ k = eqb-true q k e in
-          let here : counts q (value_at nat_cmp bottom ((k, v) ∷ rest) q) ≡ counts k v = ap (λ x. counts x (value_at nat_cmp bottom ((k, v) ∷ rest) x)) same ∙ ap (counts k) (value_at-head k v rest) in
-          let past : counts q (value_at nat_cmp bottom rest q) ≡ 0 = ap (λ x. counts x (value_at nat_cmp bottom rest x)) same ∙ ap (counts k) (value_at-past k v rest distinct) ∙ none k in
+          let here : counts q (value_at nat_cmp bottom ((k, v) ∷ rest) q) ≡ counts k v =
+          ap (λ x. counts x (value_at nat_cmp bottom ((k, v) ∷ rest) x)) same
+          ∙ ap (counts k) (value_at-head k v rest) in
+          let past : counts q (value_at nat_cmp bottom rest q) ≡ 0 =
+          ap (λ x. counts x (value_at nat_cmp bottom rest x)) same
+          ∙ ap (counts k) (value_at-past k v rest distinct) ∙ none k in
           omega arith
       at q false e =
-          let here : counts q (value_at nat_cmp bottom ((k, v) ∷ rest) q) ≡ counts q (value_at nat_cmp bottom rest q) = ap (counts q) (value_at-tail k v rest q (eqb-false q k e)) in
+          let here : counts q (value_at nat_cmp bottom ((k, v) ∷ rest) q) ≡ counts q (value_at nat_cmp bottom rest q) =
+          ap (counts q) (value_at-tail k v rest q (eqb-false q k e)) in
           omega arith
 
 -- each part of a sum that is at most a bound

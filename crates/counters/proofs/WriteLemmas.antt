@@ -36,7 +36,8 @@ put_number : (o : Option Max) (value : Max) → IsStored nat_cmp IsNumber IsAtMo
 put_number None value h = let below : value.0 ≤ 0 = h in omega arith
 put_number (Some held) value h = ap (λ (m : Max). m.0) h.0
 
-pub put_cell : (old new : Cells) (node number : ℕ) (value : Max) → value.0 ≡ number → PutsOnly nat_cmp IsNumber IsAtMost zero_max old new node value → WritesCell old new node number
+pub put_cell : (old new : Cells) (node number : ℕ) (value : Max) → value.0 ≡ number
+    → PutsOnly nat_cmp IsNumber IsAtMost zero_max old new node value → WritesCell old new node number
 unfolding cell
 put_cell old new node number value e puts = record {
   this_cell = put_number (stored_at nat_cmp new node) value puts.this_key ∙ e;
@@ -44,7 +45,9 @@ put_cell old new node number value e puts = record {
 }
 
 -- a cell that is raised has the greater number
-pub raised_cell : (old new : Cells) (node number : ℕ) → cell old node < number → RaisesOnly nat_cmp IsNumber IsAtMost zero_max old new node (record { 0 = number }) → WritesCell old new node number
+pub raised_cell : (old new : Cells) (node number : ℕ) → cell old node < number
+    → RaisesOnly nat_cmp IsNumber IsAtMost zero_max old new node (record { 0 = number })
+    → WritesCell old new node number
 unfolding cell
 raised_cell old new node number less raises = record {
   this_cell = let greater = max_join _ (record { 0 = number }) _ raises.this_key in omega arith;
@@ -84,7 +87,9 @@ unfolding row_cell
 unheld_row_cell rows from none q = ap (λ o. cell (unwrap_or o []) q) none ∙ empty_cell q
 
 -- a row that is put has the same cells
-put_row_cell : (rows : Rows) (from : ℕ) (left : Cells) → IsStored nat_cmp AreCells (MapOrder nat_cmp IsAtMost zero_max) [] (stored_at nat_cmp rows from) left → (q : ℕ) → row_cell rows from q ≡ cell left q
+put_row_cell : (rows : Rows) (from : ℕ) (left : Cells)
+    → IsStored nat_cmp AreCells (MapOrder nat_cmp IsAtMost zero_max) [] (stored_at nat_cmp rows from) left → (q : ℕ)
+    → row_cell rows from q ≡ cell left q
 unfolding cell row_cell
 put_row_cell rows from left stored q = by_entry (stored_at nat_cmp rows from) stored
   where
@@ -101,11 +106,15 @@ raised_row_cell row new join q =
     let below : cell new q ≤ cell row q = copy.below q in
     omega arith
 
-raised_from_none : (old new : Rows) (from : ℕ) (row : Cells) → (IsSome (stored_at nat_cmp old from) → false ≡ true) → IsJoin AreCells (MapOrder nat_cmp IsAtMost zero_max) (value_at nat_cmp [] old from) row (value_at nat_cmp [] new from) → (q : ℕ) → row_cell new from q ≡ cell row q
+raised_from_none : (old new : Rows) (from : ℕ) (row : Cells) → (IsSome (stored_at nat_cmp old from) → false ≡ true)
+    → IsJoin AreCells (MapOrder nat_cmp IsAtMost zero_max) (value_at nat_cmp [] old from) row (value_at nat_cmp [] new from)
+    → (q : ℕ) → row_cell new from q ≡ cell row q
 unfolding row_cell
 raised_from_none old new from row none join q = by_entry (stored_at nat_cmp old from) none join
   where
-    by_entry : (o : Option Cells) → (IsSome o → false ≡ true) → IsJoin AreCells (MapOrder nat_cmp IsAtMost zero_max) (unwrap_or o []) row (value_at nat_cmp [] new from) → cell (value_at nat_cmp [] new from) q ≡ cell row q
+    by_entry : (o : Option Cells) → (IsSome o → false ≡ true)
+        → IsJoin AreCells (MapOrder nat_cmp IsAtMost zero_max) (unwrap_or o []) row (value_at nat_cmp [] new from)
+        → cell (value_at nat_cmp [] new from) q ≡ cell row q
     by_entry None h j = raised_row_cell row (value_at nat_cmp [] new from) j q
     by_entry (Some held) h j = absurd (false≢true (h refl))
 
@@ -119,18 +128,25 @@ other_place : (from to f t : ℕ) (P : Type 0) → ((f ≡ from) × (t ≡ to) �
 other_place from to f t P h other this = ⊎_elim (λ e. this e (λ g. h (e, g))) other (cases_eq f from)
 
 -- a row in which a number was written is put
-pub put_row : (old new : Rows) (from to number : ℕ) (held left : Cells) → stored_at nat_cmp old from ≡ Some held → PutsOnly nat_cmp AreCells (MapOrder nat_cmp IsAtMost zero_max) [] old new from left → WritesCell held left to number → WritesRowCell old new from to number
+pub put_row : (old new : Rows) (from to number : ℕ) (held left : Cells) → stored_at nat_cmp old from ≡ Some held
+    → PutsOnly nat_cmp AreCells (MapOrder nat_cmp IsAtMost zero_max) [] old new from left
+    → WritesCell held left to number → WritesRowCell old new from to number
 put_row old new from to number held left found puts writes = record {
   this_cell = put_row_cell new from left puts.this_key to ∙ writes.this_cell;
   other_cells = λ f t h. other_place from to f t (row_cell new f t ≡ row_cell old f t) h
       (λ ne. other_row_cell old new f t (puts.other_keys f (apart from f ne)))
       (λ same ne.
-      let here : row_cell new from t ≡ row_cell old from t = put_row_cell new from left puts.this_key t ∙ writes.other_cells t ne ∙ sym (found_row_cell old from held found t) in
+      let here : row_cell new from t ≡ row_cell old from t =
+      put_row_cell new from left puts.this_key t ∙ writes.other_cells t ne
+      ∙ sym (found_row_cell old from held found t) in
       ap (λ x. row_cell new x t) same ∙ here ∙ ap (λ x. row_cell old x t) (sym same));
 }
 
 -- a row with one number is raised from nothing
-pub raised_row : (old new : Rows) (from to number : ℕ) (row : Cells) → (IsSome (stored_at nat_cmp old from) → false ≡ true) → WritesCell [] row to number → RaisesOnly nat_cmp AreCells (MapOrder nat_cmp IsAtMost zero_max) [] old new from row → WritesRowCell old new from to number
+pub raised_row : (old new : Rows) (from to number : ℕ) (row : Cells)
+    → (IsSome (stored_at nat_cmp old from) → false ≡ true) → WritesCell [] row to number
+    → RaisesOnly nat_cmp AreCells (MapOrder nat_cmp IsAtMost zero_max) [] old new from row
+    → WritesRowCell old new from to number
 raised_row old new from to number row none writes raises =
     let all : (q : ℕ) → row_cell new from q ≡ cell row q = λ q. raised_from_none old new from row none raises.this_key q in
     record {

@@ -1,5 +1,5 @@
 -- Numbers by node, 0 where there is none.
-use Rattle.std.specs.Prelude.{◌≡◌, ◌≢◌, ℕ, List, []}
+use Rattle.std.specs.Prelude.{◌≡◌, ◌≢◌, ℕ, ◌-◌, ◌^◌, Bool, nat_lt, List, []}
 use Rattle.std.specs.Ordering.{nat_cmp}
 use Rattle.lattice_laws.specs.Map.{value_at}
 use Rattle.lattice_laws.specs.Max.{zero_max}
@@ -11,6 +11,14 @@ use Rattle.counters.specs.Budgets.{Budget}
 -- a number for each node
 abbrev pub Cells : Type 0
 Cells = List (ℕ × Max)
+
+-- the greatest number of a cell
+abbrev pub most : ℕ
+most = 2 ^ 64 - 1
+
+-- no cell can hold this number
+abbrev pub is_too_great : ℕ → Bool
+is_too_great number = nat_lt most number
 
 -- the number of a node
 unfoldable pub cell : Cells → ℕ → ℕ
@@ -62,4 +70,5 @@ pub record WritesMoved (old new : Shares) (from to number : ℕ) : Type 0 where
 
 -- the budget of a term of this count, which the setter had whole
 abbrev pub budget_of : Shares → ℕ → ℕ → Budget
-budget_of shares setter count = record { setter = setter; count = count; shifted = moved_cell shares; spent = spent_cell shares }
+budget_of shares setter count =
+    record { setter = setter; count = count; shifted = moved_cell shares; spent = spent_cell shares }

@@ -8,14 +8,18 @@ abbrev pub NoCellGreater : Cells → Cells → Type 0
 NoCellGreater x y = (node : ℕ) → cell x node ≤ cell y node
 
 abbrev pub NoShareGreater : Shares → Shares → Type 0
-NoShareGreater x y = ((node : ℕ) → spent_cell x node ≤ spent_cell y node) × ((from to : ℕ) → moved_cell x from to ≤ moved_cell y from to)
+NoShareGreater x y =
+    ((node : ℕ) → spent_cell x node ≤ spent_cell y node)
+    × ((from to : ℕ) → moved_cell x from to ≤ moved_cell y from to)
 
 -- each cell of j is the greater one of those of x and y
 abbrev pub HasGreaterCells : Cells → Cells → Cells → Type 0
 HasGreaterCells x y j = (node : ℕ) → cell j node ≡ max (cell x node) (cell y node)
 
 abbrev pub HasGreaterShares : Shares → Shares → Shares → Type 0
-HasGreaterShares x y j = ((node : ℕ) → spent_cell j node ≡ max (spent_cell x node) (spent_cell y node)) × ((from to : ℕ) → moved_cell j from to ≡ max (moved_cell x from to) (moved_cell y from to))
+HasGreaterShares x y j =
+    ((node : ℕ) → spent_cell j node ≡ max (spent_cell x node) (spent_cell y node))
+    × ((from to : ℕ) → moved_cell j from to ≡ max (moved_cell x from to) (moved_cell y from to))
 
 -- one is below another where no cell is greater
 abbrev pub GoesByCell : (Cells → Cells → Type 0) → Type 0

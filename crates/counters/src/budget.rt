@@ -92,9 +92,12 @@ impl Budget {
         count: u64,
         node: u8,
     ) -> Result<u64, CounterFault>
-        ensures ok { IfOk result (λ spent. (spend_refusal (budget_of self.old setter count) node ≡ None) × (spent ≡ spent_cell self.old node + 1)) }
-        ensures after { OnOk result (WritesSpent self.old self.new node (spent_cell self.old node + 1)) }
-        ensures refused { IfErr result (IsRefusal (spend_refusal (budget_of self.old setter count) node) (spent_cell self.old node)) }
+        ensures ok { OnOk result (spend_refusal (budget_of self.old setter count) node ≡ None) }
+        ensures answer { IfOk result (λ spent. spent ≡ spent_cell self.old node + 1) }
+        ensures after { IfOk result (WritesSpent self.old self.new node) }
+        ensures refused { IfErr result
+            (IsRefusal (spend_refusal (budget_of self.old setter count) node)
+            (spent_cell self.old node)) }
         ensures err { OnErr result (self.new ≡ self.old) }
     {
         let spent = self.spend_checked(setter, count, node)?;
@@ -115,9 +118,13 @@ impl Budget {
         to: u8,
         amount: u64,
     ) -> Result<u64, CounterFault>
-        ensures ok { IfOk result (λ moved. (shift_refusal (budget_of self.old setter count) from to amount ≡ None) × (moved ≡ moved_cell self.old from to + amount)) }
-        ensures after { OnOk result (WritesMoved self.old self.new from to (moved_cell self.old from to + amount)) }
-        ensures refused { IfErr result (IsRefusal (shift_refusal (budget_of self.old setter count) from to amount) (moved_cell self.old from to)) }
+        ensures ok { OnOk result
+            (shift_refusal (budget_of self.old setter count) from to amount ≡ None) }
+        ensures answer { IfOk result (λ moved. moved ≡ moved_cell self.old from to + amount) }
+        ensures after { IfOk result (WritesMoved self.old self.new from to) }
+        ensures refused { IfErr result
+            (IsRefusal (shift_refusal (budget_of self.old setter count) from to amount)
+            (moved_cell self.old from to)) }
         ensures err { OnErr result (self.new ≡ self.old) }
     {
         let moved = self.shift_checked(setter, count, from, to, amount)?;
@@ -128,7 +135,8 @@ impl Budget {
     /// Raises what a node spent to at least this number. Memory is asked for only where it spent
     /// nothing.
     pub fn raise_spent(&mut self, alloc: Global, node: u8, spent: u64) -> Result<(), AllocError>
-        ensures ok { OnOk result (WritesSpent self.old self.new node (max (spent_cell self.old node) spent)) }
+        ensures ok { OnOk result
+            (WritesSpent self.old self.new node (max (spent_cell self.old node) spent)) }
         ensures err { OnErr result (self.new ≡ self.old) }
         ensures absent { OnErr result (spent_cell self.old node ≡ 0) }
     {
@@ -147,7 +155,8 @@ impl Budget {
         to: u8,
         total: u64,
     ) -> Result<(), AllocError>
-        ensures ok { OnOk result (WritesMoved self.old self.new from to (max (moved_cell self.old from to) total)) }
+        ensures ok { OnOk result
+            (WritesMoved self.old self.new from to (max (moved_cell self.old from to) total)) }
         ensures err { OnErr result (self.new ≡ self.old) }
         ensures absent { OnErr result (moved_cell self.old from to ≡ 0) }
     {
@@ -159,8 +168,10 @@ impl Budget {
 
     // What the node will have spent, or the refusal.
     fn spend_checked(&self, setter: u8, count: u64, node: u8) -> Result<u64, CounterFault>
-        ensures ok { IfOk result (λ spent. (spend_refusal (budget_of self.now setter count) node ≡ None) × (spent ≡ spent_cell self.now node + 1)) }
-        ensures refused { IfErr result (λ fault. spend_refusal (budget_of self.now setter count) node ≡ Some fault) }
+        ensures ok { OnOk result (spend_refusal (budget_of self.now setter count) node ≡ None) }
+        ensures answer { IfOk result (λ spent. spent ≡ spent_cell self.now node + 1) }
+        ensures refused { IfErr result
+            (λ fault. spend_refusal (budget_of self.now setter count) node ≡ Some fault) }
     {
         let have = self.rights(setter, count, node);
         if have < 1 {
@@ -181,9 +192,12 @@ impl Budget {
         to: u8,
         amount: u64,
     ) -> Result<u64, CounterFault>
-        ensures ok { IfOk result (λ moved. (shift_refusal (budget_of self.now setter count) from to amount ≡ None) × (moved ≡ moved_cell self.now from to + amount)) }
+        ensures ok { OnOk result
+            (shift_refusal (budget_of self.now setter count) from to amount ≡ None) }
+        ensures answer { IfOk result (λ moved. moved ≡ moved_cell self.now from to + amount) }
         ensures more { IfOk result (λ moved. moved_cell self.now from to < moved) }
-        ensures refused { IfErr result (λ fault. shift_refusal (budget_of self.now setter count) from to amount ≡ Some fault) }
+        ensures refused { IfErr result
+            (λ fault. shift_refusal (budget_of self.now setter count) from to amount ≡ Some fault) }
     {
         let have = self.rights(setter, count, from);
         if have < i128::from(amount) {
@@ -214,7 +228,8 @@ impl Join for Budget {
 
     ghost bottom = { ⟦<SpentAndMoved as Join>⟧.bottom };
 
-    ghost laws = { pair_order (map_order nat_cmp max_order) (map_order nat_cmp (map_order nat_cmp max_order)) };
+    ghost laws = { pair_order (map_order nat_cmp max_order)
+        (map_order nat_cmp (map_order nat_cmp max_order)) };
 
     fn joined(&self, alloc: Global, other: &Self) -> Result<Self, AllocError> {
         let shares = self.shares.joined(alloc, &other.shares)?;

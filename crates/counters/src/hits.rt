@@ -54,9 +54,11 @@ impl HitCounter {
     /// Counts a hit of a node, and answers how many it now has. It is refused where the node has
     /// 2^64 - 1 (`CellFull`), and where it has none and memory is refused (`OutOfMemory`).
     pub fn hit(&mut self, alloc: Global, node: u8) -> Result<u64, CounterFault>
-        ensures ok { IfOk result (λ hits. (hit_refusal self.old node ≡ None) × (hits ≡ cell self.old node + 1)) }
-        ensures after { OnOk result (WritesCell self.old self.new node (cell self.old node + 1)) }
-        ensures refused { IfErr result (IsRefusal (hit_refusal self.old node) (cell self.old node)) }
+        ensures ok { OnOk result (hit_refusal self.old node ≡ None) }
+        ensures answer { IfOk result (λ hits. hits ≡ cell self.old node + 1) }
+        ensures after { IfOk result (WritesCell self.old self.new node) }
+        ensures refused { IfErr result
+            (IsRefusal (hit_refusal self.old node) (cell self.old node)) }
         ensures err { OnErr result (self.new ≡ self.old) }
     {
         let hits = self.of(node);
@@ -69,7 +71,8 @@ impl HitCounter {
 
     /// Raises the hits of a node to at least `hits`. Memory is asked for only where it has none.
     pub fn raise(&mut self, alloc: Global, node: u8, hits: u64) -> Result<(), AllocError>
-        ensures ok { OnOk result (WritesCell self.old self.new node (max (cell self.old node) hits)) }
+        ensures ok { OnOk result
+            (WritesCell self.old self.new node (max (cell self.old node) hits)) }
         ensures err { OnErr result (self.new ≡ self.old) }
         ensures absent { OnErr result (cell self.old node ≡ 0) }
     {

@@ -58,7 +58,8 @@ module _ {K : Type 0} {cmp : K → K → Ordering} (total : IsTotalOrder cmp) wh
 
 module _ {K J : Type 0} {cmp : K → K → Ordering} (total : IsTotalOrder cmp) where
   -- what is stored at each key once an entry is put in
-  stored_at-insert_entry : (m : List (K × J)) (k : K) (v : J) (q : K) → stored_at cmp (insert_entry cmp m k v) q ≡ cond (is_at (cmp q) k) (Some v) (stored_at cmp m q)
+  stored_at-insert_entry : (m : List (K × J)) (k : K) (v : J) (q : K)
+      → stored_at cmp (insert_entry cmp m k v) q ≡ cond (is_at (cmp q) k) (Some v) (stored_at cmp m q)
   stored_at-insert_entry [] k v q = refl
   stored_at-insert_entry (e ∷ m) k v q = by_order (cmp k e.0) refl (stored_at-insert_entry m k v q)
     where
@@ -69,24 +70,31 @@ module _ {K J : Type 0} {cmp : K → K → Ordering} (total : IsTotalOrder cmp) 
       over true = refl
       over false = refl
 
-      past : (s t : Bool) → is_at (cmp q) e.0 ≡ s → is_at (cmp q) k ≡ t → cmp k e.0 ≡ Greater → cond s (Some e.1) (cond t (Some v) (stored_at cmp m q)) ≡ cond t (Some v) (cond s (Some e.1) (stored_at cmp m q))
+      past : (s t : Bool) → is_at (cmp q) e.0 ≡ s → is_at (cmp q) k ≡ t → cmp k e.0 ≡ Greater
+          → cond s (Some e.1) (cond t (Some v) (stored_at cmp m q))
+          ≡ cond t (Some v) (cond s (Some e.1) (stored_at cmp m q))
       past true true here there greater =
           let c : Equal ≡ Greater = sym (is_eq-true (cmp q e.0) here) ∙ total.congr q k e.0 (is_eq-true (cmp q k) there) ∙ greater in
           cc
       past true false here there greater = refl
       past false t here there greater = refl
 
-      by_order : (r : Ordering) → cmp k e.0 ≡ r → stored_at cmp (insert_entry cmp m k v) q ≡ cond (is_at (cmp q) k) (Some v) (stored_at cmp m q) → stored_at cmp (match_ordering r ((k, v) ∷ e ∷ m) ((e.0, v) ∷ m) (e ∷ insert_entry cmp m k v)) q ≡ cond (is_at (cmp q) k) (Some v) (stored_at cmp (e ∷ m) q)
+      by_order : (r : Ordering) → cmp k e.0 ≡ r
+          → stored_at cmp (insert_entry cmp m k v) q ≡ cond (is_at (cmp q) k) (Some v) (stored_at cmp m q)
+          → stored_at cmp (match_ordering r ((k, v) ∷ e ∷ m) ((e.0, v) ∷ m) (e ∷ insert_entry cmp m k v)) q
+          ≡ cond (is_at (cmp q) k) (Some v) (stored_at cmp (e ∷ m) q)
       by_order Less answer rest = refl
       by_order Equal answer rest = rw (same_test answer) (over (is_at (cmp q) e.0))
       by_order Greater answer rest = rw rest (past (is_at (cmp q) e.0) (is_at (cmp q) k) refl refl answer)
 
   -- what holds of each key holds with one more of which it holds
-  keys-insert_entry : (P : K → Type 0) (m : List (K × J)) (k : K) (v : J) → AllByRecursion P (keys_of m) → P k → AllByRecursion P (keys_of (insert_entry cmp m k v))
+  keys-insert_entry : (P : K → Type 0) (m : List (K × J)) (k : K) (v : J) → AllByRecursion P (keys_of m) → P k
+      → AllByRecursion P (keys_of (insert_entry cmp m k v))
   keys-insert_entry P [] k v h p = (p, tt)
   keys-insert_entry P (e ∷ m) k v h p = by_order (cmp k e.0) (keys-insert_entry P m k v h.1 p)
     where
-      by_order : (r : Ordering) → AllByRecursion P (keys_of (insert_entry cmp m k v)) → AllByRecursion P (keys_of (match_ordering r ((k, v) ∷ e ∷ m) ((e.0, v) ∷ m) (e ∷ insert_entry cmp m k v)))
+      by_order : (r : Ordering) → AllByRecursion P (keys_of (insert_entry cmp m k v))
+          → AllByRecursion P (keys_of (match_ordering r ((k, v) ∷ e ∷ m) ((e.0, v) ∷ m) (e ∷ insert_entry cmp m k v)))
       by_order Less rest = (p, h)
       by_order Equal rest = h
       by_order Greater rest = (h.0, rest)
@@ -97,7 +105,8 @@ module _ {K J : Type 0} {cmp : K → K → Ordering} (total : IsTotalOrder cmp) 
   sorted-insert_entry [] k v h = (tt, tt)
   sorted-insert_entry (e ∷ m) k v h = by_order (cmp k e.0) refl (sorted-insert_entry m k v h.1)
     where
-      by_order : (r : Ordering) → cmp k e.0 ≡ r → IsStrictlySortedBy cmp (keys_of (insert_entry cmp m k v)) → IsStrictlySortedBy cmp (keys_of (match_ordering r ((k, v) ∷ e ∷ m) ((e.0, v) ∷ m) (e ∷ insert_entry cmp m k v)))
+      by_order : (r : Ordering) → cmp k e.0 ≡ r → IsStrictlySortedBy cmp (keys_of (insert_entry cmp m k v))
+          → IsStrictlySortedBy cmp (keys_of (match_ordering r ((k, v) ∷ e ∷ m) ((e.0, v) ∷ m) (e ∷ insert_entry cmp m k v)))
       by_order Less answer rest = ((answer, all_above total k e.0 (keys_of m) answer h.0), h)
       by_order Equal answer rest = h
       by_order Greater answer rest = (keys-insert_entry (λ y. cmp e.0 y ≡ Less) m k v h.0 (total.antisymm e.0 k ∙ ap ordering_reverse answer), rest)
@@ -108,10 +117,17 @@ module _ {K J : Type 0} {cmp : K → K → Ordering} (total : IsTotalOrder cmp) 
     rest_is_map e m h = record { ordered = sorted_tail cmp e.0 (keys_of m) h.ordered; stored = h.stored.1 }
 
     -- a map above x and all but the first entry, with a value at that key above its own and the entry's
-    with_entry : (x rest : List (K × J)) (k : K) (v : J) → IsMap cmp admitted order bottom x → IsMap cmp admitted order bottom ((k, v) ∷ rest) → (b : Bound (IsMap cmp admitted order bottom) (MapOrder cmp order bottom) x rest) → Bound admitted order (value_at cmp bottom b.above k) v → Bound (IsMap cmp admitted order bottom) (MapOrder cmp order bottom) x ((k, v) ∷ rest)
+    with_entry : (x rest : List (K × J)) (k : K) (v : J) → IsMap cmp admitted order bottom x
+        → IsMap cmp admitted order bottom ((k, v) ∷ rest)
+        → (b : Bound (IsMap cmp admitted order bottom) (MapOrder cmp order bottom) x rest)
+        → Bound admitted order (value_at cmp bottom b.above k) v
+        → Bound (IsMap cmp admitted order bottom) (MapOrder cmp order bottom) x ((k, v) ∷ rest)
     with_entry x rest k v h e b w = record {
       above = new;
-      is_admitted = inserted_is_map cmp admitted order bottom laws m new k w.above b.is_admitted refl (sorted-insert_entry m k w.above b.is_admitted.ordered) (w.is_admitted, λ below. e.stored.0.1 (laws.transitive v w.above bottom e.stored.0.0 w.is_admitted laws.bottom_admitted w.second below));
+      is_admitted =
+          inserted_is_map cmp admitted order bottom laws m new k w.above b.is_admitted refl
+          (sorted-insert_entry m k w.above b.is_admitted.ordered)
+          (w.is_admitted, λ below. e.stored.0.1 (laws.transitive v w.above bottom e.stored.0.0 w.is_admitted laws.bottom_admitted w.second below));
       first = λ q. rw (stored_at-insert_entry m k w.above q) (first_at q (is_at (cmp q) k) refl);
       second = λ q. rw (stored_at-insert_entry m k w.above q) (second_at q (is_at (cmp q) k));
     }
@@ -127,12 +143,15 @@ module _ {K J : Type 0} {cmp : K → K → Ordering} (total : IsTotalOrder cmp) 
 
         first_at : (q : K) (t : Bool) → is_at (cmp q) k ≡ t → order (value_at cmp bottom x q) (unwrap_or (cond t (Some w.above) (stored_at cmp m q)) bottom)
         first_at q true at =
-            let same : value_at cmp bottom m q ≡ value_at cmp bottom m k = ap (λ (o : Option J). unwrap_or o bottom) (stored_at_equal total m q k (is_eq-true (cmp q k) at)) in
+            let same : value_at cmp bottom m q ≡ value_at cmp bottom m k =
+            ap (λ (o : Option J). unwrap_or o bottom) (stored_at_equal total m q k (is_eq-true (cmp q k) at)) in
             let below : order (value_at cmp bottom m q) w.above = subst (λ (u : J). order u w.above) (sym same) w.first in
-            laws.transitive (value_at cmp bottom x q) (value_at cmp bottom m q) w.above (admitted_at cmp admitted order bottom laws x h q) (value_in q) w.is_admitted (b.first q) below
+            laws.transitive (value_at cmp bottom x q) (value_at cmp bottom m q) w.above
+            (admitted_at cmp admitted order bottom laws x h q) (value_in q) w.is_admitted (b.first q) below
         first_at q false at = b.first q
 
-        second_at : (q : K) (t : Bool) → order (unwrap_or (cond t (Some v) (stored_at cmp rest q)) bottom) (unwrap_or (cond t (Some w.above) (stored_at cmp m q)) bottom)
+        second_at : (q : K) (t : Bool)
+            → order (unwrap_or (cond t (Some v) (stored_at cmp rest q)) bottom) (unwrap_or (cond t (Some w.above) (stored_at cmp m q)) bottom)
         second_at q true = w.second
         second_at q false = b.second q
 
@@ -146,4 +165,5 @@ module _ {K J : Type 0} {cmp : K → K → Ordering} (total : IsTotalOrder cmp) 
     }
     map_bounds bounds x (e ∷ rest) h k =
         let b = map_bounds bounds x rest h (rest_is_map e rest k) in
-        with_entry x rest e.0 e.1 h k b (bounds (value_at cmp bottom b.above e.0) e.1 (admitted_at cmp admitted order bottom laws b.above b.is_admitted e.0) k.stored.0.0)
+        with_entry x rest e.0 e.1 h k b
+        (bounds (value_at cmp bottom b.above e.0) e.1 (admitted_at cmp admitted order bottom laws b.above b.is_admitted e.0) k.stored.0.0)

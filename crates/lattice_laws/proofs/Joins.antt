@@ -7,7 +7,8 @@ module _ {J : Type 0} {admitted : J → Type 0} {order : J → J → Type 0} {bo
   through : {x y z : J} → admitted x → admitted y → admitted z → order x y → order y z → order x z
   through {x} {y} {z} a b c p q = laws.transitive x y z a b c p q
 
-  pub join-assoc : (x y z xy yz left right : J) → IsJoin admitted order x y xy → IsJoin admitted order xy z left → IsJoin admitted order y z yz → IsJoin admitted order x yz right → Same order left right
+  pub join-assoc : (x y z xy yz left right : J) → IsJoin admitted order x y xy → IsJoin admitted order xy z left
+      → IsJoin admitted order y z yz → IsJoin admitted order x yz right → Same order left right
   join-assoc x y z xy yz left right first_two outer last_two other =
       let la = outer.admitted_join in
       let ra = other.admitted_join in (
@@ -85,7 +86,9 @@ module _ {J : Type 0} {admitted : J → Type 0} {order : J → J → Type 0} {bo
   }
 
 -- what joins a value with the bottom joins it with all that is below
-pub join_with_below : {J : Type 0} {admitted : J → Type 0} {order : J → J → Type 0} {bottom : J} → IsJoinOrder admitted order bottom → (x y j : J) → admitted y → order y x → IsJoin admitted order x bottom j → IsJoin admitted order x y j
+pub join_with_below : {J : Type 0} {admitted : J → Type 0} {order : J → J → Type 0} {bottom : J}
+    → IsJoinOrder admitted order bottom → (x y j : J) → admitted y → order y x → IsJoin admitted order x bottom j
+    → IsJoin admitted order x y j
 join_with_below laws x y j a below join = record {
   admitted_first = join.admitted_first;
   admitted_second = a;

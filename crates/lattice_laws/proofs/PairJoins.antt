@@ -4,7 +4,10 @@ use Rattle.lattice_laws.specs.Pair.{AreBoth, PairOrder, pair_of}
 use Rattle.lattice_laws.specs.declared.pair.PairOf.{PairOf}
 
 -- the joins of both parts are the join
-pub pair_join : {A B : Type 0} {admitted_a : A → Type 0} {order_a : A → A → Type 0} {admitted_b : B → Type 0} {order_b : B → B → Type 0} {x y : PairOf A B} {a : A} {b : B} → IsJoin admitted_a order_a x.first y.first a → IsJoin admitted_b order_b x.second y.second b → IsJoin (AreBoth admitted_a admitted_b) (PairOrder order_a order_b) x y (pair_of a b)
+pub pair_join : {A B : Type 0} {admitted_a : A → Type 0} {order_a : A → A → Type 0} {admitted_b : B → Type 0}
+    {order_b : B → B → Type 0} {x y : PairOf A B} {a : A} {b : B} → IsJoin admitted_a order_a x.first y.first a
+    → IsJoin admitted_b order_b x.second y.second b
+    → IsJoin (AreBoth admitted_a admitted_b) (PairOrder order_a order_b) x y (pair_of a b)
 pair_join first second = record {
   admitted_first = (first.admitted_first, second.admitted_first);
   admitted_second = (first.admitted_second, second.admitted_second);

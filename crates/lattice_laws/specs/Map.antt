@@ -1,4 +1,5 @@
--- A map as the list of its entries, which stands for a function: at an absent key it has the bottom.
+-- A map as the list of its entries, which stands for a function: at an absent key it has the
+-- bottom.
 use Rattle.std.specs.Prelude.{◌≡◌, ◌≢◌, Bool, true, false, cond, Option, Some, None, List, [], ◌∷◌, unwrap_or}
 use Rattle.std.specs.declared.cmp.Ordering.{Ordering}
 use Rattle.std.specs.declared.cmp.Ordering.TheVariants.{Equal}
@@ -17,6 +18,10 @@ module _ {K J : Type 0} (cmp : K → K → Ordering) where
   abbrev pub value_at : J → List (K × J) → K → J
   value_at bottom m k = unwrap_or (stored_at m k) bottom
 
+  -- new has at every other key what old has
+  abbrev pub KeepsOtherKeys : List (K × J) → List (K × J) → K → Type 0
+  KeepsOtherKeys old new key = (q : K) → cmp key q ≢ Equal → stored_at new q ≡ stored_at old q
+
   -- at each key the value is below
   abbrev pub MapOrder : (J → J → Type 0) → J → List (K × J) → List (K × J) → Type 0
   MapOrder order bottom m n = (k : K) → order (value_at bottom m k) (value_at bottom n k)
@@ -34,7 +39,7 @@ module _ {K J : Type 0} (cmp : K → K → Ordering) where
     -- new has the join at the key, and at every other key what old has
     pub record RaisesOnly (old new : List (K × J)) (key : K) (value : J) : Type 0 where
       pub this_key : IsJoin admitted order (value_at bottom old key) value (value_at bottom new key)
-      pub other_keys : (q : K) → cmp key q ≢ Equal → stored_at new q ≡ stored_at old q
+      pub other_keys : KeepsOtherKeys old new key
 
     -- the value is what is stored, or it is the bottom and nothing is
     abbrev pub IsStored : Option J → J → Type 0
@@ -45,11 +50,12 @@ module _ {K J : Type 0} (cmp : K → K → Ordering) where
     pub record PutsOnly (old new : List (K × J)) (key : K) (value : J) : Type 0 where
       pub admitted_value : admitted value
       pub this_key : IsStored (stored_at new key) value
-      pub other_keys : (q : K) → cmp key q ≢ Equal → stored_at new q ≡ stored_at old q
+      pub other_keys : KeepsOtherKeys old new key
 
     -- a call was made on the value at the key, and new has there what the call left; where it left
     -- the value as it was, all is as it was
-    pub record ChangesOnly {R : Type 0} (call : J → R → J → Type 0) (old new : List (K × J)) (key : K) (answer : R) : Type 0 where
+    pub record ChangesOnly {R : Type 0} (call : J → R → J → Type 0) (old new : List (K × J))
+        (key : K) (answer : R) : Type 0 where
       pub held : J
       pub left : J
       pub found : stored_at old key ≡ Some held
@@ -62,39 +68,50 @@ module _ {K J : Type 0} (cmp : K → K → Ordering) where
       pub first_is_map : IsMap x
       pub second_is_map : IsMap y
       pub joined_is_map : IsMap joined
-      pub at_each_key : (q : K) → IsJoin admitted order (value_at bottom x q) (value_at bottom y q) (value_at bottom joined q)
+      pub at_each_key : (q : K)
+          → IsJoin admitted order (value_at bottom x q) (value_at bottom y q) (value_at bottom joined q)
 
 module _ {K J : Type 0} (cmp : K → K → Ordering) (admitted : J → Type 0) (order : J → J → Type 0) (bottom : J) where
   -- the value that a test finds among entries is one of the type, and so is the bottom
-  admitted_found : (test : K → Bool) (m : List (K × J)) → admitted bottom → AllByRecursion (λ e. MayBeStored cmp admitted order bottom e.1) m → admitted (unwrap_or (lookup test m) bottom)
+  admitted_found : (test : K → Bool) (m : List (K × J)) → admitted bottom
+      → AllByRecursion (λ e. MayBeStored cmp admitted order bottom e.1) m
+      → admitted (unwrap_or (lookup test m) bottom)
   admitted_found test [] b h = b
   admitted_found test (e ∷ m) b h = by_test (test e.0) (admitted_found test m b h.1)
     where
-      by_test : (t : Bool) → admitted (unwrap_or (lookup test m) bottom) → admitted (unwrap_or (cond t (Some e.1) (lookup test m)) bottom)
+      by_test : (t : Bool) → admitted (unwrap_or (lookup test m) bottom)
+          → admitted (unwrap_or (cond t (Some e.1) (lookup test m)) bottom)
       by_test true rest = h.0.0
       by_test false rest = rest
 
   -- the value at each key is one of the type
-  pub admitted_at : IsJoinOrder admitted order bottom → (m : List (K × J)) → IsMap cmp admitted order bottom m → (k : K) → admitted (value_at cmp bottom m k)
+  pub admitted_at : IsJoinOrder admitted order bottom
+      → (m : List (K × J)) → IsMap cmp admitted order bottom m → (k : K) → admitted (value_at cmp bottom m k)
   admitted_at laws m h k = admitted_found (is_at (cmp k)) m laws.bottom_admitted h.stored
 
   pub empty_is_map : IsMap cmp admitted order bottom []
   unfolding IsStrictlySortedBy
   empty_is_map = record { ordered = tt; stored = tt }
 
--- maps of a lattice's values are a lattice
-pub map_order : {K J : Type 0} (cmp : K → K → Ordering) {admitted : J → Type 0} {order : J → J → Type 0} {bottom : J} → IsJoinOrder admitted order bottom → IsJoinOrder (IsMap cmp admitted order bottom) (MapOrder cmp order bottom) []
-map_order cmp {admitted} {order} {bottom} laws = record {
-  reflexive = λ m h k. laws.reflexive _ (admitted_at cmp admitted order bottom laws m h k);
-  transitive = λ l m n a b c p q k. laws.transitive _ _ _ (admitted_at cmp admitted order bottom laws l a k) (admitted_at cmp admitted order bottom laws m b k) (admitted_at cmp admitted order bottom laws n c k) (p k) (q k);
-  bottom_admitted = empty_is_map cmp admitted order bottom;
-  bottom_least = λ m h k. laws.bottom_least _ (admitted_at cmp admitted order bottom laws m h k);
-}
+module _ {K J : Type 0} (cmp : K → K → Ordering) {admitted : J → Type 0} {order : J → J → Type 0} {bottom : J} where
+  -- maps of a lattice's values are a lattice
+  pub map_order : IsJoinOrder admitted order bottom
+      → IsJoinOrder (IsMap cmp admitted order bottom) (MapOrder cmp order bottom) []
+  map_order laws =
+      let at = admitted_at cmp admitted order bottom laws in
+      record {
+        reflexive = λ m h k. laws.reflexive _ (at m h k);
+        transitive = λ l m n a b c p q k. laws.transitive _ _ _ (at l a k) (at m b k) (at n c k) (p k) (q k);
+        bottom_admitted = empty_is_map cmp admitted order bottom;
+        bottom_least = λ m h k. laws.bottom_least _ (at m h k);
+      }
 
--- what was put at a key is what is meant there
-pub put_same : {K J : Type 0} (cmp : K → K → Ordering) {admitted : J → Type 0} {order : J → J → Type 0} {bottom : J} → IsJoinOrder admitted order bottom → (old new : List (K × J)) (key : K) (value : J) → PutsOnly cmp admitted order bottom old new key value → Same order (value_at cmp bottom new key) value
-put_same {K} {J} cmp {admitted} {order} {bottom} laws old new key value put = by_cases (stored_at cmp new key) put.this_key
-  where
-    by_cases : (o : Option J) → IsStored cmp admitted order bottom o value → Same order (unwrap_or o bottom) value
-    by_cases None below = (laws.bottom_least value put.admitted_value, below)
-    by_cases (Some held) h = rw h.0 (laws.reflexive value put.admitted_value, laws.reflexive value put.admitted_value)
+  -- what was put at a key is what is meant there
+  pub put_same : IsJoinOrder admitted order bottom → (old new : List (K × J)) (key : K) (value : J)
+      → PutsOnly cmp admitted order bottom old new key value → Same order (value_at cmp bottom new key) value
+  put_same laws old new key value put = by_cases (stored_at cmp new key) put.this_key
+    where
+      by_cases : (o : Option J) → IsStored cmp admitted order bottom o value → Same order (unwrap_or o bottom) value
+      by_cases None below = (laws.bottom_least value put.admitted_value, below)
+      by_cases (Some held) h =
+          rw h.0 (laws.reflexive value put.admitted_value, laws.reflexive value put.admitted_value)

@@ -40,14 +40,17 @@ module _ {J : Type 0} (admitted : J → Type 0) (order : J → J → Type 0) whe
   -- nor does the grouping of three
   abbrev pub IsAssociative : Type 0
   IsAssociative =
-      (x y z xy yz left right : J) → IsJoin x y xy → IsJoin xy z left → IsJoin y z yz → IsJoin x yz right → Same order left right
+      (x y z xy yz left right : J) → IsJoin x y xy → IsJoin xy z left → IsJoin y z yz → IsJoin x yz right
+      → Same order left right
 
   -- a join is below exactly the values that are above both
   abbrev pub IsLeastAbove : Type 0
   IsLeastAbove = (x y j u : J) → IsJoin x y j → admitted u → ((order j u) ↔ (order x u × order y u))
 
 -- the order of a part, by which a value that is known by that part alone is ordered
-pub order_through : {J M : Type 0} {admitted : J → Type 0} {order : J → J → Type 0} (part : M → J) (bottom : M) → IsJoinOrder admitted order (part bottom) → IsJoinOrder (λ m. admitted (part m)) (λ m n. order (part m) (part n)) bottom
+pub order_through : {J M : Type 0} {admitted : J → Type 0} {order : J → J → Type 0} (part : M → J) (bottom : M)
+    → IsJoinOrder admitted order (part bottom)
+    → IsJoinOrder (λ m. admitted (part m)) (λ m n. order (part m) (part n)) bottom
 order_through part bottom laws = record {
   reflexive = λ x a. laws.reflexive (part x) a;
   transitive = λ x y z a b c p q. laws.transitive (part x) (part y) (part z) a b c p q;
@@ -56,7 +59,9 @@ order_through part bottom laws = record {
 }
 
 -- and whose joins are those of the part
-pub join_through : {J M : Type 0} {admitted : J → Type 0} {order : J → J → Type 0} (part : M → J) (x y j : M) → IsJoin admitted order (part x) (part y) (part j) → IsJoin (λ m. admitted (part m)) (λ m n. order (part m) (part n)) x y j
+pub join_through : {J M : Type 0} {admitted : J → Type 0} {order : J → J → Type 0} (part : M → J) (x y j : M)
+    → IsJoin admitted order (part x) (part y) (part j)
+    → IsJoin (λ m. admitted (part m)) (λ m n. order (part m) (part n)) x y j
 join_through part x y j join = record {
   admitted_first = join.admitted_first;
   admitted_second = join.admitted_second;
@@ -67,10 +72,17 @@ join_through part x y j join = record {
 }
 
 -- the same of a join that may have been refused
-pub may_join_through : {J M A E : Type 0} (admitted : J → Type 0) (order : J → J → Type 0) (part : M → J) (x y j : M) (r : Result A E) → OnOk r (IsJoin admitted order (part x) (part y) (part j)) → OnOk r (IsJoin (λ m. admitted (part m)) (λ m n. order (part m) (part n)) x y j)
+pub may_join_through : {J M A E : Type 0} (admitted : J → Type 0) (order : J → J → Type 0) (part : M → J) (x y j : M)
+    (r : Result A E)
+    → OnOk r (IsJoin admitted order (part x) (part y) (part j))
+    → OnOk r (IsJoin (λ m. admitted (part m)) (λ m n. order (part m) (part n)) x y j)
 may_join_through admitted order part x y j (Ok v) join = join_through part x y j join
 may_join_through admitted order part x y j (Err e) join = tt
 
 -- two joins of the same values mean the same
-pub join_unique : {J : Type 0} {admitted : J → Type 0} {order : J → J → Type 0} {x y j k : J} → IsJoin admitted order x y j → IsJoin admitted order x y k → Same order j k
-join_unique {j = j} {k = k} first second = (first.least k second.admitted_join second.above_first second.above_second, second.least j first.admitted_join first.above_first first.above_second)
+pub join_unique : {J : Type 0} {admitted : J → Type 0} {order : J → J → Type 0} {x y j k : J}
+    → IsJoin admitted order x y j → IsJoin admitted order x y k → Same order j k
+join_unique {j = j} {k = k} first second = (
+  first.least k second.admitted_join second.above_first second.above_second,
+  second.least j first.admitted_join first.above_first first.above_second,
+)

@@ -50,9 +50,11 @@ impl<S: Held, J: Join> LexOf<S, J> {
     /// Changes the value in place, and answers what the change answers. Where nothing is held it
     /// answers `None`.
     pub fn change<R, F: FnOnce(&mut J) -> R>(&mut self, change: F) -> Option<R>
-        requires { (value : MutBor J) → option_map (λ p. p.1) self.old ≡ Some value.now → F.pre change value }
+        requires { (value : MutBor J)
+            → option_map (λ p. p.1) self.old ≡ Some value.now → F.pre change value }
         ensures found { IsSome result ↔ IsSome self.old }
-        ensures changed { IfSome result (ChangesHeld (FnOnceReturnsAtMut F.FnOnce change) self.old self.new) }
+        ensures changed { IfSome result
+            (ChangesHeld (FnOnceReturnsAtMut F.FnOnce change) self.old self.new) }
         ensures absent { IfNone result (self.new ≡ self.old) }
     {
         let (_, value) = self.held.as_mut()?;

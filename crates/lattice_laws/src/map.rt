@@ -1,11 +1,10 @@
 //! Maps to values that join.
 
-ghost use Rattle.std.specs.Prelude.{◌≡◌, ◌≢◌, ◌<◌, ◌^◌, ◌↔◌, [], Some, None, IfNone, IfSome, IsSome, IsTrue, OnOk, OnErr, length, slice_get};
+ghost use Rattle.std.specs.Prelude.{◌≡◌, ◌<◌, ◌^◌, ◌↔◌, [], Some, None, IfNone, IfSome, IsSome, IsTrue, OnOk, OnErr, length, slice_get};
 ghost use Rattle.std.specs.Fn.{FnOnceReturnsAtMut};
 ghost use Rattle.std.specs.Borrow.{MutBor};
-ghost use Rattle.std.specs.declared.cmp.Ordering.TheVariants.{Equal};
 ghost use Rattle.std.specs.Option.{option_copied, option_map};
-ghost use Rattle.lattice_laws.specs.Map.{stored_at, ChangesOnly, IsMap, JoinsAll, MayBeStored, RaisesOnly};
+ghost use Rattle.lattice_laws.specs.Map.{stored_at, ChangesOnly, IsMap, JoinsAll, KeepsOtherKeys, MayBeStored, RaisesOnly};
 
 use crate::join::{Held, Join};
 use std::alloc::{AllocError, Global};
@@ -87,9 +86,11 @@ impl<K: Held, J: Join> MapOf<K, J> {
     /// value it answers `None`, and nothing changes. Where the change leaves the bottom, the key
     /// has no value any more.
     pub fn change<R, F: FnOnce(&mut J) -> R>(&mut self, key: &K, change: F) -> Option<R>
-        requires { (value : MutBor J) → stored_at K.cmp self.old key.now ≡ Some value.now → F.pre change value }
+        requires { (value : MutBor J)
+            → stored_at K.cmp self.old key.now ≡ Some value.now → F.pre change value }
         ensures found { IsSome result ↔ IsSome (stored_at K.cmp self.old key.now) }
-        ensures changed { IfSome result (ChangesOnly K.cmp J.admitted J.order J.bottom (FnOnceReturnsAtMut F.FnOnce change) self.old self.new key.now) }
+        ensures changed { IfSome result (ChangesOnly K.cmp J.admitted J.order J.bottom
+            (FnOnceReturnsAtMut F.FnOnce change) self.old self.new key.now) }
         ensures absent { IfNone result (self.new ≡ self.old) }
     {
         let value = self.map.get_mut(key)?;
@@ -103,7 +104,8 @@ impl<K: Held, J: Join> MapOf<K, J> {
     /// Joins another value into the one at a key, in place. Where memory is refused, all stays as
     /// it was.
     pub fn raise(&mut self, alloc: Global, key: K, value: J) -> Result<(), AllocError>
-        ensures ok { OnOk result (RaisesOnly K.cmp J.admitted J.order J.bottom self.old self.new key value) }
+        ensures ok { OnOk result
+            (RaisesOnly K.cmp J.admitted J.order J.bottom self.old self.new key value) }
         ensures err { OnErr result (self.new ≡ self.old) }
     {
         match self.map.get_mut(&key) {
@@ -122,7 +124,7 @@ impl<K: Held, J: Join> MapOf<K, J> {
         requires found { IsSome (stored_at K.cmp self.old key.now) }
         requires stored { MayBeStored K.cmp J.admitted J.order J.bottom value }
         ensures this_key { stored_at K.cmp self.new key.now ≡ Some value }
-        ensures other_keys { (q : K) → K.cmp key.now q ≢ Equal → stored_at K.cmp self.new q ≡ stored_at K.cmp self.old q }
+        ensures other_keys { KeepsOtherKeys K.cmp self.old self.new key.now }
         ensures is_map { IsMap K.cmp J.admitted J.order J.bottom self.new }
     {
         if let Some(held) = self.map.get_mut(key) {
@@ -135,7 +137,8 @@ impl<K: Held, J: Join> MapOf<K, J> {
     // those is refused. It calls itself for each key, so the stack bounds how many there may be. A
     // look at the field tells the proof what holds of every map.
     fn take_in(&mut self, alloc: Global, mut other: Self) -> Result<(), AllocError>
-        ensures ok { OnOk result (JoinsAll K.cmp J.admitted J.order J.bottom self.old other self.new) }
+        ensures ok { OnOk result
+            (JoinsAll K.cmp J.admitted J.order J.bottom self.old other self.new) }
         ensures err { OnErr result (self.new ≡ self.old) }
     {
         let _ = &self.map;
@@ -171,7 +174,8 @@ impl<K: Held, J: Join> MapOf<K, J> {
 
     // Raises each key by what the other map has there. After an error some keys are raised.
     fn raise_all(&mut self, alloc: Global, other: &Self) -> Result<(), AllocError>
-        ensures { OnOk result (JoinsAll K.cmp J.admitted J.order J.bottom self.old other.now self.new) }
+        ensures { OnOk result
+            (JoinsAll K.cmp J.admitted J.order J.bottom self.old other.now self.new) }
     {
         let _ = &self.map;
         for (key, value) in other.map.iter() {

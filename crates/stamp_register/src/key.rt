@@ -1,6 +1,6 @@
 //! Keys, their stamps and their order.
 
-ghost use Rattle.std.specs.Prelude.{◌≡◌, ◌<◌, ◌≤◌, ◌+◌, ◌-◌, ◌^◌, MatchOption, Some, None, IfOk, IfSome};
+ghost use Rattle.std.specs.Prelude.{◌≡◌, ◌≤◌, ◌+◌, ◌-◌, ◌^◌, ◌↔◌, MatchOption, Some, None, IfOk, IfSome, IsNone};
 ghost use Rattle.stamp_register.specs.Keys.{KeyValue, IsLower, key_value, body_value, stamp_of, terms_set};
 
 use actions::Actions;
@@ -49,8 +49,11 @@ impl Key {
     /// The key that a node issues after this clock, which is above every key of that clock or an
     /// earlier one. There is none after the last clock, 2^64-1.
     pub fn next(clock: u64, node: u8, body: Body) -> Option<Key>
-        ensures value { MatchOption result (clock ≡ 2 ^ 64 - 1) (λ k. (clock < 2 ^ 64 - 1) × (k ≡ record { clock = clock + 1; node = node; body = body })) }
-        ensures above { IfSome result (λ k. (other : KeyValue) → other.clock ≤ clock → IsLower other (key_value k)) }
+        ensures last { IsNone result ↔ (clock ≡ 2 ^ 64 - 1) }
+        ensures value { IfSome result
+            (λ k. k ≡ record { clock = clock + 1; node = node; body = body }) }
+        ensures above { IfSome result (λ k.
+            (other : KeyValue) → other.clock ≤ clock → IsLower other (key_value k)) }
     {
         if clock == u64::MAX {
             return None;
@@ -75,7 +78,8 @@ impl Key {
     /// The actions that the key sets, if it isn't a removal.
     #[tactic(auto, unfolding(crate::specs::Keys::terms_in_text))]
     pub fn actions(&self) -> Option<&Actions>
-        ensures { MatchOption result (terms_set (key_value self.now).body ≡ None) (λ a. terms_set (key_value self.now).body ≡ Some a.now) }
+        ensures { MatchOption result (terms_set (key_value self.now).body ≡ None)
+            (λ a. terms_set (key_value self.now).body ≡ Some a.now) }
     {
         match &self.body {
             Body::Removed => None,
@@ -165,7 +169,8 @@ impl PartialOrd for Body {
 
     ghost partial_cmp = { as_partial_cmp (on (λ b. body_rank (body_value b)) (slice_cmp nat_cmp)) };
 
-    ghost laws = { partial_order_from_own_ties (Prim.search (comparing, rules)) (Prim.search (comparing, rules)) };
+    ghost laws = { partial_order_from_own_ties (Prim.search (comparing, rules))
+        (Prim.search (comparing, rules)) };
 
     fn partial_cmp(&self, other: &Body) -> Option<Ordering> {
         Some(self.cmp(other))
@@ -228,7 +233,8 @@ impl PartialOrd for Key {
 
     ghost partial_cmp = { as_partial_cmp (on (λ k. key_rank (key_value k)) (slice_cmp nat_cmp)) };
 
-    ghost laws = { partial_order_from_own_ties (Prim.search (comparing, rules)) (Prim.search (comparing, rules)) };
+    ghost laws = { partial_order_from_own_ties (Prim.search (comparing, rules))
+        (Prim.search (comparing, rules)) };
 
     fn partial_cmp(&self, other: &Key) -> Option<Ordering> {
         Some(self.cmp(other))

@@ -1,14 +1,15 @@
 use Rattle.std.proofs.Common.{◌≡◌, ℕ, List, map, sym, ap, subst, ◌∙◌}
 use Rattle.std.specs.Prelude.{Ok, Err, Result, Some, None, Option, IfSome, position, string_bytes}
 use Rattle.std.proofs.lemmas.Result.{err_from_is_err_and}
+use Rattle.refusals.specs.Refusals.{FailsUnless}
+use Rattle.refusals.proofs.StepLemmas.{ok_is}
 use Rattle.actions.specs.Value.{term_value}
 use Rattle.actions.specs.declared.task.Term.{Term}
 use Rattle.actions.specs.Grammar.{SpellsActions}
 use Rattle.actions.specs.Canonical.{canonical}
-use Rattle.actions.specs.Reading.{Fails, is_bad_byte}
+use Rattle.actions.specs.Reading.{is_want_of_memory, is_bad_byte}
 use Rattle.actions.specs.declared.fault.ActionFault.{ActionFault}
 use Rattle.actions.specs.declared.fault.ActionFault.TheVariants.{BadByte}
-use Rattle.actions.proofs.ByteLemmas.{ok_is}
 use Rattle.actions.proofs.Sound.{reading_sound}
 use Rattle.actions.proofs.Complete.{reading_complete}
 use Rattle.actions.proofs.CanonicalLemmas.{canonical_spells, canonical_shortest}
@@ -29,7 +30,7 @@ same_fault X Y None e h = tt
 pub returns-in_err-terms-clause-only : goal.returns-in_err-terms-clause-only
 returns-in_err-terms-clause-only c = λ ts h.
     let p = err_from_is_err_and c.from_residual.result c.from_residual.ensures.1 in
-    rw (p.1, p.2) (subst (Fails c.in_err-terms.field-0.0) (reading_complete c.args.text.now ts h) c.in_err-terms.ensures.exact)
+    rw (p.1, p.2) (subst (FailsUnless is_want_of_memory c.in_err-terms.field-0.0) (reading_complete c.args.text.now ts h) c.in_err-terms.ensures.exact)
 
 pub returns-in_err-terms-clause-bad_byte : goal.returns-in_err-terms-clause-bad_byte
 returns-in_err-terms-clause-bad_byte c = λ short.

@@ -19,7 +19,9 @@ loop-index-preserved c =
     let t = c.index-terms-index.result in
     let lt = c.loop-index-test.true in
     let at = c.index-terms-index.is in
-    let found = triggers_at terms c.args.words.now (λ k. slice_index_or c.args.may.now k false) i t c.loop-index.next _ lt at c.loop-index.invariant.used c.is_triggered.ensures in
+    let found =
+    triggers_at terms c.args.words.now (λ k. slice_index_or c.args.may.now k false) i t c.loop-index.next _ lt at
+    c.loop-index.invariant.used c.is_triggered.ensures in
     record {
       used =
           elim c.if-takes_word.branch [
@@ -42,7 +44,9 @@ returns-then-is_triggered c =
     let t = c.index-terms-index.result in
     let lt = c.loop-index-test.true in
     let at = c.index-terms-index.is in
-    let found = triggers_at terms c.args.words.now (λ k. slice_index_or c.args.may.now k false) i t c.loop-index.next _ lt at c.loop-index.invariant.used c.is_triggered.ensures in
+    let found =
+    triggers_at terms c.args.words.now (λ k. slice_index_or c.args.may.now k false) i t c.loop-index.next _ lt at
+    c.loop-index.invariant.used c.is_triggered.ensures in
     choice_from_first (map term_value terms) c.args.words.now _ (Some i)
     (within, found ∙ c.if-is_triggered.true, c.loop-index.invariant.none)
 

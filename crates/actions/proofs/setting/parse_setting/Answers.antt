@@ -44,7 +44,8 @@ returns-then-text-gt-MAX_SETTING-clause-long c = λ _. refl
 
 pub returns-clause-exact : goal.returns-clause-exact
 returns-clause-exact c =
-    exact (λ v. v.items) c.parse_entries.result c.args.text.now c.deref.result.now c.in_ok-entries.entries.items c.if-text-gt-MAX_SETTING.false c.deref.ensures.value c.in_ok-entries.ensures c.parse_entries.ensures
+    exact (λ v. v.items) c.parse_entries.result c.args.text.now c.deref.result.now c.in_ok-entries.entries.items
+    c.if-text-gt-MAX_SETTING.false c.deref.ensures.value c.in_ok-entries.ensures c.parse_entries.ensures
 
 pub returns-clause-found : goal.returns-clause-found
 returns-clause-found c = found (λ v. v.items) c.parse_entries.result c.args.text.now (returns-clause-exact c)

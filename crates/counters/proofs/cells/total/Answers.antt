@@ -25,7 +25,10 @@ loop-node-preserved c =
     let below : c.in-Some.node.now < 256 = omega arith in
     let before = rw c.in-Some.ensures.steps at c.loop-node.invariant in
     let entry = total-entry c.in-Some.node.now c.in-Some.number.now c.next.new.self below before.apart in
-    record { apart = apart-tail c.in-Some.node.now c.in-Some.number.now c.next.new.self before.apart; sum = omega (arith, before.sum, entry, c.from-sum.ensures) }
+    record {
+      apart = apart-tail c.in-Some.node.now c.in-Some.number.now c.next.new.self before.apart;
+      sum = omega (arith, before.sum, entry, c.from-sum.ensures);
+    }
 
 pub returns : goal.returns
 returns c =

@@ -17,7 +17,8 @@ overflow_add-sum c =
     let ne : c.in-Some.from.now ≢ c.args.node = search rules in
     let before = rw c.in-Some.ensures.steps at c.loop-from.invariant in
     let entry = total_from_others-counted c.args.node c.in-Some.from.now c.in-Some.row.now c.next.new.self below before.apart ne in
-    let all : sum_others numbers c.args.node (λ from. row_cell c.args.rows.now from c.args.node) ≤ 256 * 2 ^ 64 = total_from_others-bound c.args.node c.args.rows.now c.iter-from-items.ensures.is_map in
+    let all : sum_others numbers c.args.node (λ from. row_cell c.args.rows.now from c.args.node) ≤ 256 * 2 ^ 64 =
+    total_from_others-bound c.args.node c.args.rows.now c.iter-from-items.ensures.is_map in
     let fits : c.loop-from.sum + c.from-sum.result < 2 ^ 128 = omega (arith, before.sum, entry, all, c.from-sum.ensures, c.number_of.ensures) in
     omega arith
 
@@ -27,7 +28,10 @@ loop-from-preserved-then-from-node c =
     let ne : c.in-Some.from.now ≢ c.args.node = search rules in
     let before = rw c.in-Some.ensures.steps at c.loop-from.invariant in
     let entry = total_from_others-counted c.args.node c.in-Some.from.now c.in-Some.row.now c.next.new.self below before.apart ne in
-    record { apart = apart-tail c.in-Some.from.now c.in-Some.row.now c.next.new.self before.apart; sum = omega (arith, before.sum, entry, c.from-sum.ensures, c.number_of.ensures) }
+    record {
+      apart = apart-tail c.in-Some.from.now c.in-Some.row.now c.next.new.self before.apart;
+      sum = omega (arith, before.sum, entry, c.from-sum.ensures, c.number_of.ensures);
+    }
 
 pub loop-from-preserved : goal.loop-from-preserved
 loop-from-preserved c =
@@ -45,5 +49,6 @@ returns-clause-value c =
 
 pub returns-clause-small : goal.returns-clause-small
 returns-clause-small c =
-    let all : sum_others numbers c.args.node (λ from. row_cell c.args.rows.now from c.args.node) ≤ 256 * 2 ^ 64 = total_from_others-bound c.args.node c.args.rows.now c.iter-from-items.ensures.is_map in
+    let all : sum_others numbers c.args.node (λ from. row_cell c.args.rows.now from c.args.node) ≤ 256 * 2 ^ 64 =
+    total_from_others-bound c.args.node c.args.rows.now c.iter-from-items.ensures.is_map in
     omega (arith, all, c.loop-from.invariant.sum)

@@ -5,4 +5,8 @@ use Rattle.counters.proofs.CellLemmas.{AreApart}
 use Rattle.counters.proofs.cells.total_from_others.Given as goal
 
 abbrev pub invariant-loop-from : goal.invariant-loop-from
-invariant-loop-from l = record { apart : AreApart l.from-iterator; sum : l.sum + sum_others numbers l.node (λ from. row_cell l.from-iterator from l.node) ≡ sum_others numbers l.node (λ from. row_cell l.rows from l.node) }
+invariant-loop-from l =
+    record {
+      apart : AreApart l.from-iterator;
+      sum : l.sum + sum_others numbers l.node (λ from. row_cell l.from-iterator from l.node) ≡ sum_others numbers l.node (λ from. row_cell l.rows from l.node);
+    }

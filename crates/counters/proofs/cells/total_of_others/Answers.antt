@@ -17,7 +17,8 @@ overflow_add-sum c =
     let ne : c.in-Some.other.now ≢ c.args.node = search rules in
     let before = rw c.in-Some.ensures.steps at c.loop-other.invariant in
     let entry = total_of_others-counted c.args.node c.in-Some.other.now c.in-Some.number.now c.next.new.self below before.apart ne in
-    let all : sum_others numbers c.args.node (cell c.args.cells.now) ≤ 256 * 2 ^ 64 = total_of_others-bound c.args.node c.args.cells.now c.iter-other-items.ensures.is_map in
+    let all : sum_others numbers c.args.node (cell c.args.cells.now) ≤ 256 * 2 ^ 64 =
+    total_of_others-bound c.args.node c.args.cells.now c.iter-other-items.ensures.is_map in
     let fits : c.loop-other.sum + c.from-sum.result < 2 ^ 128 = omega (arith, before.sum, entry, all, c.from-sum.ensures) in
     omega arith
 
@@ -27,7 +28,10 @@ loop-other-preserved-then-other-node c =
     let ne : c.in-Some.other.now ≢ c.args.node = search rules in
     let before = rw c.in-Some.ensures.steps at c.loop-other.invariant in
     let entry = total_of_others-counted c.args.node c.in-Some.other.now c.in-Some.number.now c.next.new.self below before.apart ne in
-    record { apart = apart-tail c.in-Some.other.now c.in-Some.number.now c.next.new.self before.apart; sum = omega (arith, before.sum, entry, c.from-sum.ensures) }
+    record {
+      apart = apart-tail c.in-Some.other.now c.in-Some.number.now c.next.new.self before.apart;
+      sum = omega (arith, before.sum, entry, c.from-sum.ensures);
+    }
 
 pub loop-other-preserved : goal.loop-other-preserved
 loop-other-preserved c =
@@ -45,5 +49,6 @@ returns-clause-value c =
 
 pub returns-clause-small : goal.returns-clause-small
 returns-clause-small c =
-    let all : sum_others numbers c.args.node (cell c.args.cells.now) ≤ 256 * 2 ^ 64 = total_of_others-bound c.args.node c.args.cells.now c.iter-other-items.ensures.is_map in
+    let all : sum_others numbers c.args.node (cell c.args.cells.now) ≤ 256 * 2 ^ 64 =
+    total_of_others-bound c.args.node c.args.cells.now c.iter-other-items.ensures.is_map in
     omega (arith, all, c.loop-other.invariant.sum)

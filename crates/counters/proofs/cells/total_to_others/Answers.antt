@@ -11,7 +11,9 @@ use Rattle.counters.proofs.cells.total_to_others.Goals as goal
 pub returns-in-Some-clause-value : goal.returns-in-Some-clause-value
 returns-in-Some-clause-value c =
     let found : stored_at nat_cmp c.args.rows.now c.args.node ≡ Some c.in-Some.row.now = sym c.in-Some.ensures.value in
-    c.total_of_others.ensures.value ∙ sum_others-same numbers c.args.node (cell c.in-Some.row.now) (row_cell c.args.rows.now c.args.node) (λ q. sym (found_row_cell c.args.rows.now c.args.node c.in-Some.row.now found q))
+    c.total_of_others.ensures.value
+    ∙ sum_others-same numbers c.args.node (cell c.in-Some.row.now) (row_cell c.args.rows.now c.args.node)
+    (λ q. sym (found_row_cell c.args.rows.now c.args.node c.in-Some.row.now found q))
 
 pub returns-in-None-clause-value : goal.returns-in-None-clause-value
 returns-in-None-clause-value c =

@@ -13,7 +13,9 @@ returns-in-Some-clause-ok c =
     put_cell c.args.cells.now c.change.new.self c.args.node c.args.number changed.left written changed.put
 
 pub returns-in-None-clause-ok : goal.returns-in-None-clause-ok
-returns-in-None-clause-ok c = OnOk-map _ _ c.raise.result (raised_cell c.args.cells.now c.raise.new.self c.args.node c.args.number c.requires) (let same : c.change.new.self ≡ c.args.cells.now = c.in-None.ensures.absent in rw same at c.raise.ensures.ok)
+returns-in-None-clause-ok c =
+    OnOk-map _ _ c.raise.result (raised_cell c.args.cells.now c.raise.new.self c.args.node c.args.number c.requires)
+    (let same : c.change.new.self ≡ c.args.cells.now = c.in-None.ensures.absent in rw same at c.raise.ensures.ok)
 
 pub returns-in-None-clause-absent : goal.returns-in-None-clause-absent
 returns-in-None-clause-absent c = OnErr-always _ c.raise.result (absent_cell c.args.cells.now c.args.node c.in-None.ensures.found.1)

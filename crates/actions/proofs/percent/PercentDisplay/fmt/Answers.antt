@@ -20,5 +20,7 @@ returns-then-second-ne0-clause-writes g c =
 
 pub returns-else-second-ne0-clause-writes : goal.returns-else-second-ne0-clause-writes
 returns-else-second-ne0-clause-writes g c =
-    let printed = one_printed c.args.self.now.0 c.if-fourth-ne0.false c.if-third-ne0.false c.if-second-ne0.false (λ none. c.if-part-eq0.false (omega (arith, none))) in
+    let printed =
+    one_printed c.args.self.now.0 c.if-fourth-ne0.false c.if-third-ne0.false c.if-second-ne0.false
+    (λ none. c.if-part-eq0.false (omega (arith, none))) in
     λ p ok. has_written_of_eq _ _ _ _ _ (sym printed) (c.write-else-second-ne0.ensures.writes p ok)

@@ -4,14 +4,15 @@ use Rattle.std.proofs.lemmas.Int.{ints}
 use mir.Syntax.{w128}
 use mir.Val.{of_z, to_z}
 use Rattle.counters.specs.Sums.{numbers, sum_others}
-use Rattle.counters.specs.Budgets.{given, gone}
+use Rattle.counters.specs.Budgets.{given_to, gone_from}
 use Rattle.counters.specs.Cells.{budget_of, moved_cell, spent_cell}
 use Rattle.counters.proofs.CellLemmas.{chosen-other, chosen-same}
 use Rattle.counters.proofs.budget.Budget.rights.Goals.{then-node-setter, else-node-setter}
 use Rattle.counters.proofs.budget.Budget.rights.Goals as goal
 
 -- what is below 2^127 is the same as a signed number
-difference : (a b given gone : ℕ) → a ≡ given → b ≡ gone → a < 2 ^ 127 → b < 2 ^ 127 → to_z w128 (of_z w128 (to_z w128 a -ℤ to_z w128 b)) ≡ pos given -ℤ pos gone
+difference : (a b given gone : ℕ) → a ≡ given → b ≡ gone → a < 2 ^ 127 → b < 2 ^ 127
+    → to_z w128 (of_z w128 (to_z w128 a -ℤ to_z w128 b)) ≡ pos given -ℤ pos gone
 difference a b given gone e f p q = omega (arith, ints)
 
 pub returns : goal.returns
@@ -22,10 +23,14 @@ returns c =
       | else-node-setter w ↦ w.own-is ∙ sym (chosen-other c.args.node c.args.setter c.args.count 0 w.if-node-setter.false)
     ] in
     let small : c.if-node-setter.own < 2 ^ 64 = elim c.if-node-setter.branch [ then-node-setter w ↦ omega arith | else-node-setter w ↦ omega arith ] in
-    let came : c.total_from_others.result ≡ sum_others numbers c.args.node (λ from. moved_cell c.args.self.now from c.args.node) = rw (← c.self.view_is) c.total_from_others.ensures.value in
-    let went : c.total_to_others.result ≡ sum_others numbers c.args.node (moved_cell c.args.self.now c.args.node) = rw (← c.self.view_is) c.total_to_others.ensures.value in
+    let came : c.total_from_others.result
+    ≡ sum_others numbers c.args.node (λ from. moved_cell c.args.self.now from c.args.node) =
+    rw (← c.self.view_is) c.total_from_others.ensures.value in
+    let went : c.total_to_others.result ≡ sum_others numbers c.args.node (moved_cell c.args.self.now c.args.node) =
+    rw (← c.self.view_is) c.total_to_others.ensures.value in
     let spent : c.from-spent.result ≡ spent_cell c.args.self.now c.args.node = c.from-spent.ensures ∙ c.spent.ensures in
-    difference (c.if-node-setter.own + c.total_from_others.result) (c.total_to_others.result + c.from-spent.result) (given budget c.args.node) (gone budget c.args.node)
+    difference (c.if-node-setter.own + c.total_from_others.result) (c.total_to_others.result + c.from-spent.result)
+    (given_to budget c.args.node) (gone_from budget c.args.node)
     (λ i. own i + came i)
     (λ i. went i + spent i)
     (omega (arith, small, c.total_from_others.ensures.small))

@@ -28,7 +28,8 @@ returns-then-is_empty-clause-ok g n c =
     let start : IsMap cmp m.admitted m.order m.bottom c.args.self.now = rw (← c.self.view_is) c.self.invariant in
     let other : IsMap cmp m.admitted m.order m.bottom ((key, value) ∷ []) = rw all at c.other.invariant in
     let new : IsMap cmp m.admitted m.order m.bottom c.raise.new.self = rw (← c.self-then-is_empty.view_is) c.self-then-is_empty.invariant in
-    rw (sym c.other.view_is ∙ all) (joins-one g.met.K.Ord.total m.admitted m.order m.bottom g.met.J.Join.laws c.args.self.now c.raise.new.self key value start other new c.in_ok-raise.ensures.ok)
+    rw (sym c.other.view_is ∙ all)
+    (joins-one g.met.K.Ord.total m.admitted m.order m.bottom g.met.J.Join.laws c.args.self.now c.raise.new.self key value start other new c.in_ok-raise.ensures.ok)
 
 -- a key that has a value keeps one while the others go in
 pub replace-requires-clause-found : goal.replace-requires-clause-found
@@ -48,7 +49,8 @@ returns-in_ok-take_in-in-Some-get-2-clause-ok g n c =
     let rest = c.pop_first.new.self.entries in
     let found : Some c.in-Some-get.held.now ≡ stored_at cmp c.args.self.now key = rw (← c.self.view_is) c.in-Some-get.ensures.value in
     let other : IsMap cmp m.admitted m.order m.bottom ((key, value) ∷ rest) = rw c.in-Some.ensures.removal at c.other.invariant in
-    rw (sym c.other.view_is ∙ c.in-Some.ensures.removal) (joins-beside g.met.K.Ord.total m.admitted m.order m.bottom g.met.J.Join.laws c.args.self.now rest c.take_in-in-Some-get.new.self c.replace.new.self key c.in-Some-get.held.now value c.in_ok-joined-in-Some-get.joined other c.replace.ensures.is_map found c.in_ok-joined-in-Some-get.ensures c.in_ok-take_in-in-Some-get-2.ensures.ok c.replace.ensures.this_key c.replace.ensures.other_keys)
+    rw (sym c.other.view_is ∙ c.in-Some.ensures.removal)
+    (joins-beside g.met.K.Ord.total m.admitted m.order m.bottom g.met.J.Join.laws c.args.self.now rest c.take_in-in-Some-get.new.self c.replace.new.self key c.in-Some-get.held.now value c.in_ok-joined-in-Some-get.joined other c.replace.ensures.is_map found c.in_ok-joined-in-Some-get.ensures c.in_ok-take_in-in-Some-get-2.ensures.ok c.replace.ensures.this_key c.replace.ensures.other_keys)
 
 -- a value that is below changes nothing
 pub returns-then-below-clause-ok : goal.returns-then-below-clause-ok
@@ -61,7 +63,8 @@ returns-then-below-clause-ok g n c =
     let held = c.in-Some-get.held.now in
     let found : Some held ≡ stored_at cmp c.args.self.now key = rw (← c.self.view_is) c.in-Some-get.ensures.value in
     let other : IsMap cmp m.admitted m.order m.bottom ((key, value) ∷ rest) = rw c.in-Some.ensures.removal at c.other.invariant in
-    rw (sym c.other.view_is ∙ c.in-Some.ensures.removal) (joins-below g.met.K.Ord.total m.admitted m.order m.bottom g.met.J.Join.laws c.args.self.now rest c.take_in.new.self key held value other found (c.below.ensures.value.0 c.if-below.true) c.in_ok-take_in-in-Some-get.ensures.ok)
+    rw (sym c.other.view_is ∙ c.in-Some.ensures.removal)
+    (joins-below g.met.K.Ord.total m.admitted m.order m.bottom g.met.J.Join.laws c.args.self.now rest c.take_in.new.self key held value other found (c.below.ensures.value.0 c.if-below.true) c.in_ok-take_in-in-Some-get.ensures.ok)
 
 -- a new key goes in before the others
 pub invariant_of-self-in-None : goal.invariant_of-self-in-None
@@ -81,7 +84,8 @@ returns-in_default-take_in-clause-ok g n c =
     let start : IsMap cmp m.admitted m.order m.bottom c.args.self.now = rw (← c.self.view_is) c.self.invariant in
     let other : IsMap cmp m.admitted m.order m.bottom ((key, value) ∷ rest) = rw c.in-Some.ensures.removal at c.other.invariant in
     let absent : stored_at cmp c.args.self.now key ≡ None = rw (← c.self.view_is) (sym c.in-None.ensures.value) in
-    rw (sym c.other.view_is ∙ c.in-Some.ensures.removal) (joins-after g.met.K.Ord.total m.admitted m.order m.bottom g.met.J.Join.laws c.args.self.now c.insert.new.self.entries rest c.take_in-in-None.new.self key value start other absent c.in_ok-insert-in-None.ensures.updates.1 (λ q h. rw (← c.self.view_is) (c.in_ok-insert-in-None.ensures.updates.2 q (is_eq-false (cmp key q) h))) c.in_default-take_in.ensures.ok)
+    rw (sym c.other.view_is ∙ c.in-Some.ensures.removal)
+    (joins-after g.met.K.Ord.total m.admitted m.order m.bottom g.met.J.Join.laws c.args.self.now c.insert.new.self.entries rest c.take_in-in-None.new.self key value start other absent c.in_ok-insert-in-None.ensures.updates.1 (λ q h. rw (← c.self.view_is) (c.in_ok-insert-in-None.ensures.updates.2 q (is_eq-false (cmp key q) h))) c.in_default-take_in.ensures.ok)
 
 -- and leaves again
 pub returns-in-Err-clause-err : goal.returns-in-Err-clause-err
@@ -89,7 +93,8 @@ returns-in-Err-clause-err g n c =
     let cmp = g.K.Ord.cmp in
     let before = c.self.inside.map.entries in
     let entered = c.self-in-None.inside.map.entries in
-    let inserted : entered ≡ insert_entry cmp before c.in-Some.key c.in-Some.value = c.self-in-None.view_is ∙ c.in-Err.ensures.err ∙ c.in_ok-insert-in-None.ensures.entries in
+    let inserted : entered ≡ insert_entry cmp before c.in-Some.key c.in-Some.value =
+    c.self-in-None.view_is ∙ c.in-Err.ensures.err ∙ c.in_ok-insert-in-None.ensures.entries in
     taken-back g.met.K.Ord.total before entered c.remove.new.self.entries c.in-Some.key c.in_ok-taken-in-None.taken c.in-Some.value c.in_ok-taken-in-None.ensures (sym c.in-None.ensures.value) inserted c.remove.ensures.entries ∙ c.self.view_is
 
 pub invariant_of-self-in-Err : goal.invariant_of-self-in-Err
@@ -97,6 +102,8 @@ invariant_of-self-in-Err g n c =
     let cmp = g.K.Ord.cmp in
     let before = c.self.inside.map.entries in
     let entered = c.self-in-None.inside.map.entries in
-    let inserted : entered ≡ insert_entry cmp before c.in-Some.key c.in-Some.value = c.self-in-None.view_is ∙ c.in-Err.ensures.err ∙ c.in_ok-insert-in-None.ensures.entries in
-    let back : c.remove.new.self.entries ≡ before = taken-back g.met.K.Ord.total before entered c.remove.new.self.entries c.in-Some.key c.in_ok-taken-in-None.taken c.in-Some.value c.in_ok-taken-in-None.ensures (sym c.in-None.ensures.value) inserted c.remove.ensures.entries in
+    let inserted : entered ≡ insert_entry cmp before c.in-Some.key c.in-Some.value =
+    c.self-in-None.view_is ∙ c.in-Err.ensures.err ∙ c.in_ok-insert-in-None.ensures.entries in
+    let back : c.remove.new.self.entries ≡ before =
+    taken-back g.met.K.Ord.total before entered c.remove.new.self.entries c.in-Some.key c.in_ok-taken-in-None.taken c.in-Some.value c.in_ok-taken-in-None.ensures (sym c.in-None.ensures.value) inserted c.remove.ensures.entries in
     rw back c.self.invariant

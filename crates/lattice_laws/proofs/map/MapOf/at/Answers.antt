@@ -3,4 +3,6 @@ use Rattle.std.proofs.lemmas.Iterator.Consumers.{nth_from_yields_List, YieldsLis
 use Rattle.lattice_laws.proofs.map.MapOf.at.Goals as goal
 
 pub returns : goal.returns
-returns g c = nth_from_yields_List c.nth.result c.nth.new.self c.args.index c.nth.ensures.ran (YieldsList-from_rest c.args.self.now (c.iter.ensures.rest ∙ c.self.view_is))
+returns g c =
+    nth_from_yields_List c.nth.result c.nth.new.self c.args.index c.nth.ensures.ran
+    (YieldsList-from_rest c.args.self.now (c.iter.ensures.rest ∙ c.self.view_is))

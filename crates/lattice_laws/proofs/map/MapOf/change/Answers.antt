@@ -12,7 +12,10 @@ invariant_of-self-then-is_bottom g c =
     let m = g.J.Join in
     let cmp = g.K.Ord.cmp in
     let left = c.change-answer.new.arg2 in
-    removed_is_map cmp m.admitted m.order m.bottom c.self.inside.map.entries (c.get_mut.follows.lender left).entries c.remove.new.self.entries (is_at (cmp c.args.key.now)) left c.self.invariant (c.get_mut.follows.holds left).0 c.remove.ensures.entries c.remove.ensures.ordered
+    removed_is_map cmp m.admitted m.order m.bottom c.self.inside.map.entries
+    (c.get_mut.follows.lender left).entries c.remove.new.self.entries
+    (is_at (cmp c.args.key.now)) left c.self.invariant
+    (c.get_mut.follows.holds left).0 c.remove.ensures.entries c.remove.ensures.ordered
 
 -- anything else stays
 pub invariant_of-self-else-is_bottom : goal.invariant_of-self-else-is_bottom
@@ -20,8 +23,11 @@ invariant_of-self-else-is_bottom g c =
     let m = g.J.Join in
     let cmp = g.K.Ord.cmp in
     let left = c.change-answer.new.arg2 in
-    let stored : MayBeStored cmp m.admitted m.order m.bottom left = (c.is_bottom.ensures.admitted_self, λ below. false≢true (sym c.if-is_bottom.false ∙ c.is_bottom.ensures.value.1 below)) in
-    written_is_map cmp m.admitted m.order m.bottom c.self.inside.map.entries (c.get_mut.follows.lender left).entries (is_at (cmp c.args.key.now)) left c.self.invariant (c.get_mut.follows.holds left).0 (c.get_mut.follows.holds left).4 stored
+    let stored : MayBeStored cmp m.admitted m.order m.bottom left =
+    (c.is_bottom.ensures.admitted_self, λ below. false≢true (sym c.if-is_bottom.false ∙ c.is_bottom.ensures.value.1 below)) in
+    written_is_map cmp m.admitted m.order m.bottom c.self.inside.map.entries (c.get_mut.follows.lender left).entries
+    (is_at (cmp c.args.key.now)) left c.self.invariant (c.get_mut.follows.holds left).0
+    (c.get_mut.follows.holds left).4 stored
 
 -- at any other key nothing changes
 pub returns-clause-changed : goal.returns-clause-changed
@@ -40,7 +46,8 @@ returns-clause-changed g c =
       | else-is_bottom w ↦ rw w.self-is (put-written cmp m.admitted m.order m.bottom before lent key left (c.is_bottom.ensures.admitted_self, λ below. false≢true (sym w.if-is_bottom.false ∙ c.is_bottom.ensures.value.1 below)) written)
     ] in
     let held = c.in_ok-value.value.now in
-    let held_stored : MayBeStored cmp m.admitted m.order m.bottom held = found_may_be_stored cmp m.admitted m.order m.bottom g.met.J.Join.laws before.entries key held c.self.invariant (sym found) in
+    let held_stored : MayBeStored cmp m.admitted m.order m.bottom held =
+    found_may_be_stored cmp m.admitted m.order m.bottom g.met.J.Join.laws before.entries key held c.self.invariant (sym found) in
     let not_bottom : left ≡ held → ¬ (m.order left m.bottom) = λ same. rw same held_stored.1 in
     let kept : left ≡ held → c.if-is_bottom.self ≡ before.entries = λ same. elim c.if-is_bottom.branch [
       | then-is_bottom+in-Some-1 w ↦ absurd (not_bottom same (c.is_bottom.ensures.value.0 w.if-is_bottom.true))
