@@ -5,8 +5,10 @@ use Rattle.std.specs.Int.{w16, w64, to_be_bytes}
 use Rattle.stamp_register.specs.Keys.{KeyValue}
 use Rattle.delta_exchange.specs.declared.fault.WireFault.TheVariants as faults
 use Rattle.delta_exchange.specs.Spelling.{hit_bytes, exec_bytes, shift_bytes, hits_bytes, execs_bytes, shifts_bytes, hit_place, exec_place, shift_place, Ascend, IsHit, IsExec, IsShift}
-use Rattle.delta_exchange.specs.Reading.{◌>>=◌, wants, offset, is_above, byte_at, number_at, node_at, other_node_at, term_at, value_at, hit_at, exec_at, shift_at, each_at, hits_at, execs_at, shifts_at}
-use Rattle.delta_exchange.proofs.Steps.{bind_ok, wants_ok, at_ok}
+use Rattle.refusals.specs.Refusals.{◌>>=◌}
+use Rattle.delta_exchange.specs.Reading.{wants, offset, is_above, byte_at, number_at, node_at, other_node_at, term_at, value_at, hit_at, exec_at, shift_at, each_at, hits_at, execs_at, shifts_at}
+use Rattle.refusals.proofs.StepLemmas.{bind_ok}
+use Rattle.delta_exchange.proofs.Steps.{wants_ok, at_ok}
 use Rattle.delta_exchange.proofs.Fields.{IsBytes, Takes, Takes-then, byte_takes, byte_again, short_takes, short_again, node_takes, node_again, other_takes, other_again, term_takes, term_again, value_takes, value_again}
 use Rattle.delta_exchange.proofs.Lists.{Above, each_takes, each_again, ascend_from_chain, chain_from_ascend}
 

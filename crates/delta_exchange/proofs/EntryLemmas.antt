@@ -19,8 +19,10 @@ use Rattle.delta_exchange.specs.declared.fault.WireFault.{WireFault}
 use Rattle.delta_exchange.specs.declared.fault.WireFault.TheVariants as faults
 use Rattle.delta_exchange.specs.Messages.{EntryValue}
 use Rattle.delta_exchange.specs.Spelling.{name_bytes, body_bytes, key_bytes, hits_bytes, execs_bytes, shifts_bytes, entry_bytes, entries_bytes, Ascend, IsCanonicalText, IsBody, IsKey, IsEntry}
-use Rattle.delta_exchange.specs.Reading.{◌>>=◌, wants, offset, is_above, bytes_at, byte_at, number_at, node_at, each_at, hits_at, execs_at, shifts_at, name_at, is_canonical, is_canonical_text, text_at, body_at, key_at, entry_at, entries_at}
-use Rattle.delta_exchange.proofs.Steps.{bind_ok, wants_ok, at_ok}
+use Rattle.refusals.specs.Refusals.{◌>>=◌}
+use Rattle.delta_exchange.specs.Reading.{wants, offset, is_above, bytes_at, byte_at, number_at, node_at, each_at, hits_at, execs_at, shifts_at, name_at, is_canonical, is_canonical_text, text_at, body_at, key_at, entry_at, entries_at}
+use Rattle.refusals.proofs.StepLemmas.{bind_ok}
+use Rattle.delta_exchange.proofs.Steps.{wants_ok, at_ok}
 use Rattle.delta_exchange.proofs.Fields.{IsBytes, Takes, Takes-then, bytes_take, bytes_again, byte_takes, byte_again, short_takes, short_again, long_takes, long_again, node_takes, node_again}
 use Rattle.delta_exchange.proofs.Lists.{Above, each_takes, each_again, ascend_from_chain, chain_from_ascend}
 use Rattle.delta_exchange.proofs.CellLemmas.{hits_take, hits_again, execs_take, execs_again, shifts_take, shifts_again}

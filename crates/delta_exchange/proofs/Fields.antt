@@ -10,7 +10,8 @@ use Rattle.replica_state.specs.Operations.{count_of}
 use Rattle.delta_exchange.specs.declared.fault.WireFault.TheVariants as faults
 use Rattle.delta_exchange.specs.Spelling.{IsCount, IsCountedTerm}
 use Rattle.delta_exchange.specs.Reading.{wants, offset, bytes_at, number_at, byte_at, node_at, other_node_at, value_at, term_at}
-use Rattle.delta_exchange.proofs.Steps.{bind_ok, wants_ok, at_ok}
+use Rattle.refusals.proofs.StepLemmas.{bind_ok}
+use Rattle.delta_exchange.proofs.Steps.{wants_ok, at_ok}
 
 abbrev pub IsBytes : List ℕ → Type 0
 IsBytes bytes = (i : ℕ) → get_or bytes i 0 < 256

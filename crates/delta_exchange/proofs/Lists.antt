@@ -10,8 +10,10 @@ use Rattle.std.proofs.lemmas.Cmp.{nat_list_cmp_total}
 use Rattle.std.proofs.lemmas.List.Concat.{flat_map-cons}
 use Rattle.delta_exchange.specs.declared.fault.WireFault.{WireFault}
 use Rattle.delta_exchange.specs.Spelling.{Ascend}
-use Rattle.delta_exchange.specs.Reading.{◌>>=◌, each_at, is_above}
-use Rattle.delta_exchange.proofs.Steps.{bind_ok, at_ok}
+use Rattle.refusals.specs.Refusals.{◌>>=◌}
+use Rattle.delta_exchange.specs.Reading.{each_at, is_above}
+use Rattle.refusals.proofs.StepLemmas.{bind_ok}
+use Rattle.delta_exchange.proofs.Steps.{at_ok}
 use Rattle.delta_exchange.proofs.Fields.{IsBytes, Takes, Takes-then}
 
 -- each has it beside the one before it

@@ -5,8 +5,9 @@ use Rattle.std.specs.Option.{option_map, option_copied}
 use Rattle.std.proofs.lemmas.List.{append-nil, length_push, get_or_push, length-map}
 use Rattle.std.proofs.lemmas.Option.{slice_get-get_or, slice_get-map}
 use Rattle.delta_exchange.specs.declared.fault.WireFault.{WireFault}
-use Rattle.delta_exchange.specs.declared.fault.WireFault.TheVariants as faults
-use Rattle.delta_exchange.specs.Reading.{◌>>=◌, Fails, each_at}
+use Rattle.refusals.specs.Refusals.{◌>>=◌}
+use Rattle.refusals.proofs.StepLemmas.{fails_along}
+use Rattle.delta_exchange.specs.Reading.{Fails, each_at, is_want_of_memory}
 
 -- the last one, if there is one
 abbrev pub last_of : {C : Type 0} → List C → Option C
@@ -38,23 +39,6 @@ regroup : {C : Type 0} (front : List C) (x : C) (read : Result (List C × List �
     → with_front front (read >>= λ others. Ok (x ∷ others.0, others.1)) ≡ with_front (front ++ x ∷ []) read
 regroup front x (Ok others) = ap (λ (xs : List _). Ok (xs, others.1)) (sym (append_assoc front (x ∷ []) others.0))
 regroup front x (Err f) = refl
-
--- one reading fails as another does, where it passes each fault on
-pub fails_along : {A B : Type 0} (e : WireFault) (first : Result A WireFault) (whole : Result B WireFault)
-    → ((f : WireFault) → first ≡ Err f → whole ≡ Err f) → Fails e first → Fails e whole
-fails_along faults.OutOfMemory first whole passed h = tt
-fails_along (faults.Magic i) first whole passed h = passed (faults.Magic i) h
-fails_along (faults.Short i) first whole passed h = passed (faults.Short i) h
-fails_along (faults.Long i) first whole passed h = passed (faults.Long i) h
-fails_along (faults.BadNode i) first whole passed h = passed (faults.BadNode i) h
-fails_along (faults.NameOrder i) first whole passed h = passed (faults.NameOrder i) h
-fails_along (faults.BadName i) first whole passed h = passed (faults.BadName i) h
-fails_along (faults.BadBody i) first whole passed h = passed (faults.BadBody i) h
-fails_along (faults.NotCanonical i) first whole passed h = passed (faults.NotCanonical i) h
-fails_along (faults.CellOrder i) first whole passed h = passed (faults.CellOrder i) h
-fails_along (faults.ZeroCell i) first whole passed h = passed (faults.ZeroCell i) h
-fails_along (faults.BadTerm i) first whole passed h = passed (faults.BadTerm i) h
-fails_along (faults.TooBig i) first whole passed h = passed (faults.TooBig i) h
 
 module _ {C : Type 0} (one_at : Option C → List ℕ → Result (C × List ℕ) WireFault) where
   -- the elements before, and those from number i on
@@ -88,7 +72,7 @@ module _ {C : Type 0} (one_at : Option C → List ℕ → Result (C × List ℕ)
   pub ends : (e : WireFault) (front : List C) (count i : ℕ) (left : List ℕ) (total : Result (List C × List ℕ) WireFault) → i < count
       → Fails e (one_at (last_of front) left) → progress front count i left ≡ total → Fails e total
   ends e front count i left total lt h so_far =
-      fails_along e (one_at (last_of front) left) total (λ f refused. stops f front count i left total lt refused so_far) h
+      fails_along is_want_of_memory e (one_at (last_of front) left) total (λ f refused. stops f front count i left total lt refused so_far) h
 
   pub is_done : (front : List C) (count i : ℕ) (left : List ℕ) (total : Result (List C × List ℕ) WireFault) → count ≤ i → progress front count i left ≡ total → total ≡ Ok (front, left)
   unfolding each_at

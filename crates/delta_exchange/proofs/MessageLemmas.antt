@@ -8,8 +8,10 @@ use Rattle.std.proofs.lemmas.Slice.Eq.{bytes_eq-Decides}
 use Rattle.delta_exchange.specs.declared.fault.WireFault.TheVariants as faults
 use Rattle.delta_exchange.specs.Messages.{MessageValue}
 use Rattle.delta_exchange.specs.Spelling.{max_message, magic, versions_bytes, entries_bytes, message_bytes, IsMessage, SpellsMessage}
-use Rattle.delta_exchange.specs.Reading.{◌>>=◌, wants, offset, bytes_at, number_at, node_at, other_node_at, entries_at, magic_at, versions_at, fields_at, message_at}
-use Rattle.delta_exchange.proofs.Steps.{bind_ok, wants_ok, at_ok}
+use Rattle.refusals.specs.Refusals.{◌>>=◌}
+use Rattle.delta_exchange.specs.Reading.{wants, offset, bytes_at, number_at, node_at, other_node_at, entries_at, magic_at, versions_at, fields_at, message_at}
+use Rattle.refusals.proofs.StepLemmas.{bind_ok}
+use Rattle.delta_exchange.proofs.Steps.{wants_ok, at_ok}
 use Rattle.delta_exchange.proofs.Fields.{IsBytes, Takes, Takes-then, bytes_take, bytes_again, long_takes, long_again, node_takes, node_again, other_takes, other_again}
 use Rattle.delta_exchange.proofs.EntryLemmas.{entries_take, entries_again}
 

@@ -22,7 +22,8 @@ hit_cells v name nodes = each_below (λ node. cell_of (v.hits name node) (node, 
 
 -- the executions of a term, node by node
 abbrev pub exec_row : State → List ℕ → ℕ → ℕ → List (ℕ × ℕ × ℕ)
-exec_row v name nodes term = each_below (λ node. cell_of (v.execs name term node) (term, node, v.execs name term node)) nodes
+exec_row v name nodes term =
+    each_below (λ node. cell_of (v.execs name term node) (term, node, v.execs name term node)) nodes
 
 -- of a term that the key doesn't count there is nothing
 abbrev pub exec_row_of : State → List ℕ → KeyValue → ℕ → ℕ → List (ℕ × ℕ × ℕ)
@@ -33,7 +34,8 @@ exec_cells v name key nodes = each_below (exec_row_of v name key nodes) max_term
 
 -- what one node moved to another; to itself it is nothing
 abbrev pub shift_cell : State → List ℕ → ℕ → ℕ → ℕ → List (ℕ × ℕ × ℕ × ℕ)
-shift_cell v name term from to = if to == from then [] else cell_of (v.shifts name term from to) (term, from, to, v.shifts name term from to)
+shift_cell v name term from to =
+    if to == from then [] else cell_of (v.shifts name term from to) (term, from, to, v.shifts name term from to)
 
 -- what a node moved, by the node that it moved it to
 abbrev pub shift_row : State → List ℕ → ℕ → ℕ → ℕ → List (ℕ × ℕ × ℕ × ℕ)

@@ -1,4 +1,5 @@
 pub mod FaultText
+pub mod Limits
 pub mod Messages
 pub mod Spelling
 pub mod Reading

@@ -24,18 +24,34 @@ pub record MessageValue : Type 0 where
   pub entries : List EntryValue
 
 abbrev pub entry_value : NameEntry → EntryValue
-entry_value e = record { name = e.name; key = key_value e.key; hits = e.hits.items; execs = e.execs.items; shifts = e.shifts.items }
+entry_value e =
+    record { name = e.name; key = key_value e.key; hits = e.hits.items; execs = e.execs.items; shifts = e.shifts.items }
 
 abbrev pub message_value : Message → MessageValue
 message_value m =
-    record { from = m.from; to = m.to; base = m.base; upto = m.upto; ack = m.ack; entries = map entry_value m.entries.items }
+    record {
+      from = m.from;
+      to = m.to;
+      base = m.base;
+      upto = m.upto;
+      ack = m.ack;
+      entries = map entry_value m.entries.items;
+    }
+
+-- what the cells of a name tell
+abbrev pub hits_in : List ℕ → List (ℕ × ℕ) → List Operation
+hits_in name cells = map (λ c. Count (Hits name c.0) c.1) cells
+
+abbrev pub execs_in : List ℕ → KeyValue → List (ℕ × ℕ × ℕ) → List Operation
+execs_in name key cells = map (λ c. Count (Execs name key c.0 c.1) c.2) cells
+
+abbrev pub shifts_in : List ℕ → KeyValue → List (ℕ × ℕ × ℕ × ℕ) → List Operation
+shifts_in name key cells = map (λ c. Count (Shifts name key c.0 c.1 c.2) c.3) cells
 
 -- what an entry tells: its setting, and then each of its cells
 abbrev pub operations_of : EntryValue → List Operation
 operations_of e =
-    Set e.name e.key ∷ (map (λ c. Count (Hits e.name c.0) c.1) e.hits
-    ++ (map (λ c. Count (Execs e.name e.key c.0 c.1) c.2) e.execs
-    ++ map (λ c. Count (Shifts e.name e.key c.0 c.1 c.2) c.3) e.shifts))
+    Set e.name e.key ∷ (hits_in e.name e.hits ++ (execs_in e.name e.key e.execs ++ shifts_in e.name e.key e.shifts))
 
 -- what a message tells
 abbrev pub operations_in : MessageValue → List Operation

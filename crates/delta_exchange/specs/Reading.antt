@@ -5,6 +5,7 @@ use Rattle.std.specs.Int.{Width, w16, w64, byte_len, from_be_bytes}
 use Rattle.std.specs.Str.{is_utf8}
 use Rattle.std.specs.Ordering.{nat_cmp, is_lt}
 use Rattle.std.specs.Cmp.Lexicographic.{slice_cmp}
+use Rattle.refusals.specs.Refusals.{◌>>=◌, FailsUnless, GivesUnless}
 use Rattle.actions.specs.Limits.{max_name, max_text}
 use Rattle.actions.specs.Value.{TermValue}
 use Rattle.actions.specs.Canonical.{canonical}
@@ -18,20 +19,18 @@ use Rattle.delta_exchange.specs.declared.fault.WireFault.TheVariants as faults
 use Rattle.delta_exchange.specs.Messages.{EntryValue, MessageValue}
 use Rattle.delta_exchange.specs.Spelling.{max_message, magic, hit_place, exec_place, shift_place}
 
-infixl 10 ◌>>=◌
-abbrev pub ◌>>=◌ : {A B : Type 0} → Result A WireFault → (A → Result B WireFault) → Result B WireFault
-(Ok x) >>= f = f x
-(Err e) >>= f = Err e
+-- memory was refused
+abbrev pub is_want_of_memory : WireFault → Bool
+is_want_of_memory faults.OutOfMemory = true
+is_want_of_memory fault = false
 
 -- what is read is this fault; a want of memory says nothing of that
 abbrev pub Fails : {Y : Type 0} → WireFault → Result Y WireFault → Type 0
-Fails faults.OutOfMemory read = Unit {0}
-Fails e read = read ≡ Err e
+Fails = FailsUnless is_want_of_memory
 
 -- what is read is what a function returned, seen by `view`, unless memory ran out
 abbrev pub Gives : {X Y : Type 0} → (X → Y) → Result X WireFault → Result Y WireFault → Type 0
-Gives view (Ok x) read = read ≡ Ok (view x)
-Gives view (Err e) read = Fails e read
+Gives = GivesUnless is_want_of_memory
 
 -- what is read is what a function returned, which takes no memory
 abbrev pub GivesAlways : {X Y : Type 0} → (X → Y) → Result X WireFault → Result Y WireFault → Type 0
@@ -54,7 +53,8 @@ bytes_at all n left = wants (nat_le n (length left)) (faults.Short (offset all l
 
 unfoldable pub number_at : ℕ → Width → List ℕ → Result (ℕ × List ℕ) WireFault
 number_at all w left =
-    wants (nat_le (byte_len w) (length left)) (faults.Short (offset all left)) (from_be_bytes w (take (byte_len w) left), drop (byte_len w) left)
+    wants (nat_le (byte_len w) (length left)) (faults.Short (offset all left))
+    (from_be_bytes w (take (byte_len w) left), drop (byte_len w) left)
 
 unfoldable pub byte_at : ℕ → List ℕ → Result (ℕ × List ℕ) WireFault
 byte_at all [] = Err (faults.Short (offset all []))
@@ -75,7 +75,8 @@ other_node_at all nodes from left = do
 -- ---- lists
 
 -- so many elements; reading one takes the one before it
-unfoldable pub each_at : {C : Type 0} → (Option C → List ℕ → Result (C × List ℕ) WireFault) → ℕ → Option C → List ℕ → Result (List C × List ℕ) WireFault
+unfoldable pub each_at : {C : Type 0} → (Option C → List ℕ → Result (C × List ℕ) WireFault) →
+    ℕ → Option C → List ℕ → Result (List C × List ℕ) WireFault
 each_at one_at zero last left = Ok ([], left)
 each_at one_at (suc n) last left = do
   first ← one_at last left
@@ -112,16 +113,19 @@ unfoldable pub exec_at : ℕ → ℕ → KeyValue → Option (ℕ × ℕ × ℕ)
 exec_at all nodes key last left = do
   term ← term_at all key left
   node ← node_at all nodes term.1
-  after ← wants (is_above (option_map exec_place last) (term.0 ∷ node.0 ∷ [])) (faults.CellOrder (offset all left)) node.1
+  after ← wants (is_above (option_map exec_place last) (term.0 ∷ node.0 ∷ []))
+      (faults.CellOrder (offset all left)) node.1
   value ← value_at all after
   Ok ((term.0, node.0, value.0), value.1)
 
-unfoldable pub shift_at : ℕ → ℕ → KeyValue → Option (ℕ × ℕ × ℕ × ℕ) → List ℕ → Result ((ℕ × ℕ × ℕ × ℕ) × List ℕ) WireFault
+unfoldable pub shift_at : ℕ → ℕ → KeyValue → Option (ℕ × ℕ × ℕ × ℕ) → List ℕ →
+    Result ((ℕ × ℕ × ℕ × ℕ) × List ℕ) WireFault
 shift_at all nodes key last left = do
   term ← term_at all key left
   from ← node_at all nodes term.1
   to ← other_node_at all nodes from.0 from.1
-  after ← wants (is_above (option_map shift_place last) (term.0 ∷ from.0 ∷ to.0 ∷ [])) (faults.CellOrder (offset all left)) to.1
+  after ← wants (is_above (option_map shift_place last) (term.0 ∷ from.0 ∷ to.0 ∷ []))
+      (faults.CellOrder (offset all left)) to.1
   value ← value_at all after
   Ok ((term.0, from.0, to.0, value.0), value.1)
 
@@ -229,7 +233,14 @@ fields_at all nodes left = do
   to ← other_node_at all nodes from.0 from.1
   versions ← versions_at all to.1
   entries ← entries_at all nodes versions.1
-  wants (length entries.1 == 0) (faults.Long (offset all entries.1)) (record { from = from.0; to = to.0; base = versions.0.0; upto = versions.0.1; ack = versions.0.2; entries = entries.0 })
+  wants (length entries.1 == 0) (faults.Long (offset all entries.1)) (record {
+    from = from.0;
+    to = to.0;
+    base = versions.0.0;
+    upto = versions.0.1;
+    ack = versions.0.2;
+    entries = entries.0;
+  })
 
 -- all bytes
 unfoldable pub message_at : ℕ → List ℕ → Result MessageValue WireFault

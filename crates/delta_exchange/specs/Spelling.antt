@@ -57,7 +57,8 @@ abbrev pub name_bytes : List ℕ → List ℕ
 name_bytes name = length name ∷ name
 
 abbrev pub entry_bytes : EntryValue → List ℕ
-entry_bytes e = name_bytes e.name ++ (key_bytes e.key ++ (hits_bytes e.hits ++ (execs_bytes e.execs ++ shifts_bytes e.shifts)))
+entry_bytes e =
+    name_bytes e.name ++ (key_bytes e.key ++ (hits_bytes e.hits ++ (execs_bytes e.execs ++ shifts_bytes e.shifts)))
 
 abbrev pub entries_bytes : List EntryValue → List ℕ
 entries_bytes es = to_be_bytes w16 (length es) ++ flat_map entry_bytes es

@@ -6,4 +6,4 @@ use Rattle.replica_state.specs.Folds.{fold}
 
 -- where the first state is that of some set, the second is that of the set with these operations
 abbrev pub HasLearned : State → State → List Operation → Type 0
-HasLearned v w told = (ops : List Operation) → v ≡ fold ops → w ≡ fold (told ++ ops)
+HasLearned v w operations = (ops : List Operation) → v ≡ fold ops → w ≡ fold (operations ++ ops)

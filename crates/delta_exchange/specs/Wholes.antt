@@ -15,12 +15,14 @@ IsLawful nodes (Count (Hits name node) number) = IsTrue (is_name name) × (node 
 IsLawful nodes (Count (Execs name key term node) number) =
     IsTrue (is_name name) × IsKey nodes key × IsCountedTerm key term × (node < nodes) × (0 < number)
 IsLawful nodes (Count (Shifts name key term from to) number) =
-    IsTrue (is_name name) × IsKey nodes key × IsCountedTerm key term × (from < nodes) × (to < nodes) × (to ≢ from) × (0 < number)
+    IsTrue (is_name name) × IsKey nodes key × IsCountedTerm key term
+    × (from < nodes) × (to < nodes) × (to ≢ from) × (0 < number)
 
 -- each operation can be told, and a point that was passed has a key
 pub record AreLawful (nodes : ℕ) (ops : List Operation) : Type 0 where
   pub each : (op : Operation) → IsIn op ops → IsLawful nodes op
-  pub keyed : (name : List ℕ) (node number : ℕ) → IsIn (Count (Hits name node) number) ops → IsTrue (is_some (key_of name ops))
+  pub keyed : (name : List ℕ) (node number : ℕ) → IsIn (Count (Hits name node) number) ops →
+      IsTrue (is_some (key_of name ops))
 
 -- a message of one node to another that tells all of a state, and no version
 pub record IsWhole (nodes from to : ℕ) (v : State) (m : MessageValue) : Type 0 where

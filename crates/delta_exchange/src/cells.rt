@@ -75,7 +75,8 @@ fn read_exec<'a>(
     last: Option<(u8, u8, u64)>,
     rest: &'a [u8],
 ) -> Result<((u8, u8, u64), &'a [u8]), WireFault>
-    ensures { Gives (λ x. (x.0, x.1.now)) result (exec_at whole.len whole.nodes (key_value key.now) last rest.now) }
+    ensures { Gives (λ x. (x.0, x.1.now)) result
+        (exec_at whole.len whole.nodes (key_value key.now) last rest.now) }
 {
     let (term, after) = read_term(whole, key, rest)?;
     let (node, after) = read_node(whole, after)?;
@@ -99,7 +100,8 @@ fn read_shift<'a>(
     last: Option<(u8, u8, u8, u64)>,
     rest: &'a [u8],
 ) -> Result<((u8, u8, u8, u64), &'a [u8]), WireFault>
-    ensures { Gives (λ x. (x.0, x.1.now)) result (shift_at whole.len whole.nodes (key_value key.now) last rest.now) }
+    ensures { Gives (λ x. (x.0, x.1.now)) result
+        (shift_at whole.len whole.nodes (key_value key.now) last rest.now) }
 {
     let (term, after) = read_term(whole, key, rest)?;
     let (from, after) = read_node(whole, after)?;
@@ -142,7 +144,8 @@ pub(crate) fn read_execs<'a>(
     key: &Key,
     bytes: &'a [u8],
 ) -> Result<(Vec<(u8, u8, u64)>, &'a [u8]), WireFault>
-    ensures { Gives (λ x. (x.0.items, x.1.now)) result (execs_at whole.len whole.nodes (key_value key.now) bytes.now) }
+    ensures { Gives (λ x. (x.0.items, x.1.now)) result
+        (execs_at whole.len whole.nodes (key_value key.now) bytes.now) }
 {
     let (count, mut rest) = read_u16(whole, bytes)?;
     let mut execs = Vec::new(alloc);
@@ -162,7 +165,8 @@ pub(crate) fn read_shifts<'a>(
     key: &Key,
     bytes: &'a [u8],
 ) -> Result<(Vec<(u8, u8, u8, u64)>, &'a [u8]), WireFault>
-    ensures { Gives (λ x. (x.0.items, x.1.now)) result (shifts_at whole.len whole.nodes (key_value key.now) bytes.now) }
+    ensures { Gives (λ x. (x.0.items, x.1.now)) result
+        (shifts_at whole.len whole.nodes (key_value key.now) bytes.now) }
 {
     let (count, mut rest) = read_u16(whole, bytes)?;
     let mut shifts = Vec::new(alloc);

@@ -24,7 +24,8 @@ const MAX_TEXT: u16 = 1024;
 
 /// The name that these bytes are, which begin at the offset.
 fn parse_name(alloc: Global, offset: usize, bytes: &[u8]) -> Result<Name, WireFault>
-    ensures { Gives (λ n. n) result (wants (is_name bytes.now) (WireFault.BadName offset) bytes.now) }
+    ensures { Gives (λ n. n) result
+        (wants (is_name bytes.now) (WireFault.BadName offset) bytes.now) }
 {
     let Ok(text) = str::from_utf8(bytes) else {
         return Err(WireFault::BadName { offset });
@@ -51,7 +52,8 @@ fn read_name<'a>(
     last: Option<&Name>,
     rest: &'a [u8],
 ) -> Result<(Name, &'a [u8]), WireFault>
-    ensures { Gives (λ x. (x.0, x.1.now)) result (name_at whole.len (option_map (λ n. n.now) last.entry) rest.now) }
+    ensures { Gives (λ x. (x.0, x.1.now)) result
+        (name_at whole.len (option_map (λ n. n.now) last.entry) rest.now) }
 {
     let (len, text) = read_byte(whole, rest)?;
     if len == 0 || len > MAX_NAME {
@@ -72,7 +74,8 @@ fn read_name<'a>(
 /// The actions whose canonical text these bytes are, which begin at the offset.
 #[tactic(auto, unfolding(crate::specs::Reading::is_canonical_text))]
 fn parse_canonical(alloc: Global, offset: usize, bytes: &[u8]) -> Result<Actions, WireFault>
-    ensures { Gives (λ a. canonical a) result (wants (is_canonical_text bytes.now) (WireFault.NotCanonical offset) bytes.now) }
+    ensures { Gives (λ a. canonical a) result
+        (wants (is_canonical_text bytes.now) (WireFault.NotCanonical offset) bytes.now) }
 {
     let Ok(text) = str::from_utf8(bytes) else {
         return Err(WireFault::NotCanonical { offset });
@@ -139,7 +142,8 @@ pub(crate) fn read_entry<'a>(
     last: Option<&NameEntry>,
     rest: &'a [u8],
 ) -> Result<(NameEntry, &'a [u8]), WireFault>
-    ensures { Gives (λ x. (entry_value x.0, x.1.now)) result (entry_at whole.len whole.nodes (option_map (λ e. entry_value e.now) last.entry) rest.now) }
+    ensures { Gives (λ x. (entry_value x.0, x.1.now)) result
+        (entry_at whole.len whole.nodes (option_map (λ e. entry_value e.now) last.entry) rest.now) }
 {
     let (name, rest) = read_name(alloc, whole, last.map(|entry| &entry.name), rest)?;
     let (key, rest) = read_key(alloc, whole, rest)?;

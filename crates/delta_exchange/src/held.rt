@@ -4,6 +4,7 @@ ghost use Rattle.std.specs.Prelude.{◌≡◌, ◌≢◌, ◌<◌, ◌≤◌, �
 ghost use Rattle.stamp_register.specs.Keys.{key_value};
 ghost use Rattle.replica_state.specs.Operations.{Operation};
 ghost use Rattle.replica_state.specs.Folds.{fold};
+ghost use Rattle.delta_exchange.specs.Limits.{max_nodes, max_names};
 ghost use Rattle.delta_exchange.specs.Messages.{entry_value, message_value};
 ghost use Rattle.delta_exchange.specs.Wholes.{AreLawful, IsWhole};
 ghost use Rattle.delta_exchange.specs.Cells.{hit_cells, exec_row, exec_cells, shift_row, shift_rows, shift_cells, entry_of, entry_at, entries_of, whole_of, HitsFit, ExecsFit, ShiftsFit, EntryFits, EntriesFit};
@@ -27,7 +28,8 @@ fn hits_of<R: Replica>(
     name: &Name,
 ) -> Result<Vec<(u8, u64)>, AllocError>
     ensures fit { IfOk result (λ cells. HitsFit cells.items) }
-    ensures cells { IfOk result (λ cells. cells.items ≡ hit_cells (R.state replica.now) name.now nodes) }
+    ensures cells { IfOk result (λ cells. cells.items
+        ≡ hit_cells (R.state replica.now) name.now nodes) }
 {
     let mut hits = Vec::new(alloc);
     for node in 0..nodes {
@@ -49,7 +51,8 @@ fn push_execs<R: Replica>(
     term: u8,
 ) -> Result<(), AllocError>
     ensures fit { OnOk result (ExecsFit execs.old.items → ExecsFit execs.new.items) }
-    ensures cells { OnOk result (execs.new.items ≡ execs.old.items ++ exec_row (R.state replica.now) name.now nodes term) }
+    ensures cells { OnOk result (execs.new.items
+        ≡ execs.old.items ++ exec_row (R.state replica.now) name.now nodes term) }
 {
     for node in 0..nodes {
         let number = replica.exec(name, term, node);
@@ -70,7 +73,8 @@ fn execs_of<R: Replica>(
     key: &Key,
 ) -> Result<Vec<(u8, u8, u64)>, AllocError>
     ensures fit { IfOk result (λ cells. ExecsFit cells.items) }
-    ensures cells { IfOk result (λ cells. cells.items ≡ exec_cells (R.state replica.now) name.now (key_value key.now) nodes) }
+    ensures cells { IfOk result (λ cells. cells.items
+        ≡ exec_cells (R.state replica.now) name.now (key_value key.now) nodes) }
 {
     let mut execs = Vec::new(alloc);
     for term in 0..MAX_TERMS {
@@ -92,7 +96,8 @@ fn push_shifts_from<R: Replica>(
     from: u8,
 ) -> Result<(), AllocError>
     ensures fit { OnOk result (ShiftsFit shifts.old.items → ShiftsFit shifts.new.items) }
-    ensures cells { OnOk result (shifts.new.items ≡ shifts.old.items ++ shift_row (R.state replica.now) name.now nodes term from) }
+    ensures cells { OnOk result (shifts.new.items
+        ≡ shifts.old.items ++ shift_row (R.state replica.now) name.now nodes term from) }
 {
     for to in 0..nodes {
         let number = replica.moved(name, term, from, to);
@@ -113,7 +118,8 @@ fn push_shifts<R: Replica>(
     term: u8,
 ) -> Result<(), AllocError>
     ensures fit { OnOk result (ShiftsFit shifts.old.items → ShiftsFit shifts.new.items) }
-    ensures cells { OnOk result (shifts.new.items ≡ shifts.old.items ++ shift_rows (R.state replica.now) name.now nodes term) }
+    ensures cells { OnOk result (shifts.new.items
+        ≡ shifts.old.items ++ shift_rows (R.state replica.now) name.now nodes term) }
 {
     for from in 0..nodes {
         push_shifts_from(shifts, replica, nodes, name, term, from)?;
@@ -131,7 +137,8 @@ fn shifts_of<R: Replica>(
     key: &Key,
 ) -> Result<Vec<(u8, u8, u8, u64)>, AllocError>
     ensures fit { IfOk result (λ cells. ShiftsFit cells.items) }
-    ensures cells { IfOk result (λ cells. cells.items ≡ shift_cells (R.state replica.now) name.now (key_value key.now) nodes) }
+    ensures cells { IfOk result (λ cells. cells.items
+        ≡ shift_cells (R.state replica.now) name.now (key_value key.now) nodes) }
 {
     let mut shifts = Vec::new(alloc);
     for term in 0..MAX_TERMS {
@@ -151,7 +158,8 @@ fn held_entry<R: Replica>(
     key: &Key,
 ) -> Result<NameEntry, AllocError>
     ensures fits { IfOk result (λ e. EntryFits (entry_value e)) }
-    ensures entry { IfOk result (λ e. entry_value e ≡ entry_of (R.state replica.now) nodes name.now (key_value key.now)) }
+    ensures entry { IfOk result (λ e. entry_value e
+        ≡ entry_of (R.state replica.now) nodes name.now (key_value key.now)) }
 {
     Ok(NameEntry {
         name: name.copied(alloc)?,
@@ -170,8 +178,11 @@ fn push_entry<R: Replica>(
     nodes: u8,
     index: usize,
 ) -> Result<(), AllocError>
-    ensures fit { OnOk result (EntriesFit (map entry_value entries.old.items) → EntriesFit (map entry_value entries.new.items)) }
-    ensures entries { OnOk result (map entry_value entries.new.items ≡ map entry_value entries.old.items ++ entry_at (R.state replica.now) nodes (slice_get (R.state replica.now).names index)) }
+    ensures fit { OnOk result (EntriesFit (map entry_value entries.old.items)
+        → EntriesFit (map entry_value entries.new.items)) }
+    ensures entries { OnOk result (map entry_value entries.new.items
+        ≡ map entry_value entries.old.items
+        ++ entry_at (R.state replica.now) nodes (slice_get (R.state replica.now).names index)) }
 {
     let Some(name) = replica.name_at(index) else {
         return Ok(());
@@ -191,7 +202,8 @@ fn held_entries<R: Replica>(
     nodes: u8,
 ) -> Result<Vec<NameEntry>, AllocError>
     ensures fit { IfOk result (λ es. EntriesFit (map entry_value es.items)) }
-    ensures entries { IfOk result (λ es. map entry_value es.items ≡ entries_of (R.state replica.now) nodes) }
+    ensures entries { IfOk result (λ es. map entry_value es.items
+        ≡ entries_of (R.state replica.now) nodes) }
 {
     let mut entries = Vec::new(alloc);
     for index in 0..replica.names() {
@@ -212,16 +224,19 @@ pub fn whole<R: Replica>(
     from: u8,
     to: u8,
 ) -> Result<Message, AllocError>
-    requires nodes { nodes ≤ 16 }
+    requires nodes { nodes ≤ max_nodes }
     requires from { from < nodes }
     requires to { to < nodes }
     requires apart { to ≢ from }
-    requires lawful { (ops : List Operation) × (R.state replica.now ≡ fold ops) × AreLawful nodes ops }
-    requires few { length (R.state replica.now).names ≤ 256 }
-    ensures whole { IfOk result (λ m. IsWhole nodes from to (R.state replica.now) (message_value m)) }
+    requires lawful { (ops : List Operation) × (R.state replica.now ≡ fold ops)
+        × AreLawful nodes ops }
+    requires few { length (R.state replica.now).names ≤ max_names }
+    ensures whole { IfOk result
+        (λ m. IsWhole nodes from to (R.state replica.now) (message_value m)) }
 
     // What it is.
-    ensures exact { IfOk result (λ m. message_value m ≡ whole_of (R.state replica.now) nodes from to) }
+    ensures exact { IfOk result (λ m. message_value m
+        ≡ whole_of (R.state replica.now) nodes from to) }
 {
     let entries = held_entries(alloc, replica, nodes)?;
     Ok(Message {

@@ -11,24 +11,25 @@ ghost use Rattle.delta_exchange.specs.Wholes.{AreLawful, IsWhole};
 
 /// Bytes are of at most one message, whatever the number of nodes.
 pub fn message_has_one_spelling()
-    ensures { (nodes others : ℕ) (bytes : List ℕ) (m n : MessageValue) → SpellsMessage nodes bytes m → SpellsMessage others bytes n
-        → m ≡ n }
+    ensures { (nodes others : ℕ) (bytes : List ℕ) (m n : MessageValue)
+        → SpellsMessage nodes bytes m → SpellsMessage others bytes n → m ≡ n }
 {}
 
 /// A message whose bytes keep to the limit is read from them again.
 pub fn decoded_again()
-    ensures { (nodes : ℕ) (m : MessageValue) → IsMessage nodes m → length (message_bytes m) ≤ max_message
-        → message_at nodes (message_bytes m) ≡ Ok m }
+    ensures { (nodes : ℕ) (m : MessageValue) → IsMessage nodes m
+        → length (message_bytes m) ≤ max_message → message_at nodes (message_bytes m) ≡ Ok m }
 {}
 
-/// What a message tells is well formed: each number is from 1 on, and what is executed or shifted is
-/// counted.
+/// What a message tells is well formed: each number is from 1 on, and what is executed or shifted
+/// is counted.
 pub fn told_operations_are_well_formed()
-    ensures { (nodes : ℕ) (m : MessageValue) → IsMessage nodes m → AllByRecursion IsWellFormed (operations_in m) }
+    ensures { (nodes : ℕ) (m : MessageValue) → IsMessage nodes m
+        → AllByRecursion IsWellFormed (operations_in m) }
 {}
 
 /// A whole message of what lawful operations come to tells operations that come to the same.
 pub fn whole_is_learned()
-    ensures { (nodes from to : ℕ) (ops : List Operation) (m : MessageValue) → AreLawful nodes ops → IsWhole nodes from to (fold ops) m
-        → fold (operations_in m) ≡ fold ops }
+    ensures { (nodes from to : ℕ) (ops : List Operation) (m : MessageValue) → AreLawful nodes ops
+        → IsWhole nodes from to (fold ops) m → fold (operations_in m) ≡ fold ops }
 {}

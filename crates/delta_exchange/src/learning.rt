@@ -1,11 +1,10 @@
 //! What a message tells, learned by a replica.
 
-ghost use Rattle.std.specs.Prelude.{◌≡◌, ℕ, map, IfOk, OnOk};
+ghost use Rattle.std.specs.Prelude.{◌≡◌, ℕ, IfOk, OnOk};
 ghost use Rattle.std.specs.List.{AllByRecursion};
 ghost use Rattle.stamp_register.specs.Keys.{key_value};
-ghost use Rattle.replica_state.specs.Operations.{Count, Hits, Execs, Shifts};
 ghost use Rattle.replica_state.specs.Folds.{fold};
-ghost use Rattle.delta_exchange.specs.Messages.{entry_value, message_value, operations_of, operations_in};
+ghost use Rattle.delta_exchange.specs.Messages.{entry_value, message_value, operations_of, operations_in, hits_in, execs_in, shifts_in};
 ghost use Rattle.delta_exchange.specs.Spelling.{IsHit, IsExec, IsShift, IsEntry, IsMessage};
 ghost use Rattle.delta_exchange.specs.Told.{HasLearned};
 
@@ -23,7 +22,8 @@ fn learn_hits<R: Replica>(
     hits: &[(u8, u64)],
 ) -> Result<(), AllocError>
     requires { (nodes : ℕ) × AllByRecursion (IsHit nodes) hits.now }
-    ensures { OnOk result (HasLearned (R.state replica.old) (R.state replica.new) (map (λ c. Count (Hits name.now c.0) c.1) hits.now)) }
+    ensures { OnOk result (HasLearned (R.state replica.old) (R.state replica.new)
+        (hits_in name.now hits.now)) }
 {
     for (node, number) in hits {
         let hits = Counted::Hits { node: *node };
@@ -40,7 +40,8 @@ fn learn_execs<R: Replica>(
     execs: &[(u8, u8, u64)],
 ) -> Result<(), AllocError>
     requires { (nodes : ℕ) × AllByRecursion (IsExec nodes (key_value key.now)) execs.now }
-    ensures { OnOk result (HasLearned (R.state replica.old) (R.state replica.new) (map (λ c. Count (Execs name.now (key_value key.now) c.0 c.1) c.2) execs.now)) }
+    ensures { OnOk result (HasLearned (R.state replica.old) (R.state replica.new)
+        (execs_in name.now (key_value key.now) execs.now)) }
 {
     for (term, node, number) in execs {
         let execs = Counted::Execs {
@@ -60,7 +61,8 @@ fn learn_shifts<R: Replica>(
     shifts: &[(u8, u8, u8, u64)],
 ) -> Result<(), AllocError>
     requires { (nodes : ℕ) × AllByRecursion (IsShift nodes (key_value key.now)) shifts.now }
-    ensures { OnOk result (HasLearned (R.state replica.old) (R.state replica.new) (map (λ c. Count (Shifts name.now (key_value key.now) c.0 c.1 c.2) c.3) shifts.now)) }
+    ensures { OnOk result (HasLearned (R.state replica.old) (R.state replica.new)
+        (shifts_in name.now (key_value key.now) shifts.now)) }
 {
     for (term, from, to, total) in shifts {
         let shifts = Counted::Shifts {
@@ -79,7 +81,8 @@ fn learn_entry<R: Replica>(
     entry: &NameEntry,
 ) -> Result<(), AllocError>
     requires { (nodes : ℕ) × IsEntry nodes (entry_value entry.now) }
-    ensures { OnOk result (HasLearned (R.state replica.old) (R.state replica.new) (operations_of (entry_value entry.now))) }
+    ensures { OnOk result (HasLearned (R.state replica.old) (R.state replica.new)
+        (operations_of (entry_value entry.now))) }
 {
     replica.learn(alloc, &entry.name, &entry.key, None)?;
     learn_hits(replica, alloc, &entry.name, &entry.key, &entry.hits)?;
@@ -91,7 +94,8 @@ fn learn_entry<R: Replica>(
 /// as after `decode`. Only want of memory is an error.
 pub fn told<R: Replica>(alloc: Global, message: &Message) -> Result<R, AllocError>
     requires { (nodes : ℕ) × IsMessage nodes (message_value message.now) }
-    ensures { IfOk result (λ replica. R.state replica ≡ fold (operations_in (message_value message.now))) }
+    ensures { IfOk result
+        (λ replica. R.state replica ≡ fold (operations_in (message_value message.now))) }
 {
     let mut replica = R::empty(alloc);
     for entry in &message.entries {

@@ -44,6 +44,6 @@ mod writing;
 pub use fault::WireFault;
 pub use held::whole;
 pub use learning::told;
-pub use message::{Message, NameEntry};
+pub use message::{MAX_NAMES, MAX_NODES, Message, NameEntry};
 pub use reading::decode;
 pub use writing::encode;

@@ -3,6 +3,12 @@
 use actions::Name;
 use stamp_register::Key;
 
+/// How many nodes a cluster has at most.
+pub const MAX_NODES: u8 = 16;
+
+/// How many names a node holds at most, so that one message can tell all of them.
+pub const MAX_NAMES: usize = 256;
+
 /// What a message says of one name: its key, and cells of what was counted at nodes.
 ///
 /// The numbers of a cell stand in the order in which they are written. The last is the count or

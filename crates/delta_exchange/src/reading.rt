@@ -47,7 +47,8 @@ fn read_entries(
     whole: Whole,
     bytes: &[u8],
 ) -> Result<(Vec<NameEntry>, &[u8]), WireFault>
-    ensures { Gives (λ x. (map entry_value x.0.items, x.1.now)) result (entries_at whole.len whole.nodes bytes.now) }
+    ensures { Gives (λ x. (map entry_value x.0.items, x.1.now)) result
+        (entries_at whole.len whole.nodes bytes.now) }
 {
     let (count, mut rest) = read_u16(whole, bytes)?;
     let mut entries: Vec<NameEntry> = Vec::new(alloc);

@@ -102,7 +102,8 @@ pub(crate) fn read_node(whole: Whole, rest: &[u8]) -> Result<(u8, &[u8]), WireFa
 /// The number of a node other than this one.
 #[tactic(auto, unfolding(crate::specs::Reading::other_node_at))]
 pub(crate) fn read_other_node(whole: Whole, from: u8, rest: &[u8]) -> Result<(u8, &[u8]), WireFault>
-    ensures { GivesAlways (λ x. (x.0, x.1.now)) result (other_node_at whole.len whole.nodes from rest.now) }
+    ensures { GivesAlways (λ x. (x.0, x.1.now)) result
+        (other_node_at whole.len whole.nodes from rest.now) }
 {
     let (to, after) = read_node(whole, rest)?;
     if to == from {

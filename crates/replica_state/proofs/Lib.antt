@@ -16,3 +16,5 @@ pub mod PointJoins
 pub mod SetJoins
 pub mod MatrixJoins
 pub mod NamesTogether
+pub mod Marks
+pub mod StoredSlots

@@ -19,9 +19,7 @@ use Rattle.lattice_laws.specs.Lex.{LexOrder, lex_same}
 use Rattle.lattice_laws.specs.Map.{stored_at, IsStored, PutsOnly, RaisesOnly}
 use Rattle.lattice_laws.proofs.Entries.{found_may_be_stored}
 use Rattle.lattice_laws.proofs.Joins.{copy_from_bottom}
-use Rattle.counters.specs.Sums.{numbers}
 use Rattle.counters.specs.Cells.{cell}
-use Rattle.counters.proofs.SumLemmas.{sum-zero}
 use Rattle.stamp_register.specs.declared.key.Key.{Key}
 use Rattle.stamp_register.specs.Keys.{KeyValue, key_value, key_le}
 use Rattle.stamp_register.specs.contracts.key.KeyOrd.TheImpl.Laws as key_laws
@@ -31,21 +29,19 @@ use Rattle.replica_state.specs.Folds.{fold, greater}
 use Rattle.replica_state.specs.declared.point.Counted.{Counted}
 use Rattle.replica_state.specs.declared.point.Counted.TheVariants.{Hits, Execs, Shifts}
 use Rattle.replica_state.specs.Operations.{IsIn}
-use Rattle.replica_state.specs.States as states
-use Rattle.replica_state.specs.States.{State, with_name, budget_of, total_hits}
-use Rattle.replica_state.specs.Points.{Held, nothing, is_hits, same_counted, raised, learned, taken, passed, moved, budget_under}
+use Rattle.replica_state.specs.States.{with_name}
+use Rattle.replica_state.specs.Points.{Held, nothing, is_hits, same_counted, raised, learned}
 use Rattle.replica_state.specs.OpSets.{cell_of, held_at, with_held}
-use Rattle.replica_state.specs.Slots.{Slot, Budgets, IsTold, no_slot, under_key, slot_key, slot_number, slot_held, slot_at, shown_slots}
+use Rattle.replica_state.specs.Slots.{Slot, Budgets, SaysSomething, no_slot, under_key, slot_key, slot_number, slot_held, slot_at, shown_slots}
 use Rattle.replica_state.proofs.Orders.{bytes_eq-true, bytes_eq-refl}
 use Rattle.replica_state.proofs.Shown.{with_held-same}
 use Rattle.replica_state.specs.MatrixOrder.{budgets_order, key_cmp, slots_order, are_slots, slots_laws, slots_map}
 use Rattle.replica_state.specs.MatrixStates.{budgets_upto, cell_upto}
-use Rattle.replica_state.proofs.SlotLemmas.{nothing_held}
 use Rattle.replica_state.proofs.Names.{IsAscending, same_ascending, with_name-cases, with_name-new, with_name-old, with_name-ascending, tied}
 
 -- ---- the names of a map
 
-abbrev stored : {X : Type 0} → List (List ℕ × X) → List ℕ → Option X
+abbrev pub stored : {X : Type 0} → List (List ℕ × X) → List ℕ → Option X
 stored entries name = stored_at (slice_cmp nat_cmp) entries name
 
 pub ascending : (ns : List (List ℕ)) → IsStrictlySortedBy (slice_cmp nat_cmp) ns → IsAscending ns
@@ -130,9 +126,6 @@ slot_seen slots name = λ i. record { key = slot_key (slot_at slots name); numbe
 pub held_found : (slots : List (List ℕ × Slot)) (name : List ℕ) (held : Slot) → stored slots name ≡ Some held → slot_held held ≡ held_at (shown_slots slots) name
 held_found slots name held found = ap (λ (o : Option Slot). slot_held (unwrap_or o no_slot)) (sym found) ∙ slot_seen slots name
 
-pub held_absent : (slots : List (List ℕ × Slot)) (name : List ℕ) → stored slots name ≡ None → nothing ≡ held_at (shown_slots slots) name
-held_absent slots name none = sym (nothing_held None [] refl refl) ∙ ap (λ (o : Option Slot). slot_held (unwrap_or o no_slot)) (sym none) ∙ slot_seen slots name
-
 -- ---- slots, by what they hold
 
 le_both : (a b : ℕ) → a ≤ b → b ≤ a → a ≡ b
@@ -205,10 +198,10 @@ changed_to old new name left h a b puts not e =
     put old new name h (ap (λ (o : Option Slot). slot_held (unwrap_or o no_slot)) here ∙ e) puts.other_keys
     (names_put old new name a.ordered b.ordered (subst (λ (o : Option Slot). IsSome o) (sym here) refl) puts.other_keys)
 
-pub unchanged : (old new : List (List ℕ × Slot)) (name : List ℕ) (held left : Slot) → slots_map old → slots_map new → stored old name ≡ Some held → PutsOnly (slice_cmp nat_cmp) are_slots slots_order no_slot old new name left →
+pub unchanged_slots : (old new : List (List ℕ × Slot)) (name : List ℕ) (held left : Slot) → slots_map old → slots_map new → stored old name ≡ Some held → PutsOnly (slice_cmp nat_cmp) are_slots slots_order no_slot old new name left →
     slot_held left ≡ slot_held held → shown_slots new ≡ shown_slots old
 unfolding shown_slots
-unchanged old new name held left a b found puts e =
+unchanged_slots old new name held left a b found puts e =
     changed_to old new name left (held_at (shown_slots old) name) a b puts (λ bottom. (found_may_be_stored (slice_cmp nat_cmp) are_slots slots_order no_slot slots_laws old name held a (sym found)).1 (bottom_by_held left held e bottom)) (e ∙ held_found old name held found)
     ∙ with_held-same name (shown_slots old) (name_kept old name a.ordered (subst (λ (o : Option Slot). IsSome o) (sym found) refl))
 
@@ -224,28 +217,24 @@ added_to old new name slot h a b none raises not e =
     is_there None k = absurd (not k)
     is_there (Some x) k = refl
 
--- what was learned or taken is something
-pub told_not_bottom : (x : Slot) (key : Option KeyValue) (told : Option Count) (h : Held) (b : Bool) → b ≡ is_none key → IfSome told (λ c. is_hits c.counted ≡ b) → IsTold key told → slot_held x ≡ learned key told h → slots_order x no_slot → ⊥
-unfolding slot_held learned
-told_not_bottom x (Some key) told h b same kinds is e bottom = by_key h.key (sym (ap (λ (k : Held). k.key) e) ∙ keyless x bottom)
+-- what was learned is something
+pub learned_is_something : (key : Option KeyValue) (told : Option Count) (h : Held) (b : Bool) → b ≡ is_none key → IfSome told (λ c. is_hits c.counted ≡ b) → SaysSomething key told → learned key told h ≢ nothing
+unfolding nothing learned
+learned_is_something (Some key) told h b same kinds is e = by_key h.key (ap (λ (k : Held). k.key) e)
   where
     by_key : (o : Option KeyValue) → greater (Some key) o ≡ None → ⊥
     by_key None k = let impossible : ◌≡◌ {A = Option KeyValue} (Some key) None = k in cc
     by_key (Some other) k = let impossible : ◌≡◌ {A = Option KeyValue} (Some (cond (key_le key other) other key)) None = k in cc
-told_not_bottom x None None h b same kinds is e bottom = is
-told_not_bottom x None (Some count) h b same kinds is e bottom = by_kind count.counted refl (kinds ∙ same)
+learned_is_something None None h b same kinds is e = is
+learned_is_something None (Some count) h b same kinds is e = by_kind count.counted refl (kinds ∙ same)
   where
     by_kind : (c : Counted) → count.counted ≡ c → is_hits c ≡ true → ⊥
     by_kind (Hits node) s k =
-        let number : slot_number x (Hits node) ≡ raised (Some count) h.number (Hits node) = ap (λ (g : Held). g.number (Hits node)) e in
+        let number : raised (Some count) h.number (Hits node) ≡ 0 = ap (λ (g : Held). g.number (Hits node)) e in
         let hit : raised (Some count) h.number (Hits node) ≡ max count.number (h.number (Hits node)) = ap (λ b. cond b (max count.number (h.number (Hits node))) (h.number (Hits node))) (ap (λ d. same_counted d (Hits node)) s ∙ eq-eqb node node refl) in
-        let none = hitless x bottom node in
-        absurd (omega (arith, number, hit, none, is))
+        absurd (omega (arith, number, hit, is))
     by_kind (Execs term node) s k = true≢false (sym k)
     by_kind (Shifts term from to) s k = true≢false (sym k)
-
-pub keyed_not_bottom : (x : Slot) (key : KeyValue) → slot_key x ≡ Some key → slots_order x no_slot → ⊥
-keyed_not_bottom x key e bottom = let impossible : ◌≡◌ {A = Option KeyValue} (Some key) None = sym e ∙ keyless x bottom in cc
 
 pub nothing_shown : shown_slots [] ≡ fold []
 unfolding shown_slots fold cell
@@ -256,9 +245,6 @@ none_told None = refl
 none_told (Some key) = refl
 
 -- ---- readers
-
-pub found_number : (slots : List (List ℕ × Slot)) (name : List ℕ) (held : Slot) (c : Counted) → Some held ≡ stored slots name → slot_number held c ≡ slot_number (slot_at slots name) c
-found_number slots name held c found = ap (λ (o : Option Slot). slot_number (unwrap_or o no_slot) c) found
 
 nothing_at : (c : Counted) → slot_number no_slot c ≡ 0
 unfolding cell
@@ -274,18 +260,6 @@ unfolding shown_slots
 seen_number slots name (Hits node) = refl
 seen_number slots name (Execs term node) = refl
 seen_number slots name (Shifts term from to) = refl
-
-pub no_hits : (slots : List (List ℕ × Slot)) (name : List ℕ) → stored slots name ≡ None → 0 ≡ total_hits (shown_slots slots) name
-unfolding shown_slots
-no_hits slots name none = sym (sum-zero numbers (λ node. slot_number (slot_at slots name) (Hits node)) (λ node. absent_number slots name (Hits node) none))
-
-pub budget_held : (slots : List (List ℕ × Slot)) (name : List ℕ) (term : ℕ) (held : Slot) → Some held ≡ stored slots name → budget_under (slot_key held) (slot_number held) term ≡ budget_of (shown_slots slots) name term
-unfolding shown_slots
-budget_held slots name term held found = ap (λ (o : Option Slot). budget_under (slot_key (unwrap_or o no_slot)) (slot_number (unwrap_or o no_slot)) term) found ∙ by_key (slot_key (slot_at slots name))
-  where
-    by_key : (k : Option KeyValue) → budget_under k (slot_number (slot_at slots name)) term ≡ states.budget_under (shown_slots slots) name term k
-    by_key None = refl
-    by_key (Some key) = refl
 
 pub name_missing : {X : Type 0} (slots : List (List ℕ × X)) (name : List ℕ) → stored slots name ≡ None → IsIn name (keys_of slots) → ⊥
 name_missing {X} slots name none h = true≢false (sym (subst (λ (o : Option X). IsSome o) none (name_stored slots name h)))
@@ -306,41 +280,6 @@ pub key_place : (slots : List (List ℕ × Slot)) (i : ℕ) → slice_get (keys_
 key_place [] i = refl
 key_place (e ∷ slots) zero = refl
 key_place (e ∷ slots) (suc i) = key_place slots i
-
--- what a pass or a new key leaves is something
-pub passed_not_bottom : (x y : Slot) (node : ℕ) (spent : Option ℕ) → IsSome (slot_key y) → slot_held x ≡ passed node spent (slot_held y) → slots_order x no_slot → ⊥
-unfolding slot_held passed
-passed_not_bottom x y node spent has e bottom = by_key (slot_key y) has (sym (ap (λ (k : Held). k.key) e) ∙ keyless x bottom)
-  where
-    by_key : (o : Option KeyValue) → IsSome o → o ≡ None → ⊥
-    by_key None h k = true≢false (sym h)
-    by_key (Some key) h k = let impossible : ◌≡◌ {A = Option KeyValue} (Some key) None = k in cc
-
-pub moved_not_bottom : (x y : Slot) (term from to total : ℕ) → IsSome (slot_key y) → slot_held x ≡ moved term from to total (slot_held y) → slots_order x no_slot → ⊥
-unfolding slot_held moved
-moved_not_bottom x y term from to total has e bottom = by_key (slot_key y) has (sym (ap (λ (k : Held). k.key) e) ∙ keyless x bottom)
-  where
-    by_key : (o : Option KeyValue) → IsSome o → o ≡ None → ⊥
-    by_key None h k = true≢false (sym h)
-    by_key (Some key) h k = let impossible : ◌≡◌ {A = Option KeyValue} (Some key) None = k in cc
-
-pub taken_not_bottom : (x : Slot) (key : KeyValue) (h : Held) → slot_held x ≡ taken key h → slots_order x no_slot → ⊥
-unfolding slot_held taken
-taken_not_bottom x key h e bottom = let impossible : ◌≡◌ {A = Option KeyValue} (Some key) None = sym (ap (λ (k : Held). k.key) e) ∙ keyless x bottom in cc
-
--- what is looked up and found is stored
-pub seen_some : {A : Type 0} (o : Option (Bor A)) → IsSome o → IsSome (option_copied o)
-seen_some None h = h
-seen_some (Some held) h = refl
-
-pub seen_none : {A : Type 0} (o : Option (Bor A)) → is_some o ≡ false → option_copied o ≡ None
-seen_none None h = refl
-seen_none (Some held) h = absurd (true≢false h)
-
--- what holds of the answer, where there is one
-pub by_answer : {A : Type 0} {P : A → Type 0} {G : Type 0} (o : Option A) → IsSome o → ((a : A) → P a → G) → IfSome o P → G
-by_answer None has then holds = absurd (true≢false (sym has))
-by_answer (Some a) has then holds = then a holds
 
 pub seen_is : {A : Type 0} (o : Option (Bor A)) → is_some (option_copied o) ≡ is_some o
 seen_is None = refl

@@ -1,6 +1,6 @@
 -- The state that a set of operations comes to. It is read off the whole set: the greatest key of a
 -- name, and the greatest number of each cell.
-use Rattle.std.specs.Prelude.{ℕ, max, Bool, true, nat_lt, List, [], ◌∷◌, if◌then◌else◌, Option, Some, None}
+use Rattle.std.specs.Prelude.{◌≡◌, ℕ, max, Bool, true, nat_lt, List, [], ◌∷◌, ◌++◌, if◌then◌else◌, Option, Some, None}
 use Rattle.std.specs.Str.{bytes_eq}
 use Rattle.stamp_register.specs.Keys.{KeyValue, key_le}
 use Rattle.replica_state.specs.Operations.{Cell, Hits, Execs, Shifts, Operation, Set, Count, same_cell}
@@ -75,6 +75,14 @@ fold ops =
       execs = λ name term node. at_key (key_of name ops) (λ key. number_at (Execs name key term node) ops);
       shifts = λ name term from to. at_key (key_of name ops) (λ key. number_at (Shifts name key term from to) ops);
     }
+
+-- where the first state is that of a set, the second is that of the set with the operation
+abbrev pub Learns : State → State → Operation → Type 0
+Learns v w op = (ops : List Operation) → v ≡ fold ops → w ≡ fold (op ∷ ops)
+
+-- where two states are those of sets, the third is that of both sets together
+abbrev pub IsUnion : State → State → State → Type 0
+IsUnion v w both = (a b : List Operation) → v ≡ fold a → w ≡ fold b → both ≡ fold (a ++ b)
 
 -- the greatest clock that operations carry
 abbrev pub clock_in_cell : Cell → ℕ

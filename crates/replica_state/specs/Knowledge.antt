@@ -1,7 +1,8 @@
--- What a set of operations knows: what it holds, and what a later operation that it holds overtakes.
-use Rattle.std.specs.Prelude.{◌≡◌, ◌≢◌, ℕ, ◌≤◌, nat_le, not, Bool, true, false, List, ◌⊎◌, if◌then◌else◌, Option, Some, None}
+-- What a set of operations knows: what it holds, and what a later operation that it holds
+-- overtakes.
+use Rattle.std.specs.Prelude.{◌≡◌, ℕ, ◌≤◌, nat_le, not, Bool, true, false, List, ◌⊎◌, if◌then◌else◌, Option, Some, None}
 use Rattle.std.specs.List.{list_any}
-use Rattle.stamp_register.specs.Keys.{KeyValue, key_le, same_key}
+use Rattle.stamp_register.specs.Keys.{KeyValue, key_le, same_key, IsLower}
 use Rattle.replica_state.specs.Operations.{Cell, Hits, Execs, Shifts, Operation, Set, Count, IsIn}
 use Rattle.replica_state.specs.States.{State}
 use Rattle.replica_state.specs.Folds.{key_in}
@@ -24,9 +25,9 @@ abbrev pub Knows : List Operation → Operation → Type 0
 Knows ops (Set name key) = HoldsKey ops name (λ other. key_le key other ≡ true)
 Knows ops (Count (Hits name node) number) = HoldsLater ops (Hits name node) number
 Knows ops (Count (Execs name key term node) number) =
-    HoldsLater ops (Execs name key term node) number ⊎ HoldsKey ops name (λ other. (key_le key other ≡ true) × (key ≢ other))
+    HoldsLater ops (Execs name key term node) number ⊎ HoldsKey ops name (IsLower key)
 Knows ops (Count (Shifts name key term from to) number) =
-    HoldsLater ops (Shifts name key term from to) number ⊎ HoldsKey ops name (λ other. (key_le key other ≡ true) × (key ≢ other))
+    HoldsLater ops (Shifts name key term from to) number ⊎ HoldsKey ops name (IsLower key)
 
 abbrev pub KnowsAll : List Operation → List Operation → Type 0
 KnowsAll ops others = (op : Operation) → IsIn op others → Knows ops op

@@ -1,7 +1,7 @@
 -- What holds of every set of operations.
 use Rattle.std.specs.Prelude.{◌≡◌, ℕ, ◌<◌, List, ◌++◌, ◌↔◌, false, Some, pos, ◌+ℤ◌}
 use Rattle.counters.specs.Sums.{numbers}
-use Rattle.counters.specs.Budgets.{Budget, remaining, total_spent}
+use Rattle.counters.specs.Budgets.{Budget, remaining_rights, total_spent}
 use Rattle.replica_state.specs.Operations.{Operation, IsIn}
 use Rattle.replica_state.specs.States.{State, budget_of}
 use Rattle.replica_state.specs.Folds.{fold}
@@ -29,4 +29,4 @@ ChangesIsChange = (a b : List Operation) → (changes (fold b) a ≡ false) ↔ 
 -- in each state, of each counted term, what was spent and what remains are the count
 abbrev pub SpentAndRemainingAreTheCount : Type 0
 SpentAndRemainingAreTheCount = (v : State) (name : List ℕ) (term : ℕ) (b : Budget) →
-    budget_of v name term ≡ Some b → b.setter < numbers → remaining b +ℤ pos (total_spent b) ≡ pos b.count
+    budget_of v name term ≡ Some b → b.setter < numbers → remaining_rights b +ℤ pos (total_spent b) ≡ pos b.count

@@ -56,7 +56,8 @@ abbrev pub are_slots : Slot → Type 0
 are_slots = AreBoth are_firsts are_cells
 
 pub slots_laws : IsJoinOrder are_slots slots_order no_slot
-slots_laws = pair_order (lex_order (key_laws.lawful).total (map_order nat_cmp shares_laws)) (map_order nat_cmp max_order)
+slots_laws =
+    pair_order (lex_order (key_laws.lawful).total (map_order nat_cmp shares_laws)) (map_order nat_cmp max_order)
 
 -- slots of names
 abbrev pub slots_map : List (List ℕ × Slot) → Type 0

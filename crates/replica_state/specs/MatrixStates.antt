@@ -1,5 +1,5 @@
 -- Matrices are ordered as their states are.
-use Rattle.std.proofs.Common.{◌≡◌, ℕ, ◌≤◌, ◌⊎◌, inl, inr, Option, Some, None, arith, refl, ◌∙◌, ap, subst}
+use Rattle.std.proofs.Common.{◌≡◌, ℕ, ◌≤◌, inl, inr, Option, Some, None, arith, refl, ◌∙◌, ap, subst}
 use Rattle.std.proofs.lemmas.Cmp.{nat_list_cmp_total, tied_itself}
 use Rattle.std.specs.Prelude.{option_map}
 use Rattle.std.specs.Ordering.{nat_cmp, is_le, ordering_reverse}
@@ -13,7 +13,7 @@ use Rattle.stamp_register.specs.Keys.{KeyValue, key_value, key_rank}
 use Rattle.stamp_register.proofs.KeyLemmas.{key_le-antisym}
 use Rattle.replica_state.specs.declared.point.Counted.{Counted}
 use Rattle.replica_state.specs.declared.point.Counted.TheVariants.{Hits, Execs, Shifts}
-use Rattle.replica_state.specs.StateOrder.{IsKeyBelow, OrdersByState}
+use Rattle.replica_state.specs.StateOrder.{IsKeyBelow, AreCellsBelow, OrdersByState}
 use Rattle.replica_state.specs.SetOrder.{key_below-irrefl, key_below-trans}
 use Rattle.replica_state.specs.Slots.{Budgets, share_number, budgets_number, under_key, slot_at, shown_slots, matrix_state}
 use Rattle.replica_state.specs.MatrixOrder.{First, first_order, cells_order, shares_order, budgets_order, key_cmp, IsMatrix, IsMatrixBelow}
@@ -27,11 +27,13 @@ key_less : (a b : KeyValue) → slice_cmp nat_cmp (key_rank a) (key_rank b) ≡ 
 key_less a b e = (
   ap is_le e,
   λ s. let tied : slice_cmp nat_cmp (key_rank b) (key_rank b) ≡ Equal = tied_itself nat_list_cmp_total (key_rank b) in
-      let less : slice_cmp nat_cmp (key_rank b) (key_rank b) ≡ Less = subst (λ k. slice_cmp nat_cmp (key_rank k) (key_rank b) ≡ Less) s e in
+      let less : slice_cmp nat_cmp (key_rank b) (key_rank b) ≡ Less =
+      subst (λ k. slice_cmp nat_cmp (key_rank k) (key_rank b) ≡ Less) s e in
       cc,
 )
 
-turned : (a b : KeyValue) (o : Ordering) → slice_cmp nat_cmp (key_rank a) (key_rank b) ≡ o → slice_cmp nat_cmp (key_rank b) (key_rank a) ≡ ordering_reverse o
+turned : (a b : KeyValue) (o : Ordering) → slice_cmp nat_cmp (key_rank a) (key_rank b) ≡ o →
+    slice_cmp nat_cmp (key_rank b) (key_rank a) ≡ ordering_reverse o
 turned a b o e = nat_list_cmp_total.antisymm (key_rank b) (key_rank a) ∙ ap ordering_reverse e
 
 key_greater : (a b : KeyValue) → slice_cmp nat_cmp (key_rank a) (key_rank b) ≡ Greater → IsKeyBelow (Some b) (Some a)
@@ -61,7 +63,9 @@ budgets_upto x y h (Shifts term from to) = share_upto _ _ (h term) (Shifts term 
 
 -- of two keys with budgets: the key is smaller, or it is the same and no number is greater
 abbrev IsFirstBelow : First → First → Type 0
-IsFirstBelow f g = IsKeyBelow (first_key f) (first_key g) ⊎ ((first_key f ≡ first_key g) × ((term node : ℕ) → under_key f (Execs term node) ≤ under_key g (Execs term node)) × ((term from to : ℕ) → under_key f (Shifts term from to) ≤ under_key g (Shifts term from to)))
+IsFirstBelow f g = AreCellsBelow (first_key f) (first_key g)
+    (λ term node. under_key f (Execs term node)) (λ term node. under_key g (Execs term node))
+    (λ term from to. under_key f (Shifts term from to)) (λ term from to. under_key g (Shifts term from to))
 
 first_below : (f g : First) → first_order f g → IsFirstBelow f g
 first_below None None h = inr (refl, λ term node. omega arith, λ term from to. omega arith)
@@ -71,22 +75,33 @@ first_below (Some p) (Some q) h = by_order (key_cmp p.0 q.0) refl h
   where
     by_order : (o : Ordering) → key_cmp p.0 q.0 ≡ o → ByKey o (budgets_order p.1 q.1) → IsFirstBelow (Some p) (Some q)
     by_order Less e k = inl (key_less _ _ e)
-    by_order Equal e k = inr (ap Some (key_tied _ _ e), λ term node. budgets_upto p.1 q.1 k (Execs term node), λ term from to. budgets_upto p.1 q.1 k (Shifts term from to))
+    by_order Equal e k = inr (
+      ap Some (key_tied _ _ e),
+      λ term node. budgets_upto p.1 q.1 k (Execs term node),
+      λ term from to. budgets_upto p.1 q.1 k (Shifts term from to),
+    )
     by_order Greater e k = absurd k
 
 below_first : (f g : First) → IsFirstBelow f g → first_order f g
 unfolding cell row_cell
 below_first None g h = tt
 below_first (Some p) None (inl h) = absurd h
-below_first (Some p) None (inr h) = absurd (let impossible : ◌≡◌ {A = Option KeyValue} (Some (key_value p.0)) None = h.0 in cc)
+below_first (Some p) None (inr h) =
+    absurd (let impossible : ◌≡◌ {A = Option KeyValue} (Some (key_value p.0)) None = h.0 in cc)
 below_first (Some p) (Some q) h = by_order (key_cmp p.0 q.0) refl h
   where
     by_order : (o : Ordering) → key_cmp p.0 q.0 ≡ o → IsFirstBelow (Some p) (Some q) → first_order (Some p) (Some q)
     by_order Less e k = lex_less key_cmp budgets_order p.0 q.0 p.1 q.1 e
-    by_order Equal e (inl k) = absurd (key_below-irrefl (Some (key_value q.0)) (subst (λ o. IsKeyBelow o (Some (key_value q.0))) (ap Some (key_tied _ _ e)) k))
-    by_order Equal e (inr k) = lex_equal key_cmp budgets_order p.0 q.0 p.1 q.1 e (λ term. (λ node. k.1 term node, λ from to. k.2 term from to))
-    by_order Greater e (inl k) = absurd (key_below-irrefl (Some (key_value p.0)) (key_below-trans (Some (key_value p.0)) (Some (key_value q.0)) (Some (key_value p.0)) k (key_greater (key_value p.0) (key_value q.0) e)))
-    by_order Greater e (inr k) = absurd (key_below-irrefl (Some (key_value q.0)) (subst (λ o. IsKeyBelow (Some (key_value q.0)) o) k.0 (key_greater (key_value p.0) (key_value q.0) e)))
+    by_order Equal e (inl k) = absurd (key_below-irrefl (Some (key_value q.0))
+        (subst (λ o. IsKeyBelow o (Some (key_value q.0))) (ap Some (key_tied _ _ e)) k))
+    by_order Equal e (inr k) = lex_equal key_cmp budgets_order p.0 q.0 p.1 q.1 e
+        (λ term. (λ node. k.1 term node, λ from to. k.2 term from to))
+    by_order Greater e (inl k) = absurd (key_below-irrefl (Some (key_value p.0))
+        (key_below-trans (Some (key_value p.0)) (Some (key_value q.0)) (Some (key_value p.0)) k
+        (key_greater (key_value p.0) (key_value q.0) e)))
+    by_order Greater e (inr k) = absurd (key_below-irrefl (Some (key_value q.0))
+        (subst (λ o. IsKeyBelow (Some (key_value q.0)) o) k.0
+        (key_greater (key_value p.0) (key_value q.0) e)))
 
 -- matrices are ordered as their states are
 pub matrix_ordered : OrdersByState IsMatrix IsMatrixBelow matrix_state
@@ -96,5 +111,8 @@ matrix_ordered v w a b = (
     hits = λ node. (below name).1 node;
     cells = first_below (slot_at v.slots name).first (slot_at w.slots name).first (below name).0;
   },
-  λ below name. (below_first (slot_at v.slots name).first (slot_at w.slots name).first (below name).cells, λ node. (below name).hits node),
+  λ below name. (
+    below_first (slot_at v.slots name).first (slot_at w.slots name).first (below name).cells,
+    λ node. (below name).hits node,
+  ),
 )

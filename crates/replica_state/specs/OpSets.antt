@@ -78,6 +78,10 @@ with_held name h v =
       shifts = λ n term from to. if bytes_eq name n then h.number (Shifts term from to) else v.shifts n term from to;
     }
 
+-- the state in which a name holds what this makes of what it held
+abbrev pub with_change : List ℕ → (Held → Held) → State → State
+with_change name f v = with_held name (f (held_at v name)) v
+
 -- what an operation tells its name
 abbrev pub key_told : Operation → Option KeyValue
 key_told (Set n key) = Some key
@@ -89,7 +93,8 @@ abbrev pub count_told : Operation → Option Counting
 count_told (Set n key) = None
 count_told (Count (cells.Hits n node) number) = Some (record { counted = Hits node; number = number })
 count_told (Count (cells.Execs n key term node) number) = Some (record { counted = Execs term node; number = number })
-count_told (Count (cells.Shifts n key term from to) number) = Some (record { counted = Shifts term from to; number = number })
+count_told (Count (cells.Shifts n key term from to) number) =
+    Some (record { counted = Shifts term from to; number = number })
 
 -- the operation of a name and its key that a setting or a count tells
 abbrev pub cell_told : List ℕ → KeyValue → Counted → cells.Cell

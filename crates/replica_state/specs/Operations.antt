@@ -55,4 +55,5 @@ abbrev pub IsWellFormed : Operation → Type 0
 IsWellFormed (Set name key) = Unit {0}
 IsWellFormed (Count (Hits name node) number) = 1 ≤ number
 IsWellFormed (Count (Execs name key term node) number) = (1 ≤ number) × IsTrue (is_some (count_of key term))
-IsWellFormed (Count (Shifts name key term from to) total) = (1 ≤ total) × (from ≢ to) × IsTrue (is_some (count_of key term))
+IsWellFormed (Count (Shifts name key term from to) total) =
+    (1 ≤ total) × (from ≢ to) × IsTrue (is_some (count_of key term))

@@ -1,11 +1,14 @@
 -- What the plain replica holds of one name, and what it makes of an operation more.
-use Rattle.std.specs.Prelude.{ℕ, ◌==◌, ◌&&◌, ◌+◌, max, Bool, true, false, List, [], ◌∷◌, if◌then◌else◌, Option, Some, None, option_map}
+use Rattle.std.specs.Prelude.{◌≡◌, ℕ, ◌==◌, ◌&&◌, ◌+◌, max, Bool, true, false, List, [], ◌∷◌, if◌then◌else◌, Option, Some, None, option_map, ℤ, pos}
+use Rattle.std.specs.Borrow.{Bor}
+use Rattle.std.specs.Option.{option_copied, option_map_or}
 use Rattle.std.specs.Ordering.{nat_cmp, match_ordering}
 use Rattle.std.specs.declared.cmp.Ordering.{Ordering}
 use Rattle.std.specs.declared.cmp.Ordering.TheVariants.{Greater}
 use Rattle.std.specs.Cmp.Lexicographic.{slice_cmp}
 use Rattle.stamp_register.specs.Keys.{KeyValue, key_value, key_rank}
-use Rattle.counters.specs.Budgets.{Budget}
+use Rattle.counters.specs.Budgets.{Budget, rights, total_spent}
+use Rattle.stamp_register.specs.declared.key.Key.{Key}
 use Rattle.replica_state.specs.Operations.{count_of}
 use Rattle.replica_state.specs.declared.point.Counted.{Counted}
 use Rattle.replica_state.specs.declared.point.Counted.TheVariants.{Hits, Execs, Shifts}
@@ -38,11 +41,27 @@ number_of (c ∷ cs) counted = max (if same_counted c.counted counted then c.num
 -- the budget of a term in a name's numbers, if there is a key that counts it
 abbrev pub budget_in : (Counted → ℕ) → ℕ → ℕ → ℕ → Budget
 budget_in f term setter count =
-    record { setter = setter; count = count; shifted = λ from to. f (Shifts term from to); spent = λ node. f (Execs term node) }
+    record {
+      setter = setter;
+      count = count;
+      shifted = λ from to. f (Shifts term from to);
+      spent = λ node. f (Execs term node);
+    }
 
 abbrev pub budget_under : Option KeyValue → (Counted → ℕ) → ℕ → Option Budget
 budget_under None f term = None
 budget_under (Some key) f term = option_map (λ count. budget_in f term key.node count) (count_of key term)
+
+-- the rights of a node to a term under a key or none, and what all nodes spent; 0 where it isn't counted
+abbrev pub rights_of_key : Option KeyValue → (Counted → ℕ) → ℕ → ℕ → ℤ
+rights_of_key key f term node = option_map_or (λ b. rights b node) (budget_under key f term) (pos 0)
+
+abbrev pub spent_of_key : Option KeyValue → (Counted → ℕ) → ℕ → ℕ
+spent_of_key key f term = option_map_or total_spent (budget_under key f term) 0
+
+-- a key that is there or not
+abbrev pub given_key : Option (Bor Key) → Option KeyValue
+given_key key = option_map key_value (option_copied key)
 
 -- a key or none, and the number of each thing that is counted
 pub record Held : Type 0 where
@@ -60,10 +79,13 @@ abbrev pub standing : KeyValue → Option KeyValue → Ordering
 standing key None = Greater
 standing key (Some held) = slice_cmp nat_cmp (key_rank key) (key_rank held)
 
--- with a count more
+-- with a count more, or none
 abbrev pub raised : Option Count → (Counted → ℕ) → Counted → ℕ
 raised None f c = f c
 raised (Some count) f c = if same_counted count.counted c then max count.number (f c) else f c
+
+abbrev pub Raises : (Counted → ℕ) → (Counted → ℕ) → Option Count → Type 0
+Raises f g count = (c : Counted) → g c ≡ raised count f c
 
 -- under a new key: hits go on
 abbrev pub fresh : (Counted → ℕ) → Counted → ℕ
@@ -74,7 +96,8 @@ fresh f (Shifts term from to) = 0
 -- with what an operation says that has this key or none, and this count or none
 abbrev pub learned_number : Option KeyValue → Option Count → Held → Counted → ℕ
 learned_number None count h c = raised count h.number c
-learned_number (Some key) count h c = match_ordering (standing key h.key) (h.number c) (raised count h.number c) (raised count (fresh h.number) c)
+learned_number (Some key) count h c =
+    match_ordering (standing key h.key) (h.number c) (raised count h.number c) (raised count (fresh h.number) c)
 
 unfoldable pub learned : Option KeyValue → Option Count → Held → Held
 learned key count h = record { key = greater key h.key; number = learned_number key count h }
@@ -92,9 +115,11 @@ unfoldable pub passed : ℕ → Option ℕ → Held → Held
 passed node spent h =
     record {
       key = h.key;
-      number = raised (spending node spent h) (raised (Some (record { counted = Hits node; number = h.number (Hits node) + 1 })) h.number);
+      number = raised (spending node spent h)
+          (raised (Some (record { counted = Hits node; number = h.number (Hits node) + 1 })) h.number);
     }
 
 -- with so many rights to a term moved in all from one node to another
 unfoldable pub moved : ℕ → ℕ → ℕ → ℕ → Held → Held
-moved term from to total h = record { key = h.key; number = raised (Some (record { counted = Shifts term from to; number = total })) h.number }
+moved term from to total h =
+    record { key = h.key; number = raised (Some (record { counted = Shifts term from to; number = total })) h.number }

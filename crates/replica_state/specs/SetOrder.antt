@@ -1,10 +1,10 @@
 -- Plain replicas are ordered as their states are.
-use Rattle.std.proofs.Common.{◌≡◌, ℕ, ◌≤◌, true, List, ◌⊎◌, inl, inr, sym, ◌∙◌, refl, subst, arith, Option, Some, None}
+use Rattle.std.proofs.Common.{◌≡◌, ℕ, true, List, inl, inr, sym, ◌∙◌, refl, subst, arith, Option, Some, None}
 use Rattle.lattice_laws.specs.Order.{IsJoinOrder}
 use Rattle.stamp_register.specs.Keys.{KeyValue, key_le}
 use Rattle.stamp_register.proofs.KeyLemmas.{key_le-trans, key_le-antisym}
 use Rattle.replica_state.specs.States.{State}
-use Rattle.replica_state.specs.StateOrder.{IsKeyBelow, IsBelow}
+use Rattle.replica_state.specs.StateOrder.{IsKeyBelow, AreCellsBelow, IsBelow}
 use Rattle.replica_state.specs.OpSets.{state_of, shown, no_points, IsSet, IsSetBelow}
 
 pub key_below-trans : (a b c : Option KeyValue) → IsKeyBelow a b → IsKeyBelow b c → IsKeyBelow a c
@@ -13,18 +13,24 @@ key_below-trans None (Some b) None h k = absurd k
 key_below-trans None (Some b) (Some c) h k = tt
 key_below-trans (Some a) None c h k = absurd h
 key_below-trans (Some a) (Some b) None h k = absurd k
-key_below-trans (Some a) (Some b) (Some c) h k = (key_le-trans a b c h.0 k.0, λ e. h.1 (key_le-antisym a b h.0 (subst (λ x. key_le b x ≡ true) (sym e) k.0)))
+key_below-trans (Some a) (Some b) (Some c) h k = (
+  key_le-trans a b c h.0 k.0,
+  λ e. h.1 (key_le-antisym a b h.0 (subst (λ x. key_le b x ≡ true) (sym e) k.0)),
+)
 
 pub key_below-irrefl : (a : Option KeyValue) → IsKeyBelow a a → ⊥
 key_below-irrefl None h = h
 key_below-irrefl (Some a) h = h.1 refl
 
 pub below-refl : (v : State) → IsBelow v v
-below-refl v name = record { hits = λ node. omega arith; cells = inr (refl, λ term node. omega arith, λ term from to. omega arith) }
+below-refl v name = record {
+  hits = λ node. omega arith;
+  cells = inr (refl, λ term node. omega arith, λ term from to. omega arith);
+}
 
 -- what `IsBelowAt` says of the cells
 abbrev pub Cells : List ℕ → State → State → Type 0
-Cells name x y = IsKeyBelow (x.key name) (y.key name) ⊎ ((x.key name ≡ y.key name) × ((term node : ℕ) → x.execs name term node ≤ y.execs name term node) × ((term from to : ℕ) → x.shifts name term from to ≤ y.shifts name term from to))
+Cells name x y = AreCellsBelow (x.key name) (y.key name) (x.execs name) (y.execs name) (x.shifts name) (y.shifts name)
 
 pub below-trans : (u v w : State) → IsBelow u v → IsBelow v w → IsBelow u w
 below-trans u v w h k name =
@@ -47,7 +53,8 @@ no_points-below : (w : State) → IsBelow (state_of no_points) w
 unfolding state_of shown
 no_points-below w name = record { hits = λ node. omega arith; cells = by_key (w.key name) refl }
   where
-    by_key : (k : Option KeyValue) → w.key name ≡ k → IsKeyBelow None (w.key name) ⊎ ((None ≡ w.key name) × ((term node : ℕ) → 0 ≤ w.execs name term node) × ((term from to : ℕ) → 0 ≤ w.shifts name term from to))
+    by_key : (k : Option KeyValue) → w.key name ≡ k →
+        AreCellsBelow None (w.key name) (λ term node. 0) (w.execs name) (λ term from to. 0) (w.shifts name)
     by_key None e = inr (sym e, λ term node. omega arith, λ term from to. omega arith)
     by_key (Some key) e = inl (subst (IsKeyBelow None) (sym e) tt)
 

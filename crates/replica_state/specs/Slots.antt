@@ -1,5 +1,5 @@
 -- What a matrix shows: of each name, in byte order, the cells that are stored of it.
-use Rattle.std.specs.Prelude.{◌≡◌, ℕ, ◌≤◌, max, List, [], Option, Some, None, option_map}
+use Rattle.std.specs.Prelude.{◌≡◌, ◌≢◌, ℕ, ◌+◌, ◌≤◌, max, length, List, [], Option, Some, None, option_map, ℤ}
 use Rattle.std.specs.Map.{keys_of}
 use Rattle.std.specs.Ordering.{nat_cmp}
 use Rattle.std.specs.Cmp.Lexicographic.{slice_cmp}
@@ -13,8 +13,9 @@ use Rattle.replica_state.specs.declared.point.Counted.{Counted}
 use Rattle.replica_state.specs.declared.point.Counted.TheVariants.{Hits, Execs, Shifts}
 use Rattle.replica_state.specs.declared.point.Count.{Count}
 use Rattle.replica_state.specs.declared.matrix.Matrix.{Matrix}
-use Rattle.replica_state.specs.States.{State}
-use Rattle.replica_state.specs.Points.{Held}
+use Rattle.replica_state.specs.States.{State, with_name}
+use Rattle.replica_state.specs.Points.{Held, nothing, rights_of_key}
+use Rattle.replica_state.specs.OpSets.{cell_of, with_held}
 
 -- the budgets of a key's terms
 abbrev pub Budgets : Type 0
@@ -40,7 +41,8 @@ share_number shares (Shifts term from to) = moved_cell shares from to
 abbrev pub budgets_number : Budgets → Counted → ℕ
 budgets_number budgets (Hits node) = 0
 budgets_number budgets (Execs term node) = share_number (value_at nat_cmp no_shares budgets term) (Execs term node)
-budgets_number budgets (Shifts term from to) = share_number (value_at nat_cmp no_shares budgets term) (Shifts term from to)
+budgets_number budgets (Shifts term from to) =
+    share_number (value_at nat_cmp no_shares budgets term) (Shifts term from to)
 
 abbrev pub under_key : Option (Key × Budgets) → Counted → ℕ
 under_key None counted = 0
@@ -54,6 +56,10 @@ slot_number slot (Shifts term from to) = under_key slot.first (Shifts term from 
 
 unfoldable pub slot_held : Slot → Held
 slot_held slot = record { key = slot_key slot; number = slot_number slot }
+
+-- the rights of a node, 0 where the term isn't counted
+abbrev pub slot_rights : Slot → ℕ → ℕ → ℤ
+slot_rights slot term node = rights_of_key (slot_key slot) (slot_number slot) term node
 
 -- what is stored of a name
 abbrev pub slot_at : List (List ℕ × Slot) → List ℕ → Slot
@@ -69,6 +75,29 @@ shown_slots slots =
       shifts = λ name term from to. slot_number (slot_at slots name) (Shifts term from to);
     }
 
+-- what is stored of a name is what the state has of it, and the name is one of the state's
+pub record IsSlotOf (v : State) (name : List ℕ) (slot : Slot) : Type 0 where
+  pub key : slot_key slot ≡ v.key name
+  pub number : (counted : Counted) → slot_number slot counted ≡ cell_of v name counted
+  pub named : with_name name v.names ≡ v.names
+
+-- the state has nothing of a name
+pub record HasNoSlot (v : State) (name : List ℕ) : Type 0 where
+  pub key : v.key name ≡ None
+  pub number : (counted : Counted) → cell_of v name counted ≡ 0
+  pub unnamed : length (with_name name v.names) ≡ length v.names + 1
+
+-- a call was made on what is stored of a name, and the state has of the name what the call left, if
+-- that is anything; where the call left what was there, the state is as it was
+pub record ChangesSlot {R : Type 0} (call : Slot → R → Slot → Type 0) (v w : State) (name : List ℕ)
+    (answer : R) : Type 0 where
+  pub before : Slot
+  pub after : Slot
+  pub is_stored : IsSlotOf v name before
+  pub is_called : call before answer after
+  pub written : slot_held after ≢ nothing → w ≡ with_held name (slot_held after) v
+  pub unchanged : slot_held after ≡ slot_held before → w ≡ v
+
 -- a budget in which what is counted so is at least this number, and all else is as it was
 abbrev pub IsShareRaised : Shares → Shares → Counted → ℕ → Type 0
 IsShareRaised old new (Hits node) number = new ≡ old
@@ -80,7 +109,7 @@ unfoldable pub matrix_state : Matrix → State
 matrix_state matrix = shown_slots matrix.slots
 
 -- an operation with this key or none, and this count or none, says something of its name
-abbrev pub IsTold : Option KeyValue → Option Count → Type 0
-IsTold (Some key) told = Unit {0}
-IsTold None None = ⊥
-IsTold None (Some count) = 1 ≤ count.number
+abbrev pub SaysSomething : Option KeyValue → Option Count → Type 0
+SaysSomething (Some key) count = Unit {0}
+SaysSomething None None = ⊥
+SaysSomething None (Some count) = 1 ≤ count.number

@@ -10,10 +10,17 @@ IsKeyBelow None (Some b) = Unit {0}
 IsKeyBelow (Some a) None = ⊥
 IsKeyBelow (Some a) (Some b) = (key_le a b ≡ true) × (a ≢ b)
 
--- of one name: no hit cell is greater, and the key is smaller, or it is the same and no cell of it is greater
+-- a smaller key; or the same one, under which no execution and no shift is greater
+abbrev pub AreCellsBelow : Option KeyValue → Option KeyValue → (ℕ → ℕ → ℕ) → (ℕ → ℕ → ℕ) →
+    (ℕ → ℕ → ℕ → ℕ) → (ℕ → ℕ → ℕ → ℕ) → Type 0
+AreCellsBelow a b execs other_execs shifts other_shifts = IsKeyBelow a b ⊎ ((a ≡ b)
+    × ((term node : ℕ) → execs term node ≤ other_execs term node)
+    × ((term from to : ℕ) → shifts term from to ≤ other_shifts term from to))
+
+-- of one name: no hit cell is greater, and no cell under its key
 pub record IsBelowAt (v w : State) (name : List ℕ) : Type 0 where
   pub hits : (node : ℕ) → v.hits name node ≤ w.hits name node
-  pub cells : IsKeyBelow (v.key name) (w.key name) ⊎ ((v.key name ≡ w.key name) × ((term node : ℕ) → v.execs name term node ≤ w.execs name term node) × ((term from to : ℕ) → v.shifts name term from to ≤ w.shifts name term from to))
+  pub cells : AreCellsBelow (v.key name) (w.key name) (v.execs name) (w.execs name) (v.shifts name) (w.shifts name)
 
 abbrev pub IsBelow : State → State → Type 0
 IsBelow v w = (name : List ℕ) → IsBelowAt v w name

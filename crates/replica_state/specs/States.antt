@@ -1,5 +1,5 @@
 -- The state of a replica: settings, hits, executions and shifted rights, name by name.
-use Rattle.std.specs.Prelude.{ℕ, ◌+◌, ◌==◌, ◌&&◌, List, [], ◌∷◌, Option, Some, None, option_map, if◌then◌else◌, ℤ, pos}
+use Rattle.std.specs.Prelude.{ℕ, ◌+◌, ◌==◌, ◌&&◌, ◌↔◌, Bool, false, IsTrue, List, [], ◌∷◌, Option, Some, None, option_map, slice_index_or, if◌then◌else◌, ℤ, pos, ◌≤ℤ◌}
 use Rattle.std.specs.Option.{option_map_or}
 use Rattle.std.specs.Str.{bytes_eq}
 use Rattle.std.specs.Ordering.{nat_cmp, match_ordering}
@@ -33,7 +33,10 @@ with_execs name term node number v =
 
 unfoldable pub with_shifts : List ℕ → ℕ → ℕ → ℕ → ℕ → State → State
 with_shifts name term from to number v =
-    record v { shifts = λ n k i j. if bytes_eq name n && ((term == k) && ((from == i) && (to == j))) then number else v.shifts n k i j }
+    record v {
+      shifts = λ n k i j.
+          if bytes_eq name n && ((term == k) && ((from == i) && (to == j))) then number else v.shifts n k i j;
+    }
 
 -- the state with a new key of a name, of which nothing was executed or shifted yet; hits go on
 unfoldable pub with_key : List ℕ → KeyValue → State → State
@@ -46,7 +49,8 @@ with_key name key v =
       shifts = λ n k i j. if bytes_eq name n then 0 else v.shifts n k i j;
     }
 
--- the state after a pass at a node: one hit more and, where a counted term was triggered, one execution more
+-- the state after a pass at a node: one hit more and, where a counted term was triggered, one
+-- execution more
 abbrev pub with_spend : List ℕ → ℕ → Option ℕ → State → State
 with_spend name node None v = v
 with_spend name node (Some term) v = with_execs name term node (v.execs name term node + 1) v
@@ -61,7 +65,12 @@ total_hits v name = sum_below numbers (v.hits name)
 -- the budget of a term in a key of the name
 abbrev pub budget : State → List ℕ → ℕ → ℕ → ℕ → Budget
 budget v name term setter count =
-    record { setter = setter; count = count; shifted = λ from to. v.shifts name term from to; spent = λ node. v.execs name term node }
+    record {
+      setter = setter;
+      count = count;
+      shifted = λ from to. v.shifts name term from to;
+      spent = λ node. v.execs name term node;
+    }
 
 -- the budget of a term, if the name has a key that counts it
 abbrev pub budget_under : State → List ℕ → ℕ → Option KeyValue → Option Budget
@@ -77,3 +86,7 @@ rights_of v name term node = option_map_or (λ b. rights b node) (budget_of v na
 
 abbrev pub spent_of : State → List ℕ → ℕ → ℕ
 spent_of v name term = option_map_or total_spent (budget_of v name term) 0
+
+-- those terms are marked that a node has a right to execute, where it has these rights of each
+abbrev pub MarksRights : (ℕ → ℤ) → List Bool → Type 0
+MarksRights rights marks = (term : ℕ) → IsTrue (slice_index_or marks term false) ↔ (pos 1 ≤ℤ rights term)

@@ -1,5 +1,5 @@
 -- What two states know together.
-use Rattle.std.specs.Prelude.{ℕ, ◌≡◌, ◌≤◌, max, Bool, ◌||◌, List, [], ◌∷◌, ◌⊎◌, if◌then◌else◌, Option, Some, None}
+use Rattle.std.specs.Prelude.{ℕ, ◌≤◌, max, Bool, ◌||◌, List, [], ◌∷◌, if◌then◌else◌, Option, Some, None}
 use Rattle.std.specs.Ordering.{match_ordering}
 use Rattle.std.specs.declared.cmp.Ordering.{Ordering}
 use Rattle.std.specs.declared.cmp.Ordering.TheVariants.{Less, Equal}
@@ -8,7 +8,7 @@ use Rattle.replica_state.specs.declared.point.Counted.{Counted}
 use Rattle.replica_state.specs.declared.point.Counted.TheVariants.{Hits, Execs, Shifts}
 use Rattle.replica_state.specs.States.{State, with_name}
 use Rattle.replica_state.specs.Folds.{greater}
-use Rattle.replica_state.specs.StateOrder.{IsKeyBelow}
+use Rattle.replica_state.specs.StateOrder.{AreCellsBelow}
 use Rattle.replica_state.specs.Points.{Held, is_hits, standing}
 
 -- names more, each in its place
@@ -26,7 +26,8 @@ abbrev pub key_order : Option KeyValue → Option KeyValue → Ordering
 key_order None held = no_key_order held
 key_order (Some key) held = standing key held
 
--- of a number that is held and another, what the greater key has, where the other's key stands so to the one that is held
+-- of a number that is held and another, what the greater key has, where the other's key stands so
+-- to the one that is held
 abbrev pub number_both : Ordering → ℕ → ℕ → ℕ
 number_both order held other = match_ordering order held (max held other) other
 
@@ -37,8 +38,10 @@ union_of v w =
       names = with_names w.names v.names;
       key = λ name. greater (v.key name) (w.key name);
       hits = λ name node. max (v.hits name node) (w.hits name node);
-      execs = λ name term node. number_both (key_order (w.key name) (v.key name)) (v.execs name term node) (w.execs name term node);
-      shifts = λ name term from to. number_both (key_order (w.key name) (v.key name)) (v.shifts name term from to) (w.shifts name term from to);
+      execs = λ name term node. number_both (key_order (w.key name) (v.key name))
+          (v.execs name term node) (w.execs name term node);
+      shifts = λ name term from to. number_both (key_order (w.key name) (v.key name))
+          (v.shifts name term from to) (w.shifts name term from to);
     }
 
 -- the same of one name
@@ -57,4 +60,6 @@ if_counts same c number = if same || is_hits c then number else 0
 -- what is held of one name knows no more than what is held elsewhere
 pub record IsHeldBelow (h g : Held) : Type 0 where
   pub hits : (node : ℕ) → h.number (Hits node) ≤ g.number (Hits node)
-  pub cells : IsKeyBelow h.key g.key ⊎ ((h.key ≡ g.key) × ((term node : ℕ) → h.number (Execs term node) ≤ g.number (Execs term node)) × ((term from to : ℕ) → h.number (Shifts term from to) ≤ g.number (Shifts term from to)))
+  pub cells : AreCellsBelow h.key g.key
+      (λ term node. h.number (Execs term node)) (λ term node. g.number (Execs term node))
+      (λ term from to. h.number (Shifts term from to)) (λ term from to. g.number (Shifts term from to))

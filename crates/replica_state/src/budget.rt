@@ -1,9 +1,9 @@
 //! Sums over the nodes, of the counts of one name.
 
-ghost use Rattle.std.specs.Prelude.{◌≡◌, ◌*◌, ◌<◌, ◌≤◌, ◌^◌, Some, None};
+ghost use Rattle.std.specs.Prelude.{◌≡◌, ◌*◌, ◌<◌, ◌≤◌, ◌^◌, ℕ, Some, None};
 ghost use Rattle.stamp_register.specs.Keys.{key_value};
 ghost use Rattle.counters.specs.Sums.{numbers, sum_below, sum_others};
-ghost use Rattle.counters.specs.Budgets.{given, gone, rights, total_spent};
+ghost use Rattle.counters.specs.Budgets.{given_to, gone_from, rights};
 ghost use Rattle.replica_state.specs.Operations.{count_of};
 ghost use Rattle.replica_state.specs.Points.{number_of, budget_in};
 ghost use Rattle.replica_state.specs.declared.point.Counted.TheVariants.{Hits, Execs, Shifts};
@@ -49,7 +49,8 @@ pub(crate) fn sum_execs(counts: &[Count], term: u8) -> u128
 
 // What others moved to a node.
 fn sum_to(counts: &[Count], term: u8, to: u8) -> u128
-    ensures value { result ≡ sum_others numbers to (λ from. number_of counts.now (Shifts term from to)) }
+    ensures value { result ≡ sum_others numbers to
+        (λ from. number_of counts.now (Shifts term from to)) }
     ensures small { result ≤ 256 * 2 ^ 64 }
 {
     let mut sum = 0u128;
@@ -64,7 +65,8 @@ fn sum_to(counts: &[Count], term: u8, to: u8) -> u128
 
 // What a node moved to others.
 fn sum_from(counts: &[Count], term: u8, from: u8) -> u128
-    ensures value { result ≡ sum_others numbers from (λ to. number_of counts.now (Shifts term from to)) }
+    ensures value { result ≡ sum_others numbers from
+        (λ to. number_of counts.now (Shifts term from to)) }
     ensures small { result ≤ 256 * 2 ^ 64 }
 {
     let mut sum = 0u128;
@@ -87,6 +89,17 @@ pub(crate) fn count_of(key: &Key, term: u8) -> Option<u64>
             None => None,
         },
         None => None,
+    }
+}
+
+/// How many terms a key has.
+pub(crate) fn terms_of(key: &Key) -> usize
+    ensures few { result ≤ 16 }
+    ensures no_more { (term : ℕ) → result ≤ term → count_of (key_value key.now) term ≡ None }
+{
+    match key.actions() {
+        Some(actions) => actions.len(),
+        None => 0,
     }
 }
 

@@ -1,16 +1,16 @@
 //! The replica that nodes run.
 #![tactic(auto, unfolding(crate::specs::Slots::matrix_state, crate::specs::Slots::shown_slots))]
 
-ghost use Rattle.std.specs.Prelude.{◌≡◌, ◌+◌, ◌<◌, ◌^◌, ℕ, List, [], ◌∷◌, ◌++◌, length, option_map, is_none, Some, IfOk, IfSome, IsSome, OnOk, OnErr};
-ghost use Rattle.std.specs.Option.{option_copied};
+ghost use Rattle.std.specs.Prelude.{◌≡◌, ◌≢◌, ◌+◌, ◌<◌, ◌^◌, ℕ, [], ◌∷◌, ◌++◌, is_none, Some, IfOk, IfNone, IfSome, IsSome, OnOk, OnErr};
+ghost use Rattle.std.specs.Borrow.{MutBor};
+ghost use Rattle.std.specs.Fn.{FnOnceReturnsAtMut};
 ghost use Rattle.stamp_register.specs.Keys.{key_value};
-ghost use Rattle.replica_state.specs.Points.{is_hits, learned, taken, passed, moved};
-ghost use Rattle.replica_state.specs.OpSets.{cell_of, held_at, with_held};
+ghost use Rattle.replica_state.specs.Points.{is_hits, nothing, learned, taken, passed, moved, given_key};
+ghost use Rattle.replica_state.specs.OpSets.{cell_of, with_held, with_change};
 ghost use Rattle.lattice_laws.specs.Order.{IsCopy, IsJoin};
-ghost use Rattle.replica_state.specs.Operations.{Operation};
-ghost use Rattle.replica_state.specs.Folds.{fold};
+ghost use Rattle.replica_state.specs.Folds.{IsUnion};
 ghost use Rattle.replica_state.specs.MatrixOrder.{IsMatrix, IsMatrixBelow};
-ghost use Rattle.replica_state.specs.Slots.{IsTold, slot_held, slot_key, slot_number, matrix_state};
+ghost use Rattle.replica_state.specs.Slots.{IsSlotOf, HasNoSlot, ChangesSlot, SaysSomething, slot_held, slot_key, slot_number, matrix_state};
 ghost use Rattle.replica_state.specs.declared.point.Counted.TheVariants.{Hits, Execs};
 
 use crate::op::Op;
@@ -30,46 +30,92 @@ pub struct Matrix {
 }
 
 impl Matrix {
+    // The slots. What `is_bottom` answers is of no use: its call says that they are those of a map.
+    fn slots(&self) -> &MapOf<Name, Slot>
+        ensures value { result.now ≡ self.now.slots }
+        ensures is_map { IsMatrix self.now }
+    {
+        let _ = self.slots.is_bottom();
+        &self.slots
+    }
+
+    // What is stored of a name, if anything is.
+    fn slot_of(&self, name: &Name) -> Option<&Slot>
+        ensures some { IfSome result (λ slot. IsSlotOf (matrix_state self.now) name.now slot.now) }
+        ensures none { IfNone result (HasNoSlot (matrix_state self.now) name.now) }
+    {
+        self.slots().get(name)
+    }
+
+    // Changes what is stored of a name in place. Where nothing is, nothing changes.
+    fn change_slot<F: FnOnce(&mut Slot) -> Result<(), AllocError>>(
+        &mut self,
+        name: &Name,
+        change: F,
+    ) -> Option<Result<(), AllocError>>
+        requires { (slot : MutBor _) → IsSlotOf (matrix_state self.old) name.now slot.now
+            → F.pre change slot }
+        ensures some { IfSome result (ChangesSlot (FnOnceReturnsAtMut F.FnOnce change)
+            (matrix_state self.old) (matrix_state self.new) name.now) }
+        ensures none { IfNone result (HasNoSlot (matrix_state self.old) name.now) }
+        ensures unchanged { IfNone result (self.new ≡ self.old) }
+    {
+        let _ = self.slots();
+        let changed = self.slots.change(name, change);
+        let _ = self.slots();
+        changed
+    }
+
+    // Stores what is known of a name of which nothing was.
+    fn add_slot(&mut self, alloc: Global, name: Name, slot: Slot) -> Result<(), AllocError>
+        requires new { HasNoSlot (matrix_state self.old) name }
+        requires some { slot_held slot ≢ nothing }
+        ensures ok { OnOk result (matrix_state self.new
+            ≡ with_held name (slot_held slot) (matrix_state self.old)) }
+        ensures err { OnErr result (self.new ≡ self.old) }
+    {
+        let _ = self.slots();
+        self.slots.raise(alloc, name, slot)?;
+        let _ = self.slots();
+        Ok(())
+    }
+
     // The number of what is counted so.
     fn number(&self, name: &Name, counted: Counted) -> u64
         ensures { result ≡ cell_of (matrix_state self.now) name.now counted }
     {
-        match self.slots.get(name) {
+        match self.slot_of(name) {
             Some(slot) => slot::number(slot, counted),
             None => 0,
         }
     }
 
     // Learns what an operation of a name says that has this key or none, and this count or none.
-    fn take_told(
+    fn learn_key_and_count(
         &mut self,
         alloc: Global,
         name: &Name,
         key: Option<&Key>,
-        told: Option<Count>,
+        count: Option<Count>,
     ) -> Result<(), AllocError>
-        requires kinds { IfSome told (λ c. is_hits c.counted ≡ is_none key) }
-        requires told { IsTold (option_map key_value (option_copied key)) told }
-        ensures ok { OnOk result (matrix_state self.new ≡ with_held name.now (learned (option_map key_value (option_copied key.entry)) told (held_at (matrix_state self.old) name.now)) (matrix_state self.old)) }
+        requires kinds { IfSome count (λ c. is_hits c.counted ≡ is_none key) }
+        requires something { SaysSomething (given_key key) count }
+        ensures ok { OnOk result (matrix_state self.new
+            ≡ with_change name.now (learned (given_key key.entry) count) (matrix_state self.old)) }
         ensures err { OnErr result (matrix_state self.new ≡ matrix_state self.old) }
     {
-        // The answers are of no use: the calls say that the slots are those of a map.
-        let _ = self.slots.is_bottom();
         let learn = |held: &mut Slot|
-            requires { IfSome told (λ c. is_hits c.counted ≡ is_none key) }
-            ensures ok { OnOk result (slot_held held.new ≡ learned (option_map key_value (option_copied key.entry)) told (slot_held held.old)) }
+            requires { IfSome count (λ c. is_hits c.counted ≡ is_none key) }
+            ensures ok { OnOk result (slot_held held.new
+                ≡ learned (given_key key.entry) count (slot_held held.old)) }
             ensures err { OnErr result (slot_held held.new ≡ slot_held held.old) }
-        { slot::learn(held, alloc, key, told) };
-        let learned = self.slots.change(name, learn);
-        let _ = self.slots.is_bottom();
-        if let Some(learned) = learned {
+        { slot::learn(held, alloc, key, count) };
+        if let Some(learned) = self.change_slot(name, learn) {
             return learned;
         }
         let mut new = slot::empty(alloc);
-        slot::learn(&mut new, alloc, key, told)?;
-        self.slots.raise(alloc, name.copied(alloc)?, new)?;
-        let _ = self.slots.is_bottom();
-        Ok(())
+        slot::learn(&mut new, alloc, key, count)?;
+        self.add_slot(alloc, name.copied(alloc)?, new)
     }
 }
 
@@ -87,7 +133,8 @@ impl Join for Matrix {
     /// The matrix that knows what either knows: its state is that of their operations together.
     fn joined(&self, alloc: Global, other: &Matrix) -> Result<Matrix, AllocError>
         ensures join { IfOk result (IsJoin IsMatrix IsMatrixBelow self.now other.now) }
-        ensures union { IfOk result (λ both. (a b : List Operation) → matrix_state self.now ≡ fold a → matrix_state other.now ≡ fold b → matrix_state both ≡ fold (a ++ b)) }
+        ensures union { IfOk result
+            (λ both. IsUnion (matrix_state self.now) (matrix_state other.now) (matrix_state both)) }
     {
         let slots = self.slots.joined(alloc, &other.slots)?;
         Ok(Matrix { slots })
@@ -113,7 +160,8 @@ impl Join for Matrix {
     /// The state is then that of the operations of both.
     fn join_in(&mut self, alloc: Global, other: Matrix) -> Result<(), AllocError>
         ensures ok { OnOk result (IsJoin IsMatrix IsMatrixBelow self.old other self.new) }
-        ensures union { OnOk result ((a b : List Operation) → matrix_state self.old ≡ fold a → matrix_state other ≡ fold b → matrix_state self.new ≡ fold (a ++ b)) }
+        ensures union { OnOk result
+            (IsUnion (matrix_state self.old) (matrix_state other) (matrix_state self.new)) }
         ensures err { OnErr result (self.new ≡ self.old) }
     {
         let Matrix { slots } = other;
@@ -136,7 +184,7 @@ impl Replica for Matrix {
     }
 
     fn add(&mut self, alloc: Global, op: &Op) -> Result<(), AllocError> {
-        self.take_told(alloc, op.name(), op.key(), op.count())
+        self.learn_key_and_count(alloc, op.name(), op.key(), op.count())
     }
 
     fn learn(
@@ -144,26 +192,25 @@ impl Replica for Matrix {
         alloc: Global,
         name: &Name,
         key: &Key,
-        told: Option<Count>,
+        count: Option<Count>,
     ) -> Result<(), AllocError> {
-        self.take_told(alloc, name, key_with(key, told), told)
+        self.learn_key_and_count(alloc, name, key_with(key, count), count)
     }
 
     fn set_key(&mut self, alloc: Global, name: Name, key: Key) -> Result<(), AllocError> {
-        let _ = self.slots.is_bottom();
-        if self.slots.get(&name).is_some() {
+        if self.slot_of(&name).is_some() {
             let take = |held: &mut Slot|
                 ensures { slot_held held.new ≡ taken (key_value key) (slot_held held.old) }
-            { slot::take(held, alloc, key) };
-            let _ = self.slots.change(&name, take);
-            let _ = self.slots.is_bottom();
+            {
+                slot::take(held, alloc, key);
+                Ok(())
+            };
+            let _ = self.change_slot(&name, take);
             return Ok(());
         }
         let mut new = slot::empty(alloc);
         slot::take(&mut new, alloc, key);
-        self.slots.raise(alloc, name, new)?;
-        let _ = self.slots.is_bottom();
-        Ok(())
+        self.add_slot(alloc, name, new)
     }
 
     fn count_pass(
@@ -173,7 +220,6 @@ impl Replica for Matrix {
         node: u8,
         spent: Option<u8>,
     ) -> Result<(), AllocError> {
-        let _ = self.slots.is_bottom();
         let pass = |held: &mut Slot|
             requires set { IsSome (slot_key held.old) }
             requires hits { slot_number held.old (Hits node) + 1 < 2 ^ 64 }
@@ -181,9 +227,7 @@ impl Replica for Matrix {
             ensures ok { OnOk result (slot_held held.new ≡ passed node spent (slot_held held.old)) }
             ensures err { OnErr result (slot_held held.new ≡ slot_held held.old) }
         { slot::pass(held, alloc, node, spent) };
-        let passed = self.slots.change(name, pass);
-        let _ = self.slots.is_bottom();
-        match passed {
+        match self.change_slot(name, pass) {
             Some(passed) => passed,
             None => Ok(()),
         }
@@ -198,15 +242,13 @@ impl Replica for Matrix {
         to: u8,
         total: u64,
     ) -> Result<(), AllocError> {
-        let _ = self.slots.is_bottom();
         let shift = |held: &mut Slot|
             requires set { IsSome (slot_key held.old) }
-            ensures ok { OnOk result (slot_held held.new ≡ moved term from to total (slot_held held.old)) }
+            ensures ok { OnOk result (slot_held held.new
+                ≡ moved term from to total (slot_held held.old)) }
             ensures err { OnErr result (slot_held held.new ≡ slot_held held.old) }
         { slot::shift(held, alloc, term, from, to, total) };
-        let shifted = self.slots.change(name, shift);
-        let _ = self.slots.is_bottom();
-        match shifted {
+        match self.change_slot(name, shift) {
             Some(shifted) => shifted,
             None => Ok(()),
         }
@@ -217,8 +259,7 @@ impl Replica for Matrix {
     }
 
     fn key(&self, name: &Name) -> Option<&Key> {
-        let _ = self.slots.is_bottom();
-        match self.slots.get(name) {
+        match self.slot_of(name) {
             Some(held) => slot::key(held),
             None => None,
         }
@@ -229,7 +270,7 @@ impl Replica for Matrix {
     }
 
     fn total_hits(&self, name: &Name) -> u128 {
-        match self.slots.get(name) {
+        match self.slot_of(name) {
             Some(held) => slot::total_hits(held),
             None => 0,
         }
@@ -244,14 +285,21 @@ impl Replica for Matrix {
     }
 
     fn rights(&self, name: &Name, term: u8, node: u8) -> i128 {
-        match self.slots.get(name) {
+        match self.slot_of(name) {
             Some(held) => slot::rights(held, term, node),
             None => 0,
         }
     }
 
+    fn key_and_rights(&self, name: &Name, node: u8) -> Option<(&Key, [bool; 16])> {
+        match self.slot_of(name) {
+            Some(held) => slot::key_and_rights(held, node),
+            None => None,
+        }
+    }
+
     fn spent(&self, name: &Name, term: u8) -> u128 {
-        match self.slots.get(name) {
+        match self.slot_of(name) {
             Some(held) => slot::spent(held, term),
             None => 0,
         }
@@ -262,19 +310,18 @@ impl Replica for Matrix {
     }
 
     fn names_with(&self, name: &Name) -> usize {
-        let _ = self.slots.is_bottom();
-        let len = self.slots.len();
-        match self.slots.get(name) {
-            Some(_) => len,
-            None => len + 1,
+        let names = self.slots.len();
+        match self.slot_of(name) {
+            Some(_) => names,
+            None => names + 1,
         }
     }
 
     fn names_together(&self, other: &Matrix) -> usize {
-        let _ = self.slots.is_bottom();
-        let mut names = self.slots.len() + other.slots.len();
+        let slots = self.slots();
+        let mut names = slots.len() + other.slots.len();
         for (name, _) in other.slots.iter() {
-            if self.slots.get(name).is_some() {
+            if slots.get(name).is_some() {
                 names -= 1;
             }
         }

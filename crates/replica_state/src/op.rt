@@ -1,11 +1,10 @@
 //! Operations.
 
-ghost use Rattle.std.specs.Prelude.{◌≡◌, option_map};
-ghost use Rattle.std.specs.Option.{option_copied};
-ghost use Rattle.stamp_register.specs.Keys.{key_value};
+ghost use Rattle.std.specs.Prelude.{◌≡◌};
 ghost use Rattle.replica_state.specs.Operations.{operation};
 ghost use Rattle.replica_state.specs.Folds.{name_in};
 ghost use Rattle.replica_state.specs.OpSets.{key_told, count_told};
+ghost use Rattle.replica_state.specs.Points.{given_key};
 
 use crate::point::{Count, Counted};
 use actions::Name;
@@ -62,7 +61,7 @@ impl Op {
 
     /// The key that it carries, if it does.
     pub(crate) fn key(&self) -> Option<&Key>
-        ensures { option_map key_value (option_copied result) ≡ key_told (operation self.now) }
+        ensures { given_key result ≡ key_told (operation self.now) }
     {
         match self {
             Op::Set { key, .. } => Some(key),

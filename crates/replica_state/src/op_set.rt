@@ -1,16 +1,12 @@
 //! The plain replica.
 #![tactic(auto, unfolding(crate::specs::OpSets::state_of, crate::specs::OpSets::shown))]
 
-ghost use Rattle.std.specs.Prelude.{◌≡◌, ◌+◌, ◌<◌, ◌^◌, ◌↔◌, ℕ, List, [], ◌∷◌, ◌++◌, length, option_map, Some, IfOk, IsTrue, OnOk, OnErr};
-ghost use Rattle.std.specs.Option.{option_copied};
-ghost use Rattle.stamp_register.specs.Keys.{key_value};
+ghost use Rattle.std.specs.Prelude.{◌≡◌, ◌+◌, ◌<◌, ◌^◌, ◌↔◌, ℕ, List, [], ◌∷◌, ◌++◌, Some, IfOk, IsTrue, OnOk, OnErr};
 ghost use Rattle.lattice_laws.specs.Order.{IsCopy, IsJoin};
-ghost use Rattle.replica_state.specs.Operations.{Operation};
-ghost use Rattle.replica_state.specs.Folds.{fold};
-ghost use Rattle.replica_state.specs.States.{State, with_name, with_key, with_pass};
-ghost use Rattle.replica_state.specs.Points.{learned, held_of};
+ghost use Rattle.replica_state.specs.Folds.{IsUnion};
+ghost use Rattle.replica_state.specs.Points.{learned, held_of, given_key};
 ghost use Rattle.replica_state.specs.Unions.{both_held, union_of, IsHeldBelow};
-ghost use Rattle.replica_state.specs.OpSets.{state_of, cell_of, held_at, with_held, no_points, IsSet, IsSetBelow};
+ghost use Rattle.replica_state.specs.OpSets.{state_of, cell_of, held_at, no_points, IsSet, IsSetBelow, with_change};
 
 use crate::op::Op;
 use crate::point::{Count, Counted, Point, key_with};
@@ -50,14 +46,15 @@ impl OpSet {
     }
 
     // Learns what an operation of a name says that has this key or none, and this count or none.
-    fn take_told(
+    fn learn_key_and_count(
         &mut self,
         alloc: Global,
         name: &Name,
         key: Option<&Key>,
         count: Option<Count>,
     ) -> Result<(), AllocError>
-        ensures ok { OnOk result (state_of self.new ≡ with_held name.now (learned (option_map key_value (option_copied key.entry)) count (held_at (state_of self.old) name.now)) (state_of self.old)) }
+        ensures ok { OnOk result (state_of self.new
+            ≡ with_change name.now (learned (given_key key.entry) count) (state_of self.old)) }
         ensures err { OnErr result (state_of self.new ≡ state_of self.old) }
     {
         if let Some(point) = self.points.get_mut(name) {
@@ -71,7 +68,8 @@ impl OpSet {
 
     // Learns all that is held of a name elsewhere.
     fn take_point(&mut self, alloc: Global, name: &Name, other: &Point) -> Result<(), AllocError>
-        ensures { OnOk result (state_of self.new ≡ with_held name.now (both_held (held_at (state_of self.old) name.now) (held_of other.now)) (state_of self.old)) }
+        ensures { OnOk result (state_of self.new
+            ≡ with_change name.now (λ h. both_held h (held_of other.now)) (state_of self.old)) }
     {
         if let Some(point) = self.points.get_mut(name) {
             return point.take_in(alloc, other);
@@ -84,7 +82,8 @@ impl OpSet {
 
     // Learns all that the other set knows. After an error it may have learned a part.
     fn take_in(&mut self, alloc: Global, other: &OpSet) -> Result<(), AllocError>
-        ensures { OnOk result (state_of self.new ≡ union_of (state_of self.old) (state_of other.now)) }
+        ensures { OnOk result (state_of self.new
+            ≡ union_of (state_of self.old) (state_of other.now)) }
     {
         for (name, point) in other.points.iter() {
             self.take_point(alloc, name, point)?;
@@ -94,7 +93,8 @@ impl OpSet {
 
     // Whether it holds as much of a name as is held elsewhere.
     fn is_above(&self, name: &Name, other: &Point) -> bool
-        ensures { IsTrue result ↔ IsHeldBelow (held_of other.now) (held_at (state_of self.now) name.now) }
+        ensures { IsTrue result
+            ↔ IsHeldBelow (held_of other.now) (held_at (state_of self.now) name.now) }
     {
         match self.points.get(name) {
             Some(point) => other.below(point),
@@ -118,7 +118,8 @@ impl Join for OpSet {
     /// The set that knows what either knows: its state is that of their operations together.
     fn joined(&self, alloc: Global, other: &OpSet) -> Result<OpSet, AllocError>
         ensures join { IfOk result (IsJoin IsSet IsSetBelow self.now other.now) }
-        ensures union { IfOk result (λ both. (a b : List Operation) → state_of self.now ≡ fold a → state_of other.now ≡ fold b → state_of both ≡ fold (a ++ b)) }
+        ensures union { IfOk result
+            (λ both. IsUnion (state_of self.now) (state_of other.now) (state_of both)) }
     {
         let mut both = self.copied(alloc)?;
         both.take_in(alloc, other)?;
@@ -170,7 +171,7 @@ impl Replica for OpSet {
     }
 
     fn add(&mut self, alloc: Global, op: &Op) -> Result<(), AllocError> {
-        self.take_told(alloc, op.name(), op.key(), op.count())
+        self.learn_key_and_count(alloc, op.name(), op.key(), op.count())
     }
 
     fn learn(
@@ -178,9 +179,9 @@ impl Replica for OpSet {
         alloc: Global,
         name: &Name,
         key: &Key,
-        told: Option<Count>,
+        count: Option<Count>,
     ) -> Result<(), AllocError> {
-        self.take_told(alloc, name, key_with(key, told), told)
+        self.learn_key_and_count(alloc, name, key_with(key, count), count)
     }
 
     fn set_key(&mut self, alloc: Global, name: Name, key: Key) -> Result<(), AllocError> {

@@ -1,13 +1,12 @@
 //! What the plain replica holds of one name.
 
-ghost use Rattle.std.specs.Prelude.{◌≡◌, ◌+◌, ◌-◌, ◌<◌, ◌≤◌, ◌^◌, ◌*◌, ◌↔◌, ◌||◌, ℕ, List, max, nat_le, not, filter, length, vec_len, vec_capacity, position, option_map, Some, None, OnOk, OnErr, IsSome, IsTrue, pos};
+ghost use Rattle.std.specs.Prelude.{◌≡◌, ◌+◌, ◌-◌, ◌<◌, ◌≤◌, ◌^◌, ◌*◌, ◌↔◌, ◌||◌, ℕ, List, max, nat_le, not, filter, vec_len, vec_capacity, position, option_map, Some, None, OnOk, OnErr, IsSome, IsTrue};
 ghost use Rattle.std.specs.List.{list_all};
 ghost use Rattle.std.specs.Option.{option_copied};
-ghost use Rattle.std.specs.Option.{option_map_or};
 ghost use Rattle.counters.specs.Sums.{numbers, sum_below};
-ghost use Rattle.counters.specs.Budgets.{rights, total_spent};
+ghost use Rattle.counters.specs.Budgets.{rights};
 ghost use Rattle.stamp_register.specs.Keys.{key_value};
-ghost use Rattle.replica_state.specs.Points.{same_counted, is_hits, term_of, number_of, raised, fresh, budget_under, nothing, held_of, standing, learned, passed, moved};
+ghost use Rattle.replica_state.specs.Points.{same_counted, is_hits, term_of, number_of, fresh, nothing, held_of, standing, learned, passed, moved, given_key, Raises, rights_of_key, spent_of_key};
 ghost use Rattle.replica_state.specs.Unions.{both_held, if_counts, IsHeldBelow};
 ghost use Rattle.replica_state.specs.OpSets.{key_told, operation_told};
 ghost use Rattle.replica_state.specs.declared.point.Counted.{Counted};
@@ -104,10 +103,11 @@ impl Counted {
 
 /// The key that goes with what is told of a name: with a setting and with what is counted under the
 /// key. A hit belongs to no key.
-pub(crate) fn key_with<'a>(key: &'a Key, told: Option<Count>) -> Option<&'a Key>
-    ensures { (name : List ℕ) → option_map key_value (option_copied result) ≡ key_told (operation_told name (key_value key.now) told) }
+pub(crate) fn key_with<'a>(key: &'a Key, count: Option<Count>) -> Option<&'a Key>
+    ensures { (name : List ℕ)
+        → given_key result ≡ key_told (operation_told name (key_value key.now) count) }
 {
-    match told {
+    match count {
         None => Some(key),
         Some(count) => match count.counted {
             Counted::Hits { .. } => None,
@@ -139,10 +139,11 @@ fn place_of(counts: &[Count], counted: Counted) -> Option<usize>
 // Raises the number of what is counted, or adds it where room was made.
 fn raise(counts: &mut Vec<Count>, count: Count)
     requires { vec_len counts.old < vec_capacity counts.old }
-    ensures number { (c : Counted) → number_of counts.new.items c ≡ raised (Some count) (number_of counts.old.items) c }
+    ensures number { Raises (number_of counts.old.items) (number_of counts.new.items) (Some count) }
     ensures len { vec_len counts.new ≤ vec_len counts.old + 1 }
     // What is counted already takes no more room.
-    ensures in_place { IsSome (position (λ c. same_counted c.counted count.counted) counts.old.items) → vec_len counts.new ≡ vec_len counts.old }
+    ensures in_place { IsSome (position (λ c. same_counted c.counted count.counted) counts.old.items)
+        → vec_len counts.new ≡ vec_len counts.old }
     ensures capacity { vec_capacity counts.new ≡ vec_capacity counts.old }
 {
     match place_of(counts, count.counted) {
@@ -157,7 +158,7 @@ fn raise(counts: &mut Vec<Count>, count: Count)
 // Adds a count where room was made.
 fn put(counts: &mut Vec<Count>, count: Option<Count>)
     requires { vec_len counts.old < vec_capacity counts.old }
-    ensures { (c : Counted) → number_of counts.new.items c ≡ raised count (number_of counts.old.items) c }
+    ensures { Raises (number_of counts.old.items) (number_of counts.new.items) count }
 {
     if let Some(count) = count {
         raise(counts, count);
@@ -175,7 +176,8 @@ fn keep_hits(counts: &mut Vec<Count>)
 
 // Whether no number is greater than the other's. Under another key only hits are compared.
 fn all_below(counts: &[Count], others: &[Count], same_key: bool) -> bool
-    ensures { result ≡ list_all (λ c. not (same_key || is_hits c.counted) || nat_le c.number (number_of others.now c.counted)) counts.now }
+    ensures { result ≡ list_all (λ c. not (same_key || is_hits c.counted)
+        || nat_le c.number (number_of others.now c.counted)) counts.now }
 {
     counts.iter().all(|c| !c.counted.counts_under(same_key)
         || c.number <= number_of(others, c.counted))
@@ -215,7 +217,8 @@ impl Point {
 
     /// The rights of a node to execute a term, 0 where it isn't counted.
     pub(crate) fn rights(&self, term: u8, node: u8) -> i128
-        ensures { result ≡ option_map_or (λ b. rights b node) (budget_under (option_map key_value self.now.key) (number_of self.now.counts.items) term) (pos 0) }
+        ensures { result ≡ rights_of_key (option_map key_value self.now.key)
+            (number_of self.now.counts.items) term node }
     {
         match &self.key {
             Some(key) => match count_of(key, term) {
@@ -228,7 +231,8 @@ impl Point {
 
     /// The executions of a term at all nodes, 0 where it isn't counted.
     pub(crate) fn spent(&self, term: u8) -> u128
-        ensures { result ≡ option_map_or total_spent (budget_under (option_map key_value self.now.key) (number_of self.now.counts.items) term) 0 }
+        ensures { result ≡ spent_of_key (option_map key_value self.now.key)
+            (number_of self.now.counts.items) term }
     {
         match &self.key {
             Some(key) => match count_of(key, term) {
@@ -242,7 +246,8 @@ impl Point {
     /// Takes a key, of which nothing is counted yet; hits go on.
     pub(crate) fn take(&mut self, key: Key)
         ensures key { self.new.key ≡ Some key }
-        ensures number { (c : Counted) → number_of self.new.counts.items c ≡ fresh (number_of self.old.counts.items) c }
+        ensures number { (c : Counted)
+            → number_of self.new.counts.items c ≡ fresh (number_of self.old.counts.items) c }
         ensures len { vec_len self.new.counts ≤ vec_len self.old.counts }
         ensures capacity { vec_capacity self.new.counts ≡ vec_capacity self.old.counts }
     {
@@ -267,7 +272,8 @@ impl Point {
         key: Option<&Key>,
         count: Option<Count>,
     ) -> Result<(), AllocError>
-        ensures ok { OnOk result (held_of self.new ≡ learned (option_map key_value (option_copied key.entry)) count (held_of self.old)) }
+        ensures ok { OnOk result (held_of self.new
+            ≡ learned (given_key key.entry) count (held_of self.old)) }
         ensures err { OnErr result (held_of self.new ≡ held_of self.old) }
     {
         match key {
@@ -283,7 +289,8 @@ impl Point {
     // Adds a count.
     fn count(&mut self, count: Option<Count>) -> Result<(), AllocError>
         ensures key { self.new.key ≡ self.old.key }
-        ensures ok { OnOk result ((c : Counted) → number_of self.new.counts.items c ≡ raised count (number_of self.old.counts.items) c) }
+        ensures ok { OnOk result
+            (Raises (number_of self.old.counts.items) (number_of self.new.counts.items) count) }
         ensures err { OnErr result (self.new.counts.items ≡ self.old.counts.items) }
     {
         if let Some(count) = count {
@@ -297,7 +304,8 @@ impl Point {
     #[tactic(auto, unfolding(crate::specs::Points::held_of))]
     fn replace(&mut self, key: Key, count: Option<Count>) -> Result<(), AllocError>
         ensures key { OnOk result (self.new.key ≡ Some key) }
-        ensures ok { OnOk result ((c : Counted) → number_of self.new.counts.items c ≡ raised count (fresh (number_of self.old.counts.items)) c) }
+        ensures ok { OnOk result (Raises (fresh (number_of self.old.counts.items))
+            (number_of self.new.counts.items) count) }
         ensures err { OnErr result (held_of self.new ≡ held_of self.old) }
     {
         self.counts.reserve(1)?;
@@ -309,7 +317,8 @@ impl Point {
     // The next count of what is counted so.
     fn next(&self, counted: Counted) -> Count
         requires { number_of self.now.counts.items counted + 1 < 2 ^ 64 }
-        ensures { result ≡ record { counted = counted; number = number_of self.now.counts.items counted + 1 } }
+        ensures { result
+            ≡ record { counted = counted; number = number_of self.now.counts.items counted + 1 } }
     {
         counted.times(self.number(counted) + 1)
     }
@@ -318,7 +327,8 @@ impl Point {
     #[tactic(auto, unfolding(crate::specs::Points::held_of))]
     pub(crate) fn pass(&mut self, node: u8, spent: Option<u8>) -> Result<(), AllocError>
         requires hits { number_of self.old.counts.items (Hits node) + 1 < 2 ^ 64 }
-        requires execs { (term : ℕ) → number_of self.old.counts.items (Execs term node) + 1 < 2 ^ 64 }
+        requires execs { (term : ℕ)
+            → number_of self.old.counts.items (Execs term node) + 1 < 2 ^ 64 }
         ensures ok { OnOk result (held_of self.new ≡ passed node spent (held_of self.old)) }
         ensures err { OnErr result (held_of self.new ≡ held_of self.old) }
     {
@@ -344,7 +354,9 @@ impl Point {
     // Learns counts of another point. Under another key only hits count here.
     fn count_all(&mut self, counts: &[Count], same_key: bool) -> Result<(), AllocError>
         ensures key { OnOk result (self.new.key ≡ self.old.key) }
-        ensures ok { OnOk result ((c : Counted) → number_of self.new.counts.items c ≡ max (number_of self.old.counts.items c) (if_counts same_key c (number_of counts.now c))) }
+        ensures ok { OnOk result ((c : Counted) → number_of self.new.counts.items c
+            ≡ max (number_of self.old.counts.items c)
+            (if_counts same_key c (number_of counts.now c))) }
     {
         for count in counts {
             if count.counted.counts_under(same_key) {
@@ -356,7 +368,8 @@ impl Point {
 
     /// Learns all that another point holds. After an error it may have learned a part.
     pub(crate) fn take_in(&mut self, alloc: Global, other: &Point) -> Result<(), AllocError>
-        ensures { OnOk result (held_of self.new ≡ both_held (held_of self.old) (held_of other.now)) }
+        ensures { OnOk result (held_of self.new
+            ≡ both_held (held_of self.old) (held_of other.now)) }
     {
         match &other.key {
             None => match &self.key {

@@ -1,15 +1,17 @@
 //! What a node needs of the thing that holds its state.
 
-ghost use Rattle.std.specs.Prelude.{◌≡◌, ◌+◌, ◌<◌, ◌≤◌, ◌^◌, ℕ, List, [], ◌∷◌, ◌++◌, length, slice_get, option_map, IsSome, OnOk, OnErr};
+ghost use Rattle.std.specs.Prelude.{◌≡◌, ◌+◌, ◌<◌, ◌≤◌, ◌^◌, ℕ, [], ◌∷◌, ◌++◌, length, slice_get, option_map, IfSome, IsSome, OnOk, OnErr};
 ghost use Rattle.std.specs.Option.{option_copied};
 ghost use Rattle.stamp_register.specs.Keys.{key_value};
-ghost use Rattle.replica_state.specs.Operations.{Operation, operation, IsWellFormed};
-ghost use Rattle.replica_state.specs.States.{State, with_name, with_key, with_pass, with_shifts, total_hits, rights_of, spent_of};
-ghost use Rattle.replica_state.specs.Folds.{fold};
+ghost use Rattle.replica_state.specs.Operations.{operation, IsWellFormed};
+ghost use Rattle.replica_state.specs.States.{State, with_name, with_key, with_pass, with_shifts, total_hits, rights_of, spent_of, MarksRights};
+ghost use Rattle.replica_state.specs.Folds.{fold, Learns, IsUnion};
 ghost use Rattle.replica_state.specs.OpSets.{operation_told};
 ghost use Rattle.replica_state.specs.StateOrder.{OrdersByState};
 ghost use Rattle.replica_state.specs.Unions.{with_names};
+ghost use Rattle.replica_state.specs.Points.{given_key};
 
+use crate::budget::terms_of;
 use crate::op::Op;
 use crate::point::Count;
 use actions::Name;
@@ -30,7 +32,7 @@ pub trait Replica: Join {
     /// the operation. On want of memory the state is as it was.
     fn add(&mut self, alloc: Global, op: &Op) -> Result<(), AllocError>
         requires { IsWellFormed (operation op.now) }
-        ensures ok { OnOk result ((ops : List Operation) → state self.old ≡ fold ops → state self.new ≡ fold (operation op.now ∷ ops)) }
+        ensures ok { OnOk result (Learns (state self.old) (state self.new) (operation op.now)) }
         ensures err { OnErr result (state self.new ≡ state self.old) };
 
     /// Learns an operation of a point without a copy of its key being made for it: its setting or,
@@ -42,10 +44,11 @@ pub trait Replica: Join {
         alloc: Global,
         name: &Name,
         key: &Key,
-        told: Option<Count>,
+        count: Option<Count>,
     ) -> Result<(), AllocError>
-        requires { IsWellFormed (operation_told name.now (key_value key.now) told) }
-        ensures ok { OnOk result ((ops : List Operation) → state self.old ≡ fold ops → state self.new ≡ fold (operation_told name.now (key_value key.now) told ∷ ops)) }
+        requires { IsWellFormed (operation_told name.now (key_value key.now) count) }
+        ensures ok { OnOk result (Learns (state self.old) (state self.new)
+            (operation_told name.now (key_value key.now) count)) }
         ensures err { OnErr result (state self.new ≡ state self.old) };
 
     /// Gives a point another key, of which nothing was executed or shifted yet.
@@ -81,19 +84,21 @@ pub trait Replica: Join {
     ) -> Result<(), AllocError>
         requires set { IsSome ((state self.old).key name.now) }
         requires more { (state self.old).shifts name.now term from to ≤ total }
-        ensures ok { OnOk result (state self.new ≡ with_shifts name.now term from to total (state self.old)) }
+        ensures ok { OnOk result (state self.new
+            ≡ with_shifts name.now term from to total (state self.old)) }
         ensures err { OnErr result (state self.new ≡ state self.old) };
 
     /// Learns all that another replica knows: where both states were those of some sets, this one
     /// is then that of both sets together. On want of memory it is as it was.
     fn merge(&mut self, alloc: Global, other: Self) -> Result<(), AllocError>
-        ensures ok { OnOk result ((a b : List Operation) → state self.old ≡ fold a → state other ≡ fold b → state self.new ≡ fold (a ++ b)) }
+        ensures ok { OnOk result (IsUnion (state self.old) (state other) (state self.new)) }
         ensures err { OnErr result (state self.new ≡ state self.old) };
 
     /// The key of a point: its last setting or removal.
     fn key(&self, name: &Name) -> Option<&Key>
-        ensures value { option_map key_value (option_copied result) ≡ (state self.now).key name.now }
-        ensures named { IsSome result → with_name name.now (state self.now).names ≡ (state self.now).names };
+        ensures value { given_key result ≡ (state self.now).key name.now }
+        ensures named { IsSome result
+            → with_name name.now (state self.now).names ≡ (state self.now).names };
 
     /// The hits of a point at a node.
     fn hits(&self, name: &Name, node: u8) -> u64
@@ -115,6 +120,23 @@ pub trait Replica: Join {
     /// node, where it knows of a spend before the shift that paid for it.
     fn rights(&self, name: &Name, term: u8, node: u8) -> i128
         ensures { result ≡ rights_of (state self.now) name.now term node };
+
+    /// What a pass asks of a point, at once: its key and, of each term, whether a node has a right
+    /// to execute it.
+    fn key_and_rights(&self, name: &Name, node: u8) -> Option<(&Key, [bool; 16])>
+        ensures key { option_map (λ p. key_value p.0.now) result ≡ (state self.now).key name.now }
+        ensures named { IsSome result
+            → with_name name.now (state self.now).names ≡ (state self.now).names }
+        ensures rights { IfSome result
+            (λ p. MarksRights (λ term. rights_of (state self.now) name.now term node) p.1) }
+    {
+        let key = self.key(name)?;
+        let mut marks = [false; 16];
+        for term in 0..terms_of(key) {
+            marks[term] = self.rights(name, term as u8, node) >= 1;
+        }
+        Some((key, marks))
+    }
 
     /// The executions of a counted term at all nodes.
     fn spent(&self, name: &Name, term: u8) -> u128

@@ -1,16 +1,16 @@
 //! What a matrix stores of one name.
 
-ghost use Rattle.std.specs.Prelude.{◌≡◌, ◌+◌, ◌<◌, ◌^◌, ℕ, option_map, is_none, Some, None, OnOk, OnErr, IfOk, IfNone, IfSome, IsSome, pos, false};
-ghost use Rattle.std.specs.Option.{option_copied, option_map_or};
+ghost use Rattle.std.specs.Prelude.{◌≡◌, ◌+◌, ◌<◌, ◌^◌, ℕ, option_map, is_none, Some, None, OnOk, OnErr, IfOk, IfNone, IfSome, IsSome, false};
 ghost use Rattle.counters.specs.Sums.{numbers, sum_below};
-ghost use Rattle.counters.specs.Budgets.{rights, total_spent};
+ghost use Rattle.counters.specs.Budgets.{total_spent};
 ghost use Rattle.stamp_register.specs.Keys.{key_value};
-ghost use Rattle.replica_state.specs.Points.{is_hits, term_of, raised, budget_under, nothing, standing, learned, taken, passed, moved};
-ghost use Rattle.replica_state.specs.Slots.{IsShareRaised, slot_held, slot_key, slot_number, share_number, budgets_number};
+ghost use Rattle.replica_state.specs.Points.{is_hits, term_of, raised, nothing, standing, learned, taken, passed, moved, given_key, Raises, spent_of_key};
+ghost use Rattle.replica_state.specs.Slots.{IsShareRaised, slot_held, slot_key, slot_number, slot_rights, share_number, budgets_number};
+ghost use Rattle.replica_state.specs.States.{MarksRights};
 ghost use Rattle.replica_state.specs.declared.point.Counted.{Counted};
 ghost use Rattle.replica_state.specs.declared.point.Counted.TheVariants.{Hits, Execs};
 
-use crate::budget::count_of;
+use crate::budget::{count_of, terms_of};
 use crate::point::{Count, Counted};
 use counters::{Budget, HitCounter};
 use lattice_laws::{Join, LexOf, MapOf, PairOf};
@@ -36,7 +36,7 @@ pub(crate) fn empty(alloc: Global) -> Slot
 
 /// The key, if there is one.
 pub(crate) fn key(slot: &Slot) -> Option<&Key>
-    ensures { option_map key_value (option_copied result) ≡ slot_key slot.now }
+    ensures { given_key result ≡ slot_key slot.now }
 {
     let (key, _) = slot.first.held()?;
     Some(key)
@@ -44,8 +44,10 @@ pub(crate) fn key(slot: &Slot) -> Option<&Key>
 
 // The budget of a term under the key, where anything of it was spent or moved.
 fn budget(slot: &Slot, term: u8) -> Option<&Budget>
-    ensures some { IfSome result (λ b. (c : Counted) → term_of c ≡ Some term → slot_number slot.now c ≡ share_number b.now c) }
-    ensures none { IfNone result ((c : Counted) → term_of c ≡ Some term → slot_number slot.now c ≡ 0) }
+    ensures some { IfSome result (λ b. (c : Counted) → term_of c ≡ Some term
+        → slot_number slot.now c ≡ share_number b.now c) }
+    ensures none { IfNone result ((c : Counted) → term_of c ≡ Some term
+        → slot_number slot.now c ≡ 0) }
 {
     let (_, budgets) = slot.first.held()?;
     budgets.get(&term)
@@ -77,7 +79,7 @@ pub(crate) fn total_hits(slot: &Slot) -> u128
 
 /// The rights of a node to execute a term, 0 where it isn't counted.
 pub(crate) fn rights(slot: &Slot, term: u8, node: u8) -> i128
-    ensures { result ≡ option_map_or (λ b. rights b node) (budget_under (slot_key slot.now) (slot_number slot.now) term) (pos 0) }
+    ensures { result ≡ slot_rights slot.now term node }
 {
     let Some((key, budgets)) = slot.first.held() else {
         return 0;
@@ -92,9 +94,22 @@ pub(crate) fn rights(slot: &Slot, term: u8, node: u8) -> i128
     }
 }
 
+/// The key, if there is one, and of each of its terms whether a node has a right to execute it.
+pub(crate) fn key_and_rights(slot: &Slot, node: u8) -> Option<(&Key, [bool; 16])>
+    ensures key { option_map (λ p. key_value p.0.now) result ≡ slot_key slot.now }
+    ensures rights { IfSome result (λ p. MarksRights (λ term. slot_rights slot.now term node) p.1) }
+{
+    let key = key(slot)?;
+    let mut marks = [false; 16];
+    for term in 0..terms_of(key) {
+        marks[term] = rights(slot, term as u8, node) >= 1;
+    }
+    Some((key, marks))
+}
+
 /// The executions of a term at all nodes, 0 where it isn't counted.
 pub(crate) fn spent(slot: &Slot, term: u8) -> u128
-    ensures { result ≡ option_map_or total_spent (budget_under (slot_key slot.now) (slot_number slot.now) term) 0 }
+    ensures { result ≡ spent_of_key (slot_key slot.now) (slot_number slot.now) term }
 {
     let Some((key, budgets)) = slot.first.held() else {
         return 0;
@@ -146,7 +161,8 @@ fn raise_term(
     count: Count,
 ) -> Result<(), AllocError>
     requires { term_of count.counted ≡ Some term }
-    ensures ok { OnOk result ((c : Counted) → budgets_number budgets.new c ≡ raised (Some count) (budgets_number budgets.old) c) }
+    ensures ok { OnOk result
+        (Raises (budgets_number budgets.old) (budgets_number budgets.new) (Some count)) }
     ensures err { OnErr result (budgets.new ≡ budgets.old) }
     ensures absent { OnErr result (budgets_number budgets.old count.counted ≡ 0) }
 {
@@ -164,7 +180,7 @@ fn raise_term(
 fn raise(slot: &mut Slot, alloc: Global, count: Count) -> Result<(), AllocError>
     requires under { is_hits count.counted ≡ false → IsSome (slot_key slot.old) }
     ensures key { slot_key slot.new ≡ slot_key slot.old }
-    ensures ok { OnOk result ((c : Counted) → slot_number slot.new c ≡ raised (Some count) (slot_number slot.old) c) }
+    ensures ok { OnOk result (Raises (slot_number slot.old) (slot_number slot.new) (Some count)) }
     ensures err { OnErr result (slot_held slot.new ≡ slot_held slot.old) }
     ensures absent { OnErr result (slot_number slot.old count.counted ≡ 0) }
 {
@@ -183,10 +199,10 @@ fn raise(slot: &mut Slot, alloc: Global, count: Count) -> Result<(), AllocError>
 }
 
 // Raises what is counted, if anything is.
-fn count(slot: &mut Slot, alloc: Global, count: Option<Count>) -> Result<(), AllocError>
+fn raise_if_any(slot: &mut Slot, alloc: Global, count: Option<Count>) -> Result<(), AllocError>
     requires under { IfSome count (λ c. is_hits c.counted ≡ false → IsSome (slot_key slot.old)) }
     ensures key { slot_key slot.new ≡ slot_key slot.old }
-    ensures ok { OnOk result ((c : Counted) → slot_number slot.new c ≡ raised count (slot_number slot.old) c) }
+    ensures ok { OnOk result (Raises (slot_number slot.old) (slot_number slot.new) count) }
     ensures err { OnErr result (slot_held slot.new ≡ slot_held slot.old) }
 {
     match count {
@@ -198,7 +214,7 @@ fn count(slot: &mut Slot, alloc: Global, count: Option<Count>) -> Result<(), All
 // The budgets of a key of which nothing is counted but this.
 fn budgets_with(alloc: Global, count: Option<Count>) -> Result<Budgets, AllocError>
     requires { IfSome count (λ c. is_hits c.counted ≡ false) }
-    ensures { IfOk result (λ b. (c : Counted) → budgets_number b c ≡ raised count (λ d. 0) c) }
+    ensures { IfOk result (λ b. Raises (λ c. 0) (budgets_number b) count) }
 {
     let mut budgets = MapOf::new(alloc);
     let Some(count) = count else {
@@ -216,20 +232,21 @@ pub(crate) fn learn(
     slot: &mut Slot,
     alloc: Global,
     key: Option<&Key>,
-    told: Option<Count>,
+    count: Option<Count>,
 ) -> Result<(), AllocError>
-    requires { IfSome told (λ c. is_hits c.counted ≡ is_none key) }
-    ensures ok { OnOk result (slot_held slot.new ≡ learned (option_map key_value (option_copied key.entry)) told (slot_held slot.old)) }
+    requires { IfSome count (λ c. is_hits c.counted ≡ is_none key) }
+    ensures ok { OnOk result (slot_held slot.new
+        ≡ learned (given_key key.entry) count (slot_held slot.old)) }
     ensures err { OnErr result (slot_held slot.new ≡ slot_held slot.old) }
 {
     let Some(key) = key else {
-        return count(slot, alloc, told);
+        return raise_if_any(slot, alloc, count);
     };
     match standing(slot, key) {
         Ordering::Less => Ok(()),
-        Ordering::Equal => count(slot, alloc, told),
+        Ordering::Equal => raise_if_any(slot, alloc, count),
         Ordering::Greater => {
-            let budgets = budgets_with(alloc, told)?;
+            let budgets = budgets_with(alloc, count)?;
             slot.first = LexOf::of(key.copied(alloc)?, budgets);
             Ok(())
         }

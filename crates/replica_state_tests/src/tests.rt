@@ -5,11 +5,11 @@ ghost use Rattle.replica_state.specs.OpSets.{state_of};
 
 mod counted;
 mod joins;
+mod learning;
 mod merges;
 mod mixed;
 mod readers;
 mod steps;
-mod told;
 
 use actions::{ActionFault, Name, NameFault, parse_actions};
 use readers::{Seen, all_names, all_names_with, answers, shows, wanted};

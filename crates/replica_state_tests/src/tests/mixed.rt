@@ -3,8 +3,8 @@
 
 use super::joins::{copied, join_in, joined, same};
 use super::readers::{
-    all_hits, all_names, all_names_with, all_spent, clock_of, execs_at, hits_at, moved_from,
-    rights_at,
+    all_hits, all_names, all_names_with, all_spent, clock_of, execs_at, hits_at, marks_rights,
+    moved_from, rights_at,
 };
 use super::{Step, add, name, op_on};
 use actions::Name;
@@ -117,7 +117,10 @@ fn same_name<R: Replica, S: Replica>(left: &R, right: &S, name: &Name) -> bool {
         && all_hits(left, name) == all_hits(right, name)
         && all_names_with(left, name) == all_names_with(right, name);
     for node in 0..4 {
-        is_same = is_same && hits_at(left, name, node) == hits_at(right, name, node);
+        is_same = is_same
+            && hits_at(left, name, node) == hits_at(right, name, node)
+            && marks_rights(left, name, node)
+            && marks_rights(right, name, node);
     }
     for term in 0..5 {
         is_same = is_same && same_term(left, right, name, term);

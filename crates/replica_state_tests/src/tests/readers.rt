@@ -39,6 +39,20 @@ pub(super) fn rights_at<R: Replica>(replica: &R, name: &Name, term: u8, node: u8
     replica.rights(name, term, node)
 }
 
+/// Whether a node's marks of the terms of a name are as its rights to each say.
+pub(super) fn marks_rights<R: Replica>(replica: &R, name: &Name, node: u8) -> bool {
+    let Some(found) = replica.key_and_rights(name, node) else {
+        return replica.key(name).is_none();
+    };
+    let marks = found.1;
+    let mut is_marked = replica.key(name) == Some(found.0);
+    for term in 0..16 {
+        let has_right = rights_at(replica, name, term, node) >= 1;
+        is_marked = is_marked && marks[usize::from(term)] == has_right;
+    }
+    is_marked
+}
+
 pub(super) fn all_hits<R: Replica>(replica: &R, name: &Name) -> u128 {
     replica.total_hits(name)
 }

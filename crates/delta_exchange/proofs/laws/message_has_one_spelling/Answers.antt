@@ -2,7 +2,7 @@ use Rattle.std.proofs.Common.{◌≡◌, ◌^◌, ℕ, List, Ok, sym, ◌∙◌,
 use Rattle.delta_exchange.specs.Messages.{MessageValue}
 use Rattle.delta_exchange.specs.Spelling.{SpellsMessage}
 use Rattle.delta_exchange.specs.Reading.{message_at}
-use Rattle.delta_exchange.proofs.Steps.{ok_is}
+use Rattle.refusals.proofs.StepLemmas.{ok_is}
 use Rattle.delta_exchange.proofs.MessageLemmas.{message_again}
 use Rattle.delta_exchange.proofs.WiderLemmas.{message_widens}
 use Rattle.delta_exchange.proofs.laws.message_has_one_spelling.Goals as goal

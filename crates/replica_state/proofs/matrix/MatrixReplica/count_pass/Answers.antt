@@ -1,36 +1,31 @@
-use Rattle.std.specs.Prelude.{OnOk, OnErr}
-use Rattle.std.proofs.Common.{◌≡◌, Option, subst, refl, ap, sym, ◌∙◌, rules}
+use Rattle.std.specs.Prelude.{OnOk}
+use Rattle.std.proofs.Common.{◌≡◌, ◌+◌, ◌<◌, ◌^◌, subst, sym, ◌∙◌, rules}
 use Rattle.std.specs.Option.{IsSome}
+use Rattle.replica_state.specs.declared.point.Counted.TheVariants.{Hits, Execs}
 use Rattle.replica_state.specs.Points.{passed}
-use Rattle.std.specs.Prelude.{unwrap_or}
-use Rattle.replica_state.specs.Slots.{Slot, no_slot, slot_key, matrix_state, slot_held, shown_slots}
-use Rattle.replica_state.proofs.Learned.{on_ok, on_err}
+use Rattle.replica_state.specs.Slots.{matrix_state, slot_held}
+use Rattle.replica_state.proofs.Learned.{on_ok}
 use Rattle.replica_state.proofs.Shown.{pass_seen}
-use Rattle.replica_state.proofs.Slots.{changed_to, unchanged, held_found, name_kept, passed_not_bottom}
+use Rattle.replica_state.proofs.StoredSlots.{passed_is_something, writes}
 use Rattle.replica_state.proofs.matrix.MatrixReplica.count_pass.Goals as goal
 
-pub returns-in-Some-clause-ok : goal.returns-in-Some-clause-ok
-unfolding matrix_state shown_slots
-returns-in-Some-clause-ok c =
-    let changed = c.in-Some.ensures.changed in
-    let called = changed.called in
-    let met = called.met in
-    let shows = called.shows in
-    let leaves = called.leaves in
-    let wrote : OnOk c.in-Some.passed (slot_held changed.left ≡ passed c.args.node c.args.spent (slot_held changed.held)) = search rules in
-    let kept = name_kept c.args.self.now.slots c.args.name.now c.is_bottom.ensures.admitted_self.ordered (subst (λ (o : Option Slot). IsSome o) (sym changed.found) refl) in
-    on_ok c.in-Some.passed (λ e. changed_to c.args.self.now.slots c.change-passed.new.self c.args.name.now changed.left _ c.is_bottom.ensures.admitted_self c.is_bottom-2.ensures.admitted_self changed.put
-    (passed_not_bottom changed.left changed.held c.args.node c.args.spent (subst (λ (o : Option Slot). IsSome (slot_key (unwrap_or o no_slot))) changed.found c.requires.set) e)
-    (e ∙ ap (λ h. passed c.args.node c.args.spent h) (held_found c.args.self.now.slots c.args.name.now changed.held changed.found))
-    ∙ pass_seen c.args.name.now c.args.node c.args.spent (shown_slots c.args.self.now.slots) kept) wrote
+pub change_slot-requires : goal.change_slot-requires
+change_slot-requires c = λ slot is. (
+  subst (λ o. IsSome o) (sym is.key) c.requires.set,
+  (
+    subst (λ n. n + 1 < 2 ^ 64) (sym (is.number (Hits c.args.node))) c.requires.hits,
+    λ term. subst (λ n. n + 1 < 2 ^ 64) (sym (is.number (Execs term c.args.node))) (c.requires.execs term),
+  ),
+)
 
-pub returns-in-Some-clause-err : goal.returns-in-Some-clause-err
-unfolding matrix_state
-returns-in-Some-clause-err c =
-    let changed = c.in-Some.ensures.changed in
-    let called = changed.called in
+pub returns-in-Some-clause-ok : goal.returns-in-Some-clause-ok
+returns-in-Some-clause-ok c =
+    let changed = c.in-Some.ensures.some in
+    let called = changed.is_called in
     let met = called.met in
     let shows = called.shows in
     let leaves = called.leaves in
-    let stayed : OnErr c.in-Some.passed (slot_held changed.left ≡ slot_held changed.held) = search rules in
-    on_err c.in-Some.passed (λ e. unchanged c.args.self.now.slots c.change-passed.new.self c.args.name.now changed.held changed.left c.is_bottom.ensures.admitted_self c.is_bottom-2.ensures.admitted_self changed.found changed.put e) stayed
+    let wrote : OnOk c.in-Some.passed (slot_held changed.after ≡ passed c.args.node c.args.spent (slot_held changed.before)) = search rules in
+    on_ok c.in-Some.passed (λ e. writes _ (matrix_state c.args.self.now) (matrix_state c.change_slot.new.self) c.args.name.now c.in-Some.passed changed (λ h. passed c.args.node c.args.spent h) e
+    (passed_is_something c.args.node c.args.spent _ c.requires.set)
+    ∙ pass_seen c.args.name.now c.args.node c.args.spent (matrix_state c.args.self.now) changed.is_stored.named) wrote

@@ -6,4 +6,4 @@ use Rattle.replica_state.proofs.Added.{added_told}
 use Rattle.replica_state.proofs.matrix.MatrixReplica.learn.Goals as goal
 
 pub returns-clause-ok : goal.returns-clause-ok
-returns-clause-ok c = on_ok c.take_told.result (λ h ops e. h ∙ added_told (matrix_state c.args.self.now) c.args.name.now (key_value c.args.key.now) c.args.told _ c.key_with.ensures c.requires ops e) c.take_told.ensures.ok
+returns-clause-ok c = on_ok c.learn_key_and_count.result (λ h ops e. h ∙ added_told (matrix_state c.args.self.now) c.args.name.now (key_value c.args.key.now) c.args.count _ c.key_with.ensures c.requires ops e) c.learn_key_and_count.ensures.ok

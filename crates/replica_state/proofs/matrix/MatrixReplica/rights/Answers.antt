@@ -1,13 +1,9 @@
-use Rattle.std.proofs.Common.{Option, ap, ◌∙◌}
+use Rattle.std.proofs.Common.{◌∙◌}
 use Rattle.std.proofs.lemmas.Int.{to_z-of_z}
 use mir.Syntax.{w128}
-use Rattle.std.specs.Prelude.{pos}
-use Rattle.std.specs.Option.{option_map_or}
-use Rattle.counters.specs.Budgets.{Budget, rights}
 use Rattle.replica_state.specs.Slots.{matrix_state}
-use Rattle.replica_state.proofs.Slots.{budget_held}
+use Rattle.replica_state.proofs.StoredSlots.{rights_are}
 use Rattle.replica_state.proofs.matrix.MatrixReplica.rights.Goals as goal
 
 pub returns-in-Some : goal.returns-in-Some
-unfolding matrix_state
-returns-in-Some c = to_z-of_z w128 c.rights.result (record { sfits = c.rights.type_inv }) ∙ c.rights.ensures ∙ ap (λ (b : Option Budget). option_map_or (λ b. rights b c.args.node) b (pos 0)) (budget_held c.args.self.now.slots c.args.name.now c.args.term c.in-Some.held.now c.in-Some.ensures.value)
+returns-in-Some c = to_z-of_z w128 c.rights.result (record { sfits = c.rights.type_inv }) ∙ c.rights.ensures ∙ rights_are (matrix_state c.args.self.now) c.args.name.now c.in-Some.held.now c.in-Some.ensures.some c.args.term c.args.node

@@ -1,32 +1,29 @@
 use Rattle.std.proofs.Common.{◌≡◌, ap, sym, ◌∙◌, rules}
 use Rattle.stamp_register.specs.Keys.{key_value}
-use Rattle.replica_state.specs.Points.{taken}
-use Rattle.replica_state.specs.Slots.{matrix_state, slot_held, shown_slots}
+use Rattle.replica_state.specs.Points.{Held, taken}
+use Rattle.replica_state.specs.OpSets.{with_held}
+use Rattle.replica_state.specs.Slots.{matrix_state, slot_held}
+use Rattle.replica_state.proofs.Learned.{on_ok}
 use Rattle.replica_state.proofs.Shown.{took}
-use Rattle.replica_state.proofs.Slots.{changed_to, added_to, held_found, held_absent, taken_not_bottom, seen_some, seen_none, by_answer}
+use Rattle.replica_state.proofs.StoredSlots.{by_change, none_by_test, held_is_nothing, taken_is_something, writes}
 use Rattle.replica_state.proofs.matrix.MatrixReplica.set_key.Goals as goal
 
 pub returns-then-is_some-clause-ok : goal.returns-then-is_some-clause-ok
-unfolding matrix_state
-returns-then-is_some-clause-ok c =
-    let stored = rw c.get.ensures.value at (seen_some c.get.result (sym c.is_some.ensures ∙ c.if-is_some.true)) in
-    by_answer c.change.result (c.change.ensures.found.1 stored) (λ r changed.
-    let called = changed.called in
+returns-then-is_some-clause-ok c = by_change (matrix_state c.args.self.now) c.args.name c.slot_of.result c.change_slot.result (sym c.is_some.ensures ∙ c.if-is_some.true) c.slot_of.ensures.some c.change_slot.ensures.none (λ answer changed.
+    let called = changed.is_called in
     let met = called.met in
     let shows = called.shows in
     let leaves = called.leaves in
-    let took_here : slot_held changed.left ≡ taken (key_value c.args.key) (slot_held changed.held) = search rules in
-    changed_to c.args.self.now.slots c.change.new.self c.args.name changed.left _ c.is_bottom.ensures.admitted_self c.is_bottom-then-is_some.ensures.admitted_self changed.put
-    (taken_not_bottom changed.left (key_value c.args.key) _ took_here)
-    (took_here ∙ ap (λ h. taken (key_value c.args.key) h) (held_found c.args.self.now.slots c.args.name changed.held changed.found))
-    ∙ took c.args.name (key_value c.args.key) (shown_slots c.args.self.now.slots)) c.change.ensures.changed
+    let took_here : slot_held changed.after ≡ taken (key_value c.args.key) (slot_held changed.before) = search rules in
+    writes _ (matrix_state c.args.self.now) (matrix_state c.change_slot.new.self) c.args.name answer changed (λ h. taken (key_value c.args.key) h) took_here (taken_is_something (key_value c.args.key) _)
+    ∙ took c.args.name (key_value c.args.key) (matrix_state c.args.self.now)) c.change_slot.ensures.some
+
+pub add_slot-requires-clause-some : goal.add_slot-requires-clause-some
+add_slot-requires-clause-some c = λ none. taken_is_something (key_value c.args.key) _ (sym c.take.ensures ∙ none)
 
 pub returns-clause-ok : goal.returns-clause-ok
-unfolding matrix_state
 returns-clause-ok c =
-    let none = sym c.get.ensures.value ∙ seen_none c.get.result (sym c.is_some.ensures ∙ c.if-is_some.false) in
-    let took_here = c.take.ensures ∙ ap (λ h. taken (key_value c.args.key) h) c.empty-new.ensures in
-    added_to c.args.self.now.slots c.raise.new.self c.args.name c.take.new.slot _ c.is_bottom.ensures.admitted_self c.is_bottom-2.ensures.admitted_self none c.in_ok-raise.ensures.ok
-    (taken_not_bottom c.take.new.slot (key_value c.args.key) _ took_here)
-    (took_here ∙ ap (λ h. taken (key_value c.args.key) h) (held_absent c.args.self.now.slots c.args.name none))
-    ∙ took c.args.name (key_value c.args.key) (shown_slots c.args.self.now.slots)
+    let none = none_by_test c.slot_of.result (sym c.is_some.ensures ∙ c.if-is_some.false) c.slot_of.ensures.none in
+    on_ok c.add_slot.result (λ e. e ∙ ap (λ (h : Held). with_held c.args.name h (matrix_state c.args.self.now))
+    (c.take.ensures ∙ ap (λ h. taken (key_value c.args.key) h) (c.empty-new.ensures ∙ held_is_nothing (matrix_state c.args.self.now) c.args.name none))
+    ∙ took c.args.name (key_value c.args.key) (matrix_state c.args.self.now)) c.add_slot.ensures.ok

@@ -18,6 +18,6 @@ pub returns : goal.returns
 unfolding state_of
 returns c =
     let none = c.get_mut.follows.holds-at-none in
-    let told = λ (h : Held). both_held h (held_of c.args.other.now) in
-    rw (← c.self.view_is) (added_step c.get_mut.follows.lender-at-none c.insert.new.self c.args.name.now c.take_in-2.new.self (c.in_ok-insert.ensures.entries ∙ ap (λ n. insert_entry (slice_cmp nat_cmp) c.get_mut.follows.lender-at-none.entries n c.take_in-2.new.self) c.in_ok-copied.ensures) (λ q. c.in_ok-insert.ensures.updates.0 q ∙ ap (λ n. cond (is_at (slice_cmp nat_cmp n) q) (Some c.take_in-2.new.self) (point_at c.get_mut.follows.lender-at-none.entries q)) c.in_ok-copied.ensures) (ap (λ (m : BTreeMap (List ℕ) Point). point_at m.entries c.args.name.now) none ∙ sym c.in_default.ensures.value) told (c.in_ok-take_in.ensures ∙ ap told c.empty-point.ensures) ∙
-    ap (λ (m : BTreeMap (List ℕ) Point). with_held c.args.name.now (told (held_at (shown m.entries) c.args.name.now)) (shown m.entries)) none)
+    let change = λ (h : Held). both_held h (held_of c.args.other.now) in
+    rw (← c.self.view_is) (added_step c.get_mut.follows.lender-at-none c.insert.new.self c.args.name.now c.take_in-2.new.self (c.in_ok-insert.ensures.entries ∙ ap (λ n. insert_entry (slice_cmp nat_cmp) c.get_mut.follows.lender-at-none.entries n c.take_in-2.new.self) c.in_ok-copied.ensures) (λ q. c.in_ok-insert.ensures.updates.0 q ∙ ap (λ n. cond (is_at (slice_cmp nat_cmp n) q) (Some c.take_in-2.new.self) (point_at c.get_mut.follows.lender-at-none.entries q)) c.in_ok-copied.ensures) (ap (λ (m : BTreeMap (List ℕ) Point). point_at m.entries c.args.name.now) none ∙ sym c.in_default.ensures.value) change (c.in_ok-take_in.ensures ∙ ap change c.empty-point.ensures) ∙
+    ap (λ (m : BTreeMap (List ℕ) Point). with_held c.args.name.now (change (held_at (shown m.entries) c.args.name.now)) (shown m.entries)) none)

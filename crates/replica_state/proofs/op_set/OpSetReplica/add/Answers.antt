@@ -6,4 +6,4 @@ use Rattle.replica_state.proofs.Added.{added_parts}
 use Rattle.replica_state.proofs.op_set.OpSetReplica.add.Goals as goal
 
 pub returns-clause-ok : goal.returns-clause-ok
-returns-clause-ok c = on_ok c.take_told.result (λ h ops e. h ∙ added_parts (state_of c.args.self.now) (operation c.args.op.now) _ _ _ c.name.ensures c.key.ensures c.count.ensures c.requires ops e) c.take_told.ensures.ok
+returns-clause-ok c = on_ok c.learn_key_and_count.result (λ h ops e. h ∙ added_parts (state_of c.args.self.now) (operation c.args.op.now) _ _ _ c.name.ensures c.key.ensures c.count.ensures c.requires ops e) c.learn_key_and_count.ensures.ok

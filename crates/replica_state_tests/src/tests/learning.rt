@@ -14,10 +14,10 @@ use std::alloc::Global;
 use std::process::Abort;
 use std::test::Fail;
 
-fn can_be_told(key: &Key, told: Option<Count>) -> bool
-    ensures { result ≡ true → (name : List ℕ) → IsWellFormed (operation_told name (key_value key.now) told) }
+fn can_be_learned(key: &Key, count: Option<Count>) -> bool
+    ensures { result ≡ true → (name : List ℕ) → IsWellFormed (operation_told name (key_value key.now) count) }
 {
-    match told {
+    match count {
         None => true,
         Some(count) => match count.counted {
             Counted::Hits { .. } => count.number >= 1,
@@ -36,14 +36,14 @@ fn learn<R: Replica>(
     replica: &mut R,
     name: &Name,
     key: &Key,
-    told: Option<Count>,
+    count: Option<Count>,
 ) {
-    let fits = can_be_told(key, told);
+    let fits = can_be_learned(key, count);
     assert!(rt; fits);
     let before = answers(replica, name);
-    if replica.learn(alloc, name, key, told).is_err() {
+    if replica.learn(alloc, name, key, count).is_err() {
         let is_unchanged = shows(replica, name, before);
-        let again = replica.learn(alloc, name, key, told).is_ok();
+        let again = replica.learn(alloc, name, key, count).is_ok();
         assert!(rt; is_unchanged && again);
     }
 }
@@ -58,8 +58,8 @@ fn follow<R: Replica>(
     let key = key(alloc, 5, 0, "3*off")?;
     let mut learned = R::empty(alloc);
     let mut added = R::empty(alloc);
-    for (told, step, want) in steps {
-        learn(rt, alloc, &mut learned, &name, &key, *told);
+    for (count, step, want) in steps {
+        learn(rt, alloc, &mut learned, &name, &key, *count);
         add(rt, alloc, &mut added, &name, &op_of(alloc, *step)?);
         let are_wanted = shows(&learned, &name, *want) && shows(&added, &name, *want);
         assert!(rt; are_wanted);
@@ -69,7 +69,7 @@ fn follow<R: Replica>(
 
 /// A hit brings no key, and the setting, an execution and a shift do.
 #[test]
-fn told_as_added(rt: HostRuntime) -> Result<(), Fail> {
+fn learned_as_added(rt: HostRuntime) -> Result<(), Fail> {
     let alloc = rt.alloc();
     let execs = Counted::Execs { term: 0, node: 1 };
     let shifts = Counted::Shifts {

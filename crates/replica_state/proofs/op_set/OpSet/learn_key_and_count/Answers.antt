@@ -9,7 +9,7 @@ use Rattle.replica_state.specs.Points.{learned}
 use Rattle.replica_state.specs.OpSets.{state_of, shown, point_at, held_at, with_held}
 use Rattle.replica_state.proofs.Learned.{on_ok, on_err}
 use Rattle.replica_state.proofs.Shown.{lent_step, kept_step, added_step}
-use Rattle.replica_state.proofs.op_set.OpSet.take_told.Goals as goal
+use Rattle.replica_state.proofs.op_set.OpSet.learn_key_and_count.Goals as goal
 
 pub returns-in-Some-clause-ok : goal.returns-in-Some-clause-ok
 unfolding state_of
@@ -23,6 +23,6 @@ pub returns-clause-ok : goal.returns-clause-ok
 unfolding state_of
 returns-clause-ok c =
     let none = c.get_mut.follows.holds-at-none in
-    let told = learned (option_map key_value (option_copied c.args.key)) c.args.count in
-    rw (← c.self.view_is) (added_step c.get_mut.follows.lender-at-none c.insert.new.self c.args.name.now c.learn-2.new.self (c.in_ok-insert.ensures.entries ∙ ap (λ n. insert_entry (slice_cmp nat_cmp) c.get_mut.follows.lender-at-none.entries n c.learn-2.new.self) c.in_ok-copied.ensures) (λ q. c.in_ok-insert.ensures.updates.0 q ∙ ap (λ n. cond (is_at (slice_cmp nat_cmp n) q) (Some c.learn-2.new.self) (point_at c.get_mut.follows.lender-at-none.entries q)) c.in_ok-copied.ensures) (ap (λ (m : BTreeMap (List ℕ) Point). point_at m.entries c.args.name.now) none ∙ sym c.in_default.ensures.value) told (c.in_ok-learn.ensures.ok ∙ ap told c.empty-point.ensures) ∙
-    ap (λ (m : BTreeMap (List ℕ) Point). with_held c.args.name.now (told (held_at (shown m.entries) c.args.name.now)) (shown m.entries)) none)
+    let change = learned (option_map key_value (option_copied c.args.key)) c.args.count in
+    rw (← c.self.view_is) (added_step c.get_mut.follows.lender-at-none c.insert.new.self c.args.name.now c.learn-2.new.self (c.in_ok-insert.ensures.entries ∙ ap (λ n. insert_entry (slice_cmp nat_cmp) c.get_mut.follows.lender-at-none.entries n c.learn-2.new.self) c.in_ok-copied.ensures) (λ q. c.in_ok-insert.ensures.updates.0 q ∙ ap (λ n. cond (is_at (slice_cmp nat_cmp n) q) (Some c.learn-2.new.self) (point_at c.get_mut.follows.lender-at-none.entries q)) c.in_ok-copied.ensures) (ap (λ (m : BTreeMap (List ℕ) Point). point_at m.entries c.args.name.now) none ∙ sym c.in_default.ensures.value) change (c.in_ok-learn.ensures.ok ∙ ap change c.empty-point.ensures) ∙
+    ap (λ (m : BTreeMap (List ℕ) Point). with_held c.args.name.now (change (held_at (shown m.entries) c.args.name.now)) (shown m.entries)) none)

@@ -1,0 +1,114 @@
+//! The greatest messages of a cluster of 16 nodes, which `delta_exchange_tests` and `message_times`
+//! read and write.
+#![tactic(auto)]
+
+use std::alloc::{AllocError, Global};
+
+/// How many nodes the cluster has.
+pub const NODES: u8 = 16;
+
+const TERMS: u8 = 16;
+
+/// The greatest number.
+const GREATEST: [u8; 8] = [0xff; 8];
+
+/// Ends a name of 128 bytes of which two are told.
+const REST_OF_NAME: [u8; 126] = [b'x'; 126];
+
+/// Of node 0 to node 15, with so many names.
+fn push_head(bytes: &mut Vec<u8>, names: u16) -> Result<(), AllocError> {
+    bytes.extend_from_slice(b"FPG1")?;
+    bytes.extend_from_slice(&[0, 15])?;
+    for _ in 0..3 {
+        bytes.extend_from_slice(&GREATEST)?;
+    }
+    bytes.extend_from_slice(&names.to_be_bytes())
+}
+
+/// 16 counted terms in 1024 bytes: 15 of 62 bytes and an arrow, and one of 64 bytes.
+fn push_text(bytes: &mut Vec<u8>) -> Result<(), AllocError> {
+    for _ in 1..TERMS {
+        bytes.extend_from_slice(b"1*print(")?;
+        bytes.extend_from_slice(&REST_OF_NAME[..53])?;
+        bytes.extend_from_slice(b")->")?;
+    }
+    bytes.extend_from_slice(b"1*print(")?;
+    bytes.extend_from_slice(&REST_OF_NAME[..55])?;
+    bytes.extend_from_slice(b")")
+}
+
+/// The greatest clock, of the last node.
+fn push_key(bytes: &mut Vec<u8>) -> Result<(), AllocError> {
+    bytes.extend_from_slice(&GREATEST)?;
+    bytes.extend_from_slice(&[15, 1, 4, 0])?;
+    push_text(bytes)
+}
+
+fn push_hits(bytes: &mut Vec<u8>) -> Result<(), AllocError> {
+    bytes.push(NODES)?;
+    for node in 0..NODES {
+        bytes.push(node)?;
+        bytes.extend_from_slice(&GREATEST)?;
+    }
+    Ok(())
+}
+
+/// 256 of them.
+fn push_execs(bytes: &mut Vec<u8>) -> Result<(), AllocError> {
+    bytes.extend_from_slice(&[1, 0])?;
+    for term in 0..TERMS {
+        for node in 0..NODES {
+            bytes.extend_from_slice(&[term, node])?;
+            bytes.extend_from_slice(&GREATEST)?;
+        }
+    }
+    Ok(())
+}
+
+/// What each node moved of its rights to a term to each other node.
+fn push_shifts_of(bytes: &mut Vec<u8>, term: u8) -> Result<(), AllocError> {
+    for from in 0..NODES {
+        for to in 0..NODES {
+            if to != from {
+                bytes.extend_from_slice(&[term, from, to])?;
+                bytes.extend_from_slice(&GREATEST)?;
+            }
+        }
+    }
+    Ok(())
+}
+
+/// 3840 of them.
+fn push_shifts(bytes: &mut Vec<u8>) -> Result<(), AllocError> {
+    bytes.extend_from_slice(&[0x0f, 0])?;
+    for term in 0..TERMS {
+        push_shifts_of(bytes, term)?;
+    }
+    Ok(())
+}
+
+/// What every name has.
+fn after_name(alloc: Global) -> Result<Vec<u8>, AllocError> {
+    let mut bytes = Vec::new(alloc);
+    push_key(&mut bytes)?;
+    push_hits(&mut bytes)?;
+    push_execs(&mut bytes)?;
+    push_shifts(&mut bytes)?;
+    Ok(bytes)
+}
+
+/// The greatest message of so many names, of at most 256: each name has 128 bytes, and is set to 16
+/// counted terms in 1024 bytes, with all of their cells.
+pub fn great_message(alloc: Global, names: u16) -> Result<Vec<u8>, AllocError> {
+    let after_name = after_name(alloc)?;
+    let mut bytes = Vec::new(alloc);
+    push_head(&mut bytes, names)?;
+    for number in 0..names {
+        let letters = [b'a' + (number / 16 % 16) as u8, b'a' + (number % 16) as u8];
+        bytes.push(128)?;
+        bytes.extend_from_slice(&letters)?;
+        bytes.extend_from_slice(&REST_OF_NAME)?;
+        bytes.extend_from_slice(&after_name)?;
+    }
+    Ok(bytes)
+}
