@@ -11,8 +11,8 @@ use Rattle.replica_state.proofs.Sets.{IsIn-append_cases, KeyUpto, key_of-is_in}
 use Rattle.replica_state.proofs.KnownSets.{own_name}
 use Rattle.node_core.specs.Asks.{Asked, Message}
 use Rattle.node_core.specs.Asks as asks
-use Rattle.node_core.specs.Nodes.{Node, shown}
-use Rattle.node_core.specs.Steps.{settings, issued, shift_under, told}
+use Rattle.node_core.specs.Nodes.{Node, state_shown}
+use Rattle.node_core.specs.Steps.{settings, operations_issued, shift_under, message_in}
 use Rattle.cluster_model.specs.Worlds.{Cluster, World, Event, accepted, node_after, sent, world}
 use Rattle.cluster_model.specs.Schedules.{MaySend, Allows, AllowsDelta, IsSchedule, IsDeltaSchedule}
 use Rattle.cluster_model.specs.Histories.{state_of, ops_issued, ops_delivered, keys_by}
@@ -45,7 +45,7 @@ keys_in_ops i n (Some (asks.Deliver read)) words op h = absurd h
 
 -- ---- a hit is of a name that is set
 
-no_count_issued : (i clock : ℕ) (all : List (List ℕ × Option (List ℕ))) (cell : Cell) (k : ℕ) → IsIn (Count cell k) (issued i clock all) → ⊥
+no_count_issued : (i clock : ℕ) (all : List (List ℕ × Option (List ℕ))) (cell : Cell) (k : ℕ) → IsIn (Count cell k) (operations_issued i clock all) → ⊥
 no_count_issued i clock [] cell k h = h
 no_count_issued i clock (setting ∷ rest) cell k (inl e) = cc
 no_count_issued i clock (setting ∷ rest) cell k (inr h) = no_count_issued i (clock + 1) rest cell k h
@@ -60,17 +60,17 @@ hit_of_pass i v name n j k (Triggered key t (Some c) task) is (inl e) = absurd (
 hit_of_pass i v name n j k (Triggered key t (Some c) task) is (inr (inl e)) = (key, let same : n ≡ name = cc in subst (λ m. v.key m ≡ Some key) (sym same) is.under)
 hit_of_pass i v name n j k (Triggered key t (Some c) task) is (inr (inr h)) = absurd h
 
-own_hits : (i : ℕ) (n : Node) (a : Option Asked) (words name : List ℕ) (j k : ℕ) → IsIn (Count (Hits name j) k) (ops_issued i n a words) → (key : KeyValue) × ((shown n).key name ≡ Some key)
+own_hits : (i : ℕ) (n : Node) (a : Option Asked) (words name : List ℕ) (j k : ℕ) → IsIn (Count (Hits name j) k) (ops_issued i n a words) → (key : KeyValue) × ((state_shown n).key name ≡ Some key)
 own_hits i n None words name j k h = absurd h
 own_hits i n (Some (asks.Set other text)) words name j k h = absurd (no_count_issued i n.marks.clock (settings (asks.Set other text)) (Hits name j) k h)
 own_hits i n (Some (asks.Remove other)) words name j k h = absurd (no_count_issued i n.marks.clock (settings (asks.Remove other)) (Hits name j) k h)
 own_hits i n (Some (asks.Load text)) words name j k h = absurd (no_count_issued i n.marks.clock (settings (asks.Load text)) (Hits name j) k h)
 own_hits i n (Some (asks.Pass other)) words name j k h =
-    let o = outcome_of i (shown n) other words in
-    hit_of_pass i (shown n) other name j k o.outcome o.is (subst (λ os. IsIn (Count (Hits name j) k) os) o.ops h)
-own_hits i n (Some (asks.Shift other term to amount)) words name j k h = at ((shown n).key other) h
+    let o = outcome_of i (state_shown n) other words in
+    hit_of_pass i (state_shown n) other name j k o.outcome o.is (subst (λ os. IsIn (Count (Hits name j) k) os) o.ops h)
+own_hits i n (Some (asks.Shift other term to amount)) words name j k h = at ((state_shown n).key other) h
   where
-    at : (o : Option KeyValue) → IsIn (Count (Hits name j) k) (shift_under i (shown n) other term to amount o) → (key : KeyValue) × ((shown n).key name ≡ Some key)
+    at : (o : Option KeyValue) → IsIn (Count (Hits name j) k) (shift_under i (state_shown n) other term to amount o) → (key : KeyValue) × ((state_shown n).key name ≡ Some key)
     at None q = absurd q
     at (Some key) (inl q) = absurd (cc)
     at (Some key) (inr q) = absurd q
@@ -91,7 +91,7 @@ delivered_closed c w e i allowed closed = at (accepted c w e i) refl
   where
     at : (a : Option Asked) → accepted c w e i ≡ a → IsClosed (ops_delivered a)
     at None p = nothing_closed
-    at (Some (asks.Deliver read)) p = closed.sent (told read) (delivered_was_sent c w e i read allowed p)
+    at (Some (asks.Deliver read)) p = closed.sent (message_in read) (delivered_was_sent c w e i read allowed p)
     at (Some ask) p = nothing_closed
 
 node_closed : (i : ℕ) (n : Node) (a : Option Asked) (words : List ℕ) → IsClosed n.ops → IsClosed (ops_delivered a) → IsClosed (node_after i n a words).ops

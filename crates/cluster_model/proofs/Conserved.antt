@@ -12,7 +12,7 @@ use Rattle.replica_state.specs.Folds.{fold, number_at, at_key}
 use Rattle.replica_state.proofs.Sets.{number_at-mono}
 use Rattle.node_core.specs.Asks.{Asked}
 use Rattle.node_core.specs.Asks as asks
-use Rattle.node_core.specs.Nodes.{shown}
+use Rattle.node_core.specs.Nodes.{state_shown}
 use Rattle.cluster_model.specs.Worlds.{Cluster, World, Event, accepted, world}
 use Rattle.cluster_model.specs.Schedules.{IsSchedule}
 use Rattle.cluster_model.specs.Histories.{state_of, IsIssued, executions, is_key, is_under, amount_moved, moved, held, seen, in_transit, all_in_transit}
@@ -26,9 +26,9 @@ use Rattle.cluster_model.proofs.Rights.{Balance, balance, int_less, is_key-of}
 -- nothing is moved to oneself, nor to a number that is no node
 not_to : (c : Cluster) (w : World) (e : Event) (i j : ℕ) → (j ≢ i → j < c.nodes → ⊥) → (a : Option Asked) → IsAgreed c w e i a → (name : List ℕ) (key : KeyValue) (term : ℕ) → amount_moved (w.node i) a name key term j ≡ 0
 not_to c w e i j bad None g name key term = refl
-not_to c w e i j bad (Some (asks.Shift other t to amount)) g name key term = at (bytes_eq other name && (t == term && (to == j && is_key key ((shown (w.node i)).key other)))) refl
+not_to c w e i j bad (Some (asks.Shift other t to amount)) g name key term = at (bytes_eq other name && (t == term && (to == j && is_key key ((state_shown (w.node i)).key other)))) refl
   where
-    at : (b : Bool) → (bytes_eq other name && (t == term && (to == j && is_key key ((shown (w.node i)).key other)))) ≡ b → ◌≡◌ {A = ℕ} (cond b amount 0) 0
+    at : (b : Bool) → (bytes_eq other name && (t == term && (to == j && is_key key ((state_shown (w.node i)).key other)))) ≡ b → ◌≡◌ {A = ℕ} (cond b amount 0) 0
     at false f = refl
     at true f =
         let p = and_parts (bytes_eq other name) _ f in

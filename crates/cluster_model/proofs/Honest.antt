@@ -20,8 +20,10 @@ use Rattle.node_core.specs.declared.fault.NodeFault.TheVariants as faults
 use Rattle.node_core.specs.Asks.{Asked, Message}
 use Rattle.node_core.specs.Asks as asks
 use Rattle.node_core.specs.Nodes.{Node, setting_of, terms_in}
-use Rattle.node_core.specs.Steps.{after, told}
-use Rattle.node_core.specs.Refusals.{first_fault, where_true, is_full, is_cell_ahead, is_ahead, is_above, any_below, is_overspent, overspends, too_many, faults_of_message, refusal_at}
+use Rattle.node_core.specs.Steps.{after, message_in}
+use Rattle.refusals.specs.Refusals.{first_fault}
+use Rattle.std.specs.Bool.{then_some}
+use Rattle.node_core.specs.Refusals.{is_full, is_cell_ahead, is_ahead, is_above, any_below, is_overspent, overspends, too_many, faults_of_message, refusal_at}
 use Rattle.node_core.proofs.Rights.{setting_parts}
 use Rattle.cluster_model.specs.Worlds.{Cluster, World, Event, config_of, accepted, node_after, sent, happens, world}
 use Rattle.cluster_model.specs.Schedules.{Allows, IsSchedule}
@@ -121,7 +123,7 @@ known_upto c w e i j marked allowed = at (accepted c w e i) refl
 
     at : (a : Option Asked) → accepted c w e i ≡ a → (node_after i (w.node i) a e.words).marks.known j ≤ (w.node j).marks.version
     at None p = marked.known i j
-    at (Some (asks.Deliver read)) p = of (told read) _ (λ h. eqb-true j (told read).from (and_parts (j == (told read).from) _ h).0) (delivered_was_sent c w e i read allowed p)
+    at (Some (asks.Deliver read)) p = of (message_in read) _ (λ h. eqb-true j (message_in read).from (and_parts (j == (message_in read).from) _ h).0) (delivered_was_sent c w e i read allowed p)
     at (Some ask) p = marked.known i j
 
 record IsMarked (w : World) (m : Message) : Type 0 where
@@ -226,7 +228,7 @@ module _ (c : Cluster) (es : List Event) (few : c.nodes ≤ numbers) (s : IsSche
 
   -- the first refusal that applies is none of those
   first_is_own : (full many other ahead above over : Bool) → (other ≡ false → above ≡ false) → ahead ≡ false → over ≡ false →
-      IsOwnReason (first_fault (where_true full faults.TraceFull ∷ where_true many faults.TooManyPoints ∷ None ∷ None ∷ where_true other faults.NotForMe ∷ where_true ahead faults.OwnAhead ∷ where_true above faults.AckAhead ∷ where_true over faults.Overspent ∷ []))
+      IsOwnReason (first_fault (then_some full faults.TraceFull ∷ then_some many faults.TooManyPoints ∷ None ∷ None ∷ then_some other faults.NotForMe ∷ then_some ahead faults.OwnAhead ∷ then_some above faults.AckAhead ∷ then_some over faults.Overspent ∷ []))
   first_is_own true many other ahead above over p q r = tt
   first_is_own false true other ahead above over p q r = tt
   first_is_own false false true ahead above over p q r = tt

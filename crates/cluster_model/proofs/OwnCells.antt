@@ -13,9 +13,9 @@ use Rattle.replica_state.proofs.Orders.{same_cell-refl, same_cell-true}
 use Rattle.replica_state.proofs.Sets.{number_at-mono, number_at-append}
 use Rattle.node_core.specs.Asks.{Asked, Answered, Passed, Call}
 use Rattle.node_core.specs.Asks as asks
-use Rattle.node_core.specs.Nodes.{Node, shown, setting_of}
+use Rattle.node_core.specs.Nodes.{Node, state_shown, setting_of}
 use Rattle.node_core.specs.Passes.{ops_of_pass}
-use Rattle.node_core.specs.Steps.{after, reply, settings, issued, shift_under, told}
+use Rattle.node_core.specs.Steps.{after, reply, settings, operations_issued, shift_under, message_in}
 use Rattle.cluster_model.specs.Worlds.{Cluster, World, Event, accepted, node_after, trace_after, world}
 use Rattle.cluster_model.specs.Schedules.{Allows, IsSchedule}
 use Rattle.cluster_model.specs.Histories.{state_of, ops_delivered, is_act_of, acts, executions, is_key, amount_moved, moved}
@@ -53,7 +53,7 @@ shift_test other name k key t term i to j = regroup (bytes_eq other name) (same_
 
 -- ---- one step
 
-pub no_counts : (c : Cell) (i clock : ℕ) (all : List (List ℕ × Option (List ℕ))) → number_at c (issued i clock all) ≡ 0
+pub no_counts : (c : Cell) (i clock : ℕ) (all : List (List ℕ × Option (List ℕ))) → number_at c (operations_issued i clock all) ≡ 0
 no_counts c i clock [] = refl
 no_counts c i clock (setting ∷ rest) =
     let h = no_counts c i (clock + 1) rest in
@@ -99,28 +99,28 @@ pub shift_step : (i : ℕ) (n : Node) (a : Option Asked) (words name : List ℕ)
 unfolding after
 shift_step i n None words name key term j h = omega arith
 shift_step i n (Some (asks.Set other text)) words name key term j h =
-    let e = number_at-append (Shifts name key term i j) (issued i n.marks.clock (settings (asks.Set other text))) n.ops in
+    let e = number_at-append (Shifts name key term i j) (operations_issued i n.marks.clock (settings (asks.Set other text))) n.ops in
     let z = no_counts (Shifts name key term i j) i n.marks.clock (settings (asks.Set other text)) in
     omega (arith, e, z)
 shift_step i n (Some (asks.Remove other)) words name key term j h =
-    let e = number_at-append (Shifts name key term i j) (issued i n.marks.clock (settings (asks.Remove other))) n.ops in
+    let e = number_at-append (Shifts name key term i j) (operations_issued i n.marks.clock (settings (asks.Remove other))) n.ops in
     let z = no_counts (Shifts name key term i j) i n.marks.clock (settings (asks.Remove other)) in
     omega (arith, e, z)
 shift_step i n (Some (asks.Load text)) words name key term j h =
-    let e = number_at-append (Shifts name key term i j) (issued i n.marks.clock (settings (asks.Load text))) n.ops in
+    let e = number_at-append (Shifts name key term i j) (operations_issued i n.marks.clock (settings (asks.Load text))) n.ops in
     let z = no_counts (Shifts name key term i j) i n.marks.clock (settings (asks.Load text)) in
     omega (arith, e, z)
 shift_step i n (Some (asks.Pass other)) words name key term j h =
-    let o = outcome_of i (shown n) other words in
-    let e = number_at-append (Shifts name key term i j) (ops_of_pass i (shown n) other words (setting_of (shown n) other)) n.ops in
-    let z : number_at (Shifts name key term i j) (ops_of_pass i (shown n) other words (setting_of (shown n) other)) ≡ 0 = ap (number_at (Shifts name key term i j)) o.ops ∙ no_shift (shown n) name other key term i j o.outcome in
+    let o = outcome_of i (state_shown n) other words in
+    let e = number_at-append (Shifts name key term i j) (ops_of_pass i (state_shown n) other words (setting_of (state_shown n) other)) n.ops in
+    let z : number_at (Shifts name key term i j) (ops_of_pass i (state_shown n) other words (setting_of (state_shown n) other)) ≡ 0 = ap (number_at (Shifts name key term i j)) o.ops ∙ no_shift (state_shown n) name other key term i j o.outcome in
     omega (arith, e, z)
 shift_step i n (Some (asks.Shift other t to amount)) words name key term j h =
-    number_at-append (Shifts name key term i j) (shift_under i (shown n) other t to amount ((shown n).key other)) n.ops
-    ∙ shift_of name other key term i j t to amount n.ops ((shown n).key other) refl
+    number_at-append (Shifts name key term i j) (shift_under i (state_shown n) other t to amount ((state_shown n).key other)) n.ops
+    ∙ shift_of name other key term i j t to amount n.ops ((state_shown n).key other) refl
 shift_step i n (Some (asks.Emit to versions chosen)) words name key term j h = omega arith
 shift_step i n (Some (asks.Deliver read)) words name key term j h =
-    let e = number_at-append (Shifts name key term i j) (told read).ops n.ops in
+    let e = number_at-append (Shifts name key term i j) (message_in read).ops n.ops in
     omega (arith, e, h)
 
 -- the key of a name in the node's state that has the key's stamp is that key, and the name is its name
@@ -186,36 +186,36 @@ acted stamp term i n None words = 0
 acted stamp term i n (Some ask) words = cond (acts stamp term (reply i n ask words)) 1 0
 
 -- the next execution by i in i's set
-pub exec_step : (i : ℕ) (n : Node) (a : Option Asked) (words name : List ℕ) (key : KeyValue) (term count : ℕ) → count_of key term ≡ Some count → OneHere (shown n) name key →
+pub exec_step : (i : ℕ) (n : Node) (a : Option Asked) (words name : List ℕ) (key : KeyValue) (term count : ℕ) → count_of key term ≡ Some count → OneHere (state_shown n) name key →
     number_at (Execs name key term i) (ops_delivered a) ≤ number_at (Execs name key term i) n.ops →
     number_at (Execs name key term i) (node_after i n a words).ops ≡ acted (stamp_of key) term i n a words + number_at (Execs name key term i) n.ops
 unfolding after
 exec_step i n None words name key term count counted one h = omega arith
 exec_step i n (Some (asks.Set other text)) words name key term count counted one h =
-    let e = number_at-append (Execs name key term i) (issued i n.marks.clock (settings (asks.Set other text))) n.ops in
+    let e = number_at-append (Execs name key term i) (operations_issued i n.marks.clock (settings (asks.Set other text))) n.ops in
     let z = no_counts (Execs name key term i) i n.marks.clock (settings (asks.Set other text)) in
     omega (arith, e, z)
 exec_step i n (Some (asks.Remove other)) words name key term count counted one h =
-    let e = number_at-append (Execs name key term i) (issued i n.marks.clock (settings (asks.Remove other))) n.ops in
+    let e = number_at-append (Execs name key term i) (operations_issued i n.marks.clock (settings (asks.Remove other))) n.ops in
     let z = no_counts (Execs name key term i) i n.marks.clock (settings (asks.Remove other)) in
     omega (arith, e, z)
 exec_step i n (Some (asks.Load text)) words name key term count counted one h =
-    let e = number_at-append (Execs name key term i) (issued i n.marks.clock (settings (asks.Load text))) n.ops in
+    let e = number_at-append (Execs name key term i) (operations_issued i n.marks.clock (settings (asks.Load text))) n.ops in
     let z = no_counts (Execs name key term i) i n.marks.clock (settings (asks.Load text)) in
     omega (arith, e, z)
 exec_step i n (Some (asks.Pass other)) words name key term count counted one h =
-    let o = outcome_of i (shown n) other words in
-    number_at-append (Execs name key term i) (ops_of_pass i (shown n) other words (setting_of (shown n) other)) n.ops
+    let o = outcome_of i (state_shown n) other words in
+    number_at-append (Execs name key term i) (ops_of_pass i (state_shown n) other words (setting_of (state_shown n) other)) n.ops
     ∙ ap (λ os. max (number_at (Execs name key term i) os) (number_at (Execs name key term i) n.ops)) o.ops
     ∙ exec_of i n.ops name other key term count counted one o.outcome o.is
     ∙ ap (λ p. cond (is_act_of (stamp_of key) term p) 1 0 + number_at (Execs name key term i) n.ops) (sym o.reply)
 exec_step i n (Some (asks.Shift other t to amount)) words name key term count counted one h =
-    let e = number_at-append (Execs name key term i) (shift_under i (shown n) other t to amount ((shown n).key other)) n.ops in
-    let z = no_exec (shown n) name other key term i t to amount ((shown n).key other) in
+    let e = number_at-append (Execs name key term i) (shift_under i (state_shown n) other t to amount ((state_shown n).key other)) n.ops in
+    let z = no_exec (state_shown n) name other key term i t to amount ((state_shown n).key other) in
     omega (arith, e, z)
 exec_step i n (Some (asks.Emit to versions chosen)) words name key term count counted one h = omega arith
 exec_step i n (Some (asks.Deliver read)) words name key term count counted one h =
-    let e = number_at-append (Execs name key term i) (told read).ops n.ops in
+    let e = number_at-append (Execs name key term i) (message_in read).ops n.ops in
     omega (arith, e, h)
 
 -- ---- over a schedule

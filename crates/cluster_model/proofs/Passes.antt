@@ -6,13 +6,15 @@ use Rattle.actions.specs.Value.{TaskValue, TermValue}
 use Rattle.stamp_register.specs.Keys.{KeyValue, stamp_of}
 use Rattle.replica_state.specs.Operations.{Operation, count_at, count_of, count_under}
 use Rattle.replica_state.specs.States.{State}
-use Rattle.node_core.specs.declared.trace.Config.{Config}
+use Rattle.node_core.specs.declared.config.Config.{Config}
 use Rattle.node_core.specs.declared.fault.NodeFault.{NodeFault}
 use Rattle.node_core.specs.Asks.{Passed, Unset, NoTerm, Act}
 use Rattle.node_core.specs.Asks as asks
-use Rattle.node_core.specs.Nodes.{Node, shown, setting_of}
-use Rattle.node_core.specs.Passes.{has_rights_of, may_run, task_in, triggered, next_hit, next_exec, execs_of_choice, execs_of_term, reply_of_choice, ops_of_pass, reply_of_pass}
-use Rattle.node_core.specs.Refusals.{first_fault, where_true, too_few, faults_of_shift, faults_of, refusal_at}
+use Rattle.node_core.specs.Nodes.{Node, state_shown, setting_of}
+use Rattle.node_core.specs.Passes.{has_rights_of, may_run, task_in, triggered_term, next_hit, next_exec, execs_of_choice, execs_of_term, reply_of_choice, ops_of_pass, reply_of_pass}
+use Rattle.refusals.specs.Refusals.{first_fault}
+use Rattle.std.specs.Bool.{then_some}
+use Rattle.node_core.specs.Refusals.{too_few, faults_of_shift, faults_of, refusal_at}
 use Rattle.node_core.proofs.Rights.{IsSetting, setting_parts, chosen_may}
 
 -- ---- passes
@@ -54,7 +56,7 @@ pub record HasOutcome (i : ℕ) (v : State) (name words : List ℕ) (setting : O
 pub outcome_of : (i : ℕ) (v : State) (name words : List ℕ) → HasOutcome i v name words (setting_of v name)
 outcome_of i v name words = at (setting_of v name) refl
   where
-    counted : (key : KeyValue) (terms : List TermValue) (term : ℕ) (count : Option ℕ) → IsSetting (v.key name) key terms → triggered i v name words (key, terms) ≡ Some term → count_at terms term ≡ count → HasOutcome i v name words (Some (key, terms))
+    counted : (key : KeyValue) (terms : List TermValue) (term : ℕ) (count : Option ℕ) → IsSetting (v.key name) key terms → triggered_term i v name words (key, terms) ≡ Some term → count_at terms term ≡ count → HasOutcome i v name words (Some (key, terms))
     counted key terms term count s p q =
         record {
           outcome = Triggered key term count (task_in (slice_get terms term));
@@ -71,7 +73,7 @@ outcome_of i v name words = at (setting_of v name) refl
         ends None = refl
         ends (Some n) = refl
 
-    chosen : (key : KeyValue) (terms : List TermValue) (o : Option ℕ) → IsSetting (v.key name) key terms → triggered i v name words (key, terms) ≡ o → HasOutcome i v name words (Some (key, terms))
+    chosen : (key : KeyValue) (terms : List TermValue) (o : Option ℕ) → IsSetting (v.key name) key terms → triggered_term i v name words (key, terms) ≡ o → HasOutcome i v name words (Some (key, terms))
     chosen key terms None s p =
         record {
           outcome = Nothing key;
@@ -83,7 +85,7 @@ outcome_of i v name words = at (setting_of v name) refl
 
     at : (o : Option (KeyValue × List TermValue)) → setting_of v name ≡ o → HasOutcome i v name words o
     at None p = record { outcome = NotSet; ops = refl; reply = refl; is = tt }
-    at (Some setting) p = chosen setting.0 setting.1 (triggered i v name words setting) (setting_parts (v.key name) setting.0 setting.1 p) refl
+    at (Some setting) p = chosen setting.0 setting.1 (triggered_term i v name words setting) (setting_parts (v.key name) setting.0 setting.1 p) refl
 
 -- ---- refusals
 
@@ -96,7 +98,7 @@ none_applies [] h = tt
 none_applies (None ∷ rest) h = (refl, none_applies rest h)
 none_applies (Some fault ∷ rest) h = absurd (let impossible : ◌≡◌ {A = Option NodeFault} (Some fault) None = h in cc)
 
-pub not_true : (test : Bool) (fault : NodeFault) → where_true test fault ≡ None → test ≡ false
+pub not_true : (test : Bool) (fault : NodeFault) → then_some test fault ≡ None → test ≡ false
 not_true false fault h = refl
 not_true true fault h = absurd (let impossible : ◌≡◌ {A = Option NodeFault} (Some fault) None = h in cc)
 
@@ -106,10 +108,10 @@ pub record IsShifted (config : Config) (v : State) (name : List ℕ) (term to am
   pub below : to < config.nodes
   pub may : (key : KeyValue) → v.key name ≡ Some key → has_rights_of config.node v name key term amount (count_of key term) ≡ true
 
-pub shifted_is : (config : Config) (entries : ℕ) (n : Node) (name : List ℕ) (term to amount : ℕ) (words : List ℕ) → refusal_at config entries n (asks.Shift name term to amount) words ≡ None → IsShifted config (shown n) name term to amount
+pub shifted_is : (config : Config) (entries : ℕ) (n : Node) (name : List ℕ) (term to amount : ℕ) (words : List ℕ) → refusal_at config entries n (asks.Shift name term to amount) words ≡ None → IsShifted config (state_shown n) name term to amount
 shifted_is config entries n name term to amount words h =
     let all = none_applies (faults_of config entries n (asks.Shift name term to amount) words) h in
-    let places = (none_applies (faults_of_shift config (shown n) name term to amount) all.1.1.0).1.1.1 in
+    let places = (none_applies (faults_of_shift config (state_shown n) name term to amount) all.1.1.0).1.1.1 in
     let where_to = or_parts (not (nat_lt to config.nodes)) (to == config.node) (not_true _ _ places.0) in
     let enough = not_true _ _ places.1.1.0 in
     record {
@@ -119,7 +121,7 @@ shifted_is config entries n name term to amount words h =
     }
   where
     v : State
-    v = shown n
+    v = state_shown n
 
     at : (key : KeyValue) → v.key name ≡ Some key → (o : Option (KeyValue × List TermValue)) → setting_of v name ≡ o → too_few config.node v name term amount o ≡ false → has_rights_of config.node v name key term amount (count_of key term) ≡ true
     at key e None p q = absurd (let impossible : true ≡ false = q in cc)

@@ -8,7 +8,7 @@ use Rattle.replica_state.specs.States.{State}
 use Rattle.replica_state.specs.Folds.{fold}
 use Rattle.replica_state.specs.StateOrder.{IsBelow}
 use Rattle.replica_state.proofs.KnownSets.{union_least, union_above_left, union_above_right}
-use Rattle.node_core.specs.declared.trace.Config.{Config}
+use Rattle.node_core.specs.declared.config.Config.{Config}
 use Rattle.node_core.specs.declared.fault.NodeFault.{NodeFault}
 use Rattle.node_core.specs.Asks.{Asked, Message, Call}
 use Rattle.node_core.specs.Asks as asks

@@ -5,7 +5,7 @@ use Rattle.std.proofs.lemmas.Int.{ints}
 use Rattle.std.specs.Prelude.{pos, ◌-ℤ◌}
 use Rattle.std.specs.Str.{bytes_eq}
 use Rattle.counters.specs.Sums.{numbers, sum_others}
-use Rattle.counters.specs.Budgets.{Budget, given, gone, rights}
+use Rattle.counters.specs.Budgets.{Budget, given_to, gone_from, rights}
 use Rattle.counters.proofs.SumLemmas.{sum_others-le, sum_others-add, sum_others-same, sum_others-at_most, sum_others-zero}
 use Rattle.stamp_register.specs.Keys.{KeyValue, stamp_of, same_key}
 use Rattle.replica_state.specs.Operations.{Execs, Shifts, Operation, Count, IsIn, count_of}
@@ -15,7 +15,7 @@ use Rattle.replica_state.proofs.Orders.{bytes_eq-true, same_key-refl, same_key-t
 use Rattle.replica_state.proofs.Sets.{IsIn-append_cases, number_at-mono, KeyUpto, KeyUpto-antisym, KeyUpto-same, key_of-is_in, key_of-least, key_of-mono}
 use Rattle.node_core.specs.Asks.{Asked, Passed}
 use Rattle.node_core.specs.Asks as asks
-use Rattle.node_core.specs.Nodes.{Node, shown}
+use Rattle.node_core.specs.Nodes.{Node, state_shown}
 use Rattle.node_core.specs.Passes.{has_rights_of}
 use Rattle.node_core.specs.Steps.{after}
 use Rattle.cluster_model.specs.Worlds.{Cluster, World, Event, accepted, node_after, world}
@@ -42,27 +42,27 @@ under_cells name key term count ops e = λ i.
     }
 
 rights_mean : (i : ℕ) (ops : List Operation) (name : List ℕ) (key : KeyValue) (term count amount : ℕ) → (fold ops).key name ≡ Some key → has_rights_of i (fold ops) name key term amount (Some count) ≡ true →
-    gone (cells name key term count ops) i + amount ≤ given (cells name key term count ops) i
+    gone_from (cells name key term count ops) i + amount ≤ given_to (cells name key term count ops) i
 rights_mean i ops name key term count amount e h =
-    subst (λ (b : Budget). gone b i + amount ≤ given b i) (under_cells name key term count ops e) (leb-true _ _ h)
+    subst (λ (b : Budget). gone_from b i + amount ≤ given_to b i) (under_cells name key term count ops e) (leb-true _ _ h)
 
 -- ---- what a step takes was there
 
 abbrev taken_by : ℕ → Node → Option Asked → List ℕ → List ℕ → KeyValue → ℕ → ℕ
 taken_by i n a words name key term = sum_others numbers i (amount_moved n a name key term) + acted (stamp_of key) term i n a words
 
-nothing_taken : (i : ℕ) (b : Budget) (f : ℕ → ℕ) (t : ℕ) → ((j : ℕ) → f j ≡ 0) → t ≡ 0 → gone b i ≤ given b i → gone b i + (sum_others numbers i f + t) ≤ given b i
+nothing_taken : (i : ℕ) (b : Budget) (f : ℕ → ℕ) (t : ℕ) → ((j : ℕ) → f j ≡ 0) → t ≡ 0 → gone_from b i ≤ given_to b i → gone_from b i + (sum_others numbers i f + t) ≤ given_to b i
 nothing_taken i b f t h e l =
     let none = sum_others-zero numbers i f h in
     omega (arith, none, e, l)
 
-pass_taken : (i : ℕ) (ops : List Operation) (name other : List ℕ) (key : KeyValue) (term count : ℕ) → count_of key term ≡ Some count → OneHere (fold ops) name key → gone (cells name key term count ops) i ≤ given (cells name key term count ops) i →
-    (o : Outcome) → IsOutcome i (fold ops) other o → gone (cells name key term count ops) i + (sum_others numbers i (λ j. 0) + cond (is_act_of (stamp_of key) term (passed_as o)) 1 0) ≤ given (cells name key term count ops) i
+pass_taken : (i : ℕ) (ops : List Operation) (name other : List ℕ) (key : KeyValue) (term count : ℕ) → count_of key term ≡ Some count → OneHere (fold ops) name key → gone_from (cells name key term count ops) i ≤ given_to (cells name key term count ops) i →
+    (o : Outcome) → IsOutcome i (fold ops) other o → gone_from (cells name key term count ops) i + (sum_others numbers i (λ j. 0) + cond (is_act_of (stamp_of key) term (passed_as o)) 1 0) ≤ given_to (cells name key term count ops) i
 pass_taken i ops name other key term count counted one l NotSet is = nothing_taken i (cells name key term count ops) (λ j. 0) 0 (λ j. refl) refl l
 pass_taken i ops name other key term count counted one l (Nothing k) is = nothing_taken i (cells name key term count ops) (λ j. 0) 0 (λ j. refl) refl l
 pass_taken i ops name other key term count counted one l (Triggered k t c task) is = at (k.clock == key.clock && (k.node == key.node && (t == term))) refl
   where
-    at : (b : Bool) → (k.clock == key.clock && (k.node == key.node && (t == term))) ≡ b → gone (cells name key term count ops) i + (sum_others numbers i (λ j. 0) + cond b 1 0) ≤ given (cells name key term count ops) i
+    at : (b : Bool) → (k.clock == key.clock && (k.node == key.node && (t == term))) ≡ b → gone_from (cells name key term count ops) i + (sum_others numbers i (λ j. 0) + cond b 1 0) ≤ given_to (cells name key term count ops) i
     at false f = nothing_taken i (cells name key term count ops) (λ j. 0) 0 (λ j. refl) refl l
     at true f =
         let same = same_call i (fold ops) other name k key t term c one is f in
@@ -74,9 +74,9 @@ pass_taken i ops name other key term count counted one l (Triggered k t c task) 
         let none = sum_others-zero numbers i (λ j. 0) (λ j. refl) in
         omega (arith, enough, none)
 
-shift_taken : (i : ℕ) (ops : List Operation) (name other : List ℕ) (key : KeyValue) (term count t to amount : ℕ) → count_of key term ≡ Some count → gone (cells name key term count ops) i ≤ given (cells name key term count ops) i →
+shift_taken : (i : ℕ) (ops : List Operation) (name other : List ℕ) (key : KeyValue) (term count t to amount : ℕ) → count_of key term ≡ Some count → gone_from (cells name key term count ops) i ≤ given_to (cells name key term count ops) i →
     ((k : KeyValue) → (fold ops).key other ≡ Some k → has_rights_of i (fold ops) other k t amount (count_of k t) ≡ true) → (k : Option KeyValue) → (fold ops).key other ≡ k →
-    gone (cells name key term count ops) i + sum_others numbers i (λ j. cond (bytes_eq other name && (t == term && (to == j && is_key key k))) amount 0) ≤ given (cells name key term count ops) i
+    gone_from (cells name key term count ops) i + sum_others numbers i (λ j. cond (bytes_eq other name && (t == term && (to == j && is_key key k))) amount 0) ≤ given_to (cells name key term count ops) i
 shift_taken i ops name other key term count t to amount counted l may None e =
     let none = sum_others-zero numbers i (λ j. cond (bytes_eq other name && (t == term && (to == j && false))) amount 0) (λ j. zero_at (bytes_eq other name && (t == term && (to == j && false))) (and_false (bytes_eq other name) (t == term) (to == j))) in
     omega (arith, none, l)
@@ -97,7 +97,7 @@ shift_taken i ops name other key term count t to amount counted l may (Some k) e
     at_most true = omega arith
     at_most false = omega arith
 
-    at : (b : Bool) → (bytes_eq other name && (t == term && same_key k key)) ≡ b → gone (cells name key term count ops) i + sum_others numbers i amounts ≤ given (cells name key term count ops) i
+    at : (b : Bool) → (bytes_eq other name && (t == term && same_key k key)) ≡ b → gone_from (cells name key term count ops) i + sum_others numbers i amounts ≤ given_to (cells name key term count ops) i
     at false f =
         let none = sum_others-zero numbers i amounts (λ j. zero_at _ (λ h.
         let p = and_parts (bytes_eq other name) _ h in
@@ -122,23 +122,23 @@ shift_taken i ops name other key term count t to amount counted l may (Some k) e
         ne (sym (eqb-true to j r.0)))) (at_most _) in
         omega (arith, enough, some)
 
-step_taken : (c : Cluster) (w : World) (e : Event) (i : ℕ) (a : Option Asked) → IsAgreed c w e i a → (name : List ℕ) (key : KeyValue) (term count : ℕ) → count_of key term ≡ Some count → OneHere (shown (w.node i)) name key →
-    gone (cells name key term count (w.node i).ops) i ≤ given (cells name key term count (w.node i).ops) i →
-    gone (cells name key term count (w.node i).ops) i + taken_by i (w.node i) a e.words name key term ≤ given (cells name key term count (w.node i).ops) i
+step_taken : (c : Cluster) (w : World) (e : Event) (i : ℕ) (a : Option Asked) → IsAgreed c w e i a → (name : List ℕ) (key : KeyValue) (term count : ℕ) → count_of key term ≡ Some count → OneHere (state_shown (w.node i)) name key →
+    gone_from (cells name key term count (w.node i).ops) i ≤ given_to (cells name key term count (w.node i).ops) i →
+    gone_from (cells name key term count (w.node i).ops) i + taken_by i (w.node i) a e.words name key term ≤ given_to (cells name key term count (w.node i).ops) i
 step_taken c w e i None g name key term count counted one l = nothing_taken i (cells name key term count (w.node i).ops) (λ j. 0) 0 (λ j. refl) refl l
 step_taken c w e i (Some (asks.Pass other)) g name key term count counted one l =
-    let o = outcome_of i (shown (w.node i)) other e.words in
-    subst (λ (p : Passed). gone (cells name key term count (w.node i).ops) i + (sum_others numbers i (λ j. 0) + cond (is_act_of (stamp_of key) term p) 1 0) ≤ given (cells name key term count (w.node i).ops) i) (sym o.reply)
+    let o = outcome_of i (state_shown (w.node i)) other e.words in
+    subst (λ (p : Passed). gone_from (cells name key term count (w.node i).ops) i + (sum_others numbers i (λ j. 0) + cond (is_act_of (stamp_of key) term p) 1 0) ≤ given_to (cells name key term count (w.node i).ops) i) (sym o.reply)
     (pass_taken i (w.node i).ops name other key term count counted one l o.outcome o.is)
 step_taken c w e i (Some (asks.Shift other t to amount)) g name key term count counted one l =
-    let enough = shift_taken i (w.node i).ops name other key term count t to amount counted l (shifted_is _ _ (w.node i) other t to amount e.words g).may ((shown (w.node i)).key other) refl in
+    let enough = shift_taken i (w.node i).ops name other key term count t to amount counted l (shifted_is _ _ (w.node i) other t to amount e.words g).may ((state_shown (w.node i)).key other) refl in
     omega (arith, enough)
 step_taken c w e i (Some ask) g name key term count counted one l = nothing_taken i (cells name key term count (w.node i).ops) (λ j. 0) 0 (λ j. refl) refl l
 
 -- ---- own rights are never negative
 
 pub solvent : (c : Cluster) (es : List Event) → IsSchedule c es → (name : List ℕ) (key : KeyValue) (term count : ℕ) → count_of key term ≡ Some count → OneStamp c es name key → (i : ℕ) →
-    gone (cells name key term count ((world c es).node i).ops) i ≤ given (cells name key term count ((world c es).node i).ops) i
+    gone_from (cells name key term count ((world c es).node i).ops) i ≤ given_to (cells name key term count ((world c es).node i).ops) i
 solvent c [] s name key term count counted one i =
     let none = sum_others-zero numbers i (λ j. 0) (λ j. refl) in
     omega (arith, none)
@@ -170,7 +170,7 @@ is_key-some key o e = ap (is_key key) e ∙ same_key-refl key
 
 -- where no key is issued or delivered, each key is as it was
 kept_key : (i : ℕ) (n : Node) (a : Option Asked) (words name : List ℕ) → ((op : Operation) → IsIn op (keys_by i n a) → ⊥) → ((op : Operation) → IsIn op (node_after i n a words).ops → IsIn op (ops_issued i n a words) ⊎ IsIn op n.ops) →
-    (shown (node_after i n a words)).key name ≡ (shown n).key name
+    (state_shown (node_after i n a words)).key name ≡ (state_shown n).key name
 unfolding fold
 kept_key i n a words name no_keys from = KeyUpto-antisym _ _
     (key_of-least name (key_of name n.ops) (node_after i n a words).ops (λ op h. ⊎_elim
@@ -210,20 +210,20 @@ shift_moves v name other key term t to amount j not k e = at (bytes_eq other nam
         let r = and_parts (to == j) _ q.1 in
         absurd (not (subst (λ m. v.key m ≡ Some key) (bytes_eq-true other name p.0) (e ∙ is_key-of key k r.1)))
 
-takes_nothing : (i : ℕ) (n : Node) (a : Option Asked) (words name : List ℕ) (key : KeyValue) (term : ℕ) → OneHere (shown n) name key → ((shown (node_after i n a words)).key name ≡ Some key → ⊥) → TakesNothing i n a words name key term
+takes_nothing : (i : ℕ) (n : Node) (a : Option Asked) (words name : List ℕ) (key : KeyValue) (term : ℕ) → OneHere (state_shown n) name key → ((state_shown (node_after i n a words)).key name ≡ Some key → ⊥) → TakesNothing i n a words name key term
 unfolding after
 takes_nothing i n None words name key term one not = record { moves = λ j. refl; spends = refl }
 takes_nothing i n (Some (asks.Pass other)) words name key term one not =
     let kept = kept_key i n (Some (asks.Pass other)) words name (λ op h. h) (λ op h. IsIn-append_cases op _ _ h) in
-    let o = outcome_of i (shown n) other words in
+    let o = outcome_of i (state_shown n) other words in
     record {
       moves = λ j. refl;
-      spends = ap (λ (p : Passed). cond (is_act_of (stamp_of key) term p) 1 0) o.reply ∙ pass_spends i (shown n) name other key term one (λ u. not (kept ∙ u)) o.outcome o.is;
+      spends = ap (λ (p : Passed). cond (is_act_of (stamp_of key) term p) 1 0) o.reply ∙ pass_spends i (state_shown n) name other key term one (λ u. not (kept ∙ u)) o.outcome o.is;
     }
 takes_nothing i n (Some (asks.Shift other t to amount)) words name key term one not =
     let kept = kept_key i n (Some (asks.Shift other t to amount)) words name (λ op h. h) (λ op h. IsIn-append_cases op _ _ h) in
     record {
-      moves = λ j. shift_moves (shown n) name other key term t to amount j (λ u. not (kept ∙ u)) ((shown n).key other) refl;
+      moves = λ j. shift_moves (state_shown n) name other key term t to amount j (λ u. not (kept ∙ u)) ((state_shown n).key other) refl;
       spends = refl;
     }
 takes_nothing i n (Some ask) words name key term one not = record { moves = λ j. refl; spends = refl }
@@ -261,19 +261,19 @@ balance c (e ∷ es) s name key term count counted one i = at (is_under c (e ∷
     at true u before =
         let b : Budget = budget v name term key.node count in
         let under = under_cells name key term count ops (is_key-of key (v.key name) u) in
-        let solv : gone b i ≤ given b i = subst (λ (d : Budget). gone d i ≤ given d i) (sym under) (solvent c (e ∷ es) s name key term count counted one i) in
-        let gone_is : gone b i ≡ gone (cells name key term count ops) i = ap (λ (d : Budget). gone d i) under in
+        let solv : gone_from b i ≤ given_to b i = subst (λ (d : Budget). gone_from d i ≤ given_to d i) (sym under) (solvent c (e ∷ es) s name key term count counted one i) in
+        let gone_is : gone_from b i ≡ gone_from (cells name key term count ops) i = ap (λ (d : Budget). gone_from d i) under in
         let out : sum_others numbers i (λ j. number_at (Shifts name key term i j) ops) ≡ sum_others numbers i (λ j. moved c (e ∷ es) name key term i j) =
         sum_others-same numbers i _ _ (λ j. own_shifts c (e ∷ es) s name key term i j) in
         let spent : number_at (Execs name key term i) ops ≡ executions c (e ∷ es) (stamp_of key) term i = own_execs c (e ∷ es) s name key term count counted one i in
         let came : sum_others numbers i (λ j. seen c (e ∷ es) name key term j i) ≡ sum_others numbers i (λ j. v.shifts name term j i) =
         sum_others-same numbers i _ _ (λ j. ap (λ t. cond t (v.shifts name term j i) (seen c es name key term j i)) u) in
-        let gone_now : gone b i ≡ sum_others numbers i (λ j. moved c (e ∷ es) name key term i j) + executions c (e ∷ es) (stamp_of key) term i = gone_is ∙ (λ r. out r + spent r) in
-        let given_now : given b i ≡ cond (i == key.node) count 0 + sum_others numbers i (λ j. seen c (e ∷ es) name key term j i) = ap (λ x. cond (i == key.node) count 0 + x) (sym came) in
+        let gone_now : gone_from b i ≡ sum_others numbers i (λ j. moved c (e ∷ es) name key term i j) + executions c (e ∷ es) (stamp_of key) term i = gone_is ∙ (λ r. out r + spent r) in
+        let given_now : given_to b i ≡ cond (i == key.node) count 0 + sum_others numbers i (λ j. seen c (e ∷ es) name key term j i) = ap (λ x. cond (i == key.node) count 0 + x) (sym came) in
         record {
-          rights = given b i - gone b i;
+          rights = given_to b i - gone_from b i;
           is = ap (λ t. cond t (rights b i) (held c es name key term count i)) u ∙ int_less _ _ solv;
-          adds_up = ap (λ x. given b i - gone b i + x) (sym gone_now) ∙ back _ _ solv ∙ given_now;
+          adds_up = ap (λ x. given_to b i - gone_from b i + x) (sym gone_now) ∙ back _ _ solv ∙ given_now;
         }
     at false u before =
         let one_then = one_before c e es name key one in

@@ -14,8 +14,8 @@ use Rattle.replica_state.proofs.Orders.{bytes_eq-true}
 use Rattle.replica_state.proofs.Sets.{IsIn-append_left, IsIn-append_right, IsIn-append_cases, Carries, key_of-found}
 use Rattle.node_core.specs.Asks.{Asked, Message}
 use Rattle.node_core.specs.Asks as asks
-use Rattle.node_core.specs.Nodes.{Node, shown}
-use Rattle.node_core.specs.Steps.{after, settings, issued, new_key, points_in, shift_under}
+use Rattle.node_core.specs.Nodes.{Node, state_shown}
+use Rattle.node_core.specs.Steps.{after, settings, operations_issued, new_key, points_in, shift_under}
 use Rattle.cluster_model.specs.Worlds.{Cluster, World, Event, accepted, node_after, world}
 use Rattle.cluster_model.specs.Schedules.{Allows, IsSchedule}
 use Rattle.cluster_model.specs.Histories.{state_of, ops_issued, keys_by, keys_issued, IsIssued}
@@ -35,7 +35,7 @@ carried_name name n key k h = at (bytes_eq n name) (bytes_eq-true n name) h
 none_carried : (name : List ℕ) (key : KeyValue) (op other : Operation) → op ≡ other → key_in name other ≡ None → key_in name op ≡ Some key → ⊥
 none_carried name key op other e n c = let impossible : ◌≡◌ {A = Option KeyValue} None (Some key) = sym n ∙ sym (ap (key_in name) e) ∙ c in cc
 
-issued_carries : (name : List ℕ) (key : KeyValue) (i clock : ℕ) (all : List (List ℕ × Option (List ℕ))) (op : Operation) → IsIn op (issued i clock all) → key_in name op ≡ Some key → IsIn (Set name key) (issued i clock all)
+issued_carries : (name : List ℕ) (key : KeyValue) (i clock : ℕ) (all : List (List ℕ × Option (List ℕ))) (op : Operation) → IsIn op (operations_issued i clock all) → key_in name op ≡ Some key → IsIn (Set name key) (operations_issued i clock all)
 issued_carries name key i clock [] op h c = absurd h
 issued_carries name key i clock (setting ∷ rest) op (inl e) c =
     let parts = carried_name name setting.0 key (new_key i clock setting.1) (sym (ap (key_in name) e) ∙ c) in
@@ -65,14 +65,14 @@ shift_carries i v other name term to amount key (Some k) u op (inr h) c = absurd
 
 -- what a node issues carries a new key, or the key that the node holds
 pub own_carries : (i : ℕ) (n : Node) (a : Option Asked) (words name : List ℕ) (key : KeyValue) (op : Operation) → IsIn op (ops_issued i n a words) → key_in name op ≡ Some key →
-    IsIn (Set name key) (keys_by i n a) ⊎ ((shown n).key name ≡ Some key)
+    IsIn (Set name key) (keys_by i n a) ⊎ ((state_shown n).key name ≡ Some key)
 own_carries i n None words name key op h c = absurd h
 own_carries i n (Some (asks.Deliver read)) words name key op h c = absurd h
 own_carries i n (Some (asks.Emit to versions chosen)) words name key op h c = absurd h
 own_carries i n (Some (asks.Pass other)) words name key op h c =
-    let o = outcome_of i (shown n) other words in
-    inr (pass_carries i (shown n) other name key o.outcome o.is op (subst (λ os. IsIn op os) o.ops h) c)
-own_carries i n (Some (asks.Shift other term to amount)) words name key op h c = inr (shift_carries i (shown n) other name term to amount key ((shown n).key other) refl op h c)
+    let o = outcome_of i (state_shown n) other words in
+    inr (pass_carries i (state_shown n) other name key o.outcome o.is op (subst (λ os. IsIn op os) o.ops h) c)
+own_carries i n (Some (asks.Shift other term to amount)) words name key op h c = inr (shift_carries i (state_shown n) other name term to amount key ((state_shown n).key other) refl op h c)
 own_carries i n (Some (asks.Set other text)) words name key op h c = inl (issued_carries name key i n.marks.clock (settings (asks.Set other text)) op h c)
 own_carries i n (Some (asks.Remove other)) words name key op h c = inl (issued_carries name key i n.marks.clock (settings (asks.Remove other)) op h c)
 own_carries i n (Some (asks.Load text)) words name key op h c = inl (issued_carries name key i n.marks.clock (settings (asks.Load text)) op h c)
@@ -132,7 +132,7 @@ pub record IsNew (i low high : ℕ) (key : KeyValue) : Type 0 where
 first_key : (i clock : ℕ) (setting : List ℕ × Option (List ℕ)) (name : List ℕ) (key : KeyValue) → Set name key ≡ Set setting.0 (new_key i clock setting.1) → (name ≡ setting.0) × (key ≡ new_key i clock setting.1)
 first_key i clock setting name key e = (cc, cc)
 
-issued_new : (i clock : ℕ) (all : List (List ℕ × Option (List ℕ))) (name : List ℕ) (key : KeyValue) → IsIn (Set name key) (issued i clock all) → IsNew i clock (clock + length all) key
+issued_new : (i clock : ℕ) (all : List (List ℕ × Option (List ℕ))) (name : List ℕ) (key : KeyValue) → IsIn (Set name key) (operations_issued i clock all) → IsNew i clock (clock + length all) key
 issued_new i clock [] name key h = absurd h
 issued_new i clock (setting ∷ rest) name key (inl e) =
     let keys = (first_key i clock setting name key e).1 in
@@ -230,25 +230,25 @@ one_at_most : (b : Bool) → cond b 1 0 ≤ 1
 one_at_most true = omega arith
 one_at_most false = omega arith
 
-issued_once : (stamp : Stamp) (i clock : ℕ) (all : List (List ℕ × Option (List ℕ))) → count_by (has_stamp stamp) (issued i clock all) ≤ 1
+issued_once : (stamp : Stamp) (i clock : ℕ) (all : List (List ℕ × Option (List ℕ))) → count_by (has_stamp stamp) (operations_issued i clock all) ≤ 1
 issued_once stamp i clock [] = omega arith
 issued_once stamp i clock (setting ∷ rest) = at (cases_eq (clock + 1) stamp.clock) (issued_once stamp i (clock + 1) rest)
   where
     first : Operation
     first = Set setting.0 (new_key i clock setting.1)
 
-    at : (clock + 1 ≡ stamp.clock) ⊎ (clock + 1 ≡ stamp.clock → ⊥) → count_by (has_stamp stamp) (issued i (clock + 1) rest) ≤ 1 → count_by (has_stamp stamp) (issued i clock (setting ∷ rest)) ≤ 1
+    at : (clock + 1 ≡ stamp.clock) ⊎ (clock + 1 ≡ stamp.clock → ⊥) → count_by (has_stamp stamp) (operations_issued i (clock + 1) rest) ≤ 1 → count_by (has_stamp stamp) (operations_issued i clock (setting ∷ rest)) ≤ 1
     at (inl same) later =
-        let none = none_has stamp (issued i (clock + 1) rest) (λ name key h c d. let above = (issued_new i (clock + 1) rest name key h).above in omega arith) in
+        let none = none_has stamp (operations_issued i (clock + 1) rest) (λ name key h c d. let above = (issued_new i (clock + 1) rest name key h).above in omega arith) in
         let one = one_at_most (has_stamp stamp first) in
-        let whole = count_cons (has_stamp stamp) first (issued i (clock + 1) rest) in
+        let whole = count_cons (has_stamp stamp) first (operations_issued i (clock + 1) rest) in
         omega arith
     at (inr other) later =
         let is_not : has_stamp stamp first ≡ false = has_not stamp first (λ name key e c d.
         let clocks : key.clock ≡ clock + 1 = ap (λ (k : KeyValue). k.clock) (first_key i clock setting name key e).1 in
         other (sym clocks ∙ c)) in
         let zero : ◌≡◌ {A = ℕ} (cond (has_stamp stamp first) 1 0) 0 = ap (λ b. cond b 1 0) is_not in
-        let whole = count_cons (has_stamp stamp) first (issued i (clock + 1) rest) in
+        let whole = count_cons (has_stamp stamp) first (operations_issued i (clock + 1) rest) in
         omega arith
 
 keys_once : (stamp : Stamp) (i : ℕ) (n : Node) (a : Option Asked) → count_by (has_stamp stamp) (keys_by i n a) ≤ 1

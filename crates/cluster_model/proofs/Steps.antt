@@ -13,9 +13,9 @@ use Rattle.delta_exchange.specs.declared.fault.WireFault.{WireFault}
 use Rattle.node_core.specs.declared.fault.NodeFault.{NodeFault}
 use Rattle.node_core.specs.Asks.{Asked, Message, Versions}
 use Rattle.node_core.specs.Asks as asks
-use Rattle.node_core.specs.Nodes.{Node, shown, setting_of}
-use Rattle.node_core.specs.Passes.{ops_of_pass, triggered, execs_of_choice, execs_of_term, next_hit}
-use Rattle.node_core.specs.Steps.{after, added, settings, issued, shift_under, told}
+use Rattle.node_core.specs.Nodes.{Node, state_shown, setting_of}
+use Rattle.node_core.specs.Passes.{ops_of_pass, triggered_term, execs_of_choice, execs_of_term, next_hit}
+use Rattle.node_core.specs.Steps.{after, operations_added, settings, operations_issued, shift_under, message_in}
 use Rattle.node_core.specs.Refusals.{refusal_at}
 use Rattle.node_core.specs.Traces.{MayTell}
 use Rattle.cluster_model.specs.Worlds.{Cluster, World, Event, config_of, is_accepted, accepted, node_after, sent, happens, world}
@@ -65,7 +65,7 @@ agreed c w e i = at (accepted c w e i) refl
     at (Some ask) p = (asked_is c w e i ask p).agreed
 
 -- what is delivered was sent
-pub delivered_was_sent : (c : Cluster) (w : World) (e : Event) (i : ℕ) (read : Result Message WireFault) → Allows w e.node (accepted c w e e.node) → accepted c w e i ≡ Some (asks.Deliver read) → IsIn (told read) w.messages
+pub delivered_was_sent : (c : Cluster) (w : World) (e : Event) (i : ℕ) (read : Result Message WireFault) → Allows w e.node (accepted c w e e.node) → accepted c w e i ≡ Some (asks.Deliver read) → IsIn (message_in read) w.messages
 delivered_was_sent c w e i read allowed h =
     let here = (asked_is c w e i (asks.Deliver read) h).here in
     subst (λ (a : Option Asked). Allows w i a) h (subst (λ j. Allows w j (accepted c w e j)) (sym here) allowed)
@@ -83,23 +83,23 @@ pub gains : (i : ℕ) (n : Node) (a : Option Asked) (words : List ℕ) (op : Ope
 unfolding after
 gains i n None words op h = inr (inr h)
 gains i n (Some (asks.Deliver read)) words op h = ⊎_elim (λ k. inr (inl k)) (λ k. inr (inr k)) (IsIn-append_cases op _ _ h)
-gains i n (Some ask) words op h = ⊎_elim (λ k. inl k) (λ k. inr (inr k)) (IsIn-append_cases op (added i n ask words) n.ops h)
+gains i n (Some ask) words op h = ⊎_elim (λ k. inl k) (λ k. inr (inr k)) (IsIn-append_cases op (operations_added i n ask words) n.ops h)
 
 pub keeps : (i : ℕ) (n : Node) (a : Option Asked) (words : List ℕ) (op : Operation) → IsIn op n.ops → IsIn op (node_after i n a words).ops
 unfolding after
 keeps i n None words op h = h
-keeps i n (Some ask) words op h = IsIn-append_right op (added i n ask words) n.ops h
+keeps i n (Some ask) words op h = IsIn-append_right op (operations_added i n ask words) n.ops h
 
 pub holds_issued : (i : ℕ) (n : Node) (a : Option Asked) (words : List ℕ) (op : Operation) → IsIn op (ops_issued i n a words) → IsIn op (node_after i n a words).ops
 unfolding after
 holds_issued i n None words op h = absurd h
 holds_issued i n (Some (asks.Deliver read)) words op h = absurd h
-holds_issued i n (Some ask) words op h = IsIn-append_left op (added i n ask words) n.ops h
+holds_issued i n (Some ask) words op h = IsIn-append_left op (operations_added i n ask words) n.ops h
 
 pub holds_delivered : (i : ℕ) (n : Node) (a : Option Asked) (words : List ℕ) (op : Operation) → IsIn op (ops_delivered a) → IsIn op (node_after i n a words).ops
 unfolding after
 holds_delivered i n None words op h = absurd h
-holds_delivered i n (Some (asks.Deliver read)) words op h = IsIn-append_left op (told read).ops n.ops h
+holds_delivered i n (Some (asks.Deliver read)) words op h = IsIn-append_left op (message_in read).ops n.ops h
 holds_delivered i n (Some ask) words op h = absurd h
 
 -- ---- a node's set is what it issued and what was delivered to it
@@ -143,14 +143,14 @@ abbrev pub writer : Operation → ℕ
 writer (Set name key) = key.node
 writer (Count cell number) = writer_of_cell cell
 
-issued_by : (i clock : ℕ) (settings : List (List ℕ × Option (List ℕ))) (op : Operation) → IsIn op (issued i clock settings) → writer op ≡ i
+issued_by : (i clock : ℕ) (settings : List (List ℕ × Option (List ℕ))) (op : Operation) → IsIn op (operations_issued i clock settings) → writer op ≡ i
 issued_by i clock [] op h = absurd h
 issued_by i clock (setting ∷ rest) op (inl e) = ap writer e
 issued_by i clock (setting ∷ rest) op (inr h) = issued_by i (clock + 1) rest op h
 
 pass_by : (i : ℕ) (v : State) (name words : List ℕ) (setting : Option (KeyValue × List TermValue)) (op : Operation) → IsIn op (ops_of_pass i v name words setting) → writer op ≡ i
 pass_by i v name words None op h = absurd h
-pass_by i v name words (Some setting) op h = at (triggered i v name words setting) h
+pass_by i v name words (Some setting) op h = at (triggered_term i v name words setting) h
   where
     counted : (term : ℕ) (count : Option ℕ) → IsIn op (execs_of_term i v name setting.0 term count ++ next_hit i v name ∷ []) → writer op ≡ i
     counted term None (inl e) = ap writer e
@@ -173,8 +173,8 @@ pub own_ops : (i : ℕ) (n : Node) (a : Option Asked) (words : List ℕ) (op : O
 own_ops i n None words op h = absurd h
 own_ops i n (Some (asks.Deliver read)) words op h = absurd h
 own_ops i n (Some (asks.Emit to versions chosen)) words op h = absurd h
-own_ops i n (Some (asks.Pass name)) words op h = pass_by i (shown n) name words (setting_of (shown n) name) op h
-own_ops i n (Some (asks.Shift name term to amount)) words op h = shift_by i (shown n) name term to amount ((shown n).key name) op h
+own_ops i n (Some (asks.Pass name)) words op h = pass_by i (state_shown n) name words (setting_of (state_shown n) name) op h
+own_ops i n (Some (asks.Shift name term to amount)) words op h = shift_by i (state_shown n) name term to amount ((state_shown n).key name) op h
 own_ops i n (Some (asks.Set name text)) words op h = issued_by i n.marks.clock (settings (asks.Set name text)) op h
 own_ops i n (Some (asks.Remove name)) words op h = issued_by i n.marks.clock (settings (asks.Remove name)) op h
 own_ops i n (Some (asks.Load text)) words op h = issued_by i n.marks.clock (settings (asks.Load text)) op h
@@ -190,7 +190,7 @@ delivered_from c w e i P allowed each op h = at (accepted c w e i) refl h
   where
     at : (a : Option Asked) → accepted c w e i ≡ a → IsIn op (ops_delivered a) → P op
     at None p q = absurd q
-    at (Some (asks.Deliver read)) p q = each (told read) (delivered_was_sent c w e i read allowed p) op q
+    at (Some (asks.Deliver read)) p q = each (message_in read) (delivered_was_sent c w e i read allowed p) op q
     at (Some ask) p q = absurd q
 
 -- what a message carries, its sender knew

@@ -10,22 +10,22 @@ use Rattle.replica_state.specs.Operations.{Operation, Set, IsIn}
 use Rattle.replica_state.specs.States.{State, budget}
 use Rattle.node_core.specs.Asks.{Asked, Answered, Passed, Act, Call}
 use Rattle.node_core.specs.Asks as asks
-use Rattle.node_core.specs.Nodes.{Node, shown}
-use Rattle.node_core.specs.Steps.{added, settings, issued, told}
+use Rattle.node_core.specs.Nodes.{Node, state_shown}
+use Rattle.node_core.specs.Steps.{operations_added, settings, operations_issued, message_in}
 use Rattle.cluster_model.specs.Worlds.{Cluster, Event, accepted, world}
 
 -- the state of node i
 abbrev pub state_of : Cluster → List Event → ℕ → State
-state_of c es i = shown ((world c es).node i)
+state_of c es i = state_shown ((world c es).node i)
 
 -- the operations that node i issues by what it accepts, and those that come to it from others
 abbrev pub ops_issued : ℕ → Node → Option Asked → List ℕ → List Operation
 ops_issued i n None words = []
 ops_issued i n (Some (asks.Deliver read)) words = []
-ops_issued i n (Some ask) words = added i n ask words
+ops_issued i n (Some ask) words = operations_added i n ask words
 
 abbrev pub ops_delivered : Option Asked → List Operation
-ops_delivered (Some (asks.Deliver read)) = (told read).ops
+ops_delivered (Some (asks.Deliver read)) = (message_in read).ops
 ops_delivered _ = []
 
 abbrev pub all_issued : Cluster → List Event → ℕ → List Operation
@@ -43,7 +43,7 @@ all_learnt c es i = all_issued c es i ++ all_delivered c es i
 -- the keys that are issued, each with its name
 abbrev pub keys_by : ℕ → Node → Option Asked → List Operation
 keys_by i n None = []
-keys_by i n (Some ask) = issued i n.marks.clock (settings ask)
+keys_by i n (Some ask) = operations_issued i n.marks.clock (settings ask)
 
 abbrev pub keys_issued : Cluster → List Event → List Operation
 keys_issued c [] = []
@@ -72,7 +72,7 @@ is_key key (Some other) = same_key other key
 -- the rights of a term that node i shifted to node j under the key: what its accepted shifts add up to
 abbrev pub amount_moved : Node → Option Asked → List ℕ → KeyValue → ℕ → ℕ → ℕ
 amount_moved n (Some (asks.Shift other k to amount)) name key term j =
-    if bytes_eq other name && (k == term && (to == j && is_key key ((shown n).key other))) then amount else 0
+    if bytes_eq other name && (k == term && (to == j && is_key key ((state_shown n).key other))) then amount else 0
 amount_moved n _ name key term j = 0
 
 abbrev pub moved : Cluster → List Event → List ℕ → KeyValue → ℕ → ℕ → ℕ → ℕ

@@ -5,7 +5,7 @@ use Rattle.replica_state.specs.Operations.{Cell, Hits, Operation, Set, Count, Is
 use Rattle.replica_state.specs.Folds.{key_in}
 use Rattle.node_core.specs.Asks.{Asked}
 use Rattle.node_core.specs.Asks as asks
-use Rattle.node_core.specs.Steps.{told}
+use Rattle.node_core.specs.Steps.{message_in}
 use Rattle.node_core.specs.Traces.{MayTell, SendsDelta}
 use Rattle.cluster_model.specs.Worlds.{Cluster, World, Event, accepted, world}
 
@@ -22,7 +22,7 @@ pub record MaySend (known chosen : List Operation) : Type 0 where
 -- that the sender hasn't heard of; and what is delivered was sent before
 abbrev pub Allows : World → ℕ → Option Asked → Type 0
 Allows w i (Some (asks.Emit to versions chosen)) = MayTell (w.node i).marks to versions × MaySend (w.node i).ops chosen
-Allows w i (Some (asks.Deliver read)) = IsIn (told read) w.messages
+Allows w i (Some (asks.Deliver read)) = IsIn (message_in read) w.messages
 Allows w i _ = Unit {0}
 
 -- each event, of which the last stands first, is allowed in the world after those before it

@@ -44,14 +44,14 @@ same_both false false f g = refl
 same_turned : (a b : KeyValue) → same_key a b ≡ same_key b a
 same_turned a b = same_both (same_key a b) (same_key b a) (λ h. true-same_key b a (sym (same_key-true a b h))) (λ h. true-same_key a b (sym (same_key-true b a h)))
 
-by_order : (o : Ordering) (s : Bool) (own told : ℕ) → s ≡ is_eq o → cond s (nat_lt own told) (not (is_le o)) ≡ ahead_by o own told
-by_order Less s own told h = ap (λ b. cond b (nat_lt own told) (not true)) h
-by_order Equal s own told h = ap (λ b. cond b (nat_lt own told) (not true)) h
-by_order Greater s own told h = ap (λ b. cond b (nat_lt own told) (not false)) h
+by_order : (o : Ordering) (s : Bool) (own number : ℕ) → s ≡ is_eq o → cond s (nat_lt own number) (not (is_le o)) ≡ ahead_by o own number
+by_order Less s own number h = ap (λ b. cond b (nat_lt own number) (not true)) h
+by_order Equal s own number h = ap (λ b. cond b (nat_lt own number) (not true)) h
+by_order Greater s own number h = ap (λ b. cond b (nat_lt own number) (not false)) h
 
-pub cell_ahead : (key : KeyValue) (own told : ℕ) (held : Option KeyValue) → is_cell_ahead key told own held ≡ ahead_by (standing key held) own told
-cell_ahead key own told None = refl
-cell_ahead key own told (Some other) = by_order (standing key (Some other)) (same_key other key) own told (same_turned other key ∙ same_key-cmp key other)
+pub cell_ahead : (key : KeyValue) (own number : ℕ) (held : Option KeyValue) → is_cell_ahead key number own held ≡ ahead_by (standing key held) own number
+cell_ahead key own number None = refl
+cell_ahead key own number (Some other) = by_order (standing key (Some other)) (same_key other key) own number (same_turned other key ∙ same_key-cmp key other)
 
 key_ahead : (i : ℕ) (v : State) (name : List ℕ) (key : KeyValue) (held : Option KeyValue) → v.key name ≡ held → is_ahead i v (Set name key) ≡ (key.node == i && is_gt (standing key held))
 key_ahead i v name key None h = rw h refl

@@ -15,13 +15,15 @@ use Rattle.delta_exchange.specs.Messages.{MessageValue, entry_value, operations_
 use Rattle.delta_exchange.specs.Spelling.{IsMessage}
 use Rattle.delta_exchange.proofs.LawfulLemmas.{told_lawful}
 use Rattle.delta_exchange.specs.declared.fault.WireFault.{WireFault}
-use Rattle.node_core.specs.declared.trace.Config.{Config}
+use Rattle.node_core.specs.declared.config.Config.{Config}
 use Rattle.node_core.specs.declared.fault.NodeFault.{NodeFault}
 use Rattle.node_core.specs.declared.fault.NodeFault.TheVariants as faults
-use Rattle.node_core.specs.Asks.{Message, Deliver, message_of}
-use Rattle.node_core.specs.Nodes.{Node, shown}
+use Rattle.node_core.specs.Asks.{Message, Deliver, message_of, message_read}
+use Rattle.node_core.specs.Nodes.{Node, state_shown}
 use Rattle.node_core.specs.Refusals.{is_ahead, overspends, too_many, refusal_at, bad_message}
-use Rattle.node_core.specs.Holds.{Holds, CanTell}
+use Rattle.node_core.specs.Room.{HasRoom}
+use Rattle.node_core.specs.Traces.{Kept, delivery_of, node_of, refusal}
+use Rattle.node_core.specs.Holds.{IsInStep}
 use Rattle.node_core.specs.Deliveries.{IsDelivery, is_overspent_below}
 use Rattle.node_core.proofs.Merged.{merged_names, overspends_told, changes_unless}
 
@@ -37,10 +39,10 @@ module _ (config : Config) (entries : ℕ) (n : Node) (room : entries < config.t
     not_for_me other = rw (has_room, is, other) refl
 
     module _ (mine : (m.to == config.node) ≡ true) where
-      pub own_ahead : list_any (is_ahead config.node (shown n)) m.ops ≡ true → refusal_at config entries n (Deliver read) [] ≡ Some faults.OwnAhead
+      pub own_ahead : list_any (is_ahead config.node (state_shown n)) m.ops ≡ true → refusal_at config entries n (Deliver read) [] ≡ Some faults.OwnAhead
       own_ahead ahead = rw (has_room, is, mine, ahead) refl
 
-      module _ (behind : list_any (is_ahead config.node (shown n)) m.ops ≡ false) where
+      module _ (behind : list_any (is_ahead config.node (state_shown n)) m.ops ≡ false) where
         pub ack_ahead : nat_lt n.marks.version m.ack ≡ true → refusal_at config entries n (Deliver read) [] ≡ Some faults.AckAhead
         ack_ahead high = rw (has_room, is, mine, behind, high) refl
 
@@ -59,61 +61,88 @@ module _ (config : Config) (entries : ℕ) (n : Node) (room : entries < config.t
                 let fits : too_many (fold (m.ops ++ n.ops)).names ≡ false = grind (arith, nat_tests, few) in
                 rw (has_room, is, mine, behind, known, within, fits) refl
 
+-- what a node has found when a message is read and is for it
+pub record Checked (k : Kept) (clock version : ℕ) (state : State) (bytes : List ℕ) (m : MessageValue) : Type 0 where
+  pub step : IsInStep k clock version state
+  pub room : HasRoom k
+  pub read : message_read k.config.nodes bytes ≡ Ok (message_of m)
+  pub spelled : IsMessage k.config.nodes m
+  pub mine : m.to ≡ k.config.node
+
+-- and what it finds of its own numbers in it
+pub record FindsOwn (k : Kept) (state : State) (m : MessageValue) (ahead : Bool) : Type 0 where
+  pub is : ahead ≡ list_any (is_ahead k.config.node state) (operations_in m)
+
+-- and, in the state of what the message tells, of the executions of its names
+pub record FindsExecutions (k : Kept) (state brought : State) (m : MessageValue) (over : Bool) : Type 0 where
+  pub entries : List NameEntry
+  pub are : map entry_value entries ≡ m.entries
+  pub brings : brought ≡ fold (operations_in m)
+  pub is : over ≡ list_any (λ e. is_overspent_below k.config.nodes state brought e.name) entries
+
 -- the same by what the node's code finds
-module _ (config : Config) (clock version : ℕ) (state : State) (entries : ℕ) (n : Node) (h : Holds config clock state entries n) (t : CanTell config version entries n) (room : entries < config.trace_cap) (read : Result Message WireFault) (m : MessageValue) (is : read ≡ Ok (message_of m))
-    (spelled : IsMessage config.nodes m) (mine : m.to ≡ config.node) (ahead : Bool) (ahead_is : ahead ≡ list_any (is_ahead config.node state) (operations_in m)) where
-  mine_is : (m.to == config.node) ≡ true
-  mine_is = eq-eqb m.to config.node mine
+module _ {k : Kept} {clock version : ℕ} {state : State} {bytes : List ℕ} {m : MessageValue} (x : Checked k clock version state bytes m) {ahead : Bool} (own : FindsOwn k state m ahead) where
+  abbrev n : Node
+  n = node_of k
 
-  ahead_of : ahead ≡ list_any (is_ahead config.node (shown n)) (operations_in m)
-  ahead_of = ahead_is ∙ sym (ap (λ (v : State). list_any (is_ahead config.node v) (operations_in m)) h.state_is)
+  mine_is : (m.to == k.config.node) ≡ true
+  mine_is = eq-eqb m.to k.config.node x.mine
 
-  pub refused_ahead : ahead ≡ true → refusal_at config entries n (Deliver read) [] ≡ Some faults.OwnAhead
-  refused_ahead so = own_ahead config entries n room read (message_of m) is mine_is (sym ahead_of ∙ so)
+  ahead_of : ahead ≡ list_any (is_ahead k.config.node (state_shown n)) (operations_in m)
+  ahead_of = own.is ∙ sym (ap (λ (v : State). list_any (is_ahead k.config.node v) (operations_in m)) x.step.0.state_is)
+
+  pub refused_ahead : ahead ≡ true → refusal k (delivery_of k bytes) [] ≡ Some faults.OwnAhead
+  refused_ahead so = own_ahead k.config (length k.trace) n x.room (message_read k.config.nodes bytes) (message_of m) x.read mine_is (sym ahead_of ∙ so)
 
   module _ (behind : ahead ≡ false) where
-    pub refused_ack : version < m.ack → refusal_at config entries n (Deliver read) [] ≡ Some faults.AckAhead
+    pub refused_ack : version < m.ack → refusal k (delivery_of k bytes) [] ≡ Some faults.AckAhead
     refused_ack high =
-        let at = t.version_is in
+        let at = x.step.1.version_is in
         let above : nat_lt n.marks.version m.ack ≡ true = grind (arith, nat_tests, at, high) in
-        ack_ahead config entries n room read (message_of m) is mine_is (sym ahead_of ∙ behind) above
+        ack_ahead k.config (length k.trace) n x.room (message_read k.config.nodes bytes) (message_of m) x.read mine_is (sym ahead_of ∙ behind) above
 
-    module _ (known : m.ack ≤ version) (brought : State) (brings : brought ≡ fold (operations_in m)) (es : List NameEntry) (are : map entry_value es ≡ m.entries) (over : Bool) (over_is : over ≡ list_any (λ e. is_overspent_below config.nodes state brought e.name) es) where
+    module _ (known : m.ack ≤ version) {brought : State} {over : Bool} (executions : FindsExecutions k state brought m over) where
       known_is : nat_lt n.marks.version m.ack ≡ false
-      known_is = let at = t.version_is in grind (arith, nat_tests, at, known)
+      known_is = let at = x.step.1.version_is in grind (arith, nat_tests, at, known)
 
       unfolded : 256 ≡ numbers
       unfolding numbers
       unfolded = refl
 
-      few_nodes : config.nodes ≤ numbers
-      few_nodes = let all = unfolded in let few = h.few in omega (arith, all, few)
+      few_nodes : k.config.nodes ≤ numbers
+      few_nodes = let all = unfolded in let few = x.step.0.few in omega (arith, all, few)
 
       over_of : over ≡ list_any (overspends (fold (operations_in m ++ n.ops))) (operations_in m)
       over_of =
-          over_is ∙ overspends_told config.nodes few_nodes (operations_in m) n.ops state brought (sym h.state_is) brings t.lawful (told_lawful config.nodes m spelled) es (ap (flat_map operations_of) (sym are))
+          executions.is ∙ overspends_told k.config.nodes few_nodes (operations_in m) n.ops state brought (sym x.step.0.state_is) executions.brings x.step.1.lawful
+          (told_lawful k.config.nodes m x.spelled) executions.entries (ap (flat_map operations_of) (sym executions.are))
 
-      pub refused_overspent : over ≡ true → refusal_at config entries n (Deliver read) [] ≡ Some faults.Overspent
-      refused_overspent so = overspent config entries n room read (message_of m) is mine_is (sym ahead_of ∙ behind) known_is (sym over_of ∙ so)
+      pub refused_overspent : over ≡ true → refusal k (delivery_of k bytes) [] ≡ Some faults.Overspent
+      refused_overspent so = overspent k.config (length k.trace) n x.room (message_read k.config.nodes bytes) (message_of m) x.read mine_is (sym ahead_of ∙ behind) known_is (sym over_of ∙ so)
 
-      module _ (within : over ≡ false) (names : ℕ) (names_are : names ≡ length (with_names brought.names state.names)) where
+      module _ (within : over ≡ false) {names : ℕ} (names_are : names ≡ length (with_names brought.names state.names)) where
         names_of_both : names ≡ length (fold (operations_in m ++ n.ops)).names
-        names_of_both = names_are ∙ merged_names (operations_in m) n.ops state brought (sym h.state_is) brings
+        names_of_both = names_are ∙ merged_names (operations_in m) n.ops state brought (sym x.step.0.state_is) executions.brings
 
-        pub refused_many : 256 < names → refusal_at config entries n (Deliver read) [] ≡ Some faults.TooManyPoints
-        refused_many many = let same = names_of_both in too_many_points config entries n room read (message_of m) is mine_is (sym ahead_of ∙ behind) known_is (sym over_of ∙ within) (omega (arith, same, many))
+        pub refused_many : 256 < names → refusal k (delivery_of k bytes) [] ≡ Some faults.TooManyPoints
+        refused_many many =
+            let same = names_of_both in
+            too_many_points k.config (length k.trace) n x.room (message_read k.config.nodes bytes) (message_of m) x.read mine_is (sym ahead_of ∙ behind) known_is (sym over_of ∙ within) (omega (arith, same, many))
 
-        pub delivery_accepted : names ≤ 256 → refusal_at config entries n (Deliver read) [] ≡ None
-        delivery_accepted few = let same = names_of_both in not_refused config entries n room read (message_of m) is mine_is (sym ahead_of ∙ behind) known_is (sym over_of ∙ within) (omega (arith, same, few))
+        pub delivery_accepted : names ≤ 256 → refusal k (delivery_of k bytes) [] ≡ None
+        delivery_accepted few =
+            let same = names_of_both in
+            not_refused k.config (length k.trace) n x.room (message_read k.config.nodes bytes) (message_of m) x.read mine_is (sym ahead_of ∙ behind) known_is (sym over_of ∙ within) (omega (arith, same, few))
 
-        pub delivery_is : names ≤ 256 → (below : Bool) → (IsTrue below ↔ IsBelow brought state) → (later : ℕ) → later ≡ clock_of (operations_in m) → IsDelivery config n read brought later (not below)
+        pub delivery_is : names ≤ 256 → (below : Bool) → (IsTrue below ↔ IsBelow brought state) → (later : ℕ) → later ≡ clock_of (operations_in m) →
+            IsDelivery k.config n (message_read k.config.nodes bytes) brought later (not below)
         delivery_is few below upto later last =
-            subst (λ r. IsDelivery config n r brought later (not below)) (sym is)
+            subst (λ r. IsDelivery k.config n r brought later (not below)) (sym x.read)
             (record {
-              state_is = brings;
+              state_is = executions.brings;
               clock_is = last;
-              changes_so = changes_unless (operations_in m) n.ops state brought (sym h.state_is) brings below upto ∙ sym (ap (λ (v : State). changes v (operations_in m)) h.state_is);
-              lawful = told_lawful config.nodes m spelled;
+              changes_so = changes_unless (operations_in m) n.ops state brought (sym x.step.0.state_is) executions.brings below upto ∙ sym (ap (λ (v : State). changes v (operations_in m)) x.step.0.state_is);
+              lawful = told_lawful k.config.nodes m x.spelled;
               behind = sym ahead_of ∙ behind;
               few_names = (let same = names_of_both in omega (arith, same, few));
             })

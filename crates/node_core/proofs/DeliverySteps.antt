@@ -3,10 +3,10 @@ use Rattle.std.proofs.Common.{◌≡◌, ℕ, ◌+◌, ◌<◌, ◌≤◌, max, 
 use Rattle.replica_state.specs.States.{State}
 use Rattle.replica_state.specs.Folds.{fold, clock_of}
 use Rattle.delta_exchange.specs.declared.fault.WireFault.{WireFault}
-use Rattle.node_core.specs.declared.trace.Config.{Config}
+use Rattle.node_core.specs.declared.config.Config.{Config}
 use Rattle.node_core.specs.Asks.{Message, Deliver, emit_of}
 use Rattle.node_core.specs.Nodes.{Node}
-use Rattle.node_core.specs.Steps.{after, told}
+use Rattle.node_core.specs.Steps.{after, message_in}
 use Rattle.node_core.specs.Holds.{Holds}
 use Rattle.node_core.specs.Deliveries.{IsDelivery}
 use Rattle.node_core.proofs.Overspent.{clock-append}
@@ -45,14 +45,14 @@ holds_emit config clock state len n to (Err fault) h room =
 
 -- a delivery leaves what the node itself wrote
 pub holds_delivered : (config : Config) (clock : ℕ) (state next : State) (len : ℕ) (n : Node) (read : Result Message WireFault) (brought : State) (later : ℕ) (changed : Bool) → Holds config clock state len n → len < config.trace_cap →
-    IsDelivery config n read brought later changed → next ≡ fold ((told read).ops ++ n.ops) → Holds config (max clock later) next (len + 1) (after config.node n (Deliver read) [])
+    IsDelivery config n read brought later changed → next ≡ fold ((message_in read).ops ++ n.ops) → Holds config (max clock later) next (len + 1) (after config.node n (Deliver read) [])
 unfolding after
 holds_delivered config clock state next len n read brought later changed h room d e =
     let same : fold n.ops ≡ state = h.state_is in
     let was : clock_of n.ops ≤ clock = h.carried in
     let at = h.clock_is in
     let late = d.clock_is in
-    let both = clock-append (told read).ops n.ops in
+    let both = clock-append (message_in read).ops n.ops in
     record {
       own = h.own;
       few = h.few;
@@ -63,13 +63,13 @@ holds_delivered config clock state next len n read brought later changed h room 
       carried = omega (arith, was, late, both);
       hits_few = λ q.
           let x = ap (λ (v : State). v.hits q config.node) e in
-          let y = own_hits_kept config.node (told read).ops n.ops d.behind q in
+          let y = own_hits_kept config.node (message_in read).ops n.ops d.behind q in
           let s = ap (λ (v : State). v.hits q config.node) same in
           let z = h.hits_few q in omega (arith, x, y, s, z);
       execs_few = λ q k.
           let x = ap (λ (v : State). v.execs q k config.node) e in
-          let y = own_execs_kept config.node (told read).ops n.ops d.behind q k in
+          let y = own_execs_kept config.node (message_in read).ops n.ops d.behind q k in
           let s = ap (λ (v : State). v.execs q k config.node) same in
           let z = h.execs_few q k in omega (arith, x, y, s, z);
-      own_rights = subst (λ (v : State). HasOwn v config.node) (sym e) (own_delivered config.node (told read).ops n.ops d.behind (subst (λ (v : State). HasOwn v config.node) (sym same) h.own_rights));
+      own_rights = subst (λ (v : State). HasOwn v config.node) (sym e) (own_delivered config.node (message_in read).ops n.ops d.behind (subst (λ (v : State). HasOwn v config.node) (sym same) h.own_rights));
     }

@@ -23,7 +23,7 @@ use Rattle.delta_exchange.specs.Wholes.{IsLawful, AreLawful}
 use Rattle.delta_exchange.proofs.LawfulLemmas.{keyed_with_more}
 use Rattle.node_core.specs.Outcomes.{execs_done, ops_done}
 use Rattle.node_core.specs.Passes.{next_hit, next_exec}
-use Rattle.node_core.specs.Steps.{new_key, issued, shift_under}
+use Rattle.node_core.specs.Steps.{new_key, operations_issued, shift_under}
 
 abbrev Settings : Type 0
 Settings = List (List ℕ × Option (List ℕ))
@@ -31,12 +31,12 @@ Settings = List (List ℕ × Option (List ℕ))
 -- ---- what was set
 
 -- a setting issues keys and no counts
-no_count : (i clock : ℕ) (ss : Settings) (c : Cell) (number : ℕ) → IsIn (Count c number) (issued i clock ss) → ⊥
+no_count : (i clock : ℕ) (ss : Settings) (c : Cell) (number : ℕ) → IsIn (Count c number) (operations_issued i clock ss) → ⊥
 no_count i clock [] c number m = m
 no_count i clock (s ∷ ss) c number (inl e) = cc
 no_count i clock (s ∷ ss) c number (inr m) = no_count i (clock + 1) ss c number m
 
-each_set : (nodes i clock : ℕ) (ss : Settings) → i < nodes → clock + length ss < 2 ^ 64 → ((s : List ℕ × Option (List ℕ)) → IsIn s ss → IsTrue (is_name s.0) × IsBody s.1) → (op : Operation) → IsIn op (issued i clock ss) → IsLawful nodes op
+each_set : (nodes i clock : ℕ) (ss : Settings) → i < nodes → clock + length ss < 2 ^ 64 → ((s : List ℕ × Option (List ℕ)) → IsIn s ss → IsTrue (is_name s.0) × IsBody s.1) → (op : Operation) → IsIn op (operations_issued i clock ss) → IsLawful nodes op
 each_set nodes i clock [] node low h op m = absurd m
 each_set nodes i clock (s ∷ ss) node low h op (inl e) =
     let here = h s (inl refl) in
@@ -44,7 +44,7 @@ each_set nodes i clock (s ∷ ss) node low h op (inl e) =
     subst (IsLawful nodes) (sym e) (here.0, key)
 each_set nodes i clock (s ∷ ss) node low h op (inr m) = each_set nodes i (clock + 1) ss node (omega (arith, low)) (λ r k. h r (inr k)) op m
 
-pub set_lawful : (nodes i clock : ℕ) (ss : List (List ℕ × Option (List ℕ))) → i < nodes → clock + length ss < 2 ^ 64 → ((s : List ℕ × Option (List ℕ)) → IsIn s ss → IsTrue (is_name s.0) × IsBody s.1) → AreLawful nodes (issued i clock ss)
+pub set_lawful : (nodes i clock : ℕ) (ss : List (List ℕ × Option (List ℕ))) → i < nodes → clock + length ss < 2 ^ 64 → ((s : List ℕ × Option (List ℕ)) → IsIn s ss → IsTrue (is_name s.0) × IsBody s.1) → AreLawful nodes (operations_issued i clock ss)
 set_lawful nodes i clock ss node low h = record {
   each = each_set nodes i clock ss node low h;
   keyed = λ name j number m. absurd (no_count i clock ss (Hits name j) number m);
@@ -167,9 +167,9 @@ unknown_key : (i clock : ℕ) (body : Option (List ℕ)) (known : List Operation
 unfolding fold
 unknown_key i clock body known name low = fresh_key i clock body (key_of name known) (all_later (new_key i clock body) name known (omega (arith, low)))
 
-pub set_changes : (i clock : ℕ) (ss : List (List ℕ × Option (List ℕ))) (known : List Operation) → clock_of known ≤ clock → changes (fold known) (issued i clock ss) ≡ nat_lt 0 (length ss)
+pub set_changes : (i clock : ℕ) (ss : List (List ℕ × Option (List ℕ))) (known : List Operation) → clock_of known ≤ clock → changes (fold known) (operations_issued i clock ss) ≡ nat_lt 0 (length ss)
 set_changes i clock [] known low = refl
-set_changes i clock (s ∷ ss) known low = ap (λ t. not t || changes (fold known) (issued i (clock + 1) ss)) (unknown_key i clock s.1 known s.0 low) ∙ sym (lt-ltb 0 (length (s ∷ ss)) (omega arith))
+set_changes i clock (s ∷ ss) known low = ap (λ t. not t || changes (fold known) (operations_issued i (clock + 1) ss)) (unknown_key i clock s.1 known s.0 low) ∙ sym (lt-ltb 0 (length (s ∷ ss)) (omega arith))
 
 or_true : (b : Bool) → (b || true) ≡ true
 or_true true = refl

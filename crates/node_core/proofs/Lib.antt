@@ -2,6 +2,7 @@ pub mod OwnRights
 pub mod TraceLemmas
 pub mod Rights
 pub mod Listing
+pub mod ListedAgain
 pub mod SettingSteps
 pub mod ShiftSteps
 pub mod Kept
@@ -18,6 +19,7 @@ pub mod OwnDelivered
 pub mod DeliverySteps
 pub mod LawfulSteps
 pub mod KeptTelling
+pub mod InStep
 pub mod Replied
 pub mod SpareWords
 pub mod MemoryLemmas

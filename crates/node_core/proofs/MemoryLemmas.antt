@@ -5,7 +5,8 @@ use Rattle.std.specs.Int.{w64, byte_len}
 use Rattle.delta_exchange.specs.declared.fault.WireFault.{WireFault}
 use Rattle.delta_exchange.specs.declared.fault.WireFault.TheVariants as wires
 use Rattle.delta_exchange.specs.Spelling.{max_message, magic}
-use Rattle.delta_exchange.specs.Reading.{wants, offset, ◌>>=◌, bytes_at, number_at, byte_at, node_at, other_node_at, magic_at, versions_at, header_at, header_of}
+use Rattle.refusals.specs.Refusals.{◌>>=◌}
+use Rattle.delta_exchange.specs.Reading.{wants, offset, bytes_at, number_at, byte_at, node_at, other_node_at, magic_at, versions_at, header_at, header_of}
 use Rattle.node_core.specs.declared.fault.NodeFault.TheVariants as faults
 use Rattle.node_core.specs.Refusals.{wire_refusal}
 

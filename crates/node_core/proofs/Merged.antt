@@ -88,12 +88,12 @@ none_both Less a b h k = h
 none_both Equal a b h k = omega (arith, h, k)
 none_both Greater a b h k = k
 
-module _ (nodes : ℕ) (few : nodes ≤ numbers) (ops known : List Operation) (v t : State) (is_v : v ≡ fold known) (is_t : t ≡ fold ops) (lawful : AreLawful nodes known) (told : AreLawful nodes ops) where
+module _ (nodes : ℕ) (few : nodes ≤ numbers) (ops known : List Operation) (v t : State) (is_v : v ≡ fold known) (is_t : t ≡ fold ops) (lawful : AreLawful nodes known) (brought : AreLawful nodes ops) where
   execs_none : (name : List ℕ) (term node : ℕ) → nodes ≤ node → number_both (key_order (t.key name) (v.key name)) (v.execs name term node) (t.execs name term node) ≡ 0
   execs_none name term node high =
       none_both (key_order (t.key name) (v.key name)) (v.execs name term node) (t.execs name term node)
       (ap (λ (s : State). s.execs name term node) is_v ∙ no_execs nodes known lawful name term node high)
-      (ap (λ (s : State). s.execs name term node) is_t ∙ no_execs nodes ops told name term node high)
+      (ap (λ (s : State). s.execs name term node) is_t ∙ no_execs nodes ops brought name term node high)
 
   all_execs : (name : List ℕ) (term : ℕ) → sum_below numbers ((union_of v t).execs name term) ≡ execs_both nodes (key_order (t.key name) (v.key name)) v t name term
   all_execs name term =

@@ -72,22 +72,22 @@ module _ (ops known : List Operation) (q : List ℕ) where
   module _ (kind : Kind q) (behind : (key : KeyValue) (n : ℕ) → IsIn (Count (kind.cell key) n) ops → is_cell_ahead key n (value_of kind known) (key_of q known) ≡ false) where
     -- under the same key the cells are no greater
     cell_kept : (key : KeyValue) → key_of q known ≡ Some key → number_at (kind.cell key) (ops ++ known) ≤ number_at (kind.cell key) known
-    cell_kept key e = number_at-least (kind.cell key) (number_at (kind.cell key) known) (ops ++ known) (λ n m. ⊎_elim (told n) (number_at-is_in (kind.cell key) n known) (IsIn-append_cases _ ops known m))
+    cell_kept key e = number_at-least (kind.cell key) (number_at (kind.cell key) known) (ops ++ known) (λ n m. ⊎_elim (least n) (number_at-is_in (kind.cell key) n known) (IsIn-append_cases _ ops known m))
       where
-        told : (n : ℕ) → IsIn (Count (kind.cell key) n) ops → n ≤ number_at (kind.cell key) known
-        told n m = subst (λ x. n ≤ x) (ap (λ o. at_key o (λ l. number_at (kind.cell l) known)) e) ((not_ahead key n (value_of kind known) (key_of q known) (behind key n m)).1 e)
+        least : (n : ℕ) → IsIn (Count (kind.cell key) n) ops → n ≤ number_at (kind.cell key) known
+        least n m = subst (λ x. n ≤ x) (ap (λ o. at_key o (λ l. number_at (kind.cell l) known)) e) ((not_ahead key n (value_of kind known) (key_of q known) (behind key n m)).1 e)
 
     -- under a greater one there are none
     cell_none : (key : KeyValue) → (KeyUpto (Some key) (key_of q known) → ⊥) → number_at (kind.cell key) (ops ++ known) ≡ 0
     cell_none key above =
         let known_none : number_at (kind.cell key) known ≡ 0 = no_cell_above q (kind.cell key) key known (kind.carries key) above in
-        let most : number_at (kind.cell key) (ops ++ known) ≤ 0 = number_at-least (kind.cell key) 0 (ops ++ known) (λ n m. ⊎_elim (told n)
+        let most : number_at (kind.cell key) (ops ++ known) ≤ 0 = number_at-least (kind.cell key) 0 (ops ++ known) (λ n m. ⊎_elim (least n)
         (λ l. let upto = number_at-is_in (kind.cell key) n known l in omega (arith, upto, known_none))
         (IsIn-append_cases _ ops known m)) in
         omega (arith, most)
       where
-        told : (n : ℕ) → IsIn (Count (kind.cell key) n) ops → n ≤ 0
-        told n m = absurd (above (not_ahead key n (value_of kind known) (key_of q known) (behind key n m)).0)
+        least : (n : ℕ) → IsIn (Count (kind.cell key) n) ops → n ≤ 0
+        least n m = absurd (above (not_ahead key n (value_of kind known) (key_of q known) (behind key n m)).0)
 
     value_kept : value_of kind (ops ++ known) ≤ value_of kind known
     value_kept = by_key (key_of q (ops ++ known)) refl
@@ -114,10 +114,10 @@ module _ (ops known : List Operation) (q : List ℕ) where
 module _ (i : ℕ) (ops known : List Operation) (mine : list_any (is_ahead i (fold known)) ops ≡ false) (q : List ℕ) where
   hits_at : (fold (ops ++ known)).hits q i ≤ (fold known).hits q i
   unfolding fold
-  hits_at = number_at-least (Hits q i) (number_at (Hits q i) known) (ops ++ known) (λ n m. ⊎_elim (told n) (number_at-is_in (Hits q i) n known) (IsIn-append_cases _ ops known m))
+  hits_at = number_at-least (Hits q i) (number_at (Hits q i) known) (ops ++ known) (λ n m. ⊎_elim (least n) (number_at-is_in (Hits q i) n known) (IsIn-append_cases _ ops known m))
     where
-      told : (n : ℕ) → IsIn (Count (Hits q i) n) ops → n ≤ number_at (Hits q i) known
-      told n m = no_later (number_at (Hits q i) known) n (its_own i _ (any_false (is_ahead i (fold known)) ops mine (Count (Hits q i) n) m))
+      least : (n : ℕ) → IsIn (Count (Hits q i) n) ops → n ≤ number_at (Hits q i) known
+      least n m = no_later (number_at (Hits q i) known) n (its_own i _ (any_false (is_ahead i (fold known)) ops mine (Count (Hits q i) n) m))
 
   execs_behind : (k : ℕ) (key : KeyValue) (n : ℕ) → IsIn (Count (Execs q key k i) n) ops → is_cell_ahead key n (value_of (exec_kind q k i) known) (key_of q known) ≡ false
   unfolding fold exec_kind

@@ -6,7 +6,7 @@ use Rattle.std.specs.Prelude.{ℤ, pos, ◌≤ℤ◌, ◌-ℤ◌, ◌↔◌, IsT
 use Rattle.std.specs.Option.{option_map_or}
 use Rattle.actions.specs.Value.{TermValue}
 use Rattle.actions.specs.Choice.{choice, first_below, triggers, triggers_by, word_at}
-use Rattle.counters.specs.Budgets.{Budget, rights, given, gone}
+use Rattle.counters.specs.Budgets.{Budget, rights, given_to, gone_from}
 use Rattle.stamp_register.specs.Keys.{KeyValue, terms_set}
 use Rattle.replica_state.specs.Operations.{count_at, count_in, count_under}
 use Rattle.replica_state.specs.States.{State, budget, budget_under, rights_of}
@@ -67,7 +67,7 @@ may_by_rights i v name key terms term t set h =
         never : (r : Bool) → IsTrue r ↔ (pos 1 ≤ℤ pos 0) → r ≡ false
         never false q = refl
         never true q = absurd (let impossible : pos 1 ≤ℤ pos 0 = q.0 refl in omega (arith, ints))
-    by_count (Some n) p = by_numbers t (given (budget v name term key.node n) i) (gone (budget v name term key.node n) i) p
+    by_count (Some n) p = by_numbers t (given_to (budget v name term key.node n) i) (gone_from (budget v name term key.node n) i) p
 
 -- a choice asks for no term past the last
 first_below-same : (limit : ℕ) (f g : ℕ → Bool) → ((k : ℕ) → k < limit → f k ≡ g k) → first_below limit f ≡ first_below limit g
@@ -98,8 +98,8 @@ pub spent_right : (i : ℕ) (v : State) (name words : List ℕ) (key : KeyValue)
 spent_right i v name words key terms None term set c h = absurd (let impossible : ◌≡◌ {A = Option ℕ} None (Some term) = h in cc)
 spent_right i v name words key terms (Some k) term set c h = by_count (count_at terms k) refl h
   where
-    enough : (n : ℕ) → nat_le (gone (budget v name k key.node n) i + 1) (given (budget v name k key.node n) i) ≡ true → pos 1 ≤ℤ rights (budget v name k key.node n) i
-    enough n t = let le : gone (budget v name k key.node n) i + 1 ≤ given (budget v name k key.node n) i = grind (arith, nat_tests) in omega (arith, ints)
+    enough : (n : ℕ) → nat_le (gone_from (budget v name k key.node n) i + 1) (given_to (budget v name k key.node n) i) ≡ true → pos 1 ≤ℤ rights (budget v name k key.node n) i
+    enough n t = let le : gone_from (budget v name k key.node n) i + 1 ≤ given_to (budget v name k key.node n) i = grind (arith, nat_tests) in omega (arith, ints)
 
     by_count : (found : Option ℕ) → count_at terms k ≡ found → cond (is_some found) (Some k) None ≡ Some term → pos 1 ≤ℤ rights_of v name term i
     by_count None n p = absurd (let impossible : ◌≡◌ {A = Option ℕ} None (Some term) = p in cc)

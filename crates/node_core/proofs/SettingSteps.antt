@@ -11,12 +11,12 @@ use Rattle.replica_state.proofs.FoldSteps.{fold_key}
 use Rattle.replica_state.proofs.KnownSets.{same_members}
 use Rattle.replica_state.proofs.Sets.{IsIn-append_left, IsIn-append_right, IsIn-append_cases}
 use Rattle.replica_state.proofs.SetJoins.{fold-unites}
-use Rattle.node_core.specs.declared.trace.Config.{Config}
+use Rattle.node_core.specs.declared.config.Config.{Config}
 use Rattle.node_core.specs.Asks.{Asked}
 use Rattle.node_core.specs.Asks as asks
 use Rattle.node_core.specs.Nodes.{Node}
 use Rattle.node_core.specs.Outcomes.{state_set}
-use Rattle.node_core.specs.Steps.{after, added, clock_after, settings, issued, new_key, points_in}
+use Rattle.node_core.specs.Steps.{after, operations_added, clock_after, settings, operations_issued, new_key, points_in}
 use Rattle.node_core.specs.Holds.{Holds}
 use Rattle.node_core.proofs.OwnRights.{HasOwn, own_key}
 
@@ -42,23 +42,23 @@ turned a b = same_members (a ++ b) (b ++ a) (λ o h. other o a b h) (λ o h. oth
     other : (o : Operation) (x y : List Operation) → IsIn o (x ++ y) → IsIn o (y ++ x)
     other o x y h = ⊎_elim (λ k. IsIn-append_right o y x k) (λ k. IsIn-append_left o y x k) (IsIn-append_cases o x y h)
 
-pub fold_issued : (i clock : ℕ) (ss : Settings) (ops : List Operation) → clock_of ops ≤ clock → fold (issued i clock ss ++ ops) ≡ state_set i clock ss (fold ops)
+pub fold_issued : (i clock : ℕ) (ss : Settings) (ops : List Operation) → clock_of ops ≤ clock → fold (operations_issued i clock ss ++ ops) ≡ state_set i clock ss (fold ops)
 fold_issued i clock [] ops low = refl
 fold_issued i clock (s ∷ ss) ops low =
     let key : KeyValue = new_key i clock s.1 in
-    swapped (Set s.0 key) (issued i (clock + 1) ss) ops
+    swapped (Set s.0 key) (operations_issued i (clock + 1) ss) ops
     ∙ fold_issued i (clock + 1) ss (Set s.0 key ∷ ops) (omega (arith, low))
     ∙ ap (state_set i (clock + 1) ss) (fold_key key s.0 ops (omega (arith, low)))
 
 -- the operations of a setting by themselves
-pub fold_alone : (i clock : ℕ) (ss : Settings) → state_set i clock ss (fold []) ≡ fold (issued i clock ss)
-fold_alone i clock ss = sym (fold_issued i clock ss [] (omega arith)) ∙ ap fold (append-nil (issued i clock ss))
+pub fold_alone : (i clock : ℕ) (ss : Settings) → state_set i clock ss (fold []) ≡ fold (operations_issued i clock ss)
+fold_alone i clock ss = sym (fold_issued i clock ss [] (omega arith)) ∙ ap fold (append-nil (operations_issued i clock ss))
 
 -- what a node knows with them
-pub fold_merged : (i clock : ℕ) (ss : Settings) (ops : List Operation) → clock_of ops ≤ clock → fold (ops ++ issued i clock ss) ≡ state_set i clock ss (fold ops)
-fold_merged i clock ss ops low = turned ops (issued i clock ss) ∙ fold_issued i clock ss ops low
+pub fold_merged : (i clock : ℕ) (ss : Settings) (ops : List Operation) → clock_of ops ≤ clock → fold (ops ++ operations_issued i clock ss) ≡ state_set i clock ss (fold ops)
+fold_merged i clock ss ops low = turned ops (operations_issued i clock ss) ∙ fold_issued i clock ss ops low
 
-pub issued_clock : (i clock : ℕ) (ss : Settings) (ops : List Operation) → clock_of ops ≤ clock → clock_of (issued i clock ss ++ ops) ≤ clock + length ss
+pub issued_clock : (i clock : ℕ) (ss : Settings) (ops : List Operation) → clock_of ops ≤ clock → clock_of (operations_issued i clock ss ++ ops) ≤ clock + length ss
 issued_clock i clock [] ops low = omega (arith, low)
 issued_clock i clock (s ∷ ss) ops low = let rest = issued_clock i (clock + 1) ss ops (omega (arith, low)) in omega (arith, rest)
 
@@ -88,8 +88,8 @@ pub names_loaded : (i low clock : ℕ) (ss : Settings) (ops : List Operation) �
 names_loaded i low clock ss ops upto =
     let names : (state_set i low ss (fold [])).names ≡ (state_set i clock ss (fold [])).names = names_set i low ss (fold []) ∙ sym (names_set i clock ss (fold [])) in
     ap (λ ns. with_names ns (fold ops).names) (names ∙ ap (λ (v : State). v.names) (fold_alone i clock ss))
-    ∙ sym (names_united (fold ops) (fold (issued i clock ss)))
-    ∙ ap (λ (v : State). v.names) (fold-unites ops (issued i clock ss) ∙ fold_merged i clock ss ops upto)
+    ∙ sym (names_united (fold ops) (fold (operations_issued i clock ss)))
+    ∙ ap (λ (v : State). v.names) (fold-unites ops (operations_issued i clock ss) ∙ fold_merged i clock ss ops upto)
     ∙ names_set i clock ss (fold ops)
 
 -- ---- cells and rights
@@ -125,7 +125,7 @@ own_set i clock (s ∷ ss) v j own = own_set i (clock + 1) ss (with_key s.0 (new
 
 -- an ask that sets points issues their keys, and counts its clock by them
 pub record Issues (a : Asked) : Type 0 where
-  pub adds : (i : ℕ) (n : Node) (words : List ℕ) → added i n a words ≡ issued i n.marks.clock (settings a)
+  pub adds : (i : ℕ) (n : Node) (words : List ℕ) → operations_added i n a words ≡ operations_issued i n.marks.clock (settings a)
   pub counts : (n : Node) → clock_after n a ≡ n.marks.clock + length (settings a)
 
 pub issues_load : (text : List ℕ) → Issues (asks.Load text)
@@ -148,8 +148,8 @@ holds_set config clock state next len n a issues h room e =
     let ss : Settings = settings a in
     let at : n.marks.clock ≡ clock = h.clock_is in
     let was : clock_of n.ops ≤ clock = h.carried in
-    let adds : added config.node n a [] ≡ issued config.node clock ss = issues.adds config.node n [] ∙ ap (λ c. issued config.node c ss) at in
-    let carried : clock_of (added config.node n a [] ++ n.ops) ≤ clock + length ss = subst (λ os. clock_of (os ++ n.ops) ≤ clock + length ss) (sym adds) (issued_clock config.node clock ss n.ops was) in
+    let adds : operations_added config.node n a [] ≡ operations_issued config.node clock ss = issues.adds config.node n [] ∙ ap (λ c. operations_issued config.node c ss) at in
+    let carried : clock_of (operations_added config.node n a [] ++ n.ops) ≤ clock + length ss = subst (λ os. clock_of (os ++ n.ops) ≤ clock + length ss) (sym adds) (issued_clock config.node clock ss n.ops was) in
     record {
       own = h.own;
       few = h.few;

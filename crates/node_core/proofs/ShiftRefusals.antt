@@ -4,17 +4,20 @@ use Rattle.std.proofs.lemmas.Bool.Decides.{nat_tests}
 use Rattle.std.proofs.lemmas.Int.{ints}
 use Rattle.std.specs.Prelude.{slice_get, nat_le, not, pos, ◌≤ℤ◌, ℤ}
 use Rattle.actions.specs.Value.{TermValue}
-use Rattle.counters.specs.Budgets.{Budget, has_rights, given, gone, rights}
+use Rattle.counters.specs.Budgets.{Budget, has_rights, given_to, gone_from, rights}
 use Rattle.stamp_register.specs.Keys.{KeyValue}
 use Rattle.replica_state.specs.Operations.{count_at, count_in}
 use Rattle.replica_state.specs.States.{State, budget, rights_of}
 use Rattle.std.specs.Option.{option_map_or}
 use Rattle.std.specs.Prelude.{option_map}
-use Rattle.node_core.specs.declared.trace.Config.{Config}
+use Rattle.node_core.specs.declared.config.Config.{Config}
 use Rattle.node_core.specs.declared.fault.NodeFault.{NodeFault}
 use Rattle.node_core.specs.declared.fault.NodeFault.TheVariants as faults
 use Rattle.node_core.specs.Nodes.{setting_of}
-use Rattle.node_core.specs.Refusals.{first_fault, where_true, is_bad_node, most, faults_of_setting, faults_of_shift}
+use Rattle.refusals.specs.Refusals.{first_fault}
+use Rattle.counters.specs.Cells.{most}
+use Rattle.std.specs.Bool.{then_some}
+use Rattle.node_core.specs.Refusals.{is_bad_node, faults_of_setting, faults_of_shift}
 use Rattle.node_core.proofs.Rights.{counted_rights}
 
 -- a term that is there has a number below that of the terms
@@ -46,8 +49,8 @@ module _ (config : Config) (v : State) (name : List ℕ) (term to amount : ℕ) 
   i = config.node
 
   abbrev refusals : List (Option NodeFault)
-  refusals = where_true (is_bad_node config to) faults.BadNode ∷ where_true (amount == 0) faults.ZeroAmount ∷
-      where_true (not (has_rights b i amount)) (faults.TooFewRights (given b i - gone b i)) ∷ where_true (nat_lt most (v.shifts name term i to + amount)) faults.CellFull ∷ []
+  refusals = then_some (is_bad_node config to) faults.BadNode ∷ then_some (amount == 0) faults.ZeroAmount ∷
+      then_some (not (has_rights b i amount)) (faults.TooFewRights (given_to b i - gone_from b i)) ∷ then_some (nat_lt most (v.shifts name term i to + amount)) faults.CellFull ∷ []
 
   count_here : count_at terms term ≡ Some n
   count_here = ap count_in here ∙ counted
@@ -73,14 +76,14 @@ module _ (config : Config) (v : State) (name : List ℕ) (term to amount : ℕ) 
   pub too_few_rights : is_bad_node config to ≡ false → 0 < amount → (have : ℕ) → rights_of v name term i ≡ pos have → have < amount → first_fault (faults_of_shift config v name term to amount) ≡ Some (faults.TooFewRights have)
   too_few_rights h some have is few =
       let balance : rights b i ≡ pos have = sym amounts ∙ is in
-      let few_there : has_rights b i amount ≡ false = (let less : given b i < gone b i + amount = omega (arith, ints, balance, few) in grind (arith, nat_tests, less)) in
-      let left : given b i - gone b i ≡ have = omega (arith, ints, balance) in
+      let few_there : has_rights b i amount ≡ false = (let less : given_to b i < gone_from b i + amount = omega (arith, ints, balance, few) in grind (arith, nat_tests, less)) in
+      let left : given_to b i - gone_from b i ≡ have = omega (arith, ints, balance) in
       same ∙ rw (h, some_amount amount some, few_there, left) refl
 
   enough_there : pos amount ≤ℤ rights_of v name term i → has_rights b i amount ≡ true
   enough_there enough =
       let balance : pos amount ≤ℤ rights b i = subst (λ (z : ℤ). pos amount ≤ℤ z) amounts enough in
-      let most : gone b i + amount ≤ given b i = omega (arith, ints, balance) in
+      let most : gone_from b i + amount ≤ given_to b i = omega (arith, ints, balance) in
       grind (arith, nat_tests, most)
 
   pub cell_full : is_bad_node config to ≡ false → 0 < amount → pos amount ≤ℤ rights_of v name term i → nat_lt most (v.shifts name term i to + amount) ≡ true → first_fault (faults_of_shift config v name term to amount) ≡ Some faults.CellFull

@@ -14,7 +14,7 @@ use Rattle.replica_state.specs.Operations.{Operation, Count, Shifts, count_of}
 use Rattle.replica_state.specs.States.{State, with_name, with_shifts, budget, budget_under, rights_of}
 use Rattle.replica_state.specs.Folds.{fold, clock_of, names_of, key_of, number_at, at_key}
 use Rattle.replica_state.proofs.FoldSteps.{fold_shifts}
-use Rattle.node_core.specs.declared.trace.Config.{Config}
+use Rattle.node_core.specs.declared.config.Config.{Config}
 use Rattle.node_core.specs.Asks.{Shift}
 use Rattle.node_core.specs.Nodes.{Node}
 use Rattle.node_core.specs.Outcomes.{IsHeld}

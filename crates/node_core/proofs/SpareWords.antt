@@ -11,9 +11,12 @@ use Rattle.delta_exchange.specs.declared.fault.WireFault.{WireFault}
 use Rattle.node_core.specs.declared.fault.NodeFault.{NodeFault}
 use Rattle.node_core.specs.declared.fault.NodeFault.TheVariants as faults
 use Rattle.node_core.specs.Asks.{Message, Versions, Set, Remove, Load, Shift, Emit, Deliver}
-use Rattle.node_core.specs.Nodes.{shown}
-use Rattle.node_core.specs.Steps.{points_in, told}
-use Rattle.node_core.specs.Refusals.{first_fault, where_true, is_full, is_bad_node, bad_actions, bad_setting, bad_message, too_many, most, faults_of_shift, faults_of_message, spare_words}
+use Rattle.node_core.specs.Nodes.{state_shown}
+use Rattle.node_core.specs.Steps.{points_in, message_in}
+use Rattle.refusals.specs.Refusals.{first_fault}
+use Rattle.counters.specs.Cells.{most}
+use Rattle.std.specs.Bool.{then_some}
+use Rattle.node_core.specs.Refusals.{is_full, is_bad_node, bad_actions, bad_setting, bad_message, too_many, faults_of_shift, faults_of_message, spare_words}
 use Rattle.node_core.specs.Traces.{Kept, node_of, refusal}
 use Rattle.node_core.specs.Applied.{delivery_refused_with}
 
@@ -37,28 +40,28 @@ spare_last fs words = or_last fs (spare_words words) ∙ ap (λ first. or_else f
 
 pub set_spare : (k : Kept) (name text : List ℕ) (w : ℕ) (ws : List ℕ) → refusal k (Set name text) (w ∷ ws) ≡ or_else (refusal k (Set name text) []) (Some (faults.BadWords 0))
 set_spare k name text w ws = spare_last
-    (where_true (is_full k.config (length k.trace)) faults.TraceFull ∷ where_true (not (is_name name)) faults.BadName ∷ bad_actions (reading text) ∷
-    where_true (too_many (with_name name (shown (node_of k)).names)) faults.TooManyPoints ∷ where_true (nat_lt most ((node_of k).marks.clock + 1)) faults.ClockFull ∷ []) (w ∷ ws)
+    (then_some (is_full k.config (length k.trace)) faults.TraceFull ∷ then_some (not (is_name name)) faults.BadName ∷ bad_actions (reading text) ∷
+    then_some (too_many (with_name name (state_shown (node_of k)).names)) faults.TooManyPoints ∷ then_some (nat_lt most ((node_of k).marks.clock + 1)) faults.ClockFull ∷ []) (w ∷ ws)
 
 pub remove_spare : (k : Kept) (name : List ℕ) (w : ℕ) (ws : List ℕ) → refusal k (Remove name) (w ∷ ws) ≡ or_else (refusal k (Remove name) []) (Some (faults.BadWords 0))
 remove_spare k name w ws = spare_last
-    (where_true (is_full k.config (length k.trace)) faults.TraceFull ∷ where_true (not (is_name name)) faults.BadName ∷
-    where_true (too_many (with_name name (shown (node_of k)).names)) faults.TooManyPoints ∷ where_true (nat_lt most ((node_of k).marks.clock + 1)) faults.ClockFull ∷ []) (w ∷ ws)
+    (then_some (is_full k.config (length k.trace)) faults.TraceFull ∷ then_some (not (is_name name)) faults.BadName ∷
+    then_some (too_many (with_name name (state_shown (node_of k)).names)) faults.TooManyPoints ∷ then_some (nat_lt most ((node_of k).marks.clock + 1)) faults.ClockFull ∷ []) (w ∷ ws)
 
 pub load_spare : (k : Kept) (text : List ℕ) (w : ℕ) (ws : List ℕ) → refusal k (Load text) (w ∷ ws) ≡ or_else (refusal k (Load text) []) (Some (faults.BadWords 0))
 load_spare k text w ws = spare_last
-    (where_true (is_full k.config (length k.trace)) faults.TraceFull ∷ bad_setting (setting_reading text) ∷
-    where_true (too_many (with_names (map (λ point. point.0) (points_in text)) (shown (node_of k)).names)) faults.TooManyPoints ∷
-    where_true (nat_lt most ((node_of k).marks.clock + length (points_in text))) faults.ClockFull ∷ []) (w ∷ ws)
+    (then_some (is_full k.config (length k.trace)) faults.TraceFull ∷ bad_setting (setting_reading text) ∷
+    then_some (too_many (with_names (map (λ point. point.0) (points_in text)) (state_shown (node_of k)).names)) faults.TooManyPoints ∷
+    then_some (nat_lt most ((node_of k).marks.clock + length (points_in text))) faults.ClockFull ∷ []) (w ∷ ws)
 
 pub shift_spare : (k : Kept) (name : List ℕ) (term to amount w : ℕ) (ws : List ℕ) → refusal k (Shift name term to amount) (w ∷ ws) ≡ or_else (refusal k (Shift name term to amount) []) (Some (faults.BadWords 0))
 shift_spare k name term to amount w ws = spare_last
-    (where_true (is_full k.config (length k.trace)) faults.TraceFull ∷ where_true (not (is_name name)) faults.BadName ∷
-    first_fault (faults_of_shift k.config (shown (node_of k)) name term to amount) ∷ []) (w ∷ ws)
+    (then_some (is_full k.config (length k.trace)) faults.TraceFull ∷ then_some (not (is_name name)) faults.BadName ∷
+    first_fault (faults_of_shift k.config (state_shown (node_of k)) name term to amount) ∷ []) (w ∷ ws)
 
 pub emit_spare : (k : Kept) (to : ℕ) (versions : Versions) (w : ℕ) (ws : List ℕ) → refusal k (Emit to versions []) (w ∷ ws) ≡ or_else (refusal k (Emit to versions []) []) (Some (faults.BadWords 0))
 emit_spare k to versions w ws = spare_last
-    (where_true (is_full k.config (length k.trace)) faults.TraceFull ∷ where_true (is_bad_node k.config to) faults.BadNode ∷ []) (w ∷ ws)
+    (then_some (is_full k.config (length k.trace)) faults.TraceFull ∷ then_some (is_bad_node k.config to) faults.BadNode ∷ []) (w ∷ ws)
 
 -- of an answer that names the refusal without words, or else the words
 pub spare_result : {T : Type 0} (checked : Result T NodeFault) (r : NodeFault) (first then : Option NodeFault) → OnOk checked (r ≡ faults.BadWords 0) → IfErr checked (λ f. r ≡ f) → OnOk checked (first ≡ None) → IfErr checked (λ f. (f ≡ faults.OutOfMemory) ⊎ (first ≡ Some f)) →
@@ -85,7 +88,7 @@ OfMessage : Option NodeFault → Type 0
 OfMessage None = Unit {0}
 OfMessage (Some fault) = delivery_refused_with fault ≡ faults.BadWords 0
 
-by_tests : (a b c d : Bool) (read : Result Message WireFault) → OfMessage (first_fault (bad_message read ∷ where_true a faults.NotForMe ∷ where_true b faults.OwnAhead ∷ where_true c faults.AckAhead ∷ where_true d faults.Overspent ∷ []))
+by_tests : (a b c d : Bool) (read : Result Message WireFault) → OfMessage (first_fault (bad_message read ∷ then_some a faults.NotForMe ∷ then_some b faults.OwnAhead ∷ then_some c faults.AckAhead ∷ then_some d faults.Overspent ∷ []))
 unfolding OfMessage
 by_tests a b c d (Err fault) = refl
 by_tests true b c d (Ok m) = refl
@@ -95,7 +98,7 @@ by_tests false false false true (Ok m) = refl
 by_tests false false false false (Ok m) = tt
 
 abbrev before_words : Bool → Bool → List (Option NodeFault) → Option NodeFault → Option NodeFault → Option NodeFault
-before_words full many fs m words = first_fault (where_true full faults.TraceFull ∷ where_true (is_none m && many) faults.TooManyPoints ∷ words ∷ fs)
+before_words full many fs m words = first_fault (then_some full faults.TraceFull ∷ then_some (is_none m && many) faults.TooManyPoints ∷ words ∷ fs)
 
 refused_by : (full many : Bool) (fs : List (Option NodeFault)) (m : Option NodeFault) → first_fault fs ≡ m → OfMessage m → (r : NodeFault) → before_words full many fs m None ≡ Some r → before_words full many fs m (Some (faults.BadWords 0)) ≡ Some (delivery_refused_with r)
 unfolding OfMessage
@@ -118,10 +121,10 @@ module _ (k : Kept) (read : Result Message WireFault) (w : ℕ) (ws : List ℕ) 
   all = by_tests _ _ _ _ read
 
   refused : (r : NodeFault) → refusal k (Deliver read) [] ≡ Some r → refusal k (Deliver read) (w ∷ ws) ≡ Some (delivery_refused_with r)
-  refused r h = refused_by (is_full k.config (length k.trace)) (too_many (fold ((told read).ops ++ (node_of k).ops)).names) of_message (first_fault of_message) refl all r h
+  refused r h = refused_by (is_full k.config (length k.trace)) (too_many (fold ((message_in read).ops ++ (node_of k).ops)).names) of_message (first_fault of_message) refl all r h
 
   accepted : refusal k (Deliver read) [] ≡ None → refusal k (Deliver read) (w ∷ ws) ≡ Some (faults.BadWords 0)
-  accepted h = accepted_by (is_full k.config (length k.trace)) (too_many (fold ((told read).ops ++ (node_of k).ops)).names) of_message (first_fault of_message) refl h
+  accepted h = accepted_by (is_full k.config (length k.trace)) (too_many (fold ((message_in read).ops ++ (node_of k).ops)).names) of_message (first_fault of_message) refl h
 
   pub deliver_spare : {T : Type 0} (checked : Result T NodeFault) (r : NodeFault) → OnOk checked (r ≡ faults.BadWords 0) → IfErr checked (λ f. r ≡ delivery_refused_with f) → OnOk checked (refusal k (Deliver read) [] ≡ None) →
       IfErr checked (λ f. (f ≡ faults.OutOfMemory) ⊎ (refusal k (Deliver read) [] ≡ Some f)) → (r ≡ faults.OutOfMemory) ⊎ (refusal k (Deliver read) (w ∷ ws) ≡ Some r)

@@ -1,6 +1,5 @@
 -- A message can tell all that a node knows, after one more call too.
-use Rattle.std.proofs.Common.{◌≡◌, ℕ, ◌+◌, ◌≤◌, Bool, true, false, cond, List, [], ◌∷◌, ◌++◌, length, map, subst, length-append, Option, Some, None, refl, sym, ◌∙◌, ap, arith}
-use Rattle.std.proofs.lemmas.List.{map-append}
+use Rattle.std.proofs.Common.{◌≡◌, ℕ, ◌+◌, ◌≤◌, Bool, true, false, cond, List, [], ◌∷◌, ◌++◌, length, subst, length-append, Option, Some, None, refl, sym, ◌∙◌, ap, arith}
 use Rattle.std.specs.Int.{from_bool}
 use Rattle.stamp_register.specs.Keys.{KeyValue}
 use Rattle.replica_state.specs.States.{State, with_name, with_key, with_hits, with_execs, with_shifts}
@@ -8,12 +7,11 @@ use Rattle.replica_state.specs.Folds.{fold}
 use Rattle.replica_state.specs.Knowledge.{changes}
 use Rattle.delta_exchange.specs.Wholes.{AreLawful}
 use Rattle.delta_exchange.proofs.LawfulLemmas.{lawful_none}
-use Rattle.node_core.specs.declared.trace.Config.{Config}
-use Rattle.node_core.specs.declared.trace.Entry.{Entry}
-use Rattle.node_core.specs.Asks.{Asked, Call, call}
-use Rattle.node_core.specs.Nodes.{Node, start, shown}
+use Rattle.node_core.specs.declared.config.Config.{Config}
+use Rattle.node_core.specs.Asks.{Asked, Call}
+use Rattle.node_core.specs.Nodes.{Node, start, state_shown}
 use Rattle.node_core.specs.Outcomes.{state_done}
-use Rattle.node_core.specs.Steps.{after, added}
+use Rattle.node_core.specs.Steps.{after, operations_added}
 use Rattle.node_core.specs.Traces.{replay_from, replay}
 use Rattle.node_core.specs.Holds.{CanTell}
 use Rattle.node_core.proofs.TraceLemmas.{replay_more}
@@ -27,13 +25,13 @@ pub tell_new : (config : Config) → CanTell config 0 0 (replay config.node [])
 unfolding replay_from
 tell_new config = record { version_is = refl; few_versions = omega arith; lawful = lawful_none config.nodes; few_names = names_none }
 
--- the replay of a trace one entry longer
-pub tell_grown : (config : Config) (version : ℕ) (old new : List Entry) (e : Entry) → new ≡ old ++ e ∷ [] → CanTell config version (length old + 1) (after config.node (replay config.node (map (call config.nodes) old)) (call config.nodes e).ask (call config.nodes e).words) → CanTell config version (length new) (replay config.node (map (call config.nodes) new))
-tell_grown config version old new e same h =
-    let grown : map (call config.nodes) new ≡ map (call config.nodes) old ++ call config.nodes e ∷ [] = ap (λ (es : List Entry). map (call config.nodes) es) same ∙ map-append (call config.nodes) old (e ∷ []) in
-    let longer : length new ≡ length old + 1 = ap (λ (es : List Entry). length es) same ∙ length-append old (e ∷ []) in
-    subst (λ (len : ℕ). CanTell config version len (replay config.node (map (call config.nodes) new))) (sym longer)
-    (subst (λ (n : Node). CanTell config version (length old + 1) n) (sym (ap (λ (cs : List Call). replay config.node cs) grown ∙ replay_more config.node start (map (call config.nodes) old) (call config.nodes e))) h)
+-- the replay of a trace one call longer
+pub tell_grown : (config : Config) (version : ℕ) (trace : List Call) (c : Call) →
+    CanTell config version (length trace + 1) (after config.node (replay config.node trace) c.ask c.words) →
+    CanTell config version (length (trace ++ c ∷ [])) (replay config.node (trace ++ c ∷ []))
+tell_grown config version trace c h =
+    subst (λ (len : ℕ). CanTell config version len (replay config.node (trace ++ c ∷ []))) (sym (length-append trace (c ∷ [])))
+    (subst (λ (n : Node). CanTell config version (length trace + 1) n) (sym (replay_more config.node start trace c)) h)
 
 one_more : (b : Bool) → cond b 1 0 ≡ from_bool b
 one_more true = refl
@@ -44,8 +42,8 @@ counted true version len h = omega (arith, h)
 counted false version len h = omega (arith, h)
 
 -- after an ask that adds what can be told
-pub tell_after : (config : Config) (version len : ℕ) (n : Node) (a : Asked) (words : List ℕ) (changed : Bool) → CanTell config version len n → changes (shown n) (added config.node n a words) ≡ changed → AreLawful config.nodes (added config.node n a words ++ n.ops) →
-    length (fold (added config.node n a words ++ n.ops)).names ≤ 256 → CanTell config (version + from_bool changed) (len + 1) (after config.node n a words)
+pub tell_after : (config : Config) (version len : ℕ) (n : Node) (a : Asked) (words : List ℕ) (changed : Bool) → CanTell config version len n → changes (state_shown n) (operations_added config.node n a words) ≡ changed → AreLawful config.nodes (operations_added config.node n a words ++ n.ops) →
+    length (fold (operations_added config.node n a words ++ n.ops)).names ≤ 256 → CanTell config (version + from_bool changed) (len + 1) (after config.node n a words)
 unfolding after
 tell_after config version len n a words changed h change lawful few =
     record {
@@ -56,7 +54,7 @@ tell_after config version len n a words changed h change lawful few =
     }
 
 -- the state after it
-pub shown_after : (i : ℕ) (n : Node) (a : Asked) (words : List ℕ) → shown (after i n a words) ≡ fold (added i n a words ++ n.ops)
+pub shown_after : (i : ℕ) (n : Node) (a : Asked) (words : List ℕ) → state_shown (after i n a words) ≡ fold (operations_added i n a words ++ n.ops)
 unfolding after
 shown_after i n a words = refl
 

@@ -1,6 +1,5 @@
 -- What a node holds after one more call.
-use Rattle.std.proofs.Common.{◌≡◌, ℕ, ◌+◌, ◌<◌, ◌≤◌, ◌^◌, Bool, true, false, cond, ◌&&◌, eqb, List, [], ◌∷◌, ◌++◌, length, map, subst, length-append, Option, Some, None, refl, sym, ◌∙◌, ap, arith}
-use Rattle.std.proofs.lemmas.List.{map-append}
+use Rattle.std.proofs.Common.{◌≡◌, ℕ, ◌+◌, ◌<◌, ◌≤◌, ◌^◌, Bool, true, false, cond, ◌&&◌, eqb, List, [], ◌∷◌, ◌++◌, length, subst, length-append, Option, Some, None, refl, sym, ◌∙◌, ap, arith}
 use Rattle.std.specs.Str.{bytes_eq}
 use Rattle.std.specs.Option.{IsSome}
 use Rattle.std.specs.Prelude.{pos, ◌≤ℤ◌}
@@ -9,10 +8,9 @@ use Rattle.replica_state.specs.Operations.{Operation, Count, Hits, Execs, same_c
 use Rattle.replica_state.specs.States.{State, with_name, with_hits, with_execs, with_pass, rights_of}
 use Rattle.replica_state.specs.Folds.{fold, clock_of, names_of, key_of, number_at, at_key}
 use Rattle.replica_state.proofs.FoldSteps.{fold_hits, fold_execs, max_zero, is_later, all_later, later_some, either_way}
-use Rattle.node_core.specs.declared.trace.Config.{Config}
-use Rattle.node_core.specs.declared.trace.Entry.{Entry}
-use Rattle.node_core.specs.Asks.{Call, call, Pass}
-use Rattle.node_core.specs.Nodes.{Node, start, shown, setting_of}
+use Rattle.node_core.specs.declared.config.Config.{Config}
+use Rattle.node_core.specs.Asks.{Call, Pass}
+use Rattle.node_core.specs.Nodes.{Node, start, state_shown, setting_of}
 use Rattle.node_core.specs.Passes.{next_hit, ops_of_pass}
 use Rattle.node_core.specs.Outcomes.{execs_done, ops_done, state_done, IsHeld}
 use Rattle.node_core.specs.Steps.{after}
@@ -49,13 +47,13 @@ holds_new config state own few small e = record {
   own_rights = subst (λ (v : State). HasOwn v config.node) (sym e) (own_start config.node);
 }
 
--- the replay of a trace one entry longer
-pub holds_grown : (config : Config) (clock : ℕ) (state : State) (old new : List Entry) (e : Entry) → new ≡ old ++ e ∷ [] → Holds config clock state (length old + 1) (after config.node (replay config.node (map (call config.nodes) old)) (call config.nodes e).ask (call config.nodes e).words) → Holds config clock state (length new) (replay config.node (map (call config.nodes) new))
-holds_grown config clock state old new e same h =
-    let grown : map (call config.nodes) new ≡ map (call config.nodes) old ++ call config.nodes e ∷ [] = ap (λ (es : List Entry). map (call config.nodes) es) same ∙ map-append (call config.nodes) old (e ∷ []) in
-    let longer : length new ≡ length old + 1 = ap (λ (es : List Entry). length es) same ∙ length-append old (e ∷ []) in
-    subst (λ (len : ℕ). Holds config clock state len (replay config.node (map (call config.nodes) new))) (sym longer)
-    (subst (λ (n : Node). Holds config clock state (length old + 1) n) (sym (ap (λ (cs : List Call). replay config.node cs) grown ∙ replay_more config.node start (map (call config.nodes) old) (call config.nodes e))) h)
+-- the replay of a trace one call longer
+pub holds_grown : (config : Config) (clock : ℕ) (state : State) (trace : List Call) (c : Call) →
+    Holds config clock state (length trace + 1) (after config.node (replay config.node trace) c.ask c.words) →
+    Holds config clock state (length (trace ++ c ∷ [])) (replay config.node (trace ++ c ∷ []))
+holds_grown config clock state trace c h =
+    subst (λ (len : ℕ). Holds config clock state len (replay config.node (trace ++ c ∷ []))) (sym (length-append trace (c ∷ [])))
+    (subst (λ (n : Node). Holds config clock state (length trace + 1) n) (sym (replay_more config.node start trace c)) h)
 
 -- a key that is held is no later than the clock
 pub held_clock : (name : List ℕ) (ops : List Operation) (key : KeyValue) → key_of name ops ≡ Some key → key.clock ≤ clock_of ops
@@ -119,7 +117,7 @@ unfolding fold
 kept_names name ops h = h
 
 module _ (config : Config) (clock : ℕ) (state next : State) (len : ℕ) (n : Node) (name words : List ℕ) where
-  added_by : (is_set : Bool) (spent : Option ℕ) → shown n ≡ state → ops_of_pass config.node state name words (setting_of state name) ≡ ops_done config.node state name is_set spent → ops_of_pass config.node (shown n) name words (setting_of (shown n) name) ≡ ops_done config.node (shown n) name is_set spent
+  added_by : (is_set : Bool) (spent : Option ℕ) → state_shown n ≡ state → ops_of_pass config.node state name words (setting_of state name) ≡ ops_done config.node state name is_set spent → ops_of_pass config.node (state_shown n) name words (setting_of (state_shown n) name) ≡ ops_done config.node (state_shown n) name is_set spent
   added_by is_set spent e h =
       ap (λ (v : State). ops_of_pass config.node v name words (setting_of v name)) e ∙ h ∙ sym (ap (λ (v : State). ops_done config.node v name is_set spent) e)
 
@@ -132,11 +130,11 @@ module _ (config : Config) (clock : ℕ) (state next : State) (len : ℕ) (n : N
   unfolding after
   holds_pass is_set spent h room ops held key right e =
       let same : fold n.ops ≡ state = h.state_is in
-      let added = added_by is_set spent same ops in
+      let operations_added = added_by is_set spent same ops in
       let held' : is_set ≡ true → IsHeld (fold n.ops) name = λ t. subst (λ (v : State). IsHeld v name) (sym same) (held t) in
       let key' : is_set ≡ true → IsSome ((fold n.ops).key name) = λ t. subst (λ (v : State). IsSome (v.key name)) (sym same) (key t) in
       let low = done_clock config.node name n.ops is_set spent in
-      let carried : clock_of (ops_of_pass config.node (fold n.ops) name words (setting_of (fold n.ops) name) ++ n.ops) ≤ clock_of n.ops = subst (λ (os : List Operation). clock_of (os ++ n.ops) ≤ clock_of n.ops) (sym added) low in
+      let carried : clock_of (ops_of_pass config.node (fold n.ops) name words (setting_of (fold n.ops) name) ++ n.ops) ≤ clock_of n.ops = subst (λ (os : List Operation). clock_of (os ++ n.ops) ≤ clock_of n.ops) (sym operations_added) low in
       let was : clock_of n.ops ≤ clock = h.carried in
       record {
         own = h.own;
@@ -144,7 +142,7 @@ module _ (config : Config) (clock : ℕ) (state next : State) (len : ℕ) (n : N
         small = h.small;
         capped = omega arith;
         clock_is = h.clock_is;
-        state_is = ap (λ (os : List Operation). fold (os ++ n.ops)) added ∙ fold_pass is_set spent held' key' ∙ ap (λ (v : State). state_done config.node v name is_set spent) same ∙ sym e;
+        state_is = ap (λ (os : List Operation). fold (os ++ n.ops)) operations_added ∙ fold_pass is_set spent held' key' ∙ ap (λ (v : State). state_done config.node v name is_set spent) same ∙ sym e;
         carried = omega (arith, carried, was);
         hits_few = λ q. subst (λ (v : State). v.hits q config.node ≤ len + 1) (sym e) (done_hits config.node name state len h.hits_few is_set spent q);
         execs_few = λ q t. subst (λ (v : State). v.execs q t config.node ≤ len + 1) (sym e) (done_execs config.node name state len h.execs_few is_set spent q t);

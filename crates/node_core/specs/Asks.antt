@@ -6,12 +6,12 @@ use Rattle.replica_state.specs.Operations.{Operation}
 use Rattle.delta_exchange.specs.declared.fault.WireFault.{WireFault}
 use Rattle.delta_exchange.specs.Messages.{MessageValue, operations_in}
 use Rattle.delta_exchange.specs.Reading.{message_at}
-use Rattle.node_core.specs.declared.trace.Ask.{Ask}
-use Rattle.node_core.specs.declared.trace.Ask.TheVariants as asks
-use Rattle.node_core.specs.declared.trace.PassReply.{PassReply}
-use Rattle.node_core.specs.declared.trace.PassReply.TheVariants as passes
-use Rattle.node_core.specs.declared.trace.Reply.{Reply}
-use Rattle.node_core.specs.declared.trace.Reply.TheVariants as replies
+use Rattle.node_core.specs.declared.ask.Ask.{Ask}
+use Rattle.node_core.specs.declared.ask.Ask.TheVariants as asks
+use Rattle.node_core.specs.declared.reply.PassReply.{PassReply}
+use Rattle.node_core.specs.declared.reply.PassReply.TheVariants as passes
+use Rattle.node_core.specs.declared.reply.Reply.{Reply}
+use Rattle.node_core.specs.declared.reply.Reply.TheVariants as replies
 use Rattle.node_core.specs.declared.trace.Entry.{Entry}
 
 -- what one node tells another: operations that it knows, the version of its own that it counts on the
@@ -79,34 +79,36 @@ read_of (Err fault) = Err fault
 unfoldable pub message_read : ℕ → List ℕ → Result Message WireFault
 message_read nodes bytes = read_of (message_at nodes bytes)
 
+-- the ask of an emit for which nothing was chosen yet
+abbrev pub bare_emit : ℕ → Asked
+bare_emit to = Emit to no_versions []
+
 -- the ask of an emit whose reply was read as this
 abbrev pub emit_of : ℕ → Result Message WireFault → Asked
 emit_of to (Ok m) = Emit to (record { base = m.base; upto = m.upto; ack = m.ack }) m.ops
-emit_of to (Err fault) = Emit to no_versions []
+emit_of to (Err fault) = bare_emit to
 
 abbrev pub emit_asked : ℕ → ℕ → Reply → Asked
 emit_asked nodes to (replies.Emit bytes) = emit_of to (message_read nodes bytes.items)
-emit_asked nodes to _ = Emit to no_versions []
+emit_asked nodes to _ = bare_emit to
+
+-- what is asked, where an emit asks this
+abbrev pub ask_value_with : ℕ → (ℕ → Asked) → Ask → Asked
+ask_value_with nodes emit (asks.Set name text) = Set (string_bytes name) (string_bytes text)
+ask_value_with nodes emit (asks.Remove name) = Remove (string_bytes name)
+ask_value_with nodes emit (asks.Load text) = Load (string_bytes text)
+ask_value_with nodes emit (asks.Pass name) = Pass (string_bytes name)
+ask_value_with nodes emit (asks.Shift name term to amount) = Shift (string_bytes name) term to amount
+ask_value_with nodes emit (asks.Emit to) = emit to
+ask_value_with nodes emit (asks.Deliver bytes) = Deliver (message_read nodes bytes.items)
 
 -- what is asked, where this is the reply
-abbrev pub asked : ℕ → Ask → Reply → Asked
-asked nodes (asks.Set name text) reply = Set (string_bytes name) (string_bytes text)
-asked nodes (asks.Remove name) reply = Remove (string_bytes name)
-asked nodes (asks.Load text) reply = Load (string_bytes text)
-asked nodes (asks.Pass name) reply = Pass (string_bytes name)
-asked nodes (asks.Shift name term to amount) reply = Shift (string_bytes name) term to amount
-asked nodes (asks.Emit to) reply = emit_asked nodes to reply
-asked nodes (asks.Deliver bytes) reply = Deliver (message_read nodes bytes.items)
+abbrev pub ask_value : ℕ → Ask → Reply → Asked
+ask_value nodes ask reply = ask_value_with nodes (λ to. emit_asked nodes to reply) ask
 
 -- what is asked, before there is a reply: of an emit no versions and no operations are chosen yet
-abbrev pub asked_first : ℕ → Ask → Asked
-asked_first nodes (asks.Set name text) = Set (string_bytes name) (string_bytes text)
-asked_first nodes (asks.Remove name) = Remove (string_bytes name)
-asked_first nodes (asks.Load text) = Load (string_bytes text)
-asked_first nodes (asks.Pass name) = Pass (string_bytes name)
-asked_first nodes (asks.Shift name term to amount) = Shift (string_bytes name) term to amount
-asked_first nodes (asks.Emit to) = Emit to no_versions []
-asked_first nodes (asks.Deliver bytes) = Deliver (message_read nodes bytes.items)
+abbrev pub ask_value_first : ℕ → Ask → Asked
+ask_value_first nodes ask = ask_value_with nodes bare_emit ask
 
 abbrev pub is_pass : Ask → Bool
 is_pass (asks.Pass name) = true
@@ -122,15 +124,15 @@ passed passes.Unset = Unset
 passed (passes.NoTerm stamp) = NoTerm stamp
 passed (passes.Act stamp term task) = Act stamp term (task_value task)
 
-abbrev pub answered : ℕ → Reply → Answered
-answered nodes (replies.Set stamp) = IsSet stamp
-answered nodes (replies.Remove stamp) = IsRemoved stamp
-answered nodes (replies.Load entries) = IsLoaded entries
-answered nodes (replies.Pass reply) = IsPassed (passed reply)
-answered nodes (replies.Shift total) = IsShifted total
-answered nodes (replies.Emit bytes) = IsEmitted (message_read nodes bytes.items)
-answered nodes (replies.Deliver changed) = IsDelivered changed
+abbrev pub reply_value : ℕ → Reply → Answered
+reply_value nodes (replies.Set stamp) = IsSet stamp
+reply_value nodes (replies.Remove stamp) = IsRemoved stamp
+reply_value nodes (replies.Load entries) = IsLoaded entries
+reply_value nodes (replies.Pass reply) = IsPassed (passed reply)
+reply_value nodes (replies.Shift total) = IsShifted total
+reply_value nodes (replies.Emit bytes) = IsEmitted (message_read nodes bytes.items)
+reply_value nodes (replies.Deliver changed) = IsDelivered changed
 
 -- an entry of a node's trace, in a cluster of so many nodes
 abbrev pub call : ℕ → Entry → Call
-call nodes e = record { ask = asked nodes e.ask e.reply; words = e.words.items; reply = answered nodes e.reply }
+call nodes e = record { ask = ask_value nodes e.ask e.reply; words = e.words.items; reply = reply_value nodes e.reply }

@@ -1,5 +1,5 @@
 -- What a message comes to at the node that it is delivered to, and what a node tells.
-use Rattle.std.specs.Prelude.{◌≡◌, ◌≤◌, ℕ, Bool, false, true, nat_lt, List, ◌++◌, length, Result}
+use Rattle.std.specs.Prelude.{◌≡◌, ◌≤◌, ◌==◌, ◌&&◌, ℕ, Bool, false, true, nat_lt, List, ◌++◌, length, Result}
 use Rattle.std.specs.List.{list_any}
 use Rattle.std.specs.Ordering.{match_ordering}
 use Rattle.std.specs.declared.cmp.Ordering.{Ordering}
@@ -7,55 +7,82 @@ use Rattle.counters.specs.Sums.{sum_below}
 use Rattle.actions.specs.Value.{TermValue}
 use Rattle.replica_state.specs.Operations.{count_at}
 use Rattle.replica_state.specs.States.{State}
+use Rattle.node_core.specs.Replicas.{state_in}
 use Rattle.replica_state.specs.Unions.{key_order, number_both}
 use Rattle.replica_state.specs.Folds.{fold, clock_of}
 use Rattle.replica_state.specs.Knowledge.{changes}
 use Rattle.delta_exchange.specs.declared.fault.WireFault.{WireFault}
+use Rattle.delta_exchange.specs.Limits.{max_names}
 use Rattle.delta_exchange.specs.Messages.{MessageValue}
 use Rattle.delta_exchange.specs.Spelling.{message_bytes}
 use Rattle.delta_exchange.specs.Wholes.{AreLawful, IsWhole}
 use Rattle.delta_exchange.specs.Cells.{whole_of}
-use Rattle.node_core.specs.declared.trace.Config.{Config}
-use Rattle.node_core.specs.Asks.{Message}
-use Rattle.node_core.specs.Nodes.{Node, shown, setting_of, terms_in}
-use Rattle.node_core.specs.Refusals.{any_below, is_above, is_ahead}
-use Rattle.node_core.specs.Steps.{told}
+use Rattle.node_core.specs.declared.config.Config.{Config}
+use Rattle.node_core.specs.declared.delivery.Delivery.{Delivery}
+use Rattle.node_core.specs.Asks.{Message, message_read}
+use Rattle.node_core.specs.Nodes.{Node, state_shown, setting_of, terms_in}
+use Rattle.node_core.specs.Refusals.{any_below, is_above, says_more}
+use Rattle.node_core.specs.Steps.{message_in}
 use Rattle.node_core.specs.Traces.{Kept, node_of}
 
--- a number of a node's own, told under a key that stands so to the one that is held, is above what the node knows
+-- a number of a node's own, told under a key that stands so to the one that is held, is above what the
+-- node knows
 abbrev pub ahead_by : Ordering → ℕ → ℕ → Bool
 ahead_by order own other = match_ordering order false (nat_lt own other) true
 
--- the terms that a name has after a state was told, where the key that is told stands so to the one that is held
+-- hits, executions or shifts of a name that are told, under a key that stands so, are more of node i than
+-- the state knows
+abbrev pub are_hits_ahead : ℕ → State → List ℕ → List (ℕ × ℕ) → Bool
+are_hits_ahead i v name hits = list_any (λ c. c.0 == i && nat_lt (v.hits name i) c.1) hits
+
+abbrev pub are_execs_ahead : ℕ → State → List ℕ → Ordering → List (ℕ × ℕ × ℕ) → Bool
+are_execs_ahead i v name order execs = list_any (λ c. c.1 == i && ahead_by order (v.execs name c.0 i) c.2) execs
+
+abbrev pub are_shifts_ahead : ℕ → State → List ℕ → Ordering → List (ℕ × ℕ × ℕ × ℕ) → Bool
+are_shifts_ahead i v name order shifts =
+    list_any (λ c. c.1 == i && ahead_by order (v.shifts name c.0 i c.2) c.3) shifts
+
+-- the terms that a name has after a state was told, where the key that is told stands so to the one that
+-- is held
 abbrev pub terms_both : Ordering → State → State → List ℕ → List TermValue
-terms_both order v t name = match_ordering order (terms_in (setting_of v name)) (terms_in (setting_of t name)) (terms_in (setting_of t name))
+terms_both order v t name =
+    match_ordering order (terms_in (setting_of v name)) (terms_in (setting_of t name)) (terms_in (setting_of t name))
 
 -- the executions of a term at the nodes below a number
 abbrev pub execs_both : ℕ → Ordering → State → State → List ℕ → ℕ → ℕ
-execs_both nodes order v t name term = sum_below nodes (λ node. number_both order (v.execs name term node) (t.execs name term node))
+execs_both nodes order v t name term =
+    sum_below nodes (λ node. number_both order (v.execs name term node) (t.execs name term node))
 
 -- of one of these terms more are executed than are counted
 abbrev pub are_overspent : ℕ → Ordering → State → State → List ℕ → List TermValue → Bool
-are_overspent nodes order v t name terms = any_below (length terms) (λ term. is_above (count_at terms term) (execs_both nodes order v t name term))
+are_overspent nodes order v t name terms =
+    any_below (length terms) (λ term. is_above (count_at terms term) (execs_both nodes order v t name term))
 
 abbrev pub is_overspent_below : ℕ → State → State → List ℕ → Bool
 is_overspent_below nodes v t name =
     let order = key_order (t.key name) (v.key name) in
     are_overspent nodes order v t name (terms_both order v t name)
 
--- what a message that a node accepts comes to: the state of what it tells, its greatest clock, and whether it changes
--- anything; it says no more of the node than the node knows, and with it there are few names
-pub record IsDelivery (config : Config) (n : Node) (read : Result Message WireFault) (state : State) (clock : ℕ) (changed : Bool) : Type 0 where
-  pub state_is : state ≡ fold (told read).ops
-  pub clock_is : clock ≡ clock_of (told read).ops
-  pub changes_so : changed ≡ changes (shown n) (told read).ops
-  pub lawful : AreLawful config.nodes (told read).ops
-  pub behind : list_any (is_ahead config.node (shown n)) (told read).ops ≡ false
-  pub few_names : length (fold ((told read).ops ++ n.ops)).names ≤ 256
+-- what a message that a node accepts comes to: the state of what it tells, its greatest clock, and
+-- whether it changes anything; it says no more of the node than the node knows, and with it there are
+-- few names
+pub record IsDelivery (config : Config) (n : Node) (read : Result Message WireFault)
+    (state : State) (clock : ℕ) (changed : Bool) : Type 0 where
+  pub state_is : state ≡ fold (message_in read).ops
+  pub clock_is : clock ≡ clock_of (message_in read).ops
+  pub changes_so : changed ≡ changes (state_shown n) (message_in read).ops
+  pub lawful : AreLawful config.nodes (message_in read).ops
+  pub behind : says_more config.node (state_shown n) (message_in read).ops ≡ false
+  pub few_names : length (fold ((message_in read).ops ++ n.ops)).names ≤ max_names
+
+-- what these bytes come to at a node
+abbrev pub DeliversAs : Kept → List ℕ → Delivery → Type 0
+DeliversAs k bytes d =
+    IsDelivery k.config (node_of k) (message_read k.config.nodes bytes) (state_in d.brought) d.clock d.changed
 
 -- bytes of a message to a node that tells all that the sender knows, and no version
 pub record TellsAll (k : Kept) (to : ℕ) (bytes : List ℕ) : Type 0 where
   pub message : MessageValue
-  pub whole : IsWhole k.config.nodes k.config.node to (shown (node_of k)) message
-  pub is : message ≡ whole_of (shown (node_of k)) k.config.nodes k.config.node to
+  pub whole : IsWhole k.config.nodes k.config.node to (state_shown (node_of k)) message
+  pub is : message ≡ whole_of (state_shown (node_of k)) k.config.nodes k.config.node to
   pub written : bytes ≡ message_bytes message

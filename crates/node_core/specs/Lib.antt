@@ -1,4 +1,5 @@
 pub mod Asks
+pub mod Replicas
 pub mod Nodes
 pub mod Stamps
 pub mod Passes
@@ -6,6 +7,7 @@ pub mod Steps
 pub mod Outcomes
 pub mod Refusals
 pub mod Traces
+pub mod Room
 pub mod Holds
 pub mod Texts
 pub mod Deliveries

@@ -1,13 +1,11 @@
--- Which calls need memory: those that no refusal stops before the first of it is taken. No other call is refused for want of it.
+-- Which calls need memory: those that no refusal stops before the first of it is taken. No other call
+-- is refused for want of it.
 use Rattle.std.specs.Prelude.{◌≡◌, ◌≢◌, ℕ, ◌≤◌, ◌<◌, List, length, position, true, IsOk, None}
 use Rattle.actions.specs.Names.{is_name}
 use Rattle.actions.specs.Reading.{is_bad_byte}
 use Rattle.delta_exchange.specs.Reading.{header_of}
 use Rattle.node_core.specs.Traces.{Kept}
-
--- the trace takes one more call
-abbrev pub HasRoom : Kept → Type 0
-HasRoom k = length k.trace < k.config.trace_cap
+use Rattle.node_core.specs.Room.{HasRoom}
 
 -- a text that is too long or has a bad byte is refused before its terms are read
 abbrev pub IsReadable : List ℕ → Type 0

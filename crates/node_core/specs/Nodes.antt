@@ -21,11 +21,15 @@ pub record Node : Type 0 where
   pub past : ℕ → State
 
 abbrev pub start : Node
-start = record { ops = []; marks = record { clock = 0; version = 0; known = λ j. 0; acked = λ j. 0 }; past = λ v. fold [] }
+start = record {
+  ops = [];
+  marks = record { clock = 0; version = 0; known = λ j. 0; acked = λ j. 0 };
+  past = λ v. fold [];
+}
 
 -- what a node shows of its operations; each step reads no more of them
-abbrev pub shown : Node → State
-shown n = fold n.ops
+abbrev pub state_shown : Node → State
+state_shown n = fold n.ops
 
 -- the key of a name and its terms, where the point is set
 abbrev pub setting_in : Option KeyValue → Option (KeyValue × List TermValue)

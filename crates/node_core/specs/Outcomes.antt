@@ -1,11 +1,17 @@
--- What calls change: the keys of a setting, and of a pass whether it counts a hit and the counted term that it executes.
-use Rattle.std.specs.Prelude.{◌≡◌, ℕ, Bool, true, false, List, [], ◌∷◌, ◌++◌, ◌+◌, Option, Some, None, is_some, if◌then◌else◌}
+-- What calls change: the keys of a setting, and of a pass whether it counts a hit and the counted term
+-- that it executes.
+use Rattle.std.specs.Prelude.{◌≡◌, ℕ, Bool, true, false, List, [], ◌∷◌, ◌++◌, ◌+◌, Option, Some, None, is_some, IsSome, IsTrue, if◌then◌else◌}
 use Rattle.actions.specs.Value.{TermValue}
+use Rattle.actions.specs.Names.{is_name}
 use Rattle.stamp_register.specs.Keys.{KeyValue}
-use Rattle.replica_state.specs.Operations.{Operation, count_at}
+use Rattle.replica_state.specs.Operations.{Operation, IsIn, count_at}
+use Rattle.replica_state.specs.Folds.{fold}
 use Rattle.replica_state.specs.States.{State, with_name, with_key, with_pass}
+use Rattle.delta_exchange.specs.Spelling.{IsBody}
 use Rattle.node_core.specs.Passes.{next_hit, next_exec}
-use Rattle.node_core.specs.Steps.{new_key}
+use Rattle.node_core.specs.Steps.{new_key, settings}
+use Rattle.node_core.specs.Asks.{Load}
+use Rattle.node_core.specs.Traces.{Kept, last_clock}
 
 -- the triggered term, if it is counted
 abbrev pub spent_by : List TermValue → Option ℕ → Option ℕ
@@ -29,7 +35,19 @@ state_done i v name true spent = with_pass name i spent v
 abbrev pub IsHeld : State → List ℕ → Type 0
 IsHeld v name = with_name name v.names ≡ v.names
 
+-- a name that has a key is held
+abbrev pub HasKey : State → List ℕ → Type 0
+HasKey v name = IsSome (v.key name) × IsHeld v name
+
 -- the state after points were set, one after the other
 abbrev pub state_set : ℕ → ℕ → List (List ℕ × Option (List ℕ)) → State → State
 state_set i clock [] v = v
 state_set i clock (setting ∷ rest) v = state_set i (clock + 1) rest (with_key setting.0 (new_key i clock setting.1) v)
+
+-- the state in which just the points of a setting text are set, under the next keys of a node
+abbrev pub state_loaded : Kept → List ℕ → State
+state_loaded k text = state_set k.config.node (last_clock k) (settings (Load text)) (fold [])
+
+-- each is a name with a body that a message can tell
+abbrev pub AreTellable : List (List ℕ × Option (List ℕ)) → Type 0
+AreTellable points = (s : List ℕ × Option (List ℕ)) → IsIn s points → IsTrue (is_name s.0) × IsBody s.1

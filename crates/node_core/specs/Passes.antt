@@ -23,8 +23,8 @@ abbrev pub words_for : State → List ℕ → ℕ
 words_for v name = words_needed (terms_in (setting_of v name))
 
 -- the term that a pass triggers
-abbrev pub triggered : ℕ → State → List ℕ → List ℕ → KeyValue × List TermValue → Option ℕ
-triggered i v name words setting = choice setting.1 words (may_run i v name setting.0 setting.1)
+abbrev pub triggered_term : ℕ → State → List ℕ → List ℕ → KeyValue × List TermValue → Option ℕ
+triggered_term i v name words setting = choice setting.1 words (may_run i v name setting.0 setting.1)
 
 abbrev pub task_in : Option TermValue → TaskValue
 task_in None = off
@@ -37,7 +37,11 @@ reply_of_choice setting (Some term) = Act (stamp_of setting.0) term (task_in (sl
 
 abbrev pub reply_of_pass : ℕ → State → List ℕ → List ℕ → Option (KeyValue × List TermValue) → Passed
 reply_of_pass i v name words None = Unset
-reply_of_pass i v name words (Some setting) = reply_of_choice setting (triggered i v name words setting)
+reply_of_pass i v name words (Some setting) = reply_of_choice setting (triggered_term i v name words setting)
+
+-- the reply where the point is as the state has it
+abbrev pub pass_reply : ℕ → State → List ℕ → List ℕ → Passed
+pass_reply i v name words = reply_of_pass i v name words (setting_of v name)
 
 -- the operations: the next hit and, where a counted term is triggered, its next execution
 abbrev pub next_hit : ℕ → State → List ℕ → Operation
@@ -54,6 +58,11 @@ abbrev pub execs_of_choice : ℕ → State → List ℕ → KeyValue × List Ter
 execs_of_choice i v name setting None = []
 execs_of_choice i v name setting (Some term) = execs_of_term i v name setting.0 term (count_at setting.1 term)
 
-abbrev pub ops_of_pass : ℕ → State → List ℕ → List ℕ → Option (KeyValue × List TermValue) → List Operation
+abbrev pub ops_of_pass : ℕ → State → List ℕ → List ℕ →
+    Option (KeyValue × List TermValue) → List Operation
 ops_of_pass i v name words None = []
-ops_of_pass i v name words (Some setting) = execs_of_choice i v name setting (triggered i v name words setting) ++ next_hit i v name ∷ []
+ops_of_pass i v name words (Some setting) =
+    execs_of_choice i v name setting (triggered_term i v name words setting) ++ next_hit i v name ∷ []
+
+abbrev pub pass_ops : ℕ → State → List ℕ → List ℕ → List Operation
+pass_ops i v name words = ops_of_pass i v name words (setting_of v name)

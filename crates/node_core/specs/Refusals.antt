@@ -1,6 +1,9 @@
--- When a node refuses what it is asked. The refusals stand in their order, and the first that applies is the answer.
-use Rattle.std.specs.Prelude.{ℕ, ◌+◌, ◌-◌, ◌^◌, Bool, true, false, ◌==◌, ◌&&◌, ◌||◌, nat_lt, nat_le, not, List, [], ◌∷◌, ◌++◌, length, map, if◌then◌else◌, Option, Some, None, is_none, Result, Ok, Err, zero, suc}
+-- When a node refuses what it is asked. The refusals stand in their order, and the first that applies is
+-- the answer.
+use Rattle.std.specs.Prelude.{ℕ, ◌+◌, ◌-◌, Bool, true, false, ◌==◌, ◌&&◌, ◌||◌, nat_lt, nat_le, not, List, [], ◌∷◌, ◌++◌, length, map, if◌then◌else◌, Option, Some, None, is_none, Result, Ok, Err, zero, suc}
+use Rattle.std.specs.Bool.{then_some}
 use Rattle.std.specs.List.{list_any}
+use Rattle.refusals.specs.Refusals.{first_fault}
 use Rattle.actions.specs.Value.{TermValue}
 use Rattle.actions.specs.Names.{is_name}
 use Rattle.actions.specs.Reading.{reading}
@@ -9,36 +12,36 @@ use Rattle.actions.specs.declared.fault.ActionFault.{ActionFault}
 use Rattle.actions.specs.declared.fault.SettingFault.{SettingFault}
 use Rattle.actions.specs.declared.fault.SettingFault.TheVariants as settings
 use Rattle.counters.specs.Sums.{numbers, sum_below}
-use Rattle.counters.specs.Budgets.{given, gone}
+use Rattle.counters.specs.Budgets.{given_to, gone_from}
+use Rattle.counters.specs.Cells.{is_too_great}
 use Rattle.stamp_register.specs.Keys.{KeyValue, same_key}
 use Rattle.replica_state.specs.Operations.{Operation, Set, Count, Hits, Execs, Shifts, count_at}
 use Rattle.replica_state.specs.States.{State, with_name, budget}
 use Rattle.replica_state.specs.Folds.{fold, name_in}
 use Rattle.replica_state.specs.Knowledge.{is_upto}
 use Rattle.replica_state.specs.Unions.{with_names}
-use Rattle.node_core.specs.declared.trace.Config.{Config}
+use Rattle.node_core.specs.declared.config.Config.{Config}
 use Rattle.node_core.specs.declared.fault.NodeFault.{NodeFault}
 use Rattle.node_core.specs.declared.fault.NodeFault.TheVariants as faults
 use Rattle.node_core.specs.declared.fault.TextFault.TheVariants as texts
+use Rattle.delta_exchange.specs.Limits.{max_nodes, max_names}
 use Rattle.delta_exchange.specs.declared.fault.WireFault.{WireFault}
 use Rattle.delta_exchange.specs.declared.fault.WireFault.TheVariants as wires
 use Rattle.node_core.specs.Asks.{Asked, Message}
 use Rattle.node_core.specs.Asks as asks
-use Rattle.node_core.specs.Nodes.{Node, shown, setting_of, terms_in}
+use Rattle.node_core.specs.Nodes.{Node, state_shown, setting_of, terms_in}
 use Rattle.node_core.specs.Passes.{has_rights_of, words_for}
-use Rattle.node_core.specs.Steps.{points_in, told}
-
-abbrev pub first_fault : List (Option NodeFault) → Option NodeFault
-first_fault [] = None
-first_fault (Some fault ∷ rest) = Some fault
-first_fault (None ∷ rest) = first_fault rest
-
-abbrev pub where_true : Bool → NodeFault → Option NodeFault
-where_true test fault = if test then Some fault else None
+use Rattle.node_core.specs.Steps.{points_in, message_in}
 
 -- the trace has as many entries as it may have
 abbrev pub is_full : Config → ℕ → Bool
 is_full config entries = nat_le config.trace_cap entries
+
+abbrev pub no_entry : Config → ℕ → Option NodeFault
+no_entry config entries = then_some (is_full config entries) faults.TraceFull
+
+abbrev pub no_name : List ℕ → Option NodeFault
+no_name name = then_some (not (is_name name)) faults.BadName
 
 abbrev pub bad_actions : Result (List TermValue) ActionFault → Option NodeFault
 bad_actions (Ok terms) = None
@@ -53,42 +56,63 @@ abbrev pub bad_setting : Result (List (List ℕ × List TermValue)) SettingFault
 bad_setting (Ok points) = None
 bad_setting (Err fault) = Some (setting_fault fault)
 
--- more than 256 names would be held
+-- more names would be held than a node may
 abbrev pub too_many : List (List ℕ) → Bool
-too_many names = nat_lt 256 (length names)
+too_many names = nat_lt max_names (length names)
 
--- the greatest number of a clock or a cell
-abbrev pub most : ℕ
-most = 2 ^ 64 - 1
+-- these are too many names, and there are no clocks for so many keys
+abbrev pub no_place : List (List ℕ) → Option NodeFault
+no_place names = then_some (too_many names) faults.TooManyPoints
+
+abbrev pub no_clock : Node → ℕ → Option NodeFault
+no_clock n count = then_some (is_too_great (n.marks.clock + count)) faults.ClockFull
+
+-- why a key of a name is refused
+abbrev pub key_refusal : Node → List ℕ → Option NodeFault
+key_refusal n name = first_fault (no_place (with_name name (state_shown n).names) ∷ no_clock n 1 ∷ [])
 
 -- the number of another node
 abbrev pub is_bad_node : Config → ℕ → Bool
 is_bad_node config to = not (nat_lt to config.nodes) || to == config.node
 
+abbrev pub no_node : Config → ℕ → Option NodeFault
+no_node config to = then_some (is_bad_node config to) faults.BadNode
+
 -- rights of this amount aren't there, and how many there are
 abbrev pub too_few : ℕ → State → List ℕ → ℕ → ℕ → Option (KeyValue × List TermValue) → Bool
 too_few i v name term amount None = true
-too_few i v name term amount (Some setting) = not (has_rights_of i v name setting.0 term amount (count_at setting.1 term))
+too_few i v name term amount (Some setting) =
+    not (has_rights_of i v name setting.0 term amount (count_at setting.1 term))
 
 abbrev pub rights_counted : ℕ → State → List ℕ → KeyValue → ℕ → Option ℕ → ℕ
 rights_counted i v name key term None = 0
-rights_counted i v name key term (Some count) = given (budget v name term key.node count) i - gone (budget v name term key.node count) i
+rights_counted i v name key term (Some count) =
+    let b = budget v name term key.node count in
+    given_to b i - gone_from b i
 
 abbrev pub rights_here : ℕ → State → List ℕ → ℕ → Option (KeyValue × List TermValue) → ℕ
 rights_here i v name term None = 0
 rights_here i v name term (Some setting) = rights_counted i v name setting.0 term (count_at setting.1 term)
 
--- an operation says more of node i than it knows itself: a later hit of its own; a key of its own above the key of the
--- name; under that key, a later execution or shift of its own; under a greater key, any of its own
+-- an operation says more of node i than it knows itself: a later hit of its own; a key of its own above
+-- the key of the name; under that key, a later execution or shift of its own; under a greater key, any
+-- of its own
 abbrev pub is_cell_ahead : KeyValue → ℕ → ℕ → Option KeyValue → Bool
 is_cell_ahead key number here None = true
-is_cell_ahead key number here (Some other) = if same_key other key then nat_lt here number else not (is_upto (Some key) (Some other))
+is_cell_ahead key number here (Some other) =
+    if same_key other key then nat_lt here number else not (is_upto (Some key) (Some other))
 
 abbrev pub is_ahead : ℕ → State → Operation → Bool
 is_ahead i v (Set name key) = key.node == i && not (is_upto (Some key) (v.key name))
 is_ahead i v (Count (Hits name node) number) = node == i && nat_lt (v.hits name i) number
-is_ahead i v (Count (Execs name key term node) number) = node == i && is_cell_ahead key number (v.execs name term i) (v.key name)
-is_ahead i v (Count (Shifts name key term from to) number) = from == i && is_cell_ahead key number (v.shifts name term i to) (v.key name)
+is_ahead i v (Count (Execs name key term node) number) =
+    node == i && is_cell_ahead key number (v.execs name term i) (v.key name)
+is_ahead i v (Count (Shifts name key term from to) number) =
+    from == i && is_cell_ahead key number (v.shifts name term i to) (v.key name)
+
+-- one of these operations does
+abbrev pub says_more : ℕ → State → List Operation → Bool
+says_more i v ops = list_any (is_ahead i v) ops
 
 -- the executions of a term of the name add up to more than its count
 abbrev pub is_above : Option ℕ → ℕ → Bool
@@ -100,22 +124,35 @@ any_below zero test = false
 any_below (suc n) test = test n || any_below n test
 
 abbrev pub is_overspent : State → List ℕ → List TermValue → Bool
-is_overspent v name terms = any_below (length terms) (λ term. is_above (count_at terms term) (sum_below numbers (v.execs name term)))
+is_overspent v name terms =
+    any_below (length terms) (λ term. is_above (count_at terms term) (sum_below numbers (v.execs name term)))
 
 -- of a name that a message carries, in the state after it
 abbrev pub overspends : State → Operation → Bool
 overspends v op = is_overspent v (name_in op) (terms_in (setting_of v (name_in op)))
 
+-- there aren't rights of this amount, and there are so many
+abbrev pub no_rights : ℕ → State → List ℕ → ℕ → ℕ → Option (KeyValue × List TermValue) → Option NodeFault
+no_rights i v name term amount setting =
+    then_some (too_few i v name term amount setting) (faults.TooFewRights (rights_here i v name term setting))
+
 -- the refusals of a shift but those of the trace and of the name
-abbrev pub faults_of_setting : Config → State → List ℕ → ℕ → ℕ → ℕ → Option (KeyValue × List TermValue) → List (Option NodeFault)
+abbrev pub faults_of_setting : Config → State → List ℕ → ℕ → ℕ → ℕ →
+    Option (KeyValue × List TermValue) → List (Option NodeFault)
 faults_of_setting config v name term to amount setting =
-    where_true (is_none setting) faults.NotSet ∷ where_true (nat_le (length (terms_in setting)) term) faults.NoSuchTerm ∷
-    where_true (is_none (count_at (terms_in setting) term)) faults.NotCounted ∷ where_true (is_bad_node config to) faults.BadNode ∷
-    where_true (amount == 0) faults.ZeroAmount ∷ where_true (too_few config.node v name term amount setting) (faults.TooFewRights (rights_here config.node v name term setting)) ∷
-    where_true (nat_lt most (v.shifts name term config.node to + amount)) faults.CellFull ∷ []
+    then_some (is_none setting) faults.NotSet ∷
+    then_some (nat_le (length (terms_in setting)) term) faults.NoSuchTerm ∷
+    then_some (is_none (count_at (terms_in setting) term)) faults.NotCounted ∷
+    no_node config to ∷
+    then_some (amount == 0) faults.ZeroAmount ∷
+    no_rights config.node v name term amount setting ∷
+    then_some (is_too_great (v.shifts name term config.node to + amount)) faults.CellFull ∷ []
 
 abbrev pub faults_of_shift : Config → State → List ℕ → ℕ → ℕ → ℕ → List (Option NodeFault)
 faults_of_shift config v name term to amount = faults_of_setting config v name term to amount (setting_of v name)
+
+abbrev pub shift_refusal : Config → State → List ℕ → ℕ → ℕ → ℕ → Option NodeFault
+shift_refusal config v name term to amount = first_fault (faults_of_shift config v name term to amount)
 
 abbrev pub bad_message : Result Message WireFault → Option NodeFault
 bad_message (Ok message) = None
@@ -129,44 +166,54 @@ wire_refusal fault = faults.BadMessage fault
 -- the refusals of a message for what it is and what it says
 abbrev pub faults_of_message : Config → Node → Result Message WireFault → List (Option NodeFault)
 faults_of_message config n read =
-    bad_message read ∷ where_true (not ((told read).to == config.node)) faults.NotForMe ∷
-    where_true (list_any (is_ahead config.node (shown n)) (told read).ops) faults.OwnAhead ∷ where_true (nat_lt n.marks.version (told read).ack) faults.AckAhead ∷
-    where_true (list_any (overspends (fold ((told read).ops ++ n.ops))) (told read).ops) faults.Overspent ∷ []
+    bad_message read ∷
+    then_some (not ((message_in read).to == config.node)) faults.NotForMe ∷
+    then_some (says_more config.node (state_shown n) (message_in read).ops) faults.OwnAhead ∷
+    then_some (nat_lt n.marks.version (message_in read).ack) faults.AckAhead ∷
+    then_some (list_any (overspends (fold ((message_in read).ops ++ n.ops))) (message_in read).ops) faults.Overspent ∷ []
+
+-- too many names with those of a message, which nothing else refuses
+abbrev pub too_many_told : Config → Node → Result Message WireFault → Option NodeFault
+too_many_told config n read =
+    then_some
+    (is_none (first_fault (faults_of_message config n read)) && too_many (fold ((message_in read).ops ++ n.ops)).names)
+    faults.TooManyPoints
+
+-- a pass takes so many words
+abbrev pub bad_words : ℕ → List ℕ → Option NodeFault
+bad_words need words = then_some (not (length words == need)) (faults.BadWords need)
 
 -- words are for a pass alone
 abbrev pub spare_words : List ℕ → Option NodeFault
 spare_words [] = None
 spare_words (word ∷ words) = Some (faults.BadWords 0)
 
--- the refusals of an ask, with what the node shows and the length of its trace. Too many names in a message count only
--- where nothing else of it is refused
+-- the refusals of an ask of a node whose trace has so many entries
 abbrev pub faults_of : Config → ℕ → Node → Asked → List ℕ → List (Option NodeFault)
 faults_of config entries n (asks.Set name text) words =
-    where_true (is_full config entries) faults.TraceFull ∷ where_true (not (is_name name)) faults.BadName ∷ bad_actions (reading text) ∷
-    where_true (too_many (with_name name (shown n).names)) faults.TooManyPoints ∷ where_true (nat_lt most (n.marks.clock + 1)) faults.ClockFull ∷ spare_words words ∷ []
+    no_entry config entries ∷ no_name name ∷ bad_actions (reading text) ∷
+    no_place (with_name name (state_shown n).names) ∷ no_clock n 1 ∷ spare_words words ∷ []
 faults_of config entries n (asks.Remove name) words =
-    where_true (is_full config entries) faults.TraceFull ∷ where_true (not (is_name name)) faults.BadName ∷
-    where_true (too_many (with_name name (shown n).names)) faults.TooManyPoints ∷ where_true (nat_lt most (n.marks.clock + 1)) faults.ClockFull ∷ spare_words words ∷ []
+    no_entry config entries ∷ no_name name ∷
+    no_place (with_name name (state_shown n).names) ∷ no_clock n 1 ∷ spare_words words ∷ []
 faults_of config entries n (asks.Load text) words =
-    where_true (is_full config entries) faults.TraceFull ∷ bad_setting (setting_reading text) ∷
-    where_true (too_many (with_names (map (λ point. point.0) (points_in text)) (shown n).names)) faults.TooManyPoints ∷
-    where_true (nat_lt most (n.marks.clock + length (points_in text))) faults.ClockFull ∷ spare_words words ∷ []
+    no_entry config entries ∷ bad_setting (setting_reading text) ∷
+    no_place (with_names (map (λ point. point.0) (points_in text)) (state_shown n).names) ∷
+    no_clock n (length (points_in text)) ∷ spare_words words ∷ []
 faults_of config entries n (asks.Pass name) words =
-    where_true (is_full config entries) faults.TraceFull ∷ where_true (not (is_name name)) faults.BadName ∷
-    where_true (not (length words == words_for (shown n) name)) (faults.BadWords (words_for (shown n) name)) ∷ []
+    no_entry config entries ∷ no_name name ∷ bad_words (words_for (state_shown n) name) words ∷ []
 faults_of config entries n (asks.Shift name term to amount) words =
-    where_true (is_full config entries) faults.TraceFull ∷ where_true (not (is_name name)) faults.BadName ∷
-    first_fault (faults_of_shift config (shown n) name term to amount) ∷ spare_words words ∷ []
+    no_entry config entries ∷ no_name name ∷
+    shift_refusal config (state_shown n) name term to amount ∷ spare_words words ∷ []
 faults_of config entries n (asks.Emit to versions chosen) words =
-    where_true (is_full config entries) faults.TraceFull ∷ where_true (is_bad_node config to) faults.BadNode ∷ spare_words words ∷ []
+    no_entry config entries ∷ no_node config to ∷ spare_words words ∷ []
 faults_of config entries n (asks.Deliver read) words =
-    where_true (is_full config entries) faults.TraceFull ∷
-    where_true (is_none (first_fault (faults_of_message config n read)) && too_many (fold ((told read).ops ++ n.ops)).names) faults.TooManyPoints ∷
-    spare_words words ∷ faults_of_message config n read
+    no_entry config entries ∷ too_many_told config n read ∷ spare_words words ∷
+    faults_of_message config n read
 
 abbrev pub refusal_at : Config → ℕ → Node → Asked → List ℕ → Option NodeFault
 refusal_at config entries n ask words = first_fault (faults_of config entries n ask words)
 
--- a cluster has 1 to 16 nodes, and this is one of them
+-- a cluster has at least 1 node and at most so many, and this is one of them
 abbrev pub is_bad_config : Config → Bool
-is_bad_config config = config.nodes == 0 || nat_lt 16 config.nodes || nat_le config.nodes config.node
+is_bad_config config = config.nodes == 0 || nat_lt max_nodes config.nodes || nat_le config.nodes config.node

@@ -2,6 +2,7 @@
 use Rattle.std.specs.Prelude.{ℕ, Bool, true, false, List, ◌∷◌, ◌++◌, Option, Some, None, codes, decimal, option_and_then, option_map}
 use Rattle.std.specs.List.{filter_map, join_with_byte}
 use Rattle.actions.specs.FaultText.{fault_text, setting_fault_text}
+use Rattle.actions.specs.Value.{TermValue}
 use Rattle.stamp_register.specs.Keys.{KeyValue}
 use Rattle.replica_state.specs.States.{State}
 use Rattle.delta_exchange.specs.FaultText.{wire_fault_text}
@@ -9,6 +10,7 @@ use Rattle.node_core.specs.declared.fault.NodeFault.{NodeFault}
 use Rattle.node_core.specs.declared.fault.NodeFault.TheVariants as faults
 use Rattle.node_core.specs.declared.fault.TextFault.{TextFault}
 use Rattle.node_core.specs.declared.fault.TextFault.TheVariants as texts
+use Rattle.node_core.specs.Nodes.{setting_of}
 
 -- the text of the fault that it holds
 abbrev pub text_fault_text : TextFault → List ℕ
@@ -55,3 +57,19 @@ entry_after false (Some entry) text = text ++ 59 ∷ entry
 -- those of all names that are set, in byte order, joined by `;`
 unfoldable pub list_text : State → List ℕ
 list_text v = join_with_byte 59 (filter_map (list_entry v) v.names)
+
+-- a name that is set, with its terms
+abbrev pub point_listed : State → List ℕ → Option (List ℕ × List TermValue)
+point_listed v name = option_map (λ setting. (name, setting.1)) (setting_of v name)
+
+-- the points that are set, in byte order of their names
+unfoldable pub points_listed : State → List (List ℕ × List TermValue)
+points_listed v = filter_map (point_listed v) v.names
+
+-- a name that is set, with its canonical text, as an ask sets it
+abbrev pub setting_listed : State → List ℕ → Option (List ℕ × Option (List ℕ))
+setting_listed v name = option_map (λ text. (name, Some text)) (text_set v name)
+
+-- those of all names that are set, in byte order
+unfoldable pub settings_listed : State → List (List ℕ × Option (List ℕ))
+settings_listed v = filter_map (setting_listed v) v.names

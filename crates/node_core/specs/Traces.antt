@@ -1,11 +1,14 @@
 -- Traces: the accepted calls of a node, and what they come to.
-use Rattle.std.specs.Prelude.{◌≡◌, ℕ, ◌+◌, ◌≤◌, List, [], ◌∷◌, ◌++◌, length, Option, None}
+use Rattle.std.specs.Prelude.{◌≡◌, ◌⊎◌, ℕ, ◌+◌, ◌≤◌, List, [], ◌∷◌, ◌++◌, length, map, Option, Some, None}
 use Rattle.replica_state.specs.Deltas.{IsDelta}
-use Rattle.node_core.specs.declared.trace.Config.{Config}
+use Rattle.replica_state.specs.States.{State}
+use Rattle.node_core.specs.declared.config.Config.{Config}
 use Rattle.node_core.specs.declared.fault.NodeFault.{NodeFault}
-use Rattle.node_core.specs.Asks.{Asked, Answered, Call, Versions}
+use Rattle.node_core.specs.declared.fault.NodeFault.TheVariants.{OutOfMemory}
+use Rattle.node_core.specs.declared.trace.Entry.{Entry}
+use Rattle.node_core.specs.Asks.{Asked, Answered, Call, Versions, bare_emit, call, emit_of, message_read}
 use Rattle.node_core.specs.Asks as asks
-use Rattle.node_core.specs.Nodes.{Node, Marks, start, shown}
+use Rattle.node_core.specs.Nodes.{Node, Marks, start, state_shown}
 use Rattle.node_core.specs.Steps.{after, reply}
 use Rattle.node_core.specs.Refusals.{refusal_at}
 
@@ -22,8 +25,23 @@ pub record Kept : Type 0 where
   pub config : Config
   pub trace : List Call
 
+-- the node that a configuration and the entries of a trace tell of
+abbrev pub kept_of : Config → List Entry → Kept
+kept_of config entries = record { config = config; trace = map (call config.nodes) entries }
+
+-- an entry of its trace as a call
+abbrev pub call_of : Kept → Entry → Call
+call_of k entry = call k.config.nodes entry
+
 abbrev pub node_of : Kept → Node
 node_of k = replay k.config.node k.trace
+
+-- what it knows, as a state, and the greatest clock that it knows of
+abbrev pub state_known : Kept → State
+state_known k = state_shown (node_of k)
+
+abbrev pub last_clock : Kept → ℕ
+last_clock k = (node_of k).marks.clock
 
 -- why the next ask is refused, if it is; the entry of an accepted one; and the node after it
 abbrev pub refusal : Kept → Asked → List ℕ → Option NodeFault
@@ -38,22 +56,53 @@ entry_for k ask words = record { ask = ask; words = words; reply = reply_to k as
 abbrev pub after_call : Kept → Asked → List ℕ → Kept
 after_call k ask words = record { config = k.config; trace = k.trace ++ entry_for k ask words ∷ [] }
 
--- an emit tells no version that the node hasn't, counts on none that its receiver isn't known to have, and sends what differs between its state at the version that it
--- counts on and its state now
+-- an ask is accepted: nothing refuses it, this is the step's reply, and the node is then the one after it
+abbrev pub Accepts : Kept → Kept → Asked → List ℕ → Answered → Type 0
+Accepts k new ask words answer =
+    (refusal k ask words ≡ None) × (reply_to k ask words ≡ answer) × (new ≡ after_call k ask words)
+
+-- an ask is refused so: by its first refusal, or for want of memory
+abbrev pub IsRefusalOf : Kept → Asked → List ℕ → NodeFault → Type 0
+IsRefusalOf k ask words fault = (fault ≡ OutOfMemory) ⊎ (refusal k ask words ≡ Some fault)
+
+-- the ask of a delivery of these bytes, and of an emit whose reply these bytes are
+abbrev pub delivery_of : Kept → List ℕ → Asked
+delivery_of k bytes = asks.Deliver (message_read k.config.nodes bytes)
+
+abbrev pub emission_of : Kept → ℕ → List ℕ → Asked
+emission_of k to bytes = emit_of to (message_read k.config.nodes bytes)
+
+-- an emit to a node is accepted, and these are the bytes of the message
+abbrev pub Emits : Kept → Kept → ℕ → List ℕ → Type 0
+Emits k new to bytes =
+    (refusal k (bare_emit to) [] ≡ None) ×
+    (reply_to k (emission_of k to bytes) [] ≡ asks.IsEmitted (message_read k.config.nodes bytes)) ×
+    (new ≡ after_call k (emission_of k to bytes) [])
+
+-- a call is accepted with these words, and this is its entry
+abbrev pub Records : Kept → Kept → Call → List ℕ → Type 0
+Records k new c words =
+    (refusal k c.ask words ≡ None) × (c ≡ entry_for k c.ask words) × (new ≡ after_call k c.ask words)
+
+-- an emit tells no version that the node hasn't, and counts on none that its receiver isn't known to
+-- have
 pub record MayTell (marks : Marks) (to : ℕ) (versions : Versions) : Type 0 where
   pub base : versions.base ≤ marks.acked to
   pub upto : versions.upto ≤ marks.version
   pub ack : versions.ack ≤ marks.known to
 
+-- it sends what differs between the state at the version that it counts on and the state now
 abbrev pub SendsDelta : Node → Asked → Type 0
-SendsDelta n (asks.Emit to versions chosen) = MayTell n.marks to versions × IsDelta (n.past versions.base) (shown n) chosen
+SendsDelta n (asks.Emit to versions chosen) =
+    MayTell n.marks to versions × IsDelta (n.past versions.base) (state_shown n) chosen
 SendsDelta n _ = Unit {0}
 
 -- a trace is legal where each call of it, from the start, is accepted and has the step's reply
 unfoldable pub IsLegalFrom : Config → ℕ → Node → List Call → Type 0
 IsLegalFrom config entries n [] = Unit {0}
 IsLegalFrom config entries n (c ∷ cs) =
-    (refusal_at config entries n c.ask c.words ≡ None) × SendsDelta n c.ask × (c.reply ≡ reply config.node n c.ask c.words) ×
+    (refusal_at config entries n c.ask c.words ≡ None) × SendsDelta n c.ask ×
+    (c.reply ≡ reply config.node n c.ask c.words) ×
     IsLegalFrom config (entries + 1) (after config.node n c.ask c.words) cs
 
 abbrev pub IsLegal : Config → List Call → Type 0

@@ -6,19 +6,19 @@ ghost use Rattle.std.specs.Ordering.{is_gt};
 ghost use Rattle.stamp_register.specs.Keys.{key_value};
 ghost use Rattle.replica_state.specs.Folds.{clock_of};
 ghost use Rattle.replica_state.specs.Points.{standing};
-ghost use Rattle.replica_state.specs.Slots.{matrix_state};
+ghost use Rattle.node_core.specs.Replicas.{state_in};
 ghost use Rattle.replica_state.specs.Operations.{count_at};
 ghost use Rattle.replica_state.specs.Unions.{key_order, number_both};
 ghost use Rattle.delta_exchange.specs.Messages.{entry_value, message_value, operations_of, operations_in};
 ghost use Rattle.delta_exchange.specs.Reading.{header_of};
 ghost use Rattle.delta_exchange.specs.Spelling.{IsMessage};
 ghost use Rattle.node_core.specs.Asks.{message_of, message_read};
-ghost use Rattle.node_core.specs.Refusals.{bad_message, wire_refusal, is_ahead};
-ghost use Rattle.node_core.specs.Deliveries.{ahead_by, are_overspent, execs_both, is_overspent_below, terms_both};
+ghost use Rattle.node_core.specs.Refusals.{bad_message, wire_refusal, says_more};
+ghost use Rattle.node_core.specs.Deliveries.{ahead_by, are_hits_ahead, are_execs_ahead, are_shifts_ahead, are_overspent, execs_both, is_overspent_below, terms_both};
 
 use crate::State;
 use crate::fault::NodeFault;
-use crate::pass::setting_at;
+use crate::setting::setting_at;
 use actions::{Actions, Name};
 use delta_exchange::{Message, NameEntry, WireFault, decode};
 use replica_state::Replica;
@@ -30,7 +30,7 @@ use std::cmp::Ordering;
 /// its keys, and whether the node learns anything.
 #[derive(Debug, Drop)]
 pub(crate) struct Delivery {
-    pub(crate) told: State,
+    pub(crate) brought: State,
     pub(crate) clock: u64,
     pub(crate) changed: bool,
 }
@@ -49,7 +49,8 @@ fn refusal_for(fault: WireFault) -> NodeFault
 pub(crate) fn read_message(alloc: Global, nodes: u8, bytes: &[u8]) -> Result<Message, NodeFault>
     ensures ok { IfOk result (λ m. message_read nodes bytes.now ≡ Ok (message_of (message_value m))) }
     ensures spelled { IfOk result (λ m. IsMessage nodes (message_value m)) }
-    ensures refused { IfErr result (λ f. (f ≡ NodeFault.OutOfMemory) ⊎ (bad_message (message_read nodes bytes.now) ≡ Some f)) }
+    ensures refused { IfErr result (λ f. (f ≡ NodeFault.OutOfMemory)
+        ⊎ (bad_message (message_read nodes bytes.now) ≡ Some f)) }
     ensures header { OnOk result (IsOk (header_of nodes bytes.now)) }
     ensures memory { IsErrOf result NodeFault.OutOfMemory → IsOk (header_of nodes bytes.now) }
 {
@@ -61,7 +62,7 @@ pub(crate) fn read_message(alloc: Global, nodes: u8, bytes: &[u8]) -> Result<Mes
 
 /// How a key that is told of a name stands to the one that is held.
 fn standing(state: &State, name: &Name, key: &Key) -> Ordering
-    ensures { result ≡ standing (key_value key.now) ((matrix_state state.now).key name.now) }
+    ensures { result ≡ standing (key_value key.now) ((state_in state.now).key name.now) }
 {
     match state.key(name) {
         Some(held) => key.cmp(held),
@@ -69,7 +70,8 @@ fn standing(state: &State, name: &Name, key: &Key) -> Ordering
     }
 }
 
-/// Whether a key that a node set and that stands so is one that it doesn't know itself.
+/// Whether a message's key is one that this node set and doesn't know itself. `order` compares it with the
+/// held one.
 fn is_key_ahead(order: Ordering, me: u8, setter: u8) -> bool
     ensures { result ≡ (setter == me && is_gt order) }
 {
@@ -78,22 +80,21 @@ fn is_key_ahead(order: Ordering, me: u8, setter: u8) -> bool
 
 /// Whether a number of a node's own that is told under a key which stands so is above what the
 /// node knows itself.
-fn is_number_ahead(order: Ordering, own: u64, told: u64) -> bool
-    ensures { result ≡ ahead_by order own told }
+fn is_number_ahead(order: Ordering, own: u64, other: u64) -> bool
+    ensures { result ≡ ahead_by order own other }
 {
     match order {
         Ordering::Less => false,
-        Ordering::Equal => own < told,
+        Ordering::Equal => own < other,
         Ordering::Greater => true,
     }
 }
 
 /// Whether more hits of a node's own are told than it knows itself.
 fn are_hits_ahead(state: &State, me: u8, name: &Name, hits: &[(u8, u64)]) -> bool
-    ensures { result ≡ list_any (λ c. c.0 == me && nat_lt ((matrix_state state.now).hits name.now me) c.1) hits.now }
+    ensures { result ≡ are_hits_ahead me (state_in state.now) name.now hits.now }
 {
-    hits.iter()
-        .any(|(node, told)| *node == me && state.hits(name, me) < *told)
+    hits.iter().any(|(node, number)| *node == me && state.hits(name, me) < *number)
 }
 
 /// Whether more executions of a node's own are told, under a key that stands so, than it knows
@@ -105,10 +106,10 @@ fn are_execs_ahead(
     order: Ordering,
     execs: &[(u8, u8, u64)],
 ) -> bool
-    ensures { result ≡ list_any (λ c. c.1 == me && ahead_by order ((matrix_state state.now).execs name.now c.0 me) c.2) execs.now }
+    ensures { result ≡ are_execs_ahead me (state_in state.now) name.now order execs.now }
 {
-    execs.iter().any(|(term, node, told)| *node == me
-        && is_number_ahead(order, state.exec(name, *term, me), *told))
+    execs.iter().any(|(term, node, number)| *node == me
+        && is_number_ahead(order, state.exec(name, *term, me), *number))
 }
 
 /// Whether it is told that a node moved more rights, under a key that stands so, than it knows
@@ -120,15 +121,15 @@ fn are_shifts_ahead(
     order: Ordering,
     shifts: &[(u8, u8, u8, u64)],
 ) -> bool
-    ensures { result ≡ list_any (λ c. c.1 == me && ahead_by order ((matrix_state state.now).shifts name.now c.0 me c.2) c.3) shifts.now }
+    ensures { result ≡ are_shifts_ahead me (state_in state.now) name.now order shifts.now }
 {
-    shifts.iter().any(|(term, from, to, told)| *from == me
-        && is_number_ahead(order, state.moved(name, *term, me, *to), *told))
+    shifts.iter().any(|(term, from, to, number)| *from == me
+        && is_number_ahead(order, state.moved(name, *term, me, *to), *number))
 }
 
 /// Whether an entry says more of this node than it knows itself.
 fn is_entry_ahead(state: &State, me: u8, entry: &NameEntry) -> bool
-    ensures { result ≡ list_any (is_ahead me (matrix_state state.now)) (operations_of (entry_value entry.now)) }
+    ensures { result ≡ says_more me (state_in state.now) (operations_of (entry_value entry.now)) }
 {
     let order = standing(state, &entry.name, &entry.key);
     if is_key_ahead(order, me, entry.key.node) {
@@ -145,14 +146,15 @@ fn is_entry_ahead(state: &State, me: u8, entry: &NameEntry) -> bool
 
 /// Whether one of the entries says more of this node than it knows itself.
 fn is_any_ahead(state: &State, me: u8, entries: &[NameEntry]) -> bool
-    ensures { result ≡ list_any (λ e. list_any (is_ahead me (matrix_state state.now)) (operations_of (entry_value e))) entries.now }
+    ensures { result
+        ≡ list_any (λ e. says_more me (state_in state.now) (operations_of (entry_value e))) entries.now }
 {
     entries.iter().any(|entry| is_entry_ahead(state, me, entry))
 }
 
 /// Whether a message says more of this node than it knows itself.
 pub(crate) fn is_message_ahead(state: &State, me: u8, message: &Message) -> bool
-    ensures { result ≡ list_any (is_ahead me (matrix_state state.now)) (operations_in (message_value message.now)) }
+    ensures { result ≡ says_more me (state_in state.now) (operations_in (message_value message.now)) }
 {
     is_any_ahead(state, me, &message.entries)
 }
@@ -169,10 +171,10 @@ pub(crate) fn latest_clock(entries: &[NameEntry]) -> u64
 }
 
 /// How the key that another state holds of a name stands to the one that is held here.
-fn standing_of(state: &State, told: &State, name: &Name) -> Ordering
-    ensures { result ≡ key_order ((matrix_state told.now).key name.now) ((matrix_state state.now).key name.now) }
+fn standing_of(state: &State, brought: &State, name: &Name) -> Ordering
+    ensures { result ≡ key_order ((state_in brought.now).key name.now) ((state_in state.now).key name.now) }
 {
-    if let Some(key) = told.key(name) {
+    if let Some(key) = brought.key(name) {
         return standing(state, name, key);
     }
     match state.key(name) {
@@ -183,11 +185,13 @@ fn standing_of(state: &State, told: &State, name: &Name) -> Ordering
 
 /// The executions of a term at a node once both states are one, where the key that is told stands
 /// so.
-fn execs_at(order: Ordering, state: &State, told: &State, name: &Name, term: u8, node: u8) -> u64
-    ensures { result ≡ number_both order ((matrix_state state.now).execs name.now term node) ((matrix_state told.now).execs name.now term node) }
+fn execs_at(order: Ordering, state: &State, brought: &State, name: &Name, term: u8, node: u8) -> u64
+    ensures { result ≡ number_both order
+        ((state_in state.now).execs name.now term node)
+        ((state_in brought.now).execs name.now term node) }
 {
     let held = state.exec(name, term, node);
-    let other = told.exec(name, term, node);
+    let other = brought.exec(name, term, node);
     match order {
         Ordering::Less => held,
         Ordering::Equal => held.max(other),
@@ -200,15 +204,15 @@ fn execs_both(
     nodes: u8,
     order: Ordering,
     state: &State,
-    told: &State,
+    brought: &State,
     name: &Name,
     term: u8,
 ) -> u128
-    ensures { result ≡ execs_both nodes order (matrix_state state.now) (matrix_state told.now) name.now term }
+    ensures { result ≡ execs_both nodes order (state_in state.now) (state_in brought.now) name.now term }
 {
     let mut sum = 0u128;
     for node in 0..nodes {
-        sum += u128::from(execs_at(order, state, told, name, term, node));
+        sum += u128::from(execs_at(order, state, brought, name, term, node));
     }
     sum
 }
@@ -218,15 +222,16 @@ fn is_term_overspent(
     nodes: u8,
     order: Ordering,
     state: &State,
-    told: &State,
+    brought: &State,
     name: &Name,
     actions: &Actions,
 ) -> bool
-    ensures { result ≡ are_overspent nodes order (matrix_state state.now) (matrix_state told.now) name.now actions.now }
+    ensures { result
+        ≡ are_overspent nodes order (state_in state.now) (state_in brought.now) name.now actions.now }
 {
     for term in 0..actions.len() {
         if let Some(count) = count_at(actions, term as u8) {
-            if execs_both(nodes, order, state, told, name, term as u8) > u128::from(count) {
+            if execs_both(nodes, order, state, brought, name, term as u8) > u128::from(count) {
                 return true;
             }
         }
@@ -238,26 +243,28 @@ fn is_term_overspent(
 fn actions_both<'a>(
     order: Ordering,
     state: &'a State,
-    told: &'a State,
+    brought: &'a State,
     name: &Name,
 ) -> Option<&'a Actions>
-    ensures { MatchOption result (terms_both order (matrix_state state.now) (matrix_state told.now) name.now ≡ []) (λ a. terms_both order (matrix_state state.now) (matrix_state told.now) name.now ≡ a.now) }
+    ensures { MatchOption result
+        (terms_both order (state_in state.now) (state_in brought.now) name.now ≡ [])
+        (λ a. terms_both order (state_in state.now) (state_in brought.now) name.now ≡ a.now) }
 {
     let holder = match order {
         Ordering::Less => state,
-        _ => told,
+        _ => brought,
     };
     let (_, actions) = setting_at(holder, name)?;
     Some(actions)
 }
 
 /// Whether a name would have a term that is executed more often than it is counted.
-fn is_name_overspent(nodes: u8, state: &State, told: &State, name: &Name) -> bool
-    ensures { result ≡ is_overspent_below nodes (matrix_state state.now) (matrix_state told.now) name.now }
+fn is_name_overspent(nodes: u8, state: &State, brought: &State, name: &Name) -> bool
+    ensures { result ≡ is_overspent_below nodes (state_in state.now) (state_in brought.now) name.now }
 {
-    let order = standing_of(state, told, name);
-    match actions_both(order, state, told, name) {
-        Some(actions) => is_term_overspent(nodes, order, state, told, name, actions),
+    let order = standing_of(state, brought, name);
+    match actions_both(order, state, brought, name) {
+        Some(actions) => is_term_overspent(nodes, order, state, brought, name, actions),
         None => false,
     }
 }
@@ -277,12 +284,11 @@ fn count_at(actions: &Actions, term: u8) -> Option<u64>
 pub(crate) fn is_any_overspent(
     nodes: u8,
     state: &State,
-    told: &State,
+    brought: &State,
     entries: &[NameEntry],
 ) -> bool
-    ensures { result ≡ list_any (λ e. is_overspent_below nodes (matrix_state state.now) (matrix_state told.now) e.name) entries.now }
+    ensures { result ≡ list_any
+        (λ e. is_overspent_below nodes (state_in state.now) (state_in brought.now) e.name) entries.now }
 {
-    entries
-        .iter()
-        .any(|entry| is_name_overspent(nodes, state, told, &entry.name))
+    entries.iter().any(|entry| is_name_overspent(nodes, state, brought, &entry.name))
 }

@@ -32,8 +32,9 @@ impl fmt::Display for TextFault {
 impl Error for TextFault {}
 
 /// Why a call is refused. Where several refusals apply, the first of them in this order is the
-/// answer, but that want of memory stands in the place of any other. After a refusal the node is
-/// as it was.
+/// answer, but that want of memory may stand in the place of any other, and that
+/// `TooManyPoints` of a delivery comes behind all else that refuses its message. After a refusal
+/// the node is as it was.
 ///
 /// `Display` shows the number, the variant's name and each field as `field=value`, or the text of
 /// the fault that it holds.

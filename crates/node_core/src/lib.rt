@@ -2,19 +2,23 @@
 //! trace of the calls that it accepted, from which all that it holds follows.
 #![tactic(auto)]
 
-mod apply;
+mod ask;
+mod config;
 mod delivery;
 mod fault;
+pub mod laws;
 mod list;
-mod load;
 mod node;
-mod pass;
-mod shift;
+mod reply;
+mod setting;
 mod trace;
 
+pub use ask::Ask;
+pub use config::Config;
 pub use fault::{NodeFault, TextFault};
 pub use node::NodeCore;
-pub use trace::{Ask, Config, Entry, PassReply, Reply, Trace};
+pub use reply::{PassReply, Reply};
+pub use trace::{Entry, Trace};
 
 /// What holds a node's state.
 pub type State = replica_state::Matrix;

@@ -2,7 +2,7 @@
 
 ghost use Rattle.std.specs.Prelude.{◌≡◌, ◌&&◌, is_none, IfOk, OnOk, string_bytes, MatchOption};
 ghost use Rattle.actions.specs.Canonical.{canonical};
-ghost use Rattle.replica_state.specs.Slots.{matrix_state};
+ghost use Rattle.node_core.specs.Replicas.{state_in};
 ghost use Rattle.node_core.specs.Texts.{text_set, list_entry, entry_after, list_text};
 
 use crate::State;
@@ -13,7 +13,9 @@ use std::alloc::{AllocError, Global};
 
 /// What a point is set to, if it is set.
 fn actions_set<'a>(state: &'a State, name: &Name) -> Option<&'a Actions>
-    ensures { MatchOption result (text_set (matrix_state state.now) name.now ≡ None) (λ a. text_set (matrix_state state.now) name.now ≡ Some (canonical a.now)) }
+    ensures { MatchOption result
+        (text_set (state_in state.now) name.now ≡ None)
+        (λ a. text_set (state_in state.now) name.now ≡ Some (canonical a.now)) }
 {
     let key = state.key(name)?;
     match &key.body {
@@ -29,8 +31,10 @@ fn push_entry(
     name: &Name,
     is_first: bool,
 ) -> Result<bool, AllocError>
-    ensures text { OnOk result (string_bytes text.new ≡ entry_after is_first (list_entry (matrix_state state.now) name.now) (string_bytes text.old)) }
-    ensures first { IfOk result (λ still. still ≡ (is_first && is_none (list_entry (matrix_state state.now) name.now))) }
+    ensures text { OnOk result (string_bytes text.new
+        ≡ entry_after is_first (list_entry (state_in state.now) name.now) (string_bytes text.old)) }
+    ensures first { IfOk result (λ still. still
+        ≡ (is_first && is_none (list_entry (state_in state.now) name.now))) }
 {
     let Some(actions) = actions_set(state, name) else {
         return Ok(is_first);
@@ -46,7 +50,7 @@ fn push_entry(
 
 /// `name=actions` of each point that is set, in byte order of the names, joined by `;`.
 pub(crate) fn list_of(alloc: Global, state: &State) -> Result<String, AllocError>
-    ensures { IfOk result (λ text. string_bytes text ≡ list_text (matrix_state state.now)) }
+    ensures { IfOk result (λ text. string_bytes text ≡ list_text (state_in state.now)) }
 {
     let mut text = String::new(alloc);
     let mut is_first = true;

@@ -13,7 +13,7 @@ mod messages;
 mod nodes;
 mod orders;
 mod prints;
-mod refusals;
+mod refused_calls;
 mod settings;
 mod shifts;
 mod stage;

@@ -1,6 +1,6 @@
 use Rattle.std.proofs.Common.{sym, ◌∙◌, ap, List, map}
 use Rattle.std.specs.List.{list_any, flat_map}
-use Rattle.replica_state.specs.Slots.{matrix_state}
+use Rattle.node_core.specs.Replicas.{state_in}
 use Rattle.delta_exchange.specs.declared.message.NameEntry.{NameEntry}
 use Rattle.delta_exchange.specs.Messages.{entry_value, operations_of}
 use Rattle.node_core.specs.Refusals.{is_ahead}
@@ -9,5 +9,5 @@ use Rattle.node_core.proofs.delivery.is_message_ahead.Goals as goal
 
 pub returns : goal.returns
 returns c =
-    let test = is_ahead c.args.me (matrix_state c.args.state.now) in
+    let test = is_ahead c.args.me (state_in c.args.state.now) in
     c.is_any_ahead.ensures ∙ sym (any_told test _) ∙ ap (λ (es : List NameEntry). list_any test (flat_map operations_of (map entry_value es))) c.deref.ensures.value

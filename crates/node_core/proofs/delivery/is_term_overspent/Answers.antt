@@ -1,7 +1,7 @@
 use Rattle.std.proofs.Common.{◌≡◌, ℕ, Bool, true, nat_lt, sym, ◌∙◌, ap, arith}
 use Rattle.std.proofs.lemmas.Bool.Decides.{nat_tests}
 use Rattle.replica_state.specs.Operations.{count_at}
-use Rattle.replica_state.specs.Slots.{matrix_state}
+use Rattle.node_core.specs.Replicas.{state_in}
 use Rattle.node_core.specs.Refusals.{is_above}
 use Rattle.node_core.specs.Deliveries.{execs_both}
 use Rattle.node_core.proofs.Overspent.{any_true}
@@ -9,7 +9,7 @@ use Rattle.node_core.proofs.delivery.is_term_overspent.Goals as goal
 
 pub returns-then-execs_both-from : goal.returns-then-execs_both-from
 returns-then-execs_both-from c =
-    let sum : ℕ → ℕ = execs_both c.args.nodes c.args.order (matrix_state c.args.state.now) (matrix_state c.args.told.now) c.args.name.now in
+    let sum : ℕ → ℕ = execs_both c.args.nodes c.args.order (state_in c.args.state.now) (state_in c.args.brought.now) c.args.name.now in
     let test : ℕ → Bool = λ term. is_above (count_at c.args.actions.now term) (sum term) in
     let low = c.if-execs_both-from.true in
     let same = c.from.ensures in

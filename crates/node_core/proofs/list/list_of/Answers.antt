@@ -1,6 +1,6 @@
 use Rattle.std.proofs.Common.{◌&&◌, List, [], ℕ, Bool, sym, ◌∙◌, ap, arith, string_bytes}
 use Rattle.std.specs.Prelude.{is_none}
-use Rattle.replica_state.specs.Slots.{matrix_state}
+use Rattle.node_core.specs.Replicas.{state_in}
 use Rattle.replica_state.specs.States.{State}
 use Rattle.node_core.specs.Texts.{list_entry, entry_after}
 use Rattle.node_core.proofs.Listing.{none_yet, joined_step, empty_step, present, all_entries}
@@ -8,11 +8,11 @@ use Rattle.node_core.proofs.list.list_of.Goals as goal
 use Rattle.node_core.proofs.list.list_of.Goals.{in-Some+in_ok-is_first, in_default}
 
 pub loop-index-init : goal.loop-index-init
-loop-index-init c = record { text = c.new-text.ensures.bytes; first = sym (none_yet (matrix_state c.args.state.now) []) }
+loop-index-init c = record { text = c.new-text.ensures.bytes; first = sym (none_yet (state_in c.args.state.now) []) }
 
 pub loop-index-preserved : goal.loop-index-preserved
 loop-index-preserved c =
-    let v : State = matrix_state c.args.state.now in
+    let v : State = state_in c.args.state.now in
     let so_far = c.loop-index.invariant in
     elim c.match-name_at.branch [
       | in-Some+in_ok-is_first w ↦
@@ -25,4 +25,4 @@ loop-index-preserved c =
     ]
 
 pub returns : goal.returns
-returns c = c.loop-index.invariant.text ∙ all_entries (matrix_state c.args.state.now) c.loop-index.index (omega arith)
+returns c = c.loop-index.invariant.text ∙ all_entries (state_in c.args.state.now) c.loop-index.index (omega arith)

@@ -1,20 +1,22 @@
-use Rattle.std.proofs.Common.{◌<◌, ◌^◌, ℕ, Option, subst}
-use Rattle.std.specs.Option.{IfSome}
-use Rattle.replica_state.specs.Slots.{matrix_state}
+use Rattle.std.proofs.Common.{◌<◌, ◌^◌, ℕ, Option, arith, subst}
+use Rattle.std.proofs.lemmas.Grind.{common_steps}
+use Rattle.node_core.proofs.InStep.{entries_in_step, pass_in_step}
 use Rattle.node_core.specs.Asks.{Pass}
-use Rattle.node_core.proofs.Kept.{pass_kept}
-use Rattle.node_core.proofs.KeptTelling.{pass_tell}
+use Rattle.node_core.specs.Traces.{kept_of}
+use Rattle.node_core.specs.Replicas.{state_in}
+use Rattle.std.specs.Option.{IfSome}
 use Rattle.node_core.proofs.node.NodeCore.pass.Goals as goal
+
+pub returns-clause-ok : goal.returns-clause-ok
+returns-clause-ok c = grind (arith, common_steps)
 
 pub invariant_of-self-2 : goal.invariant_of-self-2
 invariant_of-self-2 c =
     let node = c.self.inside in
+    let k = kept_of node.config node.trace.items in
+    let room = rw (← c.self.view_is) at c.requires.room in
     let outcome = c.in_ok-outcome.ensures in
-    let spent = c.in_ok-outcome.outcome.spent in
-    let room = rw (← c.self.view_is) at c.requires.room in (
-      pass_kept node.config node.clock (matrix_state node.state) _ node.trace.items _ c.put.new.trace.items _ c.put.ensures c.in_ok-reserve.ensures.items c.self.invariant.0 room
-          c.args.point c.args.words.now c.in_ok-outcome.outcome.is_set spent (λ i. Pass (c.into_text.ensures i)) c.in_ok-words.ensures.items outcome.ops outcome.held outcome.key outcome.rights c.in_ok-count.ensures.ok,
-      pass_tell node.config node.clock node.version (matrix_state node.state) node.trace.items _ c.put.new.trace.items _ c.put.ensures c.in_ok-reserve.ensures.items c.self.invariant.0 c.self.invariant.1 room
-          c.args.point c.args.words.now c.in_ok-outcome.outcome.is_set spent c.from.result (λ i. Pass (c.into_text.ensures i)) c.in_ok-words.ensures.items outcome.ops outcome.held outcome.key
-          (λ k s. (subst (λ (o : Option ℕ). IfSome o (λ term. term < 2 ^ 8)) s outcome.low, outcome.rights k s)) c.from.ensures,
-    )
+    entries_in_step node.config _ _ _ node.trace.items _ c.push_reserved.new.self.items _ c.push_reserved.ensures.items c.in_ok-reserve.ensures.items
+    (pass_in_step k node.clock node.version (state_in node.state) _ _ c.self.invariant room
+    c.args.point c.args.words.now c.in_ok-outcome.outcome.is_set c.in_ok-outcome.outcome.spent c.from.result (λ i. Pass (c.into_text.ensures i)) c.in_ok-words.ensures.items outcome.ops outcome.key
+    (λ t s. (subst (λ (o : Option ℕ). IfSome o (λ term. term < 2 ^ 8)) s outcome.low, outcome.rights t s)) c.in_ok-count.ensures.ok c.from.ensures)

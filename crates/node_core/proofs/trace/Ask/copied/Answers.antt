@@ -1,6 +1,0 @@
-use Rattle.std.proofs.Common.{arith}
-use Rattle.std.proofs.lemmas.Grind.{common_steps}
-use Rattle.node_core.proofs.trace.Ask.copied.Goals as goal
-
-pub returns-clause-same : goal.returns-clause-same
-returns-clause-same c = grind (arith, common_steps)

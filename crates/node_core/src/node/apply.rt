@@ -1,0 +1,114 @@
+//! Calls as values: what a node is asked, and the entry that it adds to its trace.
+
+ghost use Rattle.std.specs.Prelude.{◌≡◌, ◌∷◌, false, ℕ, List, [], IfOk, IfErr, OnOk, OnErr};
+ghost use Rattle.node_core.specs.Asks.{ask_value, ask_value_first, reply_value, is_pass};
+ghost use Rattle.node_core.specs.Applied.{delivery_refused_with, TellsIfEmit};
+ghost use Rattle.node_core.specs.Traces.{Accepts, IsRefusalOf, Records, call_of};
+
+use super::NodeCore;
+use crate::ask::Ask;
+use crate::delivery::Delivery;
+use crate::fault::NodeFault;
+use crate::reply::Reply;
+use crate::trace::Entry;
+use std::alloc::Global;
+
+// Why an ask that takes no words is refused with some: for what it is refused without them, or else
+// for the words.
+fn with_words<T: Drop>(checked: Result<T, NodeFault>) -> NodeFault
+    ensures ok { OnOk checked (result ≡ NodeFault.BadWords 0) }
+    ensures err { IfErr checked (λ f. result ≡ f) }
+{
+    match checked {
+        Ok(_) => NodeFault::BadWords { need: 0 },
+        Err(fault) => fault,
+    }
+}
+
+// The same of a delivery, whose words are looked at before its message.
+fn delivery_with_words(checked: Result<Delivery, NodeFault>) -> NodeFault
+    ensures ok { OnOk checked (result ≡ NodeFault.BadWords 0) }
+    ensures err { IfErr checked (λ f. result ≡ delivery_refused_with f) }
+{
+    match checked {
+        Err(NodeFault::TraceFull) => NodeFault::TraceFull,
+        Err(NodeFault::TooManyPoints) => NodeFault::TooManyPoints,
+        Err(NodeFault::OutOfMemory) => NodeFault::OutOfMemory,
+        _ => NodeFault::BadWords { need: 0 },
+    }
+}
+
+impl NodeCore {
+    /// Makes a call that is given as a value, and answers a copy of the entry that the trace has for
+    /// it. The words are those of a pass; with any other ask they are refused.
+    pub fn apply(&mut self, alloc: Global, ask: &Ask, words: &[u32]) -> Result<Entry, NodeFault>
+        ensures asked { IfOk result (λ e.
+            (call_of self.old e).ask ≡ ask_value self.old.config.nodes ask.now e.reply) }
+        ensures ok { IfOk result (λ e. Records self.old self.new (call_of self.old e) words.now) }
+        // What an emit tells.
+        ensures all { IfOk result (λ e. TellsIfEmit self.old ask.now e.reply) }
+        ensures refused { IfErr result (IsRefusalOf self.old
+            (ask_value_first self.old.config.nodes ask.now) words.now) }
+        ensures err { OnErr result (self.new ≡ self.old) }
+    {
+        if !words.is_empty() && !ask.is_pass() {
+            return Err(self.refuse_words(alloc, ask));
+        }
+        let copy = ask.copied(alloc)?;
+        let recorded = Vec::from_slice(alloc, words)?;
+        let reply = self.answer(alloc, ask, words)?;
+        Ok(Entry {
+            ask: copy,
+            words: recorded,
+            reply,
+        })
+    }
+
+    // Makes the call, with words for a pass alone.
+    fn answer(&mut self, alloc: Global, ask: &Ask, words: &[u32]) -> Result<Reply, NodeFault>
+        requires { is_pass ask.now ≡ false → words.now ≡ [] }
+        ensures ok { IfOk result (λ r. Accepts self.old self.new
+            (ask_value self.old.config.nodes ask.now r) words.now (reply_value self.old.config.nodes r)) }
+        ensures all { IfOk result (λ r. TellsIfEmit self.old ask.now r) }
+        ensures refused { IfErr result (IsRefusalOf self.old
+            (ask_value_first self.old.config.nodes ask.now) words.now) }
+        ensures err { OnErr result (self.new ≡ self.old) }
+    {
+        Ok(match ask {
+            Ask::Set { name, text } => Reply::Set(self.set(alloc, name, text)?),
+            Ask::Remove { name } => Reply::Remove(self.remove(alloc, name)?),
+            Ask::Load { text } => Reply::Load(self.load(alloc, text)?),
+            Ask::Pass { name } => Reply::Pass(self.pass_with(alloc, name, words)?),
+            Ask::Shift {
+                name,
+                term,
+                to,
+                amount,
+            } => Reply::Shift(self.shift(alloc, name, *term, *to, *amount)?),
+            Ask::Emit { to } => Reply::Emit(self.emit(alloc, *to)?),
+            Ask::Deliver { message } => Reply::Deliver(self.deliver(alloc, message)?),
+        })
+    }
+
+    // Why an ask is refused that is no pass and has words.
+    fn refuse_words(&self, alloc: Global, ask: &Ask) -> NodeFault
+        requires { is_pass ask.now ≡ false }
+        ensures { (w : ℕ) (ws : List ℕ)
+            → IsRefusalOf self.now (ask_value_first self.now.config.nodes ask.now) (w ∷ ws) result }
+    {
+        match ask {
+            Ask::Set { name, text } => with_words(self.set_checked(alloc, name, text)),
+            Ask::Remove { name } => with_words(self.remove_checked(alloc, name)),
+            Ask::Load { text } => with_words(self.load_checked(alloc, text)),
+            Ask::Pass { .. } => NodeFault::BadWords { need: 0 },
+            Ask::Shift {
+                name,
+                term,
+                to,
+                amount,
+            } => with_words(self.shift_checked(alloc, name, *term, *to, *amount)),
+            Ask::Emit { to } => with_words(self.emit_checked(*to)),
+            Ask::Deliver { message } => delivery_with_words(self.deliver_checked(alloc, message)),
+        }
+    }
+}

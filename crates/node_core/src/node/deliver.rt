@@ -1,0 +1,104 @@
+//! Taking in a message of another node.
+
+ghost use Rattle.std.specs.Prelude.{◌≡◌, [], IfOk, IfErr, OnOk, OnErr, IsErrOf, IsOk, None};
+ghost use Rattle.delta_exchange.specs.Reading.{header_of};
+ghost use Rattle.node_core.specs.Asks as asks;
+ghost use Rattle.node_core.specs.Deliveries.{DeliversAs};
+ghost use Rattle.node_core.specs.Memory.{DeliveryNeedsMemory};
+ghost use Rattle.node_core.specs.Room.{HasRoom};
+ghost use Rattle.node_core.specs.Traces.{Accepts, IsRefusalOf, after_call, delivery_of, refusal};
+
+use super::NodeCore;
+use crate::State;
+use crate::ask::Ask;
+use crate::delivery::{Delivery, is_any_overspent, is_message_ahead, latest_clock, read_message};
+use crate::fault::NodeFault;
+use crate::reply::Reply;
+use crate::trace::Entry;
+use delta_exchange::{MAX_NAMES, told};
+use lattice_laws::Join;
+use replica_state::Replica;
+use std::alloc::{AllocError, Global};
+
+impl NodeCore {
+    /// Takes in a message of another node, as bytes, and answers whether settings or cells changed.
+    /// It raises the node's clock to the greatest that the message tells, and its version where
+    /// anything changed. Bytes that are no message, or that say more of this node than it knows
+    /// itself, are refused, and nothing of them is kept.
+    pub fn deliver(&mut self, alloc: Global, message: &[u8]) -> Result<bool, NodeFault>
+        ensures ok { IfOk result (λ changed. Accepts self.old self.new
+            (delivery_of self.old message.now) [] (asks.IsDelivered changed)) }
+        ensures refused { IfErr result (IsRefusalOf self.old (delivery_of self.old message.now) []) }
+        ensures memory { IsErrOf result NodeFault.OutOfMemory → DeliveryNeedsMemory self.old message.now }
+        ensures err { OnErr result (self.new ≡ self.old) }
+    {
+        let delivery = self.deliver_checked(alloc, message)?;
+        let changed = delivery.changed;
+        self.learn(alloc, delivery, Vec::from_slice(alloc, message)?)?;
+        Ok(changed)
+    }
+
+    // What a message comes to, or the refusal.
+    pub(crate) fn deliver_checked(&self, alloc: Global, bytes: &[u8]) -> Result<Delivery, NodeFault>
+        ensures ok { OnOk result (refusal self.now (delivery_of self.now bytes.now) [] ≡ None) }
+        ensures delivery { IfOk result (λ d. DeliversAs self.now bytes.now d) }
+        ensures room { OnOk result (HasRoom self.now) }
+        ensures refused { IfErr result (IsRefusalOf self.now (delivery_of self.now bytes.now) []) }
+        ensures header { OnOk result (IsOk (header_of self.now.config.nodes bytes.now)) }
+        ensures memory { IsErrOf result NodeFault.OutOfMemory → DeliveryNeedsMemory self.now bytes.now }
+    {
+        self.check_trace()?;
+        let message = read_message(alloc, self.config.nodes, bytes)?;
+        if message.to != self.config.node {
+            return Err(NodeFault::NotForMe);
+        }
+        if is_message_ahead(&self.state, self.config.node, &message) {
+            return Err(NodeFault::OwnAhead);
+        }
+        if message.ack > self.version {
+            return Err(NodeFault::AckAhead);
+        }
+        let brought: State = told(alloc, &message)?;
+        if is_any_overspent(self.config.nodes, &self.state, &brought, &message.entries) {
+            return Err(NodeFault::Overspent);
+        }
+        if self.state.names_together(&brought) > MAX_NAMES {
+            return Err(NodeFault::TooManyPoints);
+        }
+        Ok(Delivery {
+            changed: !brought.below(&self.state),
+            clock: latest_clock(&message.entries),
+            brought,
+        })
+    }
+
+    // Learns what a message tells, as an accepted call asks.
+    fn learn(
+        &mut self,
+        alloc: Global,
+        delivery: Delivery,
+        message: Vec<u8>,
+    ) -> Result<(), AllocError>
+        requires room { HasRoom self.old }
+        requires delivery { DeliversAs self.old message.items delivery }
+        ensures after { OnOk result (self.new ≡ after_call self.old (delivery_of self.old message.items) []) }
+        ensures err { OnErr result (self.new ≡ self.old) }
+    {
+        self.trace.reserve(1)?;
+        let Delivery {
+            brought,
+            clock,
+            changed,
+        } = delivery;
+        self.state.merge(alloc, brought)?;
+        self.clock = self.clock.max(clock);
+        self.version += u64::from(changed);
+        let entry = Entry {
+            ask: Ask::Deliver { message },
+            words: Vec::new(alloc),
+            reply: Reply::Deliver(changed),
+        };
+        self.trace.push_reserved(entry);
+        Ok(())
+    }
+}

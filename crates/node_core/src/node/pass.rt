@@ -1,0 +1,218 @@
+//! Passing a point.
+
+ghost use Rattle.std.specs.Prelude.{◌≡◌, ◌⊎◌, ℕ, length, ◌+◌, ◌^◌, ◌<◌, ◌≤ℤ◌, pos, IfOk, IfErr, OnOk, OnErr, IsErrOf, IsSome, IfSome, IsTrue, MatchOption, true, Some, None};
+ghost use Rattle.actions.specs.Names.{is_name};
+ghost use Rattle.stamp_register.specs.Keys.{key_value};
+ghost use Rattle.node_core.specs.Replicas.{state_in};
+ghost use Rattle.replica_state.specs.States.{rights_of};
+ghost use Rattle.node_core.specs.Asks as asks;
+ghost use Rattle.node_core.specs.Asks.{passed};
+ghost use Rattle.node_core.specs.Memory.{NameNeedsMemory};
+ghost use Rattle.node_core.specs.Nodes.{setting_of};
+ghost use Rattle.node_core.specs.Outcomes.{spent_by, ops_done, state_done, HasKey};
+ghost use Rattle.node_core.specs.Passes.{words_for, triggered_term, reply_of_choice, pass_reply, pass_ops};
+ghost use Rattle.node_core.specs.Refusals.{bad_words};
+ghost use Rattle.node_core.specs.Room.{HasRoom};
+ghost use Rattle.node_core.specs.Traces.{Accepts, IsRefusalOf};
+
+use super::{NodeCore, read_name};
+use crate::State;
+use crate::ask::Ask;
+use crate::fault::NodeFault;
+use crate::reply::{PassReply, Reply};
+use crate::trace::Entry;
+use actions::{Actions, Name, Task, decide};
+use replica_state::Replica;
+use stamp_register::Key;
+use std::alloc::{AllocError, Global};
+
+impl NodeCore {
+    /// Passes a point, with a random word for each of its terms whose chance is below 100%.
+    pub fn pass_with(
+        &mut self,
+        alloc: Global,
+        name: &str,
+        words: &[u32],
+    ) -> Result<PassReply, NodeFault>
+        ensures ok { IfOk result (λ r. Accepts self.old self.new
+            (asks.Pass name.now) words.now (asks.IsPassed (passed r))) }
+        ensures refused { IfErr result (IsRefusalOf self.old (asks.Pass name.now) words.now) }
+        ensures memory { IsErrOf result NodeFault.OutOfMemory → NameNeedsMemory self.old name.now }
+        ensures err { OnErr result (self.new ≡ self.old) }
+    {
+        self.check_trace()?;
+        let point = read_name(alloc, name)?;
+        self.pass(alloc, point, words)
+    }
+
+    // Passes a point whose name was read.
+    fn pass(&mut self, alloc: Global, point: Name, words: &[u32]) -> Result<PassReply, NodeFault>
+        requires room { HasRoom self.old }
+        requires named { IsTrue (is_name point) }
+        ensures ok { IfOk result (λ r. Accepts self.old self.new
+            (asks.Pass point) words.now (asks.IsPassed (passed r))) }
+        ensures refused { IfErr result (IsRefusalOf self.old (asks.Pass point) words.now) }
+        ensures err { OnErr result (self.new ≡ self.old) }
+    {
+        let me = self.config.node;
+        let outcome = outcome_of(alloc, &self.state, me, &point, words)?;
+        let Outcome {
+            reply,
+            is_set,
+            spent,
+        } = outcome;
+        let recorded = reply.copied(alloc)?;
+        let words = Vec::from_slice(alloc, words)?;
+        self.trace.reserve(1)?;
+        count(&mut self.state, alloc, me, &point, is_set, spent)?;
+        self.version += u64::from(is_set);
+        let entry = Entry {
+            ask: Ask::Pass {
+                name: point.into_text(),
+            },
+            words,
+            reply: Reply::Pass(recorded),
+        };
+        self.trace.push_reserved(entry);
+        Ok(reply)
+    }
+}
+
+/// What a point is set to, with the term that a pass of it by node `me` triggers, or why its words
+/// are refused. It takes no memory.
+fn choice_at<'a>(
+    state: &'a State,
+    me: u8,
+    name: &Name,
+    words: &[u32],
+) -> Result<Option<(&'a Key, &'a Actions, Option<u8>)>, NodeFault>
+    ensures setting { IfOk result (λ found. MatchOption found
+        (setting_of (state_in state.now) name.now ≡ None)
+        (λ s. setting_of (state_in state.now) name.now ≡ Some (key_value s.0.now, s.1.now))) }
+    ensures term { IfOk result (λ found. IfSome found (λ s. s.2
+        ≡ triggered_term me (state_in state.now) name.now words.now (key_value s.0.now, s.1.now))) }
+    ensures key { IfOk result (λ found. IsSome found → HasKey (state_in state.now) name.now) }
+    ensures refused { IfErr result (λ f.
+        bad_words (words_for (state_in state.now) name.now) words.now ≡ Some f) }
+    ensures words { OnOk result (length words.now ≡ words_for (state_in state.now) name.now) }
+{
+    if let Some(found) = state.key_and_rights(name, me) {
+        let key = found.0;
+        let may = found.1;
+        if let Some(actions) = key.actions() {
+            check_words(words, actions.words_needed())?;
+            return Ok(Some((key, actions, decide(actions, words, may))));
+        }
+    }
+    check_words(words, 0)?;
+    Ok(None)
+}
+
+/// Whether there are as many words as a pass needs.
+fn check_words(words: &[u32], need: u8) -> Result<(), NodeFault>
+    ensures ok { OnOk result (length words.now ≡ need) }
+    ensures refused { IfErr result (λ f. bad_words need words.now ≡ Some f) }
+{
+    if words.len() != need as usize {
+        return Err(NodeFault::BadWords { need });
+    }
+    Ok(())
+}
+
+/// The reply of a pass that triggers this term, or none.
+fn reply_for(
+    alloc: Global,
+    key: &Key,
+    actions: &Actions,
+    chosen: Option<u8>,
+) -> Result<PassReply, AllocError>
+    ensures { IfOk result (λ r. passed r ≡ reply_of_choice (key_value key.now, actions.now) chosen) }
+{
+    let stamp = key.stamp();
+    let Some(term) = chosen else {
+        return Ok(PassReply::NoTerm { stamp });
+    };
+    let task = match actions.term(term) {
+        Some(found) => found.task.copied(alloc)?,
+        None => Task::Off,
+    };
+    Ok(PassReply::Act { stamp, term, task })
+}
+
+/// The triggered term, if it is counted.
+fn spent_term(actions: &Actions, chosen: Option<u8>) -> Option<u8>
+    ensures value { result ≡ spent_by actions.now chosen }
+    ensures low { IfSome result (λ term. term < 2 ^ 8) }
+{
+    let term = chosen?;
+    match actions.term(term) {
+        Some(found) => match found.count {
+            Some(_) => Some(term),
+            None => None,
+        },
+        None => None,
+    }
+}
+
+/// What a pass comes to: the reply, whether it counts a hit, and the counted term that it executes.
+#[derive(Debug, Drop)]
+struct Outcome {
+    reply: PassReply,
+    is_set: bool,
+    spent: Option<u8>,
+}
+
+/// Counts a hit, and perhaps an execution.
+fn count(
+    state: &mut State,
+    alloc: Global,
+    me: u8,
+    name: &Name,
+    is_set: bool,
+    spent: Option<u8>,
+) -> Result<(), AllocError>
+    requires key { is_set ≡ true → IsSome ((state_in state.old).key name.now) }
+    requires hits { (state_in state.old).hits name.now me + 1 < 2 ^ 64 }
+    requires execs { (term : ℕ) → (state_in state.old).execs name.now term me + 1 < 2 ^ 64 }
+    ensures ok { OnOk result (state_in state.new ≡ state_done me (state_in state.old) name.now is_set spent) }
+    ensures err { OnErr result (state_in state.new ≡ state_in state.old) }
+{
+    if is_set {
+        state.count_pass(alloc, name, me, spent)?;
+    }
+    Ok(())
+}
+
+/// What a pass of a point by node `me` comes to, or why its words are refused.
+fn outcome_of(
+    alloc: Global,
+    state: &State,
+    me: u8,
+    name: &Name,
+    words: &[u32],
+) -> Result<Outcome, NodeFault>
+    ensures reply { IfOk result (λ o. passed o.reply
+        ≡ pass_reply me (state_in state.now) name.now words.now) }
+    ensures ops { IfOk result (λ o. pass_ops me (state_in state.now) name.now words.now
+        ≡ ops_done me (state_in state.now) name.now o.is_set o.spent) }
+    ensures key { IfOk result (λ o. o.is_set ≡ true → HasKey (state_in state.now) name.now) }
+    ensures low { IfOk result (λ o. IfSome o.spent (λ term. term < 2 ^ 8)) }
+    ensures rights { IfOk result (λ o. (term : ℕ) → o.spent ≡ Some term
+        → pos 1 ≤ℤ rights_of (state_in state.now) name.now term me) }
+    ensures words { OnOk result (length words.now ≡ words_for (state_in state.now) name.now) }
+    ensures refused { IfErr result (λ f. (f ≡ NodeFault.OutOfMemory)
+        ⊎ (bad_words (words_for (state_in state.now) name.now) words.now ≡ Some f)) }
+{
+    let Some((key, actions, term)) = choice_at(state, me, name, words)? else {
+        return Ok(Outcome {
+            reply: PassReply::Unset,
+            is_set: false,
+            spent: None,
+        });
+    };
+    Ok(Outcome {
+        reply: reply_for(alloc, key, actions, term)?,
+        is_set: true,
+        spent: spent_term(actions, term),
+    })
+}
