@@ -1,9 +1,19 @@
--- The exit status of a command line that asks for no run.
-use Rattle.std.specs.Prelude.{ℕ}
+-- Exit statuses.
+use Rattle.std.specs.Prelude.{◌≡◌, ℕ, Result, IfOk}
+use Rattle.std.specs.declared.process.ExitCode.{ExitCode}
+use Rattle.std.specs.Process.{exit_status}
 use Rattle.clap.specs.declared.error.kind.ErrorKind.{ErrorKind}
 use Rattle.clap.specs.declared.error.kind.ErrorKind.TheVariants.{DisplayHelp, DisplayVersion}
 
--- 0 for help and the version, and 2 for a mistake
+-- at Ok the program ends with this status
+abbrev pub HasStatus : {E : Type 0} → Result ExitCode E → ℕ → Type 0
+HasStatus result status = IfOk result (λ code. exit_status code ≡ status)
+
+-- what holds at Ok where the program ends with this status
+abbrev pub OnStatus : {E : Type 0} → Result ExitCode E → ℕ → Type 0 → Type 0
+OnStatus result status fact = IfOk result (λ code. exit_status code ≡ status → fact)
+
+-- of a command line that asks for no run: 0 for help and the version, and 2 for a mistake
 abbrev pub unread_status : ErrorKind → ℕ
 unread_status DisplayHelp = 0
 unread_status DisplayVersion = 0

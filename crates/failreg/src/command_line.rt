@@ -51,11 +51,14 @@ of another only what a message told it, and a message may be delivered late,
 again or never. Fields are separated by one space. Empty lines and lines that
 begin with `#` are skipped.
 
-A call that is refused prints `refused ` and the reason: `NoNode` where the node
-isn't there, and then `NoMessage` where the message isn't. Any other line prints
-`bad line`; the script goes on. The status is then 0. It is 1 where the
-script can't be read, is longer than 16777216 bytes, or can't be answered, and
-the reason stands on standard error.
+A line that can't be read prints `bad line`, as does a call before the nodes
+are made, and a second `nodes`. A byte order mark or a `\\r` belongs to the field
+that it touches, and spoils the line. A call that the node refuses prints
+`refused` and a code, as `refused N8 NotCounted` (docs/refusals.md has all).
+Where the node or the message isn't there, the line prints `refused NoNode` or,
+with a node that is, `refused NoMessage`. The script goes on, and the status is
+0. It is 1 where the script can't be read, is longer than 16777216 bytes, or
+can't be answered, and the reason stands on standard error.
 
 Example:
   $ printf 'nodes 1 9\\nset 0 a 1*panic->off\\npass 0 a\\npass 0 a\\nhits 0 a\\n' | failreg sim

@@ -3,7 +3,7 @@
 ghost use Rattle.std.specs.Prelude.{◌≡◌, ◌↔◌, IfOk, IsOk, IsErr};
 ghost use Rattle.std.specs.Process.{exit_status};
 ghost use Rattle.clap.specs.Values.{kind_of};
-ghost use Rattle.failreg.specs.Statuses.{unread_status};
+ghost use Rattle.failreg.specs.Statuses.{HasStatus, unread_status};
 
 use actions::{ActionFault, Actions};
 use scripts::ScriptFault;
@@ -12,7 +12,7 @@ use std::process::ExitCode;
 
 // Says why something was refused.
 fn refuse<R: Eprint, E: Display + Drop>(rt: &R, fault: E) -> anyhow::Result<ExitCode>
-    ensures { IfOk result (λ code. exit_status code ≡ 1) }
+    ensures { HasStatus result 1 }
 {
     eprintln!(rt; "refused {fault}")?;
     Ok(ExitCode::FAILURE)
@@ -49,7 +49,7 @@ pub fn finish_script<R: Eprint>(rt: &R, run: Result<(), ScriptFault>) -> anyhow:
 /// Where a command line asks for no run: prints the help that it asks for, or what is wrong with
 /// it.
 pub fn finish_unread<R: Print + Eprint>(rt: &R, error: &clap::Error) -> anyhow::Result<ExitCode>
-    ensures { IfOk result (λ code. exit_status code ≡ unread_status (kind_of error.now)) }
+    ensures { HasStatus result (unread_status (kind_of error.now)) }
 {
     error.print(rt)?;
     Ok(ExitCode::from(error.exit_code() as u8))

@@ -1,12 +1,13 @@
 //! Action texts, and scripts that drive a cluster of failpoint registries.
 #![tactic(auto)]
 
-ghost use Rattle.std.specs.Prelude.{◌≡◌, ◌<◌, ◌⊎◌, true, false, length, IsOk, IfOk, IfSome};
+ghost use Rattle.std.specs.Prelude.{◌≡◌, ◌<◌, ◌⊎◌, true, false, length, IsOk, IfOk};
 ghost use Rattle.std.specs.Process.{exit_status};
-ghost use Rattle.std.specs.Io.KnownBytes.{Appends};
 ghost use Rattle.actions.specs.Reading.{reading};
 ghost use Rattle.scripts.specs.Script.{script_text};
-ghost use Rattle.scripts.specs.Watched.{has_failed, has_unflushed, inner_of};
+ghost use Rattle.scripts.specs.Streams.{IfInput, Writes};
+ghost use Rattle.scripts.specs.Watched.{has_failed, has_unflushed};
+ghost use Rattle.failreg.specs.Statuses.{HasStatus, OnStatus};
 
 mod command_line;
 mod finish;
@@ -36,7 +37,7 @@ fn main(rt: HostRuntime) -> anyhow::Result<ExitCode> {
 // Prints the canonical spelling of an action text.
 fn parse<R: Print + Eprint + AllocGlobal>(rt: &R, text: &str) -> anyhow::Result<ExitCode>
     // Only a text that can be read has status 0; any other has status 1.
-    ensures done { IfOk result (λ code. exit_status code ≡ 0 → IsOk (reading text.now)) }
+    ensures done { OnStatus result 0 (IsOk (reading text.now)) }
     ensures status { IfOk result (λ code. (exit_status code ≡ 0) ⊎ (exit_status code ≡ 1)) }
 {
     let actions = parse_actions(rt.alloc(), text);
@@ -52,14 +53,14 @@ fn sim<R: Eprint + AllocGlobal, I: Read, O: Write>(
     requires reader { has_failed reader.old ≡ false }
     requires writer { has_failed writer.old ≡ false }
     // With status 0 the whole text of what was read is written and flushed.
-    ensures done { IfOk result (λ code. exit_status code ≡ 0 → IfSome (I.remaining (inner_of reader.old)) (λ input.
-        Appends (O.contents (inner_of writer.old)) (O.contents (inner_of writer.new)) (script_text input))) }
-    ensures flushed { IfOk result (λ code. exit_status code ≡ 0 → has_unflushed writer.new ≡ false) }
+    ensures done { OnStatus result 0 (IfInput I.remaining reader.old (λ input.
+        Writes O.contents writer.old writer.new (script_text input))) }
+    ensures flushed { OnStatus result 0 (has_unflushed writer.new ≡ false) }
     // A script that is too long, or that can't be read or answered, has status 1.
-    ensures read_failed { IfOk result (λ code. has_failed reader.new ≡ true → exit_status code ≡ 1) }
-    ensures write_failed { IfOk result (λ code. has_failed writer.new ≡ true → exit_status code ≡ 1) }
-    ensures long { IfOk result (λ code. IfSome (I.remaining (inner_of reader.old)) (λ input.
-        MOST_BYTES < length input → exit_status code ≡ 1)) }
+    ensures read_failed { has_failed reader.new ≡ true → HasStatus result 1 }
+    ensures write_failed { has_failed writer.new ≡ true → HasStatus result 1 }
+    ensures long { IfInput I.remaining reader.old (λ input.
+        MOST_BYTES < length input → HasStatus result 1) }
     ensures status { IfOk result (λ code. (exit_status code ≡ 0) ⊎ (exit_status code ≡ 1)) }
 {
     let run = run_script(rt.alloc(), reader, writer);

@@ -3,4 +3,4 @@ pub mod Numbers
 pub mod Words
 pub mod Texts
 pub mod Outputs
-pub mod Told
+pub mod Emits

@@ -11,10 +11,12 @@ own : IsNumeralModel (λ text. list_all is_ascii_digit text ≡ true) (digits_va
 own = numerals_by_value _ (search rules)
 
 -- it is above every number of the type
-pub too_large : {E : Type 0} (text : List ℕ) (e : E) → ParsesUnsigned 64 10 text (Err e) → list_all is_ascii_digit text ≡ true → 0 < length text → 2 ^ 64 ≤ digits_value 10 text
+pub too_large : {E : Type 0} (text : List ℕ) (e : E) → ParsesUnsigned 64 10 text (Err e) →
+    list_all is_ascii_digit text ≡ true → 0 < length text → 2 ^ 64 ≤ digits_value 10 text
 too_large text e h digits some =
     let no = parse_digits own 64 text (Err e) h digits in
     grind (arith, no)
 
-pub number_of-too_large : (most : ℕ) (text : List ℕ) → most < 2 ^ 64 → 2 ^ 64 ≤ digits_value 10 text → None ≡ number_of most text
+pub number_of-too_large : (most : ℕ) (text : List ℕ) → most < 2 ^ 64 → 2 ^ 64 ≤ digits_value 10 text →
+    None ≡ number_of most text
 number_of-too_large most text small large = grind (arith, nat_tests)

@@ -1,48 +1,45 @@
 -- What a line asks for.
-use Rattle.std.specs.Prelude.{ℕ, ◌==◌, List, [], ◌∷◌, if◌then◌else◌, Option, Some, None, option_and_then, codes}
-use Rattle.std.specs.List.{slice_split}
+use Rattle.std.specs.Prelude.{ℕ, List, [], ◌∷◌, if◌then◌else◌, Option, Some, None, option_and_then, codes}
 use Rattle.std.specs.Str.{bytes_eq}
-use Rattle.scripts.specs.Fields.{space, cut_of, field_of, byte_of, word_of, amount_of}
-use Rattle.scripts.specs.declared.command.Call.{Call}
-use Rattle.scripts.specs.declared.command.Call.TheVariants as calls
+use Rattle.node_core.specs.Asks.{Asked, Set, Remove, Load, Pass, Shift}
+use Rattle.scripts.specs.Fields.{fields_of, cut_of, field_of, byte_of, word_of, amount_of}
+use Rattle.scripts.specs.declared.command.Request.{Request}
+use Rattle.scripts.specs.declared.command.Request.TheVariants as requests
 use Rattle.scripts.specs.declared.command.Command.{Command}
 use Rattle.scripts.specs.declared.command.Command.TheVariants as commands
 
--- what is asked of one node: five calls, and four questions about what it shows
-pub data CallValue : Type 0 where
-  set : (name text : List ℕ) → CallValue
-  remove : (name : List ℕ) → CallValue
-  load : (text : List ℕ) → CallValue
-  pass : (name words : List ℕ) → CallValue
-  shift : (name : List ℕ) (term to amount : ℕ) → CallValue
-  list : CallValue
-  rights : (name : List ℕ) (term node : ℕ) → CallValue
-  spent : (name : List ℕ) (term : ℕ) → CallValue
-  hits : (name : List ℕ) → CallValue
+-- what is asked of one node: a call with its words, or one of four questions about what it shows
+pub data RequestValue : Type 0 where
+  call : (ask : Asked) (words : List ℕ) → RequestValue
+  list : RequestValue
+  rights : (name : List ℕ) (term node : ℕ) → RequestValue
+  spent : (name : List ℕ) (term : ℕ) → RequestValue
+  hits : (name : List ℕ) → RequestValue
 
--- a cluster of so many nodes, each with a trace of so many entries at most; a call of a node; a message of a node to
--- another; or a delivery of a message, by its number, to a node
+-- a cluster of so many nodes, each with a trace of so many entries at most; a request to a node; a
+-- message of a node to another; or a delivery of a message, by its number, to a node
 pub data CommandValue : Type 0 where
   nodes : (count cap : ℕ) → CommandValue
-  ask : (node : ℕ) (call : CallValue) → CommandValue
+  ask : (node : ℕ) (request : RequestValue) → CommandValue
   emit : (node to : ℕ) → CommandValue
   deliver : (node message : ℕ) → CommandValue
 
--- a command of the code, without where its texts lie in memory
-abbrev pub call_value : Call → CallValue
-call_value (calls.Set name text) = set (name.now) (text.now)
-call_value (calls.Remove name) = remove (name.now)
-call_value (calls.Load text) = load (text.now)
-call_value (calls.Pass name words) = pass (name.now) (words.items)
-call_value (calls.Shift name term to amount) = shift (name.now) term to amount
-call_value calls.List = list
-call_value (calls.Rights name term node) = rights (name.now) term node
-call_value (calls.Spent name term) = spent (name.now) term
-call_value (calls.Hits name) = hits (name.now)
+-- a request of the code, without where its texts lie in memory
+abbrev pub request_value : Request → RequestValue
+request_value (requests.Set name text) = call (Set (name.now) (text.now)) []
+request_value (requests.Remove name) = call (Remove (name.now)) []
+request_value (requests.Load text) = call (Load (text.now)) []
+request_value (requests.Pass name words) = call (Pass (name.now)) (words.items)
+request_value (requests.Shift name term to amount) = call (Shift (name.now) term to amount) []
+request_value requests.List = list
+request_value (requests.Rights name term node) = rights (name.now) term node
+request_value (requests.Spent name term) = spent (name.now) term
+request_value (requests.Hits name) = hits (name.now)
 
+-- the same of a command
 abbrev pub command_value : Command → CommandValue
 command_value (commands.Nodes count cap) = nodes count cap
-command_value (commands.Ask node call) = ask node (call_value call)
+command_value (commands.Ask node request) = ask node (request_value request)
 command_value (commands.Emit node to) = emit node to
 command_value (commands.Deliver node message) = deliver node message
 
@@ -59,21 +56,21 @@ nodes_in rest = do
   Some (nodes count cap)
 
 -- `set <node> <name> <rest>`, whose rest may be empty and have spaces
-abbrev pub set_in : List ℕ → Option CallValue
+abbrev pub set_in : List ℕ → Option RequestValue
 set_in rest = do
   parts ← cut_of rest
   name ← field_of (parts.0)
-  Some (set name (parts.1))
+  Some (call (Set name (parts.1)) [])
 
 -- `remove <node> <name>`
-abbrev pub remove_in : List ℕ → Option CallValue
+abbrev pub remove_in : List ℕ → Option RequestValue
 remove_in rest = do
   name ← field_of rest
-  Some (remove name)
+  Some (call (Remove name) [])
 
 -- `load <node> <rest>`, whose rest may be empty and have spaces
-abbrev pub load_in : List ℕ → Option CallValue
-load_in rest = Some (load rest)
+abbrev pub load_in : List ℕ → Option RequestValue
+load_in rest = Some (call (Load rest) [])
 
 -- numbers, where each field is one
 abbrev pub words_of : List (List ℕ) → Option (List ℕ)
@@ -84,21 +81,21 @@ words_of (field ∷ fields) = do
   Some (word ∷ words)
 
 -- `pass <node> <name>[ <word>]...`, whose name ends at the first space, if there is one
-abbrev pub pass_with : Option (List ℕ) → Option (List ℕ) → Option CallValue
+abbrev pub pass_with : Option (List ℕ) → Option (List ℕ) → Option RequestValue
 pass_with name words = do
   name ← name
   words ← words
-  Some (pass name words)
+  Some (call (Pass name) words)
 
-abbrev pub pass_parts : List ℕ → Option (List ℕ × List ℕ) → Option CallValue
+abbrev pub pass_parts : List ℕ → Option (List ℕ × List ℕ) → Option RequestValue
 pass_parts rest None = pass_with (field_of rest) (Some [])
-pass_parts rest (Some parts) = pass_with (field_of (parts.0)) (words_of (slice_split (λ byte. byte == space) (parts.1)))
+pass_parts rest (Some parts) = pass_with (field_of (parts.0)) (words_of (fields_of (parts.1)))
 
-abbrev pub pass_in : List ℕ → Option CallValue
+abbrev pub pass_in : List ℕ → Option RequestValue
 pass_in rest = pass_parts rest (cut_of rest)
 
 -- `shift <node> <name> <term> <to> <amount>`
-abbrev pub shift_in : List ℕ → Option CallValue
+abbrev pub shift_in : List ℕ → Option RequestValue
 shift_in rest = do
   parts ← cut_of rest
   name ← field_of (parts.0)
@@ -107,10 +104,10 @@ shift_in rest = do
   others ← cut_of (numbers.1)
   to ← byte_of (others.0)
   amount ← amount_of (others.1)
-  Some (shift name term to amount)
+  Some (call (Shift name term to amount) [])
 
 -- `rights <node> <name> <term> <of>`
-abbrev pub rights_in : List ℕ → Option CallValue
+abbrev pub rights_in : List ℕ → Option RequestValue
 rights_in rest = do
   parts ← cut_of rest
   name ← field_of (parts.0)
@@ -120,7 +117,7 @@ rights_in rest = do
   Some (rights name term node)
 
 -- `spent <node> <name> <term>`
-abbrev pub spent_in : List ℕ → Option CallValue
+abbrev pub spent_in : List ℕ → Option RequestValue
 spent_in rest = do
   parts ← cut_of rest
   name ← field_of (parts.0)
@@ -128,14 +125,14 @@ spent_in rest = do
   Some (spent name term)
 
 -- `hits <node> <name>`
-abbrev pub hits_in : List ℕ → Option CallValue
+abbrev pub hits_in : List ℕ → Option RequestValue
 hits_in rest = do
   name ← field_of rest
   Some (hits name)
 
--- what follows the node's number, by the line's first word
-abbrev pub call_in : List ℕ → List ℕ → Option CallValue
-call_in word rest =
+-- what follows the node's number, by the line's first word; nothing follows it in `list`
+abbrev pub request_in : List ℕ → List ℕ → Option RequestValue
+request_in word rest =
     if bytes_eq word (codes "set") then set_in rest else
     (if bytes_eq word (codes "remove") then remove_in rest else
     (if bytes_eq word (codes "load") then load_in rest else
@@ -149,8 +146,8 @@ abbrev pub ask_in : List ℕ → List ℕ → Option CommandValue
 ask_in word rest = do
   parts ← cut_of rest
   node ← byte_of (parts.0)
-  call ← call_in word (parts.1)
-  Some (ask node call)
+  request ← request_in word (parts.1)
+  Some (ask node request)
 
 -- `list <node>`
 abbrev pub list_in : List ℕ → Option CommandValue

@@ -14,20 +14,35 @@ space = 32
 abbrev pub lines_of : List ℕ → List (List ℕ)
 lines_of text = slice_split (λ byte. byte == newline) text
 
+-- what stands between the spaces
+abbrev pub fields_of : List ℕ → List (List ℕ)
+fields_of text = slice_split (λ byte. byte == space) text
+
 abbrev pub has_space : List ℕ → Bool
 has_space text = nat_lt (position_or_len (λ byte. byte == space) text) (length text)
 
+abbrev pub before_space : List ℕ → List ℕ
+before_space text = before_first (λ byte. byte == space) text
+
+abbrev pub after_space : List ℕ → List ℕ
+after_space text = after_first (λ byte. byte == space) text
+
 -- what stands before the first space, and what after it
 abbrev pub cut_of : List ℕ → Option (List ℕ × List ℕ)
-cut_of text = if has_space text then Some (before_first (λ byte. byte == space) text, after_first (λ byte. byte == space) text) else None
+cut_of text = if has_space text then Some (before_space text, after_space text) else None
 
 -- a field: some bytes, none of which is a space
 abbrev pub field_of : List ℕ → Option (List ℕ)
 field_of text = if (length text == 0) then None else (if has_space text then None else Some text)
 
--- a number: one or more digits, with a value up to this
+-- one or more digits, with a value up to this
+abbrev pub is_number_up_to : ℕ → List ℕ → Bool
+is_number_up_to most text =
+    nat_lt 0 (length text) && list_all is_ascii_digit text && nat_le (digits_value 10 text) most
+
+-- the number that they are
 abbrev pub number_of : ℕ → List ℕ → Option ℕ
-number_of most text = if nat_lt 0 (length text) && list_all is_ascii_digit text && nat_le (digits_value 10 text) most then Some (digits_value 10 text) else None
+number_of most text = if is_number_up_to most text then Some (digits_value 10 text) else None
 
 -- the number of a node or a term
 abbrev pub byte_of : List ℕ → Option ℕ

@@ -1,5 +1,5 @@
 -- The texts of what a cluster answers.
-use Rattle.std.specs.Prelude.{ℕ, Bool, List, [], ◌∷◌, ◌++◌, if◌then◌else◌, Option, Some, None, codes, decimal, string_bytes}
+use Rattle.std.specs.Prelude.{◌≡◌, ℕ, Bool, Result, IfOk, List, [], ◌∷◌, ◌++◌, if◌then◌else◌, Option, Some, None, codes, decimal, string_bytes}
 use Rattle.std.specs.Fmt.{signed_decimal}
 use Rattle.actions.specs.Canonical.{task_text}
 use Rattle.stamp_register.specs.declared.key.Stamp.{Stamp}
@@ -7,8 +7,8 @@ use Rattle.stamp_register.specs.Keys.{stamp_text}
 use Rattle.node_core.specs.Asks.{Passed, Unset, NoTerm, Act, passed, Answered, IsSet, IsRemoved, IsLoaded, IsPassed, IsShifted, IsEmitted, IsDelivered}
 use Rattle.node_core.specs.Texts.{node_fault_text}
 use Rattle.scripts.specs.Fields.{newline}
-use Rattle.scripts.specs.declared.reply.Reply.{Reply}
-use Rattle.scripts.specs.declared.reply.Reply.TheVariants as replies
+use Rattle.scripts.specs.declared.reply.LineReply.{LineReply}
+use Rattle.scripts.specs.declared.reply.LineReply.TheVariants as replies
 
 abbrev pub set_text : Stamp → List ℕ
 set_text stamp = codes "set " ++ stamp_text stamp
@@ -24,7 +24,8 @@ loaded_text entries = codes "loaded " ++ decimal entries
 abbrev pub pass_text : Passed → List ℕ
 pass_text Unset = codes "unset"
 pass_text (NoTerm stamp) = codes "none " ++ stamp_text stamp
-pass_text (Act stamp term task) = codes "act " ++ stamp_text stamp ++ codes " " ++ decimal term ++ codes " " ++ task_text task
+pass_text (Act stamp term task) =
+    codes "act " ++ stamp_text stamp ++ codes " " ++ decimal term ++ codes " " ++ task_text task
 
 -- with all that was shifted there under the point's stamp
 abbrev pub shifted_text : ℕ → List ℕ
@@ -64,7 +65,7 @@ abbrev pub bad_line_text : List ℕ
 bad_line_text = codes "bad line"
 
 -- the text of a reply of the code
-abbrev pub reply_text : Reply → List ℕ
+abbrev pub reply_text : LineReply → List ℕ
 reply_text (replies.Set stamp) = set_text stamp
 reply_text (replies.Removed stamp) = removed_text stamp
 reply_text (replies.Loaded entries) = loaded_text entries
@@ -80,10 +81,18 @@ reply_text replies.NoNode = no_node_text
 reply_text replies.NoMessage = no_message_text
 reply_text replies.BadLine = bad_line_text
 
+-- at Ok the reply has this text
+abbrev pub Says : {E : Type 0} → Result LineReply E → List ℕ → Type 0
+Says result text = IfOk result (λ reply. reply_text reply ≡ text)
+
 abbrev pub output_line : List ℕ → List ℕ
 output_line text = text ++ newline ∷ []
 
 -- what is written of a reply, if there is one
-abbrev pub reply_output : Option Reply → List ℕ
+abbrev pub reply_output : Option LineReply → List ℕ
 reply_output None = []
 reply_output (Some reply) = output_line (reply_text reply)
+
+-- at Ok this is what is written
+abbrev pub Prints : {E : Type 0} → Result (Option LineReply) E → List ℕ → Type 0
+Prints result text = IfOk result (λ reply. reply_output reply ≡ text)

@@ -23,26 +23,35 @@ text_in line = if is_utf8 line then Some line else None
 abbrev pub command_in : List ℕ → Option CommandValue
 command_in line = text_in line >>= command_of
 
--- what a command prints, and the cluster after it; a cluster is made once, and before that nothing else is answered
+-- of a cluster that can't have so many nodes
+abbrev pub bad_size_text : List ℕ
+bad_size_text = refused_text (node_fault_text BadConfig)
+
+-- what a command prints, and the cluster after it; a cluster is made once, and before that nothing
+-- else is answered
 abbrev pub command_output : Option ClusterValue → CommandValue → List ℕ
-command_output None (nodes count cap) = if is_cluster_size count then [] else output_line (refused_text (node_fault_text BadConfig))
-command_output None (ask node call) = output_line bad_line_text
+command_output None (nodes count cap) =
+    if is_cluster_size count then [] else output_line bad_size_text
+command_output None (ask node request) = output_line bad_line_text
 command_output None (emit node to) = output_line bad_line_text
 command_output None (deliver node message) = output_line bad_line_text
 command_output (Some cluster) (nodes count cap) = output_line bad_line_text
-command_output (Some cluster) (ask node call) = output_line (ask_text cluster node call)
+command_output (Some cluster) (ask node request) = output_line (ask_text cluster node request)
 command_output (Some cluster) (emit node to) = output_line (emit_text cluster node to)
-command_output (Some cluster) (deliver node message) = output_line (delivery_text cluster node message)
+command_output (Some cluster) (deliver node message) =
+    output_line (delivery_text cluster node message)
 
 abbrev pub cluster_after : Option ClusterValue → CommandValue → Option ClusterValue
-cluster_after None (nodes count cap) = if is_cluster_size count then Some (new_cluster count cap) else None
-cluster_after None (ask node call) = None
+cluster_after None (nodes count cap) =
+    if is_cluster_size count then Some (new_cluster count cap) else None
+cluster_after None (ask node request) = None
 cluster_after None (emit node to) = None
 cluster_after None (deliver node message) = None
 cluster_after (Some cluster) (nodes count cap) = Some cluster
-cluster_after (Some cluster) (ask node call) = Some (cluster_after_ask cluster node call)
+cluster_after (Some cluster) (ask node request) = Some (cluster_after_ask cluster node request)
 cluster_after (Some cluster) (emit node to) = Some (cluster_after_emit cluster node to)
-cluster_after (Some cluster) (deliver node message) = Some (cluster_after_deliver cluster node message)
+cluster_after (Some cluster) (deliver node message) =
+    Some (cluster_after_deliver cluster node message)
 
 -- the same of a line that isn't skipped
 abbrev pub asked_output : Option ClusterValue → Option CommandValue → List ℕ
@@ -58,11 +67,13 @@ abbrev pub line_output : Option ClusterValue → List ℕ → List ℕ
 line_output cluster line = if is_skipped line then [] else asked_output cluster (command_in line)
 
 abbrev pub cluster_after_line : Option ClusterValue → List ℕ → Option ClusterValue
-cluster_after_line cluster line = if is_skipped line then cluster else cluster_after_asked cluster (command_in line)
+cluster_after_line cluster line =
+    if is_skipped line then cluster else cluster_after_asked cluster (command_in line)
 
 abbrev pub text_from : Option ClusterValue → List (List ℕ) → List ℕ
 text_from cluster [] = []
-text_from cluster (line ∷ lines) = line_output cluster line ++ text_from (cluster_after_line cluster line) lines
+text_from cluster (line ∷ lines) =
+    line_output cluster line ++ text_from (cluster_after_line cluster line) lines
 
 -- a script begins without a cluster
 unfoldable pub script_text : List ℕ → List ℕ

@@ -1,14 +1,16 @@
 //! The nodes of a script, their calls, and the messages between them.
 
-ghost use Rattle.std.specs.Prelude.{◌≡◌, ◌≢◌, false, IsTrue, IsOk, IfOk, IfErr, OnOk, Some, None, if◌then◌else◌, option_map, [], length, map, vec_items};
+ghost use Rattle.std.specs.Prelude.{◌≡◌, ◌≢◌, false, IsTrue, IsOk, IfOk, IfErr, OnOk, Some, None, if◌then◌else◌, [], length};
 ghost use Rattle.actions.specs.Names.{is_name};
 ghost use Rattle.node_core.specs.declared.fault.NodeFault.TheVariants.{OutOfMemory};
-ghost use Rattle.scripts.specs.Commands.{call_value, set, remove, load, pass, shift, rights, spent, hits};
-ghost use Rattle.scripts.specs.Replies.{reply_text};
-ghost use Rattle.scripts.specs.Clusters.{is_cluster_size, new_cluster, call_text, node_after, ask_text, cluster_after_ask, emit_refusal, bytes_told, emitted_text, node_after_emit, messages_after, emit_text, cluster_after_emit, deliver_text, node_after_deliver, delivery_text, cluster_after_deliver};
+ghost use Rattle.node_core.specs.Asks as asks;
+ghost use Rattle.scripts.specs.Commands.{request_value, rights, spent, hits};
+ghost use Rattle.scripts.specs.Replies.{Says};
+ghost use Rattle.node_core.specs.Traces.{delivery_of};
+ghost use Rattle.scripts.specs.Clusters.{is_cluster_size, new_cluster, call_text, node_after_call, request_text, node_after_request, ask_text, cluster_after_ask, emit_refusal, emit_bytes, emitted_text, node_after_emit, messages_after, messages_in, emit_text, cluster_after_emit, delivery_text, cluster_after_deliver};
 
-use crate::command::Call;
-use crate::reply::Reply;
+use crate::command::Request;
+use crate::reply::LineReply;
 use actions::{Name, NameFault};
 use node_core::{Config, NodeCore, NodeFault};
 use std::alloc::{AllocError, Global};
@@ -22,12 +24,11 @@ pub struct Cluster {
 }
 
 impl Model for Cluster {
-    ghost use Rattle.std.specs.Prelude.{map, vec_items};
-    ghost use Rattle.scripts.specs.Clusters.{ClusterValue};
+    ghost use Rattle.scripts.specs.Clusters.{ClusterValue, messages_in};
 
     ghost Value = { ClusterValue };
 
-    ghost view = { λ c. record { nodes = c.nodes.items; messages = map vec_items c.messages.items } };
+    ghost view = { λ c. record { nodes = c.nodes.items; messages = messages_in c.messages } };
 }
 
 fn set_point(
@@ -35,33 +36,34 @@ fn set_point(
     node: &mut NodeCore,
     name: &str,
     text: &str,
-) -> Result<Reply, AllocError>
-    ensures reply { IfOk result (λ reply. reply_text reply ≡ call_text node.old (set name.now text.now)) }
-    ensures after { OnOk result (node.new ≡ node_after node.old (set name.now text.now)) }
+) -> Result<LineReply, AllocError>
+    ensures reply { Says result (call_text node.old (asks.Set name.now text.now) []) }
+    ensures after { OnOk result (
+        node.new ≡ node_after_call node.old (asks.Set name.now text.now) []) }
 {
     match node.set(alloc, name, text) {
-        Ok(stamp) => Ok(Reply::Set(stamp)),
-        Err(fault) => Reply::refused(fault),
+        Ok(stamp) => Ok(LineReply::Set(stamp)),
+        Err(fault) => LineReply::refused(fault),
     }
 }
 
-fn remove_point(alloc: Global, node: &mut NodeCore, name: &str) -> Result<Reply, AllocError>
-    ensures reply { IfOk result (λ reply. reply_text reply ≡ call_text node.old (remove name.now)) }
-    ensures after { OnOk result (node.new ≡ node_after node.old (remove name.now)) }
+fn remove_point(alloc: Global, node: &mut NodeCore, name: &str) -> Result<LineReply, AllocError>
+    ensures reply { Says result (call_text node.old (asks.Remove name.now) []) }
+    ensures after { OnOk result (node.new ≡ node_after_call node.old (asks.Remove name.now) []) }
 {
     match node.remove(alloc, name) {
-        Ok(stamp) => Ok(Reply::Removed(stamp)),
-        Err(fault) => Reply::refused(fault),
+        Ok(stamp) => Ok(LineReply::Removed(stamp)),
+        Err(fault) => LineReply::refused(fault),
     }
 }
 
-fn load_points(alloc: Global, node: &mut NodeCore, text: &str) -> Result<Reply, AllocError>
-    ensures reply { IfOk result (λ reply. reply_text reply ≡ call_text node.old (load text.now)) }
-    ensures after { OnOk result (node.new ≡ node_after node.old (load text.now)) }
+fn load_points(alloc: Global, node: &mut NodeCore, text: &str) -> Result<LineReply, AllocError>
+    ensures reply { Says result (call_text node.old (asks.Load text.now) []) }
+    ensures after { OnOk result (node.new ≡ node_after_call node.old (asks.Load text.now) []) }
 {
     match node.load(alloc, text) {
-        Ok(entries) => Ok(Reply::Loaded(entries)),
-        Err(fault) => Reply::refused(fault),
+        Ok(entries) => Ok(LineReply::Loaded(entries)),
+        Err(fault) => LineReply::refused(fault),
     }
 }
 
@@ -70,13 +72,14 @@ fn pass_point(
     node: &mut NodeCore,
     name: &str,
     words: &[u32],
-) -> Result<Reply, AllocError>
-    ensures reply { IfOk result (λ reply. reply_text reply ≡ call_text node.old (pass name.now words.now)) }
-    ensures after { OnOk result (node.new ≡ node_after node.old (pass name.now words.now)) }
+) -> Result<LineReply, AllocError>
+    ensures reply { Says result (call_text node.old (asks.Pass name.now) words.now) }
+    ensures after { OnOk result (
+        node.new ≡ node_after_call node.old (asks.Pass name.now) words.now) }
 {
     match node.pass_with(alloc, name, words) {
-        Ok(reply) => Ok(Reply::Pass(reply)),
-        Err(fault) => Reply::refused(fault),
+        Ok(reply) => Ok(LineReply::Pass(reply)),
+        Err(fault) => LineReply::refused(fault),
     }
 }
 
@@ -87,13 +90,14 @@ fn shift_rights(
     term: u8,
     to: u8,
     amount: u64,
-) -> Result<Reply, AllocError>
-    ensures reply { IfOk result (λ reply. reply_text reply ≡ call_text node.old (shift name.now term to amount)) }
-    ensures after { OnOk result (node.new ≡ node_after node.old (shift name.now term to amount)) }
+) -> Result<LineReply, AllocError>
+    ensures reply { Says result (call_text node.old (asks.Shift name.now term to amount) []) }
+    ensures after { OnOk result (
+        node.new ≡ node_after_call node.old (asks.Shift name.now term to amount) []) }
 {
     match node.shift(alloc, name, term, to, amount) {
-        Ok(total) => Ok(Reply::Shifted(total)),
-        Err(fault) => Reply::refused(fault),
+        Ok(total) => Ok(LineReply::Shifted(total)),
+        Err(fault) => LineReply::refused(fault),
     }
 }
 
@@ -115,52 +119,57 @@ fn rights_at(
     name: &str,
     term: u8,
     of: u8,
-) -> Result<Reply, AllocError>
-    ensures { IfOk result (λ reply. reply_text reply ≡ call_text node.now (rights name.now term of)) }
+) -> Result<LineReply, AllocError>
+    ensures { Says result (request_text node.now (rights name.now term of)) }
 {
     let Some(name) = name_in(alloc, name)? else {
-        return Ok(Reply::Rights(0));
+        return Ok(LineReply::Rights(0));
     };
-    Ok(Reply::Rights(node.rights(&name, term, of)))
+    Ok(LineReply::Rights(node.rights(&name, term, of)))
 }
 
-fn spent_at(alloc: Global, node: &NodeCore, name: &str, term: u8) -> Result<Reply, AllocError>
-    ensures { IfOk result (λ reply. reply_text reply ≡ call_text node.now (spent name.now term)) }
+fn spent_at(alloc: Global, node: &NodeCore, name: &str, term: u8) -> Result<LineReply, AllocError>
+    ensures { Says result (request_text node.now (spent name.now term)) }
 {
     let Some(name) = name_in(alloc, name)? else {
-        return Ok(Reply::Count(0));
+        return Ok(LineReply::Count(0));
     };
-    Ok(Reply::Count(node.spent(&name, term)))
+    Ok(LineReply::Count(node.spent(&name, term)))
 }
 
-fn hits_at(alloc: Global, node: &NodeCore, name: &str) -> Result<Reply, AllocError>
-    ensures { IfOk result (λ reply. reply_text reply ≡ call_text node.now (hits name.now)) }
+fn hits_at(alloc: Global, node: &NodeCore, name: &str) -> Result<LineReply, AllocError>
+    ensures { Says result (request_text node.now (hits name.now)) }
 {
     let Some(name) = name_in(alloc, name)? else {
-        return Ok(Reply::Count(0));
+        return Ok(LineReply::Count(0));
     };
-    Ok(Reply::Count(node.hits(&name)))
+    Ok(LineReply::Count(node.hits(&name)))
 }
 
-fn call_node(alloc: Global, node: &mut NodeCore, call: Call<'_>) -> Result<Reply, AllocError>
-    ensures reply { IfOk result (λ reply. reply_text reply ≡ call_text node.old (call_value call.entry)) }
-    ensures after { OnOk result (node.new ≡ node_after node.old (call_value call.entry)) }
+fn ask_node(
+    alloc: Global,
+    node: &mut NodeCore,
+    request: Request<'_>,
+) -> Result<LineReply, AllocError>
+    ensures reply { Says result (request_text node.old (request_value request.entry)) }
+    ensures after { OnOk result (
+        node.new ≡ node_after_request node.old (request_value request.entry)) }
 {
-    match call {
-        Call::Set { name, text } => set_point(alloc, node, name, text),
-        Call::Remove { name } => remove_point(alloc, node, name),
-        Call::Load { text } => load_points(alloc, node, text),
-        Call::Pass { name, words } => pass_point(alloc, node, name, &words),
-        Call::Shift {
+    match request {
+        Request::Set { name, text } => set_point(alloc, node, name, text),
+        Request::Remove { name } => remove_point(alloc, node, name),
+        Request::Load { text } => load_points(alloc, node, text),
+        Request::Pass { name, words } => pass_point(alloc, node, name, &words),
+        Request::Shift {
             name,
             term,
             to,
             amount,
         } => shift_rights(alloc, node, name, term, to, amount),
-        Call::List => Ok(Reply::List(node.list(alloc)?)),
-        Call::Rights { name, term, of } => rights_at(alloc, node, name, term, of),
-        Call::Spent { name, term } => spent_at(alloc, node, name, term),
-        Call::Hits { name } => hits_at(alloc, node, name),
+        Request::List => Ok(LineReply::List(node.list(alloc)?)),
+        Request::Rights { name, term, of } => rights_at(alloc, node, name, term, of),
+        Request::Spent { name, term } => spent_at(alloc, node, name, term),
+        Request::Hits { name } => hits_at(alloc, node, name),
     }
 }
 
@@ -170,36 +179,41 @@ fn emit_into(
     node: &mut NodeCore,
     to: u8,
     messages: &mut Vec<Vec<u8>>,
-) -> Result<Reply, AllocError>
-    ensures reply { IfOk result (λ reply. reply_text reply ≡ emitted_text (emit_refusal node.old to) (length (map vec_items messages.old.items))) }
+) -> Result<LineReply, AllocError>
+    ensures reply { Says result (
+        emitted_text (emit_refusal node.old to) (length (messages_in messages.old))) }
     ensures node { OnOk result (node.new ≡ node_after_emit node.old to) }
-    ensures messages { OnOk result (map vec_items messages.new.items ≡ messages_after (emit_refusal node.old to) (map vec_items messages.old.items) (bytes_told node.old to)) }
+    ensures messages { OnOk result (messages_in messages.new ≡
+        messages_after (emit_refusal node.old to) (messages_in messages.old) (emit_bytes node.old to)) }
 {
     match node.emit(alloc, to) {
         Ok(message) => {
             let number = messages.len();
             messages.push(message)?;
-            Ok(Reply::Message(number))
+            Ok(LineReply::Message(number))
         }
-        Err(refusal) => Reply::refused(refusal),
+        Err(refusal) => LineReply::refused(refusal),
     }
 }
 
-fn deliver_to(alloc: Global, node: &mut NodeCore, message: &[u8]) -> Result<Reply, AllocError>
-    ensures reply { IfOk result (λ reply. reply_text reply ≡ deliver_text node.old message.now) }
-    ensures after { OnOk result (node.new ≡ node_after_deliver node.old message.now) }
+fn deliver_to(alloc: Global, node: &mut NodeCore, message: &[u8]) -> Result<LineReply, AllocError>
+    ensures reply { Says result (call_text node.old (delivery_of node.old message.now) []) }
+    ensures after { OnOk result (
+        node.new ≡ node_after_call node.old (delivery_of node.old message.now) []) }
 {
     match node.deliver(alloc, message) {
-        Ok(changed) => Ok(Reply::Delivered(changed)),
-        Err(fault) => Reply::refused(fault),
+        Ok(changed) => Ok(LineReply::Delivered(changed)),
+        Err(fault) => LineReply::refused(fault),
     }
 }
 
 impl Cluster {
     /// So many nodes, each of which accepts so many calls.
     pub fn new(alloc: Global, count: u8, trace_cap: u32) -> Result<Cluster, NodeFault>
-        ensures ok { IfOk result (λ cluster. IsTrue (is_cluster_size count) × (cluster ≡ new_cluster count trace_cap)) }
-        ensures refused { IfErr result (λ fault. fault ≢ OutOfMemory → (is_cluster_size count ≡ false) × (fault ≡ NodeFault.BadConfig)) }
+        ensures ok { IfOk result (λ cluster. cluster ≡ new_cluster count trace_cap) }
+        ensures size { OnOk result (IsTrue (is_cluster_size count)) }
+        ensures refused { IfErr result (λ fault. fault ≢ OutOfMemory →
+            (is_cluster_size count ≡ false) × (fault ≡ NodeFault.BadConfig)) }
     {
         if count == 0 {
             return Err(NodeFault::BadConfig);
@@ -220,26 +234,32 @@ impl Cluster {
         Ok(Cluster { nodes, messages })
     }
 
-    /// Calls a node. A refused call changes nothing.
-    pub fn ask(&mut self, alloc: Global, node: u8, call: Call<'_>) -> Result<Reply, AllocError>
-        ensures reply { IfOk result (λ reply. reply_text reply ≡ ask_text self.old node (call_value call.entry)) }
-        ensures after { OnOk result (self.new ≡ cluster_after_ask self.old node (call_value call.entry)) }
+    /// Asks a node. A refused call changes nothing.
+    pub fn ask(
+        &mut self,
+        alloc: Global,
+        node: u8,
+        request: Request<'_>,
+    ) -> Result<LineReply, AllocError>
+        ensures reply { Says result (ask_text self.old node (request_value request.entry)) }
+        ensures after { OnOk result (
+            self.new ≡ cluster_after_ask self.old node (request_value request.entry)) }
     {
         let node = node as usize;
         if node >= self.nodes.len() {
-            return Ok(Reply::NoNode);
+            return Ok(LineReply::NoNode);
         }
-        call_node(alloc, &mut self.nodes[node], call)
+        ask_node(alloc, &mut self.nodes[node], request)
     }
 
     /// Makes a message of a node to another, and keeps it. A refused message changes nothing.
-    pub fn emit(&mut self, alloc: Global, from: u8, to: u8) -> Result<Reply, AllocError>
-        ensures reply { IfOk result (λ reply. reply_text reply ≡ emit_text self.old from to) }
+    pub fn emit(&mut self, alloc: Global, from: u8, to: u8) -> Result<LineReply, AllocError>
+        ensures reply { Says result (emit_text self.old from to) }
         ensures after { OnOk result (self.new ≡ cluster_after_emit self.old from to) }
     {
         let from = from as usize;
         if from >= self.nodes.len() {
-            Ok(Reply::NoNode)
+            Ok(LineReply::NoNode)
         } else {
             self.messages.reserve(1)?;
             emit_into(alloc, &mut self.nodes[from], to, &mut self.messages)
@@ -247,16 +267,16 @@ impl Cluster {
     }
 
     /// Delivers a message, by its number, to a node. A refused delivery changes nothing.
-    pub fn deliver(&mut self, alloc: Global, to: u8, message: u32) -> Result<Reply, AllocError>
-        ensures reply { IfOk result (λ reply. reply_text reply ≡ delivery_text self.old to message) }
+    pub fn deliver(&mut self, alloc: Global, to: u8, message: u32) -> Result<LineReply, AllocError>
+        ensures reply { Says result (delivery_text self.old to message) }
         ensures after { OnOk result (self.new ≡ cluster_after_deliver self.old to message) }
     {
         let to = to as usize;
         let message = message as usize;
         if to >= self.nodes.len() {
-            Ok(Reply::NoNode)
+            Ok(LineReply::NoNode)
         } else if message >= self.messages.len() {
-            Ok(Reply::NoMessage)
+            Ok(LineReply::NoMessage)
         } else {
             deliver_to(alloc, &mut self.nodes[to], &self.messages[message])
         }

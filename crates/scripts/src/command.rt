@@ -1,17 +1,16 @@
 //! What a line asks for.
 
-ghost use Rattle.std.specs.Prelude.{◌≡◌, ◌==◌, option_map, IfOk};
+ghost use Rattle.std.specs.Prelude.{◌≡◌, option_map, IfOk};
 ghost use Rattle.std.specs.Vec.{vec_items};
-ghost use Rattle.std.specs.List.{slice_split};
-ghost use Rattle.scripts.specs.Fields.{space};
-ghost use Rattle.scripts.specs.Commands.{call_value, command_value, words_of, nodes_in, set_in, remove_in, load_in, pass_in, shift_in, rights_in, spent_in, hits_in, call_in, ask_in, list_in, emit_in, deliver_in, command_of};
+ghost use Rattle.scripts.specs.Fields.{fields_of};
+ghost use Rattle.scripts.specs.Commands.{request_value, command_value, words_of, nodes_in, set_in, remove_in, load_in, pass_in, shift_in, rights_in, spent_in, hits_in, request_in, ask_in, list_in, emit_in, deliver_in, command_of};
 
 use crate::fields::{amount, byte, cut, field, word};
 use std::alloc::{AllocError, Global};
 
 /// What is asked of one node.
 #[derive(Drop)]
-pub enum Call<'a> {
+pub enum Request<'a> {
     Set {
         name: &'a str,
         text: &'a str,
@@ -52,8 +51,8 @@ pub enum Call<'a> {
 pub enum Command<'a> {
     /// A cluster of so many nodes, each of which accepts so many calls.
     Nodes { count: u8, trace_cap: u32 },
-    /// A call of a node.
-    Ask { node: u8, call: Call<'a> },
+    /// A request to a node.
+    Ask { node: u8, request: Request<'a> },
     /// A message of a node to another.
     Emit { node: u8, to: u8 },
     /// A delivery of a message, by its number, to a node.
@@ -69,29 +68,29 @@ fn nodes_command(rest: &str) -> Option<Command<'_>>
     Some(Command::Nodes { count, trace_cap })
 }
 
-fn set_call(rest: &str) -> Option<Call<'_>>
-    ensures { option_map call_value result ≡ set_in rest.now }
+fn set_request(rest: &str) -> Option<Request<'_>>
+    ensures { option_map request_value result ≡ set_in rest.now }
 {
     let (name, text) = cut(rest)?;
     let name = field(name)?;
-    Some(Call::Set { name, text })
+    Some(Request::Set { name, text })
 }
 
-fn remove_call(rest: &str) -> Option<Call<'_>>
-    ensures { option_map call_value result ≡ remove_in rest.now }
+fn remove_request(rest: &str) -> Option<Request<'_>>
+    ensures { option_map request_value result ≡ remove_in rest.now }
 {
     let name = field(rest)?;
-    Some(Call::Remove { name })
+    Some(Request::Remove { name })
 }
 
-fn load_call(rest: &str) -> Option<Call<'_>>
-    ensures { option_map call_value result ≡ load_in rest.now }
+fn load_request(rest: &str) -> Option<Request<'_>>
+    ensures { option_map request_value result ≡ load_in rest.now }
 {
-    Some(Call::Load { text: rest })
+    Some(Request::Load { text: rest })
 }
 
 fn words_in(alloc: Global, text: &str) -> Result<Option<Vec<u32>>, AllocError>
-    ensures { IfOk result (λ words. option_map vec_items words ≡ words_of (slice_split (λ byte. byte == space) text.now)) }
+    ensures { IfOk result (λ words. option_map vec_items words ≡ words_of (fields_of text.now)) }
 {
     let mut words = Vec::new(alloc);
     for field in text.split(' ') {
@@ -103,21 +102,21 @@ fn words_in(alloc: Global, text: &str) -> Result<Option<Vec<u32>>, AllocError>
     Ok(Some(words))
 }
 
-fn pass_call(alloc: Global, rest: &str) -> Result<Option<Call<'_>>, AllocError>
-    ensures { IfOk result (λ call. option_map call_value call ≡ pass_in rest.now) }
+fn pass_request(alloc: Global, rest: &str) -> Result<Option<Request<'_>>, AllocError>
+    ensures { IfOk result (λ request. option_map request_value request ≡ pass_in rest.now) }
 {
     let (name, words) = match cut(rest) {
         None => (rest, Some(Vec::new(alloc))),
         Some((name, words)) => (name, words_in(alloc, words)?),
     };
     match (field(name), words) {
-        (Some(name), Some(words)) => Ok(Some(Call::Pass { name, words })),
+        (Some(name), Some(words)) => Ok(Some(Request::Pass { name, words })),
         _ => Ok(None),
     }
 }
 
-fn shift_call(rest: &str) -> Option<Call<'_>>
-    ensures { option_map call_value result ≡ shift_in rest.now }
+fn shift_request(rest: &str) -> Option<Request<'_>>
+    ensures { option_map request_value result ≡ shift_in rest.now }
 {
     let (name, rest) = cut(rest)?;
     let name = field(name)?;
@@ -126,7 +125,7 @@ fn shift_call(rest: &str) -> Option<Call<'_>>
     let (to, amount_text) = cut(rest)?;
     let to = byte(to)?;
     let amount = amount(amount_text)?;
-    Some(Call::Shift {
+    Some(Request::Shift {
         name,
         term,
         to,
@@ -134,46 +133,52 @@ fn shift_call(rest: &str) -> Option<Call<'_>>
     })
 }
 
-fn rights_call(rest: &str) -> Option<Call<'_>>
-    ensures { option_map call_value result ≡ rights_in rest.now }
+fn rights_request(rest: &str) -> Option<Request<'_>>
+    ensures { option_map request_value result ≡ rights_in rest.now }
 {
     let (name, numbers) = cut(rest)?;
     let name = field(name)?;
     let (term, of) = cut(numbers)?;
     let term = byte(term)?;
     let of = byte(of)?;
-    Some(Call::Rights { name, term, of })
+    Some(Request::Rights { name, term, of })
 }
 
-fn spent_call(rest: &str) -> Option<Call<'_>>
-    ensures { option_map call_value result ≡ spent_in rest.now }
+fn spent_request(rest: &str) -> Option<Request<'_>>
+    ensures { option_map request_value result ≡ spent_in rest.now }
 {
     let (name, term) = cut(rest)?;
     let name = field(name)?;
     let term = byte(term)?;
-    Some(Call::Spent { name, term })
+    Some(Request::Spent { name, term })
 }
 
-fn hits_call(rest: &str) -> Option<Call<'_>>
-    ensures { option_map call_value result ≡ hits_in rest.now }
+fn hits_request(rest: &str) -> Option<Request<'_>>
+    ensures { option_map request_value result ≡ hits_in rest.now }
 {
     let name = field(rest)?;
-    Some(Call::Hits { name })
+    Some(Request::Hits { name })
 }
 
-/// What follows the node's number, by the line's first word.
-fn read_call<'a>(alloc: Global, word: &str, rest: &'a str) -> Result<Option<Call<'a>>, AllocError>
-    ensures { IfOk result (λ call. option_map call_value call ≡ call_in word.now rest.now) }
+/// What follows the node's number, by the line's first word. Nothing follows it in `list`, which
+/// `read_command` reads.
+fn read_request<'a>(
+    alloc: Global,
+    word: &str,
+    rest: &'a str,
+) -> Result<Option<Request<'a>>, AllocError>
+    ensures { IfOk result (λ request.
+        option_map request_value request ≡ request_in word.now rest.now) }
 {
     match word {
-        "set" => Ok(set_call(rest)),
-        "remove" => Ok(remove_call(rest)),
-        "load" => Ok(load_call(rest)),
-        "pass" => pass_call(alloc, rest),
-        "shift" => Ok(shift_call(rest)),
-        "rights" => Ok(rights_call(rest)),
-        "spent" => Ok(spent_call(rest)),
-        "hits" => Ok(hits_call(rest)),
+        "set" => Ok(set_request(rest)),
+        "remove" => Ok(remove_request(rest)),
+        "load" => Ok(load_request(rest)),
+        "pass" => pass_request(alloc, rest),
+        "shift" => Ok(shift_request(rest)),
+        "rights" => Ok(rights_request(rest)),
+        "spent" => Ok(spent_request(rest)),
+        "hits" => Ok(hits_request(rest)),
         _ => Ok(None),
     }
 }
@@ -191,18 +196,18 @@ fn ask_command<'a>(
     let Some(node) = byte(node) else {
         return Ok(None);
     };
-    let Some(call) = read_call(alloc, word, rest)? else {
+    let Some(request) = read_request(alloc, word, rest)? else {
         return Ok(None);
     };
-    Ok(Some(Command::Ask { node, call }))
+    Ok(Some(Command::Ask { node, request }))
 }
 
 fn list_command(rest: &str) -> Option<Command<'_>>
     ensures { option_map command_value result ≡ list_in rest.now }
 {
     let node = byte(rest)?;
-    let call = Call::List;
-    Some(Command::Ask { node, call })
+    let request = Request::List;
+    Some(Command::Ask { node, request })
 }
 
 fn emit_command(rest: &str) -> Option<Command<'_>>

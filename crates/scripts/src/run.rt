@@ -1,10 +1,10 @@
 //! A script from a reader, and its text to a writer.
 
-ghost use Rattle.std.specs.Prelude.{◌≡◌, ◌≢◌, ◌+◌, ◌<◌, ◌↔◌, ◌⊎◌, true, false, length, IfErr, IfSome, OnOk};
-ghost use Rattle.std.specs.Io.KnownBytes.{Appends};
-ghost use Rattle.scripts.specs.Watched.{has_failed, has_unflushed, inner_of};
+ghost use Rattle.std.specs.Prelude.{◌≡◌, ◌≢◌, ◌+◌, ◌<◌, ◌↔◌, ◌⊎◌, true, false, length, IfErr, OnOk};
+ghost use Rattle.scripts.specs.declared.fault.ScriptFault.TheVariants.{OutOfMemory, ReadFailed, TooLong, WriteFailed};
+ghost use Rattle.scripts.specs.Watched.{has_failed, has_unflushed};
 ghost use Rattle.scripts.specs.Script.{script_text};
-ghost use Rattle.scripts.specs.Streams.{TakesUpTo, GivesPrefix};
+ghost use Rattle.scripts.specs.Streams.{IfInput, ReadsUpTo, Writes, WritesPrefix};
 
 use crate::fault::ScriptFault;
 use crate::script::output_of;
@@ -25,23 +25,25 @@ pub fn run_script<R: Read, W: Write>(
     requires writer { has_failed writer.old ≡ false }
 
     // The text of what was read is written, and nothing else.
-    ensures ok { OnOk result (IfSome (R.remaining (inner_of reader.old)) (λ input.
-        Appends (W.contents (inner_of writer.old)) (W.contents (inner_of writer.new)) (script_text input))) }
+    ensures ok { OnOk result (IfInput R.remaining reader.old (λ input.
+        Writes W.contents writer.old writer.new (script_text input))) }
     // All that was written is flushed.
     ensures flushed { OnOk result (has_unflushed writer.new ≡ false) }
     // Where a write failed, a prefix of it.
-    ensures prefix { result ≡ Err ScriptFault.WriteFailed → IfSome (R.remaining (inner_of reader.old)) (λ input.
-        GivesPrefix (script_text input) (W.contents (inner_of writer.old)) (W.contents (inner_of writer.new))) }
+    ensures prefix { result ≡ Err WriteFailed → IfInput R.remaining reader.old (λ input.
+        WritesPrefix W.contents writer.old writer.new (script_text input)) }
     // After any other fault the writer is as it was.
-    ensures unwritten { IfErr result (λ fault. fault ≢ ScriptFault.WriteFailed → writer.new ≡ writer.old) }
+    ensures unwritten { IfErr result (λ fault. fault ≢ WriteFailed → writer.new ≡ writer.old) }
 
-    ensures read_failed { (result ≡ Err ScriptFault.ReadFailed) ↔ (has_failed reader.new ≡ true) }
-    ensures write_failed { (result ≡ Err ScriptFault.WriteFailed) ↔ (has_failed writer.new ≡ true) }
-    // A longer script is too long, but where a read failed or memory was refused before; no other is.
-    ensures long { IfSome (R.remaining (inner_of reader.old)) (λ input. MOST_BYTES < length input →
-        (result ≡ Err ScriptFault.TooLong) ⊎ (has_failed reader.new ≡ true) ⊎ (result ≡ Err ScriptFault.OutOfMemory)) }
-    ensures too_long { result ≡ Err ScriptFault.TooLong → IfSome (R.remaining (inner_of reader.old)) (λ input. MOST_BYTES < length input) }
-    ensures taken { TakesUpTo (MOST_BYTES + 1) (R.remaining (inner_of reader.old)) (R.remaining (inner_of reader.new)) }
+    ensures read_failed { (result ≡ Err ReadFailed) ↔ (has_failed reader.new ≡ true) }
+    ensures write_failed { (result ≡ Err WriteFailed) ↔ (has_failed writer.new ≡ true) }
+    // A longer script is too long, but where a read failed or memory was refused before; no other
+    // is.
+    ensures long { IfInput R.remaining reader.old (λ input. MOST_BYTES < length input →
+        (result ≡ Err TooLong) ⊎ (has_failed reader.new ≡ true) ⊎ (result ≡ Err OutOfMemory)) }
+    ensures too_long { result ≡ Err TooLong →
+        IfInput R.remaining reader.old (λ input. MOST_BYTES < length input) }
+    ensures taken { ReadsUpTo (MOST_BYTES + 1) R.remaining reader.old reader.new }
 {
     let script = read_script(alloc, reader)?;
     let text = output_of(alloc, script.as_slice())?;

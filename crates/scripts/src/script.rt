@@ -2,12 +2,12 @@
 
 ghost use Rattle.std.specs.Prelude.{◌≡◌, ◌++◌, Some, None, Ok, IfOk, OnOk, option_map, string_bytes};
 ghost use Rattle.scripts.specs.Commands.{command_value, nodes};
-ghost use Rattle.scripts.specs.Replies.{reply_output};
+ghost use Rattle.scripts.specs.Replies.{reply_output, Prints};
 ghost use Rattle.scripts.specs.Script.{text_in, command_in, command_output, cluster_after, asked_output, cluster_after_asked, line_output, cluster_after_line, script_text};
 
 use crate::cluster::Cluster;
 use crate::command::{Command, read_command};
-use crate::reply::{Reply, print_reply};
+use crate::reply::{LineReply, print_reply};
 use node_core::NodeFault;
 use std::alloc::{AllocError, Global};
 
@@ -16,9 +16,9 @@ fn start_cluster(
     cluster: &mut Option<Cluster>,
     count: u8,
     trace_cap: u32,
-) -> Result<Option<Reply>, AllocError>
+) -> Result<Option<LineReply>, AllocError>
     requires { cluster.old ≡ None }
-    ensures output { IfOk result (λ reply. reply_output reply ≡ command_output None (nodes count trace_cap)) }
+    ensures output { Prints result (command_output None (nodes count trace_cap)) }
     ensures cluster { OnOk result (cluster.new ≡ cluster_after None (nodes count trace_cap)) }
 {
     match Cluster::new(alloc, count, trace_cap) {
@@ -26,7 +26,7 @@ fn start_cluster(
             *cluster = Some(made);
             Ok(None)
         }
-        Err(fault) => Ok(Some(Reply::refused(fault)?)),
+        Err(fault) => Ok(Some(LineReply::refused(fault)?)),
     }
 }
 
@@ -34,13 +34,15 @@ fn run_command_on(
     alloc: Global,
     cluster: &mut Cluster,
     command: Command<'_>,
-) -> Result<Reply, AllocError>
-    ensures output { IfOk result (λ reply. reply_output (Some reply) ≡ command_output (Some cluster.old) (command_value command.entry)) }
-    ensures cluster { OnOk result (Some cluster.new ≡ cluster_after (Some cluster.old) (command_value command.entry)) }
+) -> Result<LineReply, AllocError>
+    ensures output { IfOk result (λ reply.
+        reply_output (Some reply) ≡ command_output (Some cluster.old) (command_value command.entry)) }
+    ensures cluster { OnOk result (
+        Some cluster.new ≡ cluster_after (Some cluster.old) (command_value command.entry)) }
 {
     match command {
-        Command::Nodes { .. } => Ok(Reply::BadLine),
-        Command::Ask { node, call } => cluster.ask(alloc, node, call),
+        Command::Nodes { .. } => Ok(LineReply::BadLine),
+        Command::Ask { node, request } => cluster.ask(alloc, node, request),
         Command::Emit { node, to } => cluster.emit(alloc, node, to),
         Command::Deliver { node, message } => cluster.deliver(alloc, node, message),
     }
@@ -50,16 +52,17 @@ fn run_command(
     alloc: Global,
     cluster: &mut Option<Cluster>,
     command: Command<'_>,
-) -> Result<Option<Reply>, AllocError>
-    ensures output { IfOk result (λ reply. reply_output reply ≡ command_output cluster.old (command_value command.entry)) }
-    ensures cluster { OnOk result (cluster.new ≡ cluster_after cluster.old (command_value command.entry)) }
+) -> Result<Option<LineReply>, AllocError>
+    ensures output { Prints result (command_output cluster.old (command_value command.entry)) }
+    ensures cluster { OnOk result (
+        cluster.new ≡ cluster_after cluster.old (command_value command.entry)) }
 {
     match cluster {
         Some(cluster) => Ok(Some(run_command_on(alloc, cluster, command)?)),
         None => match command {
             Command::Nodes { count, trace_cap } => start_cluster(alloc, cluster, count, trace_cap),
             Command::Ask { .. } | Command::Emit { .. } | Command::Deliver { .. } => {
-                Ok(Some(Reply::BadLine))
+                Ok(Some(LineReply::BadLine))
             }
         },
     }
@@ -72,7 +75,8 @@ fn text_of(line: &[u8]) -> Option<&str>
 }
 
 fn line_command(alloc: Global, line: &[u8]) -> Result<Option<Command<'_>>, AllocError>
-    ensures command { IfOk result (λ command. option_map command_value command ≡ command_in line.now) }
+    ensures command { IfOk result (λ command.
+        option_map command_value command ≡ command_in line.now) }
     // A line that is no text takes no memory.
     ensures no_text { text_in line.now ≡ None → result ≡ Ok None }
 {
@@ -86,8 +90,8 @@ fn run_line(
     alloc: Global,
     cluster: &mut Option<Cluster>,
     line: &[u8],
-) -> Result<Option<Reply>, AllocError>
-    ensures output { IfOk result (λ reply. reply_output reply ≡ line_output cluster.old line.now) }
+) -> Result<Option<LineReply>, AllocError>
+    ensures output { Prints result (line_output cluster.old line.now) }
     ensures cluster { OnOk result (cluster.new ≡ cluster_after_line cluster.old line.now) }
 {
     if line.is_empty() || line[0] == b'#' {
@@ -95,7 +99,7 @@ fn run_line(
     }
     match line_command(alloc, line)? {
         Some(command) => run_command(alloc, cluster, command),
-        None => Ok(Some(Reply::BadLine)),
+        None => Ok(Some(LineReply::BadLine)),
     }
 }
 

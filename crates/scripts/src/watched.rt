@@ -54,7 +54,8 @@ impl<R: Read> Read for Watched<R> {
 
     fn read(&mut self, buf: &mut [u8]) -> io::Result<usize>
         ensures bound { ReadsAtMost result buf.new }
-        ensures bytes { ReadConsumes (R.remaining (inner_of self.old)) (R.remaining (inner_of self.new)) result buf.new }
+        ensures bytes { ReadConsumes (R.remaining (inner_of self.old))
+            (R.remaining (inner_of self.new)) result buf.new }
         ensures failed { has_failed self.new ≡ (has_failed self.old || is_err result) }
         ensures unflushed { has_unflushed self.new ≡ has_unflushed self.old }
     {
@@ -64,7 +65,8 @@ impl<R: Read> Read for Watched<R> {
     }
 
     fn read_exact(&mut self, buf: &mut [u8]) -> io::Result<()>
-        ensures bytes { OnOk result (Consumes (R.remaining (inner_of self.old)) (R.remaining (inner_of self.new)) buf.new) }
+        ensures bytes { OnOk result (Consumes (R.remaining (inner_of self.old))
+            (R.remaining (inner_of self.new)) buf.new) }
         ensures failed { has_failed self.new ≡ (has_failed self.old || is_err result) }
         ensures unflushed { has_unflushed self.new ≡ has_unflushed self.old }
     {
@@ -81,8 +83,10 @@ impl<W: Write> Write for Watched<W> {
 
     fn write(&mut self, buf: &[u8]) -> io::Result<usize>
         ensures bound { WritesAtMost result buf.now }
-        ensures bytes { WriteAppends (W.contents (inner_of self.old)) (W.contents (inner_of self.new)) result buf.now }
-        ensures failed { has_failed self.new ≡ (has_failed self.old || is_failed_write result buf.now) }
+        ensures bytes { WriteAppends (W.contents (inner_of self.old))
+            (W.contents (inner_of self.new)) result buf.now }
+        ensures failed { has_failed self.new
+            ≡ (has_failed self.old || is_failed_write result buf.now) }
         ensures unflushed { has_unflushed self.new ≡ (has_unflushed self.old || takes_some result) }
     {
         let result = self.inner.write(buf);
@@ -106,10 +110,12 @@ impl<W: Write> Write for Watched<W> {
     }
 
     fn write_all(&mut self, buf: &[u8]) -> io::Result<()>
-        ensures bytes { OnOk result (Appends (W.contents (inner_of self.old)) (W.contents (inner_of self.new)) buf.now) }
+        ensures bytes { OnOk result (Appends (W.contents (inner_of self.old))
+            (W.contents (inner_of self.new)) buf.now) }
         ensures failed { has_failed self.new ≡ (has_failed self.old || is_err result) }
         // A call that failed may have written some.
-        ensures unflushed { has_unflushed self.new ≡ (has_unflushed self.old || nat_lt 0 (length buf.now)) }
+        ensures unflushed { has_unflushed self.new
+            ≡ (has_unflushed self.old || nat_lt 0 (length buf.now)) }
     {
         let result = self.inner.write_all(buf);
         self.failed = self.failed || result.is_err();

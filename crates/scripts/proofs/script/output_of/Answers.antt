@@ -10,14 +10,17 @@ use Rattle.scripts.proofs.script.output_of.Goals as goal
 
 pub loop-line-preserved : goal.loop-line-preserved
 loop-line-preserved c =
-    let turn = YieldsList-turn (YieldsList-from_slice_split _ (λ byte. byte == 10) c.args.script.now (search rules) (search rules) (search rules) (λ x r q k. search (rules, tests)))
+    let turn = YieldsList-turn (YieldsList-from_slice_split _ (λ byte. byte == 10) c.args.script.now
+    (search rules) (search rules) (search rules) (λ x r q k. search (rules, tests)))
     c.loop-line.yielded _ c.loop-line.yielded_by _ _ c.in-Some.line c.in-Some.is c.next.ensures.steps in
     one_more c.loop-line.cluster c.run_line.new.cluster (lines_of c.args.script.now) (length c.loop-line.yielded) _ c.in-Some.line.now
-    (string_bytes c.loop-line.out) (string_bytes c.print_reply.new.out) _ turn.0 turn.1 (length_push c.loop-line.yielded c.in-Some.line) c.loop-line.invariant (search rules) (search rules)
+    (string_bytes c.loop-line.out) (string_bytes c.print_reply.new.out) _ turn.0 turn.1
+    (length_push c.loop-line.yielded c.in-Some.line) c.loop-line.invariant (search rules) (search rules)
 
 pub returns : goal.returns
 unfolding script_text
 returns c =
-    let end = YieldsList-end (YieldsList-from_slice_split _ (λ byte. byte == 10) c.args.script.now (search rules) (search rules) (search rules) (λ x r q k. search (rules, tests)))
+    let end = YieldsList-end (YieldsList-from_slice_split _ (λ byte. byte == 10) c.args.script.now
+    (search rules) (search rules) (search rules) (λ x r q k. search (rules, tests)))
     c.loop-line.yielded _ c.loop-line.yielded_by _ _ c.in-None.is c.next.ensures.steps in
     none_left c.loop-line.cluster (lines_of c.args.script.now) (length c.loop-line.yielded) (string_bytes c.loop-line.out) _ end.1 c.loop-line.invariant
