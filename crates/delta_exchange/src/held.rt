@@ -217,7 +217,7 @@ fn held_entries<R: Replica>(
 ///
 /// Of at most 16 nodes and 256 names it is never too long to be written. Only want of memory is an
 /// error. Each number that may differ from 0 is read once.
-pub fn whole<R: Replica>(
+pub fn message_of_all<R: Replica>(
     alloc: Global,
     replica: &R,
     nodes: u8,

@@ -23,10 +23,10 @@
 //! let same_bytes = encode(alloc, &message)?;
 //! ```
 //!
-//! `whole` is the message of all that a replica holds:
+//! `message_of_all` is the message of all that a replica holds:
 //!
 //! ```rust
-//! let message = whole(alloc, &replica, nodes, from, to)?;
+//! let message = message_of_all(alloc, &replica, nodes, from, to)?;
 //! ```
 #![tactic(auto)]
 
@@ -42,8 +42,8 @@ mod wire;
 mod writing;
 
 pub use fault::WireFault;
-pub use held::whole;
-pub use learning::told;
+pub use held::message_of_all;
+pub use learning::replica_of;
 pub use message::{MAX_NAMES, MAX_NODES, Message, NameEntry};
 pub use reading::decode;
 pub use writing::encode;

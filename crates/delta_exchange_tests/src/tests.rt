@@ -9,7 +9,7 @@ mod printed;
 mod whole;
 mod written;
 
-use delta_exchange::{Message, NameEntry, WireFault, decode, encode, told, whole};
+use delta_exchange::{Message, NameEntry, WireFault, decode, encode, message_of_all, replica_of};
 use std::alloc::{AllocError, Global};
 use std::fmt::Display;
 use std::test::Fail;

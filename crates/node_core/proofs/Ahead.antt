@@ -10,7 +10,7 @@ use Rattle.stamp_register.specs.Keys.{KeyValue, same_key}
 use Rattle.stamp_register.proofs.KeyLemmas.{same_key-true, true-same_key, same_key-cmp}
 use Rattle.replica_state.specs.Operations.{Operation, Set, Count, Hits, Execs, Shifts}
 use Rattle.replica_state.specs.States.{State}
-use Rattle.replica_state.specs.Points.{standing}
+use Rattle.replica_state.specs.Points.{key_standing}
 use Rattle.delta_exchange.specs.declared.message.NameEntry.{NameEntry}
 use Rattle.delta_exchange.specs.Messages.{EntryValue, entry_value, operations_of}
 use Rattle.node_core.specs.Refusals.{is_ahead, is_cell_ahead}
@@ -49,13 +49,13 @@ by_order Less s own number h = ap (λ b. cond b (nat_lt own number) (not true)) 
 by_order Equal s own number h = ap (λ b. cond b (nat_lt own number) (not true)) h
 by_order Greater s own number h = ap (λ b. cond b (nat_lt own number) (not false)) h
 
-pub cell_ahead : (key : KeyValue) (own number : ℕ) (held : Option KeyValue) → is_cell_ahead key number own held ≡ ahead_by (standing key held) own number
+pub cell_ahead : (key : KeyValue) (own number : ℕ) (held : Option KeyValue) → is_cell_ahead key number own held ≡ ahead_by (key_standing key held) own number
 cell_ahead key own number None = refl
-cell_ahead key own number (Some other) = by_order (standing key (Some other)) (same_key other key) own number (same_turned other key ∙ same_key-cmp key other)
+cell_ahead key own number (Some other) = by_order (key_standing key (Some other)) (same_key other key) own number (same_turned other key ∙ same_key-cmp key other)
 
-key_ahead : (i : ℕ) (v : State) (name : List ℕ) (key : KeyValue) (held : Option KeyValue) → v.key name ≡ held → is_ahead i v (Set name key) ≡ (key.node == i && is_gt (standing key held))
+key_ahead : (i : ℕ) (v : State) (name : List ℕ) (key : KeyValue) (held : Option KeyValue) → v.key name ≡ held → is_ahead i v (Set name key) ≡ (key.node == i && is_gt (key_standing key held))
 key_ahead i v name key None h = rw h refl
-key_ahead i v name key (Some other) h = rw h (ap (λ b. key.node == i && b) (of (standing key (Some other))))
+key_ahead i v name key (Some other) h = rw h (ap (λ b. key.node == i && b) (of (key_standing key (Some other))))
   where
     of : (o : Ordering) → not (is_le o) ≡ is_gt o
     of Less = refl
@@ -66,7 +66,7 @@ key_ahead i v name key (Some other) h = rw h (ap (λ b. key.node == i && b) (of 
 
 module _ (i : ℕ) (v : State) (e : EntryValue) where
   abbrev order : Ordering
-  order = standing e.key (v.key e.name)
+  order = key_standing e.key (v.key e.name)
 
   pub entry_ahead : list_any (is_ahead i v) (operations_of e) ≡
       ((e.key.node == i && is_gt order) ||

@@ -5,7 +5,7 @@ ghost use Rattle.std.specs.List.{flat_map, list_any};
 ghost use Rattle.std.specs.Ordering.{is_gt};
 ghost use Rattle.stamp_register.specs.Keys.{key_value};
 ghost use Rattle.replica_state.specs.Folds.{clock_of};
-ghost use Rattle.replica_state.specs.Points.{standing};
+ghost use Rattle.replica_state.specs.Points.{key_standing};
 ghost use Rattle.node_core.specs.Replicas.{state_in};
 ghost use Rattle.replica_state.specs.Operations.{count_at};
 ghost use Rattle.replica_state.specs.Unions.{key_order, number_both};
@@ -62,7 +62,7 @@ pub(crate) fn read_message(alloc: Global, nodes: u8, bytes: &[u8]) -> Result<Mes
 
 /// How a key that is told of a name stands to the one that is held.
 fn standing(state: &State, name: &Name, key: &Key) -> Ordering
-    ensures { result ≡ standing (key_value key.now) ((state_in state.now).key name.now) }
+    ensures { result ≡ key_standing (key_value key.now) ((state_in state.now).key name.now) }
 {
     match state.key(name) {
         Some(held) => key.cmp(held),

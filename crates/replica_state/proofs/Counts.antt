@@ -7,7 +7,7 @@ use Rattle.std.specs.List.{position, filter}
 use Rattle.replica_state.specs.declared.point.Counted.{Counted}
 use Rattle.replica_state.specs.declared.point.Counted.TheVariants.{Hits, Execs, Shifts}
 use Rattle.replica_state.specs.declared.point.Count.{Count}
-use Rattle.replica_state.specs.Points.{same_counted, is_hits, number_of, raised, fresh}
+use Rattle.replica_state.specs.Points.{same_counted, is_hits, number_of, raised_numbers, only_hits}
 
 pub same_counted-true : (a b : Counted) → same_counted a b ≡ true → a ≡ b
 same_counted-true (Hits i) (Hits j) h = let e = eqb-true i j h in cc
@@ -36,7 +36,7 @@ same_counted-refl (Execs k i) = and_from _ _ (eq-eqb k k refl) (eq-eqb i i refl)
 same_counted-refl (Shifts k i o) = and_from _ _ (eq-eqb k k refl) (and_from _ _ (eq-eqb i i refl) (eq-eqb o o refl))
 
 -- a count at the end
-pub number_of-append : (cs : List Count) (count : Count) (d : Counted) → number_of (cs ++ count ∷ []) d ≡ raised (Some count) (number_of cs) d
+pub number_of-append : (cs : List Count) (count : Count) (d : Counted) → number_of (cs ++ count ∷ []) d ≡ raised_numbers (Some count) (number_of cs) d
 number_of-append [] count d = none (same_counted count.counted d)
   where
     none : (t : Bool) → max (cond t count.number 0) 0 ≡ cond t (max count.number 0) 0
@@ -50,7 +50,7 @@ number_of-append (c ∷ cs) count d = ap (λ n. max (cond (same_counted c.counte
 
 -- a count raised in its place
 module _ (count y : Count) where
-  pub number_of-set : (cs : List Count) (i : ℕ) → i < length cs → same_counted (get_or cs i y).counted count.counted ≡ true → y.counted ≡ (get_or cs i y).counted → y.number ≡ max (get_or cs i y).number count.number → (d : Counted) → number_of (slice_set cs i y) d ≡ raised (Some count) (number_of cs) d
+  pub number_of-set : (cs : List Count) (i : ℕ) → i < length cs → same_counted (get_or cs i y).counted count.counted ≡ true → y.counted ≡ (get_or cs i y).counted → y.number ≡ max (get_or cs i y).number count.number → (d : Counted) → number_of (slice_set cs i y) d ≡ raised_numbers (Some count) (number_of cs) d
   number_of-set [] i small same kept number d = absurd (omega arith)
   number_of-set (c ∷ cs) zero small same kept number d = ap (λ (k : Counted). max (cond (same_counted k d) y.number 0) (number_of cs d)) (kept ∙ alike) ∙ here (same_counted count.counted d) ∙ ap (λ (k : Counted). cond (same_counted count.counted d) (max count.number (max (cond (same_counted k d) c.number 0) (number_of cs d))) (max (cond (same_counted k d) c.number 0) (number_of cs d))) (sym alike)
     where
@@ -67,7 +67,7 @@ module _ (count y : Count) where
       more a r false = refl
 
 -- where the place is the first that counts the same
-pub number_of-raised : (cs : List Count) (count r : Count) (n : ℕ) (i : ℕ) → position (λ c. same_counted c.counted count.counted) cs ≡ Some i → r ≡ get_or cs i r → n ≡ max r.number count.number → (d : Counted) → number_of (slice_set cs i (record { counted = r.counted; number = n })) d ≡ raised (Some count) (number_of cs) d
+pub number_of-raised : (cs : List Count) (count r : Count) (n : ℕ) (i : ℕ) → position (λ c. same_counted c.counted count.counted) cs ≡ Some i → r ≡ get_or cs i r → n ≡ max r.number count.number → (d : Counted) → number_of (slice_set cs i (record { counted = r.counted; number = n })) d ≡ raised_numbers (Some count) (number_of cs) d
 number_of-raised cs count r n i at read more d =
     let y : Count = record { counted = r.counted; number = n } in
     let first = position-Some (λ (c : Count). same_counted c.counted count.counted) cs i y at in
@@ -75,13 +75,13 @@ number_of-raised cs count r n i at read more d =
     number_of-set count y cs i first.0 first.1 (ap (λ (c : Count). c.counted) here) (more ∙ ap (λ (c : Count). max c.number count.number) here) d
 
 -- the hits alone
-pub number_of-hits : (cs : List Count) (d : Counted) → number_of (filter (λ c. is_hits c.counted) cs) d ≡ fresh (number_of cs) d
+pub number_of-hits : (cs : List Count) (d : Counted) → number_of (filter (λ c. is_hits c.counted) cs) d ≡ only_hits (number_of cs) d
 number_of-hits [] (Hits i) = refl
 number_of-hits [] (Execs k i) = refl
 number_of-hits [] (Shifts k i o) = refl
 number_of-hits (c ∷ cs) d = step c.counted refl d (number_of-hits cs d)
   where
-    step : (k : Counted) → c.counted ≡ k → (d : Counted) → number_of (filter (λ c. is_hits c.counted) cs) d ≡ fresh (number_of cs) d → number_of (cond (is_hits k) (c ∷ filter (λ c. is_hits c.counted) cs) (filter (λ c. is_hits c.counted) cs)) d ≡ fresh (λ d. max (cond (same_counted k d) c.number 0) (number_of cs d)) d
+    step : (k : Counted) → c.counted ≡ k → (d : Counted) → number_of (filter (λ c. is_hits c.counted) cs) d ≡ only_hits (number_of cs) d → number_of (cond (is_hits k) (c ∷ filter (λ c. is_hits c.counted) cs) (filter (λ c. is_hits c.counted) cs)) d ≡ only_hits (λ d. max (cond (same_counted k d) c.number 0) (number_of cs d)) d
     step (Hits i) e (Hits j) rest = ap (λ (k : Counted). max (cond (same_counted k (Hits j)) c.number 0) (number_of (filter (λ c. is_hits c.counted) cs) (Hits j))) e ∙ ap (λ n. max (cond (eqb i j) c.number 0) n) rest
     step (Hits i) e (Execs l j) rest = ap (λ (k : Counted). max (cond (same_counted k (Execs l j)) c.number 0) (number_of (filter (λ c. is_hits c.counted) cs) (Execs l j))) e ∙ ap (λ n. max 0 n) rest
     step (Hits i) e (Shifts l j p) rest = ap (λ (k : Counted). max (cond (same_counted k (Shifts l j p)) c.number 0) (number_of (filter (λ c. is_hits c.counted) cs) (Shifts l j p))) e ∙ ap (λ n. max 0 n) rest
@@ -103,12 +103,12 @@ number_of-step (x ∷ cs) d zero n c small e = ap (λ (y : Count). max (cond (sa
 number_of-step (x ∷ cs) d (suc i) n c small e = number_of-step cs d i n c (omega arith) e
 
 -- a count more after the others than hits were dropped
-pub number_of-kept : (cs ds es : List Count) → ds ≡ cs → ((d : Counted) → number_of es d ≡ fresh (number_of ds) d) → (count : Option Count) (d : Counted) → raised count (number_of es) d ≡ raised count (fresh (number_of cs)) d
+pub number_of-kept : (cs ds es : List Count) → ds ≡ cs → ((d : Counted) → number_of es d ≡ only_hits (number_of ds) d) → (count : Option Count) (d : Counted) → raised_numbers count (number_of es) d ≡ raised_numbers count (only_hits (number_of cs)) d
 number_of-kept cs ds es same kept count d = by_count count
   where
-    here : number_of es d ≡ fresh (number_of cs) d
-    here = kept d ∙ ap (λ xs. fresh (number_of xs) d) same
+    here : number_of es d ≡ only_hits (number_of cs) d
+    here = kept d ∙ ap (λ xs. only_hits (number_of xs) d) same
 
-    by_count : (o : Option Count) → raised o (number_of es) d ≡ raised o (fresh (number_of cs)) d
+    by_count : (o : Option Count) → raised_numbers o (number_of es) d ≡ raised_numbers o (only_hits (number_of cs)) d
     by_count None = here
     by_count (Some c) = ap (λ n. cond (same_counted c.counted d) (max c.number n) n) here

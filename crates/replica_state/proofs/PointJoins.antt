@@ -11,7 +11,7 @@ use Rattle.replica_state.specs.declared.point.Counted.TheVariants.{Hits, Execs, 
 use Rattle.replica_state.specs.declared.point.Count.{Count}
 use Rattle.replica_state.specs.declared.point.Point.{Point}
 use Rattle.replica_state.specs.Folds.{greater}
-use Rattle.replica_state.specs.Points.{Held, held_of, is_hits, number_of, same_counted, fresh}
+use Rattle.replica_state.specs.Points.{Held, held_of, is_hits, number_of, same_counted, only_hits}
 use Rattle.replica_state.specs.StateOrder.{IsKeyBelow}
 use Rattle.replica_state.specs.Unions.{key_order, number_both, numbers_both, both_held, if_counts, IsHeldBelow}
 use Rattle.replica_state.specs.SetOrder.{key_below-irrefl, key_below-trans}
@@ -98,12 +98,12 @@ module _ (p w other : Point) (cs : List Count) (read : cs ≡ other.counts.items
       numbers (Execs t j) = told (Execs t j) ∙ ap (λ o. number_both o (number_of p.counts.items (Execs t j)) (number_of other.counts.items (Execs t j))) (sym e)
       numbers (Shifts t j l) = told (Shifts t j l) ∙ ap (λ o. number_both o (number_of p.counts.items (Shifts t j l)) (number_of other.counts.items (Shifts t j l))) (sym e)
 
-  pub took_key : key_order other_key held_key ≡ Greater → option_map key_value w.key ≡ other_key → ((d : Counted) → number_of w.counts.items d ≡ max (fresh (number_of p.counts.items) d) (if_counts true d (number_of cs d))) → held_of w ≡ both_held (held_of p) (held_of other)
+  pub took_key : key_order other_key held_key ≡ Greater → option_map key_value w.key ≡ other_key → ((d : Counted) → number_of w.counts.items d ≡ max (only_hits (number_of p.counts.items) d) (if_counts true d (number_of cs d))) → held_of w ≡ both_held (held_of p) (held_of other)
   unfolding held_of both_held
   took_key e k h = λ i. record { key = keys i; number = λ d. numbers d i }
     where
-      told : (d : Counted) → number_of w.counts.items d ≡ max (fresh (number_of p.counts.items) d) (if_counts true d (number_of other.counts.items d))
-      told d = h d ∙ ap (λ xs. max (fresh (number_of p.counts.items) d) (if_counts true d (number_of xs d))) read
+      told : (d : Counted) → number_of w.counts.items d ≡ max (only_hits (number_of p.counts.items) d) (if_counts true d (number_of other.counts.items d))
+      told d = h d ∙ ap (λ xs. max (only_hits (number_of p.counts.items) d) (if_counts true d (number_of xs d))) read
 
       keys : option_map key_value w.key ≡ greater held_key other_key
       keys = k ∙ sym (stands_above held_key other_key e).1

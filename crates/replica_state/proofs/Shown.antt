@@ -23,7 +23,7 @@ use Rattle.replica_state.specs.declared.point.Point.{Point}
 use Rattle.replica_state.specs.States.{State, with_name, with_key, with_hits, with_execs, with_shifts, with_pass, budget_of}
 use Rattle.replica_state.specs.States as states
 use Rattle.replica_state.specs.Folds.{fold}
-use Rattle.replica_state.specs.Points.{Held, held_of, nothing, number_of, taken, passed, moved, budget_under}
+use Rattle.replica_state.specs.Points.{Held, held_of, empty_held, number_of, held_after_key, held_after_pass, held_after_shift, budget_under}
 use Rattle.replica_state.specs.OpSets.{shown, point_at, key_at, number_at, held_at, with_held}
 use Rattle.replica_state.proofs.Orders.{bytes_eq-true}
 
@@ -89,8 +89,8 @@ held_seen es name p here = λ i. record { key = keys i; number = λ d. numbers d
     numbers (Execs t n) = ap (λ (o : Option Point). number_at o (Execs t n)) (sym here)
     numbers (Shifts t m n) = ap (λ (o : Option Point). number_at o (Shifts t m n)) (sym here)
 
-pub nothing_seen : (es : List (List ℕ × Point)) (name : List ℕ) → point_at es name ≡ None → nothing ≡ held_at (shown es) name
-unfolding shown nothing
+pub nothing_seen : (es : List (List ℕ × Point)) (name : List ℕ) → point_at es name ≡ None → empty_held ≡ held_at (shown es) name
+unfolding shown empty_held
 nothing_seen es name none = λ i. record { key = keys i; number = λ d. numbers d i }
   where
     keys : key_at None ≡ key_at (point_at es name)
@@ -131,12 +131,12 @@ module _ (m : BTreeMap (List ℕ) Point) (lend : Point → BTreeMap (List ℕ) P
   unfolding shown
   kept_step e = lent_step (λ h. h) e ∙ with_held-same name (shown m.entries) (names_kept m.entries name p sorted here)
 
-pub added_step : (m n : BTreeMap (List ℕ) Point) (name : List ℕ) (w : Point) → n.entries ≡ insert_entry (slice_cmp nat_cmp) m.entries name w → ((q : List ℕ) → point_at n.entries q ≡ cond (is_at (slice_cmp nat_cmp name) q) (Some w) (point_at m.entries q)) → point_at m.entries name ≡ None → (f : Held → Held) → held_of w ≡ f nothing → shown n.entries ≡ with_held name (f (held_at (shown m.entries) name)) (shown m.entries)
+pub added_step : (m n : BTreeMap (List ℕ) Point) (name : List ℕ) (w : Point) → n.entries ≡ insert_entry (slice_cmp nat_cmp) m.entries name w → ((q : List ℕ) → point_at n.entries q ≡ cond (is_at (slice_cmp nat_cmp name) q) (Some w) (point_at m.entries q)) → point_at m.entries name ≡ None → (f : Held → Held) → held_of w ≡ f empty_held → shown n.entries ≡ with_held name (f (held_at (shown m.entries) name)) (shown m.entries)
 added_step m n name w e at none f h = written m.entries n.entries name w at (ap (λ es. keys_of es) e ∙ names_inserted m.entries name w) ∙ ap (λ (x : Held). with_held name x (shown m.entries)) (h ∙ ap f (nothing_seen m.entries name none))
 
 -- what holds a key newly
-pub took : (name : List ℕ) (key : KeyValue) (v : State) → with_held name (taken key (held_at v name)) v ≡ with_key name key v
-unfolding with_held taken with_key
+pub took : (name : List ℕ) (key : KeyValue) (v : State) → with_held name (held_after_key key (held_at v name)) v ≡ with_key name key v
+unfolding with_held held_after_key with_key
 took name key v = λ i. record {
   names = with_name name v.names;
   key = λ q. cond (bytes_eq name q) (Some key) (v.key q);
@@ -166,8 +166,8 @@ passed_execs name term node v q t j = counted name (λ p. v.execs p t j) (v.exec
     at : eqb term t && eqb node j ≡ true → v.execs name term node ≡ v.execs name t j
     at h = both (eqb term t) (eqb node j) refl refl h
 
-pub pass_seen : (name : List ℕ) (node : ℕ) (spent : Option ℕ) (v : State) → with_name name v.names ≡ v.names → with_held name (passed node spent (held_at v name)) v ≡ with_pass name node spent v
-unfolding with_held passed with_hits with_execs
+pub pass_seen : (name : List ℕ) (node : ℕ) (spent : Option ℕ) (v : State) → with_name name v.names ≡ v.names → with_held name (held_after_pass node spent (held_at v name)) v ≡ with_pass name node spent v
+unfolding with_held held_after_pass with_hits with_execs
 pass_seen name node None v kept = λ i. record {
   names = kept i;
   key = λ q. same_at name v.key q (bytes_eq name q) refl i;
@@ -196,8 +196,8 @@ module _ (name : List ℕ) (term from to total : ℕ) (v : State) (low : v.shift
   same_shift t m n true false c e f g h = cc
   same_shift t m n false b c e f g h = cc
 
-  pub shift_seen : with_name name v.names ≡ v.names → with_held name (moved term from to total (held_at v name)) v ≡ with_shifts name term from to total v
-  unfolding with_held moved with_shifts
+  pub shift_seen : with_name name v.names ≡ v.names → with_held name (held_after_shift term from to total (held_at v name)) v ≡ with_shifts name term from to total v
+  unfolding with_held held_after_shift with_shifts
   shift_seen kept = λ i. record {
     names = kept i;
     key = λ q. same_at name v.key q (bytes_eq name q) refl i;

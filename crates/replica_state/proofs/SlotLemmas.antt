@@ -21,7 +21,7 @@ use Rattle.replica_state.specs.declared.point.Counted.TheVariants.{Hits, Execs, 
 use Rattle.replica_state.specs.declared.point.Count.{Count}
 use Rattle.stamp_register.specs.declared.key.Key.{Key}
 use Rattle.stamp_register.specs.Keys.{key_value}
-use Rattle.replica_state.specs.Points.{Held, nothing, is_hits, term_of, same_counted, raised, fresh, taken, spending, passed, budget_in, budget_under}
+use Rattle.replica_state.specs.Points.{Held, empty_held, is_hits, term_of, same_counted, raised_numbers, only_hits, held_after_key, spending, held_after_pass, budget_in, budget_under}
 use Rattle.replica_state.specs.MatrixStates.{share_upto, cell_upto}
 use Rattle.replica_state.specs.MatrixOrder.{cells_order, are_cells, shares_order, are_shares, shares_laws}
 use Rattle.replica_state.specs.Slots.{Budgets, Slot, slot_held, slot_key, slot_number, under_key, share_number, budgets_number, IsShareRaised}
@@ -81,7 +81,7 @@ max_swapped a b = omega arith
 
 -- what is counted of the budget's own term
 share_raised : (old new : Shares) (counted d : Counted) (number term : ℕ) → IsShareRaised old new counted number → term_of counted ≡ Some term → term_of d ≡ Some term →
-    share_number new d ≡ raised (Some (record { counted = counted; number = number })) (share_number old) d
+    share_number new d ≡ raised_numbers (Some (record { counted = counted; number = number })) (share_number old) d
 share_raised old new (Hits node) d number term w e f = absurd (let impossible : ◌≡◌ {A = Option ℕ} None (Some term) = e in cc)
 share_raised old new (Execs k node) (Hits j) number term w e f = refl
 share_raised old new (Execs k node) (Execs l j) number term w e f = at (k == l) (node == j) (eq-eqb k l (let a : k ≡ term = cc in let b : l ≡ term = cc in a ∙ sym b)) refl
@@ -110,8 +110,8 @@ abbrev others_kept : Budgets → Budgets → ℕ → Type 0
 others_kept old new term = (q : ℕ) → nat_cmp term q ≢ Equal → stored_at nat_cmp new q ≡ stored_at nat_cmp old q
 
 module _ (old new : Budgets) (term number : ℕ) (counted : Counted) (is : term_of counted ≡ Some term) (others : others_kept old new term)
-    (here : (d : Counted) → term_of d ≡ Some term → budgets_number new d ≡ raised (Some (record { counted = counted; number = number })) (budgets_number old) d) where
-  by_term : (d : Counted) (o : Option ℕ) → term_of d ≡ o → budgets_number new d ≡ raised (Some (record { counted = counted; number = number })) (budgets_number old) d
+    (here : (d : Counted) → term_of d ≡ Some term → budgets_number new d ≡ raised_numbers (Some (record { counted = counted; number = number })) (budgets_number old) d) where
+  by_term : (d : Counted) (o : Option ℕ) → term_of d ≡ o → budgets_number new d ≡ raised_numbers (Some (record { counted = counted; number = number })) (budgets_number old) d
   by_term d None e = no_term d e
     where
       unlike : (c : Counted) (node : ℕ) → term_of c ≡ Some term → same_counted c (Hits node) ≡ false
@@ -119,28 +119,28 @@ module _ (old new : Budgets) (term number : ℕ) (counted : Counted) (is : term_
       unlike (Execs k j) node f = refl
       unlike (Shifts k i o) node f = refl
 
-      no_term : (d : Counted) → term_of d ≡ None → budgets_number new d ≡ raised (Some (record { counted = counted; number = number })) (budgets_number old) d
+      no_term : (d : Counted) → term_of d ≡ None → budgets_number new d ≡ raised_numbers (Some (record { counted = counted; number = number })) (budgets_number old) d
       no_term (Hits node) f = ap (λ b. cond b (max number 0) 0) (sym (unlike counted node is))
       no_term (Execs k j) f = absurd (let impossible : ◌≡◌ {A = Option ℕ} (Some k) None = f in cc)
       no_term (Shifts k i o) f = absurd (let impossible : ◌≡◌ {A = Option ℕ} (Some k) None = f in cc)
   by_term d (Some t) e = at (t == term) (eqb-true t term) (eqb-false t term)
     where
-      at : (b : Bool) → (b ≡ true → t ≡ term) → (b ≡ false → t ≢ term) → budgets_number new d ≡ raised (Some (record { counted = counted; number = number })) (budgets_number old) d
+      at : (b : Bool) → (b ≡ true → t ≡ term) → (b ≡ false → t ≢ term) → budgets_number new d ≡ raised_numbers (Some (record { counted = counted; number = number })) (budgets_number old) d
       at true f g = here d (e ∙ ap Some (f refl))
       at false f g =
           let kept : budgets_number new d ≡ budgets_number old d =
           budgets_at new t d e ∙ ap (λ (o : Option Shares). share_number (unwrap_or o no_shares) d) (others t (λ s. g refl (sym (exact_unsigned term t s)))) ∙ sym (budgets_at old t d e) in
           kept ∙ ap (λ b. cond b (max number (budgets_number old d)) (budgets_number old d)) (sym (other_term counted d term t is e (g refl)))
 
-  pub all_raised : (d : Counted) → budgets_number new d ≡ raised (Some (record { counted = counted; number = number })) (budgets_number old) d
+  pub all_raised : (d : Counted) → budgets_number new d ≡ raised_numbers (Some (record { counted = counted; number = number })) (budgets_number old) d
   all_raised d = by_term d (term_of d) refl
 
-raised_same : (counted d : Counted) (number : ℕ) (f g : Counted → ℕ) → f d ≡ g d → raised (Some (record { counted = counted; number = number })) f d ≡ raised (Some (record { counted = counted; number = number })) g d
+raised_same : (counted d : Counted) (number : ℕ) (f g : Counted → ℕ) → f d ≡ g d → raised_numbers (Some (record { counted = counted; number = number })) f d ≡ raised_numbers (Some (record { counted = counted; number = number })) g d
 raised_same counted d number f g e = ap (λ n. cond (same_counted counted d) (max number n) n) e
 
 -- where the budget was there
 pub put_raised : (old new : Budgets) (term number : ℕ) (counted : Counted) (held left : Shares) → term_of counted ≡ Some term → stored_at nat_cmp old term ≡ Some held → IsShareRaised held left counted number →
-    PutsOnly nat_cmp are_shares shares_order no_shares old new term left → (d : Counted) → budgets_number new d ≡ raised (Some (record { counted = counted; number = number })) (budgets_number old) d
+    PutsOnly nat_cmp are_shares shares_order no_shares old new term left → (d : Counted) → budgets_number new d ≡ raised_numbers (Some (record { counted = counted; number = number })) (budgets_number old) d
 put_raised old new term number counted held left is found wrote put = all_raised old new term number counted is put.other_keys
     (λ d e.
     budgets_at new term d e ∙ share_same _ left (put_same nat_cmp shares_laws old new term left put) d ∙ share_raised held left counted d number term wrote is e
@@ -148,7 +148,7 @@ put_raised old new term number counted held left is found wrote put = all_raised
 
 -- where it is new
 pub new_raised : (old new : Budgets) (term number : ℕ) (counted : Counted) (share : Shares) → term_of counted ≡ Some term → stored_at nat_cmp old term ≡ None → IsShareRaised no_shares share counted number →
-    RaisesOnly nat_cmp are_shares shares_order no_shares old new term share → (d : Counted) → budgets_number new d ≡ raised (Some (record { counted = counted; number = number })) (budgets_number old) d
+    RaisesOnly nat_cmp are_shares shares_order no_shares old new term share → (d : Counted) → budgets_number new d ≡ raised_numbers (Some (record { counted = counted; number = number })) (budgets_number old) d
 new_raised old new term number counted share is none wrote raises = all_raised old new term number counted is raises.other_keys
     (λ d e.
     let joins : IsJoin are_shares shares_order no_shares share (value_at nat_cmp no_shares new term) = subst (λ (o : Option Shares). IsJoin are_shares shares_order (unwrap_or o no_shares) share (value_at nat_cmp no_shares new term)) none raises.this_key in
@@ -163,14 +163,14 @@ none_counted (Hits node) = refl
 none_counted (Execs term node) = no_share (Execs term node)
 none_counted (Shifts term from to) = no_share (Shifts term from to)
 
-pub raised_on : (count : Option Count) (f g : Counted → ℕ) → ((d : Counted) → f d ≡ g d) → (d : Counted) → raised count f d ≡ raised count g d
+pub raised_on : (count : Option Count) (f g : Counted → ℕ) → ((d : Counted) → f d ≡ g d) → (d : Counted) → raised_numbers count f d ≡ raised_numbers count g d
 raised_on None f g h d = h d
 raised_on (Some c) f g h d = ap (λ n. cond (same_counted c.counted d) (max c.number n) n) (h d)
 
 -- ---- slots
 
-pub nothing_held : (first : Option (Key × Budgets)) (second : Cells) → first ≡ None → second ≡ [] → slot_held (record { first = first; second = second }) ≡ nothing
-unfolding slot_held nothing cell
+pub nothing_held : (first : Option (Key × Budgets)) (second : Cells) → first ≡ None → second ≡ [] → slot_held (record { first = first; second = second }) ≡ empty_held
+unfolding slot_held empty_held cell
 nothing_held first second e f = (λ i. slot_held (record { first = e i; second = f i })) ∙ (λ i. record { key = None; number = λ d. numbers d i })
   where
     numbers : (d : Counted) → slot_number (record { first = None; second = [] }) d ≡ 0
@@ -178,11 +178,11 @@ nothing_held first second e f = (λ i. slot_held (record { first = e i; second =
     numbers (Execs term node) = refl
     numbers (Shifts term from to) = refl
 
-pub taken_held : (slot : Slot) (key : Key) (first : Option (Key × Budgets)) (budgets : Budgets) → first ≡ Some (key, budgets) → budgets ≡ [] → slot_held (record { first = first; second = slot.second }) ≡ taken (key_value key) (slot_held slot)
-unfolding slot_held taken
+pub taken_held : (slot : Slot) (key : Key) (first : Option (Key × Budgets)) (budgets : Budgets) → first ≡ Some (key, budgets) → budgets ≡ [] → slot_held (record { first = first; second = slot.second }) ≡ held_after_key (key_value key) (slot_held slot)
+unfolding slot_held held_after_key
 taken_held slot key first budgets e f = (λ i. slot_held (record { first = (e ∙ ap (λ b. Some (key, b)) f) i; second = slot.second })) ∙ (λ i. record { key = Some (key_value key); number = λ d. numbers d i })
   where
-    numbers : (d : Counted) → slot_number (record { first = Some (key, []); second = slot.second }) d ≡ fresh (slot_number slot) d
+    numbers : (d : Counted) → slot_number (record { first = Some (key, []); second = slot.second }) d ≡ only_hits (slot_number slot) d
     numbers (Hits node) = refl
     numbers (Execs term node) = none_counted (Execs term node)
     numbers (Shifts term from to) = none_counted (Shifts term from to)
@@ -208,8 +208,8 @@ has_term (Execs term node) h o e f = let impossible : ◌≡◌ {A = Option ℕ}
 has_term (Shifts term from to) h o e f = let impossible : ◌≡◌ {A = Option ℕ} (Some term) None = sym e ∙ f in cc
 
 -- under a new key, what is counted with it
-pub replaced : (slot : Slot) (key : Key) (budgets : Budgets) (told : Option Count) → IfSome told (λ c. is_hits c.counted ≡ false) → ((d : Counted) → budgets_number budgets d ≡ raised told (λ c. 0) d) →
-    (d : Counted) → slot_number (record { first = Some (key, budgets); second = slot.second }) d ≡ raised told (fresh (slot_number slot)) d
+pub replaced : (slot : Slot) (key : Key) (budgets : Budgets) (told : Option Count) → IfSome told (λ c. is_hits c.counted ≡ false) → ((d : Counted) → budgets_number budgets d ≡ raised_numbers told (λ c. 0) d) →
+    (d : Counted) → slot_number (record { first = Some (key, budgets); second = slot.second }) d ≡ raised_numbers told (only_hits (slot_number slot)) d
 replaced slot key budgets None kinds h (Hits node) = refl
 replaced slot key budgets (Some c) kinds h (Hits node) = unlike c.counted kinds
   where
@@ -225,24 +225,24 @@ replaced slot key budgets (Some c) kinds h (Shifts t i o) = h (Shifts t i o)
 -- ---- passes
 
 -- a hit and an execution, in either order
-swapped : (node term : ℕ) (n m : ℕ) (f : Counted → ℕ) (d : Counted) → raised (Some (record { counted = Hits node; number = n })) (raised (Some (record { counted = Execs term node; number = m })) f) d ≡ raised (Some (record { counted = Execs term node; number = m })) (raised (Some (record { counted = Hits node; number = n })) f) d
+swapped : (node term : ℕ) (n m : ℕ) (f : Counted → ℕ) (d : Counted) → raised_numbers (Some (record { counted = Hits node; number = n })) (raised_numbers (Some (record { counted = Execs term node; number = m })) f) d ≡ raised_numbers (Some (record { counted = Execs term node; number = m })) (raised_numbers (Some (record { counted = Hits node; number = n })) f) d
 swapped node term n m f (Hits j) = refl
 swapped node term n m f (Execs t j) = refl
 swapped node term n m f (Shifts t i o) = refl
 
 module _ (h w : Held) (node : ℕ) (spent : Option ℕ) (keys : w.key ≡ h.key) where
-  pub held_hit : spent ≡ None → ((d : Counted) → w.number d ≡ raised (Some (record { counted = Hits node; number = h.number (Hits node) + 1 })) h.number d) → w ≡ passed node spent h
-  unfolding passed
-  held_hit e f = (λ i. record { key = keys i; number = λ d. (f d ∙ ap (λ (s : Option ℕ). raised (spending node s h) (raised (Some (record { counted = Hits node; number = h.number (Hits node) + 1 })) h.number) d) (sym e)) i })
+  pub held_hit : spent ≡ None → ((d : Counted) → w.number d ≡ raised_numbers (Some (record { counted = Hits node; number = h.number (Hits node) + 1 })) h.number d) → w ≡ held_after_pass node spent h
+  unfolding held_after_pass
+  held_hit e f = (λ i. record { key = keys i; number = λ d. (f d ∙ ap (λ (s : Option ℕ). raised_numbers (spending node s h) (raised_numbers (Some (record { counted = Hits node; number = h.number (Hits node) + 1 })) h.number) d) (sym e)) i })
 
-  pub held_pass : (term : ℕ) → spent ≡ Some term → ((d : Counted) → w.number d ≡ raised (Some (record { counted = Hits node; number = h.number (Hits node) + 1 })) (raised (Some (record { counted = Execs term node; number = h.number (Execs term node) + 1 })) h.number) d) → w ≡ passed node spent h
-  unfolding passed
-  held_pass term e f = λ i. record { key = keys i; number = λ d. (f d ∙ swapped node term (h.number (Hits node) + 1) (h.number (Execs term node) + 1) h.number d ∙ ap (λ (s : Option ℕ). raised (spending node s h) (raised (Some (record { counted = Hits node; number = h.number (Hits node) + 1 })) h.number) d) (sym e)) i }
+  pub held_pass : (term : ℕ) → spent ≡ Some term → ((d : Counted) → w.number d ≡ raised_numbers (Some (record { counted = Hits node; number = h.number (Hits node) + 1 })) (raised_numbers (Some (record { counted = Execs term node; number = h.number (Execs term node) + 1 })) h.number) d) → w ≡ held_after_pass node spent h
+  unfolding held_after_pass
+  held_pass term e f = λ i. record { key = keys i; number = λ d. (f d ∙ swapped node term (h.number (Hits node) + 1) (h.number (Execs term node) + 1) h.number d ∙ ap (λ (s : Option ℕ). raised_numbers (spending node s h) (raised_numbers (Some (record { counted = Hits node; number = h.number (Hits node) + 1 })) h.number) d) (sym e)) i }
 
 -- the hit was counted aside
-pub aside : (old mid : Slot) (copy new : Cells) (node term m : ℕ) → ((d : Counted) → slot_number mid d ≡ raised (Some (record { counted = Execs term node; number = m })) (slot_number old) d) →
+pub aside : (old mid : Slot) (copy new : Cells) (node term m : ℕ) → ((d : Counted) → slot_number mid d ≡ raised_numbers (Some (record { counted = Execs term node; number = m })) (slot_number old) d) →
     IsCopy are_cells cells_order old.second copy → WritesCell copy new node (max (cell copy node) 1) → cell old.second node + 1 ≡ 1 →
-    (d : Counted) → slot_number (record { first = mid.first; second = new }) d ≡ raised (Some (record { counted = Hits node; number = cell old.second node + 1 })) (raised (Some (record { counted = Execs term node; number = m })) (slot_number old)) d
+    (d : Counted) → slot_number (record { first = mid.first; second = new }) d ≡ raised_numbers (Some (record { counted = Hits node; number = cell old.second node + 1 })) (raised_numbers (Some (record { counted = Execs term node; number = m })) (slot_number old)) d
 aside old mid copy new node term m h same wrote none (Hits j) = at (node == j) refl
   where
     cells : (q : ℕ) → cell copy q ≡ cell old.second q

@@ -30,7 +30,7 @@ use Rattle.replica_state.specs.declared.point.Counted.{Counted}
 use Rattle.replica_state.specs.declared.point.Counted.TheVariants.{Hits, Execs, Shifts}
 use Rattle.replica_state.specs.Operations.{IsIn}
 use Rattle.replica_state.specs.States.{with_name}
-use Rattle.replica_state.specs.Points.{Held, nothing, is_hits, same_counted, raised, learned}
+use Rattle.replica_state.specs.Points.{Held, empty_held, is_hits, same_counted, raised_numbers, held_after_learning}
 use Rattle.replica_state.specs.OpSets.{cell_of, held_at, with_held}
 use Rattle.replica_state.specs.Slots.{Slot, Budgets, SaysSomething, no_slot, under_key, slot_key, slot_number, slot_held, slot_at, shown_slots}
 use Rattle.replica_state.proofs.Orders.{bytes_eq-true, bytes_eq-refl}
@@ -218,8 +218,8 @@ added_to old new name slot h a b none raises not e =
     is_there (Some x) k = refl
 
 -- what was learned is something
-pub learned_is_something : (key : Option KeyValue) (told : Option Count) (h : Held) (b : Bool) → b ≡ is_none key → IfSome told (λ c. is_hits c.counted ≡ b) → SaysSomething key told → learned key told h ≢ nothing
-unfolding nothing learned
+pub learned_is_something : (key : Option KeyValue) (told : Option Count) (h : Held) (b : Bool) → b ≡ is_none key → IfSome told (λ c. is_hits c.counted ≡ b) → SaysSomething key told → held_after_learning key told h ≢ empty_held
+unfolding empty_held held_after_learning
 learned_is_something (Some key) told h b same kinds is e = by_key h.key (ap (λ (k : Held). k.key) e)
   where
     by_key : (o : Option KeyValue) → greater (Some key) o ≡ None → ⊥
@@ -230,8 +230,8 @@ learned_is_something None (Some count) h b same kinds is e = by_kind count.count
   where
     by_kind : (c : Counted) → count.counted ≡ c → is_hits c ≡ true → ⊥
     by_kind (Hits node) s k =
-        let number : raised (Some count) h.number (Hits node) ≡ 0 = ap (λ (g : Held). g.number (Hits node)) e in
-        let hit : raised (Some count) h.number (Hits node) ≡ max count.number (h.number (Hits node)) = ap (λ b. cond b (max count.number (h.number (Hits node))) (h.number (Hits node))) (ap (λ d. same_counted d (Hits node)) s ∙ eq-eqb node node refl) in
+        let number : raised_numbers (Some count) h.number (Hits node) ≡ 0 = ap (λ (g : Held). g.number (Hits node)) e in
+        let hit : raised_numbers (Some count) h.number (Hits node) ≡ max count.number (h.number (Hits node)) = ap (λ b. cond b (max count.number (h.number (Hits node))) (h.number (Hits node))) (ap (λ d. same_counted d (Hits node)) s ∙ eq-eqb node node refl) in
         absurd (omega (arith, number, hit, is))
     by_kind (Execs term node) s k = true≢false (sym k)
     by_kind (Shifts term from to) s k = true≢false (sym k)

@@ -16,7 +16,7 @@ use Rattle.replica_state.specs.declared.point.Counted.{Counted}
 use Rattle.replica_state.specs.declared.point.Counted.TheVariants.{Hits, Execs, Shifts}
 use Rattle.replica_state.specs.States as states
 use Rattle.replica_state.specs.States.{State, with_name, total_hits, budget_of, rights_of, spent_of}
-use Rattle.replica_state.specs.Points.{Held, nothing, taken, passed, moved, budget_under}
+use Rattle.replica_state.specs.Points.{Held, empty_held, held_after_key, held_after_pass, held_after_shift, budget_under}
 use Rattle.replica_state.specs.OpSets.{cell_of, held_at, with_held}
 use Rattle.replica_state.specs.Slots.{Budgets, Slot, IsSlotOf, HasNoSlot, ChangesSlot, no_slot, under_key, slot_key, slot_number, slot_held, slot_rights, shown_slots}
 use Rattle.replica_state.specs.MatrixOrder.{slots_order, are_slots, slots_map}
@@ -70,8 +70,8 @@ pub held_is : (v : State) (name : List ℕ) (slot : Slot) → IsSlotOf v name sl
 unfolding slot_held
 held_is v name slot is = λ i. record { key = is.key i; number = λ c. is.number c i }
 
-pub held_is_nothing : (v : State) (name : List ℕ) → HasNoSlot v name → nothing ≡ held_at v name
-unfolding nothing
+pub held_is_nothing : (v : State) (name : List ℕ) → HasNoSlot v name → empty_held ≡ held_at v name
+unfolding empty_held
 held_is_nothing v name not = λ i. record { key = sym not.key i; number = λ c. sym (not.number c) i }
 
 held_budget : (v : State) (name : List ℕ) (term : ℕ) → budget_under (v.key name) (cell_of v name) term ≡ budget_of v name term
@@ -99,8 +99,8 @@ hits_are v name slot is = ap (λ (f : ℕ → ℕ). sum_below numbers f) (λ i n
 -- ---- what a change writes
 
 -- what means nothing holds nothing
-held_nothing : (x : Slot) → slots_order x no_slot → slot_held x ≡ nothing
-unfolding slot_held nothing
+held_nothing : (x : Slot) → slots_order x no_slot → slot_held x ≡ empty_held
+unfolding slot_held empty_held
 held_nothing x bottom = λ i. record { key = keyless x bottom i; number = λ c. none c i }
   where
     none : (c : Counted) → slot_number x c ≡ 0
@@ -108,8 +108,8 @@ held_nothing x bottom = λ i. record { key = keyless x bottom i; number = λ c. 
     none (Execs term node) = ap (λ (o : Option (Key × Budgets)). under_key o (Execs term node)) (no_first x.first bottom.0)
     none (Shifts term from to) = ap (λ (o : Option (Key × Budgets)). under_key o (Shifts term from to)) (no_first x.first bottom.0)
 
-pub keyed_is_something : (h : Held) → IsSome h.key → h ≢ nothing
-unfolding nothing
+pub keyed_is_something : (h : Held) → IsSome h.key → h ≢ empty_held
+unfolding empty_held
 keyed_is_something h has e = by_key h.key has (ap (λ (k : Held). k.key) e)
   where
     by_key : (o : Option KeyValue) → IsSome o → o ≡ None → ⊥
@@ -132,13 +132,13 @@ pub change_is : {R : Type 0} (call : Slot → R → Slot → Type 0) (old new : 
 change_is call old new name None a b h = tt
 change_is call old new name (Some answer) a b h = changes_slot call old new name answer a b h
 
-pub added_slot : (old new : List (List ℕ × Slot)) (name : List ℕ) (slot : Slot) → slots_map old → slots_map new → HasNoSlot (shown_slots old) name → slot_held slot ≢ nothing →
+pub added_slot : (old new : List (List ℕ × Slot)) (name : List ℕ) (slot : Slot) → slots_map old → slots_map new → HasNoSlot (shown_slots old) name → slot_held slot ≢ empty_held →
     RaisesOnly (slice_cmp nat_cmp) are_slots slots_order no_slot old new name slot → shown_slots new ≡ with_held name (slot_held slot) (shown_slots old)
 added_slot old new name slot a b not some raises = added_to old new name slot (slot_held slot) a b (not_stored old name a not) raises (λ bottom. some (held_nothing slot bottom)) refl
 
 -- where a call left this of what was there, the state holds this of what it held
 pub writes : {R : Type 0} (call : Slot → R → Slot → Type 0) (v w : State) (name : List ℕ) (answer : R) (changed : ChangesSlot call v w name answer) (f : Held → Held) →
-    slot_held changed.after ≡ f (slot_held changed.before) → f (held_at v name) ≢ nothing → w ≡ with_held name (f (held_at v name)) v
+    slot_held changed.after ≡ f (slot_held changed.before) → f (held_at v name) ≢ empty_held → w ≡ with_held name (f (held_at v name)) v
 writes call v w name answer changed f e some =
     let now : slot_held changed.after ≡ f (held_at v name) = e ∙ ap f (held_is v name changed.before changed.is_stored) in
     changed.written (λ none. some (sym now ∙ none)) ∙ ap (λ h. with_held name h v) now
@@ -148,17 +148,17 @@ no_hits v name not = sum-zero numbers (v.hits name) (λ node. not.number (Hits n
 
 -- ---- what a key, a pass or a shift leaves is something
 
-pub taken_is_something : (key : KeyValue) (h : Held) → taken key h ≢ nothing
-unfolding taken
-taken_is_something key h = keyed_is_something (taken key h) refl
+pub taken_is_something : (key : KeyValue) (h : Held) → held_after_key key h ≢ empty_held
+unfolding held_after_key
+taken_is_something key h = keyed_is_something (held_after_key key h) refl
 
-pub passed_is_something : (node : ℕ) (spent : Option ℕ) (h : Held) → IsSome h.key → passed node spent h ≢ nothing
-unfolding passed
-passed_is_something node spent h set = keyed_is_something (passed node spent h) set
+pub passed_is_something : (node : ℕ) (spent : Option ℕ) (h : Held) → IsSome h.key → held_after_pass node spent h ≢ empty_held
+unfolding held_after_pass
+passed_is_something node spent h set = keyed_is_something (held_after_pass node spent h) set
 
-pub moved_is_something : (term from to total : ℕ) (h : Held) → IsSome h.key → moved term from to total h ≢ nothing
-unfolding moved
-moved_is_something term from to total h set = keyed_is_something (moved term from to total h) set
+pub moved_is_something : (term from to total : ℕ) (h : Held) → IsSome h.key → held_after_shift term from to total h ≢ empty_held
+unfolding held_after_shift
+moved_is_something term from to total h set = keyed_is_something (held_after_shift term from to total h) set
 
 -- ---- what a test of a look-up says
 

@@ -68,58 +68,58 @@ pub record Held : Type 0 where
   pub key : Option KeyValue
   pub number : Counted → ℕ
 
-unfoldable pub nothing : Held
-nothing = record { key = None; number = λ counted. 0 }
+unfoldable pub empty_held : Held
+empty_held = record { key = None; number = λ counted. 0 }
 
 unfoldable pub held_of : Point → Held
 held_of p = record { key = option_map key_value p.key; number = number_of p.counts.items }
 
 -- how a key stands to the one that is held
-abbrev pub standing : KeyValue → Option KeyValue → Ordering
-standing key None = Greater
-standing key (Some held) = slice_cmp nat_cmp (key_rank key) (key_rank held)
+abbrev pub key_standing : KeyValue → Option KeyValue → Ordering
+key_standing key None = Greater
+key_standing key (Some held) = slice_cmp nat_cmp (key_rank key) (key_rank held)
 
 -- with a count more, or none
-abbrev pub raised : Option Count → (Counted → ℕ) → Counted → ℕ
-raised None f c = f c
-raised (Some count) f c = if same_counted count.counted c then max count.number (f c) else f c
+abbrev pub raised_numbers : Option Count → (Counted → ℕ) → Counted → ℕ
+raised_numbers None f c = f c
+raised_numbers (Some count) f c = if same_counted count.counted c then max count.number (f c) else f c
 
 abbrev pub Raises : (Counted → ℕ) → (Counted → ℕ) → Option Count → Type 0
-Raises f g count = (c : Counted) → g c ≡ raised count f c
+Raises f g count = (c : Counted) → g c ≡ raised_numbers count f c
 
 -- under a new key: hits go on
-abbrev pub fresh : (Counted → ℕ) → Counted → ℕ
-fresh f (Hits node) = f (Hits node)
-fresh f (Execs term node) = 0
-fresh f (Shifts term from to) = 0
+abbrev pub only_hits : (Counted → ℕ) → Counted → ℕ
+only_hits f (Hits node) = f (Hits node)
+only_hits f (Execs term node) = 0
+only_hits f (Shifts term from to) = 0
 
 -- with what an operation says that has this key or none, and this count or none
-abbrev pub learned_number : Option KeyValue → Option Count → Held → Counted → ℕ
-learned_number None count h c = raised count h.number c
-learned_number (Some key) count h c =
-    match_ordering (standing key h.key) (h.number c) (raised count h.number c) (raised count (fresh h.number) c)
+abbrev pub number_after_learning : Option KeyValue → Option Count → Held → Counted → ℕ
+number_after_learning None count h c = raised_numbers count h.number c
+number_after_learning (Some key) count h c =
+    match_ordering (key_standing key h.key) (h.number c) (raised_numbers count h.number c) (raised_numbers count (only_hits h.number) c)
 
-unfoldable pub learned : Option KeyValue → Option Count → Held → Held
-learned key count h = record { key = greater key h.key; number = learned_number key count h }
+unfoldable pub held_after_learning : Option KeyValue → Option Count → Held → Held
+held_after_learning key count h = record { key = greater key h.key; number = number_after_learning key count h }
 
 -- with another key
-unfoldable pub taken : KeyValue → Held → Held
-taken key h = record { key = Some key; number = fresh h.number }
+unfoldable pub held_after_key : KeyValue → Held → Held
+held_after_key key h = record { key = Some key; number = only_hits h.number }
 
 -- with one hit more at a node and, where a term was triggered, one execution more of it there
 abbrev pub spending : ℕ → Option ℕ → Held → Option Count
 spending node None h = None
 spending node (Some term) h = Some (record { counted = Execs term node; number = h.number (Execs term node) + 1 })
 
-unfoldable pub passed : ℕ → Option ℕ → Held → Held
-passed node spent h =
+unfoldable pub held_after_pass : ℕ → Option ℕ → Held → Held
+held_after_pass node spent h =
     record {
       key = h.key;
-      number = raised (spending node spent h)
-          (raised (Some (record { counted = Hits node; number = h.number (Hits node) + 1 })) h.number);
+      number = raised_numbers (spending node spent h)
+          (raised_numbers (Some (record { counted = Hits node; number = h.number (Hits node) + 1 })) h.number);
     }
 
 -- with so many rights to a term moved in all from one node to another
-unfoldable pub moved : ℕ → ℕ → ℕ → ℕ → Held → Held
-moved term from to total h =
-    record { key = h.key; number = raised (Some (record { counted = Shifts term from to; number = total })) h.number }
+unfoldable pub held_after_shift : ℕ → ℕ → ℕ → ℕ → Held → Held
+held_after_shift term from to total h =
+    record { key = h.key; number = raised_numbers (Some (record { counted = Shifts term from to; number = total })) h.number }

@@ -14,7 +14,7 @@ use Rattle.replica_state.specs.declared.point.Counted.TheVariants.{Hits, Execs, 
 use Rattle.replica_state.specs.declared.point.Count.{Count}
 use Rattle.replica_state.specs.declared.matrix.Matrix.{Matrix}
 use Rattle.replica_state.specs.States.{State, with_name}
-use Rattle.replica_state.specs.Points.{Held, nothing, rights_of_key}
+use Rattle.replica_state.specs.Points.{Held, empty_held, rights_of_key}
 use Rattle.replica_state.specs.OpSets.{cell_of, with_held}
 
 -- the budgets of a key's terms
@@ -95,7 +95,7 @@ pub record ChangesSlot {R : Type 0} (call : Slot → R → Slot → Type 0) (v w
   pub after : Slot
   pub is_stored : IsSlotOf v name before
   pub is_called : call before answer after
-  pub written : slot_held after ≢ nothing → w ≡ with_held name (slot_held after) v
+  pub written : slot_held after ≢ empty_held → w ≡ with_held name (slot_held after) v
   pub unchanged : slot_held after ≡ slot_held before → w ≡ v
 
 -- a budget in which what is counted so is at least this number, and all else is as it was

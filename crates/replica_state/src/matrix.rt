@@ -5,7 +5,7 @@ ghost use Rattle.std.specs.Prelude.{◌≡◌, ◌≢◌, ◌+◌, ◌<◌, ◌^
 ghost use Rattle.std.specs.Borrow.{MutBor};
 ghost use Rattle.std.specs.Fn.{FnOnceReturnsAtMut};
 ghost use Rattle.stamp_register.specs.Keys.{key_value};
-ghost use Rattle.replica_state.specs.Points.{is_hits, nothing, learned, taken, passed, moved, given_key};
+ghost use Rattle.replica_state.specs.Points.{is_hits, empty_held, held_after_learning, held_after_key, held_after_pass, held_after_shift, given_key};
 ghost use Rattle.replica_state.specs.OpSets.{cell_of, with_held, with_change};
 ghost use Rattle.lattice_laws.specs.Order.{IsCopy, IsJoin};
 ghost use Rattle.replica_state.specs.Folds.{IsUnion};
@@ -69,7 +69,7 @@ impl Matrix {
     // Stores what is known of a name of which nothing was.
     fn add_slot(&mut self, alloc: Global, name: Name, slot: Slot) -> Result<(), AllocError>
         requires new { HasNoSlot (matrix_state self.old) name }
-        requires some { slot_held slot ≢ nothing }
+        requires some { slot_held slot ≢ empty_held }
         ensures ok { OnOk result (matrix_state self.new
             ≡ with_held name (slot_held slot) (matrix_state self.old)) }
         ensures err { OnErr result (self.new ≡ self.old) }
@@ -101,13 +101,13 @@ impl Matrix {
         requires kinds { IfSome count (λ c. is_hits c.counted ≡ is_none key) }
         requires something { SaysSomething (given_key key) count }
         ensures ok { OnOk result (matrix_state self.new
-            ≡ with_change name.now (learned (given_key key.entry) count) (matrix_state self.old)) }
+            ≡ with_change name.now (held_after_learning (given_key key.entry) count) (matrix_state self.old)) }
         ensures err { OnErr result (matrix_state self.new ≡ matrix_state self.old) }
     {
         let learn = |held: &mut Slot|
             requires { IfSome count (λ c. is_hits c.counted ≡ is_none key) }
             ensures ok { OnOk result (slot_held held.new
-                ≡ learned (given_key key.entry) count (slot_held held.old)) }
+                ≡ held_after_learning (given_key key.entry) count (slot_held held.old)) }
             ensures err { OnErr result (slot_held held.new ≡ slot_held held.old) }
         { slot::learn(held, alloc, key, count) };
         if let Some(learned) = self.change_slot(name, learn) {
@@ -200,7 +200,7 @@ impl Replica for Matrix {
     fn set_key(&mut self, alloc: Global, name: Name, key: Key) -> Result<(), AllocError> {
         if self.slot_of(&name).is_some() {
             let take = |held: &mut Slot|
-                ensures { slot_held held.new ≡ taken (key_value key) (slot_held held.old) }
+                ensures { slot_held held.new ≡ held_after_key (key_value key) (slot_held held.old) }
             {
                 slot::take(held, alloc, key);
                 Ok(())
@@ -224,7 +224,7 @@ impl Replica for Matrix {
             requires set { IsSome (slot_key held.old) }
             requires hits { slot_number held.old (Hits node) + 1 < 2 ^ 64 }
             requires execs { (term : ℕ) → slot_number held.old (Execs term node) + 1 < 2 ^ 64 }
-            ensures ok { OnOk result (slot_held held.new ≡ passed node spent (slot_held held.old)) }
+            ensures ok { OnOk result (slot_held held.new ≡ held_after_pass node spent (slot_held held.old)) }
             ensures err { OnErr result (slot_held held.new ≡ slot_held held.old) }
         { slot::pass(held, alloc, node, spent) };
         match self.change_slot(name, pass) {
@@ -245,7 +245,7 @@ impl Replica for Matrix {
         let shift = |held: &mut Slot|
             requires set { IsSome (slot_key held.old) }
             ensures ok { OnOk result (slot_held held.new
-                ≡ moved term from to total (slot_held held.old)) }
+                ≡ held_after_shift term from to total (slot_held held.old)) }
             ensures err { OnErr result (slot_held held.new ≡ slot_held held.old) }
         { slot::shift(held, alloc, term, from, to, total) };
         match self.change_slot(name, shift) {

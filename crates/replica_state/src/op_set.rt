@@ -4,7 +4,7 @@
 ghost use Rattle.std.specs.Prelude.{◌≡◌, ◌+◌, ◌<◌, ◌^◌, ◌↔◌, ℕ, List, [], ◌∷◌, ◌++◌, Some, IfOk, IsTrue, OnOk, OnErr};
 ghost use Rattle.lattice_laws.specs.Order.{IsCopy, IsJoin};
 ghost use Rattle.replica_state.specs.Folds.{IsUnion};
-ghost use Rattle.replica_state.specs.Points.{learned, held_of, given_key};
+ghost use Rattle.replica_state.specs.Points.{held_after_learning, held_of, given_key};
 ghost use Rattle.replica_state.specs.Unions.{both_held, union_of, IsHeldBelow};
 ghost use Rattle.replica_state.specs.OpSets.{state_of, cell_of, held_at, no_points, IsSet, IsSetBelow, with_change};
 
@@ -54,7 +54,7 @@ impl OpSet {
         count: Option<Count>,
     ) -> Result<(), AllocError>
         ensures ok { OnOk result (state_of self.new
-            ≡ with_change name.now (learned (given_key key.entry) count) (state_of self.old)) }
+            ≡ with_change name.now (held_after_learning (given_key key.entry) count) (state_of self.old)) }
         ensures err { OnErr result (state_of self.new ≡ state_of self.old) }
     {
         if let Some(point) = self.points.get_mut(name) {

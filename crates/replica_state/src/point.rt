@@ -6,7 +6,7 @@ ghost use Rattle.std.specs.Option.{option_copied};
 ghost use Rattle.counters.specs.Sums.{numbers, sum_below};
 ghost use Rattle.counters.specs.Budgets.{rights};
 ghost use Rattle.stamp_register.specs.Keys.{key_value};
-ghost use Rattle.replica_state.specs.Points.{same_counted, is_hits, term_of, number_of, fresh, nothing, held_of, standing, learned, passed, moved, given_key, Raises, rights_of_key, spent_of_key};
+ghost use Rattle.replica_state.specs.Points.{same_counted, is_hits, term_of, number_of, only_hits, empty_held, held_of, key_standing, held_after_learning, held_after_pass, held_after_shift, given_key, Raises, rights_of_key, spent_of_key};
 ghost use Rattle.replica_state.specs.Unions.{both_held, if_counts, IsHeldBelow};
 ghost use Rattle.replica_state.specs.OpSets.{key_told, operation_told};
 ghost use Rattle.replica_state.specs.declared.point.Counted.{Counted};
@@ -186,7 +186,7 @@ fn all_below(counts: &[Count], others: &[Count], same_key: bool) -> bool
 impl Point {
     /// What is held of a name of which nothing is known.
     pub(crate) fn empty(alloc: Global) -> Point
-        ensures { held_of result ≡ nothing }
+        ensures { held_of result ≡ empty_held }
     {
         Point {
             key: None,
@@ -247,7 +247,7 @@ impl Point {
     pub(crate) fn take(&mut self, key: Key)
         ensures key { self.new.key ≡ Some key }
         ensures number { (c : Counted)
-            → number_of self.new.counts.items c ≡ fresh (number_of self.old.counts.items) c }
+            → number_of self.new.counts.items c ≡ only_hits (number_of self.old.counts.items) c }
         ensures len { vec_len self.new.counts ≤ vec_len self.old.counts }
         ensures capacity { vec_capacity self.new.counts ≡ vec_capacity self.old.counts }
     {
@@ -257,7 +257,7 @@ impl Point {
 
     /// How a key stands to the one that is held. Where none is, each is greater.
     fn standing(&self, key: &Key) -> Ordering
-        ensures { result ≡ standing (key_value key.now) (option_map key_value self.now.key) }
+        ensures { result ≡ key_standing (key_value key.now) (option_map key_value self.now.key) }
     {
         match &self.key {
             Some(held) => key.cmp(held),
@@ -273,7 +273,7 @@ impl Point {
         count: Option<Count>,
     ) -> Result<(), AllocError>
         ensures ok { OnOk result (held_of self.new
-            ≡ learned (given_key key.entry) count (held_of self.old)) }
+            ≡ held_after_learning (given_key key.entry) count (held_of self.old)) }
         ensures err { OnErr result (held_of self.new ≡ held_of self.old) }
     {
         match key {
@@ -304,7 +304,7 @@ impl Point {
     #[tactic(auto, unfolding(crate::specs::Points::held_of))]
     fn replace(&mut self, key: Key, count: Option<Count>) -> Result<(), AllocError>
         ensures key { OnOk result (self.new.key ≡ Some key) }
-        ensures ok { OnOk result (Raises (fresh (number_of self.old.counts.items))
+        ensures ok { OnOk result (Raises (only_hits (number_of self.old.counts.items))
             (number_of self.new.counts.items) count) }
         ensures err { OnErr result (held_of self.new ≡ held_of self.old) }
     {
@@ -329,7 +329,7 @@ impl Point {
         requires hits { number_of self.old.counts.items (Hits node) + 1 < 2 ^ 64 }
         requires execs { (term : ℕ)
             → number_of self.old.counts.items (Execs term node) + 1 < 2 ^ 64 }
-        ensures ok { OnOk result (held_of self.new ≡ passed node spent (held_of self.old)) }
+        ensures ok { OnOk result (held_of self.new ≡ held_after_pass node spent (held_of self.old)) }
         ensures err { OnErr result (held_of self.new ≡ held_of self.old) }
     {
         let hits = self.next(Counted::Hits { node });
@@ -345,7 +345,7 @@ impl Point {
 
     /// Counts the rights to a term that one node moved to another, so many in all.
     pub(crate) fn shift(&mut self, term: u8, from: u8, to: u8, total: u64) -> Result<(), AllocError>
-        ensures ok { OnOk result (held_of self.new ≡ moved term from to total (held_of self.old)) }
+        ensures ok { OnOk result (held_of self.new ≡ held_after_shift term from to total (held_of self.old)) }
         ensures err { OnErr result (held_of self.new ≡ held_of self.old) }
     {
         self.count(Some(Counted::Shifts { term, from, to }.times(total)))
@@ -406,7 +406,7 @@ impl Point {
 
     /// Whether it says nothing of its name: no key, and no number above 0.
     pub(crate) fn is_nothing(&self) -> bool
-        ensures { IsTrue result ↔ IsHeldBelow (held_of self.now) nothing }
+        ensures { IsTrue result ↔ IsHeldBelow (held_of self.now) empty_held }
     {
         match &self.key {
             None => all_below(&self.counts, &[], true),

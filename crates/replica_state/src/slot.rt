@@ -4,7 +4,7 @@ ghost use Rattle.std.specs.Prelude.{◌≡◌, ◌+◌, ◌<◌, ◌^◌, ℕ, o
 ghost use Rattle.counters.specs.Sums.{numbers, sum_below};
 ghost use Rattle.counters.specs.Budgets.{total_spent};
 ghost use Rattle.stamp_register.specs.Keys.{key_value};
-ghost use Rattle.replica_state.specs.Points.{is_hits, term_of, raised, nothing, standing, learned, taken, passed, moved, given_key, Raises, spent_of_key};
+ghost use Rattle.replica_state.specs.Points.{is_hits, term_of, raised_numbers, empty_held, key_standing, held_after_learning, held_after_key, held_after_pass, held_after_shift, given_key, Raises, spent_of_key};
 ghost use Rattle.replica_state.specs.Slots.{IsShareRaised, slot_held, slot_key, slot_number, slot_rights, share_number, budgets_number};
 ghost use Rattle.replica_state.specs.States.{MarksRights};
 ghost use Rattle.replica_state.specs.declared.point.Counted.{Counted};
@@ -26,7 +26,7 @@ pub(crate) type Slot = PairOf<LexOf<Key, Budgets>, HitCounter>;
 
 /// What is stored of a name of which nothing is known.
 pub(crate) fn empty(alloc: Global) -> Slot
-    ensures { slot_held result ≡ nothing }
+    ensures { slot_held result ≡ empty_held }
 {
     PairOf {
         first: LexOf::nothing(),
@@ -125,14 +125,14 @@ pub(crate) fn spent(slot: &Slot, term: u8) -> u128
 
 /// Takes a key, of which nothing is counted yet; hits go on.
 pub(crate) fn take(slot: &mut Slot, alloc: Global, key: Key)
-    ensures { slot_held slot.new ≡ taken (key_value key) (slot_held slot.old) }
+    ensures { slot_held slot.new ≡ held_after_key (key_value key) (slot_held slot.old) }
 {
     slot.first = LexOf::of(key, MapOf::new(alloc));
 }
 
 // How a key stands to the one that is held. Where none is, each is greater.
 fn standing(slot: &Slot, key: &Key) -> Ordering
-    ensures { result ≡ standing (key_value key.now) (slot_key slot.now) }
+    ensures { result ≡ key_standing (key_value key.now) (slot_key slot.now) }
 {
     match slot.first.held() {
         Some((held, _)) => key.cmp(held),
@@ -236,7 +236,7 @@ pub(crate) fn learn(
 ) -> Result<(), AllocError>
     requires { IfSome count (λ c. is_hits c.counted ≡ is_none key) }
     ensures ok { OnOk result (slot_held slot.new
-        ≡ learned (given_key key.entry) count (slot_held slot.old)) }
+        ≡ held_after_learning (given_key key.entry) count (slot_held slot.old)) }
     ensures err { OnErr result (slot_held slot.new ≡ slot_held slot.old) }
 {
     let Some(key) = key else {
@@ -271,7 +271,7 @@ pub(crate) fn pass(
     requires set { IsSome (slot_key slot.old) }
     requires hits { slot_number slot.old (Hits node) + 1 < 2 ^ 64 }
     requires execs { (term : ℕ) → slot_number slot.old (Execs term node) + 1 < 2 ^ 64 }
-    ensures ok { OnOk result (slot_held slot.new ≡ passed node spent (slot_held slot.old)) }
+    ensures ok { OnOk result (slot_held slot.new ≡ held_after_pass node spent (slot_held slot.old)) }
     ensures err { OnErr result (slot_held slot.new ≡ slot_held slot.old) }
 {
     let hits = next(slot, Counted::Hits { node });
@@ -301,7 +301,7 @@ pub(crate) fn shift(
     total: u64,
 ) -> Result<(), AllocError>
     requires set { IsSome (slot_key slot.old) }
-    ensures ok { OnOk result (slot_held slot.new ≡ moved term from to total (slot_held slot.old)) }
+    ensures ok { OnOk result (slot_held slot.new ≡ held_after_shift term from to total (slot_held slot.old)) }
     ensures err { OnErr result (slot_held slot.new ≡ slot_held slot.old) }
 {
     raise(slot, alloc, Counted::Shifts { term, from, to }.times(total))

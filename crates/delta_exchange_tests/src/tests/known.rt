@@ -55,7 +55,7 @@ fn try_told_text<R: Replica>(alloc: Global, bytes: &[u8]) -> Result<String, Wire
         return Err(WireFault::OutOfMemory);
     };
     let message = decode(alloc, 2, bytes)?;
-    let replica: R = told(alloc, &message)?;
+    let replica: R = replica_of(alloc, &message)?;
     Ok(known_text(alloc, &replica, &name)?)
 }
 

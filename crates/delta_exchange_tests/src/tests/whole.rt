@@ -6,11 +6,11 @@ use replica_state::{Matrix, Replica};
 /// The whole message of a replica that learned these bytes alone, between the same nodes.
 fn try_told_again(alloc: Global, bytes: &[u8]) -> Result<Vec<u8>, WireFault> {
     let message = decode(alloc, 2, bytes)?;
-    let replica: Matrix = told(alloc, &message)?;
+    let replica: Matrix = replica_of(alloc, &message)?;
     if replica.names() > 256 {
         return Err(WireFault::TooBig { offset: 0 });
     }
-    let again = whole(alloc, &replica, 2, message.from, message.to)?;
+    let again = message_of_all(alloc, &replica, 2, message.from, message.to)?;
     Ok(encode(alloc, &again)?)
 }
 

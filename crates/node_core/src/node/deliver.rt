@@ -15,7 +15,7 @@ use crate::delivery::{Delivery, is_any_overspent, is_message_ahead, latest_clock
 use crate::fault::NodeFault;
 use crate::reply::Reply;
 use crate::trace::Entry;
-use delta_exchange::{MAX_NAMES, told};
+use delta_exchange::{MAX_NAMES, replica_of};
 use lattice_laws::Join;
 use replica_state::Replica;
 use std::alloc::{AllocError, Global};
@@ -58,7 +58,7 @@ impl NodeCore {
         if message.ack > self.version {
             return Err(NodeFault::AckAhead);
         }
-        let brought: State = told(alloc, &message)?;
+        let brought: State = replica_of(alloc, &message)?;
         if is_any_overspent(self.config.nodes, &self.state, &brought, &message.entries) {
             return Err(NodeFault::Overspent);
         }

@@ -13,7 +13,7 @@ use crate::ask::Ask;
 use crate::fault::NodeFault;
 use crate::reply::Reply;
 use crate::trace::Entry;
-use delta_exchange::{encode, whole};
+use delta_exchange::{encode, message_of_all};
 use std::alloc::{AllocError, Global};
 
 impl NodeCore {
@@ -52,7 +52,7 @@ impl NodeCore {
         requires to { (to < self.now.config.nodes) × (to ≢ self.now.config.node) }
         ensures { IfOk result (λ b. TellsAll self.now to b.items) }
     {
-        let message = whole(alloc, &self.state, self.config.nodes, self.config.node, to)?;
+        let message = message_of_all(alloc, &self.state, self.config.nodes, self.config.node, to)?;
         encode(alloc, &message)
     }
 

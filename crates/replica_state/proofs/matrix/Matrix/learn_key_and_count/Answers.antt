@@ -2,7 +2,7 @@ use Rattle.std.specs.Prelude.{OnOk}
 use Rattle.std.proofs.Common.{◌≡◌, ap, sym, ◌∙◌, rules}
 use Rattle.std.specs.Option.{option_map, option_copied}
 use Rattle.stamp_register.specs.Keys.{key_value}
-use Rattle.replica_state.specs.Points.{Held, learned}
+use Rattle.replica_state.specs.Points.{Held, held_after_learning}
 use Rattle.replica_state.specs.OpSets.{with_held}
 use Rattle.replica_state.specs.Slots.{matrix_state, slot_held}
 use Rattle.replica_state.proofs.Learned.{on_ok}
@@ -17,8 +17,8 @@ returns-in-Some-clause-ok c =
     let met = called.met in
     let shows = called.shows in
     let leaves = called.leaves in
-    let learnt : OnOk c.in-Some.learned (slot_held changed.after ≡ learned (option_map key_value (option_copied c.args.key)) c.args.count (slot_held changed.before)) = search rules in
-    on_ok c.in-Some.learned (λ e. writes _ (matrix_state c.args.self.now) (matrix_state c.change_slot.new.self) c.args.name.now c.in-Some.learned changed (λ h. learned (option_map key_value (option_copied c.args.key)) c.args.count h) e
+    let learnt : OnOk c.in-Some.learned (slot_held changed.after ≡ held_after_learning (option_map key_value (option_copied c.args.key)) c.args.count (slot_held changed.before)) = search rules in
+    on_ok c.in-Some.learned (λ e. writes _ (matrix_state c.args.self.now) (matrix_state c.change_slot.new.self) c.args.name.now c.in-Some.learned changed (λ h. held_after_learning (option_map key_value (option_copied c.args.key)) c.args.count h) e
     (learned_is_something _ c.args.count _ _ (none_told c.args.key) c.requires.kinds c.requires.something)) learnt
 
 pub add_slot-requires-clause-some : goal.add_slot-requires-clause-some
@@ -26,4 +26,4 @@ add_slot-requires-clause-some c = λ none. learned_is_something _ c.args.count _
 
 pub returns-clause-ok : goal.returns-clause-ok
 returns-clause-ok c = on_ok c.add_slot.result (λ e. rw (c.in_default.ensures.unchanged, c.in_ok-copied.ensures) at e ∙ ap (λ (h : Held). with_held c.args.name.now h (matrix_state c.args.self.now))
-    (c.in_ok-learn.ensures.ok ∙ ap (λ h. learned (option_map key_value (option_copied c.args.key)) c.args.count h) (c.empty-new.ensures ∙ held_is_nothing (matrix_state c.args.self.now) c.args.name.now c.in_default.ensures.none))) c.add_slot.ensures.ok
+    (c.in_ok-learn.ensures.ok ∙ ap (λ h. held_after_learning (option_map key_value (option_copied c.args.key)) c.args.count h) (c.empty-new.ensures ∙ held_is_nothing (matrix_state c.args.self.now) c.args.name.now c.in_default.ensures.none))) c.add_slot.ensures.ok

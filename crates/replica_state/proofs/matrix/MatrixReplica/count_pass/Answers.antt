@@ -2,7 +2,7 @@ use Rattle.std.specs.Prelude.{OnOk}
 use Rattle.std.proofs.Common.{◌≡◌, ◌+◌, ◌<◌, ◌^◌, subst, sym, ◌∙◌, rules}
 use Rattle.std.specs.Option.{IsSome}
 use Rattle.replica_state.specs.declared.point.Counted.TheVariants.{Hits, Execs}
-use Rattle.replica_state.specs.Points.{passed}
+use Rattle.replica_state.specs.Points.{held_after_pass}
 use Rattle.replica_state.specs.Slots.{matrix_state, slot_held}
 use Rattle.replica_state.proofs.Learned.{on_ok}
 use Rattle.replica_state.proofs.Shown.{pass_seen}
@@ -25,7 +25,7 @@ returns-in-Some-clause-ok c =
     let met = called.met in
     let shows = called.shows in
     let leaves = called.leaves in
-    let wrote : OnOk c.in-Some.passed (slot_held changed.after ≡ passed c.args.node c.args.spent (slot_held changed.before)) = search rules in
-    on_ok c.in-Some.passed (λ e. writes _ (matrix_state c.args.self.now) (matrix_state c.change_slot.new.self) c.args.name.now c.in-Some.passed changed (λ h. passed c.args.node c.args.spent h) e
+    let wrote : OnOk c.in-Some.passed (slot_held changed.after ≡ held_after_pass c.args.node c.args.spent (slot_held changed.before)) = search rules in
+    on_ok c.in-Some.passed (λ e. writes _ (matrix_state c.args.self.now) (matrix_state c.change_slot.new.self) c.args.name.now c.in-Some.passed changed (λ h. held_after_pass c.args.node c.args.spent h) e
     (passed_is_something c.args.node c.args.spent _ c.requires.set)
     ∙ pass_seen c.args.name.now c.args.node c.args.spent (matrix_state c.args.self.now) changed.is_stored.named) wrote

@@ -1,6 +1,6 @@
 use Rattle.std.specs.Prelude.{OnOk}
 use Rattle.std.proofs.Common.{◌≡◌, ◌∙◌, rules}
-use Rattle.replica_state.specs.Points.{moved}
+use Rattle.replica_state.specs.Points.{held_after_shift}
 use Rattle.replica_state.specs.Slots.{matrix_state, slot_held}
 use Rattle.replica_state.proofs.Learned.{on_ok}
 use Rattle.replica_state.proofs.Shown.{shift_seen}
@@ -14,7 +14,7 @@ returns-in-Some-clause-ok c =
     let met = called.met in
     let shows = called.shows in
     let leaves = called.leaves in
-    let wrote : OnOk c.in-Some.shifted (slot_held changed.after ≡ moved c.args.term c.args.from c.args.to c.args.total (slot_held changed.before)) = search rules in
-    on_ok c.in-Some.shifted (λ e. writes _ (matrix_state c.args.self.now) (matrix_state c.change_slot.new.self) c.args.name.now c.in-Some.shifted changed (λ h. moved c.args.term c.args.from c.args.to c.args.total h) e
+    let wrote : OnOk c.in-Some.shifted (slot_held changed.after ≡ held_after_shift c.args.term c.args.from c.args.to c.args.total (slot_held changed.before)) = search rules in
+    on_ok c.in-Some.shifted (λ e. writes _ (matrix_state c.args.self.now) (matrix_state c.change_slot.new.self) c.args.name.now c.in-Some.shifted changed (λ h. held_after_shift c.args.term c.args.from c.args.to c.args.total h) e
     (moved_is_something c.args.term c.args.from c.args.to c.args.total _ c.requires.set)
     ∙ shift_seen c.args.name.now c.args.term c.args.from c.args.to c.args.total (matrix_state c.args.self.now) c.requires.more changed.is_stored.named) wrote

@@ -5,7 +5,7 @@ use Rattle.std.specs.Ordering.{nat_cmp}
 use Rattle.std.specs.Cmp.Lexicographic.{slice_cmp}
 use Rattle.stamp_register.specs.Keys.{key_value}
 use Rattle.replica_state.specs.declared.point.Point.{Point}
-use Rattle.replica_state.specs.Points.{learned}
+use Rattle.replica_state.specs.Points.{held_after_learning}
 use Rattle.replica_state.specs.OpSets.{state_of, shown, point_at, held_at, with_held}
 use Rattle.replica_state.proofs.Learned.{on_ok, on_err}
 use Rattle.replica_state.proofs.Shown.{lent_step, kept_step, added_step}
@@ -13,7 +13,7 @@ use Rattle.replica_state.proofs.op_set.OpSet.learn_key_and_count.Goals as goal
 
 pub returns-in-Some-clause-ok : goal.returns-in-Some-clause-ok
 unfolding state_of
-returns-in-Some-clause-ok c = rw (← c.self.view_is) (on_ok c.learn.result (lent_step c.self.inside.points c.get_mut.follows.lender c.args.name.now c.in-Some.point.now _ c.get_mut.follows.holds c.get_mut.ensures.ordered (sym c.in-Some.ensures.value) (learned _ c.args.count)) c.learn.ensures.ok)
+returns-in-Some-clause-ok c = rw (← c.self.view_is) (on_ok c.learn.result (lent_step c.self.inside.points c.get_mut.follows.lender c.args.name.now c.in-Some.point.now _ c.get_mut.follows.holds c.get_mut.ensures.ordered (sym c.in-Some.ensures.value) (held_after_learning _ c.args.count)) c.learn.ensures.ok)
 
 pub returns-in-Some-clause-err : goal.returns-in-Some-clause-err
 unfolding state_of
@@ -23,6 +23,6 @@ pub returns-clause-ok : goal.returns-clause-ok
 unfolding state_of
 returns-clause-ok c =
     let none = c.get_mut.follows.holds-at-none in
-    let change = learned (option_map key_value (option_copied c.args.key)) c.args.count in
+    let change = held_after_learning (option_map key_value (option_copied c.args.key)) c.args.count in
     rw (← c.self.view_is) (added_step c.get_mut.follows.lender-at-none c.insert.new.self c.args.name.now c.learn-2.new.self (c.in_ok-insert.ensures.entries ∙ ap (λ n. insert_entry (slice_cmp nat_cmp) c.get_mut.follows.lender-at-none.entries n c.learn-2.new.self) c.in_ok-copied.ensures) (λ q. c.in_ok-insert.ensures.updates.0 q ∙ ap (λ n. cond (is_at (slice_cmp nat_cmp n) q) (Some c.learn-2.new.self) (point_at c.get_mut.follows.lender-at-none.entries q)) c.in_ok-copied.ensures) (ap (λ (m : BTreeMap (List ℕ) Point). point_at m.entries c.args.name.now) none ∙ sym c.in_default.ensures.value) change (c.in_ok-learn.ensures.ok ∙ ap change c.empty-point.ensures) ∙
     ap (λ (m : BTreeMap (List ℕ) Point). with_held c.args.name.now (change (held_at (shown m.entries) c.args.name.now)) (shown m.entries)) none)

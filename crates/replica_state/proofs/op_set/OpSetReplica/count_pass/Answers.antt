@@ -1,6 +1,6 @@
 use Rattle.std.proofs.Common.{◌+◌, ◌<◌, ◌^◌, Option, subst, ◌∙◌, sym}
 use Rattle.replica_state.specs.declared.point.Point.{Point}
-use Rattle.replica_state.specs.Points.{passed}
+use Rattle.replica_state.specs.Points.{held_after_pass}
 use Rattle.replica_state.specs.OpSets.{state_of, shown, number_at}
 use Rattle.replica_state.specs.declared.point.Counted.TheVariants.{Execs}
 use Rattle.replica_state.proofs.Learned.{on_ok, on_err}
@@ -13,7 +13,7 @@ pass-requires-clause-execs c = λ term. subst (λ (o : Option Point). number_at 
 
 pub returns-in-Some-clause-ok : goal.returns-in-Some-clause-ok
 unfolding state_of shown
-returns-in-Some-clause-ok c = rw (← c.self.view_is) (on_ok c.pass.result (λ h. lent_step c.self.inside.points c.get_mut.follows.lender c.args.name.now c.in-Some.point.now _ c.get_mut.follows.holds c.get_mut.ensures.ordered (sym c.in-Some.ensures.value) (passed c.args.node c.args.spent) h ∙ pass_seen c.args.name.now c.args.node c.args.spent (shown c.self.inside.points.entries) (names_kept c.self.inside.points.entries c.args.name.now c.in-Some.point.now c.get_mut.ensures.ordered (sym c.in-Some.ensures.value))) c.pass.ensures.ok)
+returns-in-Some-clause-ok c = rw (← c.self.view_is) (on_ok c.pass.result (λ h. lent_step c.self.inside.points c.get_mut.follows.lender c.args.name.now c.in-Some.point.now _ c.get_mut.follows.holds c.get_mut.ensures.ordered (sym c.in-Some.ensures.value) (held_after_pass c.args.node c.args.spent) h ∙ pass_seen c.args.name.now c.args.node c.args.spent (shown c.self.inside.points.entries) (names_kept c.self.inside.points.entries c.args.name.now c.in-Some.point.now c.get_mut.ensures.ordered (sym c.in-Some.ensures.value))) c.pass.ensures.ok)
 
 pub returns-in-Some-clause-err : goal.returns-in-Some-clause-err
 unfolding state_of

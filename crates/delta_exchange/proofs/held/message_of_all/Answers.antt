@@ -1,7 +1,7 @@
 use Rattle.std.proofs.Common.{refl, subst}
 use Rattle.delta_exchange.specs.Cells.{EntriesFit}
 use Rattle.delta_exchange.proofs.WholeLemmas.{whole_is_whole}
-use Rattle.delta_exchange.proofs.held.whole.Goals as goal
+use Rattle.delta_exchange.proofs.held.message_of_all.Goals as goal
 
 pub returns-clause-whole : goal.returns-clause-whole
 returns-clause-whole g c =

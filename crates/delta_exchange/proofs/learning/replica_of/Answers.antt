@@ -6,7 +6,7 @@ use Rattle.delta_exchange.specs.Spelling.{IsEntry}
 use Rattle.delta_exchange.specs.Told.{HasLearned}
 use Rattle.delta_exchange.proofs.Entries.{each_is}
 use Rattle.delta_exchange.proofs.ToldSteps.{learned_next_entry}
-use Rattle.delta_exchange.proofs.learning.told.Goals as goal
+use Rattle.delta_exchange.proofs.learning.replica_of.Goals as goal
 
 pub learn_entry-requires : goal.learn_entry-requires
 learn_entry-requires g c =
