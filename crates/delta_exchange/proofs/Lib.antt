@@ -18,3 +18,4 @@ pub mod HeldCells
 pub mod HeldEntries
 pub mod WholeLemmas
 pub mod StateAgain
+pub mod MarkLemmas

@@ -36,6 +36,7 @@ mod fault;
 mod held;
 pub mod laws;
 mod learning;
+mod marks;
 mod message;
 mod reading;
 mod wire;

@@ -2,7 +2,7 @@
 use Rattle.std.specs.Prelude.{◌≡◌, ℕ, ◌==◌, ◌&&◌, ◌+◌, max, Bool, true, false, List, [], ◌∷◌, if◌then◌else◌, Option, Some, None, option_map, ℤ, pos}
 use Rattle.std.specs.Borrow.{Bor}
 use Rattle.std.specs.Option.{option_copied, option_map_or}
-use Rattle.std.specs.Ordering.{nat_cmp, match_ordering}
+use Rattle.std.specs.Ordering.{nat_cmp, match_ordering, on}
 use Rattle.std.specs.declared.cmp.Ordering.{Ordering}
 use Rattle.std.specs.declared.cmp.Ordering.TheVariants.{Greater}
 use Rattle.std.specs.Cmp.Lexicographic.{slice_cmp}
@@ -26,6 +26,16 @@ abbrev pub is_hits : Counted → Bool
 is_hits (Hits node) = true
 is_hits (Execs term node) = false
 is_hits (Shifts term from to) = false
+
+-- what is counted, as numbers: first hits, then executions, then shifts, and each by its own numbers
+abbrev pub place_of_counted : Counted → List ℕ
+place_of_counted (Hits node) = 0 ∷ node ∷ 0 ∷ 0 ∷ []
+place_of_counted (Execs term node) = 1 ∷ term ∷ node ∷ 0 ∷ []
+place_of_counted (Shifts term from to) = 2 ∷ term ∷ from ∷ to ∷ []
+
+-- the order of what is counted
+abbrev pub counted_cmp : Counted → Counted → Ordering
+counted_cmp = on place_of_counted (slice_cmp nat_cmp)
 
 -- the term of which something is counted
 abbrev pub term_of : Counted → Option ℕ

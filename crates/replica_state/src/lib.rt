@@ -3,6 +3,7 @@
 #![tactic(auto)]
 
 mod budget;
+mod counted_order;
 pub mod laws;
 mod matrix;
 mod op;

@@ -84,7 +84,8 @@ impl Counted {
         }
     }
 
-    fn is_hits(self) -> bool
+    /// Whether it counts hits, which belong to no key.
+    pub fn is_hits(self) -> bool
         ensures { result ≡ is_hits self }
     {
         match self {

@@ -1,0 +1,66 @@
+-- The marks after those of one name were written.
+use Rattle.std.proofs.Common.{◌≡◌, ℕ, Bool, true, false, cond, List, ◌&&◌, IsTrue, Option, Some, None, refl, sym, ◌∙◌, ap, subst}
+use Rattle.std.proofs.lemmas.Bool.{true≢false}
+use Rattle.std.specs.Str.{bytes_eq}
+use Rattle.std.specs.BTreeMap.{BTreeMap, WritesThrough, is_at}
+use Rattle.std.specs.Option.{IsSome}
+use Rattle.std.specs.Ordering.{nat_cmp}
+use Rattle.std.specs.Cmp.Lexicographic.{slice_cmp}
+use Rattle.std.proofs.lemmas.Map.Text.{is_eq-slice_cmp}
+use Rattle.replica_state.specs.declared.point.Counted.{Counted}
+use Rattle.replica_state.proofs.Orders.{bytes_eq-true}
+use Rattle.delta_exchange.specs.declared.marks.NameMarks.{NameMarks}
+use Rattle.delta_exchange.specs.declared.marks.Marks.{Marks}
+use Rattle.delta_exchange.specs.Marks.{marks_at, latest_of, key_of, cell_of, is_room, is_of, has_cell, MarksValue, marks_value, has_room, KeepsRoom, with_mark}
+
+-- what a name has is what all have it at
+at_name : {A : Type 0} (name : List ℕ) (old : List ℕ → A) (x : A) → x ≡ old name → (q : List ℕ) (b : Bool) → bytes_eq name q ≡ b → cond b x (old q) ≡ old q
+at_name name old x here q true e = here ∙ ap old (bytes_eq-true name q e)
+at_name name old x here q false e = refl
+
+module _ (m n : Marks) (name : List ℕ) (w : NameMarks) (at : (q : List ℕ) → marks_at n.names.entries q ≡ cond (is_at (slice_cmp nat_cmp name) q) (Some w) (marks_at m.names.entries q)) where
+  part : {A : Type 0} (f : Option NameMarks → A) (q : List ℕ) → f (marks_at n.names.entries q) ≡ cond (bytes_eq name q) (f (Some w)) (f (marks_at m.names.entries q))
+  part {A} f q = ap f (at q ∙ ap (λ t. cond t (Some w) (marks_at m.names.entries q)) (is_eq-slice_cmp name q)) ∙ by_test (bytes_eq name q)
+    where
+      by_test : (b : Bool) → f (cond b (Some w) (marks_at m.names.entries q)) ≡ cond b (f (Some w)) (f (marks_at m.names.entries q))
+      by_test true = refl
+      by_test false = refl
+
+  abbrev old : {A : Type 0} (f : Option NameMarks → A) → List ℕ → A
+  old f q = f (marks_at m.names.entries q)
+
+  pub same_marks : latest_of (Some w) ≡ latest_of (marks_at m.names.entries name) → key_of (Some w) ≡ key_of (marks_at m.names.entries name) → ((c : Counted) → cell_of (Some w) c ≡ cell_of (marks_at m.names.entries name) c) → marks_value n ≡ marks_value m
+  unfolding marks_value
+  same_marks l k h = λ i. record {
+    latest = λ q. (part latest_of q ∙ at_name name (old latest_of) (latest_of (Some w)) l q (bytes_eq name q) refl) i;
+    key = λ q. (part key_of q ∙ at_name name (old key_of) (key_of (Some w)) k q (bytes_eq name q) refl) i;
+    cell = λ q c. (part (λ o. cell_of o c) q ∙ at_name name (old (λ o. cell_of o c)) (cell_of (Some w) c) (h c) q (bytes_eq name q) refl) i;
+  }
+
+  pub kept_room : ((c : Option Counted) → IsTrue (is_room (marks_at m.names.entries name) c) → IsTrue (has_cell w c)) → KeepsRoom m n
+  unfolding has_room
+  kept_room keeps q c room = subst IsTrue (sym (part (λ o. is_room o c) q)) (by_name (bytes_eq name q) refl)
+    where
+      by_name : (b : Bool) → bytes_eq name q ≡ b → IsTrue (cond b (has_cell w c) (is_room (marks_at m.names.entries q) c))
+      by_name true e = keeps c (subst (λ p. IsTrue (is_room (marks_at m.names.entries p) c)) (sym (bytes_eq-true name q e)) room)
+      by_name false e = room
+
+  -- a mark more
+  pub marked : (new_key : Bool) (counted : Option Counted) (version : ℕ) → w.latest ≡ version → w.key ≡ cond new_key version (key_of (marks_at m.names.entries name)) → ((c : Counted) → cell_of (Some w) c ≡ cond (is_of counted c) version (cell_of (marks_at m.names.entries name) c)) → marks_value n ≡ with_mark name new_key counted version (marks_value m)
+  unfolding marks_value with_mark
+  marked new_key counted version l k h = λ i. record {
+    latest = λ q. (part latest_of q ∙ ap (λ x. cond (bytes_eq name q) x (old latest_of q)) l) i;
+    key = λ q. (part key_of q ∙ one new_key (old key_of) (key_of (Some w)) k q (bytes_eq name q) refl) i;
+    cell = λ q c. (part (λ o. cell_of o c) q ∙ one (is_of counted c) (old (λ o. cell_of o c)) (cell_of (Some w) c) (h c) q (bytes_eq name q) refl) i;
+  }
+    where
+      one : (t : Bool) (f : List ℕ → ℕ) (x : ℕ) → x ≡ cond t version (f name) → (q : List ℕ) (b : Bool) → bytes_eq name q ≡ b → cond b x (f q) ≡ cond (b && t) version (f q)
+      one t f x e q true s = e ∙ ap (λ p. cond t version (f p)) (bytes_eq-true name q s)
+      one t f x e q false s = refl
+
+-- what the marks are once w was written through what they lent at the name
+abbrev pub Lent : BTreeMap (List ℕ) NameMarks → (NameMarks → BTreeMap (List ℕ) NameMarks) → List ℕ → Type 0
+Lent m lend name = (w : NameMarks) → WritesThrough (slice_cmp nat_cmp) (slice_cmp nat_cmp name) m w (lend w)
+
+pub lent_at : (m : BTreeMap (List ℕ) NameMarks) (lend : NameMarks → BTreeMap (List ℕ) NameMarks) (name : List ℕ) (p w : NameMarks) → Lent m lend name → marks_at m.entries name ≡ Some p → (q : List ℕ) → marks_at (lend w).entries q ≡ cond (is_at (slice_cmp nat_cmp name) q) (Some w) (marks_at m.entries q)
+lent_at m lend name p w lent here = ((lent w).3 (subst (λ (o : Option NameMarks). IsSome o) (sym here) refl)).0

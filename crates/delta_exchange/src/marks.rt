@@ -1,0 +1,125 @@
+//! When each key and each cell last changed, by versions.
+#![tactic(auto, unfolding(crate::specs::Marks::marks_value, crate::specs::Marks::has_room))]
+
+ghost use Rattle.std.specs.Prelude.{◌≡◌, IsTrue, ℕ, List, [], Option, Some, None, true, if◌then◌else◌, OnOk, OnErr};
+ghost use Rattle.replica_state.specs.declared.point.Counted.{Counted};
+ghost use Rattle.delta_exchange.specs.Marks.{MarksValue, KeepsRoom, cell_of, has_cell, has_room, is_of, key_of, latest_of, marks_at, marks_value, with_mark};
+
+use actions::Name;
+use replica_state::Counted;
+use std::alloc::{AllocError, Global};
+use std::collections::BTreeMap;
+
+/// The versions that last changed the key and the cells of one name. A mark of 0 says nothing: it
+/// is the room for one.
+#[derive(Debug, Drop)]
+pub(crate) struct NameMarks {
+    // No other mark is greater.
+    latest: u64,
+    key: u64,
+    cells: BTreeMap<Counted, u64>,
+}
+
+/// The marks of all names.
+#[derive(Debug, Drop)]
+pub(crate) struct Marks {
+    names: BTreeMap<Name, NameMarks>,
+}
+
+impl NameMarks {
+    fn new(alloc: Global) -> NameMarks
+        ensures latest { result.latest ≡ 0 }
+        ensures key { result.key ≡ 0 }
+        ensures cells { result.cells.entries ≡ [] }
+    {
+        NameMarks {
+            latest: 0,
+            key: 0,
+            cells: BTreeMap::new(alloc),
+        }
+    }
+
+    // Makes room for the mark of what is counted, if anything is.
+    fn make_room(&mut self, counted: Option<Counted>) -> Result<(), AllocError>
+        ensures latest { self.new.latest ≡ self.old.latest }
+        ensures key { self.new.key ≡ self.old.key }
+        ensures cells { (c : Counted) → cell_of (Some self.new) c ≡ cell_of (Some self.old) c }
+        ensures room { OnOk result (IsTrue (has_cell self.new counted)) }
+        ensures kept { (c : Option Counted)
+            → IsTrue (has_cell self.old c) → IsTrue (has_cell self.new c) }
+    {
+        if let Some(counted) = counted {
+            if !self.cells.contains_key(&counted) {
+                self.cells.insert(counted, 0)?;
+            }
+        }
+        Ok(())
+    }
+
+    // Marks the key, where it is new, and what is counted, where it has room.
+    fn mark(&mut self, new_key: bool, counted: Option<Counted>, version: u64)
+        requires room { IsTrue (has_cell self.old counted) }
+        ensures latest { self.new.latest ≡ version }
+        ensures key { self.new.key ≡ (if new_key then version else self.old.key) }
+        ensures cells { (c : Counted) → cell_of (Some self.new) c
+            ≡ (if is_of counted c then version else cell_of (Some self.old) c) }
+        ensures kept { (c : Option Counted)
+            → IsTrue (has_cell self.old c) → IsTrue (has_cell self.new c) }
+    {
+        self.latest = version;
+        if new_key {
+            self.key = version;
+        }
+        if let Some(counted) = counted {
+            if let Some(mark) = self.cells.get_mut(&counted) {
+                *mark = version;
+            }
+        }
+    }
+}
+
+impl Marks {
+    /// No marks.
+    pub(crate) fn new(alloc: Global) -> Marks
+        ensures latest { (name : List ℕ) → (marks_value result).latest name ≡ 0 }
+        ensures key { (name : List ℕ) → (marks_value result).key name ≡ 0 }
+        ensures cell { (name : List ℕ) (c : Counted) → (marks_value result).cell name c ≡ 0 }
+    {
+        Marks {
+            names: BTreeMap::new(alloc),
+        }
+    }
+
+    /// Makes room for the marks of a name and of what is counted of it, if anything is. No mark
+    /// changes.
+    pub(crate) fn make_room(
+        &mut self,
+        alloc: Global,
+        name: &Name,
+        counted: Option<Counted>,
+    ) -> Result<(), AllocError>
+        ensures same { marks_value self.new ≡ marks_value self.old }
+        ensures room { OnOk result (IsTrue (has_room self.new name.now counted)) }
+        ensures kept { KeepsRoom self.old self.new }
+    {
+        if let Some(marks) = self.names.get_mut(name) {
+            return marks.make_room(counted);
+        }
+        let mut marks = NameMarks::new(alloc);
+        marks.make_room(counted)?;
+        self.names.insert(name.copied(alloc)?, marks)?;
+        Ok(())
+    }
+
+    /// Marks a name with a version: its key, where it is new, and what is counted of it.
+    pub(crate) fn mark(&mut self, name: &Name, new_key: bool, counted: Option<Counted>, version: u64)
+        requires room { IsTrue (has_room self.old name.now counted) }
+        ensures marks { marks_value self.new
+            ≡ with_mark name.now new_key counted version (marks_value self.old) }
+        ensures kept { KeepsRoom self.old self.new }
+    {
+        if let Some(marks) = self.names.get_mut(name) {
+            marks.mark(new_key, counted, version);
+        }
+    }
+}
