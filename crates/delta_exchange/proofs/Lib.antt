@@ -19,3 +19,5 @@ pub mod HeldEntries
 pub mod WholeLemmas
 pub mod StateAgain
 pub mod MarkLemmas
+pub mod ChangeLemmas
+pub mod InPlace

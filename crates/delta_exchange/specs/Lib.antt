@@ -8,3 +8,4 @@ pub mod Told
 pub mod Cells
 pub mod Changes
 pub mod Marks
+pub mod Versions

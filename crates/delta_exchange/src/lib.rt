@@ -39,6 +39,8 @@ mod learning;
 mod marks;
 mod message;
 mod reading;
+mod versioned;
+mod versions;
 mod wire;
 mod writing;
 
@@ -47,4 +49,5 @@ pub use held::message_of_all;
 pub use learning::replica_of;
 pub use message::{MAX_NAMES, MAX_NODES, Message, NameEntry};
 pub use reading::decode;
+pub use versioned::Versioned;
 pub use writing::encode;

@@ -1,0 +1,152 @@
+//! A replica with versions.
+#![tactic(auto, unfolding(crate::specs::Versions::value_of))]
+
+ghost use Rattle.std.specs.Prelude.{◌≡◌, ◌+◌, ◌<◌, ◌^◌, ℕ, Some, false, option_map, IsSome, OnOk, OnErr};
+ghost use Rattle.stamp_register.specs.Keys.{key_value};
+ghost use Rattle.replica_state.specs.States.{with_key, with_pass, with_shifts};
+ghost use Rattle.replica_state.specs.Knowledge.{is_upto};
+ghost use Rattle.replica_state.specs.declared.point.Counted.TheVariants.{Execs};
+ghost use Rattle.delta_exchange.specs.Marks.{marks_value, AreUpto};
+
+use crate::marks::Marks;
+use crate::versions::NodeVersions;
+use actions::Name;
+use replica_state::{Counted, Replica};
+use stamp_register::Key;
+use std::alloc::{AllocError, Global};
+
+/// A replica with versions: it counts the changes of its state, knows when each key and each cell
+/// last changed, and keeps of each other node the version that it has of it and the version that
+/// the other is known to have.
+#[derive(Drop)]
+pub struct Versioned<R> {
+    replica: R,
+    version: u64,
+    known: NodeVersions,
+    acked: NodeVersions,
+    marks: Marks,
+    ghost upto: { AreUpto (marks_value marks) version },
+}
+
+// What a pass counts beside the hit, where it executes a counted term.
+fn executed(spent: Option<u8>, node: u8) -> Option<Counted>
+    ensures { result ≡ option_map (λ term. Execs term node) spent }
+{
+    spent.map(|term| Counted::Execs { term, node })
+}
+
+impl<R: Replica> Versioned<R> {
+    ghost use Rattle.delta_exchange.specs.Versions.{value_of, nothing_known, ChangesTo};
+
+    /// The replica that knows nothing, at version 0.
+    pub fn new(alloc: Global) -> Versioned<R>
+        ensures { value_of R.state result ≡ nothing_known }
+    {
+        Versioned {
+            replica: R::empty(alloc),
+            version: 0,
+            known: NodeVersions::new(alloc),
+            acked: NodeVersions::new(alloc),
+            marks: Marks::new(alloc),
+        }
+    }
+
+    /// The replica.
+    pub fn state(&self) -> &R
+        ensures { R.state result.now ≡ (value_of R.state self.now).state }
+    {
+        &self.replica
+    }
+
+    /// How many calls changed the state.
+    pub fn version(&self) -> u64
+        ensures { result ≡ (value_of R.state self.now).version }
+    {
+        self.version
+    }
+
+    /// The version of another node that this one has, 0 at first.
+    pub fn known(&self, from: u8) -> u64
+        ensures { result ≡ (value_of R.state self.now).known from }
+    {
+        self.known.version(from)
+    }
+
+    /// The version of this node that another one is known to have, 0 at first.
+    pub fn acked(&self, to: u8) -> u64
+        ensures { result ≡ (value_of R.state self.now).acked to }
+    {
+        self.acked.version(to)
+    }
+
+    /// Gives a point a key above the one that it has. Where memory is refused, nothing has changed.
+    pub fn set_key(&mut self, alloc: Global, name: Name, key: Key) -> Result<(), AllocError>
+        requires above { is_upto (Some (key_value key)) ((value_of R.state self.old).state.key name) ≡ false }
+        requires version { (value_of R.state self.old).version + 1 < 2 ^ 64 }
+        ensures ok { OnOk result (ChangesTo (value_of R.state self.old)
+            (with_key name (key_value key) (value_of R.state self.old).state) (value_of R.state self.new)) }
+        ensures err { OnErr result (value_of R.state self.new ≡ value_of R.state self.old) }
+    {
+        self.marks.make_room(alloc, &name, None)?;
+        let marked = name.copied(alloc)?;
+        self.replica.set_key(alloc, name, key)?;
+        self.version += 1;
+        self.marks.mark(&marked, true, None, self.version);
+        Ok(())
+    }
+
+    /// Counts a pass of a point at a node and, where a counted term was triggered, its execution
+    /// there. Where memory is refused, nothing has changed.
+    pub fn count_pass(
+        &mut self,
+        alloc: Global,
+        name: &Name,
+        node: u8,
+        spent: Option<u8>,
+    ) -> Result<(), AllocError>
+        requires set { IsSome ((value_of R.state self.old).state.key name.now) }
+        requires hits { (value_of R.state self.old).state.hits name.now node + 1 < 2 ^ 64 }
+        requires execs { (term : ℕ) → (value_of R.state self.old).state.execs name.now term node + 1 < 2 ^ 64 }
+        requires version { (value_of R.state self.old).version + 1 < 2 ^ 64 }
+        ensures ok { OnOk result (ChangesTo (value_of R.state self.old)
+            (with_pass name.now node spent (value_of R.state self.old).state) (value_of R.state self.new)) }
+        ensures err { OnErr result (value_of R.state self.new ≡ value_of R.state self.old) }
+    {
+        let hits = Some(Counted::Hits { node });
+        let execs = executed(spent, node);
+        self.marks.make_room(alloc, name, hits)?;
+        self.marks.make_room(alloc, name, execs)?;
+        self.replica.count_pass(alloc, name, node, spent)?;
+        self.version += 1;
+        self.marks.mark(name, false, hits, self.version);
+        self.marks.mark(name, false, execs, self.version);
+        Ok(())
+    }
+
+    /// Counts the rights to a term of the point's key that one node moved to another, so many in
+    /// all and more than before. Where memory is refused, nothing has changed.
+    pub fn count_shift(
+        &mut self,
+        alloc: Global,
+        name: &Name,
+        term: u8,
+        from: u8,
+        to: u8,
+        total: u64,
+    ) -> Result<(), AllocError>
+        requires set { IsSome ((value_of R.state self.old).state.key name.now) }
+        requires more { (value_of R.state self.old).state.shifts name.now term from to < total }
+        requires version { (value_of R.state self.old).version + 1 < 2 ^ 64 }
+        ensures ok { OnOk result (ChangesTo (value_of R.state self.old)
+            (with_shifts name.now term from to total (value_of R.state self.old).state)
+            (value_of R.state self.new)) }
+        ensures err { OnErr result (value_of R.state self.new ≡ value_of R.state self.old) }
+    {
+        let shifts = Some(Counted::Shifts { term, from, to });
+        self.marks.make_room(alloc, name, shifts)?;
+        self.replica.count_shift(alloc, name, term, from, to, total)?;
+        self.version += 1;
+        self.marks.mark(name, false, shifts, self.version);
+        Ok(())
+    }
+}
