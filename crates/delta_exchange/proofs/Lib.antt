@@ -21,3 +21,4 @@ pub mod StateAgain
 pub mod MarkLemmas
 pub mod ChangeLemmas
 pub mod InPlace
+pub mod NewsLemmas

@@ -43,17 +43,17 @@ learned_entry e u v w x y set hits execs shifts =
     let m : List Operation = map (λ c. Count (Shifts e.name e.key c.0 c.1 c.2) c.3) e.shifts in
     learned_both u v y (Set e.name e.key ∷ []) (h ++ (k ++ m)) set (learned_both v w y h (k ++ m) hits (learned_both w x y k m execs shifts))
 
--- one more entry
-pub learned_next_entry : (entries : List NameEntry) (u v w : State) (i : ℕ) (d : NameEntry) → i < length entries → HasLearned u v (flat_map operations_of (map entry_value (take i entries))) → HasLearned v w (operations_of (entry_value (get_or entries i d))) → HasLearned u w (flat_map operations_of (map entry_value (take (i + 1) entries)))
-learned_next_entry entries u v w i d below h k = subst (HasLearned u w) (sym next) (learned_both u v w (flat_map operations_of (map entry_value (take i entries))) (operations_of (entry_value (get_or entries i d))) h k)
+-- what one more entry tells
+pub next_entry : (entries : List NameEntry) (i : ℕ) (d : NameEntry) → i < length entries → flat_map operations_of (map entry_value (take (i + 1) entries)) ≡ flat_map operations_of (map entry_value (take i entries)) ++ operations_of (entry_value (get_or entries i d))
+next_entry entries i d below =
+    ap (λ n. flat_map operations_of (map entry_value (take n entries))) (add-one i) ∙
+    ap (λ es. flat_map operations_of (map entry_value es)) (take-suc entries i d below) ∙
+    ap (flat_map operations_of) (map-append entry_value (take i entries) (get_or entries i d ∷ [])) ∙
+    flat_map-append operations_of (map entry_value (take i entries)) (entry_value (get_or entries i d) ∷ []) ∙
+    ap (λ os. flat_map operations_of (map entry_value (take i entries)) ++ os) (one (entry_value (get_or entries i d)))
   where
     one : (e : EntryValue) → flat_map operations_of (e ∷ []) ≡ operations_of e
     one e = flat_map-cons operations_of e [] ∙ append-nil (operations_of e)
 
-    next : flat_map operations_of (map entry_value (take (i + 1) entries)) ≡ flat_map operations_of (map entry_value (take i entries)) ++ operations_of (entry_value (get_or entries i d))
-    next =
-        ap (λ n. flat_map operations_of (map entry_value (take n entries))) (add-one i) ∙
-        ap (λ es. flat_map operations_of (map entry_value es)) (take-suc entries i d below) ∙
-        ap (flat_map operations_of) (map-append entry_value (take i entries) (get_or entries i d ∷ [])) ∙
-        flat_map-append operations_of (map entry_value (take i entries)) (entry_value (get_or entries i d) ∷ []) ∙
-        ap (λ os. flat_map operations_of (map entry_value (take i entries)) ++ os) (one (entry_value (get_or entries i d)))
+pub learned_next_entry : (entries : List NameEntry) (u v w : State) (i : ℕ) (d : NameEntry) → i < length entries → HasLearned u v (flat_map operations_of (map entry_value (take i entries))) → HasLearned v w (operations_of (entry_value (get_or entries i d))) → HasLearned u w (flat_map operations_of (map entry_value (take (i + 1) entries)))
+learned_next_entry entries u v w i d below h k = subst (HasLearned u w) (sym (next_entry entries i d below)) (learned_both u v w (flat_map operations_of (map entry_value (take i entries))) (operations_of (entry_value (get_or entries i d))) h k)

@@ -9,3 +9,4 @@ pub mod Cells
 pub mod Changes
 pub mod Marks
 pub mod Versions
+pub mod News

@@ -38,6 +38,7 @@ pub mod laws;
 mod learning;
 mod marks;
 mod message;
+mod news;
 mod reading;
 mod versioned;
 mod versions;

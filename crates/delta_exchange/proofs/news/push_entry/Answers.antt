@@ -1,0 +1,30 @@
+use Rattle.std.proofs.Common.{◌≡◌, ◌++◌, ◌∷◌, [], List, Bool, map, ◌∙◌}
+use Rattle.stamp_register.specs.Keys.{key_value}
+use Rattle.replica_state.specs.Operations.{Operation, Set}
+use Rattle.replica_state.specs.OpSets.{operation_told}
+use Rattle.replica_state.proofs.Learned.{on_ok}
+use Rattle.delta_exchange.specs.Messages.{hits_in, execs_in, shifts_in}
+use Rattle.delta_exchange.specs.News.{news_in, news_of}
+use Rattle.delta_exchange.proofs.NewsLemmas.{news_both}
+use Rattle.delta_exchange.proofs.news.push_entry.Goals as goal
+
+pub returns : goal.returns
+returns g c =
+    let v = g.R.Replica.state c.args.replica.now in
+    let e = c.args.entry.now in
+    let told = c.new-told.ensures in
+    let n : List (Operation × Bool) = map news_of c.args.news.now.items in
+    let n1 : List (Operation × Bool) = map news_of c.push_news.new.news.items in
+    let n2 : List (Operation × Bool) = map news_of c.push_hits.new.news.items in
+    let n3 : List (Operation × Bool) = map news_of c.push_execs.new.news.items in
+    let n4 : List (Operation × Bool) = map news_of c.push_shifts.new.news.items in
+    let set : List Operation = Set e.name (key_value e.key) ∷ [] in
+    let hits : List Operation = hits_in e.name e.hits.items in
+    let execs : List Operation = execs_in e.name (key_value e.key) e.execs.items in
+    let shifts : List Operation = shifts_in e.name (key_value e.key) e.shifts.items in
+    let one : n1 ≡ n ++ news_in v set = c.in_ok-push_news.ensures ∙ (λ i. n ++ news_in v (operation_told (told.name i) (told.key i) (told.count i) ∷ [])) in
+    let two : n2 ≡ n1 ++ news_in v hits = c.in_ok-push_hits.ensures ∙ (λ i. n1 ++ news_in v (hits_in (told.name i) (c.deref.ensures.value i))) in
+    let three : n3 ≡ n2 ++ news_in v execs = c.in_ok-push_execs.ensures ∙ (λ i. n2 ++ news_in v (execs_in (told.name i) (told.key i) (c.deref-2.ensures.value i))) in
+    on_ok c.push_shifts.result (λ h.
+    let four : n4 ≡ n3 ++ news_in v shifts = h ∙ (λ i. n3 ++ news_in v (shifts_in (told.name i) (told.key i) (c.deref-3.ensures.value i))) in
+    news_both v n n1 n4 set (hits ++ (execs ++ shifts)) one (news_both v n1 n2 n4 hits (execs ++ shifts) two (news_both v n2 n3 n4 execs shifts three four))) c.push_shifts.ensures
