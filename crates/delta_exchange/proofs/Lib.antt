@@ -22,3 +22,4 @@ pub mod MarkLemmas
 pub mod ChangeLemmas
 pub mod InPlace
 pub mod NewsLemmas
+pub mod RoomLemmas

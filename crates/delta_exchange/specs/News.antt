@@ -11,10 +11,10 @@ use Rattle.replica_state.specs.States.{State}
 use Rattle.replica_state.specs.Folds.{name_in}
 use Rattle.replica_state.specs.Knowledge.{is_upto, knows}
 use Rattle.replica_state.specs.Points.{is_hits, key_standing}
-use Rattle.replica_state.specs.OpSets.{key_told, operation_told}
+use Rattle.replica_state.specs.OpSets.{key_told, count_told, operation_told}
 use Rattle.delta_exchange.specs.declared.news.Told.{Told}
 use Rattle.delta_exchange.specs.declared.marks.Marks.{Marks}
-use Rattle.delta_exchange.specs.Marks.{has_room}
+use Rattle.delta_exchange.specs.Marks.{MarksValue, has_room, with_mark}
 
 -- whether an operation carries a key above the one that the state has of its name
 abbrev pub brings_key : State → Operation → Bool
@@ -52,3 +52,8 @@ StandsIn v told = told.standing ≡ key_standing (key_value told.key.now) (v.key
 abbrev pub HaveRoom : Marks → List Told → Type 0
 HaveRoom marks [] = Unit {0}
 HaveRoom marks (told ∷ rest) = IsTrue (has_room marks told.name.now (counted_of told.count)) × HaveRoom marks rest
+
+-- marks with a version for all that is new
+abbrev pub with_news : ℕ → List (Operation × Bool) → MarksValue → MarksValue
+with_news version [] m = m
+with_news version (n ∷ ns) m = with_news version ns (with_mark (name_in n.0) n.1 (counted_of (count_told n.0)) version m)

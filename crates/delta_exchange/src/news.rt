@@ -4,13 +4,18 @@
 ghost use Rattle.std.specs.Prelude.{◌≡◌, ◌++◌, ◌∷◌, [], Some, None, true, false, nat_le, map, IfOk, OnOk};
 ghost use Rattle.std.specs.Ordering.{match_ordering};
 ghost use Rattle.stamp_register.specs.Keys.{key_value};
-ghost use Rattle.replica_state.specs.Operations.{operation};
+ghost use Rattle.replica_state.specs.Operations.{operation, IsWellFormed};
 ghost use Rattle.replica_state.specs.Knowledge.{knows};
 ghost use Rattle.replica_state.specs.Points.{key_standing};
 ghost use Rattle.replica_state.specs.OpSets.{operation_told};
-ghost use Rattle.delta_exchange.specs.News.{counted_of, is_new, news_in, news_of, operation_of, StandsIn};
+ghost use Rattle.std.specs.List.{AllByRecursion};
+ghost use Rattle.replica_state.specs.Folds.{fold};
+ghost use Rattle.delta_exchange.specs.Marks.{marks_value};
+ghost use Rattle.delta_exchange.specs.Told.{HasLearned};
+ghost use Rattle.delta_exchange.specs.News.{counted_of, is_new, news_in, news_of, operation_of, with_news, HaveRoom, StandsIn};
 ghost use Rattle.delta_exchange.specs.Messages.{entry_value, message_value, hits_in, execs_in, shifts_in, operations_of, operations_in};
 
+use crate::marks::Marks;
 use crate::message::{Message, NameEntry};
 use actions::Name;
 use replica_state::{Count, Counted, Op, Replica};
@@ -251,4 +256,43 @@ pub(crate) fn news_of_message<'a, R: Replica>(
         push_entry(&mut news, replica, entry)?;
     }
     Ok(news)
+}
+
+/// A replica that knows just the news.
+pub(crate) fn learned<R: Replica>(alloc: Global, news: &[Told]) -> Result<R, AllocError>
+    requires { AllByRecursion (λ told. IsWellFormed (operation_of told)) news.now }
+    ensures { IfOk result
+        (λ replica. HasLearned (fold []) (R.state replica) (map operation_of news.now)) }
+{
+    let mut replica = R::empty(alloc);
+    for told in news {
+        replica.learn(alloc, told.name, told.key, told.count)?;
+    }
+    Ok(replica)
+}
+
+/// Makes room for the marks of all news. No mark changes.
+pub(crate) fn make_room(
+    alloc: Global,
+    marks: &mut Marks,
+    news: &[Told],
+) -> Result<(), AllocError>
+    ensures same { marks_value marks.new ≡ marks_value marks.old }
+    ensures room { OnOk result (HaveRoom marks.new news.now) }
+{
+    for told in news {
+        marks.make_room(alloc, told.name, told.counted())?;
+    }
+    Ok(())
+}
+
+/// Marks all news with a version.
+pub(crate) fn mark_all(marks: &mut Marks, news: &[Told], version: u64)
+    requires { HaveRoom marks.old news.now }
+    ensures { marks_value marks.new
+        ≡ with_news version (map news_of news.now) (marks_value marks.old) }
+{
+    for told in news {
+        marks.mark(told.name, told.is_new_key(), told.counted(), version);
+    }
 }
