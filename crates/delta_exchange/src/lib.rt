@@ -40,6 +40,7 @@ mod marks;
 mod message;
 mod news;
 mod reading;
+mod since;
 mod versioned;
 mod versions;
 mod wire;

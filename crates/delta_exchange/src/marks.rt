@@ -1,8 +1,10 @@
 //! When each key and each cell last changed, by versions.
 #![tactic(auto, unfolding(crate::specs::Marks::marks_value, crate::specs::Marks::has_room))]
 
-ghost use Rattle.std.specs.Prelude.{◌≡◌, IsTrue, ℕ, List, [], Option, Some, None, true, if◌then◌else◌, OnOk, OnErr};
+ghost use Rattle.std.specs.Prelude.{◌≡◌, IsTrue, ℕ, List, [], Option, Some, None, true, if◌then◌else◌, option_map, IfSome, OnOk, OnErr};
+ghost use Rattle.std.specs.BTreeMap.{IsOrdered};
 ghost use Rattle.replica_state.specs.declared.point.Counted.{Counted};
+ghost use Rattle.replica_state.specs.Points.{counted_cmp};
 ghost use Rattle.delta_exchange.specs.Marks.{MarksValue, KeepsRoom, cell_of, has_cell, has_room, is_of, key_of, latest_of, marks_at, marks_value, with_mark};
 
 use actions::Name;
@@ -15,9 +17,9 @@ use std::collections::BTreeMap;
 #[derive(Debug, Drop)]
 pub(crate) struct NameMarks {
     // No other mark is greater.
-    latest: u64,
-    key: u64,
-    cells: BTreeMap<Counted, u64>,
+    pub(crate) latest: u64,
+    pub(crate) key: u64,
+    pub(crate) cells: BTreeMap<Counted, u64>,
 }
 
 /// The marks of all names.
@@ -88,6 +90,17 @@ impl Marks {
         Marks {
             names: BTreeMap::new(alloc),
         }
+    }
+
+    /// The marks of a name, if it has any.
+    pub(crate) fn of_name(&self, name: &Name) -> Option<&NameMarks>
+        ensures marks { option_map (λ m. m.now) result ≡ marks_at self.now.names.entries name.now }
+        ensures ordered { IfSome result (λ m. IsOrdered counted_cmp m.now.cells) }
+    {
+        let marks = self.names.get(name)?;
+        // What `len` promises puts the cells in order.
+        let _ = marks.cells.len();
+        Some(marks)
     }
 
     /// Makes room for the marks of a name and of what is counted of it, if anything is. No mark
