@@ -23,3 +23,4 @@ pub mod ChangeLemmas
 pub mod InPlace
 pub mod NewsLemmas
 pub mod RoomLemmas
+pub mod LaterCells
