@@ -24,3 +24,4 @@ pub mod InPlace
 pub mod NewsLemmas
 pub mod RoomLemmas
 pub mod LaterCells
+pub mod SinceCells
