@@ -25,3 +25,4 @@ pub mod NewsLemmas
 pub mod RoomLemmas
 pub mod LaterCells
 pub mod SinceCells
+pub mod SinceEntries
