@@ -26,3 +26,4 @@ pub mod RoomLemmas
 pub mod LaterCells
 pub mod SinceCells
 pub mod SinceEntries
+pub mod SinceChanges
