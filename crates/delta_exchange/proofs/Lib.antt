@@ -27,3 +27,4 @@ pub mod LaterCells
 pub mod SinceCells
 pub mod SinceEntries
 pub mod SinceChanges
+pub mod SinceLemmas

@@ -21,7 +21,6 @@ use Rattle.replica_state.specs.Points.{key_standing}
 use Rattle.replica_state.proofs.Orders.{same_key-true, same_key-cmp}
 use Rattle.stamp_register.proofs.KeyLemmas.{true-same_key}
 
-
 pub known_by_standing : (key : KeyValue) (number here : ℕ) (o : Option KeyValue) → match_ordering (key_standing key o) true (nat_le number here) false ≡ knows_count key number here o
 known_by_standing key number here None = refl
 known_by_standing key number here (Some other) = by_test (same_key other key) refl (slice_cmp nat_cmp (key_rank key) (key_rank other)) refl

@@ -103,18 +103,18 @@ module _ (v : State) (m : Marks) (base : ℕ) (name : List ℕ) where
         by_test : (b : Bool) → (nat_lt base w.key || tells_cells entry) ≡ b → (nat_lt base w.key || tells_cells entry) ≡ true
         by_test true e = e
         by_test false e = absurd (h (record {
-              key = ⊎_elim
-                  (λ lt.
-                  let is = key_change m name w at in
-                  let above : IsTrue (nat_lt base w.key) = grind (arith, nat_tests) in
-                  not_told e (left_true (nat_lt base w.key) (tells_cells entry) above))
-                  (λ le. le)
-                  (cases_lt base ((changes_of m).key name));
-              cell = λ c some. ⊎_elim
-                  (λ lt. not_told e (right_true (nat_lt base w.key) (tells_cells entry) (cell_tells c some lt)))
-                  (λ le. le)
-                  (cases_lt base ((changes_of m).cell name c));
-            }))
+          key = ⊎_elim
+              (λ lt.
+              let is = key_change m name w at in
+              let above : IsTrue (nat_lt base w.key) = grind (arith, nat_tests) in
+              not_told e (left_true (nat_lt base w.key) (tells_cells entry) above))
+              (λ le. le)
+              (cases_lt base ((changes_of m).key name));
+          cell = λ c some. ⊎_elim
+              (λ lt. not_told e (right_true (nat_lt base w.key) (tells_cells entry) (cell_tells c some lt)))
+              (λ le. le)
+              (cases_lt base ((changes_of m).cell name c));
+        }))
 
     -- ---- it is a change that is told
 

@@ -136,11 +136,7 @@ impl<'a> Told<'a> {
     }
 
     /// Adds it to the news, unless a replica knows it.
-    fn push_news<R: Replica>(
-        self,
-        news: &mut Vec<Told<'a>>,
-        replica: &R,
-    ) -> Result<(), AllocError>
+    fn push_news<R: Replica>(self, news: &mut Vec<Told<'a>>, replica: &R) -> Result<(), AllocError>
         requires { StandsIn (R.state replica.now) self }
         ensures { OnOk result (map news_of news.new.items ≡ map news_of news.old.items
             ++ news_in (R.state replica.now) (operation_of self.entry ∷ [])) }
@@ -272,11 +268,7 @@ pub(crate) fn learned<R: Replica>(alloc: Global, news: &[Told]) -> Result<R, All
 }
 
 /// Makes room for the marks of all news. No mark changes.
-pub(crate) fn make_room(
-    alloc: Global,
-    marks: &mut Marks,
-    news: &[Told],
-) -> Result<(), AllocError>
+pub(crate) fn make_room(alloc: Global, marks: &mut Marks, news: &[Told]) -> Result<(), AllocError>
     ensures same { marks_value marks.new ≡ marks_value marks.old }
     ensures room { OnOk result (HaveRoom marks.new news.now) }
 {

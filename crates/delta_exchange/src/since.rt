@@ -156,7 +156,7 @@ fn push_entry_since<R: Replica>(
     ensures entries { OnOk result (map entry_value entries.new.items
         ≡ map entry_value entries.old.items
         ++ entry_since_at (R.state replica.now) nodes base marks.now
-            (slice_get (R.state replica.now).names index)) }
+        (slice_get (R.state replica.now).names index)) }
 {
     let Some(name) = replica.name_at(index) else {
         return Ok(());
@@ -191,11 +191,49 @@ fn entries_since<R: Replica>(
         → IsOrderedAt marks.now (slice_get (R.state replica.now).names index)) }
     ensures entries { IfOk result (λ es. map entry_value es.items
         ≡ entries_since (R.state replica.now) nodes base marks.now
-            (length (R.state replica.now).names)) }
+        (length (R.state replica.now).names)) }
 {
     let mut entries = Vec::new(alloc);
     for index in 0..replica.names() {
         push_entry_since(alloc, &mut entries, replica, nodes, base, marks, index)?;
     }
     Ok(entries)
+}
+
+impl<R: Replica> Versioned<R> {
+    /// What changed after a version of this replica, as a message from one node of a cluster to
+    /// another: of each name with a key of which anything did its key, and the cells that did and
+    /// aren't 0. Its base is that version.
+    ///
+    /// Of at most 16 nodes and 256 names it is never too long to be written. Only want of memory is
+    /// an error. Names of which nothing changed are passed over without a look at their cells, and
+    /// of the others what changed is read, and where the key did each cell under it.
+    pub fn changed_since(
+        &self,
+        alloc: Global,
+        nodes: u8,
+        base: u64,
+        from: u8,
+        to: u8,
+    ) -> Result<Message, AllocError>
+        requires nodes { nodes ≤ max_nodes }
+        requires from { from < nodes }
+        requires to { to < nodes }
+        requires apart { to ≢ from }
+        requires lawful { (ops : List Operation)
+            × ((value_of R.state self.now).state ≡ fold ops) × AreLawful nodes ops }
+        requires few { length (value_of R.state self.now).state.names ≤ max_names }
+        ensures { IfOk result (λ m. IsMessageSince nodes from to base
+            (value_of R.state self.now) (message_value m)) }
+    {
+        let entries = entries_since(alloc, &self.replica, nodes, base, &self.marks)?;
+        Ok(Message {
+            from,
+            to,
+            base,
+            upto: self.version(),
+            ack: self.known(to),
+            entries,
+        })
+    }
 }

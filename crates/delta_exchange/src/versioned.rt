@@ -20,11 +20,11 @@ use std::alloc::{AllocError, Global};
 /// the other is known to have.
 #[derive(Drop)]
 pub struct Versioned<R> {
-    replica: R,
+    pub(crate) replica: R,
     version: u64,
     known: NodeVersions,
     acked: NodeVersions,
-    marks: Marks,
+    pub(crate) marks: Marks,
     ghost upto: { AreUpto (marks_value marks) version },
 }
 
@@ -144,7 +144,8 @@ impl<R: Replica> Versioned<R> {
     {
         let shifts = Some(Counted::Shifts { term, from, to });
         self.marks.make_room(alloc, name, shifts)?;
-        self.replica.count_shift(alloc, name, term, from, to, total)?;
+        self.replica
+            .count_shift(alloc, name, term, from, to, total)?;
         self.version += 1;
         self.marks.mark(name, false, shifts, self.version);
         Ok(())
