@@ -23,3 +23,5 @@ pub mod ChangeLemmas
 pub mod InPlace
 pub mod NewsLemmas
 pub mod RoomLemmas
+pub mod NewsChanges
+pub mod LearnsLemmas

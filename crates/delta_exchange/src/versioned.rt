@@ -1,14 +1,17 @@
 //! A replica with versions.
 #![tactic(auto, unfolding(crate::specs::Versions::value_of))]
 
-ghost use Rattle.std.specs.Prelude.{◌≡◌, ◌+◌, ◌<◌, ◌^◌, ℕ, Some, false, option_map, IsSome, OnOk, OnErr};
+ghost use Rattle.std.specs.Prelude.{◌≡◌, ◌+◌, ◌<◌, ◌^◌, ℕ, List, Some, false, map, option_map, IfOk, IsSome, OnOk, OnErr};
 ghost use Rattle.stamp_register.specs.Keys.{key_value};
 ghost use Rattle.replica_state.specs.States.{with_key, with_pass, with_shifts};
-ghost use Rattle.replica_state.specs.Knowledge.{is_upto};
+ghost use Rattle.std.specs.List.{AllByRecursion};
+ghost use Rattle.replica_state.specs.Operations.{Operation, IsWellFormed};
+ghost use Rattle.replica_state.specs.Knowledge.{is_upto, changes};
 ghost use Rattle.replica_state.specs.declared.point.Counted.TheVariants.{Execs};
 ghost use Rattle.delta_exchange.specs.Marks.{marks_value, AreUpto};
 
 use crate::marks::Marks;
+use crate::news::{Told, learned, make_room, mark_all};
 use crate::versions::NodeVersions;
 use actions::Name;
 use replica_state::{Counted, Replica};
@@ -36,7 +39,8 @@ fn executed(spent: Option<u8>, node: u8) -> Option<Counted>
 }
 
 impl<R: Replica> Versioned<R> {
-    ghost use Rattle.delta_exchange.specs.Versions.{value_of, nothing_known, ChangesTo};
+    ghost use Rattle.delta_exchange.specs.News.{news_in, news_of, operation_of};
+    ghost use Rattle.delta_exchange.specs.Versions.{value_of, nothing_known, ChangesTo, Issues};
 
     /// The replica that knows nothing, at version 0.
     pub fn new(alloc: Global) -> Versioned<R>
@@ -148,5 +152,30 @@ impl<R: Replica> Versioned<R> {
         self.version += 1;
         self.marks.mark(name, false, shifts, self.version);
         Ok(())
+    }
+
+    // Learns the news, all at once, as one change. The answer says whether there are any.
+    fn learn(&mut self, alloc: Global, news: &[Told]) -> Result<bool, AllocError>
+        requires formed { AllByRecursion (λ told. IsWellFormed (operation_of told)) news.now }
+        requires version { (value_of R.state self.old).version + 1 < 2 ^ 64 }
+        ensures changed { IfOk result (λ changed. (told : List Operation)
+            → map news_of news.now ≡ news_in (value_of R.state self.old).state told
+            → changed ≡ changes (value_of R.state self.old).state told) }
+        ensures ok { OnOk result ((told : List Operation)
+            → map news_of news.now ≡ news_in (value_of R.state self.old).state told
+            → Issues (value_of R.state self.old) told (value_of R.state self.new)) }
+        ensures err { OnErr result (value_of R.state self.new ≡ value_of R.state self.old) }
+        ensures known { self.new.known ≡ self.old.known }
+        ensures acked { self.new.acked ≡ self.old.acked }
+    {
+        if news.is_empty() {
+            return Ok(false);
+        }
+        let learned = learned(alloc, news)?;
+        make_room(alloc, &mut self.marks, news)?;
+        self.replica.merge(alloc, learned)?;
+        self.version += 1;
+        mark_all(&mut self.marks, news, self.version);
+        Ok(true)
     }
 }
