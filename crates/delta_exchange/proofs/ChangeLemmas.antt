@@ -1,10 +1,8 @@
 -- What marks say after a change of the state, by a test of what changed.
-use Rattle.std.proofs.Common.{◌≡◌, ◌≢◌, ℕ, ◌≤◌, ◌<◌, ◌+◌, max, Bool, true, false, cond, ◌&&◌, ◌||◌, not, List, eqb, IsTrue, Option, Some, None, refl, sym, ◌∙◌, ap, subst, arith}
-use Rattle.std.proofs.lemmas.Bool.{true≢false}
+use Rattle.std.proofs.Common.{◌≡◌, ◌≢◌, ℕ, ◌≤◌, max, Bool, true, false, cond, ◌&&◌, ◌||◌, not, List, Option, None, refl, sym, ◌∙◌, ap, arith}
 use Rattle.std.specs.Str.{bytes_eq}
 use Rattle.replica_state.specs.declared.point.Counted.{Counted}
-use Rattle.replica_state.specs.declared.point.Counted.TheVariants.{Hits, Execs, Shifts}
-use Rattle.replica_state.specs.Points.{is_hits, same_counted}
+use Rattle.replica_state.specs.Points.{is_hits}
 use Rattle.replica_state.specs.States.{State}
 use Rattle.replica_state.specs.OpSets.{cell_of}
 use Rattle.delta_exchange.specs.Changes.{LastChanges, IsSameKey, IsSameCell, IsChangedAt, ChangesAt}

@@ -11,7 +11,7 @@ use Rattle.replica_state.proofs.Sets.{IsIn-append_left, IsIn-append_right, IsIn-
 use Rattle.replica_state.proofs.KnownSets.{same_members}
 use Rattle.replica_state.proofs.Changes.{no_change}
 use Rattle.delta_exchange.specs.declared.news.Told.{Told}
-use Rattle.delta_exchange.specs.Changes.{LastChanges, ChangesAt}
+use Rattle.delta_exchange.specs.Changes.{ChangesAt}
 use Rattle.delta_exchange.specs.Marks.{MarksValue, AreUpto, last_changes}
 use Rattle.delta_exchange.specs.News.{brings_key, unknown_in, news_in, news_of, operation_of, with_news}
 use Rattle.delta_exchange.specs.Told.{HasLearned}

@@ -1,6 +1,5 @@
 -- The marks after those of one name were written.
-use Rattle.std.proofs.Common.{◌≡◌, ℕ, Bool, true, false, cond, List, ◌&&◌, IsTrue, Option, Some, None, refl, sym, ◌∙◌, ap, subst}
-use Rattle.std.proofs.lemmas.Bool.{true≢false}
+use Rattle.std.proofs.Common.{◌≡◌, ℕ, Bool, true, false, cond, List, ◌&&◌, IsTrue, Option, Some, refl, sym, ◌∙◌, ap, subst}
 use Rattle.std.specs.Str.{bytes_eq}
 use Rattle.std.specs.BTreeMap.{BTreeMap, WritesThrough, is_at}
 use Rattle.std.specs.Option.{IsSome}
@@ -11,7 +10,7 @@ use Rattle.replica_state.specs.declared.point.Counted.{Counted}
 use Rattle.replica_state.proofs.Orders.{bytes_eq-true}
 use Rattle.delta_exchange.specs.declared.marks.NameMarks.{NameMarks}
 use Rattle.delta_exchange.specs.declared.marks.Marks.{Marks}
-use Rattle.delta_exchange.specs.Marks.{marks_at, latest_of, key_of, cell_of, is_room, is_of, has_cell, MarksValue, marks_value, has_room, KeepsRoom, with_mark}
+use Rattle.delta_exchange.specs.Marks.{marks_at, latest_of, key_of, cell_of, is_room, is_of, has_cell, marks_value, has_room, KeepsRoom, with_mark}
 
 -- what a name has is what all have it at
 at_name : {A : Type 0} (name : List ℕ) (old : List ℕ → A) (x : A) → x ≡ old name → (q : List ℕ) (b : Bool) → bytes_eq name q ≡ b → cond b x (old q) ≡ old q

@@ -1,6 +1,6 @@
 -- What a state learns of news, and what changes by it.
-use Rattle.std.proofs.Common.{◌≡◌, ◌≢◌, ℕ, ◌≤◌, ◌<◌, Bool, true, false, cond, not, nat_le, nat_lt, ◌&&◌, ◌||◌, List, [], ◌∷◌, ◌++◌, map, length, ◌⊎◌, inl, inr, ⊎_elim, Option, Some, None, is_some, IsTrue, refl, sym, ◌∙◌, ap, subst, append_assoc, arith, zero, suc}
-use Rattle.std.proofs.lemmas.Bool.{true≢false, and_parts, or_parts, not-false, eqb-true, eq-eqb}
+use Rattle.std.proofs.Common.{◌≡◌, ℕ, ◌≤◌, Bool, true, false, cond, not, nat_le, nat_lt, ◌&&◌, ◌||◌, List, [], ◌∷◌, ◌++◌, map, length, ◌⊎◌, inl, inr, ⊎_elim, Some, None, refl, sym, ◌∙◌, ap, subst, append_assoc, arith}
+use Rattle.std.proofs.lemmas.Bool.{true≢false, and_parts, not-false}
 use Rattle.std.specs.List.{list_any, filter, AllByRecursion}
 use Rattle.std.specs.Str.{bytes_eq}
 use Rattle.stamp_register.specs.Keys.{KeyValue}
@@ -9,7 +9,7 @@ use Rattle.replica_state.specs.declared.point.Counted.TheVariants as counted
 use Rattle.replica_state.specs.Points.{is_hits, same_counted}
 use Rattle.replica_state.specs.Operations.{Operation, Cell, Set, Count, Hits, Execs, Shifts, IsIn, IsWellFormed}
 use Rattle.replica_state.specs.States.{State}
-use Rattle.replica_state.specs.Folds.{fold, name_in, key_in, key_of, number_at, at_key}
+use Rattle.replica_state.specs.Folds.{fold, name_in, key_in, key_of, number_at}
 use Rattle.replica_state.specs.OpSets.{cell_of, key_told, count_told}
 use Rattle.replica_state.specs.Knowledge.{is_upto, knows, knows_count, changes}
 use Rattle.replica_state.proofs.Orders.{bytes_eq-true, bytes_eq-refl}
@@ -18,7 +18,7 @@ use Rattle.replica_state.proofs.KnownSets.{own_name, same_members}
 use Rattle.replica_state.proofs.Changes.{any_false, false_any, upto_true, true_upto, known_key, at_one, le_both, is_known, no_change}
 use Rattle.replica_state.proofs.Unions.{fold-union}
 use Rattle.replica_state.proofs.Counts.{same_counted-refl, same_counted-true}
-use Rattle.delta_exchange.specs.Changes.{LastChanges, IsSameKey, IsSameCell, ChangesAt}
+use Rattle.delta_exchange.specs.Changes.{IsSameKey, IsSameCell, ChangesAt}
 use Rattle.delta_exchange.specs.Marks.{MarksValue, AreUpto, is_of, with_mark, last_changes}
 use Rattle.delta_exchange.specs.News.{brings_key, unknown_in, news_in, counted_of, with_news}
 use Rattle.delta_exchange.proofs.ChangeLemmas.{Tells, changes_told, marks_cell, upto_marked, key_marked, cell_marked}
@@ -254,8 +254,8 @@ module _ (base fresh : List Operation) (unknown : (op : Operation) → IsIn op f
           let here = subst (λ q. IsSameCell (fold base) (fold (fresh ++ base)) q c) (sym (bytes_eq-true (name_in op) n parts.0)) same in
           ⊎_elim
           (λ k.
-              let both = and_parts (brings_key (fold base) op) (not (is_hits c)) k in
-              brought op m n (ap (λ b. b && brings_key (fold base) op) parts.0 ∙ both.0) (same.0 (not_true (is_hits c) both.1)))
+          let both = and_parts (brings_key (fold base) op) (not (is_hits c)) k in
+          brought op m n (ap (λ b. b && brings_key (fold base) op) parts.0 ∙ both.0) (same.0 (not_true (is_hits c) both.1)))
           (λ k. true≢false (sym (learned op m) ∙ sym (alike (fold base) (fold (fresh ++ base)) op c k here) ∙ unknown op m))
           (or_true (brings_key (fold base) op && not (is_hits c)) (is_of (counted_of (count_told op)) c) parts.1)
 

@@ -1,5 +1,5 @@
 -- When each key and each cell last changed, as the code keeps it: the marks of each name.
-use Rattle.std.specs.Prelude.{ℕ, ◌≤◌, max, IsTrue, Bool, false, true, ◌&&◌, ◌||◌, not, List, if◌then◌else◌, Option, Some, None, is_some}
+use Rattle.std.specs.Prelude.{ℕ, ◌≤◌, max, IsTrue, Bool, false, true, ◌&&◌, List, if◌then◌else◌, Option, Some, None, is_some}
 use Rattle.std.specs.Option.{unwrap_or}
 use Rattle.std.specs.Str.{bytes_eq}
 use Rattle.std.specs.Map.{lookup}

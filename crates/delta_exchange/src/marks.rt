@@ -112,7 +112,13 @@ impl Marks {
     }
 
     /// Marks a name with a version: its key, where it is new, and what is counted of it.
-    pub(crate) fn mark(&mut self, name: &Name, new_key: bool, counted: Option<Counted>, version: u64)
+    pub(crate) fn mark(
+        &mut self,
+        name: &Name,
+        new_key: bool,
+        counted: Option<Counted>,
+        version: u64,
+    )
         requires room { IsTrue (has_room self.old name.now counted) }
         ensures marks { marks_value self.new
             ≡ with_mark name.now new_key counted version (marks_value self.old) }

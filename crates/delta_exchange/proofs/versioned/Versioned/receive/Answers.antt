@@ -1,0 +1,14 @@
+use Rattle.std.proofs.Common.{sym, subst}
+use Rattle.std.specs.List.{AllByRecursion}
+use Rattle.replica_state.specs.Operations.{IsWellFormed}
+use Rattle.delta_exchange.specs.Messages.{message_value, operations_in}
+use Rattle.delta_exchange.specs.declared.news.Told.{Told}
+use Rattle.delta_exchange.specs.News.{operation_of}
+use Rattle.delta_exchange.proofs.ToldLemmas.{entries_told}
+use Rattle.delta_exchange.proofs.LearnsLemmas.{news_well_formed}
+use Rattle.delta_exchange.proofs.versioned.Versioned.receive.Goals as goal
+
+pub learn-requires-clause-formed : goal.learn-requires-clause-formed
+learn-requires-clause-formed g c = subst (λ ts. AllByRecursion (λ (t : Told). IsWellFormed (operation_of t)) ts) (sym c.deref.ensures.value)
+    (news_well_formed (g.R.Replica.state c.args.self.now.replica) (operations_in (message_value c.args.message.now)) c.in_ok-news.news.items c.in_ok-news.ensures
+    (entries_told c.requires.message.0 (message_value c.args.message.now).entries c.requires.message.1.entries.each))
