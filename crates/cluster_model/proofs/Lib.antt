@@ -4,9 +4,12 @@ pub mod Stamps
 pub mod OwnCells
 pub mod Rights
 pub mod Conserved
+pub mod Versions
 pub mod Honest
 pub mod Replays
 pub mod Closed
+pub mod Differences
+pub mod KnownVersions
 pub mod Examples
 pub mod ExampleMovedRight
 pub mod ExampleOvertakenKey

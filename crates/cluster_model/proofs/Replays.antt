@@ -128,7 +128,7 @@ legal_more config entries n (call ∷ trace) ask words legal agreed sends =
           (subst (λ k. refusal_at config k (replay_from config.node (after config.node n call.ask call.words) trace) ask words ≡ None) places agreed) sends,
     )
 
-sends_delta : (c : Cluster) (w : World) (e : Event) (i : ℕ) (ask : Asked) → AllowsDelta w e.node (accepted c w e e.node) → accepted c w e i ≡ Some ask → SendsDelta (w.node i) ask
+pub sends_delta : (c : Cluster) (w : World) (e : Event) (i : ℕ) (ask : Asked) → AllowsDelta w e.node (accepted c w e e.node) → accepted c w e i ≡ Some ask → SendsDelta (w.node i) ask
 sends_delta c w e i ask allowed h =
     let here = (asked_is c w e i ask h).here in
     of ask (subst (λ (a : Option Asked). AllowsDelta w i a) h (subst (λ j. AllowsDelta w j (accepted c w e j)) (sym here) allowed))

@@ -12,8 +12,9 @@ use Rattle.replica_state.specs.StateOrder.{IsBelow}
 use Rattle.replica_state.specs.Knowledge.{KnowsAll}
 use Rattle.node_core.specs.declared.fault.NodeFault.{NodeFault}
 use Rattle.node_core.specs.declared.fault.NodeFault.TheVariants as faults
-use Rattle.node_core.specs.Asks.{Asked, Message}
+use Rattle.node_core.specs.Asks.{Asked, Message, Call}
 use Rattle.node_core.specs.Asks as asks
+use Rattle.node_core.specs.Nodes.{state_shown}
 use Rattle.node_core.specs.Traces.{Kept, replay, refusal, after_call, IsLegal}
 use Rattle.node_core.specs.Refusals.{is_ahead, overspends, refusal_at}
 use Rattle.cluster_model.specs.Worlds.{Cluster, Event, config_of, accepted, world}
@@ -121,3 +122,35 @@ DeltasAreSchedules = (c : Cluster) (es : List Event) → IsDeltaSchedule c es �
 -- and each node's trace is legal: its calls, one after the other, are accepted and have the replies of the step
 abbrev pub TracesAreLegal : Type 0
 TracesAreLegal = (c : Cluster) (es : List Event) → IsDeltaSchedule c es → (i : ℕ) → IsLegal (config_of c i) ((world c es).trace i)
+
+-- at version 0 a node's state is that of nothing
+abbrev pub PastBegins : Type 0
+PastBegins = (i : ℕ) (trace : List Call) → (replay i trace).past 0 ≡ fold []
+
+-- at its present version it is what the node shows
+abbrev pub PastIsPresent : Type 0
+PastIsPresent = (i : ℕ) (trace : List Call) →
+    (replay i trace).past (replay i trace).marks.version ≡ state_shown (replay i trace)
+
+-- and at a version that the node has reached it stays as it is, whatever the node is called for later
+abbrev pub PastStays : Type 0
+PastStays = (i : ℕ) (trace later : List Call) (version : ℕ) →
+    version ≤ (replay i trace).marks.version →
+    (replay i (trace ++ later)).past version ≡ (replay i trace).past version
+
+-- so of a node of a cluster it is, at a version that the node has had, the state that the node then had
+abbrev pub PastIsState : Type 0
+PastIsState = (c : Cluster) (later es : List Event) (i : ℕ) →
+    ((world c (later ++ es)).node i).past ((world c es).node i).marks.version ≡ state_of c es i
+
+-- where each node sends what differs, a node that knows a version of another holds all that the other held at it
+abbrev pub KnownVersionIsBelow : Type 0
+KnownVersionIsBelow = (c : Cluster) (es : List Event) → IsDeltaSchedule c es → (i j version : ℕ) →
+    ((world c es).node j).marks.known i ≡ version → IsBelow (((world c es).node i).past version) (state_of c es j)
+
+-- so two nodes that know each other's present version hold the same state
+abbrev pub KnownVersionsSameState : Type 0
+KnownVersionsSameState = (c : Cluster) (es : List Event) → IsDeltaSchedule c es → (i j : ℕ) →
+    ((world c es).node j).marks.known i ≡ ((world c es).node i).marks.version →
+    ((world c es).node i).marks.known j ≡ ((world c es).node j).marks.version →
+    state_of c es i ≡ state_of c es j

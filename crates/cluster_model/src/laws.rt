@@ -4,7 +4,7 @@
 //! message that is never delivered is lost, and one that is delivered again is repeated.
 
 ghost use Rattle.replica_state.specs.Laws.{UnionIsLeast};
-ghost use Rattle.cluster_model.specs.Laws.{NodeIsReplay, EventIsCall, StateIsFold, AnyOrderSameState, SameKnownSameState, DeliveryIsLeast, Escrow, StampIsIssuedOnce, StampIsOneKey, HonestMessages, DeltaMaySend, DeltasAreSchedules, TracesAreLegal};
+ghost use Rattle.cluster_model.specs.Laws.{NodeIsReplay, EventIsCall, StateIsFold, AnyOrderSameState, SameKnownSameState, DeliveryIsLeast, Escrow, StampIsIssuedOnce, StampIsOneKey, HonestMessages, DeltaMaySend, DeltasAreSchedules, TracesAreLegal, PastBegins, PastIsPresent, PastStays, PastIsState, KnownVersionIsBelow, KnownVersionsSameState};
 
 /// Each event of a schedule is a call of one node: it is refused, and changes nothing, or it changes
 /// that node by the step that the contracts of `NodeCore` cite, and its trace tells all of it.
@@ -37,11 +37,28 @@ pub fn honest()
     ensures { HonestMessages }
 {}
 
-/// A node that sends what differs between its state at the version that its message counts on and
-/// its state now, and tells no version that it hasn't, sends what a schedule lets it, and the traces
-/// of such nodes are legal.
+/// A node that sends what differs between its state at the version that the receiver is known to
+/// have and its state now, and tells just these versions, sends what a schedule lets it, and the
+/// traces of such nodes are legal.
 pub fn deltas()
     ensures any { DeltaMaySend }
     ensures schedule { DeltasAreSchedules }
     ensures traces { TracesAreLegal }
+{}
+
+/// What a node has been: at version 0 it knew nothing, at its present version it knows what it
+/// shows, and what it knew at a version that it has reached never changes.
+pub fn past()
+    ensures begins { PastBegins }
+    ensures present { PastIsPresent }
+    ensures stays { PastStays }
+    ensures world { PastIsState }
+{}
+
+/// Where each node sends what differs, a node that knows a version of another holds all that the
+/// other held at that version, and two nodes that know each other's present version hold the same
+/// state.
+pub fn known_versions()
+    ensures below { KnownVersionIsBelow }
+    ensures same { KnownVersionsSameState }
 {}
