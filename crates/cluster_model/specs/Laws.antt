@@ -1,9 +1,10 @@
 -- What holds of every schedule of a cluster.
-use Rattle.std.specs.Prelude.{◌≡◌, ◌≢◌, ℕ, ◌≤◌, ◌<◌, ◌==◌, ◌&&◌, Bool, false, pos, ◌+ℤ◌, ◌≤ℤ◌, List, [], ◌∷◌, ◌++◌, ◌↔◌, length, Option, Some, None, Ok, count_by}
+use Rattle.std.specs.Prelude.{◌≡◌, ◌≢◌, ℕ, ◌≤◌, ◌<◌, ◌==◌, ◌&&◌, Bool, false, pos, ◌+ℤ◌, ◌≤ℤ◌, List, [], ◌∷◌, ◌++◌, ◌↔◌, length, Option, Some, None, Ok, count_by, slice_get}
 use Rattle.std.specs.List.{list_any}
+use Rattle.actions.specs.Value.{TermValue, TaskValue}
 use Rattle.counters.specs.Sums.{numbers}
 use Rattle.stamp_register.specs.declared.key.Stamp.{Stamp}
-use Rattle.stamp_register.specs.Keys.{KeyValue, stamp_of}
+use Rattle.stamp_register.specs.Keys.{KeyValue, stamp_of, terms_set}
 use Rattle.replica_state.specs.Operations.{Operation, Set, Count, IsIn, count_of}
 use Rattle.replica_state.specs.States.{State}
 use Rattle.replica_state.specs.Folds.{fold}
@@ -39,6 +40,17 @@ pub record IsCall (c : Cluster) (es : List Event) (e : Event) : Type 0 where
 
 abbrev pub EventIsCall : Type 0
 EventIsCall = (c : Cluster) (es : List Event) (e : Event) → IsCall c es e
+
+-- a caller was answered with a message
+pub record IsToldBy (trace : List Call) (message : Message) : Type 0 where
+  pub call : Call
+  pub held : IsIn call trace
+  pub reply : call.reply ≡ asks.IsEmitted (Ok message)
+
+-- the messages of a node are those that its callers were answered with
+abbrev pub MessagesAreReplies : Type 0
+MessagesAreReplies = (c : Cluster) (es : List Event) (i : ℕ) (message : Message) →
+    (IsIn message (world c es).messages × (message.from ≡ i)) ↔ IsToldBy ((world c es).trace i) message
 
 -- the state of a node is that of all the operations that it issued and that were delivered to it
 abbrev pub StateIsFold : Type 0
@@ -89,6 +101,26 @@ pub record IsConserved (c : Cluster) (es : List Event) (name : List ℕ) (key : 
 abbrev pub Escrow : Type 0
 Escrow = (c : Cluster) (es : List Event) → c.nodes ≤ numbers → IsSchedule c es → (name : List ℕ) (key : KeyValue) (term count : ℕ) →
     IsIssued c es name key → count_of key term ≡ Some count → IsConserved c es name key term count
+
+-- what was asked is a pass of a point, and what it was answered is a term, counted or not, of the text of a key that was
+-- issued for that point, under the stamp of that key
+pub record IsExecution (c : Cluster) (es : List Event) (ask : Asked) (stamp : Stamp) (term : ℕ) (task : TaskValue) : Type 0 where
+  pub name : List ℕ
+  pub key : KeyValue
+  pub terms : List TermValue
+  pub executed : TermValue
+  pub asked : ask ≡ asks.Pass name
+  pub issued : IsIssued c es name key
+  pub stamped : stamp_of key ≡ stamp
+  pub spelled : terms_set key.body ≡ Some terms
+  pub there : slice_get terms term ≡ Some executed
+  pub does : executed.task ≡ task
+
+-- so each execution that a caller was told of is one of those that are counted under an issued key
+abbrev pub ToldExecutionsAreIssued : Type 0
+ToldExecutionsAreIssued = (c : Cluster) (es : List Event) → IsSchedule c es → (i : ℕ) (call : Call)
+    (stamp : Stamp) (term : ℕ) (task : TaskValue) → IsIn call ((world c es).trace i) →
+    call.reply ≡ asks.IsPassed (asks.Act stamp term task) → IsExecution c es call.ask stamp term task
 
 -- what a message of the cluster says of a node is not ahead of what that node wrote, it tells the node nothing
 -- of a version that it hasn't, and what it carries, merged, overspends no term

@@ -4,13 +4,15 @@
 //! message that is never delivered is lost, and one that is delivered again is repeated.
 
 ghost use Rattle.replica_state.specs.Laws.{UnionIsLeast};
-ghost use Rattle.cluster_model.specs.Laws.{NodeIsReplay, EventIsCall, StateIsFold, AnyOrderSameState, SameKnownSameState, DeliveryIsLeast, Escrow, StampIsIssuedOnce, StampIsOneKey, HonestMessages, DeltaMaySend, DeltasAreSchedules, TracesAreLegal, PastBegins, PastIsPresent, PastStays, PastIsState, KnownVersionIsBelow, KnownVersionsSameState};
+ghost use Rattle.cluster_model.specs.Laws.{NodeIsReplay, EventIsCall, StateIsFold, AnyOrderSameState, SameKnownSameState, DeliveryIsLeast, Escrow, StampIsIssuedOnce, StampIsOneKey, HonestMessages, MessagesAreReplies, ToldExecutionsAreIssued, DeltaMaySend, DeltasAreSchedules, TracesAreLegal, PastBegins, PastIsPresent, PastStays, PastIsState, KnownVersionIsBelow, KnownVersionsSameState};
 
 /// Each event of a schedule is a call of one node: it is refused, and changes nothing, or it changes
-/// that node by the step that the contracts of `NodeCore` cite, and its trace tells all of it.
+/// that node by the step that the contracts of `NodeCore` cite, and its trace tells all of it. The
+/// messages are those that the callers of emits were answered with.
 pub fn calls()
     ensures node { NodeIsReplay }
     ensures call { EventIsCall }
+    ensures messages { MessagesAreReplies }
 {}
 
 /// Nodes that know the same operations hold the same state, in whatever order, how often and by
@@ -25,11 +27,13 @@ pub fn same()
 
 /// The count of a term is the greatest number of its executions in the whole cluster: of each
 /// term counted n under one stamp, the rights that the nodes hold, the rights in transit between
-/// them and the executions add up to n, and none of these is negative.
+/// them and the executions add up to n, and none of these is negative. Each execution that a caller
+/// was told of is of a term under such a stamp.
 pub fn escrow()
     ensures stamp { StampIsIssuedOnce }
     ensures key { StampIsOneKey }
     ensures count { Escrow }
+    ensures told { ToldExecutionsAreIssued }
 {}
 
 /// No message of the cluster is refused for what it says.
