@@ -9,6 +9,7 @@ pub mod Honest
 pub mod Replays
 pub mod Replies
 pub mod Closed
+pub mod Emissions
 pub mod Differences
 pub mod KnownVersions
 pub mod Examples

@@ -13,13 +13,15 @@ use Rattle.replica_state.specs.StateOrder.{IsBelow}
 use Rattle.replica_state.specs.Knowledge.{KnowsAll}
 use Rattle.node_core.specs.declared.fault.NodeFault.{NodeFault}
 use Rattle.node_core.specs.declared.fault.NodeFault.TheVariants as faults
-use Rattle.node_core.specs.Asks.{Asked, Message, Call}
+use Rattle.node_core.specs.Asks.{Asked, Message, Call, message_read}
 use Rattle.node_core.specs.Asks as asks
 use Rattle.node_core.specs.Nodes.{state_shown}
-use Rattle.node_core.specs.Traces.{Kept, replay, refusal, after_call, IsLegal}
+use Rattle.node_core.specs.Steps.{message_to}
+use Rattle.node_core.specs.Traces.{Kept, replay, refusal, after_call, emission_of, versions_told, IsLegal}
+use Rattle.node_core.specs.Deliveries.{TellsDelta}
 use Rattle.node_core.specs.Refusals.{is_ahead, overspends, refusal_at}
 use Rattle.cluster_model.specs.Worlds.{Cluster, Event, config_of, accepted, world}
-use Rattle.cluster_model.specs.Schedules.{MaySend, IsSchedule, IsDeltaSchedule}
+use Rattle.cluster_model.specs.Schedules.{MaySend, Allows, IsSchedule, AllowsDelta, IsDeltaSchedule}
 use Rattle.cluster_model.specs.Histories.{state_of, all_learnt, keys_issued, IsIssued, held, in_transit, all_held, all_in_transit, all_executions}
 
 -- each node is what its trace comes to
@@ -154,6 +156,26 @@ DeltasAreSchedules = (c : Cluster) (es : List Event) → IsDeltaSchedule c es �
 -- and each node's trace is legal: its calls, one after the other, are accepted and have the replies of the step
 abbrev pub TracesAreLegal : Type 0
 TracesAreLegal = (c : Cluster) (es : List Event) → IsDeltaSchedule c es → (i : ℕ) → IsLegal (config_of c i) ((world c es).trace i)
+
+-- the event of an emit of node i that was answered with these bytes
+abbrev pub emission : Cluster → List Event → ℕ → ℕ → List ℕ → Event
+emission c es i to bytes = record { node = i; ask = emission_of (kept c es i) to bytes; words = [] }
+
+-- bytes that a node made are read as a message from it to the other, with the versions that it tells that one; an emit
+-- of them is what a schedule allows next, and one in which each node sends what differs
+pub record IsEmission (c : Cluster) (es : List Event) (i to : ℕ) (bytes : List ℕ) : Type 0 where
+  pub message : Message
+  pub read : message_read c.nodes bytes ≡ Ok message
+  pub sent : message ≡ message_to i to (versions_told ((world c es).node i).marks to) message.ops
+  pub differs : AllowsDelta (world c es) i (Some (emission_of (kept c es i) to bytes))
+  pub allowed : IsSchedule c es → Allows (world c es) i (Some (emission_of (kept c es i) to bytes))
+  pub schedule : IsSchedule c es → IsSchedule c (emission c es i to bytes ∷ es)
+  pub delta_schedule : IsDeltaSchedule c es → IsDeltaSchedule c (emission c es i to bytes ∷ es)
+
+-- so it is with bytes that tell what differs
+abbrev pub DeltaIsEmission : Type 0
+DeltaIsEmission = (c : Cluster) (es : List Event) (i to : ℕ) (bytes : List ℕ) →
+    TellsDelta (kept c es i) to bytes → IsEmission c es i to bytes
 
 -- at version 0 a node's state is that of nothing
 abbrev pub PastBegins : Type 0

@@ -24,3 +24,4 @@ pub mod Replied
 pub mod SpareWords
 pub mod MemoryLemmas
 pub mod Pasts
+pub mod Differences
