@@ -17,3 +17,4 @@ pub mod ExampleMovedRight
 pub mod ExampleOvertakenKey
 pub mod ExampleThreeNodes
 pub mod ExampleSpendFirst
+pub mod ExampleKnownVersions
