@@ -84,19 +84,28 @@ moved c (e ∷ es) name key term i j =
 abbrev pub is_under : Cluster → List Event → List ℕ → KeyValue → ℕ → Bool
 is_under c es name key i = is_key key ((state_of c es i).key name)
 
--- the rights of a term counted so that node i holds: its rights in its own state, as they stood when it was last
--- under the key; before that, all for the node that set the key and none for others
-abbrev pub held : Cluster → List Event → List ℕ → KeyValue → ℕ → ℕ → ℕ → ℤ
-held c [] name key term count i = pos (if i == key.node then count else 0)
-held c (e ∷ es) name key term count i =
-    if is_under c (e ∷ es) name key i then rights (budget (state_of c (e ∷ es) i) name term key.node count) i
-    else held c es name key term count i
+-- the state of node i as it stood when the node was last under the key, if it ever was
+abbrev pub state_under : Cluster → List Event → List ℕ → KeyValue → ℕ → Option State
+state_under c [] name key i = None
+state_under c (e ∷ es) name key i =
+    if is_under c (e ∷ es) name key i then Some (state_of c (e ∷ es) i) else state_under c es name key i
 
--- what node j has seen of the rights that node i shifted to it, as it stood when j was last under the key
+-- the rights of a term counted so that node i holds: its rights in that state; before that, all for the node that set
+-- the key and none for others
+abbrev pub rights_under : Option State → List ℕ → KeyValue → ℕ → ℕ → ℕ → ℤ
+rights_under None name key term count i = pos (if i == key.node then count else 0)
+rights_under (Some v) name key term count i = rights (budget v name term key.node count) i
+
+abbrev pub held : Cluster → List Event → List ℕ → KeyValue → ℕ → ℕ → ℕ → ℤ
+held c es name key term count i = rights_under (state_under c es name key i) name key term count i
+
+-- what node j has seen of the rights that node i shifted to it: what that state of node j has of them; before that, none
+abbrev pub shifts_under : Option State → List ℕ → ℕ → ℕ → ℕ → ℕ
+shifts_under None name term i j = 0
+shifts_under (Some v) name term i j = v.shifts name term i j
+
 abbrev pub seen : Cluster → List Event → List ℕ → KeyValue → ℕ → ℕ → ℕ → ℕ
-seen c [] name key term i j = 0
-seen c (e ∷ es) name key term i j =
-    if is_under c (e ∷ es) name key j then (state_of c (e ∷ es) j).shifts name term i j else seen c es name key term i j
+seen c es name key term i j = shifts_under (state_under c es name key j) name term i j
 
 -- over all nodes: the rights that are held, those on their way from one node to another, and the executions
 abbrev pub all_held : Cluster → List Event → List ℕ → KeyValue → ℕ → ℕ → ℤ
