@@ -168,7 +168,7 @@ module _ (c : Cluster) (es : List Event) (few : c.nodes ≤ numbers) (s : IsSche
               let counted : count_of setting.0 term ≡ Some count = ap (λ (o : Option (List TermValue)). count_under o term) is.is_terms ∙ q in
               le-ltb count _ (at_most name setting.0 term count is.is_key counted)
 
-  honest_message : IsHonest c es i m
+  pub honest_message : IsHonest c es i m
   honest_message =
       record {
         not_ahead = false_any _ m.ops (not_ahead c es s i m sent_then);
@@ -187,7 +187,7 @@ module _ (c : Cluster) (es : List Event) (few : c.nodes ≤ numbers) (s : IsSche
   first_is_own false false false false false true p q r = true≢false r
   first_is_own false false false false false false p q r = tt
 
-  own_reason : IsOwnReason (refusal_at (config_of c i) (length ((world c es).trace i)) ((world c es).node i) (asks.Deliver (Ok m)) [])
+  pub own_reason : IsOwnReason (refusal_at (config_of c i) (length ((world c es).trace i)) ((world c es).node i) (asks.Deliver (Ok m)) [])
   own_reason =
       let is = honest_message in
       first_is_own (is_full (config_of c i) (length ((world c es).trace i)))
@@ -198,7 +198,3 @@ module _ (c : Cluster) (es : List Event) (few : c.nodes ≤ numbers) (s : IsSche
       for_me : (t : Bool) → (t ≡ true → m.to ≡ i) → not t ≡ false → m.to ≡ i
       for_me true f e = f refl
       for_me false f e = absurd (true≢false e)
-
-pub honest : (c : Cluster) (es : List Event) → c.nodes ≤ numbers → IsSchedule c es → (i : ℕ) (message : Message) → IsIn message (world c es).messages →
-    IsHonest c es i message × IsOwnReason (refusal_at (config_of c i) (length ((world c es).trace i)) ((world c es).node i) (asks.Deliver (Ok message)) [])
-honest c es few s i m h = (honest_message c es few s i m h, own_reason c es few s i m h)

@@ -7,6 +7,7 @@ pub mod Conserved
 pub mod Versions
 pub mod Honest
 pub mod Replays
+pub mod HonestBytes
 pub mod Replies
 pub mod Closed
 pub mod Emissions

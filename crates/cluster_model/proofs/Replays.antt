@@ -20,7 +20,7 @@ use Rattle.node_core.specs.Refusals.{refusal_at}
 use Rattle.cluster_model.specs.Worlds.{Cluster, World, Event, config_of, accepted, node_after, trace_after, sent, world}
 use Rattle.cluster_model.specs.Schedules.{AllowsDelta, IsDeltaSchedule}
 use Rattle.cluster_model.specs.Histories.{state_of}
-use Rattle.cluster_model.specs.Laws.{IsCall, IsDelivered}
+use Rattle.cluster_model.specs.Laws.{IsCall, IsLeastAboveBoth}
 use Rattle.cluster_model.proofs.Steps.{asked_is}
 
 step_replayed : (i : ℕ) (n : Node) (trace : List Call) (a : Option Asked) (words : List ℕ) → n ≡ replay i trace → node_after i n a words ≡ replay i (trace_after i n trace a words)
@@ -166,7 +166,7 @@ after_delivery : (i : ℕ) (n : Node) (m : Message) (words : List ℕ) → (node
 unfolding after
 after_delivery i n m words = refl
 
-pub delivery_is_least : (c : Cluster) (es : List Event) (e : Event) (i : ℕ) (m : Message) → accepted c (world c es) e i ≡ Some (asks.Deliver (Ok m)) → IsDelivered c es e i m
+pub delivery_is_least : (c : Cluster) (es : List Event) (e : Event) (i : ℕ) (m : Message) → accepted c (world c es) e i ≡ Some (asks.Deliver (Ok m)) → IsLeastAboveBoth c es e i m
 delivery_is_least c es e i m h =
     record {
       own = subst (λ (v : State). IsBelow (state_of c es i) v) (sym now) (union_above_right m.ops own);

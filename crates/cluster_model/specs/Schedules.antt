@@ -14,13 +14,17 @@ use Rattle.cluster_model.specs.Worlds.{Cluster, World, Event, accepted, world}
 -- it carries one key with its setting, and each cell once
 pub record MaySend (known chosen : List Operation) : Type 0 where
   pub held : (op : Operation) → IsIn op chosen → IsIn op known
-  pub one_key : (name : List ℕ) (a b : KeyValue) (o p : Operation) → IsIn o chosen → IsIn p chosen → key_in name o ≡ Some a → key_in name p ≡ Some b → a ≡ b
-  pub named : (name : List ℕ) (key : KeyValue) (op : Operation) → IsIn op chosen → key_in name op ≡ Some key → IsIn (Set name key) chosen
-  pub with_hits : (name : List ℕ) (node number : ℕ) → IsIn (Count (Hits name node) number) chosen → (key : KeyValue) × IsIn (Set name key) chosen
-  pub once : (cell : Cell) (a b : ℕ) → IsIn (Count cell a) chosen → IsIn (Count cell b) chosen → a ≡ b
+  pub one_key : (name : List ℕ) (a b : KeyValue) (o p : Operation) → IsIn o chosen → IsIn p chosen →
+      key_in name o ≡ Some a → key_in name p ≡ Some b → a ≡ b
+  pub named : (name : List ℕ) (key : KeyValue) (op : Operation) → IsIn op chosen →
+      key_in name op ≡ Some key → IsIn (Set name key) chosen
+  pub with_hits : (name : List ℕ) (node number : ℕ) → IsIn (Count (Hits name node) number) chosen →
+      (key : KeyValue) × IsIn (Set name key) chosen
+  pub once : (cell : Cell) (a b : ℕ) →
+      IsIn (Count cell a) chosen → IsIn (Count cell b) chosen → a ≡ b
 
--- it tells no version of its own that it hasn't, and none of the receiver's that it hasn't heard of, and counts on no
--- version of its own that the receiver isn't known to have
+-- it tells no version of its own that it hasn't, and none of the receiver's that it hasn't heard of, and
+-- counts on no version of its own that the receiver isn't known to have
 pub record MayTell (marks : Marks) (to : ℕ) (versions : Versions) : Type 0 where
   pub base : versions.base ≤ marks.acked to
   pub upto : versions.upto ≤ marks.version
@@ -37,12 +41,13 @@ abbrev pub IsSchedule : Cluster → List Event → Type 0
 IsSchedule c [] = Unit {0}
 IsSchedule c (e ∷ es) = Allows (world c es) e.node (accepted c (world c es) e e.node) × IsSchedule c es
 
--- the same, where each node sends what differs between its state at the version that the receiver is known to have and
--- its state now, and tells just these versions
+-- the same, where each node sends what differs between its state at the version that the receiver is
+-- known to have and its state now, and tells just these versions
 abbrev pub AllowsDelta : World → ℕ → Option Asked → Type 0
 AllowsDelta w i (Some (asks.Emit to versions chosen)) = SendsDelta (w.node i) (asks.Emit to versions chosen)
 AllowsDelta w i a = Allows w i a
 
 abbrev pub IsDeltaSchedule : Cluster → List Event → Type 0
 IsDeltaSchedule c [] = Unit {0}
-IsDeltaSchedule c (e ∷ es) = AllowsDelta (world c es) e.node (accepted c (world c es) e e.node) × IsDeltaSchedule c es
+IsDeltaSchedule c (e ∷ es) =
+    AllowsDelta (world c es) e.node (accepted c (world c es) e e.node) × IsDeltaSchedule c es

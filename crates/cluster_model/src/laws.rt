@@ -4,7 +4,7 @@
 //! message that is never delivered is lost, and one that is delivered again is repeated.
 
 ghost use Rattle.replica_state.specs.Laws.{UnionIsLeast};
-ghost use Rattle.cluster_model.specs.Laws.{NodeIsReplay, EventIsCall, StateIsFold, AnyOrderSameState, SameKnownSameState, DeliveryIsLeast, Escrow, StampIsIssuedOnce, StampIsOneKey, HonestMessages, MessagesAreReplies, ToldExecutionsAreIssued, DeltaMaySend, DeltasAreSchedules, TracesAreLegal, DeltaIsEmission, PastBegins, PastIsPresent, PastStays, PastIsState, KnownVersionIsBelow, KnownVersionsSameState};
+ghost use Rattle.cluster_model.specs.Laws.{NodeIsReplay, EventIsCall, StateIsFold, AnyOrderSameState, MutualKnowledgeSameState, DeliveryIsLeast, Escrow, StampIsIssuedOnce, StampIsOneKey, HonestMessages, HonestBytes, MessagesAreReplies, ToldExecutionsAreIssued, DeltaMaySend, DeltasAreSchedules, TracesAreLegal, DeltaIsEmission, PastBegins, PastIsPresent, PastStays, PastIsState, KnownVersionIsBelow, KnownVersionsSameState};
 
 /// Each event of a schedule is a call of one node: it is refused, and changes nothing, or it changes
 /// that node by the step that the contracts of `NodeCore` cite, and its trace tells all of it. The
@@ -20,7 +20,7 @@ pub fn calls()
 pub fn same()
     ensures state { StateIsFold }
     ensures order { AnyOrderSameState }
-    ensures known { SameKnownSameState }
+    ensures known { MutualKnowledgeSameState }
     ensures least { UnionIsLeast }
     ensures delivery { DeliveryIsLeast }
 {}
@@ -36,9 +36,10 @@ pub fn escrow()
     ensures told { ToldExecutionsAreIssued }
 {}
 
-/// No message of the cluster is refused for what it says.
+/// No message of the cluster is refused for what it says, and so none of the bytes that spell one.
 pub fn honest()
-    ensures { HonestMessages }
+    ensures messages { HonestMessages }
+    ensures bytes { HonestBytes }
 {}
 
 /// A node that sends what differs between its state at the version that the receiver is known to
