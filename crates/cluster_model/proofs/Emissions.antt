@@ -8,7 +8,7 @@ use Rattle.node_core.specs.Nodes.{Node, Marks}
 use Rattle.node_core.specs.Steps.{message_to}
 use Rattle.node_core.specs.Traces.{emission_of, versions_told, SendsDelta}
 use Rattle.node_core.specs.Deliveries.{TellsDelta}
-use Rattle.node_core.proofs.Differences.{delta_read, delta_message, delta_sends}
+use Rattle.node_core.proofs.RepliedDelta.{delta_read, delta_message, delta_sends}
 use Rattle.cluster_model.specs.Worlds.{Cluster, World, Event, accepted, world}
 use Rattle.cluster_model.specs.Schedules.{MayTell, Allows, AllowsDelta, IsSchedule, IsDeltaSchedule}
 use Rattle.cluster_model.specs.Laws.{kept, emission, IsEmission}

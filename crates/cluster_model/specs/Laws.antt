@@ -202,6 +202,10 @@ abbrev pub DeltaIsEmission : Type 0
 DeltaIsEmission = (c : Cluster) (es : List Event) (i to : ℕ) (bytes : List ℕ) →
     TellsDelta (kept c es i) to bytes → IsEmission c es i to bytes
 
+-- and what a node tells another so is one string of bytes
+abbrev pub DeltaIsOne : Type 0
+DeltaIsOne = (k : Kept) (to : ℕ) (a b : List ℕ) → TellsDelta k to a → TellsDelta k to b → a ≡ b
+
 -- at version 0 a node's state is that of nothing
 abbrev pub PastBegins : Type 0
 PastBegins = (i : ℕ) (trace : List Call) → (replay i trace).past 0 ≡ fold []

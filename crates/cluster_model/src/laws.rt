@@ -4,7 +4,7 @@
 //! message that is never delivered is lost, and one that is delivered again is repeated.
 
 ghost use Rattle.replica_state.specs.Laws.{UnionIsLeast};
-ghost use Rattle.cluster_model.specs.Laws.{NodeIsReplay, EventIsCall, StateIsFold, AnyOrderSameState, MutualKnowledgeSameState, DeliveryIsLeast, Escrow, StampIsIssuedOnce, StampIsOneKey, HonestMessages, HonestBytes, MessagesAreReplies, ToldExecutionsAreIssued, DeltaMaySend, DeltasAreSchedules, TracesAreLegal, DeltaIsEmission, PastBegins, PastIsPresent, PastStays, PastIsState, KnownVersionIsBelow, KnownVersionsSameState};
+ghost use Rattle.cluster_model.specs.Laws.{NodeIsReplay, EventIsCall, StateIsFold, AnyOrderSameState, MutualKnowledgeSameState, DeliveryIsLeast, Escrow, StampIsIssuedOnce, StampIsOneKey, HonestMessages, HonestBytes, MessagesAreReplies, ToldExecutionsAreIssued, DeltaMaySend, DeltasAreSchedules, TracesAreLegal, DeltaIsEmission, DeltaIsOne, PastBegins, PastIsPresent, PastStays, PastIsState, KnownVersionIsBelow, KnownVersionsSameState};
 
 /// Each event of a schedule is a call of one node: it is refused, and changes nothing, or it changes
 /// that node by the step that the contracts of `NodeCore` cite, and its trace tells all of it. The
@@ -52,9 +52,11 @@ pub fn deltas()
 {}
 
 /// Bytes that tell what differs between the state at the version that the receiver is known to have
-/// and the state now are those of an emit that a schedule allows next.
+/// and the state now are those of an emit that a schedule allows next, and there are no two such
+/// strings of bytes.
 pub fn emitted()
-    ensures { DeltaIsEmission }
+    ensures allowed { DeltaIsEmission }
+    ensures one { DeltaIsOne }
 {}
 
 /// What a node has been: at version 0 it knew nothing, at its present version it knows what it

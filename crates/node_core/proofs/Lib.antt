@@ -24,4 +24,5 @@ pub mod Replied
 pub mod SpareWords
 pub mod MemoryLemmas
 pub mod Pasts
-pub mod Differences
+pub mod RepliedDelta
+pub mod OneMessage
