@@ -11,6 +11,7 @@ pub mod HonestBytes
 pub mod Replies
 pub mod Closed
 pub mod Emissions
+pub mod LegalEmits
 pub mod Differences
 pub mod KnownVersions
 pub mod Examples

@@ -114,7 +114,7 @@ event_is_call c es e =
 
 -- ---- legal traces
 
-legal_more : (config : Config) (entries : ℕ) (n : Node) (trace : List Call) (ask : Asked) (words : List ℕ) → IsLegalFrom config entries n trace →
+pub legal_more : (config : Config) (entries : ℕ) (n : Node) (trace : List Call) (ask : Asked) (words : List ℕ) → IsLegalFrom config entries n trace →
     refusal_at config (entries + length trace) (replay_from config.node n trace) ask words ≡ None → SendsDelta (replay_from config.node n trace) ask →
     IsLegalFrom config entries n (trace ++ record { ask = ask; words = words; reply = reply config.node (replay_from config.node n trace) ask words } ∷ [])
 unfolding IsLegalFrom replay_from

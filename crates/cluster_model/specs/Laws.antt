@@ -13,7 +13,7 @@ use Rattle.replica_state.specs.StateOrder.{IsBelow}
 use Rattle.replica_state.specs.Knowledge.{KnowsAll}
 use Rattle.node_core.specs.declared.fault.NodeFault.{NodeFault}
 use Rattle.node_core.specs.declared.fault.NodeFault.TheVariants as faults
-use Rattle.node_core.specs.Asks.{Asked, Message, Call, message_read}
+use Rattle.node_core.specs.Asks.{Asked, Message, Call, message_read, bare_emit}
 use Rattle.node_core.specs.Asks as asks
 use Rattle.node_core.specs.Nodes.{state_shown}
 use Rattle.node_core.specs.Steps.{message_to}
@@ -205,6 +205,17 @@ DeltaIsEmission = (c : Cluster) (es : List Event) (i to : ℕ) (bytes : List ℕ
 -- and what a node tells another so is one string of bytes
 abbrev pub DeltaIsOne : Type 0
 DeltaIsOne = (k : Kept) (to : ℕ) (a b : List ℕ) → TellsDelta k to a → TellsDelta k to b → a ≡ b
+
+-- the call of an emit that was answered with these bytes
+abbrev pub emit_call : Kept → ℕ → List ℕ → Call
+emit_call k to bytes =
+    record { ask = emission_of k to bytes; words = []; reply = asks.IsEmitted (message_read k.config.nodes bytes) }
+
+-- at the end of a trace it is legal exactly where the trace is, the emit isn't refused, and the bytes tell
+-- what differs
+abbrev pub IsLegalEmit : Kept → ℕ → List ℕ → Type 0
+IsLegalEmit k to bytes = IsLegal k.config (k.trace ++ emit_call k to bytes ∷ [])
+    ↔ (IsLegal k.config k.trace × (refusal k (bare_emit to) [] ≡ None) × TellsDelta k to bytes)
 
 -- at version 0 a node's state is that of nothing
 abbrev pub PastBegins : Type 0

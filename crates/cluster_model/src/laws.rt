@@ -3,8 +3,10 @@
 //! A schedule is a list of asks, each to one node, in which what is delivered was sent before. A
 //! message that is never delivered is lost, and one that is delivered again is repeated.
 
+ghost use Rattle.std.specs.Prelude.{◌≡◌, ℕ};
 ghost use Rattle.replica_state.specs.Laws.{UnionIsLeast};
-ghost use Rattle.cluster_model.specs.Laws.{NodeIsReplay, EventIsCall, StateIsFold, AnyOrderSameState, MutualKnowledgeSameState, DeliveryIsLeast, Escrow, StampIsIssuedOnce, StampIsOneKey, HonestMessages, HonestBytes, MessagesAreReplies, ToldExecutionsAreIssued, DeltaMaySend, DeltasAreSchedules, TracesAreLegal, DeltaIsEmission, DeltaIsOne, PastBegins, PastIsPresent, PastStays, PastIsState, KnownVersionIsBelow, KnownVersionsSameState};
+ghost use Rattle.node_core.specs.Traces.{Kept};
+ghost use Rattle.cluster_model.specs.Laws.{NodeIsReplay, EventIsCall, StateIsFold, AnyOrderSameState, MutualKnowledgeSameState, DeliveryIsLeast, Escrow, StampIsIssuedOnce, StampIsOneKey, HonestMessages, HonestBytes, MessagesAreReplies, ToldExecutionsAreIssued, DeltaMaySend, DeltasAreSchedules, TracesAreLegal, DeltaIsEmission, DeltaIsOne, IsLegalEmit, PastBegins, PastIsPresent, PastStays, PastIsState, KnownVersionIsBelow, KnownVersionsSameState};
 
 /// Each event of a schedule is a call of one node: it is refused, and changes nothing, or it changes
 /// that node by the step that the contracts of `NodeCore` cite, and its trace tells all of it. The
@@ -57,6 +59,13 @@ pub fn deltas()
 pub fn emitted()
     ensures allowed { DeltaIsEmission }
     ensures one { DeltaIsOne }
+{}
+
+/// A legal trace tells which bytes an emit was answered with: with an emit of bytes at its end a
+/// trace is legal exactly where it was before, the emit isn't refused, and the bytes tell what
+/// differs.
+pub fn legal_emits(nodes: u8, bytes: &[u8])
+    ensures { (k : Kept) (to : ℕ) → k.config.nodes ≡ nodes → IsLegalEmit k to bytes.now }
 {}
 
 /// What a node has been: at version 0 it knew nothing, at its present version it knows what it
