@@ -23,3 +23,4 @@ pub mod InStep
 pub mod Replied
 pub mod SpareWords
 pub mod MemoryLemmas
+pub mod OneSpelling
