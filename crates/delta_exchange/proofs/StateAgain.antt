@@ -8,10 +8,9 @@ use Rattle.replica_state.specs.Knowledge.{HoldsLater, HoldsKey, KnowsAll}
 use Rattle.replica_state.specs.Deltas.{IsDelta}
 use Rattle.replica_state.proofs.KnownSets.{own_name, same_fold}
 use Rattle.replica_state.proofs.Orders.{same_key-true, same_key-refl, key_le-refl}
-use Rattle.replica_state.proofs.Sets.{number_at-is_in, KeyUpto, key_of-is_in, key_of-found}
+use Rattle.replica_state.proofs.Sets.{number_at-is_in, number_held, KeyUpto, key_of-is_in, key_of-found}
 use Rattle.delta_exchange.specs.Messages.{MessageValue, operations_in}
 use Rattle.delta_exchange.specs.Wholes.{AreLawful, IsWhole}
-use Rattle.delta_exchange.proofs.LawfulStates.{number_held}
 use Rattle.delta_exchange.proofs.WholeLemmas.{unset}
 
 -- a number that a set has is known by it
