@@ -6,3 +6,4 @@ pub mod Reading
 pub mod Wholes
 pub mod Told
 pub mod Cells
+pub mod Changes
