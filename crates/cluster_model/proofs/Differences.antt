@@ -124,7 +124,7 @@ module _ (v : State) (made ops others : List Operation) (delta : IsDelta v (fold
       at : (k : Option KeyValue) → key_of name made ≡ k → (v.key name ≡ key_of name made) ⊎ (v.key name ≡ key_of name made → ⊥) → KeyUpto k (key_of name all)
       at None e d = tt
       at (Some key) e (inl s) = subst (λ k. KeyUpto k (key_of name all)) (s ∙ e) base.key
-      at (Some key) e (inr d) = subst (λ k. KeyUpto k (key_of name all)) (own_name name key) (key_of-is_in name (Set name key) all (comes (Set name key) (e, λ same. d same.key)))
+      at (Some key) e (inr d) = subst (λ k. KeyUpto k (key_of name all)) (own_name name key) (key_of-is_in name (Set name key) all (comes (Set name key) (e, λ same. d ((same (Set name key) refl).1 e ∙ sym e))))
 
   cell_upto : (cell : KeyValue → ℕ) (before least : ℕ) → key_of name made ≡ key_of name all → (v.key name ≡ key_of name all → before ≤ least) →
       ((key : KeyValue) → key_of name made ≡ Some key → at_key (key_of name made) cell ≢ 0 → (v.key name ≡ key_of name made → before ≢ at_key (key_of name made) cell) → at_key (key_of name made) cell ≤ least) →
@@ -148,13 +148,13 @@ module _ (v : State) (made ops others : List Operation) (delta : IsDelta v (fold
   delta_upto base =
       record {
         key = key_upto base;
-        hits = λ node. reached (v.hits name node) (number_at (Hits name node) made) _ (base.hits node) (λ ne d. number_at-is_in (Hits name node) _ all (comes (Count (Hits name node) _) (refl, ne, d)));
+        hits = λ node. reached (v.hits name node) (number_at (Hits name node) made) _ (base.hits node) (λ ne d. number_at-is_in (Hits name node) _ all (comes (Count (Hits name node) (number_at (Hits name node) made)) ((refl, ne), λ told. d told.0)));
         execs = λ e term node. cell_upto (λ key. number_at (Execs name key term node) made) (v.execs name term node) ((fold all).execs name term node) e (λ s. base.execs s term node) (λ key k ne d.
             subst (λ m. (fold made).execs name term node ≤ m) (sym (ap (λ o. at_key o (λ l. number_at (Execs name l term node) all)) (sym e ∙ k)))
-            (number_at-is_in (Execs name key term node) _ all (comes (Count (Execs name key term node) _) (record { of_key = k; is_now = refl; positive = ne; differs = d }))));
+            (number_at-is_in (Execs name key term node) _ all (comes (Count (Execs name key term node) ((fold made).execs name term node)) (((k, refl), ne), λ told. d (told.0.0 ∙ sym k) told.0.1))));
         shifts = λ e term from to. cell_upto (λ key. number_at (Shifts name key term from to) made) (v.shifts name term from to) ((fold all).shifts name term from to) e (λ s. base.shifts s term from to) (λ key k ne d.
             subst (λ m. (fold made).shifts name term from to ≤ m) (sym (ap (λ o. at_key o (λ l. number_at (Shifts name l term from to) all)) (sym e ∙ k)))
-            (number_at-is_in (Shifts name key term from to) _ all (comes (Count (Shifts name key term from to) _) (record { of_key = k; is_now = refl; positive = ne; differs = d }))));
+            (number_at-is_in (Shifts name key term from to) _ all (comes (Count (Shifts name key term from to) ((fold made).shifts name term from to)) (((k, refl), ne), λ told. d (told.0.0 ∙ sym k) told.0.1))));
       }
 
 -- what is above the base is above the rest too, once it has the difference

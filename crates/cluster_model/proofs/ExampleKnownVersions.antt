@@ -1,6 +1,6 @@
 -- Two nodes that hear of each other's versions: what the other is known to have isn't sent again. And which versions a
 -- node knows of another where messages were lost.
-use Rattle.std.proofs.Common.{◌≡◌, ℕ, ◌<◌, Bool, true, false, cond, List, [], ◌∷◌, ◌++◌, Option, Some, None, Ok, inl, inr, refl, sym, ◌∙◌, ap, subst, arith}
+use Rattle.std.proofs.Common.{◌≡◌, ℕ, ◌<◌, Bool, true, false, cond, List, [], ◌∷◌, ◌++◌, Some, None, Ok, inl, inr, refl, sym, ◌∙◌, ap, subst, arith}
 use Rattle.std.specs.Prelude.{reverse, codes}
 use Rattle.std.specs.Fmt.{digits}
 use Rattle.std.specs.Str.{bytes_eq}
@@ -12,7 +12,7 @@ use Rattle.stamp_register.specs.Keys.{KeyValue, terms_in_text}
 use Rattle.replica_state.specs.Operations.{Hits, Execs, Shifts, Operation, Set, Count, IsIn, same_cell}
 use Rattle.replica_state.specs.States.{State, with_key}
 use Rattle.replica_state.specs.Folds.{fold, clock_of}
-use Rattle.replica_state.specs.Deltas.{IsSameAt, IsInDelta, IsDelta}
+use Rattle.replica_state.specs.Deltas.{TellSameOf, IsInDelta, IsDelta}
 use Rattle.replica_state.proofs.FoldSteps.{fold_key}
 use Rattle.replica_state.proofs.Orders.{bytes_eq-refl, bytes_eq-true}
 use Rattle.node_core.specs.Asks.{Message, Versions}
@@ -62,6 +62,23 @@ module _ (name : List ℕ) (key : KeyValue) (v : State) (new : v.key name ≡ So
   unfolding with_key
   own_shifts n term from to e = ap (λ t. cond t 0 (v.shifts n term from to)) e
 
+  -- what is told of another name is told after it too, and was before
+  others_same : (n : List ℕ) → bytes_eq name n ≡ false → TellSameOf v w n
+  others_same n e (Set m k) h =
+      let here = ap (bytes_eq name) h ∙ e in
+      (λ told. sym (other_key m here) ∙ told, λ told. other_key m here ∙ told)
+  others_same n e (Count (Hits m node) number) h = (λ told. (sym (same_hits m node) ∙ told.0, told.1), λ told. (same_hits m node ∙ told.0, told.1))
+  others_same n e (Count (Execs m k term node) number) h =
+      let here = ap (bytes_eq name) h ∙ e in (
+        λ told. ((sym (other_key m here) ∙ told.0.0, sym (other_execs m term node here) ∙ told.0.1), told.1),
+        λ told. ((other_key m here ∙ told.0.0, other_execs m term node here ∙ told.0.1), told.1),
+      )
+  others_same n e (Count (Shifts m k term from to) number) h =
+      let here = ap (bytes_eq name) h ∙ e in (
+        λ told. ((sym (other_key m here) ∙ told.0.0, sym (other_shifts m term from to here) ∙ told.0.1), told.1),
+        λ told. ((other_key m here ∙ told.0.0, other_shifts m term from to here ∙ told.0.1), told.1),
+      )
+
   only_setting : (op : Operation) → IsInDelta v w op → op ≡ Set name key
   only_setting (Set n k) d = at (bytes_eq name n) refl
     where
@@ -71,26 +88,21 @@ module _ (name : List ℕ) (key : KeyValue) (v : State) (new : v.key name ≡ So
           let both : Some key ≡ Some k = sym (own_key n e) ∙ d.0 in
           let keys : key ≡ k = cc in
           λ i. Set (sym names i) (sym keys i)
-      at false e = absurd (d.1 (record {
-        key = other_key n e;
-        hits = same_hits n;
-        execs = λ term node. other_execs n term node e;
-        shifts = λ term from to. other_shifts n term from to e;
-      }))
-  only_setting (Count (Hits n node) number) d = absurd (d.2 (same_hits n node))
+      at false e = absurd (d.1 (others_same n e))
+  only_setting (Count (Hits n node) number) d = absurd (d.1 (same_hits n node ∙ d.0.0, d.0.1))
   only_setting (Count (Execs n k term node) number) d = at (bytes_eq name n) refl
     where
       at : (t : Bool) → bytes_eq name n ≡ t → Count (Execs n k term node) number ≡ Set name key
-      at true e = absurd (d.positive (d.is_now ∙ own_execs n term node e))
-      at false e = absurd (d.differs (other_key n e) (other_execs n term node e))
+      at true e = absurd (d.0.1 (sym d.0.0.1 ∙ own_execs n term node e))
+      at false e = absurd (d.1 ((others_same n e (Count (Execs n k term node) number) refl).1 d.0))
   only_setting (Count (Shifts n k term from to) number) d = at (bytes_eq name n) refl
     where
       at : (t : Bool) → bytes_eq name n ≡ t → Count (Shifts n k term from to) number ≡ Set name key
-      at true e = absurd (d.positive (d.is_now ∙ own_shifts n term from to e))
-      at false e = absurd (d.differs (other_key n e) (other_shifts n term from to e))
+      at true e = absurd (d.0.1 (sym d.0.0.1 ∙ own_shifts n term from to e))
+      at false e = absurd (d.1 ((others_same n e (Count (Shifts n k term from to) number) refl).1 d.0))
 
   the_setting : IsInDelta v w (Set name key)
-  the_setting = (own_key name (bytes_eq-refl name), λ same. new (same.key ∙ own_key name (bytes_eq-refl name)))
+  the_setting = (own_key name (bytes_eq-refl name), λ same. new ((same (Set name key) refl).1 (own_key name (bytes_eq-refl name))))
 
   setting_differs : IsDelta v w (Set name key ∷ [])
   setting_differs op = (told, λ d. inl (only_setting op d))

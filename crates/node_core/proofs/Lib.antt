@@ -26,3 +26,4 @@ pub mod MemoryLemmas
 pub mod Pasts
 pub mod RepliedDelta
 pub mod OneMessage
+pub mod OneSpelling
