@@ -235,6 +235,6 @@ deltas_are_schedules c (e ∷ es) s =
     allowed : IsSchedule c es → (a : Option Asked) → AllowsDelta (world c es) e.node a → Allows (world c es) e.node a
     allowed before None h = tt
     allowed before (Some (asks.Emit to versions chosen)) h =
-        (subst (MayTell ((world c es).node e.node).marks to) (sym h.0) (told_may ((world c es).node e.node).marks to), delta_may_send c es before e.node _ chosen h.1)
+        (subst (MayTell ((world c es).node e.node).marks to) (sym h.0) (told_may ((world c es).node e.node).marks to), delta_may_send c es before e.node (((world c es).node e.node).past versions.base) chosen h.1)
     allowed before (Some (asks.Deliver read)) h = h
     allowed before (Some ask) h = h

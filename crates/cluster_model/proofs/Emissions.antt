@@ -1,16 +1,16 @@
 -- Bytes that tell what differs are those of an emit that a schedule allows next.
-use Rattle.std.proofs.Common.{◌≡◌, ℕ, List, [], ◌∷◌, refl, sym, ◌∙◌, ap, subst, Option, Some, None, Result, Ok, Err}
+use Rattle.std.proofs.Common.{◌≡◌, ℕ, List, [], refl, sym, ◌∙◌, ap, subst, Option, Some, None, Result, Ok, Err}
 use Rattle.replica_state.specs.Operations.{Operation}
 use Rattle.delta_exchange.specs.declared.fault.WireFault.{WireFault}
 use Rattle.node_core.specs.Asks.{Asked, Message, Versions, message_of, message_read, emit_of}
 use Rattle.node_core.specs.Asks as asks
-use Rattle.node_core.specs.Nodes.{Node, Marks}
+use Rattle.node_core.specs.Nodes.{Node}
 use Rattle.node_core.specs.Steps.{message_to}
 use Rattle.node_core.specs.Traces.{emission_of, versions_told, SendsDelta}
 use Rattle.node_core.specs.Deliveries.{TellsDelta}
 use Rattle.node_core.proofs.RepliedDelta.{delta_read, delta_message, delta_sends}
-use Rattle.cluster_model.specs.Worlds.{Cluster, World, Event, accepted, world}
-use Rattle.cluster_model.specs.Schedules.{MayTell, Allows, AllowsDelta, IsSchedule, IsDeltaSchedule}
+use Rattle.cluster_model.specs.Worlds.{Cluster, Event, accepted, world}
+use Rattle.cluster_model.specs.Schedules.{MayTell, Allows, AllowsDelta, IsSchedule}
 use Rattle.cluster_model.specs.Laws.{kept, emission, IsEmission}
 use Rattle.cluster_model.proofs.Steps.{asked_is}
 use Rattle.cluster_model.proofs.Replays.{node_is_replay}
@@ -43,7 +43,7 @@ module _ (c : Cluster) (es : List Event) (i to : ℕ) (bytes : List ℕ) (told :
     where
       may : (versions : Versions) (chosen : List Operation) → SendsDelta ((world c es).node i) (asks.Emit to versions chosen) → Allows (world c es) i (Some (asks.Emit to versions chosen))
       may versions chosen h =
-          (subst (MayTell ((world c es).node i).marks to) (sym h.0) (told_may ((world c es).node i).marks to), delta_may_send c es s i _ chosen h.1)
+          (subst (MayTell ((world c es).node i).marks to) (sym h.0) (told_may ((world c es).node i).marks to), delta_may_send c es s i (((world c es).node i).past versions.base) chosen h.1)
 
       of : (read : Result Message WireFault) → SendsDelta ((world c es).node i) (emit_of to read) → Allows (world c es) i (Some (emit_of to read))
       of (Ok m) h = may _ m.ops h

@@ -1,6 +1,6 @@
 -- Two nodes that hear of each other's versions: what the other is known to have isn't sent again. And which versions a
 -- node knows of another where messages were lost.
-use Rattle.std.proofs.Common.{◌≡◌, ℕ, ◌<◌, Bool, true, false, cond, List, [], ◌∷◌, ◌++◌, Option, Some, None, Ok, inl, inr, refl, sym, ◌∙◌, ap, subst, arith}
+use Rattle.std.proofs.Common.{◌≡◌, ℕ, ◌<◌, Bool, true, false, cond, List, [], ◌∷◌, ◌++◌, Some, None, Ok, inl, inr, refl, sym, ◌∙◌, ap, subst, arith}
 use Rattle.std.specs.Prelude.{reverse, codes}
 use Rattle.std.specs.Fmt.{digits}
 use Rattle.std.specs.Str.{bytes_eq}
@@ -12,7 +12,7 @@ use Rattle.stamp_register.specs.Keys.{KeyValue, terms_in_text}
 use Rattle.replica_state.specs.Operations.{Hits, Execs, Shifts, Operation, Set, Count, IsIn, same_cell}
 use Rattle.replica_state.specs.States.{State, with_key}
 use Rattle.replica_state.specs.Folds.{fold, clock_of}
-use Rattle.replica_state.specs.Deltas.{IsSameAt, IsInDelta, IsDelta}
+use Rattle.replica_state.specs.Deltas.{IsInDelta, IsDelta}
 use Rattle.replica_state.proofs.FoldSteps.{fold_key}
 use Rattle.replica_state.proofs.Orders.{bytes_eq-refl, bytes_eq-true}
 use Rattle.node_core.specs.Asks.{Message, Versions}

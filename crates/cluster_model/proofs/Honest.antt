@@ -1,6 +1,6 @@
 -- No message of the cluster is refused for what it says.
-use Rattle.std.proofs.Common.{◌≡◌, ℕ, ◌≤◌, ◌==◌, ◌&&◌, ◌||◌, zero, suc, Bool, true, false, cond, not, List, [], ◌∷◌, ◌++◌, length, inl, inr, refl, sym, ◌∙◌, ap, subst, arith, nat_lt, ⊎_elim, Option, Some, None, Ok}
-use Rattle.std.proofs.lemmas.Bool.{true≢false, eqb-true, eq-eqb, and_parts, le-ltb}
+use Rattle.std.proofs.Common.{◌≡◌, ℕ, ◌≤◌, ◌==◌, ◌&&◌, ◌||◌, zero, suc, Bool, true, false, cond, not, List, [], ◌∷◌, ◌++◌, length, refl, sym, ◌∙◌, ap, subst, arith, nat_lt, ⊎_elim, Option, Some, None, Ok}
+use Rattle.std.proofs.lemmas.Bool.{true≢false, eqb-true, eq-eqb, le-ltb}
 use Rattle.std.specs.Prelude.{is_none}
 use Rattle.std.specs.List.{list_any}
 use Rattle.actions.specs.Value.{TermValue}
@@ -19,14 +19,13 @@ use Rattle.replica_state.proofs.Changes.{false_any}
 use Rattle.node_core.specs.declared.fault.NodeFault.TheVariants as faults
 use Rattle.node_core.specs.Asks.{Asked, Message}
 use Rattle.node_core.specs.Asks as asks
-use Rattle.node_core.specs.Nodes.{Node, setting_of, terms_in}
-use Rattle.node_core.specs.Steps.{after, message_in}
+use Rattle.node_core.specs.Nodes.{setting_of, terms_in}
 use Rattle.refusals.specs.Refusals.{first_fault}
 use Rattle.std.specs.Bool.{then_some}
 use Rattle.node_core.specs.Refusals.{is_full, is_cell_ahead, is_ahead, is_above, any_below, is_overspent, overspends, too_many, faults_of_message, refusal_at}
 use Rattle.node_core.proofs.Rights.{setting_parts}
-use Rattle.cluster_model.specs.Worlds.{Cluster, World, Event, config_of, accepted, node_after, sent, happens, world}
-use Rattle.cluster_model.specs.Schedules.{Allows, IsSchedule}
+use Rattle.cluster_model.specs.Worlds.{Cluster, Event, config_of, accepted, world}
+use Rattle.cluster_model.specs.Schedules.{IsSchedule}
 use Rattle.cluster_model.specs.Histories.{state_of, executions, IsIssued}
 use Rattle.cluster_model.specs.Laws.{IsHonest, IsOwnReason}
 use Rattle.cluster_model.proofs.Steps.{asked_is, writer, known}

@@ -1,5 +1,5 @@
 -- A node that knows a version of another is above the state that the other had at that version.
-use Rattle.std.proofs.Common.{◌≡◌, ℕ, ◌≤◌, ◌==◌, max, nat_le, nat_lt, Bool, true, false, cond, List, [], ◌∷◌, ◌++◌, length, inl, inr, refl, sym, ◌∙◌, ap, subst, arith, ⊎_elim, Option, Some, None, Result, Ok, Err}
+use Rattle.std.proofs.Common.{◌≡◌, ℕ, ◌≤◌, ◌==◌, max, nat_le, Bool, true, false, cond, List, [], ◌∷◌, ◌++◌, length, inl, inr, refl, sym, ◌∙◌, ap, subst, arith, ⊎_elim, Option, Some, None, Result}
 use Rattle.std.proofs.lemmas.Bool.{eqb-true, and_parts, leb-true, ltb-false}
 use Rattle.replica_state.specs.Operations.{Operation, IsIn}
 use Rattle.replica_state.specs.States.{State}
@@ -16,7 +16,7 @@ use Rattle.node_core.specs.Asks as asks
 use Rattle.node_core.specs.Nodes.{Node}
 use Rattle.node_core.specs.Steps.{after, operations_added, message_in, message_to}
 use Rattle.node_core.specs.Refusals.{faults_of, refusal_at}
-use Rattle.node_core.specs.Traces.{SendsDelta, versions_told}
+use Rattle.node_core.specs.Traces.{SendsDelta}
 use Rattle.node_core.proofs.Pasts.{HasHistory, has_history, history_after, past_after}
 use Rattle.cluster_model.specs.Worlds.{Cluster, World, Event, config_of, accepted, node_after, sent, happens, world}
 use Rattle.cluster_model.specs.Schedules.{Allows, AllowsDelta, IsDeltaSchedule}

@@ -1,6 +1,6 @@
 -- What callers were told: the messages of a schedule are the replies of its emits, and each execution that a reply
 -- tells of is of a term of an issued key.
-use Rattle.std.proofs.Common.{◌≡◌, ℕ, Bool, true, false, List, [], ◌∷◌, ◌++◌, ◌⊎◌, inl, inr, ◌↔◌, refl, sym, ◌∙◌, ap, subst, ⊎_elim, Option, Some, None, Ok}
+use Rattle.std.proofs.Common.{◌≡◌, ℕ, Bool, true, List, [], ◌∷◌, ◌⊎◌, inl, inr, ◌↔◌, refl, sym, ◌∙◌, ap, subst, ⊎_elim, Option, Some, None, Ok}
 use Rattle.std.proofs.lemmas.Bool.{true≢false}
 use Rattle.std.specs.Prelude.{slice_get}
 use Rattle.actions.specs.Value.{TermValue, TaskValue}
@@ -19,7 +19,6 @@ use Rattle.node_core.specs.Steps.{reply, message_to}
 use Rattle.node_core.proofs.Rights.{setting_parts}
 use Rattle.cluster_model.specs.Worlds.{Cluster, World, Event, accepted, trace_after, sent, world}
 use Rattle.cluster_model.specs.Schedules.{IsSchedule}
-use Rattle.cluster_model.specs.Histories.{state_of, IsIssued}
 use Rattle.cluster_model.specs.Laws.{IsToldBy, IsExecution}
 use Rattle.cluster_model.proofs.Steps.{asked_is}
 use Rattle.cluster_model.proofs.Stamps.{carried, under_issued}

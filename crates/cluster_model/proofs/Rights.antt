@@ -5,7 +5,7 @@ use Rattle.std.proofs.lemmas.Int.{ints}
 use Rattle.std.specs.Prelude.{pos, ◌-ℤ◌}
 use Rattle.std.specs.Str.{bytes_eq}
 use Rattle.counters.specs.Sums.{numbers, sum_others}
-use Rattle.counters.specs.Budgets.{Budget, given_to, gone_from, rights}
+use Rattle.counters.specs.Budgets.{Budget, given_to, gone_from}
 use Rattle.counters.proofs.SumLemmas.{sum_others-le, sum_others-add, sum_others-same, sum_others-at_most, sum_others-zero}
 use Rattle.stamp_register.specs.Keys.{KeyValue, stamp_of, same_key}
 use Rattle.replica_state.specs.Operations.{Execs, Shifts, Operation, Count, IsIn, count_of}

@@ -1,5 +1,5 @@
 -- What holds of every schedule of a cluster.
-use Rattle.std.specs.Prelude.{◌≡◌, ◌≢◌, ℕ, ◌≤◌, ◌<◌, ◌==◌, ◌&&◌, Bool, false, pos, ◌+ℤ◌, ◌≤ℤ◌, List, [], ◌∷◌, ◌++◌, ◌↔◌, length, Option, Some, None, Ok, count_by, slice_get}
+use Rattle.std.specs.Prelude.{◌≡◌, ◌≢◌, ℕ, ◌≤◌, ◌<◌, ◌==◌, ◌&&◌, Bool, false, pos, ◌+ℤ◌, ◌≤ℤ◌, List, [], ◌∷◌, ◌++◌, ◌↔◌, Option, Some, None, Ok, count_by, slice_get}
 use Rattle.std.specs.List.{list_any}
 use Rattle.actions.specs.Value.{TermValue, TaskValue}
 use Rattle.counters.specs.Sums.{numbers}

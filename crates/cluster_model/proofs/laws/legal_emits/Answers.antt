@@ -1,5 +1,4 @@
-use Rattle.std.proofs.Common.{◌≡◌, ℕ, arith}
-use Rattle.node_core.specs.Traces.{Kept}
+use Rattle.std.proofs.Common.{arith}
 use Rattle.cluster_model.proofs.LegalEmits.{legal_emit}
 use Rattle.cluster_model.proofs.laws.legal_emits.Goals as goal
 
