@@ -6,9 +6,8 @@ use Rattle.delta_exchange.specs.Messages.{operations_in}
 use Rattle.delta_exchange.specs.Spelling.{message_bytes}
 use Rattle.delta_exchange.proofs.MessageLemmas.{message_again}
 use Rattle.node_core.specs.Asks.{Message, Versions, IsEmitted, message_of, read_of, message_read, emit_of}
-use Rattle.node_core.specs.Nodes.{state_shown}
 use Rattle.node_core.specs.Steps.{message_to}
-use Rattle.node_core.specs.Traces.{Kept, node_of, state_known, reply_to, emission_of, versions_told, SendsDelta}
+use Rattle.node_core.specs.Traces.{Kept, node_of, state_known, reply_to, emission_of, SendsDelta}
 use Rattle.node_core.specs.Deliveries.{TellsDelta, versions_in}
 use Rattle.node_core.proofs.OneMessage.{one_message}
 
