@@ -11,10 +11,11 @@ use Rattle.replica_state.proofs.Sets.{IsIn-append_cases, KeyUpto, key_of-is_in}
 use Rattle.replica_state.proofs.KnownSets.{own_name}
 use Rattle.node_core.specs.Asks.{Asked, Message}
 use Rattle.node_core.specs.Asks as asks
-use Rattle.node_core.specs.Nodes.{Node, state_shown}
+use Rattle.node_core.specs.Nodes.{Node, Marks, state_shown}
 use Rattle.node_core.specs.Steps.{settings, operations_issued, shift_under, message_in}
+use Rattle.node_core.specs.Traces.{versions_told}
 use Rattle.cluster_model.specs.Worlds.{Cluster, World, Event, accepted, node_after, sent, world}
-use Rattle.cluster_model.specs.Schedules.{MaySend, Allows, AllowsDelta, IsSchedule, IsDeltaSchedule}
+use Rattle.cluster_model.specs.Schedules.{MaySend, MayTell, Allows, AllowsDelta, IsSchedule, IsDeltaSchedule}
 use Rattle.cluster_model.specs.Histories.{state_of, ops_issued, ops_delivered, keys_by}
 use Rattle.cluster_model.proofs.Steps.{delivered_was_sent, emitted_may, gains, keeps, holds_issued, holds_delivered}
 use Rattle.cluster_model.proofs.Passes.{Outcome, NotSet, Nothing, Triggered, IsOutcome, ops_of, outcome_of}
@@ -219,6 +220,10 @@ delta_may ops closed v chosen delta =
 pub delta_may_send : (c : Cluster) (es : List Event) → IsSchedule c es → (i : ℕ) (base : State) (chosen : List Operation) → IsDelta base (state_of c es i) chosen → MaySend ((world c es).node i).ops chosen
 delta_may_send c es s i base chosen delta = delta_may ((world c es).node i).ops ((closed_world c es s).held i) base chosen delta
 
+-- the versions that a node has may be told
+pub told_may : (marks : Marks) (to : ℕ) → MayTell marks to (versions_told marks to)
+told_may marks to = record { base = omega arith; upto = omega arith; ack = omega arith }
+
 pub deltas_are_schedules : (c : Cluster) (es : List Event) → IsDeltaSchedule c es → IsSchedule c es
 deltas_are_schedules c [] s = tt
 deltas_are_schedules c (e ∷ es) s =
@@ -227,6 +232,7 @@ deltas_are_schedules c (e ∷ es) s =
   where
     allowed : IsSchedule c es → (a : Option Asked) → AllowsDelta (world c es) e.node a → Allows (world c es) e.node a
     allowed before None h = tt
-    allowed before (Some (asks.Emit to versions chosen)) h = (h.0, delta_may_send c es before e.node (((world c es).node e.node).past versions.base) chosen h.1)
+    allowed before (Some (asks.Emit to versions chosen)) h =
+        (subst (MayTell ((world c es).node e.node).marks to) (sym h.0) (told_may ((world c es).node e.node).marks to), delta_may_send c es before e.node (((world c es).node e.node).past versions.base) chosen h.1)
     allowed before (Some (asks.Deliver read)) h = h
     allowed before (Some ask) h = h

@@ -17,9 +17,8 @@ use Rattle.node_core.specs.Nodes.{Node, state_shown, setting_of}
 use Rattle.node_core.specs.Passes.{ops_of_pass, triggered_term, execs_of_choice, execs_of_term, next_hit}
 use Rattle.node_core.specs.Steps.{after, operations_added, settings, operations_issued, shift_under, message_in}
 use Rattle.node_core.specs.Refusals.{refusal_at}
-use Rattle.node_core.specs.Traces.{MayTell}
 use Rattle.cluster_model.specs.Worlds.{Cluster, World, Event, config_of, is_accepted, accepted, node_after, sent, happens, world}
-use Rattle.cluster_model.specs.Schedules.{MaySend, Allows, IsSchedule}
+use Rattle.cluster_model.specs.Schedules.{MaySend, MayTell, Allows, IsSchedule}
 use Rattle.cluster_model.specs.Histories.{ops_issued, ops_delivered, all_issued, all_delivered, all_learnt}
 
 -- ---- who accepts what

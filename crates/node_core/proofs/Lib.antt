@@ -24,3 +24,6 @@ pub mod Replied
 pub mod SpareWords
 pub mod MemoryLemmas
 pub mod OneSpelling
+pub mod Pasts
+pub mod RepliedDelta
+pub mod OneMessage
