@@ -124,7 +124,8 @@ abbrev pub no_rights : ℕ → State → List ℕ → ℕ → ℕ → Option (Ke
 no_rights i v name term amount setting =
     then_some (too_few i v name term amount setting) (faults.TooFewRights (rights_here i v name term setting))
 
--- the refusals of a shift under the setting of its name, if there is one, but those of the trace and of the name
+-- the refusals of a shift but those of the trace and of the name, where the name has this setting or
+-- none
 abbrev pub faults_of_shift_under : Config → State → List ℕ → ℕ → ℕ → ℕ →
     Option (KeyValue × List TermValue) → List (Option NodeFault)
 faults_of_shift_under config v name term to amount setting =
@@ -137,7 +138,8 @@ faults_of_shift_under config v name term to amount setting =
     then_some (is_too_great (v.shifts name term config.node to + amount)) faults.CellFull ∷ []
 
 abbrev pub faults_of_shift : Config → State → List ℕ → ℕ → ℕ → ℕ → List (Option NodeFault)
-faults_of_shift config v name term to amount = faults_of_shift_under config v name term to amount (setting_of v name)
+faults_of_shift config v name term to amount =
+    faults_of_shift_under config v name term to amount (setting_of v name)
 
 abbrev pub shift_refusal : Config → State → List ℕ → ℕ → ℕ → ℕ → Option NodeFault
 shift_refusal config v name term to amount = first_fault (faults_of_shift config v name term to amount)

@@ -24,7 +24,8 @@ UnionIsLeast = (a b : List Operation) →
 
 -- the state of a set knows a well-formed operation exactly where the set does
 abbrev pub StateKnowsAsSet : Type 0
-StateKnowsAsSet = (ops : List Operation) (op : Operation) → IsWellFormed op → (knows (fold ops) op ≡ true) ↔ Knows ops op
+StateKnowsAsSet = (ops : List Operation) (op : Operation) → IsWellFormed op →
+    (knows (fold ops) op ≡ true) ↔ Knows ops op
 
 -- operations leave the state as it was exactly where the state knows them all
 abbrev pub ChangesIsChange : Type 0

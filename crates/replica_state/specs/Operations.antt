@@ -24,7 +24,8 @@ operation (ops.Hit name node number) = Count (Hits name node) number
 operation (ops.Exec name key term node number) = Count (Execs name (key_value key) term node) number
 operation (ops.Shift name key term from to total) = Count (Shifts name (key_value key) term from to) total
 
--- the node that wrote an operation: it set the key, passed the point, executed the term or gave the rights
+-- the node that wrote an operation: it set the key, passed the point, executed the term or gave the
+-- rights
 abbrev pub writer_of_cell : Cell → ℕ
 writer_of_cell (Hits name node) = node
 writer_of_cell (Execs name key term node) = node
