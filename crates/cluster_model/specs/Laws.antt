@@ -171,7 +171,8 @@ HonestBytes = (c : Cluster) (es : List Event) → c.nodes ≤ numbers → IsSche
 -- what differs between any earlier state and a node's own may be sent
 abbrev pub DeltaMaySend : Type 0
 DeltaMaySend = (c : Cluster) (es : List Event) → IsSchedule c es →
-    (i : ℕ) (base : State) (chosen : List Operation) → IsDelta base (state_of c es i) chosen → MaySend ((world c es).node i).ops chosen
+    (i : ℕ) (base : State) (chosen : List Operation) → IsDelta base (state_of c es i) chosen →
+    MaySend ((world c es).node i).ops chosen
 
 -- so where each node sends what differs, the list is a schedule, and all that holds of schedules holds of it
 abbrev pub DeltasAreSchedules : Type 0
