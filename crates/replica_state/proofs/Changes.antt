@@ -38,7 +38,7 @@ false_any test (o ∷ ops) h = both (test o) (list_any test ops) (h o (inl refl)
     both false b h k = k
 
 -- the key and the number of a count that the state knows
-count_known : (key : KeyValue) (number here : ℕ) (k : Option KeyValue) → knows_count key number here k ≡ true → KeyUpto (Some key) k × ((k ≡ Some key) → number ≤ here)
+pub count_known : (key : KeyValue) (number here : ℕ) (k : Option KeyValue) → knows_count key number here k ≡ true → KeyUpto (Some key) k × ((k ≡ Some key) → number ≤ here)
 count_known key number here None h = absurd (true≢false (sym h))
 count_known key number here (Some other) h = at (same_key other key) refl h
   where
@@ -51,7 +51,7 @@ count_known key number here (Some other) h = at (same_key other key) refl h
           absurd (true≢false (sym (subst (λ k. same_key other k ≡ true) same (same_key-refl other)) ∙ e)),
     )
 
-known_count : (key : KeyValue) (number here : ℕ) (k : Option KeyValue) → KeyUpto (Some key) k → ((k ≡ Some key) → number ≤ here) → knows_count key number here k ≡ true
+pub known_count : (key : KeyValue) (number here : ℕ) (k : Option KeyValue) → KeyUpto (Some key) k → ((k ≡ Some key) → number ≤ here) → knows_count key number here k ≡ true
 known_count key number here None h f = absurd h
 known_count key number here (Some other) h f = at (same_key other key) refl
   where

@@ -5,7 +5,7 @@ use Rattle.delta_exchange.specs.Reading.{message_at}
 use Rattle.refusals.proofs.StepLemmas.{ok_is}
 use Rattle.delta_exchange.proofs.MessageLemmas.{message_again}
 use Rattle.delta_exchange.proofs.WiderLemmas.{message_widens}
-use Rattle.delta_exchange.proofs.laws.message_has_one_spelling.Goals as goal
+use Rattle.delta_exchange.proofs.laws.bytes_spell_one_message.Goals as goal
 
 read_with_most_nodes : (nodes : ℕ) (bytes : List ℕ) (m : MessageValue) → SpellsMessage nodes bytes m → message_at (2 ^ 8) bytes ≡ Ok m
 read_with_most_nodes nodes bytes m h =
