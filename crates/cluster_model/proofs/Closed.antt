@@ -5,16 +5,17 @@ use Rattle.stamp_register.specs.Keys.{KeyValue}
 use Rattle.replica_state.specs.Operations.{Cell, Hits, Execs, Shifts, Operation, Set, Count, IsIn, same_cell}
 use Rattle.replica_state.specs.States.{State}
 use Rattle.replica_state.specs.Folds.{fold, key_in, key_of, number_in, number_at, at_key}
-use Rattle.replica_state.specs.Deltas.{IsSameAt, IsInDelta, IsDelta}
+use Rattle.replica_state.specs.Deltas.{IsTold, TellSameOf, IsInDelta, IsDelta}
 use Rattle.replica_state.proofs.Orders.{same_cell-true}
 use Rattle.replica_state.proofs.Sets.{IsIn-append_cases, KeyUpto, key_of-is_in}
 use Rattle.replica_state.proofs.KnownSets.{own_name}
 use Rattle.node_core.specs.Asks.{Asked, Message}
 use Rattle.node_core.specs.Asks as asks
-use Rattle.node_core.specs.Nodes.{Node, state_shown}
+use Rattle.node_core.specs.Nodes.{Node, Marks, state_shown}
 use Rattle.node_core.specs.Steps.{settings, operations_issued, shift_under, message_in}
+use Rattle.node_core.specs.Traces.{versions_told}
 use Rattle.cluster_model.specs.Worlds.{Cluster, World, Event, accepted, node_after, sent, world}
-use Rattle.cluster_model.specs.Schedules.{MaySend, Allows, AllowsDelta, IsSchedule, IsDeltaSchedule}
+use Rattle.cluster_model.specs.Schedules.{MaySend, MayTell, Allows, AllowsDelta, IsSchedule, IsDeltaSchedule}
 use Rattle.cluster_model.specs.Histories.{state_of, ops_issued, ops_delivered, keys_by}
 use Rattle.cluster_model.proofs.Steps.{delivered_was_sent, emitted_may, gains, keeps, holds_issued, holds_delivered}
 use Rattle.cluster_model.proofs.Passes.{Outcome, NotSet, Nothing, Triggered, IsOutcome, ops_of, outcome_of}
@@ -166,30 +167,28 @@ held_number : (cell : Cell) (ops : List Operation) (k : ℕ) → k ≡ number_at
 held_number cell ops k e ne = ⊎_elim (λ z. absurd (ne (e ∙ z))) (λ h. subst (λ m. IsIn (Count cell m) ops) (sym e) h) (number_found cell ops)
 
 -- what a delta carries is of the key now
-delta_key : (v w : State) (op : Operation) (name : List ℕ) (key : KeyValue) → IsInDelta v w op → key_in name op ≡ Some key → (w.key name ≡ Some key) × (IsSameAt v w name → ⊥)
+delta_key : (v w : State) (op : Operation) (name : List ℕ) (key : KeyValue) → IsInDelta v w op → key_in name op ≡ Some key → (w.key name ≡ Some key) × (TellSameOf v w name → ⊥)
 delta_key v w (Set n k) name key d c =
     let parts = carried_name name n key k c in
-    (subst (λ m. w.key m ≡ Some key) parts.0 (d.0 ∙ ap Some parts.1), λ s. d.1 (subst (λ m. IsSameAt v w m) (sym parts.0) s))
+    (subst (λ m. w.key m ≡ Some key) parts.0 (d.0 ∙ ap Some parts.1), λ s. d.1 (subst (λ m. TellSameOf v w m) (sym parts.0) s))
 delta_key v w (Count (Hits n node) number) name key d c = absurd (let impossible : ◌≡◌ {A = Option KeyValue} None (Some key) = c in cc)
 delta_key v w (Count (Execs n k term node) number) name key d c =
     let parts = carried_name name n key k c in
-    (subst (λ m. w.key m ≡ Some key) parts.0 (d.of_key ∙ ap Some parts.1), λ s. let t = subst (λ m. IsSameAt v w m) (sym parts.0) s in d.differs t.key (t.execs term node))
+    (subst (λ m. w.key m ≡ Some key) parts.0 (d.0.0.0 ∙ ap Some parts.1), λ s. d.1 ((s (Count (Execs n k term node) number) parts.0).1 d.0))
 delta_key v w (Count (Shifts n k term from to) number) name key d c =
     let parts = carried_name name n key k c in
-    (subst (λ m. w.key m ≡ Some key) parts.0 (d.of_key ∙ ap Some parts.1), λ s. let t = subst (λ m. IsSameAt v w m) (sym parts.0) s in d.differs t.key (t.shifts term from to))
+    (subst (λ m. w.key m ≡ Some key) parts.0 (d.0.0.0 ∙ ap Some parts.1), λ s. d.1 ((s (Count (Shifts n k term from to) number) parts.0).1 d.0))
 
--- the number that a delta gives a cell is the greatest of the set
-delta_number : (v : State) (ops : List Operation) (cell : Cell) (number : ℕ) → IsInDelta v (fold ops) (Count cell number) → number ≡ number_at cell ops
+-- the number that a state tells of a cell is the greatest of its set
+told_number : (ops : List Operation) (cell : Cell) (number : ℕ) → IsTold (fold ops) (Count cell number) → number ≡ number_at cell ops
 unfolding fold
-delta_number v ops (Hits name node) number d = d.0
-delta_number v ops (Execs name key term node) number d = d.is_now ∙ ap (λ k. at_key k (λ l. number_at (Execs name l term node) ops)) d.of_key
-delta_number v ops (Shifts name key term from to) number d = d.is_now ∙ ap (λ k. at_key k (λ l. number_at (Shifts name l term from to) ops)) d.of_key
+told_number ops (Hits name node) number d = sym d.0
+told_number ops (Execs name key term node) number d = sym d.0.1 ∙ ap (λ k. at_key k (λ l. number_at (Execs name l term node) ops)) d.0.0
+told_number ops (Shifts name key term from to) number d = sym d.0.1 ∙ ap (λ k. at_key k (λ l. number_at (Shifts name l term from to) ops)) d.0.0
 
 delta_held : (v : State) (ops : List Operation) → IsClosed ops → (op : Operation) → IsInDelta v (fold ops) op → IsIn op ops
 delta_held v ops closed (Set name key) d = set_of_key ops closed name key d.0
-delta_held v ops closed (Count (Hits name node) number) d = held_number (Hits name node) ops number (delta_number v ops (Hits name node) number d) d.1
-delta_held v ops closed (Count (Execs name key term node) number) d = held_number (Execs name key term node) ops number (delta_number v ops (Execs name key term node) number d) d.positive
-delta_held v ops closed (Count (Shifts name key term from to) number) d = held_number (Shifts name key term from to) ops number (delta_number v ops (Shifts name key term from to) number d) d.positive
+delta_held v ops closed (Count cell number) d = held_number cell ops number (told_number ops cell number d.0) d.0.1
 
 -- a set with a setting of the name has a key of it
 some_key : (name : List ℕ) (ops : List Operation) (key : KeyValue) → IsIn (Set name key) ops → (k : KeyValue) × ((fold ops).key name ≡ Some k)
@@ -214,12 +213,16 @@ delta_may ops closed v chosen delta =
           let d = (delta (Count (Hits name node) number)).0 h in
           let set = closed.hits name node number (delta_held v ops closed (Count (Hits name node) number) d) in
           let now = some_key name ops set.0 set.1 in
-          (now.0, (delta (Set name now.0)).1 (now.1, λ s. d.2 (s.hits node)));
-      once = λ cell a b h k. delta_number v ops cell a ((delta (Count cell a)).0 h) ∙ sym (delta_number v ops cell b ((delta (Count cell b)).0 k));
+          (now.0, (delta (Set name now.0)).1 (now.1, λ s. d.1 ((s (Count (Hits name node) number) refl).1 d.0)));
+      once = λ cell a b h k. told_number ops cell a ((delta (Count cell a)).0 h).0 ∙ sym (told_number ops cell b ((delta (Count cell b)).0 k).0);
     }
 
 pub delta_may_send : (c : Cluster) (es : List Event) → IsSchedule c es → (i : ℕ) (base : State) (chosen : List Operation) → IsDelta base (state_of c es i) chosen → MaySend ((world c es).node i).ops chosen
 delta_may_send c es s i base chosen delta = delta_may ((world c es).node i).ops ((closed_world c es s).held i) base chosen delta
+
+-- the versions that a node has may be told
+pub told_may : (marks : Marks) (to : ℕ) → MayTell marks to (versions_told marks to)
+told_may marks to = record { base = omega arith; upto = omega arith; ack = omega arith }
 
 pub deltas_are_schedules : (c : Cluster) (es : List Event) → IsDeltaSchedule c es → IsSchedule c es
 deltas_are_schedules c [] s = tt
@@ -229,6 +232,7 @@ deltas_are_schedules c (e ∷ es) s =
   where
     allowed : IsSchedule c es → (a : Option Asked) → AllowsDelta (world c es) e.node a → Allows (world c es) e.node a
     allowed before None h = tt
-    allowed before (Some (asks.Emit to versions chosen)) h = (h.0, delta_may_send c es before e.node _ chosen h.1)
+    allowed before (Some (asks.Emit to versions chosen)) h =
+        (subst (MayTell ((world c es).node e.node).marks to) (sym h.0) (told_may ((world c es).node e.node).marks to), delta_may_send c es before e.node (((world c es).node e.node).past versions.base) chosen h.1)
     allowed before (Some (asks.Deliver read)) h = h
     allowed before (Some ask) h = h

@@ -15,7 +15,7 @@ use Rattle.node_core.specs.Asks as asks
 use Rattle.node_core.specs.Nodes.{state_shown}
 use Rattle.cluster_model.specs.Worlds.{Cluster, World, Event, accepted, world}
 use Rattle.cluster_model.specs.Schedules.{IsSchedule}
-use Rattle.cluster_model.specs.Histories.{state_of, IsIssued, executions, is_key, is_under, amount_moved, moved, held, seen, in_transit, all_in_transit}
+use Rattle.cluster_model.specs.Histories.{state_of, IsIssued, executions, is_key, is_under, amount_moved, moved, state_under, held, shifts_under, seen, in_transit, all_in_transit}
 use Rattle.cluster_model.specs.Laws.{IsConserved}
 use Rattle.cluster_model.proofs.Steps.{known, IsAgreed, agreed, asked_is}
 use Rattle.cluster_model.proofs.Passes.{shifted_is}
@@ -76,7 +76,7 @@ seen_moved c (e ∷ es) s name key term i j = at (is_under c (e ∷ es) name key
     ops k = ((world c (e ∷ es)).node k).ops
 
     at : (t : Bool) → is_under c (e ∷ es) name key j ≡ t → seen c es name key term i j ≤ moved c es name key term i j →
-        cond t ((state_of c (e ∷ es) j).shifts name term i j) (seen c es name key term i j) ≤ moved c (e ∷ es) name key term i j
+        shifts_under (cond t (Some (state_of c (e ∷ es) j)) (state_under c es name key j)) name term i j ≤ moved c (e ∷ es) name key term i j
     at true u before =
         let under = own_number (ops j) name key term i j (is_key-of key ((state_of c (e ∷ es) j).key name) u) in
         let here : number_at (Shifts name key term i j) (ops j) ≤ number_at (Shifts name key term i j) (ops i) =

@@ -11,9 +11,8 @@ use Rattle.replica_state.proofs.Orders.{bytes_eq-true, same_key-true, same_cell-
 use Rattle.node_core.specs.Asks.{Asked, Answered, Message, Versions}
 use Rattle.node_core.specs.Nodes.{Marks}
 use Rattle.node_core.specs.Steps.{reply}
-use Rattle.node_core.specs.Traces.{MayTell}
 use Rattle.cluster_model.specs.Worlds.{Cluster, World, Event, accepted, world}
-use Rattle.cluster_model.specs.Schedules.{MaySend}
+use Rattle.cluster_model.specs.Schedules.{MaySend, MayTell}
 use Rattle.cluster_model.proofs.Stamps.{carried_name}
 
 abbrev pub nodes : ℕ → Cluster

@@ -1,156 +1,62 @@
 -- No message of the cluster is refused for what it says.
-use Rattle.std.proofs.Common.{◌≡◌, ℕ, ◌≤◌, ◌==◌, ◌&&◌, ◌||◌, zero, suc, Bool, true, false, cond, not, List, [], ◌∷◌, ◌++◌, length, inl, inr, refl, sym, ◌∙◌, ap, subst, arith, nat_lt, ⊎_elim, Option, Some, None, Ok}
-use Rattle.std.proofs.lemmas.Bool.{true≢false, eqb-true, eq-eqb, and_parts, le-ltb}
+use Rattle.std.proofs.Common.{◌≡◌, ℕ, ◌≤◌, ◌==◌, ◌&&◌, ◌||◌, zero, suc, Bool, true, false, not, List, [], ◌∷◌, ◌++◌, length, refl, sym, ◌∙◌, ap, subst, arith, nat_lt, ⊎_elim, Option, Some, None, Ok}
+use Rattle.std.proofs.lemmas.Bool.{true≢false, eqb-true, eq-eqb, le-ltb}
 use Rattle.std.specs.Prelude.{is_none}
 use Rattle.std.specs.List.{list_any}
 use Rattle.actions.specs.Value.{TermValue}
 use Rattle.counters.specs.Sums.{numbers, sum_below}
 use Rattle.counters.proofs.SumLemmas.{sum-le, sum-narrow}
 use Rattle.stamp_register.specs.declared.key.Stamp.{Stamp}
-use Rattle.stamp_register.specs.Keys.{KeyValue, stamp_of, same_key}
-use Rattle.replica_state.specs.Operations.{Hits, Execs, Shifts, Operation, Set, Count, IsIn, count_at, count_of, count_under}
+use Rattle.stamp_register.specs.Keys.{KeyValue, stamp_of}
+use Rattle.replica_state.specs.Operations.{Execs, Operation, Count, writer_of, IsIn, count_at, count_of, count_under}
 use Rattle.replica_state.specs.States.{State}
-use Rattle.replica_state.specs.Folds.{fold, key_of, number_at, at_key, name_in}
-use Rattle.replica_state.specs.Knowledge.{is_upto}
-use Rattle.replica_state.proofs.Orders.{same_key-true}
-use Rattle.replica_state.proofs.Sets.{IsIn-append_cases, number_at-is_in, number_at-mono, KeyUpto, key_of-is_in}
-use Rattle.replica_state.proofs.KnownSets.{own_name}
+use Rattle.replica_state.specs.Folds.{fold, number_at, at_key, name_in}
+use Rattle.replica_state.specs.Knowledge.{knows}
+use Rattle.replica_state.proofs.Sets.{IsIn-append_cases, number_at-mono}
+use Rattle.replica_state.proofs.KnownSets.{knows_member}
 use Rattle.replica_state.proofs.Changes.{false_any}
+use Rattle.replica_state.proofs.Knowing.{set_knows}
 use Rattle.node_core.specs.declared.fault.NodeFault.TheVariants as faults
 use Rattle.node_core.specs.Asks.{Asked, Message}
 use Rattle.node_core.specs.Asks as asks
-use Rattle.node_core.specs.Nodes.{Node, setting_of, terms_in}
-use Rattle.node_core.specs.Steps.{after, message_in}
+use Rattle.node_core.specs.Nodes.{setting_of, terms_in}
 use Rattle.refusals.specs.Refusals.{first_fault}
 use Rattle.std.specs.Bool.{then_some}
-use Rattle.node_core.specs.Refusals.{is_full, is_cell_ahead, is_ahead, is_above, any_below, is_overspent, overspends, too_many, faults_of_message, refusal_at}
+use Rattle.node_core.specs.Refusals.{is_full, is_ahead, is_above, any_below, is_overspent, overspends, too_many, faults_of_message, refusal_at}
 use Rattle.node_core.proofs.Rights.{setting_parts}
-use Rattle.cluster_model.specs.Worlds.{Cluster, World, Event, config_of, accepted, node_after, sent, happens, world}
-use Rattle.cluster_model.specs.Schedules.{Allows, IsSchedule}
+use Rattle.cluster_model.specs.Worlds.{Cluster, Event, config_of, accepted, world}
+use Rattle.cluster_model.specs.Schedules.{IsSchedule}
 use Rattle.cluster_model.specs.Histories.{state_of, executions, IsIssued}
 use Rattle.cluster_model.specs.Laws.{IsHonest, IsOwnReason}
-use Rattle.cluster_model.proofs.Steps.{asked_is, delivered_was_sent, writer, known}
+use Rattle.cluster_model.proofs.Steps.{asked_is, known}
+use Rattle.cluster_model.proofs.Versions.{marked}
 use Rattle.cluster_model.proofs.Stamps.{carried, held_carrier, one_stamp}
 use Rattle.cluster_model.proofs.OwnCells.{acted, executed_more, own_execs}
 use Rattle.cluster_model.proofs.Conserved.{conserved}
 
 -- ---- nothing is ahead of what the node wrote
 
-upto_test : (a b : Option KeyValue) → KeyUpto a b → not (is_upto a b) ≡ false
-upto_test None b h = refl
-upto_test (Some a) None h = absurd h
-upto_test (Some a) (Some b) h = ap not h
-
-and_second : (a b : Bool) → b ≡ false → (a && b) ≡ false
-and_second true b h = h
-and_second false b h = refl
-
-and_first : (a b : Bool) → (a ≡ true → ⊥) → (a && b) ≡ false
-and_first true b h = absurd (h refl)
-and_first false b h = refl
-
-cell_not_ahead : (key : KeyValue) (number here : ℕ) (k : Option KeyValue) → KeyUpto (Some key) k → (k ≡ Some key → number ≤ here) → is_cell_ahead key number here k ≡ false
-cell_not_ahead key number here None h f = absurd h
-cell_not_ahead key number here (Some other) h f = at (same_key other key) refl
-  where
-    at : (t : Bool) → same_key other key ≡ t → cond t (nat_lt here number) (not (is_upto (Some key) (Some other))) ≡ false
-    at true e = le-ltb here number (f (ap Some (same_key-true other key e)))
-    at false e = upto_test (Some key) (Some other) h
-
--- what the set holds is not ahead of it
 held_not_ahead : (i : ℕ) (ops : List Operation) (op : Operation) → IsIn op ops → is_ahead i (fold ops) op ≡ false
-unfolding fold
-held_not_ahead i ops (Set name key) h = and_second _ _ (upto_test (Some key) (key_of name ops) (subst (λ k. KeyUpto k (key_of name ops)) (own_name name key) (key_of-is_in name (Set name key) ops h)))
-held_not_ahead i ops (Count (Hits name node) number) h = at (node == i) (eqb-true node i)
+held_not_ahead i ops op h = at (writer_of op == i)
   where
-    at : (t : Bool) → (t ≡ true → node ≡ i) → (t && nat_lt (number_at (Hits name i) ops) number) ≡ false
-    at false f = refl
-    at true f = le-ltb _ _ (number_at-is_in (Hits name i) number ops (subst (λ j. IsIn (Count (Hits name j) number) ops) (f refl) h))
-held_not_ahead i ops (Count (Execs name key term node) number) h = at (node == i) (eqb-true node i)
-  where
-    at : (t : Bool) → (t ≡ true → node ≡ i) → (t && is_cell_ahead key number (at_key (key_of name ops) (λ l. number_at (Execs name l term i) ops)) (key_of name ops)) ≡ false
-    at false f = refl
-    at true f = cell_not_ahead key number _ (key_of name ops)
-        (subst (λ k. KeyUpto k (key_of name ops)) (own_name name key) (key_of-is_in name (Count (Execs name key term node) number) ops h))
-        (λ e.
-        let here : at_key (key_of name ops) (λ l. number_at (Execs name l term i) ops) ≡ number_at (Execs name key term i) ops = ap (λ k. at_key k (λ l. number_at (Execs name l term i) ops)) e in
-        let most = number_at-is_in (Execs name key term i) number ops (subst (λ j. IsIn (Count (Execs name key term j) number) ops) (f refl) h) in
-        omega arith)
-held_not_ahead i ops (Count (Shifts name key term from to) number) h = at (from == i) (eqb-true from i)
-  where
-    at : (t : Bool) → (t ≡ true → from ≡ i) → (t && is_cell_ahead key number (at_key (key_of name ops) (λ l. number_at (Shifts name l term i to) ops)) (key_of name ops)) ≡ false
-    at false f = refl
-    at true f = cell_not_ahead key number _ (key_of name ops)
-        (subst (λ k. KeyUpto k (key_of name ops)) (own_name name key) (key_of-is_in name (Count (Shifts name key term from to) number) ops h))
-        (λ e.
-        let here : at_key (key_of name ops) (λ l. number_at (Shifts name l term i to) ops) ≡ number_at (Shifts name key term i to) ops = ap (λ k. at_key k (λ l. number_at (Shifts name l term i to) ops)) e in
-        let most = number_at-is_in (Shifts name key term i to) number ops (subst (λ j. IsIn (Count (Shifts name key term j to) number) ops) (f refl) h) in
-        omega arith)
+    at : (t : Bool) → (t && not (knows (fold ops) op)) ≡ false
+    at true = ap not (set_knows ops op (knows_member op ops h))
+    at false = refl
 
 -- what another node writes is not this node's
-other_not_ahead : (i : ℕ) (v : State) (op : Operation) → (writer op ≡ i → ⊥) → is_ahead i v op ≡ false
-other_not_ahead i v (Set name key) ne = and_first _ _ (λ h. ne (eqb-true key.node i h))
-other_not_ahead i v (Count (Hits name node) number) ne = and_first _ _ (λ h. ne (eqb-true node i h))
-other_not_ahead i v (Count (Execs name key term node) number) ne = and_first _ _ (λ h. ne (eqb-true node i h))
-other_not_ahead i v (Count (Shifts name key term from to) number) ne = and_first _ _ (λ h. ne (eqb-true from i h))
+other_not_ahead : (i : ℕ) (v : State) (op : Operation) → (writer_of op ≡ i → ⊥) → is_ahead i v op ≡ false
+other_not_ahead i v op ne = at (writer_of op == i) (eqb-true (writer_of op) i)
+  where
+    at : (t : Bool) → (t ≡ true → writer_of op ≡ i) → (t && not (knows v op)) ≡ false
+    at true f = absurd (ne (f refl))
+    at false f = refl
 
 not_ahead : (c : Cluster) (es : List Event) → IsSchedule c es → (i : ℕ) (m : Message) → IsIn m (world c es).messages → (op : Operation) → IsIn op m.ops → is_ahead i (state_of c es i) op ≡ false
-not_ahead c es s i m h op k = at (writer op == i) (eqb-true (writer op) i) (eq-eqb (writer op) i)
+not_ahead c es s i m h op k = at (writer_of op == i) (eqb-true (writer_of op) i) (eq-eqb (writer_of op) i)
   where
-    at : (t : Bool) → (t ≡ true → writer op ≡ i) → (writer op ≡ i → t ≡ true) → is_ahead i (state_of c es i) op ≡ false
+    at : (t : Bool) → (t ≡ true → writer_of op ≡ i) → (writer_of op ≡ i → t ≡ true) → is_ahead i (state_of c es i) op ≡ false
     at true f g = held_not_ahead i ((world c es).node i).ops op (subst (λ j. IsIn op ((world c es).node j).ops) (f refl) ((known c es s).sent m h op k))
     at false f g = other_not_ahead i (state_of c es i) op (λ e. true≢false (sym (g e)))
-
--- ---- no version is told that the node hasn't
-
-record HasMarks (w : World) : Type 0 where
-  pub known : (i j : ℕ) → (w.node i).marks.known j ≤ (w.node j).marks.version
-  pub ack : (m : Message) → IsIn m w.messages → m.ack ≤ (w.node m.to).marks.version
-  pub upto : (m : Message) → IsIn m w.messages → m.upto ≤ (w.node m.from).marks.version
-
-version_grows : (i : ℕ) (n : Node) (a : Option Asked) (words : List ℕ) → n.marks.version ≤ (node_after i n a words).marks.version
-unfolding after
-version_grows i n None words = omega arith
-version_grows i n (Some ask) words = omega arith
-
-known_upto : (c : Cluster) (w : World) (e : Event) (i j : ℕ) → HasMarks w → Allows w e.node (accepted c w e e.node) → (node_after i (w.node i) (accepted c w e i) e.words).marks.known j ≤ (w.node j).marks.version
-unfolding after
-known_upto c w e i j marked allowed = at (accepted c w e i) refl
-  where
-    of : (m : Message) (t : Bool) → (t ≡ true → j ≡ m.from) → IsIn m w.messages → cond t m.upto ((w.node i).marks.known j) ≤ (w.node j).marks.version
-    of m true f h = subst (λ k. m.upto ≤ (w.node k).marks.version) (sym (f refl)) (marked.upto m h)
-    of m false f h = marked.known i j
-
-    at : (a : Option Asked) → accepted c w e i ≡ a → (node_after i (w.node i) a e.words).marks.known j ≤ (w.node j).marks.version
-    at None p = marked.known i j
-    at (Some (asks.Deliver read)) p = of (message_in read) _ (λ h. eqb-true j (message_in read).from (and_parts (j == (message_in read).from) _ h).0) (delivered_was_sent c w e i read allowed p)
-    at (Some ask) p = marked.known i j
-
-record IsMarked (w : World) (m : Message) : Type 0 where
-  pub upto : m.upto ≤ (w.node m.from).marks.version
-  pub ack : m.ack ≤ (w.node m.to).marks.version
-
-up : (a b c : ℕ) → a ≤ b → b ≤ c → a ≤ c
-up a b c h k = omega arith
-
-sent_marks : (i : ℕ) (w : World) (a : Option Asked) (m : Message) → Allows w i a → IsIn m (sent i (w.node i) a) → HasMarks w → IsMarked w m
-sent_marks i w None m allowed h marked = absurd h
-sent_marks i w (Some (asks.Emit to versions chosen)) m allowed (inl h) marked = subst (λ (l : Message). IsMarked w l) (sym h) (record { upto = allowed.0.upto; ack = up _ _ _ allowed.0.ack (marked.known i to) })
-sent_marks i w (Some (asks.Emit to versions chosen)) m allowed (inr h) marked = absurd h
-sent_marks i w (Some ask) m allowed h marked = absurd h
-
-marked_after : (c : Cluster) (w : World) (e : Event) → HasMarks w → Allows w e.node (accepted c w e e.node) → HasMarks (happens c w e)
-marked_after c w e marked allowed =
-    let grows : (j : ℕ) → (w.node j).marks.version ≤ ((happens c w e).node j).marks.version = λ j. version_grows j (w.node j) (accepted c w e j) e.words in
-    record {
-      known = λ i j. up _ _ _ (known_upto c w e i j marked allowed) (grows j);
-      ack = λ m h. up _ _ _ (⊎_elim (marked.ack m) (λ k. (sent_marks e.node w (accepted c w e e.node) m allowed k marked).ack) (IsIn-append_cases m _ _ h)) (grows m.to);
-      upto = λ m h. up _ _ _ (⊎_elim (marked.upto m) (λ k. (sent_marks e.node w (accepted c w e e.node) m allowed k marked).upto) (IsIn-append_cases m _ _ h)) (grows m.from);
-    }
-
-marked : (c : Cluster) (es : List Event) → IsSchedule c es → HasMarks (world c es)
-marked c [] s = record { known = λ i j. omega arith; ack = λ m h. absurd h; upto = λ m h. absurd h }
-marked c (e ∷ es) s = marked_after c (world c es) e (marked c es s.1) s.0
 
 -- ---- no term is overspent
 
@@ -189,7 +95,7 @@ module _ (c : Cluster) (es : List Event) (few : c.nodes ≤ numbers) (s : IsSche
       let found = held_carrier merged name key p in
       ⊎_elim (λ l. (carried c es s).sent m sent_then found.op l name key found.carries) (λ l. (carried c es s).held i found.op l name key found.carries) (IsIn-append_cases found.op _ _ found.held)
 
-  with_writer : (op : Operation) → IsIn op merged → IsIn op ((world c es).node (writer op)).ops
+  with_writer : (op : Operation) → IsIn op merged → IsIn op ((world c es).node (writer_of op)).ops
   with_writer op l = ⊎_elim (λ k. (known c es s).sent m sent_then op k) (λ k. (known c es s).held i op k) (IsIn-append_cases op _ _ l)
 
   at_most : (name : List ℕ) (key : KeyValue) (term count : ℕ) → (fold merged).key name ≡ Some key → count_of key term ≡ Some count → sum_below numbers ((fold merged).execs name term) ≤ count
@@ -218,7 +124,7 @@ module _ (c : Cluster) (es : List Event) (few : c.nodes ≤ numbers) (s : IsSche
               let counted : count_of setting.0 term ≡ Some count = ap (λ (o : Option (List TermValue)). count_under o term) is.is_terms ∙ q in
               le-ltb count _ (at_most name setting.0 term count is.is_key counted)
 
-  honest_message : IsHonest c es i m
+  pub honest_message : IsHonest c es i m
   honest_message =
       record {
         not_ahead = false_any _ m.ops (not_ahead c es s i m sent_then);
@@ -237,7 +143,7 @@ module _ (c : Cluster) (es : List Event) (few : c.nodes ≤ numbers) (s : IsSche
   first_is_own false false false false false true p q r = true≢false r
   first_is_own false false false false false false p q r = tt
 
-  own_reason : IsOwnReason (refusal_at (config_of c i) (length ((world c es).trace i)) ((world c es).node i) (asks.Deliver (Ok m)) [])
+  pub own_reason : IsOwnReason (refusal_at (config_of c i) (length ((world c es).trace i)) ((world c es).node i) (asks.Deliver (Ok m)) [])
   own_reason =
       let is = honest_message in
       first_is_own (is_full (config_of c i) (length ((world c es).trace i)))
@@ -248,7 +154,3 @@ module _ (c : Cluster) (es : List Event) (few : c.nodes ≤ numbers) (s : IsSche
       for_me : (t : Bool) → (t ≡ true → m.to ≡ i) → not t ≡ false → m.to ≡ i
       for_me true f e = f refl
       for_me false f e = absurd (true≢false e)
-
-pub honest : (c : Cluster) (es : List Event) → c.nodes ≤ numbers → IsSchedule c es → (i : ℕ) (message : Message) → IsIn message (world c es).messages →
-    IsHonest c es i message × IsOwnReason (refusal_at (config_of c i) (length ((world c es).trace i)) ((world c es).node i) (asks.Deliver (Ok message)) [])
-honest c es few s i m h = (honest_message c es few s i m h, own_reason c es few s i m h)

@@ -6,7 +6,7 @@ use Rattle.std.specs.Prelude.{count_by}
 use Rattle.std.specs.Str.{bytes_eq}
 use Rattle.stamp_register.specs.declared.key.Stamp.{Stamp}
 use Rattle.stamp_register.specs.Keys.{KeyValue, stamp_of, same_key}
-use Rattle.replica_state.specs.Operations.{Cell, Execs, Shifts, Operation, Count, IsIn, same_cell, count_of}
+use Rattle.replica_state.specs.Operations.{Cell, Execs, Shifts, Operation, Count, IsIn, same_cell, count_of, writer_of}
 use Rattle.replica_state.specs.States.{State}
 use Rattle.replica_state.specs.Folds.{fold, key_of, number_at, at_key}
 use Rattle.replica_state.proofs.Orders.{same_cell-refl, same_cell-true}
@@ -19,7 +19,7 @@ use Rattle.node_core.specs.Steps.{after, reply, settings, operations_issued, shi
 use Rattle.cluster_model.specs.Worlds.{Cluster, World, Event, accepted, node_after, trace_after, world}
 use Rattle.cluster_model.specs.Schedules.{Allows, IsSchedule}
 use Rattle.cluster_model.specs.Histories.{state_of, ops_delivered, is_act_of, acts, executions, is_key, amount_moved, moved}
-use Rattle.cluster_model.proofs.Steps.{IsKnown, known, delivered_from, writer}
+use Rattle.cluster_model.proofs.Steps.{IsKnown, known, delivered_from}
 use Rattle.cluster_model.proofs.Passes.{Outcome, NotSet, Nothing, Triggered, IsOutcome, IsTriggered, ops_of, passed_as, outcome_of}
 use Rattle.cluster_model.proofs.Stamps.{carried, under_issued, OneStamp, one_before}
 
@@ -231,8 +231,8 @@ executed_more stamp term i n trace (Some ask) words =
     omega (arith, whole, last)
 
 -- what is delivered to a node holds no more of the cells that it writes
-pub delivered_own : (c : Cluster) (w : World) (e : Event) (i : ℕ) (cell : Cell) → IsKnown w → Allows w e.node (accepted c w e e.node) → writer (Count cell 0) ≡ i → number_at cell (ops_delivered (accepted c w e i)) ≤ number_at cell (w.node i).ops
-delivered_own c w e i cell k allowed own = number_at-mono cell _ _ (λ m h. subst (λ j. IsIn (Count cell m) (w.node j).ops) own (delivered_from c w e i (λ o. IsIn o (w.node (writer o)).ops) allowed k.sent (Count cell m) h))
+pub delivered_own : (c : Cluster) (w : World) (e : Event) (i : ℕ) (cell : Cell) → IsKnown w → Allows w e.node (accepted c w e e.node) → writer_of (Count cell 0) ≡ i → number_at cell (ops_delivered (accepted c w e i)) ≤ number_at cell (w.node i).ops
+delivered_own c w e i cell k allowed own = number_at-mono cell _ _ (λ m h. subst (λ j. IsIn (Count cell m) (w.node j).ops) own (delivered_from c w e i (λ o. IsIn o (w.node (writer_of o)).ops) allowed k.sent (Count cell m) h))
 
 pub own_shifts : (c : Cluster) (es : List Event) → IsSchedule c es → (name : List ℕ) (key : KeyValue) (term i j : ℕ) → number_at (Shifts name key term i j) ((world c es).node i).ops ≡ moved c es name key term i j
 own_shifts c [] s name key term i j = refl

@@ -20,7 +20,7 @@ use Rattle.node_core.specs.Refusals.{refusal_at}
 use Rattle.cluster_model.specs.Worlds.{Cluster, World, Event, config_of, accepted, node_after, trace_after, sent, world}
 use Rattle.cluster_model.specs.Schedules.{AllowsDelta, IsDeltaSchedule}
 use Rattle.cluster_model.specs.Histories.{state_of}
-use Rattle.cluster_model.specs.Laws.{IsCall, IsDelivered}
+use Rattle.cluster_model.specs.Laws.{IsCall, IsLeastAboveBoth}
 use Rattle.cluster_model.proofs.Steps.{asked_is}
 
 step_replayed : (i : ℕ) (n : Node) (trace : List Call) (a : Option Asked) (words : List ℕ) → n ≡ replay i trace → node_after i n a words ≡ replay i (trace_after i n trace a words)
@@ -114,7 +114,7 @@ event_is_call c es e =
 
 -- ---- legal traces
 
-legal_more : (config : Config) (entries : ℕ) (n : Node) (trace : List Call) (ask : Asked) (words : List ℕ) → IsLegalFrom config entries n trace →
+pub legal_more : (config : Config) (entries : ℕ) (n : Node) (trace : List Call) (ask : Asked) (words : List ℕ) → IsLegalFrom config entries n trace →
     refusal_at config (entries + length trace) (replay_from config.node n trace) ask words ≡ None → SendsDelta (replay_from config.node n trace) ask →
     IsLegalFrom config entries n (trace ++ record { ask = ask; words = words; reply = reply config.node (replay_from config.node n trace) ask words } ∷ [])
 unfolding IsLegalFrom replay_from
@@ -128,7 +128,7 @@ legal_more config entries n (call ∷ trace) ask words legal agreed sends =
           (subst (λ k. refusal_at config k (replay_from config.node (after config.node n call.ask call.words) trace) ask words ≡ None) places agreed) sends,
     )
 
-sends_delta : (c : Cluster) (w : World) (e : Event) (i : ℕ) (ask : Asked) → AllowsDelta w e.node (accepted c w e e.node) → accepted c w e i ≡ Some ask → SendsDelta (w.node i) ask
+pub sends_delta : (c : Cluster) (w : World) (e : Event) (i : ℕ) (ask : Asked) → AllowsDelta w e.node (accepted c w e e.node) → accepted c w e i ≡ Some ask → SendsDelta (w.node i) ask
 sends_delta c w e i ask allowed h =
     let here = (asked_is c w e i ask h).here in
     of ask (subst (λ (a : Option Asked). AllowsDelta w i a) h (subst (λ j. AllowsDelta w j (accepted c w e j)) (sym here) allowed))
@@ -166,7 +166,7 @@ after_delivery : (i : ℕ) (n : Node) (m : Message) (words : List ℕ) → (node
 unfolding after
 after_delivery i n m words = refl
 
-pub delivery_is_least : (c : Cluster) (es : List Event) (e : Event) (i : ℕ) (m : Message) → accepted c (world c es) e i ≡ Some (asks.Deliver (Ok m)) → IsDelivered c es e i m
+pub delivery_is_least : (c : Cluster) (es : List Event) (e : Event) (i : ℕ) (m : Message) → accepted c (world c es) e i ≡ Some (asks.Deliver (Ok m)) → IsLeastAboveBoth c es e i m
 delivery_is_least c es e i m h =
     record {
       own = subst (λ (v : State). IsBelow (state_of c es i) v) (sym now) (union_above_right m.ops own);

@@ -5,7 +5,7 @@ use Rattle.std.proofs.lemmas.Int.{ints}
 use Rattle.std.specs.Prelude.{pos, ◌-ℤ◌}
 use Rattle.std.specs.Str.{bytes_eq}
 use Rattle.counters.specs.Sums.{numbers, sum_others}
-use Rattle.counters.specs.Budgets.{Budget, given_to, gone_from, rights}
+use Rattle.counters.specs.Budgets.{Budget, given_to, gone_from}
 use Rattle.counters.proofs.SumLemmas.{sum_others-le, sum_others-add, sum_others-same, sum_others-at_most, sum_others-zero}
 use Rattle.stamp_register.specs.Keys.{KeyValue, stamp_of, same_key}
 use Rattle.replica_state.specs.Operations.{Execs, Shifts, Operation, Count, IsIn, count_of}
@@ -20,7 +20,7 @@ use Rattle.node_core.specs.Passes.{has_rights_of}
 use Rattle.node_core.specs.Steps.{after}
 use Rattle.cluster_model.specs.Worlds.{Cluster, World, Event, accepted, node_after, world}
 use Rattle.cluster_model.specs.Schedules.{IsSchedule}
-use Rattle.cluster_model.specs.Histories.{state_of, ops_issued, keys_by, is_act_of, executions, is_key, is_under, amount_moved, moved, held, seen}
+use Rattle.cluster_model.specs.Histories.{state_of, ops_issued, keys_by, is_act_of, executions, is_key, is_under, amount_moved, moved, state_under, rights_under, held, shifts_under, seen}
 use Rattle.cluster_model.proofs.Steps.{keeps, known, IsAgreed, agreed}
 use Rattle.cluster_model.proofs.Passes.{Outcome, NotSet, Nothing, Triggered, IsOutcome, passed_as, outcome_of, shifted_is}
 use Rattle.cluster_model.proofs.Stamps.{own_carries, OneStamp, one_before}
@@ -257,6 +257,9 @@ balance c (e ∷ es) s name key term count counted one i = at (is_under c (e ∷
     v : State
     v = state_of c (e ∷ es) i
 
+    last_state : Bool → Option State
+    last_state t = cond t (Some v) (state_under c es name key i)
+
     at : (t : Bool) → is_under c (e ∷ es) name key i ≡ t → Balance c es name key term count i → Balance c (e ∷ es) name key term count i
     at true u before =
         let b : Budget = budget v name term key.node count in
@@ -267,12 +270,12 @@ balance c (e ∷ es) s name key term count counted one i = at (is_under c (e ∷
         sum_others-same numbers i _ _ (λ j. own_shifts c (e ∷ es) s name key term i j) in
         let spent : number_at (Execs name key term i) ops ≡ executions c (e ∷ es) (stamp_of key) term i = own_execs c (e ∷ es) s name key term count counted one i in
         let came : sum_others numbers i (λ j. seen c (e ∷ es) name key term j i) ≡ sum_others numbers i (λ j. v.shifts name term j i) =
-        sum_others-same numbers i _ _ (λ j. ap (λ t. cond t (v.shifts name term j i) (seen c es name key term j i)) u) in
+        sum_others-same numbers i _ _ (λ j. ap (λ t. shifts_under (last_state t) name term j i) u) in
         let gone_now : gone_from b i ≡ sum_others numbers i (λ j. moved c (e ∷ es) name key term i j) + executions c (e ∷ es) (stamp_of key) term i = gone_is ∙ (λ r. out r + spent r) in
         let given_now : given_to b i ≡ cond (i == key.node) count 0 + sum_others numbers i (λ j. seen c (e ∷ es) name key term j i) = ap (λ x. cond (i == key.node) count 0 + x) (sym came) in
         record {
           rights = given_to b i - gone_from b i;
-          is = ap (λ t. cond t (rights b i) (held c es name key term count i)) u ∙ int_less _ _ solv;
+          is = ap (λ t. rights_under (last_state t) name key term count i) u ∙ int_less _ _ solv;
           adds_up = ap (λ x. given_to b i - gone_from b i + x) (sym gone_now) ∙ back _ _ solv ∙ given_now;
         }
     at false u before =
@@ -284,9 +287,9 @@ balance c (e ∷ es) s name key term count counted one i = at (is_under c (e ∷
         sum_others-same numbers i _ _ (λ j. ap (λ x. x + moved c es name key term i j) (none.moves j) ∙ plain _) in
         let spent : executions c (e ∷ es) (stamp_of key) term i ≡ executions c es (stamp_of key) term i = more ∙ ap (λ x. x + executions c es (stamp_of key) term i) none.spends ∙ plain _ in
         let came : sum_others numbers i (λ j. seen c (e ∷ es) name key term j i) ≡ sum_others numbers i (λ j. seen c es name key term j i) =
-        sum_others-same numbers i _ _ (λ j. ap (λ t. cond t (v.shifts name term j i) (seen c es name key term j i)) u) in
+        sum_others-same numbers i _ _ (λ j. ap (λ t. shifts_under (last_state t) name term j i) u) in
         record {
           rights = before.rights;
-          is = ap (λ t. cond t (rights (budget v name term key.node count) i) (held c es name key term count i)) u ∙ before.is;
+          is = ap (λ t. rights_under (last_state t) name key term count i) u ∙ before.is;
           adds_up = (λ r. before.rights + (out r + spent r)) ∙ before.adds_up ∙ ap (λ x. cond (i == key.node) count 0 + x) (sym came);
         }

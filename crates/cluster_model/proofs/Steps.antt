@@ -4,7 +4,7 @@ use Rattle.std.proofs.lemmas.Bool.{eqb-true, ltb-true, and_parts}
 use Rattle.std.specs.Prelude.{is_none}
 use Rattle.actions.specs.Value.{TermValue}
 use Rattle.stamp_register.specs.Keys.{KeyValue}
-use Rattle.replica_state.specs.Operations.{Cell, Hits, Execs, Shifts, Operation, Set, Count, IsIn, count_at}
+use Rattle.replica_state.specs.Operations.{Operation, writer_of, IsIn, count_at}
 use Rattle.replica_state.specs.States.{State}
 use Rattle.replica_state.specs.Folds.{fold}
 use Rattle.replica_state.proofs.Sets.{IsIn-append_left, IsIn-append_right, IsIn-append_cases}
@@ -17,9 +17,8 @@ use Rattle.node_core.specs.Nodes.{Node, state_shown, setting_of}
 use Rattle.node_core.specs.Passes.{ops_of_pass, triggered_term, execs_of_choice, execs_of_term, next_hit}
 use Rattle.node_core.specs.Steps.{after, operations_added, settings, operations_issued, shift_under, message_in}
 use Rattle.node_core.specs.Refusals.{refusal_at}
-use Rattle.node_core.specs.Traces.{MayTell}
 use Rattle.cluster_model.specs.Worlds.{Cluster, World, Event, config_of, is_accepted, accepted, node_after, sent, happens, world}
-use Rattle.cluster_model.specs.Schedules.{MaySend, Allows, IsSchedule}
+use Rattle.cluster_model.specs.Schedules.{MaySend, MayTell, Allows, IsSchedule}
 use Rattle.cluster_model.specs.Histories.{ops_issued, ops_delivered, all_issued, all_delivered, all_learnt}
 
 -- ---- who accepts what
@@ -134,42 +133,33 @@ state_is_fold c es i = same_members _ _
 
 -- ---- each operation is known to the node that wrote it
 
-abbrev pub writer_of_cell : Cell → ℕ
-writer_of_cell (Hits name node) = node
-writer_of_cell (Execs name key term node) = node
-writer_of_cell (Shifts name key term from to) = from
-
-abbrev pub writer : Operation → ℕ
-writer (Set name key) = key.node
-writer (Count cell number) = writer_of_cell cell
-
-issued_by : (i clock : ℕ) (settings : List (List ℕ × Option (List ℕ))) (op : Operation) → IsIn op (operations_issued i clock settings) → writer op ≡ i
+issued_by : (i clock : ℕ) (settings : List (List ℕ × Option (List ℕ))) (op : Operation) → IsIn op (operations_issued i clock settings) → writer_of op ≡ i
 issued_by i clock [] op h = absurd h
-issued_by i clock (setting ∷ rest) op (inl e) = ap writer e
+issued_by i clock (setting ∷ rest) op (inl e) = ap writer_of e
 issued_by i clock (setting ∷ rest) op (inr h) = issued_by i (clock + 1) rest op h
 
-pass_by : (i : ℕ) (v : State) (name words : List ℕ) (setting : Option (KeyValue × List TermValue)) (op : Operation) → IsIn op (ops_of_pass i v name words setting) → writer op ≡ i
+pass_by : (i : ℕ) (v : State) (name words : List ℕ) (setting : Option (KeyValue × List TermValue)) (op : Operation) → IsIn op (ops_of_pass i v name words setting) → writer_of op ≡ i
 pass_by i v name words None op h = absurd h
 pass_by i v name words (Some setting) op h = at (triggered_term i v name words setting) h
   where
-    counted : (term : ℕ) (count : Option ℕ) → IsIn op (execs_of_term i v name setting.0 term count ++ next_hit i v name ∷ []) → writer op ≡ i
-    counted term None (inl e) = ap writer e
+    counted : (term : ℕ) (count : Option ℕ) → IsIn op (execs_of_term i v name setting.0 term count ++ next_hit i v name ∷ []) → writer_of op ≡ i
+    counted term None (inl e) = ap writer_of e
     counted term None (inr k) = absurd k
-    counted term (Some n) (inl e) = ap writer e
-    counted term (Some n) (inr (inl e)) = ap writer e
+    counted term (Some n) (inl e) = ap writer_of e
+    counted term (Some n) (inr (inl e)) = ap writer_of e
     counted term (Some n) (inr (inr k)) = absurd k
 
-    at : (chosen : Option ℕ) → IsIn op (execs_of_choice i v name setting chosen ++ next_hit i v name ∷ []) → writer op ≡ i
-    at None (inl e) = ap writer e
+    at : (chosen : Option ℕ) → IsIn op (execs_of_choice i v name setting chosen ++ next_hit i v name ∷ []) → writer_of op ≡ i
+    at None (inl e) = ap writer_of e
     at None (inr k) = absurd k
     at (Some term) k = counted term (count_at setting.1 term) k
 
-shift_by : (i : ℕ) (v : State) (name : List ℕ) (term to amount : ℕ) (key : Option KeyValue) (op : Operation) → IsIn op (shift_under i v name term to amount key) → writer op ≡ i
+shift_by : (i : ℕ) (v : State) (name : List ℕ) (term to amount : ℕ) (key : Option KeyValue) (op : Operation) → IsIn op (shift_under i v name term to amount key) → writer_of op ≡ i
 shift_by i v name term to amount None op h = absurd h
-shift_by i v name term to amount (Some key) op (inl e) = ap writer e
+shift_by i v name term to amount (Some key) op (inl e) = ap writer_of e
 shift_by i v name term to amount (Some key) op (inr h) = absurd h
 
-pub own_ops : (i : ℕ) (n : Node) (a : Option Asked) (words : List ℕ) (op : Operation) → IsIn op (ops_issued i n a words) → writer op ≡ i
+pub own_ops : (i : ℕ) (n : Node) (a : Option Asked) (words : List ℕ) (op : Operation) → IsIn op (ops_issued i n a words) → writer_of op ≡ i
 own_ops i n None words op h = absurd h
 own_ops i n (Some (asks.Deliver read)) words op h = absurd h
 own_ops i n (Some (asks.Emit to versions chosen)) words op h = absurd h
@@ -180,8 +170,8 @@ own_ops i n (Some (asks.Remove name)) words op h = issued_by i n.marks.clock (se
 own_ops i n (Some (asks.Load text)) words op h = issued_by i n.marks.clock (settings (asks.Load text)) op h
 
 pub record IsKnown (w : World) : Type 0 where
-  pub held : (i : ℕ) (op : Operation) → IsIn op (w.node i).ops → IsIn op (w.node (writer op)).ops
-  pub sent : (m : Message) → IsIn m w.messages → (op : Operation) → IsIn op m.ops → IsIn op (w.node (writer op)).ops
+  pub held : (i : ℕ) (op : Operation) → IsIn op (w.node i).ops → IsIn op (w.node (writer_of op)).ops
+  pub sent : (m : Message) → IsIn m w.messages → (op : Operation) → IsIn op m.ops → IsIn op (w.node (writer_of op)).ops
 
 -- what is delivered comes from a message that was sent
 pub delivered_from : (c : Cluster) (w : World) (e : Event) (i : ℕ) (P : Operation → Type 0) → Allows w e.node (accepted c w e e.node) →
@@ -209,11 +199,11 @@ known_after c w e known allowed =
     record {
       held = λ i op h. ⊎_elim
           (λ k. subst (λ j. IsIn op ((happens c w e).node j).ops) (sym (own_ops i (w.node i) (accepted c w e i) e.words op k)) h)
-          (⊎_elim (λ k. grows (writer op) op (delivered_from c w e i (λ o. IsIn o (w.node (writer o)).ops) allowed known.sent op k)) (λ k. grows (writer op) op (known.held i op k)))
+          (⊎_elim (λ k. grows (writer_of op) op (delivered_from c w e i (λ o. IsIn o (w.node (writer_of o)).ops) allowed known.sent op k)) (λ k. grows (writer_of op) op (known.held i op k)))
           (gains i (w.node i) (accepted c w e i) e.words op h);
       sent = λ m h op k. ⊎_elim
-          (λ l. grows (writer op) op (known.sent m l op k))
-          (λ l. grows (writer op) op (known.held e.node op (sent_was_held c w e e.node allowed m l op k)))
+          (λ l. grows (writer_of op) op (known.sent m l op k))
+          (λ l. grows (writer_of op) op (known.held e.node op (sent_was_held c w e e.node allowed m l op k)))
           (IsIn-append_cases m _ _ h);
     }
 

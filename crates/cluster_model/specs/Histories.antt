@@ -30,7 +30,8 @@ ops_delivered _ = []
 
 abbrev pub all_issued : Cluster → List Event → ℕ → List Operation
 all_issued c [] i = []
-all_issued c (e ∷ es) i = ops_issued i ((world c es).node i) (accepted c (world c es) e i) e.words ++ all_issued c es i
+all_issued c (e ∷ es) i =
+    ops_issued i ((world c es).node i) (accepted c (world c es) e i) e.words ++ all_issued c es i
 
 abbrev pub all_delivered : Cluster → List Event → ℕ → List Operation
 all_delivered c [] i = []
@@ -47,14 +48,16 @@ keys_by i n (Some ask) = operations_issued i n.marks.clock (settings ask)
 
 abbrev pub keys_issued : Cluster → List Event → List Operation
 keys_issued c [] = []
-keys_issued c (e ∷ es) = keys_by e.node ((world c es).node e.node) (accepted c (world c es) e e.node) ++ keys_issued c es
+keys_issued c (e ∷ es) =
+    keys_by e.node ((world c es).node e.node) (accepted c (world c es) e e.node) ++ keys_issued c es
 
 abbrev pub IsIssued : Cluster → List Event → List ℕ → KeyValue → Type 0
 IsIssued c es name key = IsIn (Set name key) (keys_issued c es)
 
 -- the executions of a term under a stamp at node i are the replies there that say so
 abbrev pub is_act_of : Stamp → ℕ → Passed → Bool
-is_act_of stamp term (Act other k task) = other.clock == stamp.clock && (other.node == stamp.node && (k == term))
+is_act_of stamp term (Act other k task) =
+    other.clock == stamp.clock && (other.node == stamp.node && (k == term))
 is_act_of stamp term _ = false
 
 abbrev pub acts : Stamp → ℕ → Answered → Bool
@@ -72,41 +75,56 @@ is_key key (Some other) = same_key other key
 -- the rights of a term that node i shifted to node j under the key: what its accepted shifts add up to
 abbrev pub amount_moved : Node → Option Asked → List ℕ → KeyValue → ℕ → ℕ → ℕ
 amount_moved n (Some (asks.Shift other k to amount)) name key term j =
-    if bytes_eq other name && (k == term && (to == j && is_key key ((state_shown n).key other))) then amount else 0
+    if bytes_eq other name && (k == term && (to == j && is_key key ((state_shown n).key other)))
+    then amount else 0
 amount_moved n _ name key term j = 0
 
 abbrev pub moved : Cluster → List Event → List ℕ → KeyValue → ℕ → ℕ → ℕ → ℕ
 moved c [] name key term i j = 0
 moved c (e ∷ es) name key term i j =
-    amount_moved ((world c es).node i) (accepted c (world c es) e i) name key term j + moved c es name key term i j
+    amount_moved ((world c es).node i) (accepted c (world c es) e i) name key term j
+    + moved c es name key term i j
 
 -- the key is node i's key of the name
 abbrev pub is_under : Cluster → List Event → List ℕ → KeyValue → ℕ → Bool
 is_under c es name key i = is_key key ((state_of c es i).key name)
 
--- the rights of a term counted so that node i holds: its rights in its own state, as they stood when it was last
--- under the key; before that, all for the node that set the key and none for others
-abbrev pub held : Cluster → List Event → List ℕ → KeyValue → ℕ → ℕ → ℕ → ℤ
-held c [] name key term count i = pos (if i == key.node then count else 0)
-held c (e ∷ es) name key term count i =
-    if is_under c (e ∷ es) name key i then rights (budget (state_of c (e ∷ es) i) name term key.node count) i
-    else held c es name key term count i
+-- the state of node i as it stood when the node was last under the key, if it ever was
+abbrev pub state_under : Cluster → List Event → List ℕ → KeyValue → ℕ → Option State
+state_under c [] name key i = None
+state_under c (e ∷ es) name key i =
+    if is_under c (e ∷ es) name key i then Some (state_of c (e ∷ es) i)
+    else state_under c es name key i
 
--- what node j has seen of the rights that node i shifted to it, as it stood when j was last under the key
+-- the rights of a term counted so that node i holds: its rights in that state; before that, all for the
+-- node that set the key and none for others
+abbrev pub rights_under : Option State → List ℕ → KeyValue → ℕ → ℕ → ℕ → ℤ
+rights_under None name key term count i = pos (if i == key.node then count else 0)
+rights_under (Some v) name key term count i = rights (budget v name term key.node count) i
+
+abbrev pub held : Cluster → List Event → List ℕ → KeyValue → ℕ → ℕ → ℕ → ℤ
+held c es name key term count i = rights_under (state_under c es name key i) name key term count i
+
+-- what node j has seen of the rights that node i shifted to it: what that state of node j has of them;
+-- before that, none
+abbrev pub shifts_under : Option State → List ℕ → ℕ → ℕ → ℕ → ℕ
+shifts_under None name term i j = 0
+shifts_under (Some v) name term i j = v.shifts name term i j
+
 abbrev pub seen : Cluster → List Event → List ℕ → KeyValue → ℕ → ℕ → ℕ → ℕ
-seen c [] name key term i j = 0
-seen c (e ∷ es) name key term i j =
-    if is_under c (e ∷ es) name key j then (state_of c (e ∷ es) j).shifts name term i j else seen c es name key term i j
+seen c es name key term i j = shifts_under (state_under c es name key j) name term i j
 
 -- over all nodes: the rights that are held, those on their way from one node to another, and the executions
 abbrev pub all_held : Cluster → List Event → List ℕ → KeyValue → ℕ → ℕ → ℤ
 all_held c es name key term count = int_sum_below c.nodes (held c es name key term count)
 
 abbrev pub in_transit : Cluster → List Event → List ℕ → KeyValue → ℕ → ℕ → ℕ → ℤ
-in_transit c es name key term i j = pos (moved c es name key term i j) -ℤ pos (seen c es name key term i j)
+in_transit c es name key term i j =
+    pos (moved c es name key term i j) -ℤ pos (seen c es name key term i j)
 
 abbrev pub all_in_transit : Cluster → List Event → List ℕ → KeyValue → ℕ → ℤ
-all_in_transit c es name key term = int_sum_below c.nodes (λ i. int_sum_below c.nodes (in_transit c es name key term i))
+all_in_transit c es name key term =
+    int_sum_below c.nodes (λ i. int_sum_below c.nodes (in_transit c es name key term i))
 
 abbrev pub all_executions : Cluster → List Event → Stamp → ℕ → ℕ
 all_executions c es stamp term = sum_below c.nodes (executions c es stamp term)

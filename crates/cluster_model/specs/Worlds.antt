@@ -34,7 +34,9 @@ pub record Event : Type 0 where
 -- node i is the one that is asked, it is a node of the cluster, and it doesn't refuse
 abbrev pub is_accepted : Cluster → World → Event → ℕ → Bool
 is_accepted c w e i =
-    nat_lt e.node c.nodes && (i == e.node && is_none (refusal_at (config_of c i) (length (w.trace i)) (w.node i) e.ask e.words))
+    nat_lt e.node c.nodes
+    && (i == e.node
+    && is_none (refusal_at (config_of c i) (length (w.trace i)) (w.node i) e.ask e.words))
 
 -- what node i accepts, if anything
 abbrev pub accepted : Cluster → World → Event → ℕ → Option Asked
@@ -47,7 +49,8 @@ node_after i n (Some ask) words = after i n ask words
 
 abbrev pub trace_after : ℕ → Node → List Call → Option Asked → List ℕ → List Call
 trace_after i n trace None words = trace
-trace_after i n trace (Some ask) words = trace ++ record { ask = ask; words = words; reply = reply i n ask words } ∷ []
+trace_after i n trace (Some ask) words =
+    trace ++ record { ask = ask; words = words; reply = reply i n ask words } ∷ []
 
 abbrev pub sent : ℕ → Node → Option Asked → List Message
 sent i n (Some (asks.Emit to versions chosen)) = message_to i to versions chosen ∷ []

@@ -3,14 +3,18 @@
 //! A schedule is a list of asks, each to one node, in which what is delivered was sent before. A
 //! message that is never delivered is lost, and one that is delivered again is repeated.
 
+ghost use Rattle.std.specs.Prelude.{◌≡◌, ℕ};
 ghost use Rattle.replica_state.specs.Laws.{UnionIsLeast};
-ghost use Rattle.cluster_model.specs.Laws.{NodeIsReplay, EventIsCall, StateIsFold, AnyOrderSameState, SameKnownSameState, DeliveryIsLeast, Escrow, StampIsIssuedOnce, StampIsOneKey, HonestMessages, DeltaMaySend, DeltasAreSchedules, TracesAreLegal};
+ghost use Rattle.node_core.specs.Traces.{Kept};
+ghost use Rattle.cluster_model.specs.Laws.{NodeIsReplay, EventIsCall, StateIsFold, AnyOrderSameState, MutualKnowledgeSameState, DeliveryIsLeast, Escrow, StampIsIssuedOnce, StampIsOneKey, HonestMessages, HonestBytes, MessagesAreReplies, ToldExecutionsAreIssued, DeltaMaySend, DeltasAreSchedules, TracesAreLegal, DeltaIsEmission, DeltaIsOne, IsLegalEmit, PastBegins, PastIsPresent, PastStays, PastIsState, KnownVersionIsBelow, KnownVersionsSameState};
 
 /// Each event of a schedule is a call of one node: it is refused, and changes nothing, or it changes
-/// that node by the step that the contracts of `NodeCore` cite, and its trace tells all of it.
+/// that node by the step that the contracts of `NodeCore` cite, and its trace tells all of it. The
+/// messages are those that the callers of emits were answered with.
 pub fn calls()
     ensures node { NodeIsReplay }
     ensures call { EventIsCall }
+    ensures messages { MessagesAreReplies }
 {}
 
 /// Nodes that know the same operations hold the same state, in whatever order, how often and by
@@ -18,30 +22,65 @@ pub fn calls()
 pub fn same()
     ensures state { StateIsFold }
     ensures order { AnyOrderSameState }
-    ensures known { SameKnownSameState }
+    ensures known { MutualKnowledgeSameState }
     ensures least { UnionIsLeast }
     ensures delivery { DeliveryIsLeast }
 {}
 
 /// The count of a term is the greatest number of its executions in the whole cluster: of each
 /// term counted n under one stamp, the rights that the nodes hold, the rights in transit between
-/// them and the executions add up to n, and none of these is negative.
+/// them and the executions add up to n, and none of these is negative. Each execution that a caller
+/// was told of is of a term under such a stamp.
 pub fn escrow()
     ensures stamp { StampIsIssuedOnce }
     ensures key { StampIsOneKey }
     ensures count { Escrow }
+    ensures told { ToldExecutionsAreIssued }
 {}
 
-/// No message of the cluster is refused for what it says.
+/// No message of the cluster is refused for what it says, and so none of the bytes that spell one.
 pub fn honest()
-    ensures { HonestMessages }
+    ensures messages { HonestMessages }
+    ensures bytes { HonestBytes }
 {}
 
-/// A node that sends what differs between its state at the version that its message counts on and
-/// its state now, and tells no version that it hasn't, sends what a schedule lets it, and the traces
-/// of such nodes are legal.
+/// A node that sends what differs between its state at the version that the receiver is known to
+/// have and its state now, and tells just these versions, sends what a schedule lets it, and the
+/// traces of such nodes are legal.
 pub fn deltas()
     ensures any { DeltaMaySend }
     ensures schedule { DeltasAreSchedules }
     ensures traces { TracesAreLegal }
+{}
+
+/// Bytes that tell what differs between the state at the version that the receiver is known to have
+/// and the state now are those of an emit that a schedule allows next, and there are no two such
+/// strings of bytes.
+pub fn emitted()
+    ensures allowed { DeltaIsEmission }
+    ensures one { DeltaIsOne }
+{}
+
+/// A legal trace tells which bytes an emit was answered with: with an emit of bytes at its end a
+/// trace is legal exactly where it was before, the emit isn't refused, and the bytes tell what
+/// differs.
+pub fn legal_emits(nodes: u8, bytes: &[u8])
+    ensures { (k : Kept) (to : ℕ) → k.config.nodes ≡ nodes → IsLegalEmit k to bytes.now }
+{}
+
+/// What a node has been: at version 0 it knew nothing, at its present version it knows what it
+/// shows, and what it knew at a version that it has reached never changes.
+pub fn past()
+    ensures begins { PastBegins }
+    ensures present { PastIsPresent }
+    ensures stays { PastStays }
+    ensures world { PastIsState }
+{}
+
+/// Where each node sends what differs, a node that knows a version of another holds all that the
+/// other held at that version, and two nodes that know each other's present version hold the same
+/// state.
+pub fn known_versions()
+    ensures below { KnownVersionIsBelow }
+    ensures same { KnownVersionsSameState }
 {}

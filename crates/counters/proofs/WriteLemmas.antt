@@ -1,5 +1,5 @@
 -- What a change of a map's entries does to its cells.
-use Rattle.std.specs.Prelude.{◌≡◌, ◌≢◌, ◌<◌, ◌≤◌, ℕ, true, false, Option, Some, None, IsSome, [], unwrap_or, Result, Ok, Err, OnOk, OnErr}
+use Rattle.std.specs.Prelude.{◌≡◌, ◌≢◌, ◌<◌, ◌≤◌, ℕ, max, true, false, Option, Some, None, IsSome, [], unwrap_or, Result, Ok, Err, OnOk, OnErr}
 use Rattle.std.specs.Ordering.{nat_cmp}
 use Rattle.std.specs.declared.cmp.Ordering.TheVariants.{Equal}
 use Rattle.std.proofs.Common.{ap, arith, refl, sym, ◌∙◌, ⊎_elim}
@@ -45,14 +45,19 @@ put_cell old new node number value e puts = record {
 }
 
 -- a cell that is raised has the greater number
-pub raised_cell : (old new : Cells) (node number : ℕ) → cell old node < number
+pub raised_cell : (old new : Cells) (node number : ℕ)
     → RaisesOnly nat_cmp IsNumber IsAtMost zero_max old new node (record { 0 = number })
-    → WritesCell old new node number
+    → WritesCell old new node (max (cell old node) number)
 unfolding cell
-raised_cell old new node number less raises = record {
+raised_cell old new node number raises = record {
   this_cell = let greater = max_join _ (record { 0 = number }) _ raises.this_key in omega arith;
   other_cells = λ q ne. ap (λ o. let held = unwrap_or o zero_max in held.0) (raises.other_keys q (apart node q ne));
 }
+
+-- the number of an entry that is there
+pub found_cell : (cells : Cells) (node : ℕ) (held : Max) → stored_at nat_cmp cells node ≡ Some held → cell cells node ≡ held.0
+unfolding cell
+found_cell cells node held found = ap (λ o. let held = unwrap_or o zero_max in held.0) found
 
 -- a node without an entry has 0
 pub absent_cell : (cells : Cells) (node : ℕ) → (IsSome (stored_at nat_cmp cells node) → false ≡ true) → cell cells node ≡ 0

@@ -7,8 +7,8 @@ ghost use Rattle.counters.specs.Cells.{no_shares, spent_cell, moved_cell, budget
 ghost use Rattle.counters.specs.Refusals.{spend_refusal, shift_refusal, IsRefusal};
 
 use crate::cells::{
-    Cells, Rows, number_in_row, number_of, total, total_from_others, total_to_others, write,
-    write_row,
+    Cells, Rows, number_in_row, number_of, raise, raise_row, total, total_from_others,
+    total_to_others,
 };
 use crate::fault::CounterFault;
 use lattice_laws::{Join, MapOf, PairOf};
@@ -101,7 +101,7 @@ impl Budget {
         ensures err { OnErr result (self.new ≡ self.old) }
     {
         let spent = self.spend_checked(setter, count, node)?;
-        write(&mut self.shares.first, alloc, node, spent)?;
+        raise(&mut self.shares.first, alloc, node, spent)?;
         Ok(spent)
     }
 
@@ -128,7 +128,7 @@ impl Budget {
         ensures err { OnErr result (self.new ≡ self.old) }
     {
         let moved = self.shift_checked(setter, count, from, to, amount)?;
-        write_row(&mut self.shares.second, alloc, from, to, moved)?;
+        raise_row(&mut self.shares.second, alloc, from, to, moved)?;
         Ok(moved)
     }
 
@@ -140,10 +140,7 @@ impl Budget {
         ensures err { OnErr result (self.new ≡ self.old) }
         ensures absent { OnErr result (spent_cell self.old node ≡ 0) }
     {
-        if self.spent(node) < spent {
-            write(&mut self.shares.first, alloc, node, spent)?;
-        }
-        Ok(())
+        raise(&mut self.shares.first, alloc, node, spent)
     }
 
     /// Raises what a node moved to another to at least this total. Memory is asked for only where
@@ -160,10 +157,7 @@ impl Budget {
         ensures err { OnErr result (self.new ≡ self.old) }
         ensures absent { OnErr result (moved_cell self.old from to ≡ 0) }
     {
-        if self.moved(from, to) < total {
-            write_row(&mut self.shares.second, alloc, from, to, total)?;
-        }
-        Ok(())
+        raise_row(&mut self.shares.second, alloc, from, to, total)
     }
 
     // What the node will have spent, or the refusal.

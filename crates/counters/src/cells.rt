@@ -1,9 +1,11 @@
 //! Numbers by node, 0 where there is none, and rows of them.
 
-ghost use Rattle.std.specs.Prelude.{◌≡◌, ◌<◌, ◌≤◌, ◌*◌, ◌^◌, OnOk, OnErr};
+ghost use Rattle.std.specs.Prelude.{◌≡◌, ◌≤◌, ◌+◌, ◌*◌, ◌^◌, max, Some, None, IfOk, IfErr, OnOk, OnErr};
 ghost use Rattle.counters.specs.Sums.{numbers, sum_below, sum_others};
 ghost use Rattle.counters.specs.Cells.{cell, row_cell, WritesCell, WritesRowCell};
+ghost use Rattle.counters.specs.Refusals.{hit_refusal, too_great, IsRefusal};
 
+use crate::fault::CounterFault;
 use lattice_laws::{MapOf, Max};
 use std::alloc::{AllocError, Global};
 
@@ -87,44 +89,76 @@ pub(crate) fn total_from_others(rows: &Rows, node: u8) -> u128
     sum
 }
 
-/// Writes a greater number over a node's number, in place where there is one. Memory is asked for
+/// Raises a node's number to at least this one, in place where there is one. Memory is asked for
 /// only where there is none.
-pub(crate) fn write(
+pub(crate) fn raise(
     cells: &mut Cells,
     alloc: Global,
     node: u8,
     number: u64,
 ) -> Result<(), AllocError>
-    requires { cell cells.old node < number }
-    ensures ok { OnOk result (WritesCell cells.old cells.new node number) }
+    ensures ok { OnOk result
+        (WritesCell cells.old cells.new node (max (cell cells.old node) number)) }
     ensures err { OnErr result (cells.new ≡ cells.old) }
     ensures absent { OnErr result (cell cells.old node ≡ 0) }
 {
-    match cells.change(&node, |held| *held = Max(number)) {
+    match cells.change(&node, |held| held.0 = held.0.max(number)) {
         Some(()) => Ok(()),
         None => cells.raise(alloc, node, Max(number)),
     }
 }
 
-/// Writes a greater number over the one in a row at a node, in place where there is one. Memory
+// One more, and the answer is how many there then are.
+fn add_one(number: &mut Max) -> Result<u64, CounterFault>
+    ensures ok { OnOk result (too_great (number.old.0 + 1) ≡ None) }
+    ensures answer { IfOk result (λ more. (more ≡ number.old.0 + 1) × (number.new.0 ≡ more)) }
+    ensures full { IfErr result (λ fault. too_great (number.old.0 + 1) ≡ Some fault) }
+    ensures err { OnErr result (number.new ≡ number.old) }
+{
+    let Some(more) = number.0.checked_add(1) else {
+        return Err(CounterFault::CellFull);
+    };
+    number.0 = more;
+    Ok(more)
+}
+
+/// Counts one more at a node, in place where it has a number, and answers how many it now has. It
+/// is refused where there are 2^64 - 1, and where there is none and memory is refused.
+pub(crate) fn count(cells: &mut Cells, alloc: Global, node: u8) -> Result<u64, CounterFault>
+    ensures ok { OnOk result (hit_refusal cells.old node ≡ None) }
+    ensures answer { IfOk result (λ more. more ≡ cell cells.old node + 1) }
+    ensures after { IfOk result (WritesCell cells.old cells.new node) }
+    ensures refused { IfErr result (IsRefusal (hit_refusal cells.old node) (cell cells.old node)) }
+    ensures err { OnErr result (cells.new ≡ cells.old) }
+{
+    match cells.change(&node, |number| add_one(number)) {
+        Some(counted) => counted,
+        None => {
+            cells.raise(alloc, node, Max(1))?;
+            Ok(1)
+        }
+    }
+}
+
+/// Raises the number in a row at a node to at least this one, in place where there is one. Memory
 /// is asked for only where there is none.
-pub(crate) fn write_row(
+pub(crate) fn raise_row(
     rows: &mut Rows,
     alloc: Global,
     from: u8,
     to: u8,
     number: u64,
 ) -> Result<(), AllocError>
-    requires { row_cell rows.old from to < number }
-    ensures ok { OnOk result (WritesRowCell rows.old rows.new from to number) }
+    ensures ok { OnOk result
+        (WritesRowCell rows.old rows.new from to (max (row_cell rows.old from to) number)) }
     ensures err { OnErr result (rows.new ≡ rows.old) }
     ensures absent { OnErr result (row_cell rows.old from to ≡ 0) }
 {
-    match rows.change(&from, |row| write(row, alloc, to, number)) {
-        Some(written) => written,
+    match rows.change(&from, |row| raise(row, alloc, to, number)) {
+        Some(raised) => raised,
         None => {
             let mut row = MapOf::new(alloc);
-            write(&mut row, alloc, to, number)?;
+            raise(&mut row, alloc, to, number)?;
             rows.raise(alloc, from, row)
         }
     }

@@ -5,7 +5,7 @@ ghost use Rattle.counters.specs.Sums.{numbers, sum_below};
 ghost use Rattle.counters.specs.Cells.{cell, WritesCell};
 ghost use Rattle.counters.specs.Refusals.{hit_refusal, IsRefusal};
 
-use crate::cells::{Cells, number_of, total, write};
+use crate::cells::{Cells, count, number_of, raise, total};
 use crate::fault::CounterFault;
 use lattice_laws::{Join, MapOf};
 use std::alloc::{AllocError, Global};
@@ -61,12 +61,7 @@ impl HitCounter {
             (IsRefusal (hit_refusal self.old node) (cell self.old node)) }
         ensures err { OnErr result (self.new ≡ self.old) }
     {
-        let hits = self.of(node);
-        if hits == u64::MAX {
-            return Err(CounterFault::CellFull);
-        }
-        write(&mut self.hits, alloc, node, hits + 1)?;
-        Ok(hits + 1)
+        count(&mut self.hits, alloc, node)
     }
 
     /// Raises the hits of a node to at least `hits`. Memory is asked for only where it has none.
@@ -76,10 +71,7 @@ impl HitCounter {
         ensures err { OnErr result (self.new ≡ self.old) }
         ensures absent { OnErr result (cell self.old node ≡ 0) }
     {
-        if self.of(node) < hits {
-            write(&mut self.hits, alloc, node, hits)?;
-        }
-        Ok(())
+        raise(&mut self.hits, alloc, node, hits)
     }
 }
 

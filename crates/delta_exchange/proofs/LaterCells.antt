@@ -1,4 +1,4 @@
--- Lists made of the marked cells above a version: their members, and their order.
+-- Lists made of the marked cells that changed after a version: their members, and their order.
 use Rattle.std.proofs.Common.{◌≡◌, ℕ, ◌<◌, ◌≤◌, Bool, true, false, cond, List, [], ◌∷◌, ◌++◌, length, map, inl, inr, ◌⊎◌, ⊎_elim, Some, refl, sym, ap, subst, ◌∙◌, arith}
 use Rattle.std.specs.Prelude.{nat_lt}
 use Rattle.std.specs.List.{flat_map}
@@ -19,11 +19,12 @@ use Rattle.std.proofs.lemmas.Map.Keys.{sorted_head, sorted_tail}
 use Rattle.std.proofs.lemmas.Map.Entries.{lookup_head, lookup_tail}
 use Rattle.std.proofs.lemmas.Map.Lookups.{exact_bytes}
 use Rattle.replica_state.specs.Operations.{IsIn}
-use Rattle.replica_state.specs.Points.{place_of_counted, counted_cmp}
+use Rattle.replica_state.specs.Points.{place_of_counted, counted_cmp, is_hits}
 use Rattle.replica_state.specs.declared.point.Counted.{Counted}
 use Rattle.replica_state.specs.declared.point.Counted.TheVariants.{Hits, Execs, Shifts}
 use Rattle.replica_state.proofs.Sets.{IsIn-append_left, IsIn-append_right, IsIn-append_cases}
 use Rattle.replica_state.proofs.Names.{IsAscending}
+use Rattle.delta_exchange.specs.Marks.{cell_change}
 use Rattle.delta_exchange.specs.Since.{later}
 use Rattle.delta_exchange.proofs.LawfulLemmas.{one_of, mapped_from, mapped_in}
 use Rattle.delta_exchange.proofs.BelowLemmas.{ascending_append}
@@ -92,41 +93,45 @@ module _ {A B : Type 0} (f : A → List B) where
   flat_in (z ∷ xs) x y (inl s) k = subst (IsIn y) (sym (flat_map-cons f z xs)) (IsIn-append_left y (f z) (flat_map f xs) (subst (λ a. IsIn y (f a)) s k))
   flat_in (z ∷ xs) x y (inr h) k = subst (IsIn y) (sym (flat_map-cons f z xs)) (IsIn-append_right y (f z) (flat_map f xs) (flat_in xs x y h k))
 
--- ---- marked above a version
+-- ---- what changed after a version
 
-module _ {C : Type 0} (f : Counted → List C) (base : ℕ) where
+module _ {C : Type 0} (f : Counted → List C) (key base : ℕ) where
+  -- the version that last changed it
+  abbrev change : Counted × ℕ → ℕ
+  change e = cell_change (is_hits e.0) e.1 key
+
   pub record IsLater (es : List (Counted × ℕ)) (d : C) : Type 0 where
     pub counted : Counted
     pub mark : ℕ
     pub marked : lookup (is_at (counted_cmp counted)) es ≡ Some mark
-    pub above : base < mark
+    pub above : base < cell_change (is_hits counted) mark key
     pub is : IsIn d (f counted)
 
-  in_one : (e : Counted × ℕ) (d : C) → IsIn d (later base f e) → (base < e.1) × IsIn d (f e.0)
-  in_one e d h = by_test (nat_lt base e.1) refl h
+  in_one : (e : Counted × ℕ) (d : C) → IsIn d (later key base f e) → (base < change e) × IsIn d (f e.0)
+  in_one e d h = by_test (nat_lt base (change e)) refl h
     where
-      by_test : (b : Bool) → nat_lt base e.1 ≡ b → IsIn d (cond b (f e.0) []) → (base < e.1) × IsIn d (f e.0)
+      by_test : (b : Bool) → nat_lt base (change e) ≡ b → IsIn d (cond b (f e.0) []) → (base < change e) × IsIn d (f e.0)
       by_test true t h = (grind (arith, nat_tests), h)
       by_test false t h = absurd h
 
-  one_in : (e : Counted × ℕ) (d : C) → base < e.1 → IsIn d (f e.0) → IsIn d (later base f e)
-  one_in e d lt h = by_test (nat_lt base e.1) refl
+  one_in : (e : Counted × ℕ) (d : C) → base < change e → IsIn d (f e.0) → IsIn d (later key base f e)
+  one_in e d lt h = by_test (nat_lt base (change e)) refl
     where
-      by_test : (b : Bool) → nat_lt base e.1 ≡ b → IsIn d (cond b (f e.0) [])
+      by_test : (b : Bool) → nat_lt base (change e) ≡ b → IsIn d (cond b (f e.0) [])
       by_test true t = h
       by_test false t = absurd (grind (arith, nat_tests))
 
-  pub later_member : (es : List (Counted × ℕ)) (d : C) → IsStrictlySortedBy counted_cmp (keys_of es) → IsIn d (flat_map (later base f) es) → IsLater es d
+  pub later_member : (es : List (Counted × ℕ)) (d : C) → IsStrictlySortedBy counted_cmp (keys_of es) → IsIn d (flat_map (later key base f) es) → IsLater es d
   later_member es d sorted h =
-      let r = in_flat (later base f) es d h in
+      let r = in_flat (later key base f) es d h in
       let one = in_one r.0 d r.2 in
       record { counted = r.0.0; mark = r.0.1; marked = mark_of es r.0.0 r.0.1 sorted r.1; above = one.0; is = one.1 }
 
-  pub member_later : (es : List (Counted × ℕ)) (c : Counted) (n : ℕ) (d : C) → lookup (is_at (counted_cmp c)) es ≡ Some n → base < n → IsIn d (f c) → IsIn d (flat_map (later base f) es)
-  member_later es c n d e lt h = flat_in (later base f) es (c, n) d (found_in es c n e) (one_in (c, n) d lt h)
+  pub member_later : (es : List (Counted × ℕ)) (c : Counted) (n : ℕ) (d : C) → lookup (is_at (counted_cmp c)) es ≡ Some n → base < cell_change (is_hits c) n key → IsIn d (f c) → IsIn d (flat_map (later key base f) es)
+  member_later es c n d e lt h = flat_in (later key base f) es (c, n) d (found_in es c n e) (one_in (c, n) d lt h)
 
-  one_ascends : (place : C → List ℕ) (e : Counted × ℕ) → IsAscending (map place (f e.0)) → IsAscending (map place (later base f e))
-  one_ascends place e h = by_test (nat_lt base e.1)
+  one_ascends : (place : C → List ℕ) (e : Counted × ℕ) → IsAscending (map place (f e.0)) → IsAscending (map place (later key base f e))
+  one_ascends place e h = by_test (nat_lt base (change e))
     where
       by_test : (b : Bool) → IsAscending (map place (cond b (f e.0) []))
       by_test true = h
@@ -134,17 +139,17 @@ module _ {C : Type 0} (f : Counted → List C) (base : ℕ) where
 
   pub later_ascends : (place : C → List ℕ) → ((c : Counted) → IsAscending (map place (f c)))
       → ((c e : Counted) (x y : C) → counted_cmp c e ≡ Less → IsIn x (f c) → IsIn y (f e) → slice_cmp nat_cmp (place x) (place y) ≡ Less)
-      → (es : List (Counted × ℕ)) → IsStrictlySortedBy counted_cmp (keys_of es) → IsAscending (map place (flat_map (later base f) es))
+      → (es : List (Counted × ℕ)) → IsStrictlySortedBy counted_cmp (keys_of es) → IsAscending (map place (flat_map (later key base f) es))
   later_ascends place each across [] sorted = tt
   later_ascends place each across (e ∷ es) sorted =
-      let rest = flat_map (later base f) es in
-      subst (λ ds. IsAscending (map place ds)) (sym (flat_map-cons (later base f) e es))
-      (subst IsAscending (sym (map-append place (later base f e) rest))
-      (ascending_append (map place (later base f e)) (map place rest) (one_ascends place e (each e.0)) (later_ascends place each across es (sorted_tail counted_cmp e.0 (keys_of es) sorted))
+      let rest = flat_map (later key base f) es in
+      subst (λ ds. IsAscending (map place ds)) (sym (flat_map-cons (later key base f) e es))
+      (subst IsAscending (sym (map-append place (later key base f e) rest))
+      (ascending_append (map place (later key base f e)) (map place rest) (one_ascends place e (each e.0)) (later_ascends place each across es (sorted_tail counted_cmp e.0 (keys_of es) sorted))
       (λ p q a b.
-      let x = mapped_from place (later base f e) p a in
+      let x = mapped_from place (later key base f e) p a in
       let y = mapped_from place rest q b in
-      let r = in_flat (later base f) es y.0 y.1 in
+      let r = in_flat (later key base f) es y.0 y.1 in
       let one = in_one e x.0 x.1 in
       let other = in_one r.0 y.0 r.2 in
       let less : counted_cmp e.0 r.0.0 ≡ Less = one_of (λ d. counted_cmp e.0 d ≡ Less) (keys_of es) (sorted_head counted_cmp e.0 (keys_of es) sorted) r.0.0 (mapped_in (λ (z : Counted × ℕ). z.0) es r.0 r.1) in

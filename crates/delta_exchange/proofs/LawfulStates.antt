@@ -1,42 +1,17 @@
 -- What the state of lawful operations holds: names that can be told, each with a key, and cells of its nodes and terms.
-use Rattle.std.proofs.Common.{◌≡◌, ◌≢◌, ℕ, max, ◌<◌, ◌≤◌, Bool, true, false, cond, List, [], ◌∷◌, ◌⊎◌, inl, inr, Some, None, refl, sym, ap, subst, arith}
+use Rattle.std.proofs.Common.{◌≡◌, ◌≢◌, ℕ, ◌<◌, Bool, true, false, cond, List, Some, None, refl, subst, arith}
 use Rattle.std.specs.Prelude.{is_some, IsTrue}
-use Rattle.std.proofs.lemmas.Bool.{cases_lt}
 use Rattle.actions.specs.Names.{is_name}
 use Rattle.stamp_register.specs.Keys.{KeyValue}
-use Rattle.replica_state.specs.Operations.{Cell, Operation, Set, Count, Hits, Execs, Shifts, IsIn, same_cell}
+use Rattle.replica_state.specs.Operations.{Operation, Set, Count, Hits, Execs, Shifts, IsIn}
 use Rattle.replica_state.specs.States.{State}
-use Rattle.replica_state.specs.Folds.{fold, key_in, key_of, name_in, number_in, number_at, names_of, at_key}
+use Rattle.replica_state.specs.Folds.{fold, key_in, key_of, name_in, number_at, names_of, at_key}
 use Rattle.replica_state.proofs.KnownSets.{own_name}
-use Rattle.replica_state.proofs.Orders.{same_cell-true}
-use Rattle.replica_state.proofs.Sets.{key_of-found}
+use Rattle.replica_state.proofs.Sets.{number_held, key_of-found}
 use Rattle.replica_state.proofs.Names.{IsAscending, names_of-ascending, names_of-holds, holds-names_of, HoldsName, key_named, hit_named}
 use Rattle.delta_exchange.specs.Spelling.{IsKey, IsCountedTerm}
 use Rattle.delta_exchange.specs.Wholes.{IsLawful, AreLawful}
 use Rattle.delta_exchange.proofs.LawfulLemmas.{set_is_keyed, is_keyed}
-
--- ---- a number that isn't 0 is of an operation
-
-number_is : (cell : Cell) (op : Operation) → (number_in cell op ≡ 0) ⊎ (Count cell (number_in cell op) ≡ op)
-number_is cell (Set name key) = inl refl
-number_is cell (Count other n) = at (same_cell other cell) refl
-  where
-    at : (t : Bool) → same_cell other cell ≡ t → (◌≡◌ {A = ℕ} (cond t n 0) 0) ⊎ (Count cell (cond t n 0) ≡ Count other n)
-    at true e = inr (ap (λ x. Count x n) (sym (same_cell-true other cell e)))
-    at false e = inl refl
-
-pub number_held : (cell : Cell) (ops : List Operation) → number_at cell ops ≢ 0 → (n : ℕ) × IsIn (Count cell n) ops × (number_at cell ops ≤ n)
-number_held cell [] h = absurd (h refl)
-number_held cell (op ∷ ops) h = at (number_held cell ops) (cases_lt (number_in cell op) (number_at cell ops)) (number_is cell op)
-  where
-    at : (number_at cell ops ≢ 0 → (n : ℕ) × IsIn (Count cell n) ops × (number_at cell ops ≤ n)) → (number_in cell op < number_at cell ops) ⊎ (number_at cell ops ≤ number_in cell op)
-        → (number_in cell op ≡ 0) ⊎ (Count cell (number_in cell op) ≡ op) → (n : ℕ) × IsIn (Count cell n) (op ∷ ops) × (max (number_in cell op) (number_at cell ops) ≤ n)
-    at rest (inl less) is =
-        let r = rest (λ z. absurd (omega (arith, z, less))) in
-        let upto = r.2 in
-        (r.0, inr r.1, omega (arith, less, upto))
-    at rest (inr more) (inl z) = absurd (h (omega (arith, z, more)))
-    at rest (inr more) (inr s) = (number_in cell op, inl s, omega (arith, more))
 
 -- ---- the key that an operation carries
 

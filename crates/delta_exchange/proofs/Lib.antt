@@ -8,6 +8,7 @@ pub mod EntryLemmas
 pub mod MessageLemmas
 pub mod WiderLemmas
 pub mod Examples
+pub mod EntriesAgain
 pub mod ToldLemmas
 pub mod LawfulLemmas
 pub mod Entries
@@ -28,3 +29,5 @@ pub mod SinceCells
 pub mod SinceEntries
 pub mod SinceChanges
 pub mod SinceLemmas
+pub mod NewsChanges
+pub mod LearnsLemmas

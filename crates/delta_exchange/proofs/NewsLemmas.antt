@@ -1,5 +1,5 @@
 -- What is known of what is told, by how its key stands.
-use Rattle.std.proofs.Common.{◌≡◌, ℕ, ◌+◌, ◌<◌, Bool, true, false, cond, not, nat_le, List, [], ◌∷◌, ◌++◌, map, take, length, get_or, Option, Some, None, refl, sym, ◌∙◌, ap, subst, append_assoc, add-one}
+use Rattle.std.proofs.Common.{◌≡◌, ℕ, ◌+◌, ◌<◌, Bool, true, false, cond, not, nat_le, List, [], ◌∷◌, ◌++◌, map, take, length, get_or, Option, Some, None, refl, sym, ◌∙◌, ap, append_assoc, add-one}
 use Rattle.std.specs.List.{flat_map}
 use Rattle.std.proofs.lemmas.List.{map-append}
 use Rattle.std.proofs.lemmas.List.Elements.{filter-append}
@@ -7,7 +7,7 @@ use Rattle.std.proofs.Math.Seq.{take-suc}
 use Rattle.replica_state.specs.Operations.{Operation}
 use Rattle.replica_state.specs.States.{State}
 use Rattle.delta_exchange.specs.declared.message.NameEntry.{NameEntry}
-use Rattle.delta_exchange.specs.Messages.{EntryValue, entry_value, operations_of}
+use Rattle.delta_exchange.specs.Messages.{entry_value, operations_of}
 use Rattle.delta_exchange.specs.News.{brings_key, unknown_in, news_in}
 use Rattle.delta_exchange.proofs.ToldSteps.{next_entry}
 use Rattle.std.proofs.lemmas.Bool.{true≢false}
@@ -15,7 +15,7 @@ use Rattle.std.specs.Ordering.{nat_cmp, match_ordering, is_eq, is_le, is_gt}
 use Rattle.std.specs.declared.cmp.Ordering.{Ordering}
 use Rattle.std.specs.declared.cmp.Ordering.TheVariants.{Less, Equal, Greater}
 use Rattle.std.specs.Cmp.Lexicographic.{slice_cmp}
-use Rattle.stamp_register.specs.Keys.{KeyValue, key_rank, key_le, same_key}
+use Rattle.stamp_register.specs.Keys.{KeyValue, key_rank, same_key}
 use Rattle.replica_state.specs.Knowledge.{is_upto, knows_count, knows}
 use Rattle.replica_state.specs.Points.{key_standing}
 use Rattle.replica_state.proofs.Orders.{same_key-true, same_key-cmp}

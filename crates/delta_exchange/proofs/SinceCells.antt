@@ -20,7 +20,7 @@ use Rattle.replica_state.proofs.Names.{IsAscending}
 use Rattle.delta_exchange.specs.declared.marks.NameMarks.{NameMarks}
 use Rattle.delta_exchange.specs.declared.marks.Marks.{Marks}
 use Rattle.delta_exchange.specs.Marks as kept
-use Rattle.delta_exchange.specs.Marks.{marks_at, marks_value, last_changes, cell_in, AreUpto}
+use Rattle.delta_exchange.specs.Marks.{marks_at, marks_value, last_changes, cell_in, cell_change}
 use Rattle.delta_exchange.specs.Changes.{LastChanges, IsChangedCell}
 use Rattle.delta_exchange.specs.Spelling.{hit_place, exec_place, shift_place}
 use Rattle.delta_exchange.specs.Cells.{cell_of, hit_cells, exec_cells, shift_cells}
@@ -41,21 +41,15 @@ module _ (m : Marks) (name : List ℕ) (w : NameMarks) (at : marks_at m.names.en
   unfolding last_changes marks_value
   key_change = ap (λ o. kept.key_of o) at
 
-  hit_change : (node : ℕ) → (changes_of m).cell name (Hits node) ≡ unwrap_or (cell_in w (Hits node)) 0
+  change_is : (c : Counted) → (changes_of m).cell name c ≡ cell_change (is_hits c) (unwrap_or (cell_in w c) 0) w.key
   unfolding last_changes marks_value
-  hit_change node = ap (λ o. kept.cell_of o (Hits node)) at
+  change_is c = ap (λ o. cell_change (is_hits c) (kept.cell_of o c) (kept.key_of o)) at
 
-  exec_change : (term node : ℕ) → (changes_of m).cell name (Execs term node) ≡ max (unwrap_or (cell_in w (Execs term node)) 0) w.key
-  unfolding last_changes marks_value
-  exec_change term node = ap (λ o. max (kept.cell_of o (Execs term node)) (kept.key_of o)) at
-
-  shift_change : (term from to : ℕ) → (changes_of m).cell name (Shifts term from to) ≡ max (unwrap_or (cell_in w (Shifts term from to)) 0) w.key
-  unfolding last_changes marks_value
-  shift_change term from to = ap (λ o. max (kept.cell_of o (Shifts term from to)) (kept.key_of o)) at
-
-marked_above : (base : ℕ) (o : Option ℕ) → base < unwrap_or o 0 → (n : ℕ) × (o ≡ Some n) × (base < n)
-marked_above base None lt = absurd (omega (arith, lt))
-marked_above base (Some n) lt = (n, refl, lt)
+-- what changed after a version has a mark
+marked_above : (key base : ℕ) (hits : Bool) (o : Option ℕ) → base < cell_change hits (unwrap_or o 0) key → (n : ℕ) × (o ≡ Some n) × (base < cell_change hits n key)
+marked_above key base true None lt = absurd (omega (arith, lt))
+marked_above key base false None lt = absurd (omega (arith, lt))
+marked_above key base hits (Some n) lt = (n, refl, lt)
 
 module _ (v : State) (nodes : ℕ) (lawful : IsLawfulState nodes v) (few : nodes ≤ 16) (m : Marks) (base : ℕ) (name : List ℕ) (w : NameMarks) (at : marks_at m.names.entries name ≡ Some w) (ordered : IsOrdered counted_cmp w.cells) where
   abbrev IsChanged : Counted → ℕ → Type 0
@@ -64,13 +58,13 @@ module _ (v : State) (nodes : ℕ) (lawful : IsLawfulState nodes v) (few : nodes
   -- ---- hits
 
   pub hit_changed : (c : ℕ × ℕ) → IsIn c (hits_since v name base w) → IsChanged (Hits c.0) c.1
-  hit_changed c h = let r = later_member (hit_of v name) base w.cells.entries c ordered h in by_kind r.counted r.mark r.marked r.above r.is
+  hit_changed c h = let r = later_member (hit_of v name) w.key base w.cells.entries c ordered h in by_kind r.counted r.mark r.marked r.above r.is
     where
-      by_kind : (d : Counted) (n : ℕ) → cell_in w d ≡ Some n → base < n → IsIn c (hit_of v name d) → IsChanged (Hits c.0) c.1
+      by_kind : (d : Counted) (n : ℕ) → cell_in w d ≡ Some n → base < cell_change (is_hits d) n w.key → IsIn c (hit_of v name d) → IsChanged (Hits c.0) c.1
       by_kind (Hits node) n e lt k =
           let one = in_cell (v.hits name node) (node, v.hits name node) c k in
-          let mark = hit_change m name w at node ∙ ap (λ o. unwrap_or o 0) e in
-          let there : IsChanged (Hits node) (v.hits name node) = record { is_now = refl; positive = one.0; later = omega (arith, mark, lt) } in
+          let mark = change_is m name w at (Hits node) ∙ ap (λ o. cell_change true (unwrap_or o 0) w.key) e in
+          let there : IsChanged (Hits node) (v.hits name node) = record { is_now = refl; positive = one.0; later = subst (λ k. base < k) (sym mark) lt } in
           subst (λ (x : ℕ × ℕ). IsChanged (Hits x.0) x.1) (sym one.1) there
       by_kind (Execs term node) n e lt k = absurd k
       by_kind (Shifts term from to) n e lt k = absurd k
@@ -78,15 +72,13 @@ module _ (v : State) (nodes : ℕ) (lawful : IsLawfulState nodes v) (few : nodes
   pub changed_hit : (node number : ℕ) → IsChanged (Hits node) number → IsIn (node, number) (hits_since v name base w)
   changed_hit node number d =
       let some : v.hits name node ≢ 0 = λ z. d.positive (d.is_now ∙ z) in
-      let mark = hit_change m name w at node in
-      let after = d.later in
-      let k = marked_above base (cell_in w (Hits node)) (omega (arith, mark, after)) in
+      let k = marked_above w.key base true (cell_in w (Hits node)) (subst (λ z. base < z) (change_is m name w at (Hits node)) d.later) in
       let cell : ℕ × ℕ = (node, v.hits name node) in
       subst (λ n. IsIn (node, n) (hits_since v name base w)) (sym d.is_now)
-      (member_later (hit_of v name) base w.cells.entries (Hits node) k.0 cell k.1 k.2 (one_cell_in (v.hits name node) cell some))
+      (member_later (hit_of v name) w.key base w.cells.entries (Hits node) k.0 cell k.1 k.2 (one_cell_in (v.hits name node) cell some))
 
   pub hits_since_ascend : IsAscending (map hit_place (hits_since v name base w))
-  hits_since_ascend = later_ascends (hit_of v name) base hit_place each across w.cells.entries ordered
+  hits_since_ascend = later_ascends (hit_of v name) w.key base hit_place each across w.cells.entries ordered
     where
       each : (c : Counted) → IsAscending (map hit_place (hit_of v name c))
       each (Hits node) = cell_ascends hit_place (v.hits name node) (node, v.hits name node)
@@ -123,29 +115,17 @@ module _ (v : State) (nodes : ℕ) (lawful : IsLawfulState nodes v) (few : nodes
   -- ---- executions
 
   module _ (key : KeyValue) (keyed : v.key name ≡ Some key) where
-    exec_marked : (c : ℕ × ℕ × ℕ) → IsIn c (flat_map (later base (exec_of v name)) w.cells.entries) → IsChanged (Execs c.0 c.1) c.2
-    exec_marked c h = let r = later_member (exec_of v name) base w.cells.entries c ordered h in by_kind r.counted r.mark r.marked r.above r.is
+    pub exec_changed : (c : ℕ × ℕ × ℕ) → IsIn c (execs_since v name base w) → IsChanged (Execs c.0 c.1) c.2
+    exec_changed c h = let r = later_member (exec_of v name) w.key base w.cells.entries c ordered h in by_kind r.counted r.mark r.marked r.above r.is
       where
-        by_kind : (d : Counted) (n : ℕ) → cell_in w d ≡ Some n → base < n → IsIn c (exec_of v name d) → IsChanged (Execs c.0 c.1) c.2
+        by_kind : (d : Counted) (n : ℕ) → cell_in w d ≡ Some n → base < cell_change (is_hits d) n w.key → IsIn c (exec_of v name d) → IsChanged (Execs c.0 c.1) c.2
         by_kind (Hits node) n e lt k = absurd k
         by_kind (Execs term node) n e lt k =
             let one = in_cell (v.execs name term node) (term, node, v.execs name term node) c k in
-            let mark = exec_change m name w at term node ∙ ap (λ o. max (unwrap_or o 0) w.key) e in
-            let there : IsChanged (Execs term node) (v.execs name term node) = record { is_now = refl; positive = one.0; later = omega (arith, mark, lt) } in
+            let mark = change_is m name w at (Execs term node) ∙ ap (λ o. cell_change false (unwrap_or o 0) w.key) e in
+            let there : IsChanged (Execs term node) (v.execs name term node) = record { is_now = refl; positive = one.0; later = subst (λ k. base < k) (sym mark) lt } in
             subst (λ (x : ℕ × ℕ × ℕ). IsChanged (Execs x.0 x.1) x.2) (sym one.1) there
         by_kind (Shifts term from to) n e lt k = absurd k
-
-    pub exec_changed : (c : ℕ × ℕ × ℕ) → IsIn c (execs_since v nodes name key base w) → IsChanged (Execs c.0 c.1) c.2
-    exec_changed c h = by_test (nat_lt base w.key) refl h
-      where
-        by_test : (b : Bool) → nat_lt base w.key ≡ b → IsIn c (cond b (exec_cells v name key nodes) (flat_map (later base (exec_of v name)) w.cells.entries)) → IsChanged (Execs c.0 c.1) c.2
-        by_test true t k =
-            let r = exec_member v name nodes key c k in
-            let mark = exec_change m name w at r.term r.row.node in
-            let lt : base < w.key = grind (arith, nat_tests) in
-            let there : IsChanged (Execs r.term r.row.node) (v.execs name r.term r.row.node) = record { is_now = refl; positive = r.row.some; later = omega (arith, mark, lt) } in
-            subst (λ (x : ℕ × ℕ × ℕ). IsChanged (Execs x.0 x.1) x.2) (sym r.row.is) there
-        by_test false t k = exec_marked c k
 
     -- it stands among all cells
     exec_held : (term node : ℕ) → v.execs name term node ≢ 0 → IsIn (term, node, v.execs name term node) (exec_cells v name key nodes)
@@ -154,26 +134,16 @@ module _ (v : State) (nodes : ℕ) (lawful : IsLawfulState nodes v) (few : nodes
         let below = term_below nodes key term (lawful.key name key keyed) where_at.0.0 in
         member_exec v name nodes key term node below where_at.0.0 where_at.1 some
 
-    pub changed_exec : (term node number : ℕ) → IsChanged (Execs term node) number → IsIn (term, node, number) (execs_since v nodes name key base w)
-    changed_exec term node number d = subst (λ n. IsIn (term, node, n) (execs_since v nodes name key base w)) (sym d.is_now) (by_test (nat_lt base w.key) refl)
-      where
-        cell : ℕ × ℕ × ℕ
-        cell = (term, node, v.execs name term node)
+    pub changed_exec : (term node number : ℕ) → IsChanged (Execs term node) number → IsIn (term, node, number) (execs_since v name base w)
+    changed_exec term node number d =
+        let some : v.execs name term node ≢ 0 = λ z. d.positive (d.is_now ∙ z) in
+        let k = marked_above w.key base false (cell_in w (Execs term node)) (subst (λ z. base < z) (change_is m name w at (Execs term node)) d.later) in
+        let cell : ℕ × ℕ × ℕ = (term, node, v.execs name term node) in
+        subst (λ n. IsIn (term, node, n) (execs_since v name base w)) (sym d.is_now)
+        (member_later (exec_of v name) w.key base w.cells.entries (Execs term node) k.0 cell k.1 k.2 (one_cell_in (v.execs name term node) cell some))
 
-        some : v.execs name term node ≢ 0
-        some z = d.positive (d.is_now ∙ z)
-
-        by_test : (b : Bool) → nat_lt base w.key ≡ b → IsIn cell (cond b (exec_cells v name key nodes) (flat_map (later base (exec_of v name)) w.cells.entries))
-        by_test true t = exec_held term node some
-        by_test false t =
-            let upto : w.key ≤ base = grind (arith, nat_tests) in
-            let mark = exec_change m name w at term node in
-            let after = d.later in
-            let k = marked_above base (cell_in w (Execs term node)) (omega (arith, mark, after, upto)) in
-            member_later (exec_of v name) base w.cells.entries (Execs term node) k.0 cell k.1 k.2 (one_cell_in (v.execs name term node) cell some)
-
-    pub execs_since_ascend : IsAscending (map exec_place (execs_since v nodes name key base w))
-    execs_since_ascend = by_test (nat_lt base w.key)
+    pub execs_since_ascend : IsAscending (map exec_place (execs_since v name base w))
+    execs_since_ascend = later_ascends (exec_of v name) w.key base exec_place each across w.cells.entries ordered
       where
         each : (c : Counted) → IsAscending (map exec_place (exec_of v name c))
         each (Hits node) = tt
@@ -190,13 +160,9 @@ module _ (v : State) (nodes : ℕ) (lawful : IsLawfulState nodes v) (few : nodes
         across (Hits i) e x y lt h k = absurd h
         across (Shifts t i o) e x y lt h k = absurd h
 
-        by_test : (b : Bool) → IsAscending (map exec_place (cond b (exec_cells v name key nodes) (flat_map (later base (exec_of v name)) w.cells.entries)))
-        by_test true = execs_ascend v name nodes key
-        by_test false = later_ascends (exec_of v name) base exec_place each across w.cells.entries ordered
-
-    pub few_execs_since : length (execs_since v nodes name key base w) ≤ 256
+    pub few_execs_since : length (execs_since v name base w) ≤ 256
     few_execs_since =
-        let since = execs_since v nodes name key base w in
+        let since = execs_since v name base w in
         let all = exec_cells v name key nodes in
         let short = part_is_short (map exec_place since) (map exec_place all) execs_since_ascend (execs_ascend v name nodes key) part in
         let most = few_execs v name nodes key few in
@@ -204,9 +170,9 @@ module _ (v : State) (nodes : ℕ) (lawful : IsLawfulState nodes v) (few : nodes
         let b = length-map all exec_place in
         omega (arith, short, most, a, b)
       where
-        part : (p : List ℕ) → IsIn p (map exec_place (execs_since v nodes name key base w)) → IsIn p (map exec_place (exec_cells v name key nodes))
+        part : (p : List ℕ) → IsIn p (map exec_place (execs_since v name base w)) → IsIn p (map exec_place (exec_cells v name key nodes))
         part p h =
-            let r = mapped_from exec_place (execs_since v nodes name key base w) p h in
+            let r = mapped_from exec_place (execs_since v name base w) p h in
             let d = exec_changed r.0 r.1 in
             let some : v.execs name r.0.0 r.0.1 ≢ 0 = λ z. d.positive (d.is_now ∙ z) in
             subst (λ q. IsIn q (map exec_place (exec_cells v name key nodes))) (sym r.2)
@@ -214,30 +180,17 @@ module _ (v : State) (nodes : ℕ) (lawful : IsLawfulState nodes v) (few : nodes
 
     -- ---- shifts
 
-    shift_marked : (c : ℕ × ℕ × ℕ × ℕ) → IsIn c (flat_map (later base (shift_of v name)) w.cells.entries) → IsChanged (Shifts c.0 c.1 c.2) c.3
-    shift_marked c h = let r = later_member (shift_of v name) base w.cells.entries c ordered h in by_kind r.counted r.mark r.marked r.above r.is
+    pub shift_changed : (c : ℕ × ℕ × ℕ × ℕ) → IsIn c (shifts_since v name base w) → IsChanged (Shifts c.0 c.1 c.2) c.3
+    shift_changed c h = let r = later_member (shift_of v name) w.key base w.cells.entries c ordered h in by_kind r.counted r.mark r.marked r.above r.is
       where
-        by_kind : (d : Counted) (n : ℕ) → cell_in w d ≡ Some n → base < n → IsIn c (shift_of v name d) → IsChanged (Shifts c.0 c.1 c.2) c.3
+        by_kind : (d : Counted) (n : ℕ) → cell_in w d ≡ Some n → base < cell_change (is_hits d) n w.key → IsIn c (shift_of v name d) → IsChanged (Shifts c.0 c.1 c.2) c.3
         by_kind (Hits node) n e lt k = absurd k
         by_kind (Execs term node) n e lt k = absurd k
         by_kind (Shifts term from to) n e lt k =
             let one = in_cell (v.shifts name term from to) (term, from, to, v.shifts name term from to) c k in
-            let mark = shift_change m name w at term from to ∙ ap (λ o. max (unwrap_or o 0) w.key) e in
-            let there : IsChanged (Shifts term from to) (v.shifts name term from to) = record { is_now = refl; positive = one.0; later = omega (arith, mark, lt) } in
+            let mark = change_is m name w at (Shifts term from to) ∙ ap (λ o. cell_change false (unwrap_or o 0) w.key) e in
+            let there : IsChanged (Shifts term from to) (v.shifts name term from to) = record { is_now = refl; positive = one.0; later = subst (λ k. base < k) (sym mark) lt } in
             subst (λ (x : ℕ × ℕ × ℕ × ℕ). IsChanged (Shifts x.0 x.1 x.2) x.3) (sym one.1) there
-
-    pub shift_changed : (c : ℕ × ℕ × ℕ × ℕ) → IsIn c (shifts_since v nodes name key base w) → IsChanged (Shifts c.0 c.1 c.2) c.3
-    shift_changed c h = by_test (nat_lt base w.key) refl h
-      where
-        by_test : (b : Bool) → nat_lt base w.key ≡ b → IsIn c (cond b (shift_cells v name key nodes) (flat_map (later base (shift_of v name)) w.cells.entries)) → IsChanged (Shifts c.0 c.1 c.2) c.3
-        by_test true t k =
-            let r = shift_member v name nodes key c k in
-            let mark = shift_change m name w at r.term r.rows.from r.rows.row.to in
-            let lt : base < w.key = grind (arith, nat_tests) in
-            let there : IsChanged (Shifts r.term r.rows.from r.rows.row.to) (v.shifts name r.term r.rows.from r.rows.row.to) =
-            record { is_now = refl; positive = r.rows.row.some; later = omega (arith, mark, lt) } in
-            subst (λ (x : ℕ × ℕ × ℕ × ℕ). IsChanged (Shifts x.0 x.1 x.2) x.3) (sym r.rows.row.is) there
-        by_test false t k = shift_marked c k
 
     shift_held : (term from to : ℕ) → v.shifts name term from to ≢ 0 → IsIn (term, from, to, v.shifts name term from to) (shift_cells v name key nodes)
     shift_held term from to some =
@@ -245,26 +198,16 @@ module _ (v : State) (nodes : ℕ) (lawful : IsLawfulState nodes v) (few : nodes
         let below = term_below nodes key term (lawful.key name key keyed) where_at.0.0 in
         member_shift v name nodes key term from to below where_at.0.0 where_at.1 where_at.2 where_at.3 some
 
-    pub changed_shift : (term from to number : ℕ) → IsChanged (Shifts term from to) number → IsIn (term, from, to, number) (shifts_since v nodes name key base w)
-    changed_shift term from to number d = subst (λ n. IsIn (term, from, to, n) (shifts_since v nodes name key base w)) (sym d.is_now) (by_test (nat_lt base w.key) refl)
-      where
-        cell : ℕ × ℕ × ℕ × ℕ
-        cell = (term, from, to, v.shifts name term from to)
+    pub changed_shift : (term from to number : ℕ) → IsChanged (Shifts term from to) number → IsIn (term, from, to, number) (shifts_since v name base w)
+    changed_shift term from to number d =
+        let some : v.shifts name term from to ≢ 0 = λ z. d.positive (d.is_now ∙ z) in
+        let k = marked_above w.key base false (cell_in w (Shifts term from to)) (subst (λ z. base < z) (change_is m name w at (Shifts term from to)) d.later) in
+        let cell : ℕ × ℕ × ℕ × ℕ = (term, from, to, v.shifts name term from to) in
+        subst (λ n. IsIn (term, from, to, n) (shifts_since v name base w)) (sym d.is_now)
+        (member_later (shift_of v name) w.key base w.cells.entries (Shifts term from to) k.0 cell k.1 k.2 (one_cell_in (v.shifts name term from to) cell some))
 
-        some : v.shifts name term from to ≢ 0
-        some z = d.positive (d.is_now ∙ z)
-
-        by_test : (b : Bool) → nat_lt base w.key ≡ b → IsIn cell (cond b (shift_cells v name key nodes) (flat_map (later base (shift_of v name)) w.cells.entries))
-        by_test true t = shift_held term from to some
-        by_test false t =
-            let upto : w.key ≤ base = grind (arith, nat_tests) in
-            let mark = shift_change m name w at term from to in
-            let after = d.later in
-            let k = marked_above base (cell_in w (Shifts term from to)) (omega (arith, mark, after, upto)) in
-            member_later (shift_of v name) base w.cells.entries (Shifts term from to) k.0 cell k.1 k.2 (one_cell_in (v.shifts name term from to) cell some)
-
-    pub shifts_since_ascend : IsAscending (map shift_place (shifts_since v nodes name key base w))
-    shifts_since_ascend = by_test (nat_lt base w.key)
+    pub shifts_since_ascend : IsAscending (map shift_place (shifts_since v name base w))
+    shifts_since_ascend = later_ascends (shift_of v name) w.key base shift_place each across w.cells.entries ordered
       where
         each : (c : Counted) → IsAscending (map shift_place (shift_of v name c))
         each (Hits node) = tt
@@ -281,13 +224,9 @@ module _ (v : State) (nodes : ℕ) (lawful : IsLawfulState nodes v) (few : nodes
         across (Hits i) e x y lt h k = absurd h
         across (Execs t i) e x y lt h k = absurd h
 
-        by_test : (b : Bool) → IsAscending (map shift_place (cond b (shift_cells v name key nodes) (flat_map (later base (shift_of v name)) w.cells.entries)))
-        by_test true = shifts_ascend v name nodes key
-        by_test false = later_ascends (shift_of v name) base shift_place each across w.cells.entries ordered
-
-    pub few_shifts_since : length (shifts_since v nodes name key base w) ≤ 4096
+    pub few_shifts_since : length (shifts_since v name base w) ≤ 4096
     few_shifts_since =
-        let since = shifts_since v nodes name key base w in
+        let since = shifts_since v name base w in
         let all = shift_cells v name key nodes in
         let short = part_is_short (map shift_place since) (map shift_place all) shifts_since_ascend (shifts_ascend v name nodes key) part in
         let most = few_shifts v name nodes key few in
@@ -295,9 +234,9 @@ module _ (v : State) (nodes : ℕ) (lawful : IsLawfulState nodes v) (few : nodes
         let b = length-map all shift_place in
         omega (arith, short, most, a, b)
       where
-        part : (p : List ℕ) → IsIn p (map shift_place (shifts_since v nodes name key base w)) → IsIn p (map shift_place (shift_cells v name key nodes))
+        part : (p : List ℕ) → IsIn p (map shift_place (shifts_since v name base w)) → IsIn p (map shift_place (shift_cells v name key nodes))
         part p h =
-            let r = mapped_from shift_place (shifts_since v nodes name key base w) p h in
+            let r = mapped_from shift_place (shifts_since v name base w) p h in
             let d = shift_changed r.0 r.1 in
             let some : v.shifts name r.0.0 r.0.1 r.0.2 ≢ 0 = λ z. d.positive (d.is_now ∙ z) in
             subst (λ q. IsIn q (map shift_place (shift_cells v name key nodes))) (sym r.2)

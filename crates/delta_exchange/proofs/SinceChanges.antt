@@ -1,5 +1,5 @@
 -- A name of which something changed after a version has an entry, which can be written.
-use Rattle.std.proofs.Common.{◌≡◌, ◌≢◌, ℕ, max, ◌<◌, ◌≤◌, ◌^◌, ◌||◌, Bool, true, false, cond, List, [], ◌∷◌, length, map, ◌⊎◌, ⊎_elim, inl, inr, Option, Some, None, refl, sym, ap, subst, ◌∙◌, arith}
+use Rattle.std.proofs.Common.{◌≡◌, ◌≢◌, ℕ, max, ◌<◌, ◌≤◌, ◌^◌, ◌==◌, ◌||◌, Bool, true, false, cond, List, [], ◌∷◌, length, map, ◌⊎◌, ⊎_elim, inl, inr, Option, Some, None, refl, sym, ap, subst, ◌∙◌, arith}
 use Rattle.std.specs.Prelude.{is_some, IsTrue, nat_lt}
 use Rattle.std.specs.BTreeMap.{IsOrdered}
 use Rattle.std.proofs.lemmas.Bool.{true≢false, cases_lt}
@@ -13,7 +13,7 @@ use Rattle.replica_state.specs.declared.point.Counted.{Counted}
 use Rattle.replica_state.specs.declared.point.Counted.TheVariants.{Hits, Execs, Shifts}
 use Rattle.delta_exchange.specs.declared.marks.NameMarks.{NameMarks}
 use Rattle.delta_exchange.specs.declared.marks.Marks.{Marks}
-use Rattle.delta_exchange.specs.Marks.{marks_at, latest_of, marks_value, last_changes, AreUpto}
+use Rattle.delta_exchange.specs.Marks.{marks_at, latest_of, marks_value, last_changes, cell_change, AreUpto}
 use Rattle.delta_exchange.specs.Changes.{IsChangedCell, IsUnchangedSince}
 use Rattle.delta_exchange.specs.Messages.{EntryValue}
 use Rattle.delta_exchange.specs.Spelling.{IsHit, IsExec, IsShift, IsEntry}
@@ -44,9 +44,13 @@ module _ (v : State) (m : Marks) (base : ℕ) (name : List ℕ) where
     unfolding last_changes
     cell_upto c = by_test (is_hits c) ((marks_value m).cell name c) ((marks_value m).key name) ((marks_value m).latest name) (upto.cell name c) (upto.key name)
       where
-        by_test : (b : Bool) (x y l : ℕ) → x ≤ l → y ≤ l → cond b x (max x y) ≤ l
+        by_own : (b : Bool) (x y l : ℕ) → x ≤ l → y ≤ l → cond b 0 (max x y) ≤ l
+        by_own true x y l p q = omega arith
+        by_own false x y l p q = omega (arith, p, q)
+
+        by_test : (b : Bool) (x y l : ℕ) → x ≤ l → y ≤ l → cell_change b x y ≤ l
         by_test true x y l p q = p
-        by_test false x y l p q = omega (arith, p, q)
+        by_test false x y l p q = by_own (x == 0) x y l p q
 
     key_upto : (changes_of m).key name ≤ (marks_value m).latest name
     unfolding last_changes
@@ -73,18 +77,18 @@ module _ (v : State) (m : Marks) (base : ℕ) (name : List ℕ) where
 
   module _ (nodes : ℕ) (lawful : IsLawfulState nodes v) (few : nodes ≤ 16) (w : NameMarks) (at : marks_at m.names.entries name ≡ Some w) (ordered : IsOrdered counted_cmp w.cells) (key : KeyValue) (keyed : v.key name ≡ Some key) where
     abbrev entry : EntryValue
-    entry = entry_since v nodes name key base w
+    entry = entry_since v name key base w
 
     hits_tell : (c : ℕ × ℕ) → IsIn c (hits_since v name base w) → IsTrue (tells_cells entry)
-    hits_tell c h = left_true (nat_lt 0 (length (hits_since v name base w))) (nat_lt 0 (length (execs_since v nodes name key base w)) || nat_lt 0 (length (shifts_since v nodes name key base w))) (some_in (hits_since v name base w) c h)
+    hits_tell c h = left_true (nat_lt 0 (length (hits_since v name base w))) (nat_lt 0 (length (execs_since v name base w)) || nat_lt 0 (length (shifts_since v name base w))) (some_in (hits_since v name base w) c h)
 
-    execs_tell : (c : ℕ × ℕ × ℕ) → IsIn c (execs_since v nodes name key base w) → IsTrue (tells_cells entry)
-    execs_tell c h = right_true (nat_lt 0 (length (hits_since v name base w))) (nat_lt 0 (length (execs_since v nodes name key base w)) || nat_lt 0 (length (shifts_since v nodes name key base w)))
-        (left_true (nat_lt 0 (length (execs_since v nodes name key base w))) (nat_lt 0 (length (shifts_since v nodes name key base w))) (some_in (execs_since v nodes name key base w) c h))
+    execs_tell : (c : ℕ × ℕ × ℕ) → IsIn c (execs_since v name base w) → IsTrue (tells_cells entry)
+    execs_tell c h = right_true (nat_lt 0 (length (hits_since v name base w))) (nat_lt 0 (length (execs_since v name base w)) || nat_lt 0 (length (shifts_since v name base w)))
+        (left_true (nat_lt 0 (length (execs_since v name base w))) (nat_lt 0 (length (shifts_since v name base w))) (some_in (execs_since v name base w) c h))
 
-    shifts_tell : (c : ℕ × ℕ × ℕ × ℕ) → IsIn c (shifts_since v nodes name key base w) → IsTrue (tells_cells entry)
-    shifts_tell c h = right_true (nat_lt 0 (length (hits_since v name base w))) (nat_lt 0 (length (execs_since v nodes name key base w)) || nat_lt 0 (length (shifts_since v nodes name key base w)))
-        (right_true (nat_lt 0 (length (execs_since v nodes name key base w))) (nat_lt 0 (length (shifts_since v nodes name key base w))) (some_in (shifts_since v nodes name key base w) c h))
+    shifts_tell : (c : ℕ × ℕ × ℕ × ℕ) → IsIn c (shifts_since v name base w) → IsTrue (tells_cells entry)
+    shifts_tell c h = right_true (nat_lt 0 (length (hits_since v name base w))) (nat_lt 0 (length (execs_since v name base w)) || nat_lt 0 (length (shifts_since v name base w)))
+        (right_true (nat_lt 0 (length (execs_since v name base w))) (nat_lt 0 (length (shifts_since v name base w))) (some_in (shifts_since v name base w) c h))
 
     cell_tells : (c : Counted) → state.cell_of v name c ≢ 0 → base < (changes_of m).cell name c → IsTrue (tells_cells entry)
     cell_tells (Hits node) some lt =
@@ -132,7 +136,7 @@ module _ (v : State) (m : Marks) (base : ℕ) (name : List ℕ) where
         let is = key_change m name w at in
         let le = same.key in
         absurd (grind (arith, nat_tests)))
-        (λ t. ⊎_elim hits others (either (nat_lt 0 (length (hits_since v name base w))) (nat_lt 0 (length (execs_since v nodes name key base w)) || nat_lt 0 (length (shifts_since v nodes name key base w))) t))
+        (λ t. ⊎_elim hits others (either (nat_lt 0 (length (hits_since v name base w))) (nat_lt 0 (length (execs_since v name base w)) || nat_lt 0 (length (shifts_since v name base w))) t))
         (either (nat_lt base w.key) (tells_cells entry) told)
       where
         same_cell : (c : Counted) (number : ℕ) → IsChangedCell v (changes_of m) base name c number → ⊥
@@ -144,14 +148,14 @@ module _ (v : State) (m : Marks) (base : ℕ) (name : List ℕ) where
         hits : IsTrue (nat_lt 0 (length (hits_since v name base w))) → ⊥
         hits t = let r = one_in (hits_since v name base w) t in same_cell (Hits r.0.0) r.0.1 (hit_changed v nodes lawful few m base name w at ordered r.0 r.1)
 
-        execs : IsTrue (nat_lt 0 (length (execs_since v nodes name key base w))) → ⊥
-        execs t = let r = one_in (execs_since v nodes name key base w) t in same_cell (Execs r.0.0 r.0.1) r.0.2 (exec_changed v nodes lawful few m base name w at ordered key keyed r.0 r.1)
+        execs : IsTrue (nat_lt 0 (length (execs_since v name base w))) → ⊥
+        execs t = let r = one_in (execs_since v name base w) t in same_cell (Execs r.0.0 r.0.1) r.0.2 (exec_changed v nodes lawful few m base name w at ordered key keyed r.0 r.1)
 
-        shifts : IsTrue (nat_lt 0 (length (shifts_since v nodes name key base w))) → ⊥
-        shifts t = let r = one_in (shifts_since v nodes name key base w) t in same_cell (Shifts r.0.0 r.0.1 r.0.2) r.0.3 (shift_changed v nodes lawful few m base name w at ordered key keyed r.0 r.1)
+        shifts : IsTrue (nat_lt 0 (length (shifts_since v name base w))) → ⊥
+        shifts t = let r = one_in (shifts_since v name base w) t in same_cell (Shifts r.0.0 r.0.1 r.0.2) r.0.3 (shift_changed v nodes lawful few m base name w at ordered key keyed r.0 r.1)
 
-        others : IsTrue (nat_lt 0 (length (execs_since v nodes name key base w)) || nat_lt 0 (length (shifts_since v nodes name key base w))) → ⊥
-        others t = ⊎_elim execs shifts (either (nat_lt 0 (length (execs_since v nodes name key base w))) (nat_lt 0 (length (shifts_since v nodes name key base w))) t)
+        others : IsTrue (nat_lt 0 (length (execs_since v name base w)) || nat_lt 0 (length (shifts_since v name base w))) → ⊥
+        others t = ⊎_elim execs shifts (either (nat_lt 0 (length (execs_since v name base w))) (nat_lt 0 (length (shifts_since v name base w))) t)
 
     -- ---- it can be written
 
@@ -180,14 +184,14 @@ module _ (v : State) (m : Marks) (base : ℕ) (name : List ℕ) where
             let positive = d.positive in
             (lawful.hits name c.0 (λ z. d.positive (d.is_now ∙ z)), (omega (arith, positive), fit))
 
-        exec_is : (c : ℕ × ℕ × ℕ) → c.2 < 2 ^ 64 → IsIn c (execs_since v nodes name key base w) → IsExec nodes key c
+        exec_is : (c : ℕ × ℕ × ℕ) → c.2 < 2 ^ 64 → IsIn c (execs_since v name base w) → IsExec nodes key c
         exec_is c fit h =
             let d = exec_changed v nodes lawful few m base name w at ordered key keyed c h in
             let positive = d.positive in
             let r = lawful.execs name key c.0 c.1 keyed (λ z. d.positive (d.is_now ∙ z)) in
             (r.0, r.1, (omega (arith, positive), fit))
 
-        shift_is : (c : ℕ × ℕ × ℕ × ℕ) → c.3 < 2 ^ 64 → IsIn c (shifts_since v nodes name key base w) → IsShift nodes key c
+        shift_is : (c : ℕ × ℕ × ℕ × ℕ) → c.3 < 2 ^ 64 → IsIn c (shifts_since v name base w) → IsShift nodes key c
         shift_is c fit h =
             let d = shift_changed v nodes lawful few m base name w at ordered key keyed c h in
             let positive = d.positive in
@@ -195,11 +199,11 @@ module _ (v : State) (m : Marks) (base : ℕ) (name : List ℕ) where
             (r.0, r.1, r.2, r.3, (omega (arith, positive), fit))
 
 -- so each name of which something changed has its entry
-pub entry_changed : (v : State) (nodes : ℕ) (lawful : IsLawfulState nodes v) (few : nodes ≤ 16) (m : Marks) (base version : ℕ) → AreUpto (marks_value m) version → AreOrdered v nodes base m
+pub entry_changed : (v : State) (nodes : ℕ) (lawful : IsLawfulState nodes v) (few : nodes ≤ 16) (m : Marks) (base version : ℕ) → AreUpto (marks_value m) version → AreOrdered v base m
     → (name : List ℕ) (key : KeyValue) → v.key name ≡ Some key → (IsUnchangedSince v (changes_of m) base name → ⊥)
-    → (w : NameMarks) × (marks_at m.names.entries name ≡ Some w) × IsOrdered counted_cmp w.cells × IsIn (entry_since v nodes name key base w) (all_since v nodes base m)
+    → (w : NameMarks) × (marks_at m.names.entries name ≡ Some w) × IsOrdered counted_cmp w.cells × IsIn (entry_since v name key base w) (all_since v base m)
 entry_changed v nodes lawful few m base version upto ordered name key keyed h =
     let r = marks_changed v m base name version upto h in
     let held = lawful.key_name name key keyed in
-    let order = order_of v nodes base m ordered name r.0 held r.1 in
-    (r.0, r.1, order, member_entry v nodes base m name key r.0 held keyed r.1 r.2 (change_told v m base name nodes lawful few r.0 r.1 order key keyed h))
+    let order = order_of v base m ordered name r.0 held r.1 in
+    (r.0, r.1, order, member_entry v base m name key r.0 held keyed r.1 r.2 (change_told v m base name nodes lawful few r.0 r.1 order key keyed h))

@@ -1,12 +1,12 @@
 -- All that a state holds, as a message: it can be written, and it tells the state.
-use Rattle.std.proofs.Common.{◌≡◌, ◌≢◌, ℕ, ◌<◌, ◌≤◌, ◌⊎◌, inl, inr, List, [], ◌++◌, length, map, Option, Some, None, refl, sym, ap, subst, ◌∙◌, length-append, arith}
+use Rattle.std.proofs.Common.{◌≡◌, ◌≢◌, ℕ, ◌<◌, ◌≤◌, ◌⊎◌, inl, inr, List, ◌++◌, length, map, Option, Some, None, refl, sym, ap, subst, ◌∙◌, length-append, arith}
 use Rattle.std.specs.Prelude.{is_some, IsTrue}
 use Rattle.std.specs.List.{flat_map}
 use Rattle.stamp_register.specs.Keys.{KeyValue}
 use Rattle.replica_state.specs.Operations.{Operation, Set, Count, Hits, Execs, Shifts, IsIn}
 use Rattle.replica_state.specs.States.{State}
 use Rattle.replica_state.specs.Folds.{fold}
-use Rattle.replica_state.specs.Deltas.{IsSameAt, IsInDelta, IsDelta}
+use Rattle.replica_state.specs.Deltas.{IsTold, IsAllTold}
 use Rattle.replica_state.proofs.Sets.{IsIn-append_left, IsIn-append_right}
 use Rattle.delta_exchange.specs.Messages.{EntryValue, operations_of, operations_in}
 use Rattle.delta_exchange.specs.Spelling.{IsEntry, IsMessage, entry_bytes, message_bytes, max_message}
@@ -22,39 +22,31 @@ pub some_key : (o : Option KeyValue) → IsTrue (is_some o) → (key : KeyValue)
 some_key None h = absurd cc
 some_key (Some key) h = (key, refl)
 
--- where no key was before, the setting is new
-pub unset : (v : State) (name : List ℕ) (key : KeyValue) → v.key name ≡ Some key → IsSameAt (fold []) v name → ⊥
-unfolding fold
-unset v name key e same = let impossible : None ≡ Some key = same.key ∙ e in absurd cc
-
 module _ (v : State) (nodes : ℕ) where
   -- ---- what it tells is held
 
-  entry_tells : (name : List ℕ) (key : KeyValue) → v.key name ≡ Some key → (op : Operation) → IsIn op (operations_of (entry_of v nodes name key)) → IsInDelta (fold []) v op
-  unfolding fold
+  entry_tells : (name : List ℕ) (key : KeyValue) → v.key name ≡ Some key → (op : Operation) → IsIn op (operations_of (entry_of v nodes name key)) → IsTold v op
   entry_tells name key e op h = by_kind (told_of (entry_of v nodes name key) op h)
     where
       by_kind : (op ≡ Set name key) ⊎ (((c : ℕ × ℕ) × IsIn c (hit_cells v name nodes) × (op ≡ hit_told (entry_of v nodes name key) c))
           ⊎ (((c : ℕ × ℕ × ℕ) × IsIn c (exec_cells v name key nodes) × (op ≡ exec_told (entry_of v nodes name key) c))
           ⊎ ((c : ℕ × ℕ × ℕ × ℕ) × IsIn c (shift_cells v name key nodes) × (op ≡ shift_told (entry_of v nodes name key) c))))
-          → IsInDelta (fold []) v op
-      by_kind (inl s) = subst (IsInDelta (fold []) v) (sym s) (e, unset v name key e)
+          → IsTold v op
+      by_kind (inl s) = subst (IsTold v) (sym s) e
       by_kind (inr (inl (c, k, s))) =
           let r = hit_member v name nodes c k in
-          let there : IsInDelta (fold []) v (Count (Hits name r.node) (v.hits name r.node)) = (refl, r.some, λ z. r.some (sym z)) in
-          subst (IsInDelta (fold []) v) (sym (s ∙ ap (hit_told (entry_of v nodes name key)) r.is)) there
+          let there : IsTold v (Count (Hits name r.node) (v.hits name r.node)) = (refl, r.some) in
+          subst (IsTold v) (sym (s ∙ ap (hit_told (entry_of v nodes name key)) r.is)) there
       by_kind (inr (inr (inl (c, k, s)))) =
           let r = exec_member v name nodes key c k in
-          let there : IsInDelta (fold []) v (Count (Execs name key r.term r.row.node) (v.execs name r.term r.row.node)) =
-          record { of_key = e; is_now = refl; positive = r.row.some; differs = λ _ z. r.row.some (sym z) } in
-          subst (IsInDelta (fold []) v) (sym (s ∙ ap (exec_told (entry_of v nodes name key)) r.row.is)) there
+          let there : IsTold v (Count (Execs name key r.term r.row.node) (v.execs name r.term r.row.node)) = ((e, refl), r.row.some) in
+          subst (IsTold v) (sym (s ∙ ap (exec_told (entry_of v nodes name key)) r.row.is)) there
       by_kind (inr (inr (inr (c, k, s)))) =
           let r = shift_member v name nodes key c k in
-          let there : IsInDelta (fold []) v (Count (Shifts name key r.term r.rows.from r.rows.row.to) (v.shifts name r.term r.rows.from r.rows.row.to)) =
-          record { of_key = e; is_now = refl; positive = r.rows.row.some; differs = λ _ z. r.rows.row.some (sym z) } in
-          subst (IsInDelta (fold []) v) (sym (s ∙ ap (shift_told (entry_of v nodes name key)) r.rows.row.is)) there
+          let there : IsTold v (Count (Shifts name key r.term r.rows.from r.rows.row.to) (v.shifts name r.term r.rows.from r.rows.row.to)) = ((e, refl), r.rows.row.some) in
+          subst (IsTold v) (sym (s ∙ ap (shift_told (entry_of v nodes name key)) r.rows.row.is)) there
 
-  whole_tells : (op : Operation) → IsIn op (flat_map operations_of (entries_of v nodes)) → IsInDelta (fold []) v op
+  whole_tells : (op : Operation) → IsIn op (flat_map operations_of (entries_of v nodes)) → IsTold v op
   whole_tells op h =
       let r = told_by (entries_of v nodes) op h in
       let e = entry_member v nodes r.0 r.1 in
@@ -83,30 +75,30 @@ module _ (v : State) (nodes : ℕ) where
         inr (IsIn-append_right (shift_told e c) (map (hit_told e) e.hits) (map (exec_told e) e.execs ++ map (shift_told e) e.shifts)
         (IsIn-append_right (shift_told e c) (map (exec_told e) e.execs) (map (shift_told e) e.shifts) (mapped_in (shift_told e) e.shifts c h)))
 
-    told : (op : Operation) → IsInDelta (fold []) v op → IsIn op (flat_map operations_of (entries_of v nodes))
-    told (Set name key) d = from_entry name key (Set name key) (lawful.key_name name key d.0) d.0 (inl refl)
+    told : (op : Operation) → IsTold v op → IsIn op (flat_map operations_of (entries_of v nodes))
+    told (Set name key) d = from_entry name key (Set name key) (lawful.key_name name key d) d (inl refl)
     told (Count (Hits name node) number) d =
-        let some : v.hits name node ≢ 0 = λ z. d.1 (d.0 ∙ z) in
+        let some : v.hits name node ≢ 0 = λ z. d.1 (sym d.0 ∙ z) in
         let named = lawful.hit_name name node some in
         let key = some_key (v.key name) (lawful.keyed name named) in
         let there = with_hits name key.0 (node, v.hits name node) (member_hit v name nodes node (lawful.hits name node some) some) in
-        subst (λ n. IsIn (Count (Hits name node) n) (flat_map operations_of (entries_of v nodes))) (sym d.0) (from_entry name key.0 (Count (Hits name node) (v.hits name node)) named key.1 there)
+        subst (λ n. IsIn (Count (Hits name node) n) (flat_map operations_of (entries_of v nodes))) d.0 (from_entry name key.0 (Count (Hits name node) (v.hits name node)) named key.1 there)
     told (Count (Execs name key term node) number) d =
-        let some : v.execs name term node ≢ 0 = λ z. d.positive (d.is_now ∙ z) in
-        let named = lawful.key_name name key d.of_key in
-        let at = lawful.execs name key term node d.of_key some in
-        let below = term_below nodes key term (lawful.key name key d.of_key) at.0.0 in
+        let some : v.execs name term node ≢ 0 = λ z. d.1 (sym d.0.1 ∙ z) in
+        let named = lawful.key_name name key d.0.0 in
+        let at = lawful.execs name key term node d.0.0 some in
+        let below = term_below nodes key term (lawful.key name key d.0.0) at.0.0 in
         let there = with_execs name key (term, node, v.execs name term node) (member_exec v name nodes key term node below at.0.0 at.1 some) in
-        subst (λ n. IsIn (Count (Execs name key term node) n) (flat_map operations_of (entries_of v nodes))) (sym d.is_now) (from_entry name key (Count (Execs name key term node) (v.execs name term node)) named d.of_key there)
+        subst (λ n. IsIn (Count (Execs name key term node) n) (flat_map operations_of (entries_of v nodes))) d.0.1 (from_entry name key (Count (Execs name key term node) (v.execs name term node)) named d.0.0 there)
     told (Count (Shifts name key term from to) number) d =
-        let some : v.shifts name term from to ≢ 0 = λ z. d.positive (d.is_now ∙ z) in
-        let named = lawful.key_name name key d.of_key in
-        let at = lawful.shifts name key term from to d.of_key some in
-        let below = term_below nodes key term (lawful.key name key d.of_key) at.0.0 in
+        let some : v.shifts name term from to ≢ 0 = λ z. d.1 (sym d.0.1 ∙ z) in
+        let named = lawful.key_name name key d.0.0 in
+        let at = lawful.shifts name key term from to d.0.0 some in
+        let below = term_below nodes key term (lawful.key name key d.0.0) at.0.0 in
         let there = with_shifts name key (term, from, to, v.shifts name term from to) (member_shift v name nodes key term from to below at.0.0 at.1 at.2 at.3 some) in
-        subst (λ n. IsIn (Count (Shifts name key term from to) n) (flat_map operations_of (entries_of v nodes))) (sym d.is_now) (from_entry name key (Count (Shifts name key term from to) (v.shifts name term from to)) named d.of_key there)
+        subst (λ n. IsIn (Count (Shifts name key term from to) n) (flat_map operations_of (entries_of v nodes))) d.0.1 (from_entry name key (Count (Shifts name key term from to) (v.shifts name term from to)) named d.0.0 there)
 
-    tells_all : (from to : ℕ) → IsDelta (fold []) v (operations_in (whole_of v nodes from to))
+    tells_all : (from to : ℕ) → IsAllTold v (operations_in (whole_of v nodes from to))
     tells_all from to op = (whole_tells op, told op)
 
     -- ---- it can be written

@@ -1,5 +1,5 @@
 -- When each key and each cell of a state last changed, by versions, and what changed since one.
-use Rattle.std.specs.Prelude.{◌≡◌, ◌≢◌, ℕ, ◌≤◌, ◌<◌, ◌↔◌, List, Some, false}
+use Rattle.std.specs.Prelude.{◌≡◌, ◌≢◌, ℕ, List, ◌≤◌, ◌<◌, ◌↔◌, Some, false}
 use Rattle.replica_state.specs.Operations.{Operation, Set, Count}
 use Rattle.replica_state.specs.Operations as cells
 use Rattle.replica_state.specs.States.{State}

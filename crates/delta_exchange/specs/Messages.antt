@@ -1,5 +1,5 @@
 -- Messages without where they lie in memory, and the operations that they tell.
-use Rattle.std.specs.Prelude.{ℕ, List, ◌∷◌, ◌++◌, map}
+use Rattle.std.specs.Prelude.{◌≡◌, ℕ, List, ◌∷◌, ◌++◌, map}
 use Rattle.std.specs.List.{flat_map}
 use Rattle.stamp_register.specs.Keys.{KeyValue, key_value}
 use Rattle.replica_state.specs.Operations.{Operation, Set, Count, Hits, Execs, Shifts}
@@ -56,3 +56,12 @@ operations_of e =
 -- what a message tells
 abbrev pub operations_in : MessageValue → List Operation
 operations_in m = flat_map operations_of m.entries
+
+-- messages of one node to one other that tell the same versions and the same operations
+pub record TellSame (m n : MessageValue) : Type 0 where
+  pub from : m.from ≡ n.from
+  pub to : m.to ≡ n.to
+  pub base : m.base ≡ n.base
+  pub upto : m.upto ≡ n.upto
+  pub ack : m.ack ≡ n.ack
+  pub operations : operations_in m ≡ operations_in n

@@ -1,6 +1,5 @@
 -- What a state doesn't know yet of what it is told.
-use Rattle.std.specs.Prelude.{◌≡◌, ℕ, Bool, not, false, true, List, [], ◌∷◌, map, if◌then◌else◌, Option, Some, None, IsTrue, filter}
-use Rattle.std.specs.Option.{option_map}
+use Rattle.std.specs.Prelude.{◌≡◌, ℕ, Bool, not, false, List, [], ◌∷◌, map, if◌then◌else◌, Option, Some, None, IsTrue, filter}
 use Rattle.std.specs.Ordering.{is_gt}
 use Rattle.std.specs.declared.cmp.Ordering.{Ordering}
 use Rattle.stamp_register.specs.Keys.{key_value}

@@ -1,6 +1,6 @@
 -- A replica with versions: its state, how many changes it had, which versions of others it knows and
 -- which of its own others are known to know, and when each key and each cell last changed.
-use Rattle.std.specs.Prelude.{◌≡◌, ℕ, ◌+◌, max, Bool, ◌==◌, ◌&&◌, nat_le, nat_lt, List, [], if◌then◌else◌, is_some, Option}
+use Rattle.std.specs.Prelude.{◌≡◌, ℕ, ◌+◌, max, Bool, ◌==◌, ◌&&◌, nat_le, nat_lt, List, [], if◌then◌else◌, is_some}
 use Rattle.std.specs.Option.{unwrap_or}
 use Rattle.std.specs.Map.{lookup}
 use Rattle.std.specs.BTreeMap.{is_at}

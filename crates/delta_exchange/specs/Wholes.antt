@@ -1,10 +1,10 @@
 -- All that a node knows, as a message: which operations a node may know, and what it then tells.
-use Rattle.std.specs.Prelude.{◌≡◌, ◌≢◌, ℕ, ◌<◌, ◌≤◌, List, [], length, IsTrue, is_some}
+use Rattle.std.specs.Prelude.{◌≡◌, ◌≢◌, ℕ, ◌<◌, ◌≤◌, List, length, IsTrue, is_some}
 use Rattle.actions.specs.Names.{is_name}
 use Rattle.replica_state.specs.Operations.{Operation, Set, Count, Hits, Execs, Shifts, IsIn}
 use Rattle.replica_state.specs.States.{State}
-use Rattle.replica_state.specs.Folds.{fold, key_of}
-use Rattle.replica_state.specs.Deltas.{IsDelta}
+use Rattle.replica_state.specs.Folds.{key_of}
+use Rattle.replica_state.specs.Deltas.{IsAllTold}
 use Rattle.delta_exchange.specs.Messages.{MessageValue, operations_in}
 use Rattle.delta_exchange.specs.Spelling.{IsKey, IsCountedTerm, IsMessage, message_bytes, max_message}
 
@@ -33,4 +33,4 @@ pub record IsWhole (nodes from to : ℕ) (v : State) (m : MessageValue) : Type 0
   pub ack : m.ack ≡ 0
   pub spelled : IsMessage nodes m
   pub short : length (message_bytes m) ≤ max_message
-  pub all : IsDelta (fold []) v (operations_in m)
+  pub all : IsAllTold v (operations_in m)

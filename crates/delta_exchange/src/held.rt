@@ -65,7 +65,7 @@ fn push_execs<R: Replica>(
 
 /// The executions of the counted terms of a key, by term and node.
 #[tactic(auto, unfolding(crate::specs::Cells::each_below))]
-pub(crate) fn execs_of<R: Replica>(
+fn execs_of<R: Replica>(
     alloc: Global,
     replica: &R,
     nodes: u8,
@@ -129,7 +129,7 @@ fn push_shifts<R: Replica>(
 
 /// What was moved of the rights to the counted terms of a key, by term and both nodes.
 #[tactic(auto, unfolding(crate::specs::Cells::each_below))]
-pub(crate) fn shifts_of<R: Replica>(
+fn shifts_of<R: Replica>(
     alloc: Global,
     replica: &R,
     nodes: u8,

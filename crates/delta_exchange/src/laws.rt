@@ -4,15 +4,23 @@ ghost use Rattle.std.specs.Prelude.{◌≡◌, ◌≤◌, ℕ, List, length, Ok}
 ghost use Rattle.std.specs.List.{AllByRecursion};
 ghost use Rattle.replica_state.specs.Operations.{Operation, IsWellFormed};
 ghost use Rattle.replica_state.specs.Folds.{fold};
-ghost use Rattle.delta_exchange.specs.Messages.{MessageValue, operations_in};
+ghost use Rattle.delta_exchange.specs.Messages.{MessageValue, TellSame, operations_in};
 ghost use Rattle.delta_exchange.specs.Spelling.{IsMessage, SpellsMessage, message_bytes, max_message};
 ghost use Rattle.delta_exchange.specs.Reading.{message_at};
 ghost use Rattle.delta_exchange.specs.Wholes.{AreLawful, IsWhole};
 
 /// Bytes are of at most one message, whatever the number of nodes.
-pub fn message_has_one_spelling()
+pub fn bytes_spell_one_message()
     ensures { (nodes others : ℕ) (bytes : List ℕ) (m n : MessageValue)
         → SpellsMessage nodes bytes m → SpellsMessage others bytes n → m ≡ n }
+{}
+
+/// Messages with the same fields before their entries that tell the same operations are one, and so
+/// no two byte strings are read as such messages.
+pub fn told_operations_fix_bytes(nodes: u8, a: &[u8], b: &[u8])
+    ensures message { (m n : MessageValue) → TellSame m n → m ≡ n }
+    ensures bytes { (m n : MessageValue) → message_at nodes a.now ≡ Ok m
+        → message_at nodes b.now ≡ Ok n → TellSame m n → a.now ≡ b.now }
 {}
 
 /// A message whose bytes keep to the limit is read from them again.

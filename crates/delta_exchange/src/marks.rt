@@ -3,23 +3,24 @@
 
 ghost use Rattle.std.specs.Prelude.{◌≡◌, IsTrue, ℕ, List, [], Option, Some, None, true, if◌then◌else◌, option_map, IfSome, OnOk, OnErr};
 ghost use Rattle.std.specs.BTreeMap.{IsOrdered};
+ghost use Rattle.replica_state.specs.Points.{counted_cmp, is_hits};
 ghost use Rattle.replica_state.specs.declared.point.Counted.{Counted};
-ghost use Rattle.replica_state.specs.Points.{counted_cmp};
-ghost use Rattle.delta_exchange.specs.Marks.{MarksValue, KeepsRoom, cell_of, has_cell, has_room, is_of, key_of, latest_of, marks_at, marks_value, with_mark};
+ghost use Rattle.delta_exchange.specs.Marks.{KeepsRoom, cell_change, cell_of, has_cell, has_room, is_of, key_of, latest_of, marks_at, marks_value, with_mark};
 
 use actions::Name;
 use replica_state::Counted;
 use std::alloc::{AllocError, Global};
 use std::collections::BTreeMap;
+use std::collections::btree_map::Iter;
 
 /// The versions that last changed the key and the cells of one name. A mark of 0 says nothing: it
 /// is the room for one.
 #[derive(Debug, Drop)]
 pub(crate) struct NameMarks {
     // No other mark is greater.
-    pub(crate) latest: u64,
-    pub(crate) key: u64,
-    pub(crate) cells: BTreeMap<Counted, u64>,
+    latest: u64,
+    key: u64,
+    cells: BTreeMap<Counted, u64>,
 }
 
 /// The marks of all names.
@@ -38,6 +39,39 @@ impl NameMarks {
             latest: 0,
             key: 0,
             cells: BTreeMap::new(alloc),
+        }
+    }
+
+    /// A version that is as great as all marks: nothing changed after it.
+    pub(crate) fn latest(&self) -> u64
+        ensures { result ≡ self.now.latest }
+    {
+        self.latest
+    }
+
+    /// The version that last changed the key.
+    pub(crate) fn key(&self) -> u64
+        ensures { result ≡ self.now.key }
+    {
+        self.key
+    }
+
+    /// What is counted and has a mark or room for one, in its order. What isn't 0 has a mark.
+    pub(crate) fn cells(&self) -> Iter<'_, Counted, u64>
+        ensures rest { result ≡ self.now.cells.entries }
+        ensures ordered { IsOrdered counted_cmp self.now.cells }
+    {
+        self.cells.iter()
+    }
+
+    /// The version that last changed what is counted and has this mark.
+    pub(crate) fn change(&self, counted: Counted, mark: u64) -> u64
+        ensures { result ≡ cell_change (is_hits counted) mark self.now.key }
+    {
+        if counted.is_hits() || mark == 0 {
+            mark
+        } else {
+            mark.max(self.key)
         }
     }
 
@@ -92,14 +126,14 @@ impl Marks {
         }
     }
 
-    /// The marks of a name, if it has any.
+    /// The marks of a name, if it has any or room for them.
     pub(crate) fn of_name(&self, name: &Name) -> Option<&NameMarks>
         ensures marks { option_map (λ m. m.now) result ≡ marks_at self.now.names.entries name.now }
         ensures ordered { IfSome result (λ m. IsOrdered counted_cmp m.now.cells) }
     {
         let marks = self.names.get(name)?;
-        // What `len` promises puts the cells in order.
-        let _ = marks.cells.len();
+        // What `cells` promises puts them in order.
+        let _ = marks.cells();
         Some(marks)
     }
 

@@ -254,6 +254,69 @@ pub(crate) fn news_of_message<'a, R: Replica>(
     Ok(news)
 }
 
+fn push_op<'a, R: Replica>(
+    news: &mut Vec<Told<'a>>,
+    replica: &R,
+    op: &'a Op,
+    no_key: &'a Key,
+) -> Result<(), AllocError>
+    ensures { OnOk result (map news_of news.new.items ≡ map news_of news.old.items
+        ++ news_in (R.state replica.now) (operation op.now ∷ [])) }
+{
+    match op {
+        Op::Set { name, key } => Told::new(replica, name, key).push_news(news, replica),
+        Op::Hit { name, node, number } => {
+            let hits = Counted::Hits { node: *node };
+            Told::new(replica, name, no_key).push_count(news, replica, hits.times(*number))
+        }
+        Op::Exec {
+            name,
+            key,
+            term,
+            node,
+            number,
+        } => {
+            let execs = Counted::Execs {
+                term: *term,
+                node: *node,
+            };
+            Told::new(replica, name, key).push_count(news, replica, execs.times(*number))
+        }
+        Op::Shift {
+            name,
+            key,
+            term,
+            from,
+            to,
+            total,
+        } => {
+            let shifts = Counted::Shifts {
+                term: *term,
+                from: *from,
+                to: *to,
+            };
+            Told::new(replica, name, key).push_count(news, replica, shifts.times(*total))
+        }
+    }
+}
+
+/// What a replica doesn't know of operations. A hit is under no key, so that any key does for it.
+pub(crate) fn news_of_ops<'a, R: Replica>(
+    alloc: Global,
+    replica: &R,
+    ops: &'a [Op],
+    no_key: &'a Key,
+) -> Result<Vec<Told<'a>>, AllocError>
+    ensures { IfOk result (λ news. map news_of news.items
+        ≡ news_in (R.state replica.now) (map operation ops.now)) }
+{
+    let mut news = Vec::new(alloc);
+    for op in ops {
+        push_op(&mut news, replica, op, no_key)?;
+    }
+    Ok(news)
+}
+
 /// A replica that knows just the news.
 pub(crate) fn learned<R: Replica>(alloc: Global, news: &[Told]) -> Result<R, AllocError>
     requires { AllByRecursion (λ told. IsWellFormed (operation_of told)) news.now }

@@ -1,17 +1,12 @@
 //! What changed of a replica with versions after one of them, as a message.
 
-ghost use Rattle.std.specs.Prelude.{◌≡◌, ◌≢◌, ◌<◌, ◌≤◌, ◌++◌, ℕ, List, length, map, slice_get, IfOk, OnOk};
+ghost use Rattle.std.specs.Prelude.{◌≡◌, ◌<◌, ◌++◌, ℕ, List, length, map, slice_get, IfOk, OnOk};
 ghost use Rattle.stamp_register.specs.Keys.{key_value};
-ghost use Rattle.replica_state.specs.Operations.{Operation};
-ghost use Rattle.replica_state.specs.Folds.{fold};
-ghost use Rattle.delta_exchange.specs.Limits.{max_nodes, max_names};
 ghost use Rattle.delta_exchange.specs.Messages.{entry_value, message_value};
-ghost use Rattle.delta_exchange.specs.Wholes.{AreLawful};
 ghost use Rattle.delta_exchange.specs.Cells.{HitsFit, ExecsFit, ShiftsFit, EntryFits, EntriesFit};
 ghost use Rattle.delta_exchange.specs.Versions.{value_of};
-ghost use Rattle.delta_exchange.specs.Since.{IsMessageSince, IsOrderedAt, hits_since, execs_since, shifts_since, entry_since, entry_since_at, entries_since, tells_cells};
+ghost use Rattle.delta_exchange.specs.Since.{CanBeTold, IsMessageSince, IsOrderedAt, hits_since, execs_since, shifts_since, entry_since, entry_since_at, entries_since, tells_cells};
 
-use crate::held::{execs_of, shifts_of};
 use crate::marks::{Marks, NameMarks};
 use crate::message::{Message, NameEntry};
 use crate::versioned::Versioned;
@@ -33,8 +28,8 @@ fn hits_since<R: Replica>(
         ≡ hits_since (R.state replica.now) name.now base marks.now) }
 {
     let mut hits = Vec::new(alloc);
-    for (counted, mark) in marks.cells.iter() {
-        if *mark > base
+    for (counted, mark) in marks.cells() {
+        if marks.change(*counted, *mark) > base
             && let Counted::Hits { node } = *counted
         {
             let number = replica.hits(name, node);
@@ -50,22 +45,17 @@ fn hits_since<R: Replica>(
 fn execs_since<R: Replica>(
     alloc: Global,
     replica: &R,
-    nodes: u8,
     name: &Name,
-    key: &Key,
     base: u64,
     marks: &NameMarks,
 ) -> Result<Vec<(u8, u8, u64)>, AllocError>
     ensures fit { IfOk result (λ cells. ExecsFit cells.items) }
     ensures cells { IfOk result (λ cells. cells.items
-        ≡ execs_since (R.state replica.now) nodes name.now (key_value key.now) base marks.now) }
+        ≡ execs_since (R.state replica.now) name.now base marks.now) }
 {
-    if marks.key > base {
-        return execs_of(alloc, replica, nodes, name, key);
-    }
     let mut execs = Vec::new(alloc);
-    for (counted, mark) in marks.cells.iter() {
-        if *mark > base
+    for (counted, mark) in marks.cells() {
+        if marks.change(*counted, *mark) > base
             && let Counted::Execs { term, node } = *counted
         {
             let number = replica.exec(name, term, node);
@@ -82,22 +72,17 @@ fn execs_since<R: Replica>(
 fn shifts_since<R: Replica>(
     alloc: Global,
     replica: &R,
-    nodes: u8,
     name: &Name,
-    key: &Key,
     base: u64,
     marks: &NameMarks,
 ) -> Result<Vec<(u8, u8, u8, u64)>, AllocError>
     ensures fit { IfOk result (λ cells. ShiftsFit cells.items) }
     ensures cells { IfOk result (λ cells. cells.items
-        ≡ shifts_since (R.state replica.now) nodes name.now (key_value key.now) base marks.now) }
+        ≡ shifts_since (R.state replica.now) name.now base marks.now) }
 {
-    if marks.key > base {
-        return shifts_of(alloc, replica, nodes, name, key);
-    }
     let mut shifts = Vec::new(alloc);
-    for (counted, mark) in marks.cells.iter() {
-        if *mark > base
+    for (counted, mark) in marks.cells() {
+        if marks.change(*counted, *mark) > base
             && let Counted::Shifts { term, from, to } = *counted
         {
             let number = replica.moved(name, term, from, to);
@@ -113,7 +98,6 @@ fn shifts_since<R: Replica>(
 fn entry_since<R: Replica>(
     alloc: Global,
     replica: &R,
-    nodes: u8,
     name: &Name,
     key: &Key,
     base: u64,
@@ -121,14 +105,14 @@ fn entry_since<R: Replica>(
 ) -> Result<NameEntry, AllocError>
     ensures fits { IfOk result (λ e. EntryFits (entry_value e)) }
     ensures entry { IfOk result (λ e. entry_value e
-        ≡ entry_since (R.state replica.now) nodes name.now (key_value key.now) base marks.now) }
+        ≡ entry_since (R.state replica.now) name.now (key_value key.now) base marks.now) }
 {
     Ok(NameEntry {
         name: name.copied(alloc)?,
         key: key.copied(alloc)?,
         hits: hits_since(alloc, replica, name, base, marks)?,
-        execs: execs_since(alloc, replica, nodes, name, key, base, marks)?,
-        shifts: shifts_since(alloc, replica, nodes, name, key, base, marks)?,
+        execs: execs_since(alloc, replica, name, base, marks)?,
+        shifts: shifts_since(alloc, replica, name, base, marks)?,
     })
 }
 
@@ -144,7 +128,6 @@ fn push_entry_since<R: Replica>(
     alloc: Global,
     entries: &mut Vec<NameEntry>,
     replica: &R,
-    nodes: u8,
     base: u64,
     marks: &Marks,
     index: usize,
@@ -155,7 +138,7 @@ fn push_entry_since<R: Replica>(
         (IsOrderedAt marks.now (slice_get (R.state replica.now).names index)) }
     ensures entries { OnOk result (map entry_value entries.new.items
         ≡ map entry_value entries.old.items
-        ++ entry_since_at (R.state replica.now) nodes base marks.now
+        ++ entry_since_at (R.state replica.now) base marks.now
         (slice_get (R.state replica.now).names index)) }
 {
     let Some(name) = replica.name_at(index) else {
@@ -164,14 +147,14 @@ fn push_entry_since<R: Replica>(
     let Some(marks) = marks.of_name(name) else {
         return Ok(());
     };
-    if marks.latest <= base {
+    if marks.latest() <= base {
         return Ok(());
     }
     let Some(key) = replica.key(name) else {
         return Ok(());
     };
-    let entry = entry_since(alloc, replica, nodes, name, key, base, marks)?;
-    if marks.key > base || tells_cells(&entry) {
+    let entry = entry_since(alloc, replica, name, key, base, marks)?;
+    if marks.key() > base || tells_cells(&entry) {
         entries.push(entry)?;
     }
     Ok(())
@@ -182,7 +165,6 @@ fn push_entry_since<R: Replica>(
 fn entries_since<R: Replica>(
     alloc: Global,
     replica: &R,
-    nodes: u8,
     base: u64,
     marks: &Marks,
 ) -> Result<Vec<NameEntry>, AllocError>
@@ -190,12 +172,12 @@ fn entries_since<R: Replica>(
     ensures ordered { IfOk result (λ _. (index : ℕ) → index < length (R.state replica.now).names
         → IsOrderedAt marks.now (slice_get (R.state replica.now).names index)) }
     ensures entries { IfOk result (λ es. map entry_value es.items
-        ≡ entries_since (R.state replica.now) nodes base marks.now
+        ≡ entries_since (R.state replica.now) base marks.now
         (length (R.state replica.now).names)) }
 {
     let mut entries = Vec::new(alloc);
     for index in 0..replica.names() {
-        push_entry_since(alloc, &mut entries, replica, nodes, base, marks, index)?;
+        push_entry_since(alloc, &mut entries, replica, base, marks, index)?;
     }
     Ok(entries)
 }
@@ -206,27 +188,19 @@ impl<R: Replica> Versioned<R> {
     /// aren't 0. Its base is that version.
     ///
     /// Of at most 16 nodes and 256 names it is never too long to be written. Only want of memory is
-    /// an error. Names of which nothing changed are passed over without a look at their cells, and
-    /// of the others what changed is read, and where the key did each cell under it.
+    /// an error. The cells of a name of which nothing changed aren't looked at, and of others those
+    /// that have a mark.
     pub fn changed_since(
         &self,
         alloc: Global,
-        nodes: u8,
         base: u64,
         from: u8,
         to: u8,
     ) -> Result<Message, AllocError>
-        requires nodes { nodes ≤ max_nodes }
-        requires from { from < nodes }
-        requires to { to < nodes }
-        requires apart { to ≢ from }
-        requires lawful { (ops : List Operation)
-            × ((value_of R.state self.now).state ≡ fold ops) × AreLawful nodes ops }
-        requires few { length (value_of R.state self.now).state.names ≤ max_names }
-        ensures { IfOk result (λ m. IsMessageSince nodes from to base
-            (value_of R.state self.now) (message_value m)) }
+        ensures { IfOk result (λ m. (nodes : ℕ) → CanBeTold nodes from to (value_of R.state self.now).state
+            → IsMessageSince nodes from to base (value_of R.state self.now) (message_value m)) }
     {
-        let entries = entries_since(alloc, &self.replica, nodes, base, &self.marks)?;
+        let entries = entries_since(alloc, &self.replica, base, &self.marks)?;
         Ok(Message {
             from,
             to,

@@ -1,18 +1,24 @@
 //! A replica with versions.
 #![tactic(auto, unfolding(crate::specs::Versions::value_of))]
 
-ghost use Rattle.std.specs.Prelude.{◌≡◌, ◌+◌, ◌<◌, ◌^◌, ℕ, Some, false, option_map, IsSome, OnOk, OnErr};
+ghost use Rattle.std.specs.Prelude.{◌≡◌, ◌+◌, ◌<◌, ◌^◌, ℕ, List, Some, false, map, option_map, IfOk, IsSome, OnOk, OnErr};
 ghost use Rattle.stamp_register.specs.Keys.{key_value};
 ghost use Rattle.replica_state.specs.States.{with_key, with_pass, with_shifts};
-ghost use Rattle.replica_state.specs.Knowledge.{is_upto};
+ghost use Rattle.std.specs.List.{AllByRecursion};
+ghost use Rattle.replica_state.specs.Operations.{Operation, IsWellFormed, operation};
+ghost use Rattle.replica_state.specs.Knowledge.{is_upto, changes};
 ghost use Rattle.replica_state.specs.declared.point.Counted.TheVariants.{Execs};
+ghost use Rattle.delta_exchange.specs.Messages.{message_value, operations_in};
+ghost use Rattle.delta_exchange.specs.Spelling.{IsMessage};
 ghost use Rattle.delta_exchange.specs.Marks.{marks_value, AreUpto};
 
 use crate::marks::Marks;
+use crate::message::Message;
+use crate::news::{Told, learned, make_room, mark_all, news_of_message, news_of_ops};
 use crate::versions::NodeVersions;
 use actions::Name;
-use replica_state::{Counted, Replica};
-use stamp_register::Key;
+use replica_state::{Counted, Op, Replica};
+use stamp_register::{Body, Key};
 use std::alloc::{AllocError, Global};
 
 /// A replica with versions: it counts the changes of its state, knows when each key and each cell
@@ -36,7 +42,8 @@ fn executed(spent: Option<u8>, node: u8) -> Option<Counted>
 }
 
 impl<R: Replica> Versioned<R> {
-    ghost use Rattle.delta_exchange.specs.Versions.{value_of, nothing_known, ChangesTo};
+    ghost use Rattle.delta_exchange.specs.News.{news_in, news_of, operation_of};
+    ghost use Rattle.delta_exchange.specs.Versions.{value_of, nothing_known, ChangesTo, Issues, Receives};
 
     /// The replica that knows nothing, at version 0.
     pub fn new(alloc: Global) -> Versioned<R>
@@ -149,5 +156,73 @@ impl<R: Replica> Versioned<R> {
         self.version += 1;
         self.marks.mark(name, false, shifts, self.version);
         Ok(())
+    }
+
+    /// Learns operations that this node issues, all at once. The answer says whether they change
+    /// the state, and then the version is one higher. Where memory is refused, nothing has changed.
+    pub fn issue(&mut self, alloc: Global, ops: &[Op]) -> Result<bool, AllocError>
+        requires formed { AllByRecursion IsWellFormed (map operation ops.now) }
+        requires version { (value_of R.state self.old).version + 1 < 2 ^ 64 }
+        ensures changed { IfOk result (λ changed. changed
+            ≡ changes (value_of R.state self.old).state (map operation ops.now)) }
+        ensures ok { OnOk result (Issues (value_of R.state self.old)
+            (map operation ops.now) (value_of R.state self.new)) }
+        ensures err { OnErr result (value_of R.state self.new ≡ value_of R.state self.old) }
+    {
+        let no_key = Key {
+            clock: 0,
+            node: 0,
+            body: Body::Removed,
+        };
+        let news = news_of_ops(alloc, &self.replica, ops, &no_key)?;
+        self.learn(alloc, &news)
+    }
+
+    /// Learns what a message tells, all at once: its operations, the version of its sender, if this
+    /// node has all that lies before, and the version of this node that the sender has. The answer
+    /// says whether the state changes, and then the version is one higher. Where memory is refused,
+    /// nothing has changed.
+    pub fn receive(&mut self, alloc: Global, message: &Message) -> Result<bool, AllocError>
+        requires message { (nodes : ℕ) × IsMessage nodes (message_value message.now) }
+        requires version { (value_of R.state self.old).version + 1 < 2 ^ 64 }
+        ensures changed { IfOk result (λ changed. changed ≡ changes
+            (value_of R.state self.old).state (operations_in (message_value message.now))) }
+        ensures ok { OnOk result (Receives (value_of R.state self.old)
+            (message_value message.now) (value_of R.state self.new)) }
+        ensures err { OnErr result (value_of R.state self.new ≡ value_of R.state self.old) }
+    {
+        let news = news_of_message(alloc, &self.replica, message)?;
+        self.known.make_room(message.from)?;
+        self.acked.make_room(message.from)?;
+        let changed = self.learn(alloc, &news)?;
+        self.known
+            .raise_known(message.from, message.base, message.upto);
+        self.acked.raise_acked(message.from, message.ack);
+        Ok(changed)
+    }
+
+    // Learns the news, all at once, as one change. The answer says whether there are any.
+    fn learn(&mut self, alloc: Global, news: &[Told]) -> Result<bool, AllocError>
+        requires formed { AllByRecursion (λ told. IsWellFormed (operation_of told)) news.now }
+        requires version { (value_of R.state self.old).version + 1 < 2 ^ 64 }
+        ensures changed { IfOk result (λ changed. (told : List Operation)
+            → map news_of news.now ≡ news_in (value_of R.state self.old).state told
+            → changed ≡ changes (value_of R.state self.old).state told) }
+        ensures ok { OnOk result ((told : List Operation)
+            → map news_of news.now ≡ news_in (value_of R.state self.old).state told
+            → Issues (value_of R.state self.old) told (value_of R.state self.new)) }
+        ensures err { OnErr result (value_of R.state self.new ≡ value_of R.state self.old) }
+        ensures known { self.new.known ≡ self.old.known }
+        ensures acked { self.new.acked ≡ self.old.acked }
+    {
+        if news.is_empty() {
+            return Ok(false);
+        }
+        let learned = learned(alloc, news)?;
+        make_room(alloc, &mut self.marks, news)?;
+        self.replica.merge(alloc, learned)?;
+        self.version += 1;
+        mark_all(&mut self.marks, news, self.version);
+        Ok(true)
     }
 }

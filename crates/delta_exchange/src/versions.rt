@@ -2,7 +2,7 @@
 #![tactic(auto, unfolding(crate::specs::Versions::version_of, crate::specs::Versions::has_version))]
 
 ghost use Rattle.std.specs.Prelude.{◌≡◌, ◌==◌, ℕ, IsTrue, if◌then◌else◌, OnOk};
-ghost use Rattle.delta_exchange.specs.Versions.{has_version, version_of};
+ghost use Rattle.delta_exchange.specs.Versions.{acked_raised, has_version, known_raised, version_of};
 
 use std::alloc::{AllocError, Global};
 use std::collections::BTreeMap;
@@ -43,8 +43,8 @@ impl NodeVersions {
         Ok(())
     }
 
-    /// Gives a node that has room for it a version.
-    pub(crate) fn set(&mut self, node: u8, version: u64)
+    // Gives a node that has room for it a version.
+    fn set(&mut self, node: u8, version: u64)
         requires { IsTrue (has_version self.old node) }
         ensures { (other : ℕ) → version_of self.new other
             ≡ (if other == node then version else version_of self.old other) }
@@ -52,5 +52,28 @@ impl NodeVersions {
         if let Some(held) = self.versions.get_mut(&node) {
             *held = version;
         }
+    }
+
+    /// Raises the version of a node that has room for it to the one that it tells, if nothing lies
+    /// between the version and the base of what it tells.
+    pub(crate) fn raise_known(&mut self, from: u8, base: u64, upto: u64)
+        requires { IsTrue (has_version self.old from) }
+        ensures { (other : ℕ) → version_of self.new other
+            ≡ known_raised from base upto (version_of self.old) other }
+    {
+        let known = self.version(from);
+        if base <= known && known < upto {
+            self.set(from, upto);
+        }
+    }
+
+    /// Raises the version of a node that has room for it, if it is lower.
+    pub(crate) fn raise_acked(&mut self, from: u8, ack: u64)
+        requires { IsTrue (has_version self.old from) }
+        ensures { (other : ℕ) → version_of self.new other
+            ≡ acked_raised from ack (version_of self.old) other }
+    {
+        let acked = self.version(from);
+        self.set(from, acked.max(ack));
     }
 }

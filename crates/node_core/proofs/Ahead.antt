@@ -1,6 +1,7 @@
 -- What a message says of the node that it comes to, entry by entry.
-use Rattle.std.proofs.Common.{◌≡◌, ℕ, Bool, true, false, cond, not, ◌==◌, ◌&&◌, ◌||◌, nat_lt, List, [], ◌∷◌, ◌++◌, map, Option, Some, None, refl, sym, ◌∙◌, ap}
+use Rattle.std.proofs.Common.{◌≡◌, ℕ, ◌<◌, ◌≤◌, ◌⊎◌, inl, inr, Bool, true, false, cond, not, ◌==◌, ◌&&◌, ◌||◌, nat_lt, nat_le, List, [], ◌∷◌, ◌++◌, map, Option, Some, None, refl, sym, ◌∙◌, ap}
 use Rattle.std.specs.List.{list_any, flat_map}
+use Rattle.std.proofs.lemmas.Bool.{cases_lt, eqb-true, le-leb, lt-leb, le-ltb, lt-ltb}
 use Rattle.std.proofs.lemmas.List.Folds.{list_any-append}
 use Rattle.std.proofs.lemmas.List.Concat.{flat_map-cons}
 use Rattle.std.specs.Ordering.{is_le, is_eq, is_gt}
@@ -10,10 +11,11 @@ use Rattle.stamp_register.specs.Keys.{KeyValue, same_key}
 use Rattle.stamp_register.proofs.KeyLemmas.{same_key-true, true-same_key, same_key-cmp}
 use Rattle.replica_state.specs.Operations.{Operation, Set, Count, Hits, Execs, Shifts}
 use Rattle.replica_state.specs.States.{State}
+use Rattle.replica_state.specs.Knowledge.{knows_count}
 use Rattle.replica_state.specs.Points.{key_standing}
 use Rattle.delta_exchange.specs.declared.message.NameEntry.{NameEntry}
 use Rattle.delta_exchange.specs.Messages.{EntryValue, entry_value, operations_of}
-use Rattle.node_core.specs.Refusals.{is_ahead, is_cell_ahead}
+use Rattle.node_core.specs.Refusals.{is_ahead}
 use Rattle.node_core.specs.Deliveries.{ahead_by}
 
 -- ---- tests of lists
@@ -44,14 +46,21 @@ same_both false false f g = refl
 same_turned : (a b : KeyValue) → same_key a b ≡ same_key b a
 same_turned a b = same_both (same_key a b) (same_key b a) (λ h. true-same_key b a (sym (same_key-true a b h))) (λ h. true-same_key a b (sym (same_key-true b a h)))
 
-by_order : (o : Ordering) (s : Bool) (own number : ℕ) → s ≡ is_eq o → cond s (nat_lt own number) (not (is_le o)) ≡ ahead_by o own number
-by_order Less s own number h = ap (λ b. cond b (nat_lt own number) (not true)) h
-by_order Equal s own number h = ap (λ b. cond b (nat_lt own number) (not true)) h
-by_order Greater s own number h = ap (λ b. cond b (nat_lt own number) (not false)) h
+over : (own number : ℕ) → not (nat_le number own) ≡ nat_lt own number
+over own number = at (cases_lt own number)
+  where
+    at : (own < number) ⊎ (number ≤ own) → not (nat_le number own) ≡ nat_lt own number
+    at (inl less) = ap not (lt-leb number own less) ∙ sym (lt-ltb own number less)
+    at (inr upto) = ap not (le-leb number own upto) ∙ sym (le-ltb own number upto)
 
-pub cell_ahead : (key : KeyValue) (own number : ℕ) (held : Option KeyValue) → is_cell_ahead key number own held ≡ ahead_by (key_standing key held) own number
-cell_ahead key own number None = refl
-cell_ahead key own number (Some other) = by_order (key_standing key (Some other)) (same_key other key) own number (same_turned other key ∙ same_key-cmp key other)
+by_order : (o : Ordering) (s : Bool) (own number : ℕ) → s ≡ is_eq o → not (cond s (nat_le number own) (is_le o)) ≡ ahead_by o own number
+by_order Less s own number h = ap (λ b. not (cond b (nat_le number own) true)) h
+by_order Equal s own number h = ap (λ b. not (cond b (nat_le number own) true)) h ∙ over own number
+by_order Greater s own number h = ap (λ b. not (cond b (nat_le number own) false)) h
+
+pub count_ahead : (key : KeyValue) (own number : ℕ) (held : Option KeyValue) → not (knows_count key number own held) ≡ ahead_by (key_standing key held) own number
+count_ahead key own number None = refl
+count_ahead key own number (Some other) = by_order (key_standing key (Some other)) (same_key other key) own number (same_turned other key ∙ same_key-cmp key other)
 
 key_ahead : (i : ℕ) (v : State) (name : List ℕ) (key : KeyValue) (held : Option KeyValue) → v.key name ≡ held → is_ahead i v (Set name key) ≡ (key.node == i && is_gt (key_standing key held))
 key_ahead i v name key None h = rw h refl
@@ -61,6 +70,14 @@ key_ahead i v name key (Some other) h = rw h (ap (λ b. key.node == i && b) (of 
     of Less = refl
     of Equal = refl
     of Greater = refl
+
+-- a test of what node i wrote reads the numbers of node i alone
+its_own : (i j : ℕ) (f : ℕ → Bool) → (j == i && f j) ≡ (j == i && f i)
+its_own i j f = at (j == i) (eqb-true j i)
+  where
+    at : (t : Bool) → (t ≡ true → j ≡ i) → (t && f j) ≡ (t && f i)
+    at true h = ap f (h refl)
+    at false h = refl
 
 -- ---- an entry
 
@@ -77,14 +94,15 @@ module _ (i : ℕ) (v : State) (e : EntryValue) where
     where
       hits : list_any (is_ahead i v) (map (λ c. Count (Hits e.name c.0) c.1) e.hits) ≡ list_any (λ c. c.0 == i && nat_lt (v.hits e.name i) c.1) e.hits
       hits = any_map (is_ahead i v) (λ c. Count (Hits e.name c.0) c.1) e.hits
+          ∙ any_same _ (λ c. c.0 == i && nat_lt (v.hits e.name i) c.1) e.hits (λ c. its_own i c.0 (λ j. not (nat_le c.1 (v.hits e.name j))) ∙ ap (λ b. c.0 == i && b) (over (v.hits e.name i) c.1))
 
       execs : list_any (is_ahead i v) (map (λ c. Count (Execs e.name e.key c.0 c.1) c.2) e.execs) ≡ list_any (λ c. c.1 == i && ahead_by order (v.execs e.name c.0 i) c.2) e.execs
       execs = any_map (is_ahead i v) (λ c. Count (Execs e.name e.key c.0 c.1) c.2) e.execs
-          ∙ any_same _ (λ c. c.1 == i && ahead_by order (v.execs e.name c.0 i) c.2) e.execs (λ c. ap (λ b. c.1 == i && b) (cell_ahead e.key (v.execs e.name c.0 i) c.2 (v.key e.name)))
+          ∙ any_same _ (λ c. c.1 == i && ahead_by order (v.execs e.name c.0 i) c.2) e.execs (λ c. its_own i c.1 (λ j. not (knows_count e.key c.2 (v.execs e.name c.0 j) (v.key e.name))) ∙ ap (λ b. c.1 == i && b) (count_ahead e.key (v.execs e.name c.0 i) c.2 (v.key e.name)))
 
       shifts : list_any (is_ahead i v) (map (λ c. Count (Shifts e.name e.key c.0 c.1 c.2) c.3) e.shifts) ≡ list_any (λ c. c.1 == i && ahead_by order (v.shifts e.name c.0 i c.2) c.3) e.shifts
       shifts = any_map (is_ahead i v) (λ c. Count (Shifts e.name e.key c.0 c.1 c.2) c.3) e.shifts
-          ∙ any_same _ (λ c. c.1 == i && ahead_by order (v.shifts e.name c.0 i c.2) c.3) e.shifts (λ c. ap (λ b. c.1 == i && b) (cell_ahead e.key (v.shifts e.name c.0 i c.2) c.3 (v.key e.name)))
+          ∙ any_same _ (λ c. c.1 == i && ahead_by order (v.shifts e.name c.0 i c.2) c.3) e.shifts (λ c. its_own i c.1 (λ j. not (knows_count e.key c.3 (v.shifts e.name c.0 j c.2) (v.key e.name))) ∙ ap (λ b. c.1 == i && b) (count_ahead e.key (v.shifts e.name c.0 i c.2) c.3 (v.key e.name)))
 
       cells : list_any (is_ahead i v) (map (λ c. Count (Hits e.name c.0) c.1) e.hits ++ (map (λ c. Count (Execs e.name e.key c.0 c.1) c.2) e.execs ++ map (λ c. Count (Shifts e.name e.key c.0 c.1 c.2) c.3) e.shifts)) ≡
           (list_any (λ c. c.0 == i && nat_lt (v.hits e.name i) c.1) e.hits ||

@@ -23,3 +23,7 @@ pub mod InStep
 pub mod Replied
 pub mod SpareWords
 pub mod MemoryLemmas
+pub mod Pasts
+pub mod RepliedDelta
+pub mod OneMessage
+pub mod OneSpelling

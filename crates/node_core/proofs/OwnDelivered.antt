@@ -1,7 +1,6 @@
 -- A delivery that says no more of a node than it knows leaves what it wrote, and its own rights don't become negative.
-use Rattle.std.proofs.Common.{◌≡◌, ℕ, ◌≤◌, Bool, true, false, cond, not, ◌==◌, ◌&&◌, nat_lt, List, ◌++◌, ◌⊎◌, inl, inr, ⊎_elim, Option, Some, None, refl, sym, ◌∙◌, ap, subst, arith}
-use Rattle.std.proofs.lemmas.Bool.{true≢false, eq-eqb}
-use Rattle.std.proofs.lemmas.Bool.Decides.{nat_tests}
+use Rattle.std.proofs.Common.{◌≡◌, ℕ, ◌≤◌, Bool, true, false, not, ◌&&◌, List, ◌++◌, ◌⊎◌, inl, inr, ⊎_elim, Option, Some, None, refl, sym, ◌∙◌, ap, subst, arith}
+use Rattle.std.proofs.lemmas.Bool.{true≢false, eq-eqb, leb-true, not-false}
 use Rattle.std.proofs.lemmas.Int.{ints}
 use Rattle.std.specs.List.{list_any}
 use Rattle.std.specs.Prelude.{pos, ◌≤ℤ◌, option_map}
@@ -10,42 +9,22 @@ use Rattle.counters.specs.Sums.{numbers, sum_others}
 use Rattle.counters.specs.Budgets.{Budget, rights}
 use Rattle.counters.proofs.SumLemmas.{sum_others-le, sum_others-zero}
 use Rattle.stamp_register.specs.Keys.{KeyValue, key_le, same_key}
-use Rattle.replica_state.specs.Operations.{Operation, Count, Hits, Execs, Shifts, IsIn, count_of}
+use Rattle.replica_state.specs.Operations.{Operation, writer_of, Count, Hits, Execs, Shifts, IsIn, count_of}
 use Rattle.replica_state.specs.States.{State, budget, budget_under, rights_of}
+use Rattle.replica_state.specs.Knowledge.{knows_count, knows}
 use Rattle.replica_state.specs.Folds.{fold, key_of, number_at, at_key}
-use Rattle.replica_state.proofs.Orders.{key_le-refl, key_le-antisym, same_key-refl, same_key-true}
+use Rattle.replica_state.proofs.Orders.{key_le-antisym, same_key-refl, same_key-true}
 use Rattle.replica_state.proofs.Sets.{IsIn-append_right, IsIn-append_cases, number_at-is_in, number_at-least, number_at-mono, KeyUpto, key_of-mono, no_cell_above}
 use Rattle.replica_state.proofs.KnownSets.{Kind, exec_kind, shift_kind, value_of}
-use Rattle.replica_state.proofs.Changes.{any_false}
-use Rattle.node_core.specs.Refusals.{is_ahead, is_cell_ahead}
+use Rattle.replica_state.proofs.Changes.{any_false, count_known}
+use Rattle.node_core.specs.Refusals.{is_ahead}
 use Rattle.node_core.proofs.OwnRights.{HasOwn}
 
 -- ---- one operation
 
--- it is of the node itself, so that the rest of the test is what fails
-its_own : (i : ℕ) (b : Bool) → ((i == i) && b) ≡ false → b ≡ false
-its_own i b h = subst (λ t. (t && b) ≡ false) (eq-eqb i i refl) h
-
-no_later : (here number : ℕ) → nat_lt here number ≡ false → number ≤ here
-no_later here number h = grind (arith, nat_tests)
-
--- a cell that isn't ahead has no key above the one that is held and, under that one, no greater number
-not_ahead : (key : KeyValue) (number here : ℕ) (held : Option KeyValue) → is_cell_ahead key number here held ≡ false → KeyUpto (Some key) held × ((held ≡ Some key) → number ≤ here)
-not_ahead key number here None h = absurd (true≢false h)
-not_ahead key number here (Some other) h = at (same_key other key) refl h
-  where
-    upto : (t : Bool) → not t ≡ false → t ≡ true
-    upto true e = refl
-    upto false e = absurd (true≢false e)
-
-    at : (t : Bool) → same_key other key ≡ t → cond t (nat_lt here number) (not (key_le key other)) ≡ false → (key_le key other ≡ true) × ((Some other ≡ Some key) → number ≤ here)
-    at true e f = (subst (λ k. key_le key k ≡ true) (sym (same_key-true other key e)) (key_le-refl key), λ g. no_later here number f)
-    at false e f = (
-      upto (key_le key other) f,
-      λ g.
-          let same : other ≡ key = cc in
-          absurd (true≢false (sym (subst (λ k. same_key other k ≡ true) same (same_key-refl other)) ∙ e)),
-    )
+-- what the node wrote itself is known, where it isn't ahead
+known_own : (i : ℕ) (v : State) (op : Operation) → writer_of op ≡ i → is_ahead i v op ≡ false → knows v op ≡ true
+known_own i v op own h = not-false _ (subst (λ t. (t && not (knows v op)) ≡ false) (eq-eqb (writer_of op) i own) h)
 
 -- a key that is at most another is that one, or stands below it
 same_or_below : (held : Option KeyValue) (key : KeyValue) → KeyUpto held (Some key) → (held ≡ Some key) ⊎ (KeyUpto (Some key) held → ⊥)
@@ -69,13 +48,13 @@ module _ (ops known : List Operation) (q : List ℕ) where
   cell_grows : (kind : Kind q) (key : KeyValue) → number_at (kind.cell key) known ≤ number_at (kind.cell key) (ops ++ known)
   cell_grows kind key = number_at-mono (kind.cell key) known (ops ++ known) (λ n. IsIn-append_right (Count (kind.cell key) n) ops known)
 
-  module _ (kind : Kind q) (behind : (key : KeyValue) (n : ℕ) → IsIn (Count (kind.cell key) n) ops → is_cell_ahead key n (value_of kind known) (key_of q known) ≡ false) where
+  module _ (kind : Kind q) (behind : (key : KeyValue) (n : ℕ) → IsIn (Count (kind.cell key) n) ops → knows_count key n (value_of kind known) (key_of q known) ≡ true) where
     -- under the same key the cells are no greater
     cell_kept : (key : KeyValue) → key_of q known ≡ Some key → number_at (kind.cell key) (ops ++ known) ≤ number_at (kind.cell key) known
     cell_kept key e = number_at-least (kind.cell key) (number_at (kind.cell key) known) (ops ++ known) (λ n m. ⊎_elim (least n) (number_at-is_in (kind.cell key) n known) (IsIn-append_cases _ ops known m))
       where
         least : (n : ℕ) → IsIn (Count (kind.cell key) n) ops → n ≤ number_at (kind.cell key) known
-        least n m = subst (λ x. n ≤ x) (ap (λ o. at_key o (λ l. number_at (kind.cell l) known)) e) ((not_ahead key n (value_of kind known) (key_of q known) (behind key n m)).1 e)
+        least n m = subst (λ x. n ≤ x) (ap (λ o. at_key o (λ l. number_at (kind.cell l) known)) e) ((count_known key n (value_of kind known) (key_of q known) (behind key n m)).1 e)
 
     -- under a greater one there are none
     cell_none : (key : KeyValue) → (KeyUpto (Some key) (key_of q known) → ⊥) → number_at (kind.cell key) (ops ++ known) ≡ 0
@@ -87,7 +66,7 @@ module _ (ops known : List Operation) (q : List ℕ) where
         omega (arith, most)
       where
         least : (n : ℕ) → IsIn (Count (kind.cell key) n) ops → n ≤ 0
-        least n m = absurd (above (not_ahead key n (value_of kind known) (key_of q known) (behind key n m)).0)
+        least n m = absurd (above (count_known key n (value_of kind known) (key_of q known) (behind key n m)).0)
 
     value_kept : value_of kind (ops ++ known) ≤ value_of kind known
     value_kept = by_key (key_of q (ops ++ known)) refl
@@ -117,15 +96,15 @@ module _ (i : ℕ) (ops known : List Operation) (mine : list_any (is_ahead i (fo
   hits_at = number_at-least (Hits q i) (number_at (Hits q i) known) (ops ++ known) (λ n m. ⊎_elim (least n) (number_at-is_in (Hits q i) n known) (IsIn-append_cases _ ops known m))
     where
       least : (n : ℕ) → IsIn (Count (Hits q i) n) ops → n ≤ number_at (Hits q i) known
-      least n m = no_later (number_at (Hits q i) known) n (its_own i _ (any_false (is_ahead i (fold known)) ops mine (Count (Hits q i) n) m))
+      least n m = leb-true n (number_at (Hits q i) known) (known_own i (fold known) (Count (Hits q i) n) refl (any_false (is_ahead i (fold known)) ops mine (Count (Hits q i) n) m))
 
-  execs_behind : (k : ℕ) (key : KeyValue) (n : ℕ) → IsIn (Count (Execs q key k i) n) ops → is_cell_ahead key n (value_of (exec_kind q k i) known) (key_of q known) ≡ false
+  execs_behind : (k : ℕ) (key : KeyValue) (n : ℕ) → IsIn (Count (Execs q key k i) n) ops → knows_count key n (value_of (exec_kind q k i) known) (key_of q known) ≡ true
   unfolding fold exec_kind
-  execs_behind k key n m = its_own i _ (any_false (is_ahead i (fold known)) ops mine (Count (Execs q key k i) n) m)
+  execs_behind k key n m = known_own i (fold known) (Count (Execs q key k i) n) refl (any_false (is_ahead i (fold known)) ops mine (Count (Execs q key k i) n) m)
 
-  shifts_behind : (k j : ℕ) (key : KeyValue) (n : ℕ) → IsIn (Count (Shifts q key k i j) n) ops → is_cell_ahead key n (value_of (shift_kind q k i j) known) (key_of q known) ≡ false
+  shifts_behind : (k j : ℕ) (key : KeyValue) (n : ℕ) → IsIn (Count (Shifts q key k i j) n) ops → knows_count key n (value_of (shift_kind q k i j) known) (key_of q known) ≡ true
   unfolding fold shift_kind
-  shifts_behind k j key n m = its_own i _ (any_false (is_ahead i (fold known)) ops mine (Count (Shifts q key k i j) n) m)
+  shifts_behind k j key n m = known_own i (fold known) (Count (Shifts q key k i j) n) refl (any_false (is_ahead i (fold known)) ops mine (Count (Shifts q key k i j) n) m)
 
   execs_at : (k : ℕ) → (fold (ops ++ known)).execs q k i ≤ (fold known).execs q k i
   unfolding fold exec_kind

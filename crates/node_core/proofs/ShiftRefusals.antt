@@ -17,7 +17,7 @@ use Rattle.node_core.specs.Nodes.{setting_of}
 use Rattle.refusals.specs.Refusals.{first_fault}
 use Rattle.counters.specs.Cells.{most}
 use Rattle.std.specs.Bool.{then_some}
-use Rattle.node_core.specs.Refusals.{is_bad_node, faults_of_setting, faults_of_shift}
+use Rattle.node_core.specs.Refusals.{is_bad_node, faults_of_shift_under, faults_of_shift}
 use Rattle.node_core.proofs.Rights.{counted_rights}
 
 -- a term that is there has a number below that of the terms
@@ -59,7 +59,7 @@ module _ (config : Config) (v : State) (name : List ℕ) (term to amount : ℕ) 
   is_below = let low = below_length terms term t here in grind (arith, nat_tests, low)
 
   same : first_fault (faults_of_shift config v name term to amount) ≡ first_fault refusals
-  same = ap (λ s. first_fault (faults_of_setting config v name term to amount s)) set ∙ rw (is_below, count_here) refl
+  same = ap (λ s. first_fault (faults_of_shift_under config v name term to amount s)) set ∙ rw (is_below, count_here) refl
 
   pub bad_node : is_bad_node config to ≡ true → first_fault (faults_of_shift config v name term to amount) ≡ Some faults.BadNode
   bad_node h = same ∙ rw h refl

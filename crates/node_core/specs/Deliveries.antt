@@ -10,20 +10,21 @@ use Rattle.replica_state.specs.States.{State}
 use Rattle.node_core.specs.Replicas.{state_in}
 use Rattle.replica_state.specs.Unions.{key_order, number_both}
 use Rattle.replica_state.specs.Folds.{fold, clock_of}
+use Rattle.replica_state.specs.Deltas.{IsDelta}
 use Rattle.replica_state.specs.Knowledge.{changes}
 use Rattle.delta_exchange.specs.declared.fault.WireFault.{WireFault}
 use Rattle.delta_exchange.specs.Limits.{max_names}
-use Rattle.delta_exchange.specs.Messages.{MessageValue}
-use Rattle.delta_exchange.specs.Spelling.{message_bytes}
+use Rattle.delta_exchange.specs.Messages.{MessageValue, operations_in}
+use Rattle.delta_exchange.specs.Spelling.{SpellsMessage, message_bytes}
 use Rattle.delta_exchange.specs.Wholes.{AreLawful, IsWhole}
 use Rattle.delta_exchange.specs.Cells.{whole_of}
 use Rattle.node_core.specs.declared.config.Config.{Config}
 use Rattle.node_core.specs.declared.delivery.Delivery.{Delivery}
-use Rattle.node_core.specs.Asks.{Message, message_read}
+use Rattle.node_core.specs.Asks.{Message, Versions, message_read}
 use Rattle.node_core.specs.Nodes.{Node, state_shown, setting_of, terms_in}
 use Rattle.node_core.specs.Refusals.{any_below, is_above, says_more}
 use Rattle.node_core.specs.Steps.{message_in}
-use Rattle.node_core.specs.Traces.{Kept, node_of}
+use Rattle.node_core.specs.Traces.{Kept, node_of, state_known, versions_told}
 
 -- a number of a node's own, told under a key that stands so to the one that is held, is above what the
 -- node knows
@@ -86,3 +87,17 @@ pub record TellsAll (k : Kept) (to : ℕ) (bytes : List ℕ) : Type 0 where
   pub whole : IsWhole k.config.nodes k.config.node to (state_shown (node_of k)) message
   pub is : message ≡ whole_of (state_shown (node_of k)) k.config.nodes k.config.node to
   pub written : bytes ≡ message_bytes message
+
+-- the versions that a message tells
+abbrev pub versions_in : MessageValue → Versions
+versions_in m = record { base = m.base; upto = m.upto; ack = m.ack }
+
+-- bytes of a message to a node that tells what differs between the state at the version that it is known
+-- to have and the state now, and the versions
+pub record TellsDelta (k : Kept) (to : ℕ) (bytes : List ℕ) : Type 0 where
+  pub message : MessageValue
+  pub spelled : SpellsMessage k.config.nodes bytes message
+  pub sender : message.from ≡ k.config.node
+  pub receiver : message.to ≡ to
+  pub versions : versions_in message ≡ versions_told (node_of k).marks to
+  pub delta : IsDelta ((node_of k).past message.base) (state_known k) (operations_in message)

@@ -1,6 +1,6 @@
 -- When a node refuses what it is asked. The refusals stand in their order, and the first that applies is
 -- the answer.
-use Rattle.std.specs.Prelude.{ℕ, ◌+◌, ◌-◌, Bool, true, false, ◌==◌, ◌&&◌, ◌||◌, nat_lt, nat_le, not, List, [], ◌∷◌, ◌++◌, length, map, if◌then◌else◌, Option, Some, None, is_none, Result, Ok, Err, zero, suc}
+use Rattle.std.specs.Prelude.{ℕ, ◌+◌, ◌-◌, Bool, true, false, ◌==◌, ◌&&◌, ◌||◌, nat_lt, nat_le, not, List, [], ◌∷◌, ◌++◌, length, map, Option, Some, None, is_none, Result, Ok, Err, zero, suc}
 use Rattle.std.specs.Bool.{then_some}
 use Rattle.std.specs.List.{list_any}
 use Rattle.refusals.specs.Refusals.{first_fault}
@@ -14,11 +14,11 @@ use Rattle.actions.specs.declared.fault.SettingFault.TheVariants as settings
 use Rattle.counters.specs.Sums.{numbers, sum_below}
 use Rattle.counters.specs.Budgets.{given_to, gone_from}
 use Rattle.counters.specs.Cells.{is_too_great}
-use Rattle.stamp_register.specs.Keys.{KeyValue, same_key}
-use Rattle.replica_state.specs.Operations.{Operation, Set, Count, Hits, Execs, Shifts, count_at}
+use Rattle.stamp_register.specs.Keys.{KeyValue}
+use Rattle.replica_state.specs.Operations.{Operation, writer_of, count_at}
 use Rattle.replica_state.specs.States.{State, with_name, budget}
 use Rattle.replica_state.specs.Folds.{fold, name_in}
-use Rattle.replica_state.specs.Knowledge.{is_upto}
+use Rattle.replica_state.specs.Knowledge.{knows}
 use Rattle.replica_state.specs.Unions.{with_names}
 use Rattle.node_core.specs.declared.config.Config.{Config}
 use Rattle.node_core.specs.declared.fault.NodeFault.{NodeFault}
@@ -94,23 +94,11 @@ abbrev pub rights_here : ℕ → State → List ℕ → ℕ → Option (KeyValue
 rights_here i v name term None = 0
 rights_here i v name term (Some setting) = rights_counted i v name setting.0 term (count_at setting.1 term)
 
--- an operation says more of node i than it knows itself: a later hit of its own; a key of its own above
--- the key of the name; under that key, a later execution or shift of its own; under a greater key, any
--- of its own
-abbrev pub is_cell_ahead : KeyValue → ℕ → ℕ → Option KeyValue → Bool
-is_cell_ahead key number here None = true
-is_cell_ahead key number here (Some other) =
-    if same_key other key then nat_lt here number else not (is_upto (Some key) (Some other))
-
+-- an operation that node i wrote, and that the state doesn't know
 abbrev pub is_ahead : ℕ → State → Operation → Bool
-is_ahead i v (Set name key) = key.node == i && not (is_upto (Some key) (v.key name))
-is_ahead i v (Count (Hits name node) number) = node == i && nat_lt (v.hits name i) number
-is_ahead i v (Count (Execs name key term node) number) =
-    node == i && is_cell_ahead key number (v.execs name term i) (v.key name)
-is_ahead i v (Count (Shifts name key term from to) number) =
-    from == i && is_cell_ahead key number (v.shifts name term i to) (v.key name)
+is_ahead i v op = writer_of op == i && not (knows v op)
 
--- one of these operations does
+-- one of these operations is
 abbrev pub says_more : ℕ → State → List Operation → Bool
 says_more i v ops = list_any (is_ahead i v) ops
 
@@ -136,10 +124,11 @@ abbrev pub no_rights : ℕ → State → List ℕ → ℕ → ℕ → Option (Ke
 no_rights i v name term amount setting =
     then_some (too_few i v name term amount setting) (faults.TooFewRights (rights_here i v name term setting))
 
--- the refusals of a shift but those of the trace and of the name
-abbrev pub faults_of_setting : Config → State → List ℕ → ℕ → ℕ → ℕ →
+-- the refusals of a shift but those of the trace and of the name, where the name has this setting or
+-- none
+abbrev pub faults_of_shift_under : Config → State → List ℕ → ℕ → ℕ → ℕ →
     Option (KeyValue × List TermValue) → List (Option NodeFault)
-faults_of_setting config v name term to amount setting =
+faults_of_shift_under config v name term to amount setting =
     then_some (is_none setting) faults.NotSet ∷
     then_some (nat_le (length (terms_in setting)) term) faults.NoSuchTerm ∷
     then_some (is_none (count_at (terms_in setting) term)) faults.NotCounted ∷
@@ -149,7 +138,8 @@ faults_of_setting config v name term to amount setting =
     then_some (is_too_great (v.shifts name term config.node to + amount)) faults.CellFull ∷ []
 
 abbrev pub faults_of_shift : Config → State → List ℕ → ℕ → ℕ → ℕ → List (Option NodeFault)
-faults_of_shift config v name term to amount = faults_of_setting config v name term to amount (setting_of v name)
+faults_of_shift config v name term to amount =
+    faults_of_shift_under config v name term to amount (setting_of v name)
 
 abbrev pub shift_refusal : Config → State → List ℕ → ℕ → ℕ → ℕ → Option NodeFault
 shift_refusal config v name term to amount = first_fault (faults_of_shift config v name term to amount)

@@ -1,5 +1,5 @@
 -- Traces: the accepted calls of a node, and what they come to.
-use Rattle.std.specs.Prelude.{◌≡◌, ◌⊎◌, ℕ, ◌+◌, ◌≤◌, List, [], ◌∷◌, ◌++◌, length, map, Option, Some, None}
+use Rattle.std.specs.Prelude.{◌≡◌, ◌⊎◌, ℕ, ◌+◌, List, [], ◌∷◌, ◌++◌, length, map, Option, Some, None}
 use Rattle.replica_state.specs.Deltas.{IsDelta}
 use Rattle.replica_state.specs.States.{State}
 use Rattle.node_core.specs.declared.config.Config.{Config}
@@ -84,17 +84,16 @@ abbrev pub Records : Kept → Kept → Call → List ℕ → Type 0
 Records k new c words =
     (refusal k c.ask words ≡ None) × (c ≡ entry_for k c.ask words) × (new ≡ after_call k c.ask words)
 
--- an emit tells no version that the node hasn't, and counts on none that its receiver isn't known to
--- have
-pub record MayTell (marks : Marks) (to : ℕ) (versions : Versions) : Type 0 where
-  pub base : versions.base ≤ marks.acked to
-  pub upto : versions.upto ≤ marks.version
-  pub ack : versions.ack ≤ marks.known to
+-- the versions that a message tells: the node's that its receiver is known to have, the node's own, and
+-- the receiver's that the node knows
+abbrev pub versions_told : Marks → ℕ → Versions
+versions_told marks to = record { base = marks.acked to; upto = marks.version; ack = marks.known to }
 
--- it sends what differs between the state at the version that it counts on and the state now
+-- an emit tells these versions, and what differs between the state at the version that its receiver is
+-- known to have and the state now
 abbrev pub SendsDelta : Node → Asked → Type 0
 SendsDelta n (asks.Emit to versions chosen) =
-    MayTell n.marks to versions × IsDelta (n.past versions.base) (state_shown n) chosen
+    (versions ≡ versions_told n.marks to) × IsDelta (n.past versions.base) (state_shown n) chosen
 SendsDelta n _ = Unit {0}
 
 -- a trace is legal where each call of it, from the start, is accepted and has the step's reply

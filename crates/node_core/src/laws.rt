@@ -2,12 +2,19 @@
 
 ghost use Rattle.std.specs.Prelude.{◌≡◌, ◌≤◌, length, Ok};
 ghost use Rattle.actions.specs.SettingReading.{setting_reading};
-ghost use Rattle.node_core.specs.Asks.{Load};
+ghost use Rattle.node_core.specs.Asks.{Load, Message, message_read};
 ghost use Rattle.node_core.specs.Steps.{settings};
 ghost use Rattle.node_core.specs.Texts.{list_text, points_listed, settings_listed};
 ghost use Rattle.node_core.specs.Traces.{state_known};
 
 use crate::node::NodeCore;
+
+/// No two byte strings are read as one message. So a trace, which keeps what the bytes of a message
+/// were read as, keeps the bytes.
+pub fn message_fixes_bytes(nodes: u8, a: &[u8], b: &[u8])
+    ensures { (m : Message) → message_read nodes a.now ≡ Ok m → message_read nodes b.now ≡ Ok m
+        → a.now ≡ b.now }
+{}
 
 /// What a node lists is, within 65536 bytes, a setting text of the points that are set, and a load
 /// of it asks to set each of them to the text that it has.

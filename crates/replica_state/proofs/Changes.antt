@@ -14,12 +14,12 @@ use Rattle.replica_state.proofs.Orders.{key_le-refl, same_key-true, same_key-ref
 use Rattle.replica_state.proofs.Sets.{IsIn-append_left, IsIn-append_right, IsIn-append_cases, number_at-is_in, number_at-least, KeyUpto, KeyUpto-antisym, key_of-is_in, key_of-least, key_of-mono}
 use Rattle.replica_state.proofs.KnownSets.{own_name}
 
-upto_true : (a b : Option KeyValue) → is_upto a b ≡ true → KeyUpto a b
+pub upto_true : (a b : Option KeyValue) → is_upto a b ≡ true → KeyUpto a b
 upto_true None b h = tt
 upto_true (Some a) None h = absurd (true≢false (sym h))
 upto_true (Some a) (Some b) h = h
 
-true_upto : (a b : Option KeyValue) → KeyUpto a b → is_upto a b ≡ true
+pub true_upto : (a b : Option KeyValue) → KeyUpto a b → is_upto a b ≡ true
 true_upto None b h = refl
 true_upto (Some a) None h = absurd h
 true_upto (Some a) (Some b) h = h
@@ -38,7 +38,7 @@ false_any test (o ∷ ops) h = both (test o) (list_any test ops) (h o (inl refl)
     both false b h k = k
 
 -- the key and the number of a count that the state knows
-count_known : (key : KeyValue) (number here : ℕ) (k : Option KeyValue) → knows_count key number here k ≡ true → KeyUpto (Some key) k × ((k ≡ Some key) → number ≤ here)
+pub count_known : (key : KeyValue) (number here : ℕ) (k : Option KeyValue) → knows_count key number here k ≡ true → KeyUpto (Some key) k × ((k ≡ Some key) → number ≤ here)
 count_known key number here None h = absurd (true≢false (sym h))
 count_known key number here (Some other) h = at (same_key other key) refl h
   where
@@ -51,7 +51,7 @@ count_known key number here (Some other) h = at (same_key other key) refl h
           absurd (true≢false (sym (subst (λ k. same_key other k ≡ true) same (same_key-refl other)) ∙ e)),
     )
 
-known_count : (key : KeyValue) (number here : ℕ) (k : Option KeyValue) → KeyUpto (Some key) k → ((k ≡ Some key) → number ≤ here) → knows_count key number here k ≡ true
+pub known_count : (key : KeyValue) (number here : ℕ) (k : Option KeyValue) → KeyUpto (Some key) k → ((k ≡ Some key) → number ≤ here) → knows_count key number here k ≡ true
 known_count key number here None h f = absurd h
 known_count key number here (Some other) h f = at (same_key other key) refl
   where
@@ -63,7 +63,7 @@ upto_some : (key : KeyValue) (k : Option KeyValue) → KeyUpto (Some key) k → 
 upto_some key None h = absurd h
 upto_some key (Some other) h = (other, refl)
 
-le_both : (a b : ℕ) → a ≤ b → b ≤ a → a ≡ b
+pub le_both : (a b : ℕ) → a ≤ b → b ≤ a → a ≡ b
 le_both a b h k = omega arith
 
 carried_key : (name n : List ℕ) (key : KeyValue) (k : Option KeyValue → Type 0) → k None → (bytes_eq n name ≡ true → k (Some key)) → k (cond (bytes_eq n name) (Some key) None)
@@ -74,13 +74,13 @@ carried_key name n key k none some = at (bytes_eq n name) (λ e. some e)
     at false f = none
 
 -- what is known carries no greater key
-known_key : (name : List ℕ) (v : State) (op : Operation) → knows v op ≡ true → KeyUpto (key_in name op) (v.key name)
+pub known_key : (name : List ℕ) (v : State) (op : Operation) → knows v op ≡ true → KeyUpto (key_in name op) (v.key name)
 known_key name v (Set n key) h = carried_key name n key (λ k. KeyUpto k (v.key name)) tt (λ e. subst (λ m. KeyUpto (Some key) (v.key m)) ((bytes_eq-Decides n name).0 e) (upto_true (Some key) (v.key n) h))
 known_key name v (Count (Hits n node) number) h = tt
 known_key name v (Count (Execs n key term node) number) h = carried_key name n key (λ k. KeyUpto k (v.key name)) tt (λ e. subst (λ m. KeyUpto (Some key) (v.key m)) ((bytes_eq-Decides n name).0 e) (count_known key number _ (v.key n) h).0)
 known_key name v (Count (Shifts n key term from to) number) h = carried_key name n key (λ k. KeyUpto k (v.key name)) tt (λ e. subst (λ m. KeyUpto (Some key) (v.key m)) ((bytes_eq-Decides n name).0 e) (count_known key number _ (v.key n) h).0)
 
-at_one : (k l : Option KeyValue) (f g : KeyValue → ℕ) → k ≡ l → ((key : KeyValue) → l ≡ Some key → f key ≡ g key) → at_key k f ≡ at_key l g
+pub at_one : (k l : Option KeyValue) (f g : KeyValue → ℕ) → k ≡ l → ((key : KeyValue) → l ≡ Some key → f key ≡ g key) → at_key k f ≡ at_key l g
 at_one None None f g e h = refl
 at_one None (Some b) f g e h = cc
 at_one (Some a) None f g e h = cc
@@ -104,7 +104,7 @@ names_unchanged a b known = names_same (a ++ b) b
     (IsIn-append_cases h.op a b h.held))
     (λ q h. record { op = h.op; held = IsIn-append_right h.op a b h.held; named = h.named; counted = h.counted })
 
-no_change : (a b : List Operation) → changes (fold b) a ≡ false → fold (a ++ b) ≡ fold b
+pub no_change : (a b : List Operation) → changes (fold b) a ≡ false → fold (a ++ b) ≡ fold b
 unfolding fold
 no_change a b h =
     let known : (op : Operation) → IsIn op a → knows (fold b) op ≡ true = λ op m. not-false _ (any_false (λ op. not (knows (fold b) op)) a h op m) in
@@ -123,7 +123,7 @@ no_change a b h =
     subst (λ x. k ≤ x) (ap (λ o. at_key o (λ l. number_at (Shifts name l term from to) b)) e) ((count_known key k _ (key_of name b) (known _ m)).1 e))) in
     λ i. record { names = names_unchanged a b known i; key = λ name. keys name i; hits = λ name node. hits name node i; execs = λ name term node. execs name term node i; shifts = λ name term from to. shifts name term from to i }
 
-is_known : (a b : List Operation) → fold (a ++ b) ≡ fold b → (op : Operation) → IsIn op a → knows (fold b) op ≡ true
+pub is_known : (a b : List Operation) → fold (a ++ b) ≡ fold b → (op : Operation) → IsIn op a → knows (fold b) op ≡ true
 unfolding fold
 is_known a b e (Set name key) m =
     true_upto (Some key) (key_of name b) (subst (KeyUpto (Some key)) (ap (λ (v : State). v.key name) e)

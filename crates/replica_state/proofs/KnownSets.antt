@@ -50,7 +50,7 @@ greater_key name n key ops test upto h = at (bytes_eq n name) (λ e. bytes_eq-tr
         let same = f refl in
         KeyUpto-trans (Some key) (Some h.key) (key_of name ops) (upto h.key h.passes) (subst (λ m. KeyUpto (Some h.key) (key_of m ops)) same (held_key n ops test h))
 
-known_key : (name : List ℕ) (ops : List Operation) (op : Operation) → Knows ops op → KeyUpto (key_in name op) (key_of name ops)
+pub known_key : (name : List ℕ) (ops : List Operation) (op : Operation) → Knows ops op → KeyUpto (key_in name op) (key_of name ops)
 known_key name ops (Set n key) h = greater_key name n key ops _ (λ other t. t) h
 known_key name ops (Count (Hits n node) number) h = tt
 known_key name ops (Count (Execs n key term node) number) (inl h) = later_key name (Execs n key term node) number ops h
@@ -61,14 +61,14 @@ known_key name ops (Count (Shifts n key term from to) number) (inr h) = greater_
 known_keys : (name : List ℕ) (a b : List Operation) → KnowsAll a b → KeyUpto (key_of name b) (key_of name a)
 known_keys name a b h = key_of-least name (key_of name a) b (λ op m. known_key name a op (h op m))
 
-later_at : (cell : Cell) (number : ℕ) (ops : List Operation) → HoldsLater ops cell number → number ≤ number_at cell ops
+pub later_at : (cell : Cell) (number : ℕ) (ops : List Operation) → HoldsLater ops cell number → number ≤ number_at cell ops
 later_at cell number ops h =
     let k = number_at-is_in cell h.later ops h.held in
     let l = h.at_least in
     omega arith
 
 -- a count of the set's own key is known by a later one
-no_greater : (name : List ℕ) (key : KeyValue) (ops : List Operation) → key_of name ops ≡ Some key → HoldsKey ops name (λ other. (key_le key other ≡ true) × (key ≢ other)) → ⊥
+pub no_greater : (name : List ℕ) (key : KeyValue) (ops : List Operation) → key_of name ops ≡ Some key → HoldsKey ops name (λ other. (key_le key other ≡ true) × (key ≢ other)) → ⊥
 no_greater name key ops e h =
     let upto : key_le h.key key ≡ true = subst (KeyUpto (Some h.key)) e (held_key name ops _ h) in
     h.passes.1 (key_le-antisym key h.key h.passes.0 upto)

@@ -8,6 +8,8 @@ pub mod Sets
 pub mod Names
 pub mod KnownSets
 pub mod Changes
+pub mod Knowing
+pub mod Telling
 pub mod Unions
 pub mod SlotLemmas
 pub mod Slots

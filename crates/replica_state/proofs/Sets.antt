@@ -1,6 +1,6 @@
 -- What a fold says of a set: each cell and each key is the least bound of what the set holds.
-use Rattle.std.proofs.Common.{◌≡◌, ℕ, ◌≤◌, max, Bool, true, false, cond, List, [], ◌∷◌, ◌++◌, ◌⊎◌, inl, inr, refl, sym, ◌∙◌, ap, subst, arith, ⊎_elim, Option, Some, None}
-use Rattle.std.proofs.lemmas.Bool.{true≢false}
+use Rattle.std.proofs.Common.{◌≡◌, ◌≢◌, ℕ, ◌<◌, ◌≤◌, max, Bool, true, false, cond, List, [], ◌∷◌, ◌++◌, ◌⊎◌, inl, inr, refl, sym, ◌∙◌, ap, subst, arith, ⊎_elim, Option, Some, None}
+use Rattle.std.proofs.lemmas.Bool.{true≢false, cases_lt}
 use Rattle.stamp_register.specs.Keys.{KeyValue, key_le}
 use Rattle.replica_state.specs.Operations.{Cell, Operation, Set, Count, IsIn, same_cell}
 use Rattle.replica_state.specs.Folds.{greater, key_in_cell, key_in, key_of, number_in, number_at}
@@ -68,6 +68,28 @@ number_at-append c [] b = omega arith
 number_at-append c (op ∷ a) b =
     let h = number_at-append c a b in
     omega arith
+
+-- a number that isn't 0 is of an operation
+number_is : (cell : Cell) (op : Operation) → (number_in cell op ≡ 0) ⊎ (Count cell (number_in cell op) ≡ op)
+number_is cell (Set name key) = inl refl
+number_is cell (Count other n) = at (same_cell other cell) refl
+  where
+    at : (t : Bool) → same_cell other cell ≡ t → (◌≡◌ {A = ℕ} (cond t n 0) 0) ⊎ (Count cell (cond t n 0) ≡ Count other n)
+    at true e = inr (ap (λ x. Count x n) (sym (same_cell-true other cell e)))
+    at false e = inl refl
+
+pub number_held : (cell : Cell) (ops : List Operation) → number_at cell ops ≢ 0 → (n : ℕ) × IsIn (Count cell n) ops × (number_at cell ops ≤ n)
+number_held cell [] h = absurd (h refl)
+number_held cell (op ∷ ops) h = at (number_held cell ops) (cases_lt (number_in cell op) (number_at cell ops)) (number_is cell op)
+  where
+    at : (number_at cell ops ≢ 0 → (n : ℕ) × IsIn (Count cell n) ops × (number_at cell ops ≤ n)) → (number_in cell op < number_at cell ops) ⊎ (number_at cell ops ≤ number_in cell op)
+        → (number_in cell op ≡ 0) ⊎ (Count cell (number_in cell op) ≡ op) → (n : ℕ) × IsIn (Count cell n) (op ∷ ops) × (max (number_in cell op) (number_at cell ops) ≤ n)
+    at rest (inl less) is =
+        let r = rest (λ z. absurd (omega (arith, z, less))) in
+        let upto = r.2 in
+        (r.0, inr r.1, omega (arith, less, upto))
+    at rest (inr more) (inl z) = absurd (h (omega (arith, z, more)))
+    at rest (inr more) (inr s) = (number_in cell op, inl s, omega (arith, more))
 
 -- ---- keys
 

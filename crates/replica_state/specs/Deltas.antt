@@ -1,32 +1,37 @@
--- What differs between two states of one node, as operations: what it sends to a node that has the
--- first.
+-- What a state tells, as operations; and what differs between two states of one node, which it sends to
+-- a node that has the first.
 use Rattle.std.specs.Prelude.{◌≡◌, ◌≢◌, ℕ, List, ◌↔◌, Some}
-use Rattle.stamp_register.specs.Keys.{KeyValue}
-use Rattle.replica_state.specs.Operations.{Hits, Execs, Shifts, Operation, Set, Count, IsIn}
+use Rattle.replica_state.specs.Operations.{Cell, Hits, Execs, Shifts, Operation, Set, Count, IsIn}
 use Rattle.replica_state.specs.States.{State}
+use Rattle.replica_state.specs.Folds.{name_in}
 
--- nothing of the name differs
-pub record IsSameAt (v w : State) (name : List ℕ) : Type 0 where
-  pub key : v.key name ≡ w.key name
-  pub hits : (node : ℕ) → v.hits name node ≡ w.hits name node
-  pub execs : (term node : ℕ) → v.execs name term node ≡ w.execs name term node
-  pub shifts : (term from to : ℕ) → v.shifts name term from to ≡ w.shifts name term from to
+-- a state has this number in a cell: of a key, where that is its key of the name
+abbrev pub HasNumber : State → Cell → ℕ → Type 0
+HasNumber v (Hits name node) number = v.hits name node ≡ number
+HasNumber v (Execs name key term node) number =
+    (v.key name ≡ Some key) × (v.execs name term node ≡ number)
+HasNumber v (Shifts name key term from to) number =
+    (v.key name ≡ Some key) × (v.shifts name term from to ≡ number)
 
--- a cell of the second state's key, which differs, or the keys do
-pub record IsNewCell (v w : State) (name : List ℕ) (key : KeyValue) (before now number : ℕ) : Type 0 where
-  pub of_key : w.key name ≡ Some key
-  pub is_now : number ≡ now
-  pub positive : number ≢ 0
-  pub differs : v.key name ≡ w.key name → before ≢ now
+-- a state tells the setting of each name under its key, and each cell that isn't 0
+abbrev pub IsTold : State → Operation → Type 0
+IsTold v (Set name key) = v.key name ≡ Some key
+IsTold v (Count cell number) = HasNumber v cell number × (number ≢ 0)
 
+-- these operations are just what a state tells
+abbrev pub IsAllTold : State → List Operation → Type 0
+IsAllTold v ops = (op : Operation) → IsIn op ops ↔ IsTold v op
+
+-- two states tell the same of a name
+abbrev pub TellSameOf : State → State → List ℕ → Type 0
+TellSameOf v w name = (op : Operation) → name_in op ≡ name → (IsTold v op ↔ IsTold w op)
+
+-- what the second state tells and the first doesn't; and the setting of a name of which they don't tell
+-- the same
 abbrev pub IsInDelta : State → State → Operation → Type 0
-IsInDelta v w (Set name key) = (w.key name ≡ Some key) × (IsSameAt v w name → ⊥)
-IsInDelta v w (Count (Hits name node) number) =
-    (number ≡ w.hits name node) × (number ≢ 0) × (v.hits name node ≢ w.hits name node)
-IsInDelta v w (Count (Execs name key term node) number) =
-    IsNewCell v w name key (v.execs name term node) (w.execs name term node) number
-IsInDelta v w (Count (Shifts name key term from to) number) =
-    IsNewCell v w name key (v.shifts name term from to) (w.shifts name term from to) number
+IsInDelta v w (Set name key) = IsTold w (Set name key) × (TellSameOf v w name → ⊥)
+IsInDelta v w (Count cell number) =
+    IsTold w (Count cell number) × (IsTold v (Count cell number) → ⊥)
 
 abbrev pub IsDelta : State → State → List Operation → Type 0
 IsDelta v w chosen = (op : Operation) → IsIn op chosen ↔ IsInDelta v w op

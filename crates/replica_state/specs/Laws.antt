@@ -1,12 +1,12 @@
 -- What holds of every set of operations.
-use Rattle.std.specs.Prelude.{◌≡◌, ℕ, ◌<◌, List, ◌++◌, ◌↔◌, false, Some, pos, ◌+ℤ◌}
+use Rattle.std.specs.Prelude.{◌≡◌, ℕ, ◌<◌, List, ◌++◌, ◌↔◌, true, false, Some, pos, ◌+ℤ◌}
 use Rattle.counters.specs.Sums.{numbers}
 use Rattle.counters.specs.Budgets.{Budget, remaining_rights, total_spent}
-use Rattle.replica_state.specs.Operations.{Operation, IsIn}
+use Rattle.replica_state.specs.Operations.{Operation, IsIn, IsWellFormed}
 use Rattle.replica_state.specs.States.{State, budget_of}
 use Rattle.replica_state.specs.Folds.{fold}
 use Rattle.replica_state.specs.StateOrder.{IsBelow}
-use Rattle.replica_state.specs.Knowledge.{KnowsAll, changes}
+use Rattle.replica_state.specs.Knowledge.{Knows, KnowsAll, knows, changes}
 
 -- the state of a set depends on no order and no repeats
 abbrev pub SameOperationsSameState : Type 0
@@ -21,6 +21,11 @@ abbrev pub UnionIsLeast : Type 0
 UnionIsLeast = (a b : List Operation) →
     IsBelow (fold a) (fold (a ++ b)) × IsBelow (fold b) (fold (a ++ b)) ×
     ((c : List Operation) → IsBelow (fold a) (fold c) → IsBelow (fold b) (fold c) → IsBelow (fold (a ++ b)) (fold c))
+
+-- the state of a set knows a well-formed operation exactly where the set does
+abbrev pub StateKnowsAsSet : Type 0
+StateKnowsAsSet = (ops : List Operation) (op : Operation) → IsWellFormed op →
+    (knows (fold ops) op ≡ true) ↔ Knows ops op
 
 -- operations leave the state as it was exactly where the state knows them all
 abbrev pub ChangesIsChange : Type 0

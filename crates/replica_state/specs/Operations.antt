@@ -24,6 +24,17 @@ operation (ops.Hit name node number) = Count (Hits name node) number
 operation (ops.Exec name key term node number) = Count (Execs name (key_value key) term node) number
 operation (ops.Shift name key term from to total) = Count (Shifts name (key_value key) term from to) total
 
+-- the node that wrote an operation: it set the key, passed the point, executed the term or gave the
+-- rights
+abbrev pub writer_of_cell : Cell → ℕ
+writer_of_cell (Hits name node) = node
+writer_of_cell (Execs name key term node) = node
+writer_of_cell (Shifts name key term from to) = from
+
+abbrev pub writer_of : Operation → ℕ
+writer_of (Set name key) = key.node
+writer_of (Count cell number) = writer_of_cell cell
+
 -- a set of operations is a list of which neither the order nor repeats matter
 abbrev pub IsIn : {A : Type 0} → A → List A → Type 0
 IsIn x [] = ⊥

@@ -261,6 +261,21 @@ fn next(slot: &Slot, counted: Counted) -> Count
     counted.times(number(slot, counted) + 1)
 }
 
+// Counts a hit at a node.
+fn hit(slot: &mut Slot, alloc: Global, node: u8) -> Result<(), AllocError>
+    requires { slot_number slot.old (Hits node) + 1 < 2 ^ 64 }
+    ensures key { slot_key slot.new ≡ slot_key slot.old }
+    ensures ok { OnOk result (Raises (slot_number slot.old) (slot_number slot.new)
+        (Some (record { counted = Hits node; number = slot_number slot.old (Hits node) + 1 }))) }
+    ensures err { OnErr result (slot_held slot.new ≡ slot_held slot.old) }
+    ensures absent { OnErr result (slot_number slot.old (Hits node) ≡ 0) }
+{
+    match slot.second.hit(alloc, node) {
+        Ok(_) => Ok(()),
+        Err(_) => Err(AllocError),
+    }
+}
+
 /// Counts a hit at a node and, where a term was triggered, its execution there.
 pub(crate) fn pass(
     slot: &mut Slot,
@@ -274,12 +289,11 @@ pub(crate) fn pass(
     ensures ok { OnOk result (slot_held slot.new ≡ held_after_pass node spent (slot_held slot.old)) }
     ensures err { OnErr result (slot_held slot.new ≡ slot_held slot.old) }
 {
-    let hits = next(slot, Counted::Hits { node });
     let Some(term) = spent else {
-        return raise(slot, alloc, hits);
+        return hit(slot, alloc, node);
     };
     let execs = next(slot, Counted::Execs { term, node });
-    if hits.number == 1 {
+    if slot.second.of(node) == 0 {
         // The hit takes memory, as perhaps the execution does: so it is counted aside first.
         let mut counter = slot.second.copied(alloc)?;
         counter.raise(alloc, node, 1)?;
@@ -288,7 +302,7 @@ pub(crate) fn pass(
         return Ok(());
     }
     raise(slot, alloc, execs)?;
-    raise(slot, alloc, hits)
+    hit(slot, alloc, node)
 }
 
 /// Counts the rights to a term that one node moved to another, so many in all.

@@ -1,6 +1,7 @@
 pub mod Flows
 pub mod Numbers
 pub mod Words
+pub mod Spaces
 pub mod Texts
 pub mod Outputs
 pub mod Emits

@@ -10,22 +10,25 @@ newline = 10
 abbrev pub space : ℕ
 space = 32
 
+abbrev pub is_space : ℕ → Bool
+is_space byte = byte == space
+
 -- what stands between the newlines: where a text ends with one, the last line is empty
 abbrev pub lines_of : List ℕ → List (List ℕ)
 lines_of text = slice_split (λ byte. byte == newline) text
 
 -- what stands between the spaces
 abbrev pub fields_of : List ℕ → List (List ℕ)
-fields_of text = slice_split (λ byte. byte == space) text
+fields_of text = slice_split is_space text
 
 abbrev pub has_space : List ℕ → Bool
-has_space text = nat_lt (position_or_len (λ byte. byte == space) text) (length text)
+has_space text = nat_lt (position_or_len is_space text) (length text)
 
 abbrev pub before_space : List ℕ → List ℕ
-before_space text = before_first (λ byte. byte == space) text
+before_space text = before_first is_space text
 
 abbrev pub after_space : List ℕ → List ℕ
-after_space text = after_first (λ byte. byte == space) text
+after_space text = after_first is_space text
 
 -- what stands before the first space, and what after it
 abbrev pub cut_of : List ℕ → Option (List ℕ × List ℕ)

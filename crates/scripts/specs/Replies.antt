@@ -1,14 +1,11 @@
 -- The texts of what a cluster answers.
-use Rattle.std.specs.Prelude.{◌≡◌, ℕ, Bool, Result, IfOk, List, [], ◌∷◌, ◌++◌, if◌then◌else◌, Option, Some, None, codes, decimal, string_bytes}
-use Rattle.std.specs.Fmt.{signed_decimal}
+use Rattle.std.specs.Prelude.{◌≡◌, ℕ, Bool, Result, OnOk, List, [], ◌∷◌, ◌++◌, if◌then◌else◌, codes, decimal, String, string_bytes}
+use Rattle.std.specs.declared.alloc.Global.{Global}
 use Rattle.actions.specs.Canonical.{task_text}
 use Rattle.stamp_register.specs.declared.key.Stamp.{Stamp}
 use Rattle.stamp_register.specs.Keys.{stamp_text}
-use Rattle.node_core.specs.Asks.{Passed, Unset, NoTerm, Act, passed, Answered, IsSet, IsRemoved, IsLoaded, IsPassed, IsShifted, IsEmitted, IsDelivered}
-use Rattle.node_core.specs.Texts.{node_fault_text}
+use Rattle.node_core.specs.Asks.{Passed, Unset, NoTerm, Act, Answered, IsSet, IsRemoved, IsLoaded, IsPassed, IsShifted, IsEmitted, IsDelivered}
 use Rattle.scripts.specs.Fields.{newline}
-use Rattle.scripts.specs.declared.reply.LineReply.{LineReply}
-use Rattle.scripts.specs.declared.reply.LineReply.TheVariants as replies
 
 abbrev pub set_text : Stamp → List ℕ
 set_text stamp = codes "set " ++ stamp_text stamp
@@ -64,35 +61,14 @@ no_message_text = refused_text (codes "NoMessage")
 abbrev pub bad_line_text : List ℕ
 bad_line_text = codes "bad line"
 
--- the text of a reply of the code
-abbrev pub reply_text : LineReply → List ℕ
-reply_text (replies.Set stamp) = set_text stamp
-reply_text (replies.Removed stamp) = removed_text stamp
-reply_text (replies.Loaded entries) = loaded_text entries
-reply_text (replies.Pass reply) = pass_text (passed reply)
-reply_text (replies.Shifted total) = shifted_text total
-reply_text (replies.Message message) = message_text message
-reply_text (replies.Delivered changed) = delivered_text changed
-reply_text (replies.List text) = string_bytes text
-reply_text (replies.Rights number) = signed_decimal number
-reply_text (replies.Count number) = decimal number
-reply_text (replies.Refused fault) = refused_text (node_fault_text fault)
-reply_text replies.NoNode = no_node_text
-reply_text replies.NoMessage = no_message_text
-reply_text replies.BadLine = bad_line_text
-
--- at Ok the reply has this text
-abbrev pub Says : {E : Type 0} → Result LineReply E → List ℕ → Type 0
-Says result text = IfOk result (λ reply. reply_text reply ≡ text)
-
 abbrev pub output_line : List ℕ → List ℕ
 output_line text = text ++ newline ∷ []
 
--- what is written of a reply, if there is one
-abbrev pub reply_output : Option LineReply → List ℕ
-reply_output None = []
-reply_output (Some reply) = output_line (reply_text reply)
+-- at Ok this text was appended to the output
+abbrev pub Prints : {T E : Type 0} → Result T E → String Global → String Global → List ℕ → Type 0
+Prints result old new text = OnOk result (string_bytes new ≡ string_bytes old ++ text)
 
--- at Ok this is what is written
-abbrev pub Prints : {E : Type 0} → Result (Option LineReply) E → List ℕ → Type 0
-Prints result text = IfOk result (λ reply. reply_output reply ≡ text)
+-- at Ok a line of this text was appended to the output
+abbrev pub PrintsLine :
+    {T E : Type 0} → Result T E → String Global → String Global → List ℕ → Type 0
+PrintsLine result old new text = Prints result old new (output_line text)

@@ -4,16 +4,17 @@ ghost use Rattle.std.specs.Prelude.{◌≡◌, ◌≢◌, false, IsTrue, IsOk, I
 ghost use Rattle.actions.specs.Names.{is_name};
 ghost use Rattle.node_core.specs.declared.fault.NodeFault.TheVariants.{OutOfMemory};
 ghost use Rattle.node_core.specs.Asks as asks;
-ghost use Rattle.scripts.specs.Commands.{request_value, rights, spent, hits};
-ghost use Rattle.scripts.specs.Replies.{Says};
+ghost use Rattle.scripts.specs.Commands.{request_value, list, rights, spent, hits};
+ghost use Rattle.scripts.specs.Replies.{PrintsLine};
 ghost use Rattle.node_core.specs.Traces.{delivery_of};
 ghost use Rattle.scripts.specs.Clusters.{is_cluster_size, new_cluster, call_text, node_after_call, request_text, node_after_request, ask_text, cluster_after_ask, emit_refusal, emit_bytes, emitted_text, node_after_emit, messages_after, messages_in, emit_text, cluster_after_emit, delivery_text, cluster_after_deliver};
 
 use crate::command::Request;
-use crate::reply::LineReply;
+use crate::reply::{print_no_node, print_pass, print_refusal};
 use actions::{Name, NameFault};
 use node_core::{Config, NodeCore, NodeFault};
 use std::alloc::{AllocError, Global};
+use std::fmt::Write;
 use std::marker::Model;
 
 /// The nodes of a script, by their numbers, and the bytes of all messages that they made.
@@ -36,34 +37,47 @@ fn set_point(
     node: &mut NodeCore,
     name: &str,
     text: &str,
-) -> Result<LineReply, AllocError>
-    ensures reply { Says result (call_text node.old (asks.Set name.now text.now) []) }
+    out: &mut String,
+) -> Result<(), AllocError>
+    ensures reply { PrintsLine result out.old out.new
+        (call_text node.old (asks.Set name.now text.now) []) }
     ensures after { OnOk result (
         node.new ≡ node_after_call node.old (asks.Set name.now text.now) []) }
 {
     match node.set(alloc, name, text) {
-        Ok(stamp) => Ok(LineReply::Set(stamp)),
-        Err(fault) => LineReply::refused(fault),
+        Ok(stamp) => writeln!(out, "set {stamp}"),
+        Err(fault) => print_refusal(out, fault),
     }
 }
 
-fn remove_point(alloc: Global, node: &mut NodeCore, name: &str) -> Result<LineReply, AllocError>
-    ensures reply { Says result (call_text node.old (asks.Remove name.now) []) }
+fn remove_point(
+    alloc: Global,
+    node: &mut NodeCore,
+    name: &str,
+    out: &mut String,
+) -> Result<(), AllocError>
+    ensures reply { PrintsLine result out.old out.new
+        (call_text node.old (asks.Remove name.now) []) }
     ensures after { OnOk result (node.new ≡ node_after_call node.old (asks.Remove name.now) []) }
 {
     match node.remove(alloc, name) {
-        Ok(stamp) => Ok(LineReply::Removed(stamp)),
-        Err(fault) => LineReply::refused(fault),
+        Ok(stamp) => writeln!(out, "removed {stamp}"),
+        Err(fault) => print_refusal(out, fault),
     }
 }
 
-fn load_points(alloc: Global, node: &mut NodeCore, text: &str) -> Result<LineReply, AllocError>
-    ensures reply { Says result (call_text node.old (asks.Load text.now) []) }
+fn load_points(
+    alloc: Global,
+    node: &mut NodeCore,
+    text: &str,
+    out: &mut String,
+) -> Result<(), AllocError>
+    ensures reply { PrintsLine result out.old out.new (call_text node.old (asks.Load text.now) []) }
     ensures after { OnOk result (node.new ≡ node_after_call node.old (asks.Load text.now) []) }
 {
     match node.load(alloc, text) {
-        Ok(entries) => Ok(LineReply::Loaded(entries)),
-        Err(fault) => LineReply::refused(fault),
+        Ok(entries) => writeln!(out, "loaded {entries}"),
+        Err(fault) => print_refusal(out, fault),
     }
 }
 
@@ -72,14 +86,16 @@ fn pass_point(
     node: &mut NodeCore,
     name: &str,
     words: &[u32],
-) -> Result<LineReply, AllocError>
-    ensures reply { Says result (call_text node.old (asks.Pass name.now) words.now) }
+    out: &mut String,
+) -> Result<(), AllocError>
+    ensures reply { PrintsLine result out.old out.new
+        (call_text node.old (asks.Pass name.now) words.now) }
     ensures after { OnOk result (
         node.new ≡ node_after_call node.old (asks.Pass name.now) words.now) }
 {
     match node.pass_with(alloc, name, words) {
-        Ok(reply) => Ok(LineReply::Pass(reply)),
-        Err(fault) => LineReply::refused(fault),
+        Ok(reply) => print_pass(out, &reply),
+        Err(fault) => print_refusal(out, fault),
     }
 }
 
@@ -90,14 +106,16 @@ fn shift_rights(
     term: u8,
     to: u8,
     amount: u64,
-) -> Result<LineReply, AllocError>
-    ensures reply { Says result (call_text node.old (asks.Shift name.now term to amount) []) }
+    out: &mut String,
+) -> Result<(), AllocError>
+    ensures reply { PrintsLine result out.old out.new
+        (call_text node.old (asks.Shift name.now term to amount) []) }
     ensures after { OnOk result (
         node.new ≡ node_after_call node.old (asks.Shift name.now term to amount) []) }
 {
     match node.shift(alloc, name, term, to, amount) {
-        Ok(total) => Ok(LineReply::Shifted(total)),
-        Err(fault) => LineReply::refused(fault),
+        Ok(total) => writeln!(out, "shifted {total}"),
+        Err(fault) => print_refusal(out, fault),
     }
 }
 
@@ -113,63 +131,82 @@ fn name_in(alloc: Global, text: &str) -> Result<Option<Name>, AllocError>
     }
 }
 
-fn rights_at(
+fn print_rights(
     alloc: Global,
     node: &NodeCore,
     name: &str,
     term: u8,
     of: u8,
-) -> Result<LineReply, AllocError>
-    ensures { Says result (request_text node.now (rights name.now term of)) }
+    out: &mut String,
+) -> Result<(), AllocError>
+    ensures { PrintsLine result out.old out.new (request_text node.now (rights name.now term of)) }
 {
-    let Some(name) = name_in(alloc, name)? else {
-        return Ok(LineReply::Rights(0));
+    let rights = match name_in(alloc, name)? {
+        Some(name) => node.rights(&name, term, of),
+        None => 0,
     };
-    Ok(LineReply::Rights(node.rights(&name, term, of)))
+    writeln!(out, "{rights}")
 }
 
-fn spent_at(alloc: Global, node: &NodeCore, name: &str, term: u8) -> Result<LineReply, AllocError>
-    ensures { Says result (request_text node.now (spent name.now term)) }
+fn print_spent(
+    alloc: Global,
+    node: &NodeCore,
+    name: &str,
+    term: u8,
+    out: &mut String,
+) -> Result<(), AllocError>
+    ensures { PrintsLine result out.old out.new (request_text node.now (spent name.now term)) }
 {
-    let Some(name) = name_in(alloc, name)? else {
-        return Ok(LineReply::Count(0));
+    let spent = match name_in(alloc, name)? {
+        Some(name) => node.spent(&name, term),
+        None => 0,
     };
-    Ok(LineReply::Count(node.spent(&name, term)))
+    writeln!(out, "{spent}")
 }
 
-fn hits_at(alloc: Global, node: &NodeCore, name: &str) -> Result<LineReply, AllocError>
-    ensures { Says result (request_text node.now (hits name.now)) }
+fn print_hits(alloc: Global, node: &NodeCore, name: &str, out: &mut String) -> Result<(), AllocError>
+    ensures { PrintsLine result out.old out.new (request_text node.now (hits name.now)) }
 {
-    let Some(name) = name_in(alloc, name)? else {
-        return Ok(LineReply::Count(0));
+    let hits = match name_in(alloc, name)? {
+        Some(name) => node.hits(&name),
+        None => 0,
     };
-    Ok(LineReply::Count(node.hits(&name)))
+    writeln!(out, "{hits}")
+}
+
+fn print_list(alloc: Global, node: &NodeCore, out: &mut String) -> Result<(), AllocError>
+    ensures { PrintsLine result out.old out.new (request_text node.now list) }
+{
+    let list = node.list(alloc)?;
+    writeln!(out, "{list}")
 }
 
 fn ask_node(
     alloc: Global,
     node: &mut NodeCore,
     request: Request<'_>,
-) -> Result<LineReply, AllocError>
-    ensures reply { Says result (request_text node.old (request_value request.entry)) }
+    out: &mut String,
+) -> Result<(), AllocError>
+    ensures reply { PrintsLine result out.old out.new
+        (request_text node.old (request_value request.entry)) }
     ensures after { OnOk result (
         node.new ≡ node_after_request node.old (request_value request.entry)) }
 {
     match request {
-        Request::Set { name, text } => set_point(alloc, node, name, text),
-        Request::Remove { name } => remove_point(alloc, node, name),
-        Request::Load { text } => load_points(alloc, node, text),
-        Request::Pass { name, words } => pass_point(alloc, node, name, &words),
+        Request::Set { name, text } => set_point(alloc, node, name, text, out),
+        Request::Remove { name } => remove_point(alloc, node, name, out),
+        Request::Load { text } => load_points(alloc, node, text, out),
+        Request::Pass { name, words } => pass_point(alloc, node, name, &words, out),
         Request::Shift {
             name,
             term,
             to,
             amount,
-        } => shift_rights(alloc, node, name, term, to, amount),
-        Request::List => Ok(LineReply::List(node.list(alloc)?)),
-        Request::Rights { name, term, of } => rights_at(alloc, node, name, term, of),
-        Request::Spent { name, term } => spent_at(alloc, node, name, term),
-        Request::Hits { name } => hits_at(alloc, node, name),
+        } => shift_rights(alloc, node, name, term, to, amount, out),
+        Request::List => print_list(alloc, node, out),
+        Request::Rights { name, term, of } => print_rights(alloc, node, name, term, of, out),
+        Request::Spent { name, term } => print_spent(alloc, node, name, term, out),
+        Request::Hits { name } => print_hits(alloc, node, name, out),
     }
 }
 
@@ -179,8 +216,9 @@ fn emit_into(
     node: &mut NodeCore,
     to: u8,
     messages: &mut Vec<Vec<u8>>,
-) -> Result<LineReply, AllocError>
-    ensures reply { Says result (
+    out: &mut String,
+) -> Result<(), AllocError>
+    ensures reply { PrintsLine result out.old out.new (
         emitted_text (emit_refusal node.old to) (length (messages_in messages.old))) }
     ensures node { OnOk result (node.new ≡ node_after_emit node.old to) }
     ensures messages { OnOk result (messages_in messages.new ≡
@@ -190,20 +228,27 @@ fn emit_into(
         Ok(message) => {
             let number = messages.len();
             messages.push(message)?;
-            Ok(LineReply::Message(number))
+            writeln!(out, "message {number}")
         }
-        Err(refusal) => LineReply::refused(refusal),
+        Err(refusal) => print_refusal(out, refusal),
     }
 }
 
-fn deliver_to(alloc: Global, node: &mut NodeCore, message: &[u8]) -> Result<LineReply, AllocError>
-    ensures reply { Says result (call_text node.old (delivery_of node.old message.now) []) }
+fn deliver_to(
+    alloc: Global,
+    node: &mut NodeCore,
+    message: &[u8],
+    out: &mut String,
+) -> Result<(), AllocError>
+    ensures reply { PrintsLine result out.old out.new
+        (call_text node.old (delivery_of node.old message.now) []) }
     ensures after { OnOk result (
         node.new ≡ node_after_call node.old (delivery_of node.old message.now) []) }
 {
     match node.deliver(alloc, message) {
-        Ok(changed) => Ok(LineReply::Delivered(changed)),
-        Err(fault) => LineReply::refused(fault),
+        Ok(true) => writeln!(out, "changed"),
+        Ok(false) => writeln!(out, "same"),
+        Err(fault) => print_refusal(out, fault),
     }
 }
 
@@ -234,51 +279,67 @@ impl Cluster {
         Ok(Cluster { nodes, messages })
     }
 
-    /// Asks a node. A refused call changes nothing.
+    /// Asks a node, and prints what it answers. A refused call changes nothing.
     pub fn ask(
         &mut self,
         alloc: Global,
         node: u8,
         request: Request<'_>,
-    ) -> Result<LineReply, AllocError>
-        ensures reply { Says result (ask_text self.old node (request_value request.entry)) }
+        out: &mut String,
+    ) -> Result<(), AllocError>
+        ensures reply { PrintsLine result out.old out.new
+            (ask_text self.old node (request_value request.entry)) }
         ensures after { OnOk result (
             self.new ≡ cluster_after_ask self.old node (request_value request.entry)) }
     {
         let node = node as usize;
         if node >= self.nodes.len() {
-            return Ok(LineReply::NoNode);
+            return print_no_node(out);
         }
-        ask_node(alloc, &mut self.nodes[node], request)
+        ask_node(alloc, &mut self.nodes[node], request, out)
     }
 
-    /// Makes a message of a node to another, and keeps it. A refused message changes nothing.
-    pub fn emit(&mut self, alloc: Global, from: u8, to: u8) -> Result<LineReply, AllocError>
-        ensures reply { Says result (emit_text self.old from to) }
+    /// Makes a message of a node to another, keeps it, and prints its number. A refused message
+    /// changes nothing.
+    pub fn emit(
+        &mut self,
+        alloc: Global,
+        from: u8,
+        to: u8,
+        out: &mut String,
+    ) -> Result<(), AllocError>
+        ensures reply { PrintsLine result out.old out.new (emit_text self.old from to) }
         ensures after { OnOk result (self.new ≡ cluster_after_emit self.old from to) }
     {
         let from = from as usize;
         if from >= self.nodes.len() {
-            Ok(LineReply::NoNode)
+            print_no_node(out)
         } else {
             self.messages.reserve(1)?;
-            emit_into(alloc, &mut self.nodes[from], to, &mut self.messages)
+            emit_into(alloc, &mut self.nodes[from], to, &mut self.messages, out)
         }
     }
 
-    /// Delivers a message, by its number, to a node. A refused delivery changes nothing.
-    pub fn deliver(&mut self, alloc: Global, to: u8, message: u32) -> Result<LineReply, AllocError>
-        ensures reply { Says result (delivery_text self.old to message) }
+    /// Delivers a message, by its number, to a node, and prints whether it learnt anything. A
+    /// refused delivery changes nothing.
+    pub fn deliver(
+        &mut self,
+        alloc: Global,
+        to: u8,
+        message: u32,
+        out: &mut String,
+    ) -> Result<(), AllocError>
+        ensures reply { PrintsLine result out.old out.new (delivery_text self.old to message) }
         ensures after { OnOk result (self.new ≡ cluster_after_deliver self.old to message) }
     {
         let to = to as usize;
         let message = message as usize;
         if to >= self.nodes.len() {
-            Ok(LineReply::NoNode)
+            print_no_node(out)
         } else if message >= self.messages.len() {
-            Ok(LineReply::NoMessage)
+            writeln!(out, "refused NoMessage")
         } else {
-            deliver_to(alloc, &mut self.nodes[to], &self.messages[message])
+            deliver_to(alloc, &mut self.nodes[to], &self.messages[message], out)
         }
     }
 }

@@ -1,9 +1,9 @@
 //! What a line asks for.
 
-ghost use Rattle.std.specs.Prelude.{◌≡◌, option_map, IfOk};
+ghost use Rattle.std.specs.Prelude.{◌≡◌, false, option_map, IfOk};
 ghost use Rattle.std.specs.Vec.{vec_items};
-ghost use Rattle.scripts.specs.Fields.{fields_of};
-ghost use Rattle.scripts.specs.Commands.{request_value, command_value, words_of, nodes_in, set_in, remove_in, load_in, pass_in, shift_in, rights_in, spent_in, hits_in, request_in, ask_in, list_in, emit_in, deliver_in, command_of};
+ghost use Rattle.scripts.specs.Fields.{has_space, field_of, fields_of};
+ghost use Rattle.scripts.specs.Commands.{request_value, command_value, words_of, nodes_in, set_in, remove_in, load_in, pass_with, pass_in, shift_in, rights_in, spent_in, hits_in, request_in, ask_in, list_in, emit_in, deliver_in, command_of};
 
 use crate::fields::{amount, byte, cut, field, word};
 use std::alloc::{AllocError, Global};
@@ -102,16 +102,25 @@ fn words_in(alloc: Global, text: &str) -> Result<Option<Vec<u32>>, AllocError>
     Ok(Some(words))
 }
 
+// A pass of this name, which has no space, where the words could be read.
+fn pass_of(name: &str, words: Option<Vec<u32>>) -> Option<Request<'_>>
+    requires { has_space name.now ≡ false }
+    ensures { option_map request_value result ≡
+        pass_with (field_of name.now) (option_map vec_items words) }
+{
+    let words = words?;
+    if name.is_empty() {
+        return None;
+    }
+    Some(Request::Pass { name, words })
+}
+
 fn pass_request(alloc: Global, rest: &str) -> Result<Option<Request<'_>>, AllocError>
     ensures { IfOk result (λ request. option_map request_value request ≡ pass_in rest.now) }
 {
-    let (name, words) = match cut(rest) {
-        None => (rest, Some(Vec::new(alloc))),
-        Some((name, words)) => (name, words_in(alloc, words)?),
-    };
-    match (field(name), words) {
-        (Some(name), Some(words)) => Ok(Some(Request::Pass { name, words })),
-        _ => Ok(None),
+    match cut(rest) {
+        None => Ok(pass_of(rest, Some(Vec::new(alloc)))),
+        Some((name, words)) => Ok(pass_of(name, words_in(alloc, words)?)),
     }
 }
 

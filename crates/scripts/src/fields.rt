@@ -1,22 +1,31 @@
 //! The fields of a line, and the numbers in them.
 
 ghost use Rattle.std.specs.Prelude.{◌≡◌, ◌≤◌, option_map, IfSome};
-ghost use Rattle.std.specs.List.{list_all};
+ghost use Rattle.std.specs.List.{list_all, position};
 ghost use Rattle.std.specs.Char.{is_ascii_digit};
-ghost use Rattle.scripts.specs.Fields.{cut_of, field_of, number_of, byte_of, word_of, amount_of};
+ghost use Rattle.scripts.specs.Fields.{is_space, cut_of, field_of, number_of, byte_of, word_of, amount_of};
+
+// Out of line, so that the searches of a line share one short loop.
+#[inline(never)]
+fn first_space(text: &str) -> Option<usize>
+    ensures { result ≡ position is_space text.now }
+{
+    text.bytes().position(|byte| byte == b' ')
+}
 
 /// What stands before the first space, and what after it.
 pub fn cut(text: &str) -> Option<(&str, &str)>
     ensures { option_map (λ parts. (parts.0.now, parts.1.now)) result ≡ cut_of text.now }
 {
-    text.split_once(' ')
+    let space = first_space(text)?;
+    Some((&text[..space], &text[space + 1..]))
 }
 
 /// A field: not empty, and with no space.
 pub fn field(text: &str) -> Option<&str>
     ensures { option_map (λ field. field.now) result ≡ field_of text.now }
 {
-    if text.is_empty() || cut(text).is_some() {
+    if text.is_empty() || first_space(text).is_some() {
         None
     } else {
         Some(text)

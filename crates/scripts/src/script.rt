@@ -1,14 +1,13 @@
 //! The text that a script prints.
 
-ghost use Rattle.std.specs.Prelude.{◌≡◌, ◌++◌, Some, None, Ok, IfOk, OnOk, option_map, string_bytes};
+ghost use Rattle.std.specs.Prelude.{◌≡◌, Some, None, Ok, IfOk, OnOk, option_map, string_bytes};
 ghost use Rattle.scripts.specs.Commands.{command_value, nodes};
-ghost use Rattle.scripts.specs.Replies.{reply_output, Prints};
+ghost use Rattle.scripts.specs.Replies.{Prints};
 ghost use Rattle.scripts.specs.Script.{text_in, command_in, command_output, cluster_after, asked_output, cluster_after_asked, line_output, cluster_after_line, script_text};
 
 use crate::cluster::Cluster;
 use crate::command::{Command, read_command};
-use crate::reply::{LineReply, print_reply};
-use node_core::NodeFault;
+use crate::reply::{print_bad_line, print_refusal};
 use std::alloc::{AllocError, Global};
 
 fn start_cluster(
@@ -16,17 +15,18 @@ fn start_cluster(
     cluster: &mut Option<Cluster>,
     count: u8,
     trace_cap: u32,
-) -> Result<Option<LineReply>, AllocError>
+    out: &mut String,
+) -> Result<(), AllocError>
     requires { cluster.old ≡ None }
-    ensures output { Prints result (command_output None (nodes count trace_cap)) }
+    ensures output { Prints result out.old out.new (command_output None (nodes count trace_cap)) }
     ensures cluster { OnOk result (cluster.new ≡ cluster_after None (nodes count trace_cap)) }
 {
     match Cluster::new(alloc, count, trace_cap) {
         Ok(made) => {
             *cluster = Some(made);
-            Ok(None)
+            Ok(())
         }
-        Err(fault) => Ok(Some(LineReply::refused(fault)?)),
+        Err(fault) => print_refusal(out, fault),
     }
 }
 
@@ -34,17 +34,18 @@ fn run_command_on(
     alloc: Global,
     cluster: &mut Cluster,
     command: Command<'_>,
-) -> Result<LineReply, AllocError>
-    ensures output { IfOk result (λ reply.
-        reply_output (Some reply) ≡ command_output (Some cluster.old) (command_value command.entry)) }
+    out: &mut String,
+) -> Result<(), AllocError>
+    ensures output { Prints result out.old out.new
+        (command_output (Some cluster.old) (command_value command.entry)) }
     ensures cluster { OnOk result (
         Some cluster.new ≡ cluster_after (Some cluster.old) (command_value command.entry)) }
 {
     match command {
-        Command::Nodes { .. } => Ok(LineReply::BadLine),
-        Command::Ask { node, request } => cluster.ask(alloc, node, request),
-        Command::Emit { node, to } => cluster.emit(alloc, node, to),
-        Command::Deliver { node, message } => cluster.deliver(alloc, node, message),
+        Command::Nodes { .. } => print_bad_line(out),
+        Command::Ask { node, request } => cluster.ask(alloc, node, request, out),
+        Command::Emit { node, to } => cluster.emit(alloc, node, to, out),
+        Command::Deliver { node, message } => cluster.deliver(alloc, node, message, out),
     }
 }
 
@@ -52,17 +53,21 @@ fn run_command(
     alloc: Global,
     cluster: &mut Option<Cluster>,
     command: Command<'_>,
-) -> Result<Option<LineReply>, AllocError>
-    ensures output { Prints result (command_output cluster.old (command_value command.entry)) }
+    out: &mut String,
+) -> Result<(), AllocError>
+    ensures output { Prints result out.old out.new
+        (command_output cluster.old (command_value command.entry)) }
     ensures cluster { OnOk result (
         cluster.new ≡ cluster_after cluster.old (command_value command.entry)) }
 {
     match cluster {
-        Some(cluster) => Ok(Some(run_command_on(alloc, cluster, command)?)),
+        Some(cluster) => run_command_on(alloc, cluster, command, out),
         None => match command {
-            Command::Nodes { count, trace_cap } => start_cluster(alloc, cluster, count, trace_cap),
+            Command::Nodes { count, trace_cap } => {
+                start_cluster(alloc, cluster, count, trace_cap, out)
+            }
             Command::Ask { .. } | Command::Emit { .. } | Command::Deliver { .. } => {
-                Ok(Some(LineReply::BadLine))
+                print_bad_line(out)
             }
         },
     }
@@ -90,16 +95,17 @@ fn run_line(
     alloc: Global,
     cluster: &mut Option<Cluster>,
     line: &[u8],
-) -> Result<Option<LineReply>, AllocError>
-    ensures output { Prints result (line_output cluster.old line.now) }
+    out: &mut String,
+) -> Result<(), AllocError>
+    ensures output { Prints result out.old out.new (line_output cluster.old line.now) }
     ensures cluster { OnOk result (cluster.new ≡ cluster_after_line cluster.old line.now) }
 {
     if line.is_empty() || line[0] == b'#' {
-        return Ok(None);
+        return Ok(());
     }
     match line_command(alloc, line)? {
-        Some(command) => run_command(alloc, cluster, command),
-        None => Ok(Some(LineReply::BadLine)),
+        Some(command) => run_command(alloc, cluster, command, out),
+        None => print_bad_line(out),
     }
 }
 
@@ -110,8 +116,7 @@ pub fn output_of(alloc: Global, script: &[u8]) -> Result<String, AllocError>
     let mut cluster = None;
     let mut out = String::new(alloc);
     for line in script.split(|byte| *byte == b'\n') {
-        let reply = run_line(alloc, &mut cluster, line)?;
-        print_reply(&mut out, reply)?;
+        run_line(alloc, &mut cluster, line, &mut out)?;
     }
     Ok(out)
 }

@@ -1,7 +1,8 @@
 //! Passing a point.
 
-ghost use Rattle.std.specs.Prelude.{◌≡◌, ◌⊎◌, ℕ, length, ◌+◌, ◌^◌, ◌<◌, ◌≤ℤ◌, pos, IfOk, IfErr, OnOk, OnErr, IsErrOf, IsSome, IfSome, IsTrue, MatchOption, true, Some, None};
+ghost use Rattle.std.specs.Prelude.{◌≡◌, ◌⊎◌, ℕ, length, ◌+◌, ◌^◌, ◌<◌, ◌≤ℤ◌, pos, IfOk, IfErr, OnOk, OnErr, IsErrOf, IsSome, IfSome, IsTrue, MatchOption, true, Some, None, is_some, option_map, slice_get};
 ghost use Rattle.actions.specs.Names.{is_name};
+ghost use Rattle.actions.specs.Value.{task_value};
 ghost use Rattle.stamp_register.specs.Keys.{key_value};
 ghost use Rattle.node_core.specs.Replicas.{state_in};
 ghost use Rattle.replica_state.specs.States.{rights_of};
@@ -9,8 +10,8 @@ ghost use Rattle.node_core.specs.Asks as asks;
 ghost use Rattle.node_core.specs.Asks.{passed};
 ghost use Rattle.node_core.specs.Memory.{NameNeedsMemory};
 ghost use Rattle.node_core.specs.Nodes.{setting_of};
-ghost use Rattle.node_core.specs.Outcomes.{spent_by, ops_done, state_done, HasKey};
-ghost use Rattle.node_core.specs.Passes.{words_for, triggered_term, reply_of_choice, pass_reply, pass_ops};
+ghost use Rattle.node_core.specs.Outcomes.{task_or_off, outcome_reply, spent_by, ops_done, state_done, HasKey};
+ghost use Rattle.node_core.specs.Passes.{words_for, triggered_term, task_in, pass_reply, pass_ops};
 ghost use Rattle.node_core.specs.Refusals.{bad_words};
 ghost use Rattle.node_core.specs.Room.{HasRoom};
 ghost use Rattle.node_core.specs.Traces.{Accepts, IsRefusalOf};
@@ -23,7 +24,7 @@ use crate::reply::{PassReply, Reply};
 use crate::trace::Entry;
 use actions::{Actions, Name, Task, decide};
 use replica_state::Replica;
-use stamp_register::Key;
+use stamp_register::{Key, Stamp};
 use std::alloc::{AllocError, Global};
 
 impl NodeCore {
@@ -55,13 +56,11 @@ impl NodeCore {
         ensures err { OnErr result (self.new ≡ self.old) }
     {
         let me = self.config.node;
-        let outcome = outcome_of(alloc, &self.state, me, &point, words)?;
-        let Outcome {
-            reply,
-            is_set,
-            spent,
-        } = outcome;
-        let recorded = reply.copied(alloc)?;
+        let outcome = outcome_of(&self.state, me, &point, words)?;
+        let reply = outcome.reply(alloc)?;
+        let recorded = outcome.reply(alloc)?;
+        let is_set = outcome.stamp.is_some();
+        let spent = outcome.spent;
         let words = Vec::from_slice(alloc, words)?;
         self.trace.reserve(1)?;
         count(&mut self.state, alloc, me, &point, is_set, spent)?;
@@ -119,24 +118,13 @@ fn check_words(words: &[u32], need: u8) -> Result<(), NodeFault>
     Ok(())
 }
 
-/// The reply of a pass that triggers this term, or none.
-fn reply_for(
-    alloc: Global,
-    key: &Key,
-    actions: &Actions,
-    chosen: Option<u8>,
-) -> Result<PassReply, AllocError>
-    ensures { IfOk result (λ r. passed r ≡ reply_of_choice (key_value key.now, actions.now) chosen) }
+/// The task of the triggered term.
+fn task_at(actions: &Actions, chosen: Option<u8>) -> Option<&Task>
+    ensures { (term : ℕ) → chosen ≡ Some term → task_in (slice_get actions.now term)
+        ≡ task_or_off (option_map (λ task. task_value task.now) result) }
 {
-    let stamp = key.stamp();
-    let Some(term) = chosen else {
-        return Ok(PassReply::NoTerm { stamp });
-    };
-    let task = match actions.term(term) {
-        Some(found) => found.task.copied(alloc)?,
-        None => Task::Off,
-    };
-    Ok(PassReply::Act { stamp, term, task })
+    let found = actions.term(chosen?)?;
+    Some(&found.task)
 }
 
 /// The triggered term, if it is counted.
@@ -154,12 +142,34 @@ fn spent_term(actions: &Actions, chosen: Option<u8>) -> Option<u8>
     }
 }
 
-/// What a pass comes to: the reply, whether it counts a hit, and the counted term that it executes.
-#[derive(Debug, Drop)]
-struct Outcome {
-    reply: PassReply,
-    is_set: bool,
+/// What a pass comes to: the stamp of the point's setting, if it is set; the term that is triggered,
+/// if one is, and its task; and that term once more where it is counted.
+#[derive(Clone, Copy)]
+struct Outcome<'a> {
+    stamp: Option<Stamp>,
+    term: Option<u8>,
+    task: Option<&'a Task>,
     spent: Option<u8>,
+}
+
+impl Outcome<'_> {
+    /// The reply, with a task of its own. Only want of memory is an error.
+    fn reply(self, alloc: Global) -> Result<PassReply, AllocError>
+        ensures { IfOk result (λ r. passed r ≡ outcome_reply self.entry.stamp self.entry.term
+            (option_map (λ task. task_value task.now) self.entry.task)) }
+    {
+        let Some(stamp) = self.stamp else {
+            return Ok(PassReply::Unset);
+        };
+        let Some(term) = self.term else {
+            return Ok(PassReply::NoTerm { stamp });
+        };
+        let task = match self.task {
+            Some(task) => task.copied(alloc)?,
+            None => Task::Off,
+        };
+        Ok(PassReply::Act { stamp, term, task })
+    }
 }
 
 /// Counts a hit, and perhaps an execution.
@@ -183,36 +193,38 @@ fn count(
     Ok(())
 }
 
-/// What a pass of a point by node `me` comes to, or why its words are refused.
-fn outcome_of(
-    alloc: Global,
-    state: &State,
+/// What a pass of a point by node `me` comes to, or why its words are refused. It takes no memory.
+fn outcome_of<'a>(
+    state: &'a State,
     me: u8,
     name: &Name,
     words: &[u32],
-) -> Result<Outcome, NodeFault>
-    ensures reply { IfOk result (λ o. passed o.reply
+) -> Result<Outcome<'a>, NodeFault>
+    ensures reply { IfOk result (λ o. outcome_reply o.stamp o.term
+        (option_map (λ task. task_value task.now) o.task)
         ≡ pass_reply me (state_in state.now) name.now words.now) }
     ensures ops { IfOk result (λ o. pass_ops me (state_in state.now) name.now words.now
-        ≡ ops_done me (state_in state.now) name.now o.is_set o.spent) }
-    ensures key { IfOk result (λ o. o.is_set ≡ true → HasKey (state_in state.now) name.now) }
+        ≡ ops_done me (state_in state.now) name.now (is_some o.stamp) o.spent) }
+    ensures key { IfOk result (λ o. IsSome o.stamp → HasKey (state_in state.now) name.now) }
     ensures low { IfOk result (λ o. IfSome o.spent (λ term. term < 2 ^ 8)) }
     ensures rights { IfOk result (λ o. (term : ℕ) → o.spent ≡ Some term
         → pos 1 ≤ℤ rights_of (state_in state.now) name.now term me) }
     ensures words { OnOk result (length words.now ≡ words_for (state_in state.now) name.now) }
-    ensures refused { IfErr result (λ f. (f ≡ NodeFault.OutOfMemory)
-        ⊎ (bad_words (words_for (state_in state.now) name.now) words.now ≡ Some f)) }
+    ensures refused { IfErr result (λ f.
+        bad_words (words_for (state_in state.now) name.now) words.now ≡ Some f) }
 {
     let Some((key, actions, term)) = choice_at(state, me, name, words)? else {
         return Ok(Outcome {
-            reply: PassReply::Unset,
-            is_set: false,
+            stamp: None,
+            term: None,
+            task: None,
             spent: None,
         });
     };
     Ok(Outcome {
-        reply: reply_for(alloc, key, actions, term)?,
-        is_set: true,
+        stamp: Some(key.stamp()),
+        term,
+        task: task_at(actions, term),
         spent: spent_term(actions, term),
     })
 }

@@ -1,4 +1,4 @@
-use Rattle.std.proofs.Common.{◌∙◌, sym, subst, IsTrue, Option}
+use Rattle.std.proofs.Common.{◌∙◌, subst, IsTrue, Option}
 use Rattle.replica_state.specs.declared.point.Counted.{Counted}
 use Rattle.delta_exchange.specs.declared.news.Told.{Told}
 use Rattle.delta_exchange.specs.Marks.{has_room}

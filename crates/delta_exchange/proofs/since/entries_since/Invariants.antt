@@ -9,5 +9,5 @@ abbrev pub invariant-loop-index : goal.invariant-loop-index
 invariant-loop-index g l = record {
   fit : EntriesFit (map entry_value l.entries.items);
   ordered : (i : ℕ) → i < l.index → IsOrderedAt l.marks (slice_get (g.R.Replica.state l.replica).names i);
-  cells : map entry_value l.entries.items ≡ entries_since (g.R.Replica.state l.replica) l.nodes l.base l.marks l.index;
+  cells : map entry_value l.entries.items ≡ entries_since (g.R.Replica.state l.replica) l.base l.marks l.index;
 }

@@ -7,5 +7,5 @@ use Rattle.delta_exchange.proofs.since.hits_since.Given as goal
 abbrev pub invariant-loop-counted : goal.invariant-loop-counted
 invariant-loop-counted g l = record {
   fit : HitsFit l.hits.items;
-  cells : l.hits.items ++ flat_map (later l.base (hit_of (g.R.Replica.state l.replica) l.name)) l.counted-iterator ≡ hits_since (g.R.Replica.state l.replica) l.name l.base l.marks;
+  cells : l.hits.items ++ flat_map (later l.marks.key l.base (hit_of (g.R.Replica.state l.replica) l.name)) l.counted-iterator ≡ hits_since (g.R.Replica.state l.replica) l.name l.base l.marks;
 }

@@ -14,7 +14,7 @@ loop-line-preserved c =
     (search rules) (search rules) (search rules) (λ x r q k. search (rules, tests)))
     c.loop-line.yielded _ c.loop-line.yielded_by _ _ c.in-Some.line c.in-Some.is c.next.ensures.steps in
     one_more c.loop-line.cluster c.run_line.new.cluster (lines_of c.args.script.now) (length c.loop-line.yielded) _ c.in-Some.line.now
-    (string_bytes c.loop-line.out) (string_bytes c.print_reply.new.out) _ turn.0 turn.1
+    (string_bytes c.loop-line.out) (string_bytes c.run_line.new.out) _ turn.0 turn.1
     (length_push c.loop-line.yielded c.in-Some.line) c.loop-line.invariant (search rules) (search rules)
 
 pub returns : goal.returns

@@ -1,4 +1,4 @@
-use Rattle.std.proofs.Common.{ℕ, Bool, cond, List, Option, Some, None, ap, ◌∙◌, sym, subst, IsTrue}
+use Rattle.std.proofs.Common.{ℕ, cond, List, Option, Some, ap, ◌∙◌, sym, subst, IsTrue}
 use Rattle.std.proofs.lemmas.Bool.{true≢false}
 use Rattle.std.specs.BTreeMap.{BTreeMap, is_at}
 use Rattle.std.specs.Map.{lookup}

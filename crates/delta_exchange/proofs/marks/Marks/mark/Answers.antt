@@ -1,7 +1,6 @@
-use Rattle.std.proofs.Common.{ℕ, Bool, cond, List, Option, Some, ap, ◌∙◌, sym, subst, IsTrue}
-use Rattle.replica_state.specs.declared.point.Counted.{Counted}
+use Rattle.std.proofs.Common.{cond, Option, ap, ◌∙◌, sym, subst, IsTrue}
 use Rattle.delta_exchange.specs.declared.marks.NameMarks.{NameMarks}
-use Rattle.delta_exchange.specs.Marks.{latest_of, key_of, cell_of, is_room, is_of}
+use Rattle.delta_exchange.specs.Marks.{key_of, cell_of, is_room, is_of}
 use Rattle.delta_exchange.proofs.MarkLemmas.{marked, kept_room, lent_at}
 use Rattle.delta_exchange.proofs.marks.Marks.mark.Goals as goal
 

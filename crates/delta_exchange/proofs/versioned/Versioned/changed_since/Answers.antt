@@ -8,9 +8,9 @@ use Rattle.delta_exchange.proofs.versioned.Versioned.changed_since.Goals as goal
 
 pub returns : goal.returns
 unfolding value_of
-returns g c =
+returns g c nodes can =
     let self = c.args.self.now in
     let held = c.in_ok-entries.ensures in
     is_message_since (value_of g.R.Replica.state self) self.marks (message_value (record { from = c.args.from; to = c.args.to; base = c.args.base; upto = c.version.result; ack = c.known.result; entries = c.in_ok-entries.entries }))
-    c.args.nodes c.args.from c.args.to c.args.base refl self.upto c.requires.lawful c.requires.nodes c.requires.from c.requires.to c.requires.apart c.requires.few
+    nodes c.args.from c.args.to c.args.base refl self.upto can
     held.ordered held.entries (subst EntriesFit held.entries held.fit) refl refl refl c.version.ensures c.known.ensures c.ranges.base.fits c.version.type_inv c.known.type_inv

@@ -1,4 +1,4 @@
-use Rattle.std.proofs.Common.{ℕ, ◌≤◌, ◌+◌, ◌≡◌, false, Some, ap, sym, refl, ◌∙◌, subst, arith, Option, option_map}
+use Rattle.std.proofs.Common.{◌+◌, ◌≡◌, false, Some, ap, sym, refl, ◌∙◌, subst, arith, Option, option_map}
 use Rattle.replica_state.specs.States.{State, with_pass}
 use Rattle.replica_state.specs.declared.point.Counted.{Counted}
 use Rattle.replica_state.specs.declared.point.Counted.TheVariants.{Hits, Execs}

@@ -1,4 +1,4 @@
-use Rattle.std.proofs.Common.{ℕ, ◌+◌, ◌≡◌, ◌&&◌, false, Some, ap, sym, refl, ◌∙◌, subst, arith, Option}
+use Rattle.std.proofs.Common.{◌+◌, ◌≡◌, ◌&&◌, false, Some, ap, sym, refl, ◌∙◌, subst, arith, Option}
 use Rattle.std.specs.Str.{bytes_eq}
 use Rattle.replica_state.specs.States.{State, with_shifts}
 use Rattle.replica_state.specs.Points.{same_counted}

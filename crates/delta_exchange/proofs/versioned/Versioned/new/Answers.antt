@@ -1,7 +1,4 @@
-use Rattle.std.proofs.Common.{ℕ, ◌≡◌, List, refl, max}
-use Rattle.replica_state.specs.declared.point.Counted.{Counted}
-use Rattle.replica_state.specs.Points.{is_hits}
-use Rattle.delta_exchange.specs.Marks.{marks_value, last_changes}
+use Rattle.delta_exchange.specs.Marks.{marks_value}
 use Rattle.delta_exchange.specs.Versions.{value_of}
 use Rattle.delta_exchange.proofs.ChangeLemmas.{no_marks}
 use Rattle.delta_exchange.proofs.versioned.Versioned.new.Goals as goal

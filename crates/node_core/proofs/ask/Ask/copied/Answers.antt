@@ -4,3 +4,6 @@ use Rattle.node_core.proofs.ask.Ask.copied.Goals as goal
 
 pub returns-clause-same : goal.returns-clause-same
 returns-clause-same c = grind (arith, common_steps)
+
+pub returns-clause-bytes : goal.returns-clause-bytes
+returns-clause-bytes c = grind (arith, common_steps)

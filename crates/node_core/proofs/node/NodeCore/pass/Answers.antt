@@ -1,10 +1,13 @@
-use Rattle.std.proofs.Common.{◌<◌, ◌^◌, ℕ, Option, arith, subst}
+use Rattle.std.proofs.Common.{◌≡◌, ◌<◌, ◌^◌, ℕ, Option, arith, subst, sym, ◌∙◌}
 use Rattle.std.proofs.lemmas.Grind.{common_steps}
 use Rattle.node_core.proofs.InStep.{entries_in_step, pass_in_step}
 use Rattle.node_core.specs.Asks.{Pass}
+use Rattle.node_core.specs.Outcomes.{ops_done}
+use Rattle.node_core.specs.Passes.{pass_ops}
 use Rattle.node_core.specs.Traces.{kept_of}
 use Rattle.node_core.specs.Replicas.{state_in}
 use Rattle.std.specs.Option.{IfSome}
+use Rattle.std.specs.Prelude.{is_some}
 use Rattle.node_core.proofs.node.NodeCore.pass.Goals as goal
 
 pub returns-clause-ok : goal.returns-clause-ok
@@ -16,7 +19,10 @@ invariant_of-self-2 c =
     let k = kept_of node.config node.trace.items in
     let room = rw (← c.self.view_is) at c.requires.room in
     let outcome = c.in_ok-outcome.ensures in
+    let set : c.is_some-is_set.result ≡ is_some c.in_ok-outcome.outcome.stamp = c.is_some-is_set.ensures in
     entries_in_step node.config _ _ _ node.trace.items _ c.push_reserved.new.self.items _ c.push_reserved.ensures.items c.in_ok-reserve.ensures.items
     (pass_in_step k node.clock node.version (state_in node.state) _ _ c.self.invariant room
-    c.args.point c.args.words.now c.in_ok-outcome.outcome.is_set c.in_ok-outcome.outcome.spent c.from.result (λ i. Pass (c.into_text.ensures i)) c.in_ok-words.ensures.items outcome.ops outcome.key
+    c.args.point c.args.words.now c.is_some-is_set.result c.in_ok-outcome.outcome.spent c.from.result (λ i. Pass (c.into_text.ensures i)) c.in_ok-words.ensures.items
+    (subst (λ b. pass_ops k.config.node (state_in node.state) c.args.point c.args.words.now ≡ ops_done k.config.node (state_in node.state) c.args.point b c.in_ok-outcome.outcome.spent) (sym set) outcome.ops)
+    (λ b. outcome.key (sym set ∙ b))
     (λ t s. (subst (λ (o : Option ℕ). IfSome o (λ term. term < 2 ^ 8)) s outcome.low, outcome.rights t s)) c.in_ok-count.ensures.ok c.from.ensures)

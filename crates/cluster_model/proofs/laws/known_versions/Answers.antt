@@ -1,0 +1,8 @@
+use Rattle.cluster_model.proofs.KnownVersions.{known_is_below, known_is_same}
+use Rattle.cluster_model.proofs.laws.known_versions.Goals as goal
+
+pub returns-clause-below : goal.returns-clause-below
+returns-clause-below r = known_is_below
+
+pub returns-clause-same : goal.returns-clause-same
+returns-clause-same r = known_is_same
