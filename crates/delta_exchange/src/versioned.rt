@@ -24,7 +24,7 @@ use std::alloc::{AllocError, Global};
 /// A replica with versions: it counts the changes of its state, knows when each key and each cell
 /// last changed, and keeps of each other node the version that it has of it and the version that
 /// the other is known to have.
-#[derive(Drop)]
+#[derive(Debug, Drop)]
 pub struct Versioned<R> {
     replica: R,
     version: u64,
