@@ -26,7 +26,7 @@ pub(crate) struct NameMarks {
 /// The marks of all names.
 #[derive(Debug, Drop)]
 pub(crate) struct Marks {
-    names: BTreeMap<Name, NameMarks>,
+    pub(crate) names: BTreeMap<Name, NameMarks>,
 }
 
 impl NameMarks {
@@ -75,8 +75,8 @@ impl NameMarks {
         }
     }
 
-    // Makes room for the mark of what is counted, if anything is.
-    fn make_room(&mut self, counted: Option<Counted>) -> Result<(), AllocError>
+    /// Makes room for the mark of what is counted, if anything is.
+    pub(crate) fn make_room(&mut self, counted: Option<Counted>) -> Result<(), AllocError>
         ensures latest { self.new.latest ≡ self.old.latest }
         ensures key { self.new.key ≡ self.old.key }
         ensures cells { (c : Counted) → cell_of (Some self.new) c ≡ cell_of (Some self.old) c }
@@ -92,8 +92,8 @@ impl NameMarks {
         Ok(())
     }
 
-    // Marks the key, where it is new, and what is counted, where it has room.
-    fn mark(&mut self, new_key: bool, counted: Option<Counted>, version: u64)
+    /// Marks the key, where it is new, and what is counted, which has room.
+    pub(crate) fn mark(&mut self, new_key: bool, counted: Option<Counted>, version: u64)
         requires room { IsTrue (has_cell self.old counted) }
         ensures latest { self.new.latest ≡ version }
         ensures key { self.new.key ≡ (if new_key then version else self.old.key) }
