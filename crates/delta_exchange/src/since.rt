@@ -197,7 +197,8 @@ impl<R: Replica> Versioned<R> {
         from: u8,
         to: u8,
     ) -> Result<Message, AllocError>
-        ensures { IfOk result (λ m. (nodes : ℕ) → CanBeTold nodes from to (value_of R.state self.now).state
+        ensures { IfOk result (λ m. (nodes : ℕ)
+            → CanBeTold nodes from to (value_of R.state self.now).state
             → IsMessageSince nodes from to base (value_of R.state self.now) (message_value m)) }
     {
         let entries = entries_since(alloc, &self.replica, base, &self.marks)?;

@@ -32,7 +32,7 @@ fn push_cells(alloc: Global, text: &mut String, entry: &NameEntry) -> Result<(),
 }
 
 /// From, to, base, upto and ack; and of each name its stamp, its actions, and its cells.
-fn message_text(alloc: Global, message: &Message) -> Result<String, AllocError> {
+pub fn message_text(alloc: Global, message: &Message) -> Result<String, AllocError> {
     let Message {
         from,
         to,

@@ -26,7 +26,7 @@ fn answers<R: Replica>(versioned: &Versioned<R>, name: &Name) -> Answers {
     ]
 }
 
-fn a_name(alloc: Global) -> Result<Name, Fail> {
+pub(super) fn a_name(alloc: Global) -> Result<Name, Fail> {
     match Name::parse(alloc, "a") {
         Err(NameFault::OutOfMemory) => Ok(Name::parse(alloc, "a")?),
         first => Ok(first?),
@@ -134,7 +134,7 @@ fn versions_are_raised(rt: HostRuntime) -> Result<(), Fail> {
 
 /// A replica at version 1, with a key of which nothing is executed.
 #[tactic(auto, unfolding(replica_state::specs::States::with_key, replica_state::specs::Folds::fold))]
-fn with_key<R: Replica>(alloc: Global, name: &Name) -> Result<Versioned<R>, Fail>
+pub(super) fn with_key<R: Replica>(alloc: Global, name: &Name) -> Result<Versioned<R>, Fail>
     ensures execs { IfOk result
         (λ v. (term i : ℕ) → (value_of R.state v).state.execs name.now term i ≤ 0) }
 {
@@ -159,7 +159,12 @@ fn count<R: Replica>(alloc: Global, versioned: &mut Versioned<R>, name: &Name) -
 }
 
 /// Counts a pass at node 1. If its memory is refused, nothing may have changed.
-fn pass<R: Replica>(rt: &impl Abort, alloc: Global, versioned: &mut Versioned<R>, name: &Name)
+pub(super) fn pass<R: Replica>(
+    rt: &impl Abort,
+    alloc: Global,
+    versioned: &mut Versioned<R>,
+    name: &Name,
+)
     requires execs { (term i : ℕ)
         → (value_of R.state versioned.old).state.execs name.now term i ≤ 0 }
 {
@@ -181,7 +186,12 @@ fn move_two<R: Replica>(alloc: Global, versioned: &mut Versioned<R>, name: &Name
 }
 
 /// Moves two rights from node 0 to node 1. If its memory is refused, nothing may have changed.
-fn shift<R: Replica>(rt: &impl Abort, alloc: Global, versioned: &mut Versioned<R>, name: &Name) {
+pub(super) fn shift<R: Replica>(
+    rt: &impl Abort,
+    alloc: Global,
+    versioned: &mut Versioned<R>,
+    name: &Name,
+) {
     let before = answers(versioned, name);
     if !move_two(alloc, versioned, name) {
         let is_unchanged = answers(versioned, name) == before;
@@ -191,7 +201,7 @@ fn shift<R: Replica>(rt: &impl Abort, alloc: Global, versioned: &mut Versioned<R
 }
 
 /// Issues a setting. If its memory is refused, nothing may have changed.
-fn set<R: Replica>(
+pub(super) fn set<R: Replica>(
     rt: &impl Abort,
     alloc: Global,
     versioned: &mut Versioned<R>,
