@@ -1,14 +1,10 @@
 -- The cells of a name that changed after a version: the lists have just these, in order, and no more than all cells.
-use Rattle.std.proofs.Common.{◌≡◌, ◌≢◌, ℕ, zero, suc, max, ◌<◌, ◌≤◌, Bool, true, false, cond, List, length, map, Option, Some, None, refl, sym, ap, subst, ◌∙◌, arith}
-use Rattle.std.specs.Prelude.{nat_lt}
-use Rattle.std.specs.List.{flat_map}
+use Rattle.std.proofs.Common.{◌≡◌, ◌≢◌, ℕ, ◌<◌, ◌≤◌, Bool, true, false, List, length, map, Option, Some, None, refl, sym, ap, subst, ◌∙◌, arith}
 use Rattle.std.specs.Option.{unwrap_or}
-use Rattle.std.specs.Map.{lookup}
-use Rattle.std.specs.BTreeMap.{is_at, IsOrdered}
+use Rattle.std.specs.BTreeMap.{IsOrdered}
 use Rattle.std.specs.Ordering.{nat_cmp}
 use Rattle.std.specs.Cmp.Lexicographic.{slice_cmp}
 use Rattle.std.specs.declared.cmp.Ordering.TheVariants.{Less}
-use Rattle.std.proofs.lemmas.Bool.Decides.{nat_tests}
 use Rattle.std.proofs.lemmas.List.{length-map}
 use Rattle.stamp_register.specs.Keys.{KeyValue}
 use Rattle.replica_state.specs.Operations.{IsIn}
@@ -23,11 +19,11 @@ use Rattle.delta_exchange.specs.Marks as kept
 use Rattle.delta_exchange.specs.Marks.{marks_at, marks_value, last_changes, cell_in, cell_change}
 use Rattle.delta_exchange.specs.Changes.{LastChanges, IsChangedCell}
 use Rattle.delta_exchange.specs.Spelling.{hit_place, exec_place, shift_place}
-use Rattle.delta_exchange.specs.Cells.{cell_of, hit_cells, exec_cells, shift_cells}
-use Rattle.delta_exchange.specs.Since.{hit_of, exec_of, shift_of, later, hits_since, execs_since, shifts_since}
+use Rattle.delta_exchange.specs.Cells.{hit_cells, exec_cells, shift_cells}
+use Rattle.delta_exchange.specs.Since.{hit_of, exec_of, shift_of, hits_since, execs_since, shifts_since}
 use Rattle.delta_exchange.proofs.LawfulStates.{IsLawfulState}
 use Rattle.delta_exchange.proofs.LawfulLemmas.{mapped_from, mapped_in}
-use Rattle.delta_exchange.proofs.HeldCells.{in_cell, cell_in as one_cell_in, cell_ascends, member_hit, hits_ascend, few_hits, exec_member, member_exec, execs_ascend, few_execs, shift_member, member_shift, shifts_ascend, few_shifts}
+use Rattle.delta_exchange.proofs.HeldCells.{in_cell, cell_in as one_cell_in, cell_ascends, member_hit, hits_ascend, few_hits, member_exec, execs_ascend, few_execs, member_shift, shifts_ascend, few_shifts}
 use Rattle.delta_exchange.proofs.HeldEntries.{term_below}
 use Rattle.delta_exchange.proofs.LaterCells.{later_member, member_later, later_ascends, part_is_short}
 

@@ -1,33 +1,19 @@
 -- The entries of what changed after a version: which they are, that each changed name has one, and that they can be written.
-use Rattle.std.proofs.Common.{◌≡◌, ◌≢◌, ℕ, zero, suc, max, ◌*◌, ◌<◌, ◌≤◌, ◌^◌, ◌&&◌, ◌||◌, Bool, true, false, cond, List, [], ◌∷◌, length, map, ◌⊎◌, ⊎_elim, inl, inr, Option, Some, None, refl, sym, ap, subst, ◌∙◌, arith}
-use Rattle.std.specs.Prelude.{is_some, IsTrue, nat_lt, slice_get, IfSome}
+use Rattle.std.proofs.Common.{◌≡◌, ℕ, ◌*◌, ◌<◌, ◌≤◌, ◌&&◌, ◌||◌, Bool, true, false, cond, List, [], ◌∷◌, length, map, inl, inr, Option, Some, None, refl, sym, subst, arith}
+use Rattle.std.specs.Prelude.{IsTrue, nat_lt, slice_get, IfSome}
 use Rattle.std.specs.BTreeMap.{IsOrdered}
-use Rattle.std.specs.Ordering.{nat_cmp}
-use Rattle.std.specs.Cmp.Lexicographic.{slice_cmp}
-use Rattle.std.specs.declared.cmp.Ordering.TheVariants.{Less}
-use Rattle.std.proofs.lemmas.Bool.{true≢false, and_parts, cases_lt}
-use Rattle.std.proofs.lemmas.Bool.Decides.{nat_tests}
 use Rattle.stamp_register.specs.Keys.{KeyValue}
-use Rattle.replica_state.specs.Operations.{IsIn, count_of}
+use Rattle.replica_state.specs.Operations.{IsIn}
 use Rattle.replica_state.specs.States.{State}
 use Rattle.replica_state.specs.Points.{counted_cmp}
-use Rattle.replica_state.specs.OpSets as state
-use Rattle.replica_state.specs.declared.point.Counted.{Counted}
-use Rattle.replica_state.specs.declared.point.Counted.TheVariants.{Hits, Execs, Shifts}
 use Rattle.replica_state.proofs.Names.{IsAscending}
 use Rattle.delta_exchange.specs.declared.marks.NameMarks.{NameMarks}
 use Rattle.delta_exchange.specs.declared.marks.Marks.{Marks}
-use Rattle.delta_exchange.specs.Marks.{marks_at, marks_value, last_changes, AreUpto}
-use Rattle.delta_exchange.specs.Changes.{IsChangedCell, IsUnchangedSince}
+use Rattle.delta_exchange.specs.Marks.{marks_at}
 use Rattle.delta_exchange.specs.Messages.{EntryValue}
-use Rattle.delta_exchange.specs.Spelling.{IsHit, IsExec, IsShift, IsEntry}
-use Rattle.delta_exchange.specs.Cells.{EntryFits}
-use Rattle.delta_exchange.specs.Since.{hits_since, execs_since, shifts_since, entry_since, tells_cells, entry_told, entry_marked, entry_since_at, entries_since, IsOrderedAt}
-use Rattle.delta_exchange.proofs.LawfulLemmas.{one_of, all_of}
-use Rattle.delta_exchange.proofs.LawfulStates.{IsLawfulState}
-use Rattle.delta_exchange.proofs.BelowLemmas.{ascends, below_in, in_below, length_below, ascending_below}
+use Rattle.delta_exchange.specs.Since.{entry_since, tells_cells, entry_told, entry_marked, entry_since_at, entries_since, IsOrderedAt}
+use Rattle.delta_exchange.proofs.BelowLemmas.{below_in, in_below, length_below, ascending_below}
 use Rattle.delta_exchange.proofs.HeldEntries.{place_in, get_in, get_less}
-use Rattle.delta_exchange.proofs.SinceCells.{changes_of, key_change, hit_changed, changed_hit, hits_since_ascend, few_hits_since, exec_changed, changed_exec, execs_since_ascend, few_execs_since, shift_changed, changed_shift, shifts_since_ascend, few_shifts_since}
 
 -- ---- which entries there are
 

@@ -1,11 +1,9 @@
 -- What changed after a version, as a message: it can be written, and it tells just the changes.
-use Rattle.std.proofs.Common.{◌≡◌, ◌≢◌, ℕ, ◌<◌, ◌≤◌, ◌^◌, ◌⊎◌, inl, inr, List, [], ◌++◌, length, map, Some, refl, sym, ap, subst, ◌∙◌, length-append, arith}
+use Rattle.std.proofs.Common.{◌≡◌, ◌≢◌, ℕ, ◌<◌, ◌≤◌, ◌^◌, ◌⊎◌, inl, inr, List, ◌++◌, length, map, refl, sym, subst, ◌∙◌, arith}
 use Rattle.std.specs.Prelude.{◌↔◌}
 use Rattle.std.specs.List.{flat_map}
-use Rattle.stamp_register.specs.Keys.{KeyValue}
 use Rattle.replica_state.specs.Operations.{Operation, Set, Count, Hits, Execs, Shifts, IsIn}
 use Rattle.replica_state.specs.States.{State}
-use Rattle.replica_state.specs.Folds.{fold}
 use Rattle.replica_state.specs.declared.point.Counted.TheVariants as counted
 use Rattle.replica_state.proofs.Sets.{IsIn-append_left, IsIn-append_right}
 use Rattle.delta_exchange.specs.declared.marks.Marks.{Marks}
@@ -13,10 +11,9 @@ use Rattle.delta_exchange.specs.Marks.{marks_value, AreUpto}
 use Rattle.delta_exchange.specs.Changes.{IsChangeSince, IsChangedCell, IsUnchangedSince}
 use Rattle.delta_exchange.specs.Messages.{EntryValue, MessageValue, operations_of}
 use Rattle.delta_exchange.specs.Spelling.{IsEntry, IsMessage, entry_bytes, message_bytes, max_message}
-use Rattle.delta_exchange.specs.Wholes.{AreLawful}
 use Rattle.delta_exchange.specs.Cells.{EntryFits, EntriesFit}
 use Rattle.delta_exchange.specs.Versions.{VersionedValue}
-use Rattle.delta_exchange.specs.Since.{CanBeTold, IsMessageSince, hits_since, execs_since, shifts_since, entry_since}
+use Rattle.delta_exchange.specs.Since.{CanBeTold, IsMessageSince, entry_since}
 use Rattle.delta_exchange.proofs.LawfulLemmas.{one_of, all_of, mapped_in, hit_told, exec_told, shift_told, told_of, told_by, tells}
 use Rattle.delta_exchange.proofs.LawfulStates.{IsLawfulState, lawful_state}
 use Rattle.delta_exchange.proofs.BelowLemmas.{ascends, length_flat}

@@ -1,6 +1,5 @@
-use Rattle.std.proofs.Common.{◌≡◌, refl, sym, subst, ◌∙◌, ap}
+use Rattle.std.proofs.Common.{refl, subst}
 use Rattle.delta_exchange.specs.Cells.{EntriesFit}
-use Rattle.delta_exchange.specs.Marks.{marks_value}
 use Rattle.delta_exchange.specs.Messages.{message_value}
 use Rattle.delta_exchange.specs.Versions.{value_of}
 use Rattle.delta_exchange.proofs.SinceLemmas.{is_message_since}
