@@ -1,5 +1,5 @@
 -- What stands before the first space of a text.
-use Rattle.std.proofs.Common.{◌≡◌, ℕ, ◌<◌, ◌≤◌, Bool, true, false, List, [], length, get_or, take, Option, Some, None, if◌then◌else◌, arith, ap, ◌∙◌, length-take, refl}
+use Rattle.std.proofs.Common.{◌≡◌, ℕ, ◌<◌, Bool, true, false, List, [], length, get_or, take, Option, Some, None, if◌then◌else◌, arith, ap, ◌∙◌, length-take, refl}
 use Rattle.std.specs.List.{position_or_len}
 use Rattle.std.proofs.lemmas.Bool.Decides.{nat_tests}
 use Rattle.std.proofs.lemmas.List.{get_or-take}
@@ -16,7 +16,7 @@ has_space-before_space text h =
     let fits : n < length text = grind (arith, nat_tests) in
     let long : length (take n text) ≡ n = simp length-take (omega arith) in
     let first : position_or_len is_space (take n text) ≡ n =
-        position_or_len_is is_space (take n text) n 0 (omega arith) (λ i. none_before text n i refl) (λ k. absurd (omega arith)) in
+    position_or_len_is is_space (take n text) n 0 (omega arith) (λ i. none_before text n i refl) (λ k. absurd (omega arith)) in
     grind (arith, nat_tests)
 
 abbrev front_of : Option (List ℕ × List ℕ) → List ℕ

@@ -164,7 +164,12 @@ fn print_spent(
     writeln!(out, "{spent}")
 }
 
-fn print_hits(alloc: Global, node: &NodeCore, name: &str, out: &mut String) -> Result<(), AllocError>
+fn print_hits(
+    alloc: Global,
+    node: &NodeCore,
+    name: &str,
+    out: &mut String,
+) -> Result<(), AllocError>
     ensures { PrintsLine result out.old out.new (request_text node.now (hits name.now)) }
 {
     let hits = match name_in(alloc, name)? {
