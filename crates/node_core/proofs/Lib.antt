@@ -29,3 +29,4 @@ pub mod OneMessage
 pub mod OneSpelling
 pub mod UptoStates
 pub mod Changed
+pub mod KeptVersions
