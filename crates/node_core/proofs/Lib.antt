@@ -30,3 +30,4 @@ pub mod OneSpelling
 pub mod UptoStates
 pub mod Changed
 pub mod KeptVersions
+pub mod VersionsInStep
