@@ -6,6 +6,7 @@ mod faults;
 mod greatest;
 mod known;
 mod printed;
+mod versions;
 mod whole;
 mod written;
 
