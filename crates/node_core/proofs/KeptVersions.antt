@@ -1,6 +1,6 @@
 -- A replica with versions follows the steps of the node that it is kept for, by what its calls promise; and what it
 -- says that changed since the version that another node is known to have is what differs.
-use Rattle.std.proofs.Common.{◌≡◌, ℕ, ◌+◌, ◌<◌, ◌≤◌, ◌==◌, max, Bool, true, false, cond, nat_lt, List, [], ◌∷◌, ◌++◌, Option, Some, None, Result, Ok, Err, ◌↔◌, refl, sym, ◌∙◌, ap, subst, arith}
+use Rattle.std.proofs.Common.{◌≡◌, ℕ, ◌+◌, ◌<◌, ◌≤◌, ◌==◌, max, Bool, true, false, cond, List, [], ◌∷◌, ◌++◌, Option, Some, None, Result, Ok, Err, ◌↔◌, refl, sym, ◌∙◌, ap, subst, arith}
 use Rattle.std.proofs.lemmas.Bool.{true≢false}
 use Rattle.std.specs.Option.{IsSome}
 use Rattle.stamp_register.specs.Keys.{KeyValue}
@@ -15,21 +15,19 @@ use Rattle.delta_exchange.specs.Changes.{ChangesAt, IsChangeSince}
 use Rattle.delta_exchange.specs.Messages.{MessageValue, operations_in}
 use Rattle.delta_exchange.specs.Spelling.{SpellsMessage}
 use Rattle.delta_exchange.specs.Versions.{VersionedValue, nothing_known, known_raised, acked_raised, ChangesTo, LearnsAll, Issues, Receives}
-use Rattle.node_core.specs.declared.config.Config.{Config}
 use Rattle.node_core.specs.Asks.{Asked, Call, Message, message_of, emit_of}
 use Rattle.node_core.specs.Asks as asks
 use Rattle.node_core.specs.Nodes.{Node, start, state_shown}
 use Rattle.node_core.specs.Outcomes.{ops_done}
 use Rattle.node_core.specs.Passes.{pass_ops}
 use Rattle.node_core.specs.Steps.{after, operations_added, operations_issued, settings, new_key, shift_under, version_after, known_after, acked_after}
-use Rattle.node_core.specs.Traces.{Kept, node_of, state_known, replay, replay_from, versions_told}
+use Rattle.node_core.specs.Traces.{Kept, node_of, state_known, replay, replay_from}
 use Rattle.node_core.specs.KeptVersions.{KeepsVersions}
-use Rattle.node_core.specs.Deliveries.{TellsDelta, versions_in}
+use Rattle.node_core.specs.Deliveries.{TellsDelta}
 use Rattle.node_core.proofs.Changed.{changes_kept, nothing_changes, changes_start, delta_is_changed}
 use Rattle.node_core.proofs.InStep.{with_call}
 use Rattle.node_core.proofs.LawfulSteps.{set_changes, pass_changes, shift_changes}
 use Rattle.node_core.proofs.Pasts.{HasHistory, has_history}
-use Rattle.node_core.proofs.SettingSteps as setting_steps
 use Rattle.node_core.proofs.SettingSteps.{issues_some, fold_issued}
 use Rattle.node_core.proofs.TraceLemmas.{replay_more}
 
