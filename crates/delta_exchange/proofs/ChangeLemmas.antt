@@ -36,9 +36,10 @@ module _ (v w : State) (keys : List ℕ → Bool) (cells : List ℕ → Counted 
   cell_told : (name : List ℕ) (c : Counted) → cell_of w name c ≢ 0 → (t new hits : Bool) → cells name c ≡ t → keys name ≡ new → is_hits c ≡ hits → IsChangedAt (IsSameCell v w name c) version (cell_change hits (m.cell name c) (m.key name)) (cell_change hits (n.cell name c) (n.key name))
   cell_told name c there true new hits e f g =
       let low = upto.key name in
-      let high = upto.latest name in
-      (λ same. absurd (tells.cell_differs name c there e same),
-      λ _. change_is hits version (n.cell name c) (n.key name) some (h name c ∙ ap (λ t. cond t version (m.cell name c)) e) (omega (arith, low, high)))
+      let high = upto.latest name in (
+        λ same. absurd (tells.cell_differs name c there e same),
+        λ _. change_is hits version (n.cell name c) (n.key name) some (h name c ∙ ap (λ t. cond t version (m.cell name c)) e) (omega (arith, low, high)),
+      )
   cell_told name c there false new true e f g =
       let same = tells.cell_stays name c there e (λ other. absurd (true≢false (sym g ∙ other))) in
       (λ _. h name c ∙ ap (λ t. cond t version (m.cell name c)) e, λ other. absurd (other same))
