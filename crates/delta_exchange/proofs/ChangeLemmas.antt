@@ -1,35 +1,61 @@
 -- What marks say after a change of the state, by a test of what changed.
-use Rattle.std.proofs.Common.{◌≡◌, ◌≢◌, ℕ, ◌≤◌, max, Bool, true, false, cond, ◌&&◌, ◌||◌, not, List, Option, None, refl, sym, ◌∙◌, ap, arith}
+use Rattle.std.proofs.Common.{◌≡◌, ◌≢◌, ℕ, ◌≤◌, ◌<◌, ◌==◌, max, Bool, true, false, cond, ◌&&◌, ◌||◌, not, List, Option, None, refl, sym, ◌∙◌, ap, arith}
+use Rattle.std.proofs.lemmas.Bool.{true≢false, eqb-true}
 use Rattle.std.specs.Str.{bytes_eq}
 use Rattle.replica_state.specs.declared.point.Counted.{Counted}
 use Rattle.replica_state.specs.Points.{is_hits}
 use Rattle.replica_state.specs.States.{State}
 use Rattle.replica_state.specs.OpSets.{cell_of}
 use Rattle.delta_exchange.specs.Changes.{LastChanges, IsSameKey, IsSameCell, IsChangedAt, ChangesAt}
-use Rattle.delta_exchange.specs.Marks.{MarksValue, AreUpto, is_of, with_mark, last_changes}
+use Rattle.delta_exchange.specs.Marks.{MarksValue, AreUpto, is_of, with_mark, cell_change, last_changes}
 use Rattle.delta_exchange.specs.Versions.{no_changes}
 
--- tests tell which keys and which cells differ; of cells that are 0 then they tell nothing
+-- tests tell which keys differ, and which cells do besides by what was counted; of cells that are 0
+-- then they tell nothing, and under a new key others are 0
 pub record Tells (v w : State) (keys : List ℕ → Bool) (cells : List ℕ → Counted → Bool) : Type 0 where
   pub key_differs : (name : List ℕ) → keys name ≡ true → IsSameKey v w name → ⊥
   pub key_stays : (name : List ℕ) → keys name ≡ false → IsSameKey v w name
   pub cell_differs : (name : List ℕ) (c : Counted) → cell_of w name c ≢ 0 → cells name c ≡ true → IsSameCell v w name c → ⊥
-  pub cell_stays : (name : List ℕ) (c : Counted) → cell_of w name c ≢ 0 → cells name c ≡ false → IsSameCell v w name c
+  pub cell_stays : (name : List ℕ) (c : Counted) → cell_of w name c ≢ 0 → cells name c ≡ false → (is_hits c ≡ false → keys name ≡ false) → IsSameCell v w name c
+  pub cell_new : (name : List ℕ) (c : Counted) → is_hits c ≡ false → keys name ≡ true → cells name c ≡ false → cell_of w name c ≡ 0
 
 changed_at : {Same : Type 0} (version before now : ℕ) (t : Bool) → now ≡ cond t version before → (t ≡ true → Same → ⊥) → (t ≡ false → Same) → IsChangedAt Same version before now
 changed_at version before now true e differs stays = (λ same. absurd (differs refl same), λ _. e)
 changed_at version before now false e differs stays = (λ _. e, λ other. absurd (other (stays refl)))
 
-pub changes_told : (v w : State) (keys : List ℕ → Bool) (cells : List ℕ → Counted → Bool) → Tells v w keys cells → (version : ℕ) (before now : LastChanges) → ((name : List ℕ) → now.key name ≡ cond (keys name) version (before.key name)) → ((name : List ℕ) (c : Counted) → now.cell name c ≡ cond (cells name c) version (before.cell name c)) → ChangesAt v w version before now
-changes_told v w keys cells tells version before now k h = record {
-  key = λ name. changed_at version (before.key name) (now.key name) (keys name) (k name) (tells.key_differs name) (tells.key_stays name);
-  cell = λ name c some. changed_at version (before.cell name c) (now.cell name c) (cells name c) (h name c) (tells.cell_differs name c some) (tells.cell_stays name c some);
-}
+-- a cell that is marked
+change_is : (hits : Bool) (version own key : ℕ) → 1 ≤ version → own ≡ version → key ≤ version → cell_change hits own key ≡ version
+change_is true version own key some e low = e
+change_is false version own key some e low = by_test (own == 0) refl
+  where
+    by_test : (t : Bool) → (own == 0) ≡ t → cond t 0 (max own key) ≡ version
+    by_test true f = let zero = eqb-true own 0 f in absurd (omega (arith, some, e, zero))
+    by_test false f = omega (arith, e, low)
+
+module _ (v w : State) (keys : List ℕ → Bool) (cells : List ℕ → Counted → Bool) (tells : Tells v w keys cells) (version : ℕ) (some : 1 ≤ version) (m n : MarksValue) (upto : AreUpto n version) (k : (name : List ℕ) → n.key name ≡ cond (keys name) version (m.key name)) (h : (name : List ℕ) (c : Counted) → n.cell name c ≡ cond (cells name c) version (m.cell name c)) where
+  cell_told : (name : List ℕ) (c : Counted) → cell_of w name c ≢ 0 → (t new hits : Bool) → cells name c ≡ t → keys name ≡ new → is_hits c ≡ hits → IsChangedAt (IsSameCell v w name c) version (cell_change hits (m.cell name c) (m.key name)) (cell_change hits (n.cell name c) (n.key name))
+  cell_told name c there true new hits e f g =
+      let low = upto.key name in
+      let high = upto.latest name in (
+        λ same. absurd (tells.cell_differs name c there e same),
+        λ _. change_is hits version (n.cell name c) (n.key name) some (h name c ∙ ap (λ t. cond t version (m.cell name c)) e) (omega (arith, low, high)),
+      )
+  cell_told name c there false new true e f g =
+      let same = tells.cell_stays name c there e (λ other. absurd (true≢false (sym g ∙ other))) in
+      (λ _. h name c ∙ ap (λ t. cond t version (m.cell name c)) e, λ other. absurd (other same))
+  cell_told name c there false true false e f g = absurd (there (tells.cell_new name c g f e))
+  cell_told name c there false false false e f g =
+      let same = tells.cell_stays name c there e (λ _. f) in
+      (λ _ i. cell_change false ((h name c ∙ ap (λ t. cond t version (m.cell name c)) e) i) ((k name ∙ ap (λ t. cond t version (m.key name)) f) i), λ other. absurd (other same))
+
+  pub changes_told : ChangesAt v w version (last_changes m) (last_changes n)
+  unfolding last_changes
+  changes_told = record {
+    key = λ name. changed_at version (m.key name) (n.key name) (keys name) (k name) (tells.key_differs name) (tells.key_stays name);
+    cell = λ name c there. cell_told name c there (cells name c) (keys name) (is_hits c) refl refl refl;
+  }
 
 -- ---- a mark more
-
-abbrev pub marks_cell : List ℕ → Bool → Option Counted → List ℕ → Counted → Bool
-marks_cell name new_key counted n c = bytes_eq name n && ((new_key && not (is_hits c)) || is_of counted c)
 
 module _ (m : MarksValue) (name : List ℕ) (new_key : Bool) (counted : Option Counted) (u version : ℕ) (low : u ≤ version) (upto : AreUpto m u) where
   pub upto_marked : AreUpto (with_mark name new_key counted version m) version
@@ -49,39 +75,20 @@ module _ (m : MarksValue) (name : List ℕ) (new_key : Bool) (counted : Option C
       below_latest true l h = omega arith
       below_latest false l h = omega (arith, low, h)
 
-  pub key_marked : (n : List ℕ) → (last_changes (with_mark name new_key counted version m)).key n ≡ cond (bytes_eq name n && new_key) version ((last_changes m).key n)
-  unfolding with_mark last_changes
-  key_marked n = refl
-
-  pub cell_marked : (n : List ℕ) (c : Counted) → (last_changes (with_mark name new_key counted version m)).cell n c ≡ cond (marks_cell name new_key counted n c) version ((last_changes m).cell n c)
-  unfolding with_mark last_changes
-  cell_marked n c = by_tests (bytes_eq name n) new_key (is_hits c) (is_of counted c) (m.cell n c) (m.key n) (m.latest n) (upto.cell n c) (upto.key n) (upto.latest n)
-    where
-      by_tests : (b k h t : Bool) (x y l : ℕ) → x ≤ l → y ≤ l → l ≤ u → cond h (cond (b && t) version x) (max (cond (b && t) version x) (cond (b && k) version y)) ≡ cond (b && ((k && not h) || t)) version (cond h x (max x y))
-      by_tests false k h t x y l p q r = refl
-      by_tests true true true true x y l p q r = refl
-      by_tests true true true false x y l p q r = refl
-      by_tests true true false true x y l p q r = omega arith
-      by_tests true true false false x y l p q r = omega (arith, low, p, q, r)
-      by_tests true false true true x y l p q r = refl
-      by_tests true false true false x y l p q r = refl
-      by_tests true false false true x y l p q r = omega (arith, low, p, q, r)
-      by_tests true false false false x y l p q r = refl
-
 -- a first mark, and another one
-pub changes_marked : (v w : State) (keys : List ℕ → Bool) (cells : List ℕ → Counted → Bool) → Tells v w keys cells → (m : MarksValue) (name : List ℕ) (new_key : Bool) (counted : Option Counted) (u version : ℕ) → u ≤ version → AreUpto m u → ((n : List ℕ) → keys n ≡ (bytes_eq name n && new_key)) → ((n : List ℕ) (c : Counted) → cells n c ≡ marks_cell name new_key counted n c) → ChangesAt v w version (last_changes m) (last_changes (with_mark name new_key counted version m))
-changes_marked v w keys cells tells m name new_key counted u version low upto k h = changes_told v w keys cells tells version (last_changes m) (last_changes (with_mark name new_key counted version m))
-    (λ n. key_marked m name new_key counted u version low upto n ∙ ap (λ t. cond t version ((last_changes m).key n)) (sym (k n)))
-    (λ n c. cell_marked m name new_key counted u version low upto n c ∙ ap (λ t. cond t version ((last_changes m).cell n c)) (sym (h n c)))
+pub changes_marked : (v w : State) (keys : List ℕ → Bool) (cells : List ℕ → Counted → Bool) → Tells v w keys cells → (m : MarksValue) (name : List ℕ) (new_key : Bool) (counted : Option Counted) (u version : ℕ) → u < version → AreUpto m u → ((n : List ℕ) → keys n ≡ (bytes_eq name n && new_key)) → ((n : List ℕ) (c : Counted) → cells n c ≡ (bytes_eq name n && is_of counted c)) → ChangesAt v w version (last_changes m) (last_changes (with_mark name new_key counted version m))
+unfolding with_mark
+changes_marked v w keys cells tells m name new_key counted u version low upto k h = changes_told v w keys cells tells version (omega (arith, low)) m (with_mark name new_key counted version m) (upto_marked m name new_key counted u version (omega (arith, low)) upto)
+    (λ n. ap (λ t. cond t version (m.key n)) (sym (k n)))
+    (λ n c. ap (λ t. cond t version (m.cell n c)) (sym (h n c)))
 
-pub changes_marked_twice : (v w : State) (cells : List ℕ → Counted → Bool) → Tells v w (λ n. false) cells → (m : MarksValue) (name : List ℕ) (one other : Option Counted) (u version : ℕ) → u ≤ version → AreUpto m u → ((n : List ℕ) (c : Counted) → cells n c ≡ (bytes_eq name n && (is_of other c || is_of one c))) → ChangesAt v w version (last_changes m) (last_changes (with_mark name false other version (with_mark name false one version m)))
-changes_marked_twice v w cells tells m name one other u version low upto h = changes_told v w (λ n. false) cells tells version (last_changes m) (last_changes (with_mark name false other version (with_mark name false one version m)))
-    (λ n. key_marked (with_mark name false one version m) name false other version version (omega arith) first n ∙ none (bytes_eq name n) _ ∙ key_marked m name false one u version low upto n ∙ none (bytes_eq name n) _)
-    (λ n c. cell_marked (with_mark name false one version m) name false other version version (omega arith) first n c ∙ ap (λ x. cond (bytes_eq name n && is_of other c) version x) (cell_marked m name false one u version low upto n c) ∙ both (bytes_eq name n) (is_of other c) (is_of one c) _ ∙ ap (λ t. cond t version ((last_changes m).cell n c)) (sym (h n c)))
+pub changes_marked_twice : (v w : State) (cells : List ℕ → Counted → Bool) → Tells v w (λ n. false) cells → (m : MarksValue) (name : List ℕ) (one other : Option Counted) (u version : ℕ) → u < version → AreUpto m u → ((n : List ℕ) (c : Counted) → cells n c ≡ (bytes_eq name n && (is_of other c || is_of one c))) → ChangesAt v w version (last_changes m) (last_changes (with_mark name false other version (with_mark name false one version m)))
+unfolding with_mark
+changes_marked_twice v w cells tells m name one other u version low upto h = changes_told v w (λ n. false) cells tells version (omega (arith, low)) m (with_mark name false other version (with_mark name false one version m))
+    (upto_marked (with_mark name false one version m) name false other version version (omega arith) (upto_marked m name false one u version (omega (arith, low)) upto))
+    (λ n. none (bytes_eq name n) _ ∙ none (bytes_eq name n) _)
+    (λ n c. both (bytes_eq name n) (is_of other c) (is_of one c) _ ∙ ap (λ t. cond t version (m.cell n c)) (sym (h n c)))
   where
-    first : AreUpto (with_mark name false one version m) version
-    first = upto_marked m name false one u version low upto
-
     none : (b : Bool) (x : ℕ) → cond (b && false) version x ≡ x
     none true x = refl
     none false x = refl
@@ -106,20 +113,13 @@ one_key name n = by_test (bytes_eq name n)
     by_test true = refl
     by_test false = refl
 
-pub one_key_cells : (name n : List ℕ) (c : Counted) → (bytes_eq name n && not (is_hits c)) ≡ marks_cell name true None n c
-one_key_cells name n c = ap (λ t. bytes_eq name n && t) (by_test (not (is_hits c)))
-  where
-    by_test : (t : Bool) → t ≡ (t || false)
-    by_test true = refl
-    by_test false = refl
-
 pub no_marks : (m : MarksValue) → ((name : List ℕ) → m.key name ≡ 0) → ((name : List ℕ) (c : Counted) → m.cell name c ≡ 0) → last_changes m ≡ no_changes
 unfolding last_changes
 no_marks m k h = λ i. record { key = λ name. k name i; cell = λ name c. none name c i }
   where
-    by_test : (t : Bool) (x y : ℕ) → x ≡ 0 → y ≡ 0 → cond t x (max x y) ≡ 0
-    by_test true x y e f = e
-    by_test false x y e f = omega (arith, e, f)
+    by_test : (t : Bool) → cell_change t 0 0 ≡ 0
+    by_test true = refl
+    by_test false = refl
 
-    none : (name : List ℕ) (c : Counted) → cond (is_hits c) (m.cell name c) (max (m.cell name c) (m.key name)) ≡ 0
-    none name c = by_test (is_hits c) (m.cell name c) (m.key name) (h name c) (k name)
+    none : (name : List ℕ) (c : Counted) → cell_change (is_hits c) (m.cell name c) (m.key name) ≡ 0
+    none name c = (λ i. cell_change (is_hits c) (h name c i) (k name i)) ∙ by_test (is_hits c)

@@ -28,7 +28,8 @@ grown_tells v w cells h = record {
       let more = h.grows name c e in
       let less = same.1 in
       absurd (omega (arith, more, less));
-  cell_stays = λ name c some e. (λ _. h.key name, h.stays name c e);
+  cell_stays = λ name c some e k. (λ _. h.key name, h.stays name c e);
+  cell_new = λ name c hits e. absurd (true≢false (sym e));
 }
 
 stay : (s : Bool) (x y : ℕ) → s ≡ false → y ≡ cond s x y
@@ -136,33 +137,25 @@ module _ (name : List ℕ) (key : KeyValue) (v : State) (above : is_upto (Some k
   unfolding with_key
   key_changes n e same = other_key (subst (λ q. v.key q ≡ Some key) (sym (bytes_eq-true name n e)) (same ∙ ap (λ b. cond b (Some key) (v.key n)) e))
 
-  pub key_tells : Tells v (with_key name key v) (λ n. bytes_eq name n) (λ n c. bytes_eq name n && not (is_hits c))
+  pub key_tells : Tells v (with_key name key v) (λ n. bytes_eq name n) (λ n c. false)
   unfolding with_key
   key_tells = record {
     key_differs = key_changes;
     key_stays = keeps;
-    cell_differs = λ n c some e same.
-        let parts = and_parts (bytes_eq name n) (not (is_hits c)) e in
-        key_changes n parts.0 (same.0 (no_hits (is_hits c) parts.1));
-    cell_stays = λ n c some e. stays n c e;
+    cell_differs = λ n c some e. absurd (true≢false (sym e));
+    cell_stays = λ n c some e k. stays n c k;
+    cell_new = λ n c h k e. none n c h k;
   }
     where
-      no_hits : (h : Bool) → not h ≡ true → h ≡ false
-      no_hits true e = absurd (true≢false (sym e))
-      no_hits false e = refl
-
       keeps : (n : List ℕ) → bytes_eq name n ≡ false → IsSameKey v (with_key name key v) n
       keeps n e = sym (ap (λ b. cond b (Some key) (v.key n)) e)
 
-      and_true : (b : Bool) → (b && true) ≡ false → b ≡ false
-      and_true true e = e
-      and_true false e = e
+      stays : (n : List ℕ) (c : Counted) → (is_hits c ≡ false → bytes_eq name n ≡ false) → IsSameCell v (with_key name key v) n c
+      stays n (Hits i) k = (λ h. absurd (true≢false h), refl)
+      stays n (Execs t i) k = (λ _. keeps n (k refl), sym (ap (λ b. cond b 0 (v.execs n t i)) (k refl)))
+      stays n (Shifts t i j) k = (λ _. keeps n (k refl), sym (ap (λ b. cond b 0 (v.shifts n t i j)) (k refl)))
 
-      stays : (n : List ℕ) (c : Counted) → (bytes_eq name n && not (is_hits c)) ≡ false → IsSameCell v (with_key name key v) n c
-      stays n (Hits i) e = (λ h. absurd (true≢false h), refl)
-      stays n (Execs t i) e =
-          let other = and_true (bytes_eq name n) e in
-          (λ _. keeps n other, sym (ap (λ b. cond b 0 (v.execs n t i)) other))
-      stays n (Shifts t i j) e =
-          let other = and_true (bytes_eq name n) e in
-          (λ _. keeps n other, sym (ap (λ b. cond b 0 (v.shifts n t i j)) other))
+      none : (n : List ℕ) (c : Counted) → is_hits c ≡ false → bytes_eq name n ≡ true → cell_of (with_key name key v) n c ≡ 0
+      none n (Hits i) h k = absurd (true≢false h)
+      none n (Execs t i) h k = ap (λ b. cond b 0 (v.execs n t i)) k
+      none n (Shifts t i j) h k = ap (λ b. cond b 0 (v.shifts n t i j)) k

@@ -1,5 +1,5 @@
 -- What a replica with versions has learned once its news are learned and marked.
-use Rattle.std.proofs.Common.{◌≡◌, ℕ, ◌+◌, Bool, true, false, cond, not, nat_lt, List, [], ◌∷◌, ◌++◌, ◌==◌, map, length, zero, suc, ⊎_elim, arith, refl, sym, ◌∙◌, ap, subst}
+use Rattle.std.proofs.Common.{◌≡◌, ℕ, ◌≤◌, ◌+◌, Bool, true, false, cond, not, nat_lt, List, [], ◌∷◌, ◌++◌, ◌==◌, map, length, zero, suc, ⊎_elim, arith, refl, sym, ◌∙◌, ap, subst}
 use Rattle.std.proofs.lemmas.Bool.{true≢false, eqb-true}
 use Rattle.std.specs.List.{AllByRecursion}
 use Rattle.std.proofs.lemmas.List.{append-nil, length-map}
@@ -46,9 +46,9 @@ module _ (v : State) (told : List Operation) (ts : List Told) (e : map news_of t
   pub learned_all : (w : State) → ((a : List Operation) → v ≡ fold a → w ≡ fold (unknown_in v told ++ a)) → HasLearned v w told
   learned_all w state a f = state a f ∙ ap (λ (x : State). fold (unknown_in x told ++ a)) f ∙ news_suffice a told
 
-  pub learned_changes : (w : State) (m : MarksValue) (version : ℕ) → AreUpto m version → ((a : List Operation) → v ≡ fold a → w ≡ fold (unknown_in v told ++ a)) → (a : List Operation) → v ≡ fold a → ChangesAt v w version (last_changes m) (last_changes (with_news version (map news_of ts) m))
-  learned_changes w m version upto state a f =
-      let changed = news_change a told m version upto in
+  pub learned_changes : (w : State) (m : MarksValue) (version : ℕ) → 1 ≤ version → AreUpto m version → ((a : List Operation) → v ≡ fold a → w ≡ fold (unknown_in v told ++ a)) → (a : List Operation) → v ≡ fold a → ChangesAt v w version (last_changes m) (last_changes (with_news version (map news_of ts) m))
+  learned_changes w m version some upto state a f =
+      let changed = news_change a told m version some upto in
       let same : fold (unknown_in (fold a) told ++ a) ≡ w = sym (state a f ∙ ap (λ (x : State). fold (unknown_in x told ++ a)) f) in
       subst (λ ns. ChangesAt v w version (last_changes m) (last_changes (with_news version ns m))) (sym e)
       (subst (λ (x : State). ChangesAt x w version (last_changes m) (last_changes (with_news version (news_in x told) m))) (sym f)

@@ -1,16 +1,17 @@
 -- The marks after those of one name were written.
-use Rattle.std.proofs.Common.{◌≡◌, ℕ, Bool, true, false, cond, List, ◌&&◌, IsTrue, Option, Some, refl, sym, ◌∙◌, ap, subst}
+use Rattle.std.proofs.Common.{◌≡◌, ◌≢◌, ℕ, Bool, true, false, cond, List, ◌&&◌, IsTrue, Option, Some, None, refl, sym, ◌∙◌, ap, subst}
 use Rattle.std.specs.Str.{bytes_eq}
 use Rattle.std.specs.BTreeMap.{BTreeMap, WritesThrough, is_at}
-use Rattle.std.specs.Option.{IsSome}
+use Rattle.std.specs.Option.{IsSome, unwrap_or}
 use Rattle.std.specs.Ordering.{nat_cmp}
 use Rattle.std.specs.Cmp.Lexicographic.{slice_cmp}
 use Rattle.std.proofs.lemmas.Map.Text.{is_eq-slice_cmp}
 use Rattle.replica_state.specs.declared.point.Counted.{Counted}
+use Rattle.replica_state.specs.Points.{is_hits}
 use Rattle.replica_state.proofs.Orders.{bytes_eq-true}
 use Rattle.delta_exchange.specs.declared.marks.NameMarks.{NameMarks}
 use Rattle.delta_exchange.specs.declared.marks.Marks.{Marks}
-use Rattle.delta_exchange.specs.Marks.{marks_at, latest_of, key_of, cell_of, is_room, is_of, has_cell, marks_value, has_room, KeepsRoom, with_mark}
+use Rattle.delta_exchange.specs.Marks.{marks_at, latest_of, key_of, cell_of, is_room, is_of, has_cell, marks_value, has_room, KeepsRoom, with_mark, cell_in, cell_change, last_changes}
 
 -- what a name has is what all have it at
 at_name : {A : Type 0} (name : List ℕ) (old : List ℕ → A) (x : A) → x ≡ old name → (q : List ℕ) (b : Bool) → bytes_eq name q ≡ b → cond b x (old q) ≡ old q
@@ -63,3 +64,34 @@ Lent m lend name = (w : NameMarks) → WritesThrough (slice_cmp nat_cmp) (slice_
 
 pub lent_at : (m : BTreeMap (List ℕ) NameMarks) (lend : NameMarks → BTreeMap (List ℕ) NameMarks) (name : List ℕ) (p w : NameMarks) → Lent m lend name → marks_at m.entries name ≡ Some p → (q : List ℕ) → marks_at (lend w).entries q ≡ cond (is_at (slice_cmp nat_cmp name) q) (Some w) (marks_at m.entries q)
 lent_at m lend name p w lent here = ((lent w).3 (subst (λ (o : Option NameMarks). IsSome o) (sym here) refl)).0
+
+-- ---- what changed has a mark
+
+pub record HasMark (marks : Marks) (name : List ℕ) (c : Counted) : Type 0 where
+  pub of_name : NameMarks
+  pub at : marks_at marks.names.entries name ≡ Some of_name
+  pub mark : ℕ
+  pub here : cell_in of_name c ≡ Some mark
+  pub change : (last_changes (marks_value marks)).cell name c ≡ cell_change (is_hits c) mark of_name.key
+
+pub changed_has_mark : (marks : Marks) (name : List ℕ) (c : Counted) → (last_changes (marks_value marks)).cell name c ≢ 0 → HasMark marks name c
+unfolding last_changes marks_value
+changed_has_mark marks name c some = by_name (marks_at marks.names.entries name) refl
+  where
+    nothing : (hits : Bool) (key : ℕ) → cell_change hits 0 key ≡ 0
+    nothing true key = refl
+    nothing false key = refl
+
+    by_cell : (nm : NameMarks) → marks_at marks.names.entries name ≡ Some nm → (o : Option ℕ) → cell_in nm c ≡ o → HasMark marks name c
+    by_cell nm e None f = absurd (some ((λ i. cell_change (is_hits c) (cell_of (e i) c) (key_of (e i))) ∙ ap (λ (o : Option ℕ). cell_change (is_hits c) (unwrap_or o 0) nm.key) f ∙ nothing (is_hits c) nm.key))
+    by_cell nm e (Some mark) f = record {
+      of_name = nm;
+      at = e;
+      mark = mark;
+      here = f;
+      change = (λ i. cell_change (is_hits c) (cell_of (e i) c) (key_of (e i))) ∙ ap (λ (o : Option ℕ). cell_change (is_hits c) (unwrap_or o 0) nm.key) f;
+    }
+
+    by_name : (o : Option NameMarks) → marks_at marks.names.entries name ≡ o → HasMark marks name c
+    by_name None e = absurd (some ((λ i. cell_change (is_hits c) (cell_of (e i) c) (key_of (e i))) ∙ nothing (is_hits c) 0))
+    by_name (Some nm) e = by_cell nm e (cell_in nm c) refl

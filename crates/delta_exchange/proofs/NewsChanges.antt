@@ -1,6 +1,6 @@
 -- What a state learns of news, and what changes by it.
-use Rattle.std.proofs.Common.{◌≡◌, ℕ, ◌≤◌, Bool, true, false, cond, not, nat_le, nat_lt, ◌&&◌, ◌||◌, List, [], ◌∷◌, ◌++◌, map, length, ◌⊎◌, inl, inr, ⊎_elim, Some, None, refl, sym, ◌∙◌, ap, subst, append_assoc, arith}
-use Rattle.std.proofs.lemmas.Bool.{true≢false, and_parts, not-false}
+use Rattle.std.proofs.Common.{◌≡◌, ℕ, ◌≤◌, Bool, true, false, cond, not, nat_le, nat_lt, ◌&&◌, ◌||◌, List, [], ◌∷◌, ◌++◌, map, length, ◌⊎◌, inl, inr, ⊎_elim, Option, Some, None, refl, sym, ◌∙◌, ap, subst, append_assoc, arith}
+use Rattle.std.proofs.lemmas.Bool.{true≢false, and_parts, and_from, not-false}
 use Rattle.std.specs.List.{list_any, filter, AllByRecursion}
 use Rattle.std.specs.Str.{bytes_eq}
 use Rattle.stamp_register.specs.Keys.{KeyValue}
@@ -9,7 +9,7 @@ use Rattle.replica_state.specs.declared.point.Counted.TheVariants as counted
 use Rattle.replica_state.specs.Points.{is_hits, same_counted}
 use Rattle.replica_state.specs.Operations.{Operation, Cell, Set, Count, Hits, Execs, Shifts, IsIn, IsWellFormed}
 use Rattle.replica_state.specs.States.{State}
-use Rattle.replica_state.specs.Folds.{fold, name_in, key_in, key_of, number_at}
+use Rattle.replica_state.specs.Folds.{fold, name_in, key_in, key_in_cell, at_key, key_of, number_at}
 use Rattle.replica_state.specs.OpSets.{cell_of, key_told, count_told}
 use Rattle.replica_state.specs.Knowledge.{is_upto, knows, knows_count, changes}
 use Rattle.replica_state.proofs.Orders.{bytes_eq-true, bytes_eq-refl}
@@ -21,7 +21,7 @@ use Rattle.replica_state.proofs.Counts.{same_counted-refl, same_counted-true}
 use Rattle.delta_exchange.specs.Changes.{IsSameKey, IsSameCell, ChangesAt}
 use Rattle.delta_exchange.specs.Marks.{MarksValue, AreUpto, is_of, with_mark, last_changes}
 use Rattle.delta_exchange.specs.News.{brings_key, unknown_in, news_in, counted_of, with_news}
-use Rattle.delta_exchange.proofs.ChangeLemmas.{Tells, changes_told, marks_cell, upto_marked, key_marked, cell_marked}
+use Rattle.delta_exchange.proofs.ChangeLemmas.{Tells, changes_told, upto_marked}
 
 -- ---- what is unknown is a part
 
@@ -94,8 +94,8 @@ news_suffice base told =
 abbrev pub changes_key : State → List ℕ → Operation → Bool
 changes_key v n op = bytes_eq (name_in op) n && brings_key v op
 
-abbrev pub changes_cell : State → List ℕ → Counted → Operation → Bool
-changes_cell v n c op = marks_cell (name_in op) (brings_key v op) (counted_of (count_told op)) n c
+abbrev pub changes_cell : List ℕ → Counted → Operation → Bool
+changes_cell n c op = bytes_eq (name_in op) n && is_of (counted_of (count_told op)) c
 
 pub upto_more : (m : MarksValue) (u version : ℕ) → u ≤ version → AreUpto m u → AreUpto m version
 upto_more m u version low h = record {
@@ -117,19 +117,15 @@ module _ (v : State) (version : ℕ) where
   either true false x = refl
   either false b x = refl
 
-  pub keys_marked : (ops : List Operation) (m : MarksValue) → AreUpto m version → (n : List ℕ) → (last_changes (marked_by ops m)).key n ≡ cond (list_any (changes_key v n) ops) version ((last_changes m).key n)
-  keys_marked [] m upto n = refl
-  keys_marked (op ∷ ops) m upto n =
-      keys_marked ops (with_mark (name_in op) (brings_key v op) (counted_of (count_told op)) version m) (upto_marked m (name_in op) (brings_key v op) (counted_of (count_told op)) version version (omega arith) upto) n ∙
-      ap (λ x. cond (list_any (changes_key v n) ops) version x) (key_marked m (name_in op) (brings_key v op) (counted_of (count_told op)) version version (omega arith) upto n) ∙
-      either (changes_key v n op) (list_any (changes_key v n) ops) ((last_changes m).key n)
+  pub keys_marked : (ops : List Operation) (m : MarksValue) (n : List ℕ) → (marked_by ops m).key n ≡ cond (list_any (changes_key v n) ops) version (m.key n)
+  unfolding with_mark
+  keys_marked [] m n = refl
+  keys_marked (op ∷ ops) m n = keys_marked ops (with_mark (name_in op) (brings_key v op) (counted_of (count_told op)) version m) n ∙ either (changes_key v n op) (list_any (changes_key v n) ops) (m.key n)
 
-  pub cells_marked : (ops : List Operation) (m : MarksValue) → AreUpto m version → (n : List ℕ) (c : Counted) → (last_changes (marked_by ops m)).cell n c ≡ cond (list_any (changes_cell v n c) ops) version ((last_changes m).cell n c)
-  cells_marked [] m upto n c = refl
-  cells_marked (op ∷ ops) m upto n c =
-      cells_marked ops (with_mark (name_in op) (brings_key v op) (counted_of (count_told op)) version m) (upto_marked m (name_in op) (brings_key v op) (counted_of (count_told op)) version version (omega arith) upto) n c ∙
-      ap (λ x. cond (list_any (changes_cell v n c) ops) version x) (cell_marked m (name_in op) (brings_key v op) (counted_of (count_told op)) version version (omega arith) upto n c) ∙
-      either (changes_cell v n c op) (list_any (changes_cell v n c) ops) ((last_changes m).cell n c)
+  pub cells_marked : (ops : List Operation) (m : MarksValue) (n : List ℕ) (c : Counted) → (marked_by ops m).cell n c ≡ cond (list_any (changes_cell n c) ops) version (m.cell n c)
+  unfolding with_mark
+  cells_marked [] m n c = refl
+  cells_marked (op ∷ ops) m n c = cells_marked ops (with_mark (name_in op) (brings_key v op) (counted_of (count_told op)) version m) n c ∙ either (changes_cell n c op) (list_any (changes_cell n c) ops) (m.cell n c)
 
 -- ---- a state and what it is with news
 
@@ -141,13 +137,13 @@ some_true test (o ∷ ops) e = by_test (test o) refl e (some_true test ops)
     by_test true f h go = (o, inl refl, f)
     by_test false f h go = let found = go h in (found.0, inr found.1, found.2)
 
-or_true : (a b : Bool) → (a || b) ≡ true → (a ≡ true) ⊎ (b ≡ true)
-or_true true b e = inl refl
-or_true false b e = inr e
-
 not_true : (a : Bool) → not a ≡ true → a ≡ false
 not_true true e = absurd (true≢false (sym e))
 not_true false e = refl
+
+at_none : (k : Option KeyValue) (f : KeyValue → ℕ) → ((key : KeyValue) → k ≡ Some key → f key ≡ 0) → at_key k f ≡ 0
+at_none None f h = refl
+at_none (Some key) f h = h key refl
 
 own_key : (op : Operation) → key_in (name_in op) op ≡ key_told op
 own_key (Set n key) = own_name n key
@@ -183,20 +179,6 @@ alike v w (Count (Shifts m key t i j) k) c e same =
     let keys = here.0 refl in
     λ x. knows_count key k (here.1 x) (keys x)
 
-marked_itself : (n : List ℕ) (brings : Bool) (c : Counted) → marks_cell n brings (Some c) n c ≡ true
-marked_itself n brings c = by_tests (bytes_eq n n) (brings && not (is_hits c)) (same_counted c c) (bytes_eq-refl n) (same_counted-refl c)
-  where
-    by_tests : (b k s : Bool) → b ≡ true → s ≡ true → (b && (k || s)) ≡ true
-    by_tests true true s e f = refl
-    by_tests true false s e f = f
-    by_tests false k s e f = absurd (true≢false (sym e))
-
-keys_too : (b k h t : Bool) → h ≡ false → (b && ((k && not h) || t)) ≡ false → (b && k) ≡ false
-keys_too true true true t e f = absurd (true≢false e)
-keys_too true true false t e f = absurd (true≢false f)
-keys_too true false h t e f = refl
-keys_too false k h t e f = refl
-
 module _ (base fresh : List Operation) (unknown : (op : Operation) → IsIn op fresh → knows (fold base) op ≡ false) where
   learned : (op : Operation) → IsIn op fresh → knows (fold (fresh ++ base)) op ≡ true
   learned op m = is_known fresh (fresh ++ base) (same_members (fresh ++ (fresh ++ base)) (fresh ++ base) (λ o h. ⊎_elim (λ k. IsIn-append_left o fresh base k) (λ k. k) (IsIn-append_cases o fresh (fresh ++ base) h)) (λ o h. IsIn-append_right o fresh (fresh ++ base) h)) op m
@@ -216,54 +198,66 @@ module _ (base fresh : List Operation) (unknown : (op : Operation) → IsIn op f
   kept_key n e = KeyUpto-antisym _ _ (key_of-mono n base (fresh ++ base) (λ op. IsIn-append_right op fresh base))
       (key_of-least n (key_of n base) (fresh ++ base) (λ op m. ⊎_elim (λ k. not_brought (fold base) n op (any_false (changes_key (fold base) n) fresh e op k)) (key_of-is_in n op base) (IsIn-append_cases op fresh base m)))
 
-  kept_key_of_cell : (n : List ℕ) (c : Counted) → list_any (changes_cell (fold base) n c) fresh ≡ false → is_hits c ≡ false → IsSameKey (fold base) (fold (fresh ++ base)) n
-  kept_key_of_cell n c e h = kept_key n (false_any (changes_key (fold base) n) fresh (λ op m. keys_too (bytes_eq (name_in op) n) (brings_key (fold base) op) (is_hits c) (is_of (counted_of (count_told op)) c) h (any_false (changes_cell (fold base) n c) fresh e op m)))
-
   kept_number : (c : Cell) → ((k : ℕ) → IsIn (Count c k) fresh → ⊥) → number_at c base ≡ number_at c (fresh ++ base)
   kept_number c none = le_both _ _
       (number_at-least c _ base (λ k m. number_at-is_in c k (fresh ++ base) (IsIn-append_right (Count c k) fresh base m)))
       (number_at-least c _ (fresh ++ base) (λ k m. ⊎_elim (λ h. absurd (none k h)) (number_at-is_in c k base) (IsIn-append_cases (Count c k) fresh base m)))
 
-  none_told : (n : List ℕ) (c : Counted) → list_any (changes_cell (fold base) n c) fresh ≡ false → (op : Operation) → name_in op ≡ n → counted_of (count_told op) ≡ Some c → IsIn op fresh → ⊥
+  none_told : (n : List ℕ) (c : Counted) → list_any (changes_cell n c) fresh ≡ false → (op : Operation) → name_in op ≡ n → counted_of (count_told op) ≡ Some c → IsIn op fresh → ⊥
   none_told n c e op named told m =
-      let itself : marks_cell (name_in op) (brings_key (fold base) op) (counted_of (count_told op)) n c ≡ true =
-      (λ x. marks_cell (named x) (brings_key (fold base) op) (told x) n c) ∙ marked_itself n (brings_key (fold base) op) c in
-      true≢false (sym itself ∙ any_false (changes_cell (fold base) n c) fresh e op m)
+      let itself : changes_cell n c op ≡ true = (λ x. bytes_eq (named x) n && is_of (told x) c) ∙ and_from (bytes_eq n n) (same_counted c c) (bytes_eq-refl n) (same_counted-refl c) in
+      true≢false (sym itself ∙ any_false (changes_cell n c) fresh e op m)
 
-  kept_cell : (n : List ℕ) (c : Counted) → list_any (changes_cell (fold base) n c) fresh ≡ false → cell_of (fold base) n c ≡ cell_of (fold (fresh ++ base)) n c
+  kept_cell : (n : List ℕ) (c : Counted) → list_any (changes_cell n c) fresh ≡ false → (is_hits c ≡ false → IsSameKey (fold base) (fold (fresh ++ base)) n) → cell_of (fold base) n c ≡ cell_of (fold (fresh ++ base)) n c
   unfolding fold
-  kept_cell n (counted.Hits i) e = kept_number (Hits n i) (λ k m. none_told n (counted.Hits i) e (Count (Hits n i) k) refl refl m)
-  kept_cell n (counted.Execs t i) e = at_one (key_of n base) (key_of n (fresh ++ base)) _ _ (kept_key_of_cell n (counted.Execs t i) e refl) (λ key f. kept_number (Execs n key t i) (λ k m. none_told n (counted.Execs t i) e (Count (Execs n key t i) k) refl refl m))
-  kept_cell n (counted.Shifts t i j) e = at_one (key_of n base) (key_of n (fresh ++ base)) _ _ (kept_key_of_cell n (counted.Shifts t i j) e refl) (λ key f. kept_number (Shifts n key t i j) (λ k m. none_told n (counted.Shifts t i j) e (Count (Shifts n key t i j) k) refl refl m))
+  kept_cell n (counted.Hits i) e k = kept_number (Hits n i) (λ number m. none_told n (counted.Hits i) e (Count (Hits n i) number) refl refl m)
+  kept_cell n (counted.Execs t i) e k = at_one (key_of n base) (key_of n (fresh ++ base)) _ _ (k refl) (λ key f. kept_number (Execs n key t i) (λ number m. none_told n (counted.Execs t i) e (Count (Execs n key t i) number) refl refl m))
+  kept_cell n (counted.Shifts t i j) e k = at_one (key_of n base) (key_of n (fresh ++ base)) _ _ (k refl) (λ key f. kept_number (Shifts n key t i j) (λ number m. none_told n (counted.Shifts t i j) e (Count (Shifts n key t i j) number) refl refl m))
 
-  pub news_tell : Tells (fold base) (fold (fresh ++ base)) (λ n. list_any (changes_key (fold base) n) fresh) (λ n c. list_any (changes_cell (fold base) n c) fresh)
+  -- under a key that the state didn't have there is no more than what is told
+  no_number : (n : List ℕ) → (IsSameKey (fold base) (fold (fresh ++ base)) n → ⊥) → (key : KeyValue) → key_of n (fresh ++ base) ≡ Some key → (c : Cell) → key_in_cell n c ≡ Some key → ((k : ℕ) → IsIn (Count c k) fresh → ⊥) → number_at c (fresh ++ base) ≡ 0
+  unfolding fold
+  no_number n other key here c carries none = no_more (number_at-least c 0 (fresh ++ base) (λ k m. ⊎_elim (λ h. absurd (none k h)) (λ h. absurd (old k h)) (IsIn-append_cases (Count c k) fresh base m)))
+    where
+      no_more : {x : ℕ} → x ≤ 0 → x ≡ 0
+      no_more h = omega arith
+
+      old : (k : ℕ) → IsIn (Count c k) base → ⊥
+      old k h = other (KeyUpto-antisym _ _ (key_of-mono n base (fresh ++ base) (λ op. IsIn-append_right op fresh base))
+          (subst (λ o. KeyUpto o (key_of n base)) (carries ∙ sym here) (key_of-is_in n (Count c k) base h)))
+
+  new_cell : (n : List ℕ) (c : Counted) → is_hits c ≡ false → (IsSameKey (fold base) (fold (fresh ++ base)) n → ⊥) → list_any (changes_cell n c) fresh ≡ false → cell_of (fold (fresh ++ base)) n c ≡ 0
+  unfolding fold
+  new_cell n (counted.Hits i) h other e = absurd (true≢false h)
+  new_cell n (counted.Execs t i) h other e = at_none (key_of n (fresh ++ base)) _ (λ key f. no_number n other key f (Execs n key t i) (own_name n key) (λ k m. none_told n (counted.Execs t i) e (Count (Execs n key t i) k) refl refl m))
+  new_cell n (counted.Shifts t i j) h other e = at_none (key_of n (fresh ++ base)) _ (λ key f. no_number n other key f (Shifts n key t i j) (own_name n key) (λ k m. none_told n (counted.Shifts t i j) e (Count (Shifts n key t i j) k) refl refl m))
+
+  differs : (n : List ℕ) (c : Counted) (op : Operation) → IsIn op fresh → changes_cell n c op ≡ true → IsSameCell (fold base) (fold (fresh ++ base)) n c → ⊥
+  differs n c op m e same =
+      let parts = and_parts (bytes_eq (name_in op) n) (is_of (counted_of (count_told op)) c) e in
+      let here = subst (λ q. IsSameCell (fold base) (fold (fresh ++ base)) q c) (sym (bytes_eq-true (name_in op) n parts.0)) same in
+      true≢false (sym (learned op m) ∙ sym (alike (fold base) (fold (fresh ++ base)) op c parts.1 here) ∙ unknown op m)
+
+  key_differs : (n : List ℕ) → list_any (changes_key (fold base) n) fresh ≡ true → IsSameKey (fold base) (fold (fresh ++ base)) n → ⊥
+  key_differs n e same = let found = some_true (changes_key (fold base) n) fresh e in brought found.0 found.1 n found.2 same
+
+  pub news_tell : Tells (fold base) (fold (fresh ++ base)) (λ n. list_any (changes_key (fold base) n) fresh) (λ n c. list_any (changes_cell n c) fresh)
   news_tell = record {
-    key_differs = λ n e same.
-        let found = some_true (changes_key (fold base) n) fresh e in
-        brought found.0 found.1 n found.2 same;
+    key_differs = key_differs;
     key_stays = kept_key;
     cell_differs = λ n c some e same.
-        let found = some_true (changes_cell (fold base) n c) fresh e in
+        let found = some_true (changes_cell n c) fresh e in
         differs n c found.0 found.1 found.2 same;
-    cell_stays = λ n c some e. (kept_key_of_cell n c e, kept_cell n c e);
+    cell_stays = λ n c some e k. (λ h. kept_key n (k h), kept_cell n c e (λ h. kept_key n (k h)));
+    cell_new = λ n c h k e. new_cell n c h (key_differs n k) e;
   }
-    where
-      differs : (n : List ℕ) (c : Counted) (op : Operation) → IsIn op fresh → changes_cell (fold base) n c op ≡ true → IsSameCell (fold base) (fold (fresh ++ base)) n c → ⊥
-      differs n c op m e same =
-          let parts = and_parts (bytes_eq (name_in op) n) ((brings_key (fold base) op && not (is_hits c)) || is_of (counted_of (count_told op)) c) e in
-          let here = subst (λ q. IsSameCell (fold base) (fold (fresh ++ base)) q c) (sym (bytes_eq-true (name_in op) n parts.0)) same in
-          ⊎_elim
-          (λ k.
-          let both = and_parts (brings_key (fold base) op) (not (is_hits c)) k in
-          brought op m n (ap (λ b. b && brings_key (fold base) op) parts.0 ∙ both.0) (same.0 (not_true (is_hits c) both.1)))
-          (λ k. true≢false (sym (learned op m) ∙ sym (alike (fold base) (fold (fresh ++ base)) op c k here) ∙ unknown op m))
-          (or_true (brings_key (fold base) op && not (is_hits c)) (is_of (counted_of (count_told op)) c) parts.1)
 
 -- all that is unknown is told, and marked
-pub news_change : (base told : List Operation) (m : MarksValue) (version : ℕ) → AreUpto m version → ChangesAt (fold base) (fold (unknown_in (fold base) told ++ base)) version (last_changes m) (last_changes (with_news version (news_in (fold base) told) m))
-news_change base told m version upto =
+pub news_change : (base told : List Operation) (m : MarksValue) (version : ℕ) → 1 ≤ version → AreUpto m version → ChangesAt (fold base) (fold (unknown_in (fold base) told ++ base)) version (last_changes m) (last_changes (with_news version (news_in (fold base) told) m))
+news_change base told m version some upto =
     changes_told (fold base) (fold (unknown_in (fold base) told ++ base)) _ _
     (news_tell base (unknown_in (fold base) told) (λ op h. not_true (knows (fold base) op) (in_part (λ o. not (knows (fold base) o)) told op h).1))
-    version (last_changes m) (last_changes (with_news version (news_in (fold base) told) m))
-    (keys_marked (fold base) version (unknown_in (fold base) told) m upto)
-    (cells_marked (fold base) version (unknown_in (fold base) told) m upto)
+    version some m (with_news version (news_in (fold base) told) m)
+    (marks_upto version (news_in (fold base) told) m upto)
+    (keys_marked (fold base) version (unknown_in (fold base) told) m)
+    (cells_marked (fold base) version (unknown_in (fold base) told) m)

@@ -1,5 +1,5 @@
 -- When each key and each cell last changed, as the code keeps it: the marks of each name.
-use Rattle.std.specs.Prelude.{ℕ, ◌≤◌, max, IsTrue, Bool, false, true, ◌&&◌, List, if◌then◌else◌, Option, Some, None, is_some}
+use Rattle.std.specs.Prelude.{ℕ, ◌≤◌, ◌==◌, max, IsTrue, Bool, false, true, ◌&&◌, List, if◌then◌else◌, Option, Some, None, is_some}
 use Rattle.std.specs.Option.{unwrap_or}
 use Rattle.std.specs.Str.{bytes_eq}
 use Rattle.std.specs.Map.{lookup}
@@ -82,10 +82,9 @@ pub record AreUpto (m : MarksValue) (version : ℕ) : Type 0 where
   pub cell : (name : List ℕ) (c : Counted) → m.cell name c ≤ m.latest name
   pub latest : (name : List ℕ) → m.latest name ≤ version
 
--- a cell of a key changed with its key, if not later
+-- a hit cell changed with its own mark; a cell of a key with its own or the key's, if it has one of its own
+abbrev pub cell_change : Bool → ℕ → ℕ → ℕ
+cell_change hits own key = if hits then own else (if own == 0 then 0 else max own key)
+
 unfoldable pub last_changes : MarksValue → LastChanges
-last_changes m =
-    record {
-      key = m.key;
-      cell = λ name c. if is_hits c then m.cell name c else max (m.cell name c) (m.key name);
-    }
+last_changes m = record { key = m.key; cell = λ name c. cell_change (is_hits c) (m.cell name c) (m.key name) }

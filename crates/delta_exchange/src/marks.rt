@@ -2,13 +2,18 @@
 #![tactic(auto, unfolding(crate::specs::Marks::marks_value, crate::specs::Marks::has_room))]
 
 ghost use Rattle.std.specs.Prelude.{◌≡◌, IsTrue, ℕ, List, [], Option, Some, None, true, if◌then◌else◌, OnOk, OnErr};
+ghost use Rattle.std.specs.BTreeMap.{IsOrdered};
+ghost use Rattle.std.specs.Ordering.{nat_cmp};
+ghost use Rattle.std.specs.Cmp.Lexicographic.{slice_cmp};
+ghost use Rattle.replica_state.specs.Points.{counted_cmp, is_hits};
 ghost use Rattle.replica_state.specs.declared.point.Counted.{Counted};
-ghost use Rattle.delta_exchange.specs.Marks.{MarksValue, KeepsRoom, cell_of, has_cell, has_room, is_of, key_of, latest_of, marks_at, marks_value, with_mark};
+ghost use Rattle.delta_exchange.specs.Marks.{KeepsRoom, cell_change, cell_of, has_cell, has_room, is_of, key_of, latest_of, marks_at, marks_value, with_mark};
 
 use actions::Name;
 use replica_state::Counted;
 use std::alloc::{AllocError, Global};
 use std::collections::BTreeMap;
+use std::collections::btree_map::Iter;
 
 /// The versions that last changed the key and the cells of one name. A mark of 0 says nothing: it
 /// is the room for one.
@@ -36,6 +41,39 @@ impl NameMarks {
             latest: 0,
             key: 0,
             cells: BTreeMap::new(alloc),
+        }
+    }
+
+    /// A version that is as great as all marks: nothing changed after it.
+    pub(crate) fn latest(&self) -> u64
+        ensures { result ≡ self.now.latest }
+    {
+        self.latest
+    }
+
+    /// The version that last changed the key.
+    pub(crate) fn key(&self) -> u64
+        ensures { result ≡ self.now.key }
+    {
+        self.key
+    }
+
+    /// What is counted and has a mark or room for one, in its order. What isn't 0 has a mark.
+    pub(crate) fn cells(&self) -> Iter<'_, Counted, u64>
+        ensures rest { result ≡ self.now.cells.entries }
+        ensures ordered { IsOrdered counted_cmp self.now.cells }
+    {
+        self.cells.iter()
+    }
+
+    /// The version that last changed what is counted and has this mark.
+    pub(crate) fn change(&self, counted: Counted, mark: u64) -> u64
+        ensures { result ≡ cell_change (is_hits counted) mark self.now.key }
+    {
+        if counted.is_hits() || mark == 0 {
+            mark
+        } else {
+            mark.max(self.key)
         }
     }
 
@@ -88,6 +126,14 @@ impl Marks {
         Marks {
             names: BTreeMap::new(alloc),
         }
+    }
+
+    /// The names that have marks or room for them, in byte order.
+    pub(crate) fn iter(&self) -> Iter<'_, Name, NameMarks>
+        ensures rest { result ≡ self.now.names.entries }
+        ensures ordered { IsOrdered (slice_cmp nat_cmp) self.now.names }
+    {
+        self.names.iter()
     }
 
     /// Makes room for the marks of a name and of what is counted of it, if anything is. No mark

@@ -33,6 +33,13 @@ fn a_name(alloc: Global) -> Result<Name, Fail> {
     }
 }
 
+fn copy_of(alloc: Global, name: &Name) -> Result<Name, Fail> {
+    match name.copied(alloc) {
+        Err(_) => Ok(name.copied(alloc)?),
+        first => Ok(first?),
+    }
+}
+
 /// A key that sets `5*off`.
 fn key(alloc: Global, clock: u64) -> Result<Key, Fail> {
     let actions = match parse_actions(alloc, "5*off") {
@@ -131,9 +138,12 @@ fn with_key<R: Replica>(alloc: Global, name: &Name) -> Result<Versioned<R>, Fail
     ensures execs { IfOk result
         (λ v. (term i : ℕ) → (value_of R.state v).state.execs name.now term i ≤ 0) }
 {
-    let key = key(alloc, 1)?;
     let mut versioned = Versioned::new(alloc);
-    versioned.set_key(alloc, name.copied(alloc)?, key)?;
+    let first = (copy_of(alloc, name)?, key(alloc, 1)?);
+    if versioned.set_key(alloc, first.0, first.1).is_err() {
+        let again = (copy_of(alloc, name)?, key(alloc, 1)?);
+        versioned.set_key(alloc, again.0, again.1)?;
+    }
     Ok(versioned)
 }
 
@@ -190,7 +200,7 @@ fn set<R: Replica>(
 ) -> Result<bool, Fail> {
     let key = key(alloc, clock)?;
     let ops = [Op::Set {
-        name: name.copied(alloc)?,
+        name: copy_of(alloc, name)?,
         key,
     }];
     let before = answers(versioned, name);

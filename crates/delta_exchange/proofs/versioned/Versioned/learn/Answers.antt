@@ -46,7 +46,7 @@ returns-clause-ok g c = λ told e.
         state = learned_all v told ts e w state;
         version = ap (λ b. c.args.self.now.version + cond b 1 0) (sym (change_if_any v told ts e ∙ some_new (length ts) (sym c.is_empty.ensures ∙ c.if-is_empty.false)));
         last = λ ops f. subst (λ (n : MarksValue). ChangesAt v w version (last_changes m) (last_changes n)) (sym marked)
-            (learned_changes v told ts e w m version (upto_more m c.args.self.now.version version (omega arith) c.args.self.now.upto) state ops f);
+            (learned_changes v told ts e w m version (omega arith) (upto_more m c.args.self.now.version version (omega arith) c.args.self.now.upto) state ops f);
       };
       known = refl;
       acked = refl;

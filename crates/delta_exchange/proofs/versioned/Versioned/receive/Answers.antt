@@ -1,9 +1,10 @@
-use Rattle.std.proofs.Common.{sym, subst}
+use Rattle.std.proofs.Common.{◌≡◌, ℕ, List, map, sym, subst, ap, ◌∙◌}
 use Rattle.std.specs.List.{AllByRecursion}
 use Rattle.replica_state.specs.Operations.{IsWellFormed}
 use Rattle.delta_exchange.specs.Messages.{message_value, operations_in}
 use Rattle.delta_exchange.specs.declared.news.Told.{Told}
-use Rattle.delta_exchange.specs.News.{operation_of}
+use Rattle.delta_exchange.specs.News.{operation_of, news_of}
+use Rattle.delta_exchange.specs.Versions.{value_of, version_of, known_raised, acked_raised}
 use Rattle.delta_exchange.proofs.ToldLemmas.{entries_told}
 use Rattle.delta_exchange.proofs.LearnsLemmas.{news_well_formed}
 use Rattle.delta_exchange.proofs.versioned.Versioned.receive.Goals as goal
@@ -12,3 +13,16 @@ pub learn-requires-clause-formed : goal.learn-requires-clause-formed
 learn-requires-clause-formed g c = subst (λ ts. AllByRecursion (λ (t : Told). IsWellFormed (operation_of t)) ts) (sym c.deref.ensures.value)
     (news_well_formed (g.R.Replica.state c.args.self.now.replica) (operations_in (message_value c.args.message.now)) c.in_ok-news.news.items c.in_ok-news.ensures
     (entries_told c.requires.message.0 (message_value c.args.message.now).entries c.requires.message.1.entries.each))
+
+pub returns-clause-ok : goal.returns-clause-ok
+unfolding value_of
+returns-clause-ok g c =
+    let m = message_value c.args.message.now in
+    let known : version_of c.learn.new.self.known ≡ version_of c.args.self.now.known = ap version_of c.in_ok-changed.ensures.known ∙ (λ i j. c.in_ok-make_room.ensures.same j i) in
+    let acked : version_of c.learn.new.self.acked ≡ version_of c.args.self.now.acked = ap version_of c.in_ok-changed.ensures.acked ∙ (λ i j. c.in_ok-make_room-2.ensures.same j i) in
+    let issued = c.in_ok-changed.ensures.ok (operations_in m) (ap (map news_of) c.deref.ensures.value ∙ c.in_ok-news.ensures) in
+    record {
+      learned = record { state = issued.learned.state; version = issued.learned.version; last = issued.learned.last };
+      known = (λ i j. c.raise_known.ensures j i) ∙ (λ i. known_raised m.from m.base m.upto (known i));
+      acked = (λ i j. c.raise_acked.ensures j i) ∙ (λ i. acked_raised m.from m.ack (acked i));
+    }

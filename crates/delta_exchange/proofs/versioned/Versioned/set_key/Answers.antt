@@ -1,4 +1,4 @@
-use Rattle.std.proofs.Common.{◌+◌, ◌≡◌, ◌&&◌, not, true, None, sym, refl, ◌∙◌, subst, arith}
+use Rattle.std.proofs.Common.{false, ◌+◌, ◌≡◌, ◌&&◌, not, true, None, sym, refl, ◌∙◌, subst, arith}
 use Rattle.std.specs.Str.{bytes_eq}
 use Rattle.stamp_register.specs.Keys.{key_value}
 use Rattle.replica_state.specs.States.{State, with_key}
@@ -6,7 +6,7 @@ use Rattle.replica_state.specs.Points.{is_hits}
 use Rattle.delta_exchange.specs.Changes.{ChangesAt}
 use Rattle.delta_exchange.specs.Marks.{MarksValue, marks_value, last_changes, with_mark, AreUpto}
 use Rattle.delta_exchange.specs.Versions.{value_of}
-use Rattle.delta_exchange.proofs.ChangeLemmas.{upto_marked, changes_marked, one_key, one_key_cells}
+use Rattle.delta_exchange.proofs.ChangeLemmas.{upto_marked, changes_marked, one_key, no_key}
 use Rattle.delta_exchange.proofs.InPlace.{key_tells}
 use Rattle.delta_exchange.proofs.versioned.Versioned.set_key.Goals as goal
 
@@ -32,7 +32,7 @@ returns-clause-ok g c =
     let one : marks_value c.mark.new.self ≡ with_mark name true None version m = c.mark.ensures.marks ∙ (λ i. with_mark (c.in_ok-marked.ensures i) true None version (c.in_ok-make_room.ensures.same i)) in
     let v = state c.args.self.now.replica in
     let w = with_key name key v in
-    let changed = changes_marked v w (λ n. bytes_eq name n) (λ n d. bytes_eq name n && not (is_hits d)) (key_tells name key v c.requires.above) m name true None c.args.self.now.version version (omega arith) c.args.self.now.upto (λ n. one_key name n) (λ n d. one_key_cells name n d) in
+    let changed = changes_marked v w (λ n. bytes_eq name n) (λ n d. false) (key_tells name key v c.requires.above) m name true None c.args.self.now.version version (omega arith) c.args.self.now.upto (λ n. one_key name n) (λ n d. no_key name n) in
     record {
       state_is = c.in_ok-set_key.ensures.ok;
       version = refl;
