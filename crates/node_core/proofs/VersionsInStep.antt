@@ -8,6 +8,7 @@ use Rattle.actions.specs.Names.{is_name}
 use Rattle.replica_state.specs.States.{State, with_key, with_pass, with_shifts, rights_of}
 use Rattle.replica_state.specs.Operations.{Operation}
 use Rattle.replica_state.specs.Folds.{fold, clock_of}
+use Rattle.replica_state.specs.Knowledge.{is_upto}
 use Rattle.replica_state.proofs.Unions.{fold-union}
 use Rattle.delta_exchange.specs.declared.fault.WireFault.{WireFault}
 use Rattle.delta_exchange.specs.Messages.{MessageValue, operations_in}
@@ -27,11 +28,18 @@ use Rattle.node_core.specs.Steps.{new_key, operations_issued, points_in, setting
 use Rattle.node_core.specs.Traces.{Kept, kept_of, node_of, state_known}
 use Rattle.node_core.proofs.InStep.{with_call, issue_in_step, load_in_step, pass_in_step, shift_in_step, deliver_in_step, emit_in_step}
 use Rattle.node_core.proofs.KeptVersions.{versions_start, set_versions, load_versions, pass_versions, unset_versions, shift_versions, emit_versions, deliver_versions}
+use Rattle.node_core.proofs.LawfulSteps.{unknown_key}
 use Rattle.node_core.proofs.SettingSteps.{fold_alone, turned}
 
 -- a new node
 pub new_with : (config : Config) → IsInStep (kept_of config []) 0 0 (fold []) → IsInStepWith (kept_of config []) 0 nothing_known
 new_with config is = (is, versions_start config.node)
+
+-- a key that is issued is above the one that its point has
+pub key_above : (k : Kept) (clock : ℕ) (value : VersionedValue) → IsInStepWith k clock value → (name : List ℕ) (body : Option (List ℕ)) → is_upto (Some (new_key k.config.node clock body)) (value.state.key name) ≡ false
+key_above k clock value is name body =
+    subst (λ (v : State). is_upto (Some (new_key k.config.node clock body)) (v.key name) ≡ false) is.1.state_is
+    (unknown_key k.config.node clock body (node_of k).ops name is.0.0.carried)
 
 -- the entries of a trace that grew by one
 pub entries_with : (config : Config) (clock : ℕ) (value : VersionedValue) (old mid new : List Entry) (e : Entry) → new ≡ mid ++ e ∷ [] → mid ≡ old →
