@@ -32,7 +32,7 @@ unfolding IsStrictlySortedBy
 ascends [] h = tt
 ascends (n ∷ ns) h = (all_of (λ m. slice_cmp nat_cmp n m ≡ Less) ns h.0, ascends ns h.1)
 
-ascending_append : (xs ys : List (List ℕ)) → IsAscending xs → IsAscending ys → ((x y : List ℕ) → IsIn x xs → IsIn y ys → slice_cmp nat_cmp x y ≡ Less) → IsAscending (xs ++ ys)
+pub ascending_append : (xs ys : List (List ℕ)) → IsAscending xs → IsAscending ys → ((x y : List ℕ) → IsIn x xs → IsIn y ys → slice_cmp nat_cmp x y ≡ Less) → IsAscending (xs ++ ys)
 ascending_append [] ys h k across = k
 ascending_append (x ∷ xs) ys h k across = (
   λ m i. ⊎_elim (h.0 m) (λ j. across x m (inl refl) j) (IsIn-append_cases m xs ys i),

@@ -1,12 +1,12 @@
 -- What marks say after a change of the state, by a test of what changed.
-use Rattle.std.proofs.Common.{◌≡◌, ◌≢◌, ℕ, ◌≤◌, ◌<◌, ◌==◌, max, Bool, true, false, cond, ◌&&◌, ◌||◌, not, List, Option, None, refl, sym, ◌∙◌, ap, arith}
+use Rattle.std.proofs.Common.{◌≡◌, ◌≢◌, ℕ, ◌≤◌, ◌<◌, ◌==◌, max, Bool, true, false, cond, ◌&&◌, ◌||◌, List, Option, refl, sym, ◌∙◌, ap, arith}
 use Rattle.std.proofs.lemmas.Bool.{true≢false, eqb-true}
 use Rattle.std.specs.Str.{bytes_eq}
 use Rattle.replica_state.specs.declared.point.Counted.{Counted}
 use Rattle.replica_state.specs.Points.{is_hits}
 use Rattle.replica_state.specs.States.{State}
 use Rattle.replica_state.specs.OpSets.{cell_of}
-use Rattle.delta_exchange.specs.Changes.{LastChanges, IsSameKey, IsSameCell, IsChangedAt, ChangesAt}
+use Rattle.delta_exchange.specs.Changes.{IsSameKey, IsSameCell, IsChangedAt, ChangesAt}
 use Rattle.delta_exchange.specs.Marks.{MarksValue, AreUpto, is_of, with_mark, cell_change, last_changes}
 use Rattle.delta_exchange.specs.Versions.{no_changes}
 

@@ -13,12 +13,12 @@ use Rattle.delta_exchange.proofs.BelowLemmas.{by_first, by_rest, below_in, in_be
 -- ---- one cell, or none
 
 module _ {C : Type 0} where
-  in_cell : (n : ℕ) (c d : C) → IsIn d (cell_of n c) → (n ≢ 0) × (d ≡ c)
+  pub in_cell : (n : ℕ) (c d : C) → IsIn d (cell_of n c) → (n ≢ 0) × (d ≡ c)
   in_cell zero c d h = absurd h
   in_cell (suc n) c d (inl e) = (λ z. absurd (omega (arith, z)), e)
   in_cell (suc n) c d (inr h) = absurd h
 
-  cell_in : (n : ℕ) (c : C) → n ≢ 0 → IsIn c (cell_of n c)
+  pub cell_in : (n : ℕ) (c : C) → n ≢ 0 → IsIn c (cell_of n c)
   cell_in zero c h = absurd (h refl)
   cell_in (suc n) c h = inl refl
 
@@ -26,7 +26,7 @@ module _ {C : Type 0} where
   one_cell zero c = omega arith
   one_cell (suc n) c = omega arith
 
-  cell_ascends : (place : C → List ℕ) (n : ℕ) (c : C) → IsAscending (map place (cell_of n c))
+  pub cell_ascends : (place : C → List ℕ) (n : ℕ) (c : C) → IsAscending (map place (cell_of n c))
   cell_ascends place zero c = tt
   cell_ascends place (suc n) c = (λ m h. absurd h, tt)
 

@@ -25,19 +25,19 @@ use Rattle.delta_exchange.proofs.HeldCells.{hit_member, few_hits, hits_ascend, e
 
 -- ---- names by their places
 
-place_in : (names : List (List ℕ)) (name : List ℕ) → IsIn name names → (i : ℕ) × (i < length names) × (slice_get names i ≡ Some name)
+pub place_in : (names : List (List ℕ)) (name : List ℕ) → IsIn name names → (i : ℕ) × (i < length names) × (slice_get names i ≡ Some name)
 place_in [] name h = absurd h
 place_in (n ∷ names) name (inl e) = (0, omega arith, ap Some (sym e))
 place_in (n ∷ names) name (inr h) =
     let r = place_in names name h in
     (suc r.0, omega (arith, r.1), r.2)
 
-get_in : (names : List (List ℕ)) (i : ℕ) (name : List ℕ) → slice_get names i ≡ Some name → IsIn name names
+pub get_in : (names : List (List ℕ)) (i : ℕ) (name : List ℕ) → slice_get names i ≡ Some name → IsIn name names
 get_in [] i name e = absurd cc
 get_in (n ∷ names) zero name e = let same : n ≡ name = cc in inl (sym same)
 get_in (n ∷ names) (suc i) name e = inr (get_in names i name e)
 
-get_less : (names : List (List ℕ)) (i j : ℕ) (a b : List ℕ) → IsAscending names → i < j → slice_get names i ≡ Some a → slice_get names j ≡ Some b → slice_cmp nat_cmp a b ≡ Less
+pub get_less : (names : List (List ℕ)) (i j : ℕ) (a b : List ℕ) → IsAscending names → i < j → slice_get names i ≡ Some a → slice_get names j ≡ Some b → slice_cmp nat_cmp a b ≡ Less
 get_less [] i j a b h lt e f = absurd cc
 get_less (n ∷ names) i zero a b h lt e f = absurd (omega (arith, lt))
 get_less (n ∷ names) zero (suc j) a b h lt e f =

@@ -24,5 +24,10 @@ pub mod ChangeLemmas
 pub mod InPlace
 pub mod NewsLemmas
 pub mod RoomLemmas
+pub mod LaterCells
+pub mod SinceCells
+pub mod SinceEntries
+pub mod SinceChanges
+pub mod SinceLemmas
 pub mod NewsChanges
 pub mod LearnsLemmas

@@ -65,6 +65,41 @@ Lent m lend name = (w : NameMarks) → WritesThrough (slice_cmp nat_cmp) (slice_
 pub lent_at : (m : BTreeMap (List ℕ) NameMarks) (lend : NameMarks → BTreeMap (List ℕ) NameMarks) (name : List ℕ) (p w : NameMarks) → Lent m lend name → marks_at m.entries name ≡ Some p → (q : List ℕ) → marks_at (lend w).entries q ≡ cond (is_at (slice_cmp nat_cmp name) q) (Some w) (marks_at m.entries q)
 lent_at m lend name p w lent here = ((lent w).3 (subst (λ (o : Option NameMarks). IsSome o) (sym here) refl)).0
 
+-- the marks after w was written through what they lent at a name
+module _ (m : Marks) (lend : NameMarks → BTreeMap (List ℕ) NameMarks) (name : List ℕ) (p w : NameMarks) (lent : Lent m.names lend name) (here : marks_at m.names.entries name ≡ Some p) where
+  pub lent_same : w.latest ≡ p.latest → w.key ≡ p.key → ((c : Counted) → cell_of (Some w) c ≡ cell_of (Some p) c) → marks_value (record { names = lend w }) ≡ marks_value m
+  lent_same l k h = same_marks m (record { names = lend w }) name w (lent_at m.names lend name p w lent here)
+      (l ∙ ap (λ (o : Option NameMarks). latest_of o) (sym here))
+      (k ∙ ap (λ (o : Option NameMarks). key_of o) (sym here))
+      (λ c. h c ∙ ap (λ (o : Option NameMarks). cell_of o c) (sym here))
+
+  -- two marks more
+  pub lent_marked : (one other : Option Counted) (version : ℕ) → w.latest ≡ version → w.key ≡ p.key → ((c : Counted) → cell_of (Some w) c ≡ cond (is_of other c) version (cond (is_of one c) version (cell_of (Some p) c))) → marks_value (record { names = lend w }) ≡ with_mark name false other version (with_mark name false one version (marks_value m))
+  unfolding marks_value with_mark
+  lent_marked one other version l k h = λ i. record {
+    latest = λ q. (part m (record { names = lend w }) name w at latest_of q ∙ twice (bytes_eq name q) (latest_of (marks_at m.names.entries q))) i;
+    key = λ q. (part m (record { names = lend w }) name w at key_of q ∙ key (bytes_eq name q) q refl) i;
+    cell = λ q c. (part m (record { names = lend w }) name w at (λ o. cell_of o c) q ∙ cell c (bytes_eq name q) q refl) i;
+  }
+    where
+      at : (q : List ℕ) → marks_at (lend w).entries q ≡ cond (is_at (slice_cmp nat_cmp name) q) (Some w) (marks_at m.names.entries q)
+      at = lent_at m.names lend name p w lent here
+
+      twice : (b : Bool) (x : ℕ) → cond b w.latest x ≡ cond b version (cond b version x)
+      twice true x = l
+      twice false x = refl
+
+      there : {A : Type 0} (f : Option NameMarks → A) (q : List ℕ) → bytes_eq name q ≡ true → f (Some p) ≡ f (marks_at m.names.entries q)
+      there f q e = ap f (sym here) ∙ ap (λ n. f (marks_at m.names.entries n)) (bytes_eq-true name q e)
+
+      key : (b : Bool) (q : List ℕ) → bytes_eq name q ≡ b → cond b w.key (key_of (marks_at m.names.entries q)) ≡ cond (b && false) version (cond (b && false) version (key_of (marks_at m.names.entries q)))
+      key true q e = k ∙ there key_of q e
+      key false q e = refl
+
+      cell : (c : Counted) (b : Bool) (q : List ℕ) → bytes_eq name q ≡ b → cond b (cell_of (Some w) c) (cell_of (marks_at m.names.entries q) c) ≡ cond (b && is_of other c) version (cond (b && is_of one c) version (cell_of (marks_at m.names.entries q) c))
+      cell c true q e = h c ∙ ap (λ x. cond (is_of other c) version (cond (is_of one c) version x)) (there (λ o. cell_of o c) q e)
+      cell c false q e = refl
+
 -- ---- what changed has a mark
 
 pub record HasMark (marks : Marks) (name : List ℕ) (c : Counted) : Type 0 where

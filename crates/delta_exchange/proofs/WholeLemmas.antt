@@ -18,7 +18,7 @@ use Rattle.delta_exchange.proofs.BelowLemmas.{ascends, length_flat}
 use Rattle.delta_exchange.proofs.HeldCells.{hit_member, member_hit, few_hits, exec_member, member_exec, few_execs, shift_member, member_shift, few_shifts}
 use Rattle.delta_exchange.proofs.HeldEntries.{term_below, entry_member, member_entry, few_entries, entries_ascend, entry_is, entry_short}
 
-some_key : (o : Option KeyValue) → IsTrue (is_some o) → (key : KeyValue) × (o ≡ Some key)
+pub some_key : (o : Option KeyValue) → IsTrue (is_some o) → (key : KeyValue) × (o ≡ Some key)
 some_key None h = absurd cc
 some_key (Some key) h = (key, refl)
 

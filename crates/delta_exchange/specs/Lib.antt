@@ -10,3 +10,4 @@ pub mod Changes
 pub mod Marks
 pub mod Versions
 pub mod News
+pub mod Since

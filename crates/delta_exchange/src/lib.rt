@@ -28,6 +28,14 @@
 //! ```rust
 //! let message = message_of_all(alloc, &replica, nodes, from, to)?;
 //! ```
+//!
+//! `Versioned` is a replica that counts its changes, and knows of each key and each cell which
+//! change was the last:
+//!
+//! ```rust
+//! let changed = versioned.receive(alloc, &message)?;
+//! versioned.count_pass(alloc, &name, node, Some(term))?;
+//! ```
 #![tactic(auto)]
 
 mod cells;
@@ -40,6 +48,7 @@ mod marks;
 mod message;
 mod news;
 mod reading;
+mod since;
 mod versioned;
 mod versions;
 mod wire;

@@ -1,10 +1,8 @@
 //! When each key and each cell last changed, by versions.
 #![tactic(auto, unfolding(crate::specs::Marks::marks_value, crate::specs::Marks::has_room))]
 
-ghost use Rattle.std.specs.Prelude.{◌≡◌, IsTrue, ℕ, List, [], Option, Some, None, true, if◌then◌else◌, OnOk, OnErr};
+ghost use Rattle.std.specs.Prelude.{◌≡◌, IsTrue, ℕ, List, [], Option, Some, None, true, if◌then◌else◌, option_map, IfSome, OnOk, OnErr};
 ghost use Rattle.std.specs.BTreeMap.{IsOrdered};
-ghost use Rattle.std.specs.Ordering.{nat_cmp};
-ghost use Rattle.std.specs.Cmp.Lexicographic.{slice_cmp};
 ghost use Rattle.replica_state.specs.Points.{counted_cmp, is_hits};
 ghost use Rattle.replica_state.specs.declared.point.Counted.{Counted};
 ghost use Rattle.delta_exchange.specs.Marks.{KeepsRoom, cell_change, cell_of, has_cell, has_room, is_of, key_of, latest_of, marks_at, marks_value, with_mark};
@@ -28,7 +26,7 @@ pub(crate) struct NameMarks {
 /// The marks of all names.
 #[derive(Debug, Drop)]
 pub(crate) struct Marks {
-    names: BTreeMap<Name, NameMarks>,
+    pub(crate) names: BTreeMap<Name, NameMarks>,
 }
 
 impl NameMarks {
@@ -77,8 +75,8 @@ impl NameMarks {
         }
     }
 
-    // Makes room for the mark of what is counted, if anything is.
-    fn make_room(&mut self, counted: Option<Counted>) -> Result<(), AllocError>
+    /// Makes room for the mark of what is counted, if anything is.
+    pub(crate) fn make_room(&mut self, counted: Option<Counted>) -> Result<(), AllocError>
         ensures latest { self.new.latest ≡ self.old.latest }
         ensures key { self.new.key ≡ self.old.key }
         ensures cells { (c : Counted) → cell_of (Some self.new) c ≡ cell_of (Some self.old) c }
@@ -94,8 +92,8 @@ impl NameMarks {
         Ok(())
     }
 
-    // Marks the key, where it is new, and what is counted, where it has room.
-    fn mark(&mut self, new_key: bool, counted: Option<Counted>, version: u64)
+    /// Marks the key, where it is new, and what is counted, which has room.
+    pub(crate) fn mark(&mut self, new_key: bool, counted: Option<Counted>, version: u64)
         requires room { IsTrue (has_cell self.old counted) }
         ensures latest { self.new.latest ≡ version }
         ensures key { self.new.key ≡ (if new_key then version else self.old.key) }
@@ -128,12 +126,15 @@ impl Marks {
         }
     }
 
-    /// The names that have marks or room for them, in byte order.
-    pub(crate) fn iter(&self) -> Iter<'_, Name, NameMarks>
-        ensures rest { result ≡ self.now.names.entries }
-        ensures ordered { IsOrdered (slice_cmp nat_cmp) self.now.names }
+    /// The marks of a name, if it has any or room for them.
+    pub(crate) fn of_name(&self, name: &Name) -> Option<&NameMarks>
+        ensures marks { option_map (λ m. m.now) result ≡ marks_at self.now.names.entries name.now }
+        ensures ordered { IfSome result (λ m. IsOrdered counted_cmp m.now.cells) }
     {
-        self.names.iter()
+        let marks = self.names.get(name)?;
+        // What `cells` promises puts them in order.
+        let _ = marks.cells();
+        Some(marks)
     }
 
     /// Makes room for the marks of a name and of what is counted of it, if anything is. No mark

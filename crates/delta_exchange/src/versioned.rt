@@ -24,13 +24,13 @@ use std::alloc::{AllocError, Global};
 /// A replica with versions: it counts the changes of its state, knows when each key and each cell
 /// last changed, and keeps of each other node the version that it has of it and the version that
 /// the other is known to have.
-#[derive(Drop)]
+#[derive(Debug, Drop)]
 pub struct Versioned<R> {
-    replica: R,
+    pub(crate) replica: R,
     version: u64,
     known: NodeVersions,
     acked: NodeVersions,
-    marks: Marks,
+    pub(crate) marks: Marks,
     ghost upto: { AreUpto (marks_value marks) version },
 }
 
@@ -105,6 +105,36 @@ impl<R: Replica> Versioned<R> {
     /// Counts a pass of a point at a node and, where a counted term was triggered, its execution
     /// there. Where memory is refused, nothing has changed.
     pub fn count_pass(
+        &mut self,
+        alloc: Global,
+        name: &Name,
+        node: u8,
+        spent: Option<u8>,
+    ) -> Result<(), AllocError>
+        requires set { IsSome ((value_of R.state self.old).state.key name.now) }
+        requires hits { (value_of R.state self.old).state.hits name.now node + 1 < 2 ^ 64 }
+        requires execs { (term : ℕ) → (value_of R.state self.old).state.execs name.now term node + 1 < 2 ^ 64 }
+        requires version { (value_of R.state self.old).version + 1 < 2 ^ 64 }
+        ensures ok { OnOk result (ChangesTo (value_of R.state self.old)
+            (with_pass name.now node spent (value_of R.state self.old).state) (value_of R.state self.new)) }
+        ensures err { OnErr result (value_of R.state self.new ≡ value_of R.state self.old) }
+    {
+        let hits = Some(Counted::Hits { node });
+        let execs = executed(spent, node);
+        let Some(marks) = self.marks.names.get_mut(name) else {
+            return self.count_unmarked_pass(alloc, name, node, spent);
+        };
+        marks.make_room(hits)?;
+        marks.make_room(execs)?;
+        self.replica.count_pass(alloc, name, node, spent)?;
+        self.version += 1;
+        marks.mark(false, hits, self.version);
+        marks.mark(false, execs, self.version);
+        Ok(())
+    }
+
+    // The same where the name has no marks yet.
+    fn count_unmarked_pass(
         &mut self,
         alloc: Global,
         name: &Name,

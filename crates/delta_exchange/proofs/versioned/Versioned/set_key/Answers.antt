@@ -1,8 +1,7 @@
-use Rattle.std.proofs.Common.{false, ◌+◌, ◌≡◌, ◌&&◌, not, true, None, sym, refl, ◌∙◌, subst, arith}
+use Rattle.std.proofs.Common.{false, ◌+◌, ◌≡◌, true, None, sym, refl, ◌∙◌, subst, arith}
 use Rattle.std.specs.Str.{bytes_eq}
 use Rattle.stamp_register.specs.Keys.{key_value}
 use Rattle.replica_state.specs.States.{State, with_key}
-use Rattle.replica_state.specs.Points.{is_hits}
 use Rattle.delta_exchange.specs.Changes.{ChangesAt}
 use Rattle.delta_exchange.specs.Marks.{MarksValue, marks_value, last_changes, with_mark, AreUpto}
 use Rattle.delta_exchange.specs.Versions.{value_of}

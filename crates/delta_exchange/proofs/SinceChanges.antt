@@ -1,0 +1,209 @@
+-- A name of which something changed after a version has an entry, which can be written.
+use Rattle.std.proofs.Common.{◌≡◌, ◌≢◌, ℕ, max, ◌<◌, ◌≤◌, ◌^◌, ◌==◌, ◌||◌, Bool, true, false, cond, List, [], ◌∷◌, length, map, ◌⊎◌, ⊎_elim, inl, inr, Option, Some, None, refl, sym, ap, subst, ◌∙◌, arith}
+use Rattle.std.specs.Prelude.{is_some, IsTrue, nat_lt}
+use Rattle.std.specs.BTreeMap.{IsOrdered}
+use Rattle.std.proofs.lemmas.Bool.{true≢false, cases_lt}
+use Rattle.std.proofs.lemmas.Bool.Decides.{nat_tests}
+use Rattle.stamp_register.specs.Keys.{KeyValue}
+use Rattle.replica_state.specs.Operations.{IsIn, count_of}
+use Rattle.replica_state.specs.States.{State}
+use Rattle.replica_state.specs.Points.{counted_cmp, is_hits}
+use Rattle.replica_state.specs.OpSets as state
+use Rattle.replica_state.specs.declared.point.Counted.{Counted}
+use Rattle.replica_state.specs.declared.point.Counted.TheVariants.{Hits, Execs, Shifts}
+use Rattle.delta_exchange.specs.declared.marks.NameMarks.{NameMarks}
+use Rattle.delta_exchange.specs.declared.marks.Marks.{Marks}
+use Rattle.delta_exchange.specs.Marks.{marks_at, latest_of, marks_value, last_changes, cell_change, AreUpto}
+use Rattle.delta_exchange.specs.Changes.{IsChangedCell, IsUnchangedSince}
+use Rattle.delta_exchange.specs.Messages.{EntryValue}
+use Rattle.delta_exchange.specs.Spelling.{IsHit, IsExec, IsShift, IsEntry}
+use Rattle.delta_exchange.specs.Cells.{EntryFits}
+use Rattle.delta_exchange.specs.Since.{hits_since, execs_since, shifts_since, entry_since, tells_cells}
+use Rattle.delta_exchange.proofs.LawfulLemmas.{one_of, all_of}
+use Rattle.delta_exchange.proofs.LawfulStates.{IsLawfulState}
+use Rattle.delta_exchange.proofs.BelowLemmas.{ascends}
+use Rattle.delta_exchange.proofs.SinceCells.{changes_of, key_change, hit_changed, changed_hit, hits_since_ascend, few_hits_since, exec_changed, changed_exec, execs_since_ascend, few_execs_since, shift_changed, changed_shift, shifts_since_ascend, few_shifts_since}
+use Rattle.delta_exchange.proofs.SinceEntries.{all_since, AreOrdered, order_of, member_entry}
+
+some_in : {A : Type 0} (xs : List A) (x : A) → IsIn x xs → IsTrue (nat_lt 0 (length xs))
+some_in [] x h = absurd h
+some_in (y ∷ xs) x h = grind (arith, nat_tests)
+
+left_true : (a b : Bool) → IsTrue a → IsTrue (a || b)
+left_true a b h = rw h refl
+
+right_true : (a b : Bool) → IsTrue b → IsTrue (a || b)
+right_true true b h = refl
+right_true false b h = h
+
+module _ (v : State) (m : Marks) (base : ℕ) (name : List ℕ) where
+  -- ---- what the marks bound
+
+  module _ (version : ℕ) (upto : AreUpto (marks_value m) version) where
+    cell_upto : (c : Counted) → (changes_of m).cell name c ≤ (marks_value m).latest name
+    unfolding last_changes
+    cell_upto c = by_test (is_hits c) ((marks_value m).cell name c) ((marks_value m).key name) ((marks_value m).latest name) (upto.cell name c) (upto.key name)
+      where
+        by_own : (b : Bool) (x y l : ℕ) → x ≤ l → y ≤ l → cond b 0 (max x y) ≤ l
+        by_own true x y l p q = omega arith
+        by_own false x y l p q = omega (arith, p, q)
+
+        by_test : (b : Bool) (x y l : ℕ) → x ≤ l → y ≤ l → cell_change b x y ≤ l
+        by_test true x y l p q = p
+        by_test false x y l p q = by_own (x == 0) x y l p q
+
+    key_upto : (changes_of m).key name ≤ (marks_value m).latest name
+    unfolding last_changes
+    key_upto = upto.key name
+
+    unchanged_upto : (marks_value m).latest name ≤ base → IsUnchangedSince v (changes_of m) base name
+    unchanged_upto le =
+        let k = key_upto in
+        record { key = omega (arith, k, le); cell = λ c some. let l = cell_upto c in omega (arith, l, le) }
+
+    latest_is : (o : Option NameMarks) → marks_at m.names.entries name ≡ o → (marks_value m).latest name ≡ latest_of o
+    unfolding marks_value
+    latest_is o at = ap (λ x. latest_of x) at
+
+    pub marks_changed : (IsUnchangedSince v (changes_of m) base name → ⊥) → (w : NameMarks) × (marks_at m.names.entries name ≡ Some w) × IsTrue (nat_lt base w.latest)
+    marks_changed h = by_marks (marks_at m.names.entries name) refl
+      where
+        by_marks : (o : Option NameMarks) → marks_at m.names.entries name ≡ o → (w : NameMarks) × (marks_at m.names.entries name ≡ Some w) × IsTrue (nat_lt base w.latest)
+        by_marks None at = let none = latest_is None at in absurd (h (unchanged_upto (omega (arith, none))))
+        by_marks (Some w) at = let is = latest_is (Some w) at in ⊎_elim
+            (λ lt. (w, at, grind (arith, nat_tests)))
+            (λ le. absurd (h (unchanged_upto (omega (arith, is, le)))))
+            (cases_lt base w.latest)
+
+  module _ (nodes : ℕ) (lawful : IsLawfulState nodes v) (few : nodes ≤ 16) (w : NameMarks) (at : marks_at m.names.entries name ≡ Some w) (ordered : IsOrdered counted_cmp w.cells) (key : KeyValue) (keyed : v.key name ≡ Some key) where
+    abbrev entry : EntryValue
+    entry = entry_since v name key base w
+
+    hits_tell : (c : ℕ × ℕ) → IsIn c (hits_since v name base w) → IsTrue (tells_cells entry)
+    hits_tell c h = left_true (nat_lt 0 (length (hits_since v name base w))) (nat_lt 0 (length (execs_since v name base w)) || nat_lt 0 (length (shifts_since v name base w))) (some_in (hits_since v name base w) c h)
+
+    execs_tell : (c : ℕ × ℕ × ℕ) → IsIn c (execs_since v name base w) → IsTrue (tells_cells entry)
+    execs_tell c h = right_true (nat_lt 0 (length (hits_since v name base w))) (nat_lt 0 (length (execs_since v name base w)) || nat_lt 0 (length (shifts_since v name base w)))
+        (left_true (nat_lt 0 (length (execs_since v name base w))) (nat_lt 0 (length (shifts_since v name base w))) (some_in (execs_since v name base w) c h))
+
+    shifts_tell : (c : ℕ × ℕ × ℕ × ℕ) → IsIn c (shifts_since v name base w) → IsTrue (tells_cells entry)
+    shifts_tell c h = right_true (nat_lt 0 (length (hits_since v name base w))) (nat_lt 0 (length (execs_since v name base w)) || nat_lt 0 (length (shifts_since v name base w)))
+        (right_true (nat_lt 0 (length (execs_since v name base w))) (nat_lt 0 (length (shifts_since v name base w))) (some_in (shifts_since v name base w) c h))
+
+    cell_tells : (c : Counted) → state.cell_of v name c ≢ 0 → base < (changes_of m).cell name c → IsTrue (tells_cells entry)
+    cell_tells (Hits node) some lt =
+        hits_tell (node, v.hits name node) (changed_hit v nodes lawful few m base name w at ordered node (v.hits name node) (record { is_now = refl; positive = some; later = lt }))
+    cell_tells (Execs term node) some lt =
+        execs_tell (term, node, v.execs name term node) (changed_exec v nodes lawful few m base name w at ordered key keyed term node (v.execs name term node) (record { is_now = refl; positive = some; later = lt }))
+    cell_tells (Shifts term from to) some lt =
+        shifts_tell (term, from, to, v.shifts name term from to) (changed_shift v nodes lawful few m base name w at ordered key keyed term from to (v.shifts name term from to) (record { is_now = refl; positive = some; later = lt }))
+
+    pub change_told : (IsUnchangedSince v (changes_of m) base name → ⊥) → IsTrue (nat_lt base w.key || tells_cells entry)
+    change_told h = by_test (nat_lt base w.key || tells_cells entry) refl
+      where
+        not_told : {A : Type 0} → (nat_lt base w.key || tells_cells entry) ≡ false → IsTrue (nat_lt base w.key || tells_cells entry) → A
+        not_told e t = absurd (true≢false (sym t ∙ e))
+
+        by_test : (b : Bool) → (nat_lt base w.key || tells_cells entry) ≡ b → (nat_lt base w.key || tells_cells entry) ≡ true
+        by_test true e = e
+        by_test false e = absurd (h (record {
+          key = ⊎_elim
+              (λ lt.
+              let is = key_change m name w at in
+              let above : IsTrue (nat_lt base w.key) = grind (arith, nat_tests) in
+              not_told e (left_true (nat_lt base w.key) (tells_cells entry) above))
+              (λ le. le)
+              (cases_lt base ((changes_of m).key name));
+          cell = λ c some. ⊎_elim
+              (λ lt. not_told e (right_true (nat_lt base w.key) (tells_cells entry) (cell_tells c some lt)))
+              (λ le. le)
+              (cases_lt base ((changes_of m).cell name c));
+        }))
+
+    -- ---- it is a change that is told
+
+    one_in : {A : Type 0} (xs : List A) → IsTrue (nat_lt 0 (length xs)) → (x : A) × IsIn x xs
+    one_in [] h = absurd cc
+    one_in (x ∷ xs) h = (x, inl refl)
+
+    either : (a b : Bool) → IsTrue (a || b) → IsTrue a ⊎ IsTrue b
+    either true b h = inl refl
+    either false b h = inr h
+
+    pub told_change : IsTrue (nat_lt base w.key || tells_cells entry) → IsUnchangedSince v (changes_of m) base name → ⊥
+    told_change told same = ⊎_elim
+        (λ t.
+        let is = key_change m name w at in
+        let le = same.key in
+        absurd (grind (arith, nat_tests)))
+        (λ t. ⊎_elim hits others (either (nat_lt 0 (length (hits_since v name base w))) (nat_lt 0 (length (execs_since v name base w)) || nat_lt 0 (length (shifts_since v name base w))) t))
+        (either (nat_lt base w.key) (tells_cells entry) told)
+      where
+        same_cell : (c : Counted) (number : ℕ) → IsChangedCell v (changes_of m) base name c number → ⊥
+        same_cell c number d =
+            let le = same.cell c (λ z. d.positive (d.is_now ∙ z)) in
+            let lt = d.later in
+            absurd (omega (arith, le, lt))
+
+        hits : IsTrue (nat_lt 0 (length (hits_since v name base w))) → ⊥
+        hits t = let r = one_in (hits_since v name base w) t in same_cell (Hits r.0.0) r.0.1 (hit_changed v nodes lawful few m base name w at ordered r.0 r.1)
+
+        execs : IsTrue (nat_lt 0 (length (execs_since v name base w))) → ⊥
+        execs t = let r = one_in (execs_since v name base w) t in same_cell (Execs r.0.0 r.0.1) r.0.2 (exec_changed v nodes lawful few m base name w at ordered key keyed r.0 r.1)
+
+        shifts : IsTrue (nat_lt 0 (length (shifts_since v name base w))) → ⊥
+        shifts t = let r = one_in (shifts_since v name base w) t in same_cell (Shifts r.0.0 r.0.1 r.0.2) r.0.3 (shift_changed v nodes lawful few m base name w at ordered key keyed r.0 r.1)
+
+        others : IsTrue (nat_lt 0 (length (execs_since v name base w)) || nat_lt 0 (length (shifts_since v name base w))) → ⊥
+        others t = ⊎_elim execs shifts (either (nat_lt 0 (length (execs_since v name base w))) (nat_lt 0 (length (shifts_since v name base w))) t)
+
+    -- ---- it can be written
+
+    pub entry_is : IsIn name v.names → EntryFits entry → IsEntry nodes entry
+    entry_is held fits =
+        let few_hits = few_hits_since v nodes lawful few m base name w at ordered in
+        let few_execs = few_execs_since v nodes lawful few m base name w at ordered key keyed in
+        let few_shifts = few_shifts_since v nodes lawful few m base name w at ordered key keyed in
+        record {
+          name = lawful.named name held;
+          key = lawful.key name key keyed;
+          few_hits = omega (arith, few_hits);
+          hits = all_of (IsHit nodes) entry.hits (λ c h. hit_is c (one_of (λ (x : ℕ × ℕ). x.1 < 2 ^ 64) entry.hits fits.0 c h) h);
+          hits_ascend = ascends _ (hits_since_ascend v nodes lawful few m base name w at ordered);
+          few_execs = omega (arith, few_execs);
+          execs = all_of (IsExec nodes key) entry.execs (λ c h. exec_is c (one_of (λ (x : ℕ × ℕ × ℕ). x.2 < 2 ^ 64) entry.execs fits.1 c h) h);
+          execs_ascend = ascends _ (execs_since_ascend v nodes lawful few m base name w at ordered key keyed);
+          few_shifts = omega (arith, few_shifts);
+          shifts = all_of (IsShift nodes key) entry.shifts (λ c h. shift_is c (one_of (λ (x : ℕ × ℕ × ℕ × ℕ). x.3 < 2 ^ 64) entry.shifts fits.2 c h) h);
+          shifts_ascend = ascends _ (shifts_since_ascend v nodes lawful few m base name w at ordered key keyed);
+        }
+      where
+        hit_is : (c : ℕ × ℕ) → c.1 < 2 ^ 64 → IsIn c (hits_since v name base w) → IsHit nodes c
+        hit_is c fit h =
+            let d = hit_changed v nodes lawful few m base name w at ordered c h in
+            let positive = d.positive in
+            (lawful.hits name c.0 (λ z. d.positive (d.is_now ∙ z)), (omega (arith, positive), fit))
+
+        exec_is : (c : ℕ × ℕ × ℕ) → c.2 < 2 ^ 64 → IsIn c (execs_since v name base w) → IsExec nodes key c
+        exec_is c fit h =
+            let d = exec_changed v nodes lawful few m base name w at ordered key keyed c h in
+            let positive = d.positive in
+            let r = lawful.execs name key c.0 c.1 keyed (λ z. d.positive (d.is_now ∙ z)) in
+            (r.0, r.1, (omega (arith, positive), fit))
+
+        shift_is : (c : ℕ × ℕ × ℕ × ℕ) → c.3 < 2 ^ 64 → IsIn c (shifts_since v name base w) → IsShift nodes key c
+        shift_is c fit h =
+            let d = shift_changed v nodes lawful few m base name w at ordered key keyed c h in
+            let positive = d.positive in
+            let r = lawful.shifts name key c.0 c.1 c.2 keyed (λ z. d.positive (d.is_now ∙ z)) in
+            (r.0, r.1, r.2, r.3, (omega (arith, positive), fit))
+
+-- so each name of which something changed has its entry
+pub entry_changed : (v : State) (nodes : ℕ) (lawful : IsLawfulState nodes v) (few : nodes ≤ 16) (m : Marks) (base version : ℕ) → AreUpto (marks_value m) version → AreOrdered v base m
+    → (name : List ℕ) (key : KeyValue) → v.key name ≡ Some key → (IsUnchangedSince v (changes_of m) base name → ⊥)
+    → (w : NameMarks) × (marks_at m.names.entries name ≡ Some w) × IsOrdered counted_cmp w.cells × IsIn (entry_since v name key base w) (all_since v base m)
+entry_changed v nodes lawful few m base version upto ordered name key keyed h =
+    let r = marks_changed v m base name version upto h in
+    let held = lawful.key_name name key keyed in
+    let order = order_of v base m ordered name r.0 held r.1 in
+    (r.0, r.1, order, member_entry v base m name key r.0 held keyed r.1 r.2 (change_told v m base name nodes lawful few r.0 r.1 order key keyed h))

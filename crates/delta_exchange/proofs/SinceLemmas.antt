@@ -1,0 +1,156 @@
+-- What changed after a version, as a message: it can be written, and it tells just the changes.
+use Rattle.std.proofs.Common.{◌≡◌, ◌≢◌, ℕ, ◌<◌, ◌≤◌, ◌^◌, ◌⊎◌, inl, inr, List, [], ◌++◌, length, map, Some, refl, sym, ap, subst, ◌∙◌, length-append, arith}
+use Rattle.std.specs.Prelude.{◌↔◌}
+use Rattle.std.specs.List.{flat_map}
+use Rattle.stamp_register.specs.Keys.{KeyValue}
+use Rattle.replica_state.specs.Operations.{Operation, Set, Count, Hits, Execs, Shifts, IsIn}
+use Rattle.replica_state.specs.States.{State}
+use Rattle.replica_state.specs.Folds.{fold}
+use Rattle.replica_state.specs.declared.point.Counted.TheVariants as counted
+use Rattle.replica_state.proofs.Sets.{IsIn-append_left, IsIn-append_right}
+use Rattle.delta_exchange.specs.declared.marks.Marks.{Marks}
+use Rattle.delta_exchange.specs.Marks.{marks_value, AreUpto}
+use Rattle.delta_exchange.specs.Changes.{IsChangeSince, IsChangedCell, IsUnchangedSince}
+use Rattle.delta_exchange.specs.Messages.{EntryValue, MessageValue, operations_of}
+use Rattle.delta_exchange.specs.Spelling.{IsEntry, IsMessage, entry_bytes, message_bytes, max_message}
+use Rattle.delta_exchange.specs.Wholes.{AreLawful}
+use Rattle.delta_exchange.specs.Cells.{EntryFits, EntriesFit}
+use Rattle.delta_exchange.specs.Versions.{VersionedValue}
+use Rattle.delta_exchange.specs.Since.{CanBeTold, IsMessageSince, hits_since, execs_since, shifts_since, entry_since}
+use Rattle.delta_exchange.proofs.LawfulLemmas.{one_of, all_of, mapped_in, hit_told, exec_told, shift_told, told_of, told_by, tells}
+use Rattle.delta_exchange.proofs.LawfulStates.{IsLawfulState, lawful_state}
+use Rattle.delta_exchange.proofs.BelowLemmas.{ascends, length_flat}
+use Rattle.delta_exchange.proofs.HeldEntries.{entry_short}
+use Rattle.delta_exchange.proofs.WholeLemmas.{some_key}
+use Rattle.delta_exchange.proofs.SinceCells.{changes_of, hit_changed, changed_hit, few_hits_since, exec_changed, changed_exec, few_execs_since, shift_changed, changed_shift, few_shifts_since}
+use Rattle.delta_exchange.proofs.SinceEntries.{all_since, AreOrdered, IsEntrySince, entry_member, few_entries, entries_ascend}
+use Rattle.delta_exchange.proofs.SinceChanges.{told_change, entry_is, entry_changed}
+
+-- ---- what the cells of an entry tell
+
+module _ (e : EntryValue) where
+  with_hit : (c : ℕ × ℕ) → IsIn c e.hits → IsIn (hit_told e c) (operations_of e)
+  with_hit c h = inr (IsIn-append_left (hit_told e c) (map (hit_told e) e.hits) (map (exec_told e) e.execs ++ map (shift_told e) e.shifts) (mapped_in (hit_told e) e.hits c h))
+
+  with_exec : (c : ℕ × ℕ × ℕ) → IsIn c e.execs → IsIn (exec_told e c) (operations_of e)
+  with_exec c h = inr (IsIn-append_right (exec_told e c) (map (hit_told e) e.hits) (map (exec_told e) e.execs ++ map (shift_told e) e.shifts)
+      (IsIn-append_left (exec_told e c) (map (exec_told e) e.execs) (map (shift_told e) e.shifts) (mapped_in (exec_told e) e.execs c h)))
+
+  with_shift : (c : ℕ × ℕ × ℕ × ℕ) → IsIn c e.shifts → IsIn (shift_told e c) (operations_of e)
+  with_shift c h = inr (IsIn-append_right (shift_told e c) (map (hit_told e) e.hits) (map (exec_told e) e.execs ++ map (shift_told e) e.shifts)
+      (IsIn-append_right (shift_told e c) (map (exec_told e) e.execs) (map (shift_told e) e.shifts) (mapped_in (shift_told e) e.shifts c h)))
+
+module _ (v : State) (nodes : ℕ) (lawful : IsLawfulState nodes v) (few : nodes ≤ 16) (m : Marks) (base version : ℕ) (upto : AreUpto (marks_value m) version) (ordered : AreOrdered v base m) where
+  abbrev Changes : Operation → Type 0
+  Changes = IsChangeSince v (changes_of m) base
+
+  abbrev entries : List EntryValue
+  entries = all_since v base m
+
+  -- ---- what it tells changed
+
+  entry_tells : (e : EntryValue) → IsEntrySince v base m e → (op : Operation) → IsIn op (operations_of e) → Changes op
+  entry_tells e r op h = by_kind (told_of s op (subst (λ x. IsIn op (operations_of x)) r.is h))
+    where
+      s : EntryValue
+      s = entry_since v r.name r.key base r.marks
+
+      by_kind : (op ≡ Set s.name s.key) ⊎ (((c : ℕ × ℕ) × IsIn c s.hits × (op ≡ hit_told s c)) ⊎ (((c : ℕ × ℕ × ℕ) × IsIn c s.execs × (op ≡ exec_told s c)) ⊎ ((c : ℕ × ℕ × ℕ × ℕ) × IsIn c s.shifts × (op ≡ shift_told s c)))) → Changes op
+      by_kind (inl e) = subst Changes (sym e) (r.keyed, told_change v m base r.name nodes lawful few r.marks r.at r.ordered r.key r.keyed r.told)
+      by_kind (inr (inl (c, k, e))) = subst Changes (sym e) (hit_changed v nodes lawful few m base r.name r.marks r.at r.ordered c k)
+      by_kind (inr (inr (inl (c, k, e)))) = subst Changes (sym e) (r.keyed, exec_changed v nodes lawful few m base r.name r.marks r.at r.ordered r.key r.keyed c k)
+      by_kind (inr (inr (inr (c, k, e)))) = subst Changes (sym e) (r.keyed, shift_changed v nodes lawful few m base r.name r.marks r.at r.ordered r.key r.keyed c k)
+
+  told_changed : (op : Operation) → IsIn op (flat_map operations_of entries) → Changes op
+  told_changed op h =
+      let r = told_by entries op h in
+      entry_tells r.0 (entry_member v base m ordered r.0 r.1) op r.2
+
+  -- ---- what changed it tells
+
+  changed_name : (name : List ℕ) (c : _) (number : ℕ) → IsChangedCell v (changes_of m) base name c number → IsUnchangedSince v (changes_of m) base name → ⊥
+  changed_name name c number d same =
+      let le = same.cell c (λ z. d.positive (d.is_now ∙ z)) in
+      let lt = d.later in
+      absurd (omega (arith, le, lt))
+
+  changed_told : (op : Operation) → Changes op → IsIn op (flat_map operations_of entries)
+  changed_told (Set name key) d =
+      let r = entry_changed v nodes lawful few m base version upto ordered name key d.0 d.1 in
+      tells entries (entry_since v name key base r.0) (Set name key) r.3 (inl refl)
+  changed_told (Count (Hits name node) number) d =
+      let some : v.hits name node ≢ 0 = λ z. d.positive (d.is_now ∙ z) in
+      let key = some_key (v.key name) (lawful.keyed name (lawful.hit_name name node some)) in
+      let r = entry_changed v nodes lawful few m base version upto ordered name key.0 key.1 (changed_name name (counted.Hits node) number d) in
+      let e = entry_since v name key.0 base r.0 in
+      tells entries e (Count (Hits name node) number) r.3 (with_hit e (node, number) (changed_hit v nodes lawful few m base name r.0 r.1 r.2 node number d))
+  changed_told (Count (Execs name key term node) number) d =
+      let r = entry_changed v nodes lawful few m base version upto ordered name key d.0 (changed_name name (counted.Execs term node) number d.1) in
+      let e = entry_since v name key base r.0 in
+      tells entries e (Count (Execs name key term node) number) r.3 (with_exec e (term, node, number) (changed_exec v nodes lawful few m base name r.0 r.1 r.2 key d.0 term node number d.1))
+  changed_told (Count (Shifts name key term from to) number) d =
+      let r = entry_changed v nodes lawful few m base version upto ordered name key d.0 (changed_name name (counted.Shifts term from to) number d.1) in
+      let e = entry_since v name key base r.0 in
+      tells entries e (Count (Shifts name key term from to) number) r.3 (with_shift e (term, from, to, number) (changed_shift v nodes lawful few m base name r.0 r.1 r.2 key d.0 term from to number d.1))
+
+  -- ---- it can be written
+
+  module _ (fit : EntriesFit entries) (names : length v.names ≤ 256) where
+    each_is : (e : EntryValue) → IsIn e entries → IsEntry nodes e × (length (entry_bytes e) ≤ 48930)
+    each_is e h =
+        let r = entry_member v base m ordered e h in
+        let s = entry_since v r.name r.key base r.marks in
+        let fits : EntryFits s = subst EntryFits r.is (one_of EntryFits entries fit e h) in
+        let is = entry_is v m base r.name nodes lawful few r.marks r.at r.ordered r.key r.keyed r.held fits in
+        let hits = few_hits_since v nodes lawful few m base r.name r.marks r.at r.ordered in
+        let execs = few_execs_since v nodes lawful few m base r.name r.marks r.at r.ordered r.key r.keyed in
+        let shifts = few_shifts_since v nodes lawful few m base r.name r.marks r.at r.ordered r.key r.keyed in
+        subst (λ x. IsEntry nodes x × (length (entry_bytes x) ≤ 48930)) (sym r.is) (is, entry_short nodes s is hits execs shifts)
+
+    pub is_spelled : (n : MessageValue) → n.entries ≡ entries → n.from < nodes → n.to < nodes → n.to ≢ n.from → n.base < 2 ^ 64 → n.upto < 2 ^ 64 → n.ack < 2 ^ 64 → IsMessage nodes n
+    is_spelled n same lt less apart b u a =
+        let most = few_entries v base m names in
+        record {
+          few_nodes = omega (arith, few);
+          from = lt;
+          to = less;
+          apart = apart;
+          base = b;
+          upto = u;
+          ack = a;
+          entries = rw same (record {
+            few = omega (arith, most);
+            each = all_of (IsEntry nodes) entries (λ e h. (each_is e h).0);
+            ascend = ascends _ (entries_ascend v base m lawful.ascending);
+          });
+        }
+
+    pub is_short : (n : MessageValue) → n.entries ≡ entries → length (message_bytes n) ≤ max_message
+    is_short n same =
+        let most = few_entries v base m names in
+        let bytes = length_flat entry_bytes 48930 entries (λ e h. (each_is e h).1) in
+        rw same (omega (arith, most, bytes))
+
+-- where the state can be told
+pub is_message_since : (v : VersionedValue) (m : Marks) (n : MessageValue) (nodes from to base : ℕ) → v.last ≡ changes_of m → AreUpto (marks_value m) v.version → CanBeTold nodes from to v.state
+    → AreOrdered v.state base m → n.entries ≡ all_since v.state base m → EntriesFit (all_since v.state base m)
+    → n.from ≡ from → n.to ≡ to → n.base ≡ base → n.upto ≡ v.version → n.ack ≡ v.known to → base < 2 ^ 64 → n.upto < 2 ^ 64 → n.ack < 2 ^ 64
+    → IsMessageSince nodes from to base v n
+is_message_since v m n nodes from to base last upto can ordered entries fit sender receiver since version ack b u a =
+    let few = can.few_nodes in
+    let names = can.few_names in
+    let lt = can.sender in
+    let less = can.receiver in
+    let state = subst (IsLawfulState nodes) (sym can.lawful.1) (lawful_state nodes can.lawful.0 can.lawful.2) in
+    record {
+      sender = sender;
+      receiver = receiver;
+      since = since;
+      upto = version;
+      ack = ack;
+      spelled = is_spelled v.state nodes state few m base v.version upto ordered fit names n entries (omega (arith, sender, lt)) (omega (arith, receiver, less)) (λ e. can.apart (sym receiver ∙ e ∙ sender)) (omega (arith, since, b)) u a;
+      short = is_short v.state nodes state few m base v.version upto ordered fit names n entries;
+      changes = λ op. subst (λ es. IsIn op (flat_map operations_of es) ↔ IsChangeSince v.state v.last base op) (sym entries)
+          (subst (λ l. IsIn op (flat_map operations_of (all_since v.state base m)) ↔ IsChangeSince v.state l base op) (sym last)
+          (told_changed v.state nodes state few m base v.version upto ordered op, changed_told v.state nodes state few m base v.version upto ordered op));
+    }

@@ -1,0 +1,11 @@
+use Rattle.std.proofs.Common.{◌≡◌, ◌++◌}
+use Rattle.std.specs.List.{flat_map}
+use Rattle.delta_exchange.specs.Cells.{ExecsFit}
+use Rattle.delta_exchange.specs.Since.{exec_of, later, execs_since}
+use Rattle.delta_exchange.proofs.since.execs_since.Given as goal
+
+abbrev pub invariant-loop-counted : goal.invariant-loop-counted
+invariant-loop-counted g l = record {
+  fit : ExecsFit l.execs.items;
+  cells : l.execs.items ++ flat_map (later l.marks.key l.base (exec_of (g.R.Replica.state l.replica) l.name)) l.counted-iterator ≡ execs_since (g.R.Replica.state l.replica) l.name l.base l.marks;
+}

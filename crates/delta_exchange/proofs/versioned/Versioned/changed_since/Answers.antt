@@ -1,0 +1,16 @@
+use Rattle.std.proofs.Common.{◌≡◌, refl, sym, subst, ◌∙◌, ap}
+use Rattle.delta_exchange.specs.Cells.{EntriesFit}
+use Rattle.delta_exchange.specs.Marks.{marks_value}
+use Rattle.delta_exchange.specs.Messages.{message_value}
+use Rattle.delta_exchange.specs.Versions.{value_of}
+use Rattle.delta_exchange.proofs.SinceLemmas.{is_message_since}
+use Rattle.delta_exchange.proofs.versioned.Versioned.changed_since.Goals as goal
+
+pub returns : goal.returns
+unfolding value_of
+returns g c nodes can =
+    let self = c.args.self.now in
+    let held = c.in_ok-entries.ensures in
+    is_message_since (value_of g.R.Replica.state self) self.marks (message_value (record { from = c.args.from; to = c.args.to; base = c.args.base; upto = c.version.result; ack = c.known.result; entries = c.in_ok-entries.entries }))
+    nodes c.args.from c.args.to c.args.base refl self.upto can
+    held.ordered held.entries (subst EntriesFit held.entries held.fit) refl refl refl c.version.ensures c.known.ensures c.ranges.base.fits c.version.type_inv c.known.type_inv

@@ -1,0 +1,106 @@
+-- What changed of a replica with versions after one of them: what a message tells of it, and which
+-- entries that makes, by the marks.
+use Rattle.std.specs.Prelude.{◌≡◌, ◌≢◌, ℕ, ◌<◌, ◌≤◌, ◌↔◌, ◌&&◌, ◌||◌, Bool, nat_lt, List, [], ◌∷◌, length, slice_get, if◌then◌else◌, Option, Some, None, IfSome}
+use Rattle.std.specs.List.{flat_map}
+use Rattle.std.specs.BTreeMap.{IsOrdered}
+use Rattle.stamp_register.specs.Keys.{KeyValue}
+use Rattle.replica_state.specs.Operations.{Operation, IsIn}
+use Rattle.replica_state.specs.States.{State}
+use Rattle.replica_state.specs.Folds.{fold}
+use Rattle.replica_state.specs.Points.{counted_cmp, is_hits}
+use Rattle.replica_state.specs.declared.point.Counted.{Counted}
+use Rattle.replica_state.specs.declared.point.Counted.TheVariants.{Hits, Execs, Shifts}
+use Rattle.delta_exchange.specs.declared.marks.NameMarks.{NameMarks}
+use Rattle.delta_exchange.specs.declared.marks.Marks.{Marks}
+use Rattle.delta_exchange.specs.Marks.{marks_at, cell_change}
+use Rattle.delta_exchange.specs.Messages.{EntryValue, MessageValue, operations_in}
+use Rattle.delta_exchange.specs.Spelling.{IsMessage, message_bytes, max_message}
+use Rattle.delta_exchange.specs.Cells.{each_below, cell_of}
+use Rattle.delta_exchange.specs.Limits.{max_nodes, max_names}
+use Rattle.delta_exchange.specs.Wholes.{AreLawful}
+use Rattle.delta_exchange.specs.Changes.{IsChangeSince}
+use Rattle.delta_exchange.specs.Versions.{VersionedValue}
+
+-- a state that one node of a cluster can tell another in a message
+pub record CanBeTold (nodes from to : ℕ) (v : State) : Type 0 where
+  pub few_nodes : nodes ≤ max_nodes
+  pub sender : from < nodes
+  pub receiver : to < nodes
+  pub apart : to ≢ from
+  pub lawful : (ops : List Operation) × (v ≡ fold ops) × AreLawful nodes ops
+  pub few_names : length v.names ≤ max_names
+
+-- a message of one node to another that tells just what changed after a version, which is its base
+pub record IsMessageSince (nodes from to base : ℕ) (v : VersionedValue) (m : MessageValue) : Type 0 where
+  pub sender : m.from ≡ from
+  pub receiver : m.to ≡ to
+  pub since : m.base ≡ base
+  pub upto : m.upto ≡ v.version
+  pub ack : m.ack ≡ v.known to
+  pub spelled : IsMessage nodes m
+  pub short : length (message_bytes m) ≤ max_message
+  pub changes : (op : Operation) → IsIn op (operations_in m) ↔ IsChangeSince v.state v.last base op
+
+-- ---- the same as the code has it
+
+-- what is counted, as a cell of its list, where it isn't 0
+abbrev pub hit_of : State → List ℕ → Counted → List (ℕ × ℕ)
+hit_of v name (Hits node) = cell_of (v.hits name node) (node, v.hits name node)
+hit_of v name (Execs term node) = []
+hit_of v name (Shifts term from to) = []
+
+abbrev pub exec_of : State → List ℕ → Counted → List (ℕ × ℕ × ℕ)
+exec_of v name (Hits node) = []
+exec_of v name (Execs term node) = cell_of (v.execs name term node) (term, node, v.execs name term node)
+exec_of v name (Shifts term from to) = []
+
+abbrev pub shift_of : State → List ℕ → Counted → List (ℕ × ℕ × ℕ × ℕ)
+shift_of v name (Hits node) = []
+shift_of v name (Execs term node) = []
+shift_of v name (Shifts term from to) = cell_of (v.shifts name term from to) (term, from, to, v.shifts name term from to)
+
+-- what changed after a version, by its mark and the key's
+abbrev pub later : {C : Type 0} → ℕ → ℕ → (Counted → List C) → Counted × ℕ → List C
+later key base f c = if nat_lt base (cell_change (is_hits c.0) c.1 key) then f c.0 else []
+
+abbrev pub hits_since : State → List ℕ → ℕ → NameMarks → List (ℕ × ℕ)
+hits_since v name base marks = flat_map (later marks.key base (hit_of v name)) marks.cells.entries
+
+abbrev pub execs_since : State → List ℕ → ℕ → NameMarks → List (ℕ × ℕ × ℕ)
+execs_since v name base marks = flat_map (later marks.key base (exec_of v name)) marks.cells.entries
+
+abbrev pub shifts_since : State → List ℕ → ℕ → NameMarks → List (ℕ × ℕ × ℕ × ℕ)
+shifts_since v name base marks = flat_map (later marks.key base (shift_of v name)) marks.cells.entries
+
+abbrev pub entry_since : State → List ℕ → KeyValue → ℕ → NameMarks → EntryValue
+entry_since v name key base marks = record {
+  name = name;
+  key = key;
+  hits = hits_since v name base marks;
+  execs = execs_since v name base marks;
+  shifts = shifts_since v name base marks;
+}
+
+-- whether an entry tells a cell
+abbrev pub tells_cells : EntryValue → Bool
+tells_cells e = nat_lt 0 (length e.hits) || (nat_lt 0 (length e.execs) || nat_lt 0 (length e.shifts))
+
+-- an entry, where its key changed or it tells a cell
+abbrev pub entry_told : ℕ → NameMarks → EntryValue → List EntryValue
+entry_told base marks e = if nat_lt base marks.latest && (nat_lt base marks.key || tells_cells e) then e ∷ [] else []
+
+abbrev pub entry_marked : State → List ℕ → Option KeyValue → ℕ → Option NameMarks → List EntryValue
+entry_marked v name (Some key) base (Some marks) = entry_told base marks (entry_since v name key base marks)
+entry_marked v name _ base _ = []
+
+abbrev pub entry_since_at : State → ℕ → Marks → Option (List ℕ) → List EntryValue
+entry_since_at v base marks None = []
+entry_since_at v base marks (Some name) = entry_marked v name (v.key name) base (marks_at marks.names.entries name)
+
+abbrev pub entries_since : State → ℕ → Marks → ℕ → List EntryValue
+entries_since v base marks count = each_below (λ index. entry_since_at v base marks (slice_get v.names index)) count
+
+-- the marks of a name at a place are in order
+abbrev pub IsOrderedAt : Marks → Option (List ℕ) → Type 0
+IsOrderedAt marks None = Unit {0}
+IsOrderedAt marks (Some name) = IfSome (marks_at marks.names.entries name) (λ m. IsOrdered counted_cmp m.cells)

@@ -1,0 +1,213 @@
+//! What changed of a replica with versions after one of them, as a message.
+
+ghost use Rattle.std.specs.Prelude.{◌≡◌, ◌<◌, ◌++◌, ℕ, List, length, map, slice_get, IfOk, OnOk};
+ghost use Rattle.stamp_register.specs.Keys.{key_value};
+ghost use Rattle.delta_exchange.specs.Messages.{entry_value, message_value};
+ghost use Rattle.delta_exchange.specs.Cells.{HitsFit, ExecsFit, ShiftsFit, EntryFits, EntriesFit};
+ghost use Rattle.delta_exchange.specs.Versions.{value_of};
+ghost use Rattle.delta_exchange.specs.Since.{CanBeTold, IsMessageSince, IsOrderedAt, hits_since, execs_since, shifts_since, entry_since, entry_since_at, entries_since, tells_cells};
+
+use crate::marks::{Marks, NameMarks};
+use crate::message::{Message, NameEntry};
+use crate::versioned::Versioned;
+use actions::Name;
+use replica_state::{Counted, Replica};
+use stamp_register::Key;
+use std::alloc::{AllocError, Global};
+
+/// The hits of a name that changed after a version, by node.
+fn hits_since<R: Replica>(
+    alloc: Global,
+    replica: &R,
+    name: &Name,
+    base: u64,
+    marks: &NameMarks,
+) -> Result<Vec<(u8, u64)>, AllocError>
+    ensures fit { IfOk result (λ cells. HitsFit cells.items) }
+    ensures cells { IfOk result (λ cells. cells.items
+        ≡ hits_since (R.state replica.now) name.now base marks.now) }
+{
+    let mut hits = Vec::new(alloc);
+    for (counted, mark) in marks.cells() {
+        if marks.change(*counted, *mark) > base
+            && let Counted::Hits { node } = *counted
+        {
+            let number = replica.hits(name, node);
+            if number != 0 {
+                hits.push((node, number))?;
+            }
+        }
+    }
+    Ok(hits)
+}
+
+/// The executions of a name under its key that changed after a version, by term and node.
+fn execs_since<R: Replica>(
+    alloc: Global,
+    replica: &R,
+    name: &Name,
+    base: u64,
+    marks: &NameMarks,
+) -> Result<Vec<(u8, u8, u64)>, AllocError>
+    ensures fit { IfOk result (λ cells. ExecsFit cells.items) }
+    ensures cells { IfOk result (λ cells. cells.items
+        ≡ execs_since (R.state replica.now) name.now base marks.now) }
+{
+    let mut execs = Vec::new(alloc);
+    for (counted, mark) in marks.cells() {
+        if marks.change(*counted, *mark) > base
+            && let Counted::Execs { term, node } = *counted
+        {
+            let number = replica.exec(name, term, node);
+            if number != 0 {
+                execs.push((term, node, number))?;
+            }
+        }
+    }
+    Ok(execs)
+}
+
+/// What was moved of the rights to the terms of a name under its key and changed after a version,
+/// by term and both nodes.
+fn shifts_since<R: Replica>(
+    alloc: Global,
+    replica: &R,
+    name: &Name,
+    base: u64,
+    marks: &NameMarks,
+) -> Result<Vec<(u8, u8, u8, u64)>, AllocError>
+    ensures fit { IfOk result (λ cells. ShiftsFit cells.items) }
+    ensures cells { IfOk result (λ cells. cells.items
+        ≡ shifts_since (R.state replica.now) name.now base marks.now) }
+{
+    let mut shifts = Vec::new(alloc);
+    for (counted, mark) in marks.cells() {
+        if marks.change(*counted, *mark) > base
+            && let Counted::Shifts { term, from, to } = *counted
+        {
+            let number = replica.moved(name, term, from, to);
+            if number != 0 {
+                shifts.push((term, from, to, number))?;
+            }
+        }
+    }
+    Ok(shifts)
+}
+
+/// What changed of a name under its key after a version.
+fn entry_since<R: Replica>(
+    alloc: Global,
+    replica: &R,
+    name: &Name,
+    key: &Key,
+    base: u64,
+    marks: &NameMarks,
+) -> Result<NameEntry, AllocError>
+    ensures fits { IfOk result (λ e. EntryFits (entry_value e)) }
+    ensures entry { IfOk result (λ e. entry_value e
+        ≡ entry_since (R.state replica.now) name.now (key_value key.now) base marks.now) }
+{
+    Ok(NameEntry {
+        name: name.copied(alloc)?,
+        key: key.copied(alloc)?,
+        hits: hits_since(alloc, replica, name, base, marks)?,
+        execs: execs_since(alloc, replica, name, base, marks)?,
+        shifts: shifts_since(alloc, replica, name, base, marks)?,
+    })
+}
+
+/// Whether an entry tells a cell.
+fn tells_cells(entry: &NameEntry) -> bool
+    ensures { result ≡ tells_cells (entry_value entry.now) }
+{
+    !entry.hits.is_empty() || !entry.execs.is_empty() || !entry.shifts.is_empty()
+}
+
+/// Adds what changed after a version of the name at this place, if anything did.
+fn push_entry_since<R: Replica>(
+    alloc: Global,
+    entries: &mut Vec<NameEntry>,
+    replica: &R,
+    base: u64,
+    marks: &Marks,
+    index: usize,
+) -> Result<(), AllocError>
+    ensures fit { OnOk result (EntriesFit (map entry_value entries.old.items)
+        → EntriesFit (map entry_value entries.new.items)) }
+    ensures ordered { OnOk result
+        (IsOrderedAt marks.now (slice_get (R.state replica.now).names index)) }
+    ensures entries { OnOk result (map entry_value entries.new.items
+        ≡ map entry_value entries.old.items
+        ++ entry_since_at (R.state replica.now) base marks.now
+        (slice_get (R.state replica.now).names index)) }
+{
+    let Some(name) = replica.name_at(index) else {
+        return Ok(());
+    };
+    let Some(marks) = marks.of_name(name) else {
+        return Ok(());
+    };
+    if marks.latest() <= base {
+        return Ok(());
+    }
+    let Some(key) = replica.key(name) else {
+        return Ok(());
+    };
+    let entry = entry_since(alloc, replica, name, key, base, marks)?;
+    if marks.key() > base || tells_cells(&entry) {
+        entries.push(entry)?;
+    }
+    Ok(())
+}
+
+/// What changed after a version, by name.
+#[tactic(auto, unfolding(crate::specs::Cells::each_below))]
+fn entries_since<R: Replica>(
+    alloc: Global,
+    replica: &R,
+    base: u64,
+    marks: &Marks,
+) -> Result<Vec<NameEntry>, AllocError>
+    ensures fit { IfOk result (λ es. EntriesFit (map entry_value es.items)) }
+    ensures ordered { IfOk result (λ _. (index : ℕ) → index < length (R.state replica.now).names
+        → IsOrderedAt marks.now (slice_get (R.state replica.now).names index)) }
+    ensures entries { IfOk result (λ es. map entry_value es.items
+        ≡ entries_since (R.state replica.now) base marks.now
+        (length (R.state replica.now).names)) }
+{
+    let mut entries = Vec::new(alloc);
+    for index in 0..replica.names() {
+        push_entry_since(alloc, &mut entries, replica, base, marks, index)?;
+    }
+    Ok(entries)
+}
+
+impl<R: Replica> Versioned<R> {
+    /// What changed after a version of this replica, as a message from one node of a cluster to
+    /// another: of each name with a key of which anything did its key, and the cells that did and
+    /// aren't 0. Its base is that version.
+    ///
+    /// Of at most 16 nodes and 256 names it is never too long to be written. Only want of memory is
+    /// an error. The cells of a name of which nothing changed aren't looked at, and of others those
+    /// that have a mark.
+    pub fn changed_since(
+        &self,
+        alloc: Global,
+        base: u64,
+        from: u8,
+        to: u8,
+    ) -> Result<Message, AllocError>
+        ensures { IfOk result (λ m. (nodes : ℕ) → CanBeTold nodes from to (value_of R.state self.now).state
+            → IsMessageSince nodes from to base (value_of R.state self.now) (message_value m)) }
+    {
+        let entries = entries_since(alloc, &self.replica, base, &self.marks)?;
+        Ok(Message {
+            from,
+            to,
+            base,
+            upto: self.version(),
+            ack: self.known(to),
+            entries,
+        })
+    }
+}
