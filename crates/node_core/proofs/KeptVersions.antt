@@ -13,7 +13,8 @@ use Rattle.replica_state.proofs.Changes.{changes_is_change}
 use Rattle.delta_exchange.specs.declared.fault.WireFault.{WireFault}
 use Rattle.delta_exchange.specs.Changes.{ChangesAt, IsChangeSince}
 use Rattle.delta_exchange.specs.Messages.{MessageValue, operations_in}
-use Rattle.delta_exchange.specs.Spelling.{SpellsMessage}
+use Rattle.delta_exchange.specs.Since.{IsMessageSince}
+use Rattle.delta_exchange.specs.Spelling.{SpellsMessage, message_bytes}
 use Rattle.delta_exchange.specs.Versions.{VersionedValue, nothing_known, known_raised, acked_raised, ChangesTo, LearnsAll, Issues, Receives}
 use Rattle.node_core.specs.Asks.{Asked, Call, Message, message_of, emit_of}
 use Rattle.node_core.specs.Asks as asks
@@ -273,3 +274,8 @@ told_changes k to bytes value m is spelled sender receiver base upto ack told =
         (subst (λ (b : ℕ). IsIn op (operations_in m) ↔ IsChangeSince value.state value.last b op) (sym base) (told op)) in
         let there = delta_is_changed (node_of k).past (node_of k).marks.version (node_of k).ops value.last (has_history k.config.node k.trace) is.changes m.base reached op in
         ((λ h. there.1 (here.0 h)), (λ d. here.1 (there.0 d)))
+
+-- what a replica with versions makes a message of, since the version that its receiver is known to have
+pub told_since : (k : Kept) (to : ℕ) (value : VersionedValue) (m : MessageValue) → KeepsVersions (node_of k) value → IsMessageSince k.config.nodes k.config.node to (value.acked to) value m → TellsDelta k to (message_bytes m)
+told_since k to value m is since =
+    told_changes k to (message_bytes m) value m is (since.spelled, refl, since.short) since.sender since.receiver since.since since.upto since.ack since.changes
