@@ -12,6 +12,7 @@ use Rattle.replica_state.specs.Knowledge.{is_upto}
 use Rattle.replica_state.proofs.Unions.{fold-union}
 use Rattle.delta_exchange.specs.declared.fault.WireFault.{WireFault}
 use Rattle.delta_exchange.specs.Messages.{MessageValue, operations_in}
+use Rattle.delta_exchange.specs.Since.{CanBeTold}
 use Rattle.delta_exchange.specs.Spelling.{IsBody}
 use Rattle.delta_exchange.specs.Versions.{VersionedValue, nothing_known, ChangesTo, Issues, Receives}
 use Rattle.node_core.specs.declared.config.Config.{Config}
@@ -40,6 +41,17 @@ pub key_above : (k : Kept) (clock : ℕ) (value : VersionedValue) → IsInStepWi
 key_above k clock value is name body =
     subst (λ (v : State). is_upto (Some (new_key k.config.node clock body)) (v.key name) ≡ false) is.1.state_is
     (unknown_key k.config.node clock body (node_of k).ops name is.0.0.carried)
+
+-- a message to another node can tell of it what changed
+pub can_be_told : (k : Kept) (clock : ℕ) (value : VersionedValue) → IsInStepWith k clock value → (to : ℕ) → to < k.config.nodes → to ≢ k.config.node → CanBeTold k.config.nodes k.config.node to value.state
+can_be_told k clock value is to low apart = record {
+  few_nodes = is.0.0.few;
+  sender = is.0.0.own;
+  receiver = low;
+  apart = apart;
+  lawful = ((node_of k).ops, sym is.1.state_is, is.0.1.lawful);
+  few_names = subst (λ (v : State). length v.names ≤ 256) is.1.state_is is.0.1.few_names;
+}
 
 -- the entries of a trace that grew by one
 pub entries_with : (config : Config) (clock : ℕ) (value : VersionedValue) (old mid new : List Entry) (e : Entry) → new ≡ mid ++ e ∷ [] → mid ≡ old →
