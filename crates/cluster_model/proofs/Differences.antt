@@ -1,55 +1,18 @@
 -- What differs between two states of a node brings whoever is above the first above the second; and states of sets
 -- that are below each other are one.
-use Rattle.std.proofs.Common.{◌≡◌, ◌≢◌, ℕ, ◌≤◌, Bool, true, false, List, ◌++◌, ◌⊎◌, inl, inr, refl, sym, ◌∙◌, ap, subst, arith, ⊎_elim, Option, Some, None}
-use Rattle.std.proofs.lemmas.Bool.{true≢false, cases_eq}
-use Rattle.stamp_register.specs.Keys.{KeyValue, same_key}
+use Rattle.std.proofs.Common.{◌≡◌, ◌≢◌, ℕ, ◌≤◌, true, List, ◌++◌, ◌⊎◌, inl, inr, refl, sym, ◌∙◌, ap, subst, arith, ⊎_elim, Option, Some, None}
+use Rattle.std.proofs.lemmas.Bool.{cases_eq}
+use Rattle.stamp_register.specs.Keys.{KeyValue}
 use Rattle.replica_state.specs.Operations.{Hits, Execs, Shifts, Operation, Set, Count, IsIn}
 use Rattle.replica_state.specs.States.{State}
 use Rattle.replica_state.specs.Folds.{fold, key_in, key_of, number_at, at_key, name_in, holds_name}
-use Rattle.replica_state.specs.StateOrder.{IsBelowAt, IsBelow}
+use Rattle.replica_state.specs.StateOrder.{IsBelow}
 use Rattle.replica_state.specs.SetOrder.{below-trans}
 use Rattle.replica_state.specs.Deltas.{IsInDelta, IsDelta}
-use Rattle.replica_state.proofs.Orders.{same_key-true, same_key-refl}
-use Rattle.replica_state.proofs.Sets.{IsIn-append_left, number_at-is_in, KeyUpto, KeyUpto-trans, KeyUpto-antisym, KeyUpto-same, key_of-is_in}
+use Rattle.replica_state.proofs.Sets.{IsIn-append_left, number_at-is_in, KeyUpto, KeyUpto-trans, KeyUpto-antisym, key_of-is_in}
 use Rattle.replica_state.proofs.Names.{HoldsName, names_same, key_named, hit_named}
-use Rattle.replica_state.proofs.KnownSets.{own_name, upto_cases, keys_only, below_not_above, union_above_right}
-
--- keys, where there are any, can be told apart
-cases_key : (a b : Option KeyValue) → (a ≡ b) ⊎ (a ≡ b → ⊥)
-cases_key None None = inl refl
-cases_key None (Some b) = inr (λ e. cc)
-cases_key (Some a) None = inr (λ e. cc)
-cases_key (Some a) (Some b) = at (same_key a b) refl
-  where
-    at : (t : Bool) → same_key a b ≡ t → (◌≡◌ {A = Option KeyValue} (Some a) (Some b)) ⊎ (◌≡◌ {A = Option KeyValue} (Some a) (Some b) → ⊥)
-    at true e = inl (ap Some (same_key-true a b e))
-    at false e = inr (λ (s : ◌≡◌ {A = Option KeyValue} (Some a) (Some b)).
-        let same : a ≡ b = cc in
-        true≢false (sym (subst (λ k. same_key a k ≡ true) same (same_key-refl a)) ∙ e))
-
--- ---- the order of states with no cases: keys at most, and cells at most where the keys are one
-
-record IsUptoAt (v w : State) (name : List ℕ) : Type 0 where
-  pub key : KeyUpto (v.key name) (w.key name)
-  pub hits : (node : ℕ) → v.hits name node ≤ w.hits name node
-  pub execs : v.key name ≡ w.key name → (term node : ℕ) → v.execs name term node ≤ w.execs name term node
-  pub shifts : v.key name ≡ w.key name → (term from to : ℕ) → v.shifts name term from to ≤ w.shifts name term from to
-
-upto_below : (v w : State) (name : List ℕ) → IsBelowAt v w name → IsUptoAt v w name
-upto_below v w name h =
-    record {
-      key = keys_only name v w h;
-      hits = h.hits;
-      execs = λ e. ⊎_elim (λ k. absurd (below_not_above _ _ k (KeyUpto-same _ _ (sym e)))) (λ k. k.1) h.cells;
-      shifts = λ e. ⊎_elim (λ k. absurd (below_not_above _ _ k (KeyUpto-same _ _ (sym e)))) (λ k. k.2) h.cells;
-    }
-
-below_upto : (v w : State) (name : List ℕ) → IsUptoAt v w name → IsBelowAt v w name
-below_upto v w name h =
-    record {
-      hits = h.hits;
-      cells = ⊎_elim (λ k. inl k) (λ e. inr (e, h.execs e, h.shifts e)) (upto_cases (v.key name) (w.key name) h.key);
-    }
+use Rattle.replica_state.proofs.KnownSets.{own_name, keys_only, union_above_right}
+use Rattle.node_core.proofs.UptoStates.{IsUptoAt, cases_key, upto_below, below_upto}
 
 -- ---- states of sets that are below each other are one
 

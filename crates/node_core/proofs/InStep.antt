@@ -22,7 +22,7 @@ use Rattle.node_core.specs.Deliveries.{IsDelivery}
 use Rattle.node_core.proofs.Kept.{issue_kept, load_kept, pass_kept, shift_kept, emit_kept, deliver_kept}
 use Rattle.node_core.proofs.KeptTelling.{issue_tell, load_tell, pass_tell, shift_tell, emit_tell, deliver_tell}
 
-abbrev with_call : Kept → Call → Kept
+abbrev pub with_call : Kept → Call → Kept
 with_call k c = record { config = k.config; trace = k.trace ++ c ∷ [] }
 
 -- the entries of a trace that grew by one

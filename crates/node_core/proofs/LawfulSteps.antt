@@ -163,7 +163,8 @@ fresh_key : (i clock : ℕ) (body : Option (List ℕ)) (held : Option KeyValue) 
 fresh_key i clock body None h = refl
 fresh_key i clock body (Some a) h = let low : a.clock < clock + 1 = later_some (new_key i clock body) a h in grind (arith, nat_tests)
 
-unknown_key : (i clock : ℕ) (body : Option (List ℕ)) (known : List Operation) (name : List ℕ) → clock_of known ≤ clock → is_upto (Some (new_key i clock body)) ((fold known).key name) ≡ false
+-- a key that a node issues is above each that it knows
+pub unknown_key : (i clock : ℕ) (body : Option (List ℕ)) (known : List Operation) (name : List ℕ) → clock_of known ≤ clock → is_upto (Some (new_key i clock body)) ((fold known).key name) ≡ false
 unfolding fold
 unknown_key i clock body known name low = fresh_key i clock body (key_of name known) (all_later (new_key i clock body) name known (omega (arith, low)))
 

@@ -27,3 +27,7 @@ pub mod Pasts
 pub mod RepliedDelta
 pub mod OneMessage
 pub mod OneSpelling
+pub mod UptoStates
+pub mod Changed
+pub mod KeptVersions
+pub mod VersionsInStep

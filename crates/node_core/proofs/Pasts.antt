@@ -26,10 +26,10 @@ abbrev pub HasHistory : Node → Type 0
 HasHistory n = IsHistory n.past n.marks.version (fold n.ops)
 
 -- the version after operations are added
-abbrev next_version : ℕ → State → List Operation → ℕ
+abbrev pub next_version : ℕ → State → List Operation → ℕ
 next_version version now added = version + cond (changes now added) 1 0
 
-past_now : (version : ℕ) (now : State) (past : ℕ → State) → past_with version now past version ≡ now
+pub past_now : (version : ℕ) (now : State) (past : ℕ → State) → past_with version now past version ≡ now
 past_now version now past = at (version == version) (eq-eqb version version refl)
   where
     at : (t : Bool) → t ≡ true → cond t now (past version) ≡ now
@@ -58,7 +58,7 @@ module _ (past : ℕ → State) (version : ℕ) (ops added : List Operation) (ha
   past_then = past_with next (fold (added ++ ops)) past
 
   -- no step alters what was
-  past_same : (v : ℕ) → v ≤ version → past_then v ≡ past v
+  pub past_same : (v : ℕ) → v ≤ version → past_then v ≡ past v
   past_same v l = at (changes (fold ops) added) refl
     where
       at : (t : Bool) → changes (fold ops) added ≡ t → past_with (version + cond t 1 0) (fold (added ++ ops)) past v ≡ past v

@@ -13,3 +13,4 @@ pub mod Texts
 pub mod Deliveries
 pub mod Memory
 pub mod Applied
+pub mod KeptVersions

@@ -1,5 +1,5 @@
 -- The step of one node: what an accepted ask adds to its operations, its marks after it, and the reply.
-use Rattle.std.specs.Prelude.{ℕ, ◌+◌, max, ◌==◌, ◌&&◌, nat_lt, nat_le, List, [], ◌∷◌, ◌++◌, length, map, if◌then◌else◌, Option, Some, None, Result, Ok, Err}
+use Rattle.std.specs.Prelude.{ℕ, ◌+◌, max, ◌==◌, List, [], ◌∷◌, ◌++◌, length, map, if◌then◌else◌, Option, Some, None, Result, Ok, Err}
 use Rattle.actions.specs.Value.{TermValue}
 use Rattle.actions.specs.Canonical.{canonical}
 use Rattle.actions.specs.Reading.{reading}
@@ -12,6 +12,7 @@ use Rattle.replica_state.specs.States.{State}
 use Rattle.replica_state.specs.Folds.{fold, clock_of}
 use Rattle.replica_state.specs.Knowledge.{changes}
 use Rattle.delta_exchange.specs.declared.fault.WireFault.{WireFault}
+use Rattle.delta_exchange.specs.Versions.{known_raised, acked_raised}
 use Rattle.node_core.specs.Asks.{Asked, Answered, Message, Versions}
 use Rattle.node_core.specs.Asks as asks
 use Rattle.node_core.specs.Nodes.{Node, Marks, state_shown}
@@ -85,16 +86,17 @@ clock_after n (asks.Shift name term to amount) = n.marks.clock
 clock_after n (asks.Emit to versions chosen) = n.marks.clock
 clock_after n (asks.Deliver read) = max n.marks.clock (clock_of (message_in read).ops)
 
--- a message raises what is known of its sender, if nothing lies between what was known and its base
+-- a message raises what is known of its sender, if nothing lies between what was known and its base, and
+-- what the sender is known to know
 abbrev pub known_by : Message → (ℕ → ℕ) → ℕ → ℕ
-known_by m known j = if j == m.from && (nat_le m.base (known j) && nat_lt (known j) m.upto) then m.upto else known j
+known_by m = known_raised m.from m.base m.upto
 
 abbrev pub known_after : Node → Asked → ℕ → ℕ
 known_after n (asks.Deliver read) = known_by (message_in read) n.marks.known
 known_after n _ = n.marks.known
 
 abbrev pub acked_by : Message → (ℕ → ℕ) → ℕ → ℕ
-acked_by m acked j = if j == m.from then max (acked j) m.ack else acked j
+acked_by m = acked_raised m.from m.ack
 
 abbrev pub acked_after : Node → Asked → ℕ → ℕ
 acked_after n (asks.Deliver read) = acked_by (message_in read) n.marks.acked
