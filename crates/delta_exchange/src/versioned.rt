@@ -98,7 +98,7 @@ impl<R: Replica> Versioned<R> {
         let marked = name.copied(alloc)?;
         self.replica.set_key(alloc, name, key)?;
         self.version += 1;
-        self.marks.mark(&marked, true, None, self.version);
+        self.marks.renew(&marked, self.version);
         Ok(())
     }
 
