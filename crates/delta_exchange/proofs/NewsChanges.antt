@@ -260,4 +260,4 @@ news_change base told m version some upto =
     version some m (with_news version (news_in (fold base) told) m)
     (marks_upto version (news_in (fold base) told) m upto)
     (keys_marked (fold base) version (unknown_in (fold base) told) m)
-    (cells_marked (fold base) version (unknown_in (fold base) told) m)
+    (λ n c _. cells_marked (fold base) version (unknown_in (fold base) told) m n c)

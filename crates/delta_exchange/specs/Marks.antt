@@ -1,5 +1,5 @@
 -- When each key and each cell last changed, as the code keeps it: the marks of each name.
-use Rattle.std.specs.Prelude.{ℕ, ◌≤◌, ◌==◌, max, IsTrue, Bool, false, true, ◌&&◌, List, if◌then◌else◌, Option, Some, None, is_some}
+use Rattle.std.specs.Prelude.{ℕ, ◌≤◌, ◌==◌, max, IsTrue, Bool, not, false, true, ◌&&◌, List, if◌then◌else◌, Option, Some, None, is_some}
 use Rattle.std.specs.Option.{unwrap_or}
 use Rattle.std.specs.Str.{bytes_eq}
 use Rattle.std.specs.Map.{lookup}
@@ -74,6 +74,15 @@ with_mark name new_key counted version m =
       latest = λ n. if bytes_eq name n then version else m.latest n;
       key = λ n. if bytes_eq name n && new_key then version else m.key n;
       cell = λ n c. if bytes_eq name n && is_of counted c then version else m.cell n c;
+    }
+
+-- with a version as the mark of a name's new key, and none of the cells of the old one
+unfoldable pub with_new_key : List ℕ → ℕ → MarksValue → MarksValue
+with_new_key name version m =
+    record {
+      latest = λ n. if bytes_eq name n then version else m.latest n;
+      key = λ n. if bytes_eq name n then version else m.key n;
+      cell = λ n c. if bytes_eq name n && not (is_hits c) then 0 else m.cell n c;
     }
 
 -- no mark is above the version

@@ -55,4 +55,5 @@ HaveRoom marks (told ∷ rest) = IsTrue (has_room marks told.name.now (counted_o
 -- marks with a version for all that is new
 abbrev pub with_news : ℕ → List (Operation × Bool) → MarksValue → MarksValue
 with_news version [] m = m
-with_news version (n ∷ ns) m = with_news version ns (with_mark (name_in n.0) n.1 (counted_of (count_told n.0)) version m)
+with_news version (n ∷ ns) m =
+    with_news version ns (with_mark (name_in n.0) n.1 (counted_of (count_told n.0)) version m)

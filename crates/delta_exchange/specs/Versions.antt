@@ -51,7 +51,8 @@ nothing_known = record { state = fold []; version = 0; known = λ j. 0; acked = 
 -- the known version of a sender is raised to the one that it tells, if nothing lies between what was
 -- known and the base of what it tells
 abbrev pub known_raised : ℕ → ℕ → ℕ → (ℕ → ℕ) → ℕ → ℕ
-known_raised from base upto known j = if j == from && (nat_le base (known j) && nat_lt (known j) upto) then upto else known j
+known_raised from base upto known j =
+    if j == from && (nat_le base (known j) && nat_lt (known j) upto) then upto else known j
 
 -- the acknowledged version of a sender is raised to the one that it acknowledges
 abbrev pub acked_raised : ℕ → ℕ → (ℕ → ℕ) → ℕ → ℕ

@@ -1,11 +1,11 @@
 //! When each key and each cell last changed, by versions.
 #![tactic(auto, unfolding(crate::specs::Marks::marks_value, crate::specs::Marks::has_room))]
 
-ghost use Rattle.std.specs.Prelude.{◌≡◌, IsTrue, ℕ, List, [], Option, Some, None, true, if◌then◌else◌, option_map, IfSome, OnOk, OnErr};
+ghost use Rattle.std.specs.Prelude.{◌≡◌, IsTrue, ℕ, List, [], Option, Some, None, true, if◌then◌else◌, filter, option_map, IfSome, OnOk, OnErr};
 ghost use Rattle.std.specs.BTreeMap.{IsOrdered};
 ghost use Rattle.replica_state.specs.Points.{counted_cmp, is_hits};
 ghost use Rattle.replica_state.specs.declared.point.Counted.{Counted};
-ghost use Rattle.delta_exchange.specs.Marks.{KeepsRoom, cell_change, cell_of, has_cell, has_room, is_of, key_of, latest_of, marks_at, marks_value, with_mark};
+ghost use Rattle.delta_exchange.specs.Marks.{KeepsRoom, cell_change, cell_of, has_cell, has_room, is_of, key_of, latest_of, marks_at, marks_value, with_mark, with_new_key};
 
 use actions::Name;
 use replica_state::Counted;
@@ -112,6 +112,18 @@ impl NameMarks {
             }
         }
     }
+
+    // Marks a new key, under which nothing is counted yet: cells of the old one lose their marks.
+    fn renew(&mut self, version: u64)
+        ensures latest { self.new.latest ≡ version }
+        ensures key { self.new.key ≡ version }
+        ensures cells { self.new.cells.entries
+            ≡ filter (λ e. is_hits e.0) self.old.cells.entries }
+    {
+        self.latest = version;
+        self.key = version;
+        self.cells.retain(|counted, _| counted.is_hits());
+    }
 }
 
 impl Marks {
@@ -173,6 +185,17 @@ impl Marks {
     {
         if let Some(marks) = self.names.get_mut(name) {
             marks.mark(new_key, counted, version);
+        }
+    }
+
+    /// Marks a name with a version for a new key, under which nothing is counted yet. Hits go on.
+    pub(crate) fn renew(&mut self, name: &Name, version: u64)
+        requires { IsTrue (has_room self.old name.now None) }
+        ensures { marks_value self.new
+            ≡ with_new_key name.now version (marks_value self.old) }
+    {
+        if let Some(marks) = self.names.get_mut(name) {
+            marks.renew(version);
         }
     }
 }

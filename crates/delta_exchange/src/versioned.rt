@@ -88,17 +88,19 @@ impl<R: Replica> Versioned<R> {
 
     /// Gives a point a key above the one that it has. Where memory is refused, nothing has changed.
     pub fn set_key(&mut self, alloc: Global, name: Name, key: Key) -> Result<(), AllocError>
-        requires above { is_upto (Some (key_value key)) ((value_of R.state self.old).state.key name) ≡ false }
+        requires above { is_upto (Some (key_value key))
+            ((value_of R.state self.old).state.key name) ≡ false }
         requires version { (value_of R.state self.old).version + 1 < 2 ^ 64 }
         ensures ok { OnOk result (ChangesTo (value_of R.state self.old)
-            (with_key name (key_value key) (value_of R.state self.old).state) (value_of R.state self.new)) }
+            (with_key name (key_value key) (value_of R.state self.old).state)
+            (value_of R.state self.new)) }
         ensures err { OnErr result (value_of R.state self.new ≡ value_of R.state self.old) }
     {
         self.marks.make_room(alloc, &name, None)?;
         let marked = name.copied(alloc)?;
         self.replica.set_key(alloc, name, key)?;
         self.version += 1;
-        self.marks.mark(&marked, true, None, self.version);
+        self.marks.renew(&marked, self.version);
         Ok(())
     }
 
@@ -113,10 +115,12 @@ impl<R: Replica> Versioned<R> {
     ) -> Result<(), AllocError>
         requires set { IsSome ((value_of R.state self.old).state.key name.now) }
         requires hits { (value_of R.state self.old).state.hits name.now node + 1 < 2 ^ 64 }
-        requires execs { (term : ℕ) → (value_of R.state self.old).state.execs name.now term node + 1 < 2 ^ 64 }
+        requires execs { (term : ℕ)
+            → (value_of R.state self.old).state.execs name.now term node + 1 < 2 ^ 64 }
         requires version { (value_of R.state self.old).version + 1 < 2 ^ 64 }
         ensures ok { OnOk result (ChangesTo (value_of R.state self.old)
-            (with_pass name.now node spent (value_of R.state self.old).state) (value_of R.state self.new)) }
+            (with_pass name.now node spent (value_of R.state self.old).state)
+            (value_of R.state self.new)) }
         ensures err { OnErr result (value_of R.state self.new ≡ value_of R.state self.old) }
     {
         let hits = Some(Counted::Hits { node });
@@ -143,10 +147,12 @@ impl<R: Replica> Versioned<R> {
     ) -> Result<(), AllocError>
         requires set { IsSome ((value_of R.state self.old).state.key name.now) }
         requires hits { (value_of R.state self.old).state.hits name.now node + 1 < 2 ^ 64 }
-        requires execs { (term : ℕ) → (value_of R.state self.old).state.execs name.now term node + 1 < 2 ^ 64 }
+        requires execs { (term : ℕ)
+            → (value_of R.state self.old).state.execs name.now term node + 1 < 2 ^ 64 }
         requires version { (value_of R.state self.old).version + 1 < 2 ^ 64 }
         ensures ok { OnOk result (ChangesTo (value_of R.state self.old)
-            (with_pass name.now node spent (value_of R.state self.old).state) (value_of R.state self.new)) }
+            (with_pass name.now node spent (value_of R.state self.old).state)
+            (value_of R.state self.new)) }
         ensures err { OnErr result (value_of R.state self.new ≡ value_of R.state self.old) }
     {
         let hits = Some(Counted::Hits { node });
