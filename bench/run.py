@@ -16,6 +16,15 @@ EXCHANGES = (2_000, 4_000)
 KEYS = (100_000, 200_000)
 ROUNDS = 11
 
+# Points that 16 nodes know before they take turns: as many turns as take a second, or so many.
+KNOWN_POINTS = (16, 64, 256)
+SECONDS_OF_TURNS = 1
+MOST_TURNS = 65_536
+ROUNDS_OF_TURNS = 3
+# A message is delivered again until its copies take so many MiB, or so often.
+MIB_OF_COPIES = 32
+MOST_COPIES = 262_144
+
 # The actions of each point, and what follows the point's name in each pass. The long text is 1,000
 # bytes, of which each pass runs the first term.
 SETTINGS = {
@@ -82,6 +91,42 @@ def exchange_script(nodes, exchanges):
     return "\n".join(lines).encode()
 
 
+class Turns:
+    """A script of 16 nodes that know points with 16 counted terms. They take turns: a node passes a point and tells the
+    other node of its pair, which then tells it. Before the turns that are asked for each node has had one, so that each
+    knows by then which version of it the other knows."""
+
+    def __init__(self, points, turns):
+        self.lines = ["nodes 16 4294967295"]
+        self.receivers = []
+        self.tell(2, 3)
+        actions = "->".join(["1000000*off"] * 16)
+        for point in range(points):
+            self.lines.append(f"set 0 p{point} {actions}")
+            self.lines += [f"shift 0 p{point} 0 {to} 60000" for to in range(1, 16)]
+        for receiver in range(1, 16):
+            self.tell(0, receiver)
+        for turn in range(16 + turns):
+            node = turn % 16
+            self.lines.append(f"pass {node} p{(turn + turn // 16) % points}")
+            self.tell(node, node ^ 1)
+            self.tell(node ^ 1, node)
+        self.changes = 15 + 16 + turns
+
+    def tell(self, sender, receiver):
+        """A message that is delivered at once."""
+        self.lines += [f"emit {sender} {receiver}", f"deliver {receiver} {len(self.receivers)}"]
+        self.receivers.append(receiver)
+
+    def deliver_again(self, message, times):
+        """The last message is also -1."""
+        message %= len(self.receivers)
+        self.lines += [f"deliver {self.receivers[message]} {message}"] * times
+
+    def run(self, program):
+        return run(program, "\n".join(self.lines).encode(), b"changed", self.changes)
+
+
 def run(program, text, answer, count):
     """Seconds of a processor, and the most memory in MiB. So many lines begin with the answer."""
     with tempfile.TemporaryFile() as source, tempfile.TemporaryFile() as output:
@@ -135,6 +180,42 @@ def time_exchanges(program):
         print(f"{nodes:<7}{first / few * 1e6:>22.1f}{second / many * 1e6:>8.1f}{second / first:>7.2f}{memory:>10.1f}")
 
 
+def seconds_of_turns(program, points, turns):
+    """What so many turns take beyond those before them, the best of the rounds, and the most memory."""
+    rounds = [[Turns(points, count).run(program) for count in (0, turns)] for _ in range(ROUNDS_OF_TURNS)]
+    before, all_turns = (min(seconds for seconds, _ in runs) for runs in zip(*rounds))
+    return all_turns - before, max(most for runs in rounds for _, most in runs)
+
+
+def bytes_kept(program, points, message):
+    """What a node keeps of one delivery of a message: so many more of them take so much more memory."""
+    memory, times = {}, 256
+    while True:
+        for count in (times, 2 * times):
+            turns = Turns(points, 16)
+            turns.deliver_again(message, count)
+            memory[count] = turns.run(program)[1]
+        if memory[times] >= MIB_OF_COPIES or times == MOST_COPIES:
+            return (memory[2 * times] - memory[times]) * 2**20 / times
+        times *= 4
+
+
+def time_turns(program):
+    print(f"\n{'points':<8}{'turns n':>8}{'us a turn, n':>14}{'2n':>9}{'ratio':>7}{'bytes there':>13}{'back':>8}{'most MiB':>10}")
+    # Message 0 tells nothing, in 32 bytes.
+    beside = bytes_kept(program, KNOWN_POINTS[0], 0) - 32
+    for points in KNOWN_POINTS:
+        few = 16
+        while (first := seconds_of_turns(program, points, few)[0]) < SECONDS_OF_TURNS and few < MOST_TURNS:
+            few *= 2
+        second, memory = seconds_of_turns(program, points, 2 * few)
+        there, back = (bytes_kept(program, points, message) - beside for message in (-2, -1))
+        print(
+            f"{points:<8}{few:>8}{first / few * 1e6:>14.1f}{second / few / 2 * 1e6:>9.1f}{second / first:>7.2f}"
+            f"{there:>13.0f}{back:>8.0f}{memory:>10.1f}"
+        )
+
+
 def spent(program, *words):
     """Seconds of a processor, and the most memory in MiB."""
     child = subprocess.Popen([program, *map(str, words)], stdout=subprocess.DEVNULL)
@@ -183,6 +264,7 @@ def main():
     time_passes(failreg)
     time_calls(failreg)
     time_exchanges(failreg)
+    time_turns(failreg)
     time_maps(build("map_times", "build", "1"))
     time_messages(build("message_times", "encode", "1", "1"))
 

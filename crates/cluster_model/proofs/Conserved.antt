@@ -4,7 +4,7 @@ use Rattle.std.proofs.lemmas.Bool.{eqb-true, and_parts}
 use Rattle.std.proofs.lemmas.Int.{ints}
 use Rattle.std.specs.Prelude.{ℤ, pos, ◌+ℤ◌, ◌≤ℤ◌}
 use Rattle.std.specs.Str.{bytes_eq}
-use Rattle.counters.specs.Sums.{numbers, sum_below, int_sum_below}
+use Rattle.counters.specs.Sums.{node_numbers, sum_below, int_sum_below}
 use Rattle.counters.proofs.SumLemmas.{sum-same, sum-add, sum-at, sum-swap, sum_others-is, sum-narrow, int_sum-pos}
 use Rattle.stamp_register.specs.Keys.{KeyValue, stamp_of}
 use Rattle.replica_state.specs.Operations.{Shifts, Operation, Count, count_of}
@@ -91,7 +91,7 @@ add_up a b c d e f g h p q r s = omega arith
 less_back : (a b : ℕ) → b ≤ a → a ≡ a - b + b
 less_back a b h = omega arith
 
-pub conserved : (c : Cluster) (es : List Event) → c.nodes ≤ numbers → IsSchedule c es → (name : List ℕ) (key : KeyValue) (term count : ℕ) → IsIssued c es name key → count_of key term ≡ Some count → IsConserved c es name key term count
+pub conserved : (c : Cluster) (es : List Event) → c.nodes ≤ node_numbers → IsSchedule c es → (name : List ℕ) (key : KeyValue) (term count : ℕ) → IsIssued c es name key → count_of key term ≡ Some count → IsConserved c es name key term count
 conserved c es few s name key term count h counted =
     record {
       none_owed = λ i. subst (λ z. pos 0 ≤ℤ z) (sym (of i).is) (omega (arith, ints));
@@ -148,8 +148,8 @@ conserved c es few s name key term count h counted =
 
     each : (i : ℕ) → rights_of i + (sum_below n (m i) + x i) ≡ cond (i == key.node) count 0 + sum_below n (λ j. v j i)
     each i =
-        let out = sum_others-is numbers i (m i) (moved_to_self c es name key term i) ∙ sum-narrow n numbers (m i) few (λ j l. moved_not_to c es name key term i j (λ ne k. not_both j l k)) in
-        let came = sum_others-is numbers i (λ j. v j i) (no_seen i) ∙ sum-narrow n numbers (λ j. v j i) few (λ j l. seen_by_none j i l) in
+        let out = sum_others-is node_numbers i (m i) (moved_to_self c es name key term i) ∙ sum-narrow n node_numbers (m i) few (λ j l. moved_not_to c es name key term i j (λ ne k. not_both j l k)) in
+        let came = sum_others-is node_numbers i (λ j. v j i) (no_seen i) ∙ sum-narrow n node_numbers (λ j. v j i) few (λ j l. seen_by_none j i l) in
         (λ r. rights_of i + (sym out r + x i)) ∙ (of i).adds_up ∙ ap (λ y. cond (i == key.node) count 0 + y) came
 
     all : sum_below n rights_of + (sum_below n (λ i. sum_below n (m i)) + spent) ≡ sum_below n (λ i. cond (i == key.node) count 0) + sum_below n (λ i. sum_below n (λ j. v j i))

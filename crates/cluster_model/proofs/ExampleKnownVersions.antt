@@ -7,7 +7,7 @@ use Rattle.std.specs.Str.{bytes_eq}
 use Rattle.actions.specs.Choice.{choice}
 use Rattle.actions.specs.Numbers.{number_at, short_number_at, decimals_at, percent_at}
 use Rattle.actions.specs.Reading.{pieces, trimmed_text, argument_at, chance_at, count_at, time_at, task_at, term_at, terms_at, reading}
-use Rattle.counters.specs.Sums.{numbers}
+use Rattle.counters.specs.Sums.{node_numbers}
 use Rattle.stamp_register.specs.Keys.{KeyValue, terms_in_text}
 use Rattle.replica_state.specs.Operations.{Hits, Execs, Shifts, Operation, Set, Count, IsIn, same_cell}
 use Rattle.replica_state.specs.States.{State, with_key}
@@ -167,7 +167,7 @@ answered : answers (nodes 2) script ≡
     Some (asks.IsSet (stamp 2 0)) ∷
     Some (asks.IsEmitted (Ok third)) ∷
     Some (asks.IsDelivered true) ∷ []
-unfolding digits numbers after fold same_cell terms_in_text choice number_at short_number_at decimals_at percent_at pieces trimmed_text argument_at chance_at count_at time_at task_at term_at terms_at reading
+unfolding digits node_numbers after fold same_cell terms_in_text choice number_at short_number_at decimals_at percent_at pieces trimmed_text argument_at chance_at count_at time_at task_at term_at terms_at reading
 answered = refl
 
 differs_a : IsDelta (fold []) (fold (Set a key_a ∷ [])) (Set a key_a ∷ [])
@@ -179,27 +179,27 @@ unfolding fold
 differs_b = set_differs b key_b (Set a key_a ∷ Set a key_a ∷ []) (omega arith) (λ e. cc)
 
 heard_is_schedule : IsDeltaSchedule (nodes 2) (reverse heard)
-unfolding digits numbers after fold same_cell terms_in_text choice number_at short_number_at decimals_at percent_at pieces trimmed_text argument_at chance_at count_at time_at task_at term_at terms_at reading
+unfolding digits node_numbers after fold same_cell terms_in_text choice number_at short_number_at decimals_at percent_at pieces trimmed_text argument_at chance_at count_at time_at task_at term_at terms_at reading
 heard_is_schedule = (inr (inl refl), ((refl, differs_a), (inl refl, ((refl, differs_a), (tt, tt)))))
 
 is_schedule : IsDeltaSchedule (nodes 2) (reverse script)
-unfolding digits numbers after fold same_cell terms_in_text choice number_at short_number_at decimals_at percent_at pieces trimmed_text argument_at chance_at count_at time_at task_at term_at terms_at reading
+unfolding digits node_numbers after fold same_cell terms_in_text choice number_at short_number_at decimals_at percent_at pieces trimmed_text argument_at chance_at count_at time_at task_at term_at terms_at reading
 is_schedule = (inr (inr (inl refl)), ((refl, differs_b), (tt, heard_is_schedule)))
 
 -- each knows the other's present version, and they hold the same state
 known_by_0 : ((world (nodes 2) (reverse heard)).node 0).marks.known 1 ≡ ((world (nodes 2) (reverse heard)).node 1).marks.version
-unfolding digits numbers after fold same_cell terms_in_text choice number_at short_number_at decimals_at percent_at pieces trimmed_text argument_at chance_at count_at time_at task_at term_at terms_at reading
+unfolding digits node_numbers after fold same_cell terms_in_text choice number_at short_number_at decimals_at percent_at pieces trimmed_text argument_at chance_at count_at time_at task_at term_at terms_at reading
 known_by_0 = refl
 
 known_by_1 : ((world (nodes 2) (reverse heard)).node 1).marks.known 0 ≡ ((world (nodes 2) (reverse heard)).node 0).marks.version
-unfolding digits numbers after fold same_cell terms_in_text choice number_at short_number_at decimals_at percent_at pieces trimmed_text argument_at chance_at count_at time_at task_at term_at terms_at reading
+unfolding digits node_numbers after fold same_cell terms_in_text choice number_at short_number_at decimals_at percent_at pieces trimmed_text argument_at chance_at count_at time_at task_at term_at terms_at reading
 known_by_1 = refl
 
 same_then : state_of (nodes 2) (reverse heard) 0 ≡ state_of (nodes 2) (reverse heard) 1
 same_then = known_is_same (nodes 2) (reverse heard) heard_is_schedule 0 1 known_by_1 known_by_0
 
 known_at_last : ((world (nodes 2) (reverse script)).node 1).marks.known 0 ≡ 2
-unfolding digits numbers after fold same_cell terms_in_text choice number_at short_number_at decimals_at percent_at pieces trimmed_text argument_at chance_at count_at time_at task_at term_at terms_at reading
+unfolding digits node_numbers after fold same_cell terms_in_text choice number_at short_number_at decimals_at percent_at pieces trimmed_text argument_at chance_at count_at time_at task_at term_at terms_at reading
 known_at_last = refl
 
 -- ---- what is known where messages were lost, by messages of node 0 to node 1 that tell nothing else

@@ -6,7 +6,7 @@ use Rattle.actions.specs.Value.{off}
 use Rattle.actions.specs.Choice.{choice}
 use Rattle.actions.specs.Numbers.{number_at, short_number_at, decimals_at, percent_at}
 use Rattle.actions.specs.Reading.{pieces, trimmed_text, argument_at, chance_at, count_at, time_at, task_at, term_at, terms_at, reading}
-use Rattle.counters.specs.Sums.{numbers}
+use Rattle.counters.specs.Sums.{node_numbers}
 use Rattle.stamp_register.specs.Keys.{KeyValue, terms_in_text}
 use Rattle.replica_state.specs.Operations.{Hits, Execs, Shifts, Operation, Set, Count, IsIn, same_cell}
 use Rattle.replica_state.specs.States.{rights_of, spent_of}
@@ -34,36 +34,36 @@ abbrev both : List Operation
 both = Count (Shifts a key 0 0 1) 1 ∷ spend
 
 setter_before : rights_of (fold spend) a 0 0 ≡ pos 2
-unfolding digits numbers after fold same_cell terms_in_text choice number_at short_number_at decimals_at percent_at pieces trimmed_text argument_at chance_at count_at time_at task_at term_at terms_at reading
+unfolding digits node_numbers after fold same_cell terms_in_text choice number_at short_number_at decimals_at percent_at pieces trimmed_text argument_at chance_at count_at time_at task_at term_at terms_at reading
 setter_before = refl
 
 spender_before : rights_of (fold spend) a 0 1 ≡ pos 0 -ℤ pos 1
-unfolding digits numbers after fold same_cell terms_in_text choice number_at short_number_at decimals_at percent_at pieces trimmed_text argument_at chance_at count_at time_at task_at term_at terms_at reading
+unfolding digits node_numbers after fold same_cell terms_in_text choice number_at short_number_at decimals_at percent_at pieces trimmed_text argument_at chance_at count_at time_at task_at term_at terms_at reading
 spender_before = refl
 
 spent_before : spent_of (fold spend) a 0 ≡ 1
-unfolding digits numbers after fold same_cell terms_in_text choice number_at short_number_at decimals_at percent_at pieces trimmed_text argument_at chance_at count_at time_at task_at term_at terms_at reading
+unfolding digits node_numbers after fold same_cell terms_in_text choice number_at short_number_at decimals_at percent_at pieces trimmed_text argument_at chance_at count_at time_at task_at term_at terms_at reading
 spent_before = refl
 
 setter_then : rights_of (fold both) a 0 0 ≡ pos 1
-unfolding digits numbers after fold same_cell terms_in_text choice number_at short_number_at decimals_at percent_at pieces trimmed_text argument_at chance_at count_at time_at task_at term_at terms_at reading
+unfolding digits node_numbers after fold same_cell terms_in_text choice number_at short_number_at decimals_at percent_at pieces trimmed_text argument_at chance_at count_at time_at task_at term_at terms_at reading
 setter_then = refl
 
 spender_then : rights_of (fold both) a 0 1 ≡ pos 0
-unfolding digits numbers after fold same_cell terms_in_text choice number_at short_number_at decimals_at percent_at pieces trimmed_text argument_at chance_at count_at time_at task_at term_at terms_at reading
+unfolding digits node_numbers after fold same_cell terms_in_text choice number_at short_number_at decimals_at percent_at pieces trimmed_text argument_at chance_at count_at time_at task_at term_at terms_at reading
 spender_then = refl
 
 spent_then : spent_of (fold both) a 0 ≡ 1
-unfolding digits numbers after fold same_cell terms_in_text choice number_at short_number_at decimals_at percent_at pieces trimmed_text argument_at chance_at count_at time_at task_at term_at terms_at reading
+unfolding digits node_numbers after fold same_cell terms_in_text choice number_at short_number_at decimals_at percent_at pieces trimmed_text argument_at chance_at count_at time_at task_at term_at terms_at reading
 spent_then = refl
 
 -- either again, or an earlier copy, changes nothing
 nothing_new : changes (fold both) both ≡ false
-unfolding digits numbers after fold same_cell terms_in_text choice number_at short_number_at decimals_at percent_at pieces trimmed_text argument_at chance_at count_at time_at task_at term_at terms_at reading
+unfolding digits node_numbers after fold same_cell terms_in_text choice number_at short_number_at decimals_at percent_at pieces trimmed_text argument_at chance_at count_at time_at task_at term_at terms_at reading
 nothing_new = refl
 
 earlier_copy : changes (fold both) spend ≡ false
-unfolding digits numbers after fold same_cell terms_in_text choice number_at short_number_at decimals_at percent_at pieces trimmed_text argument_at chance_at count_at time_at task_at term_at terms_at reading
+unfolding digits node_numbers after fold same_cell terms_in_text choice number_at short_number_at decimals_at percent_at pieces trimmed_text argument_at chance_at count_at time_at task_at term_at terms_at reading
 earlier_copy = refl
 
 same_state : fold (both ++ both) ≡ fold both
@@ -102,11 +102,11 @@ answered : answers (nodes 3) later ≡
     Some (asks.IsDelivered true) ∷
     Some (asks.IsEmitted (Ok (message 0 2 2 moves))) ∷
     Some (asks.IsDelivered true) ∷ []
-unfolding digits numbers after fold same_cell terms_in_text choice number_at short_number_at decimals_at percent_at pieces trimmed_text argument_at chance_at count_at time_at task_at term_at terms_at reading
+unfolding digits node_numbers after fold same_cell terms_in_text choice number_at short_number_at decimals_at percent_at pieces trimmed_text argument_at chance_at count_at time_at task_at term_at terms_at reading
 answered = refl
 
 is_schedule : IsSchedule (nodes 3) (reverse later)
-unfolding digits numbers after fold same_cell terms_in_text choice number_at short_number_at decimals_at percent_at pieces trimmed_text argument_at chance_at count_at time_at task_at term_at terms_at reading
+unfolding digits node_numbers after fold same_cell terms_in_text choice number_at short_number_at decimals_at percent_at pieces trimmed_text argument_at chance_at count_at time_at task_at term_at terms_at reading
 is_schedule = (
   inr (inr (inl refl)),
   (
@@ -127,9 +127,9 @@ is_schedule = (
     held_by_1 op (inr (inr h)) = absurd h
 
 seen_first : rights_of (state_of (nodes 3) (reverse script) 2) a 0 1 ≡ pos 0 -ℤ pos 1
-unfolding digits numbers after fold same_cell terms_in_text choice number_at short_number_at decimals_at percent_at pieces trimmed_text argument_at chance_at count_at time_at task_at term_at terms_at reading
+unfolding digits node_numbers after fold same_cell terms_in_text choice number_at short_number_at decimals_at percent_at pieces trimmed_text argument_at chance_at count_at time_at task_at term_at terms_at reading
 seen_first = refl
 
 seen_at_last : rights_of (state_of (nodes 3) (reverse later) 2) a 0 1 ≡ pos 0
-unfolding digits numbers after fold same_cell terms_in_text choice number_at short_number_at decimals_at percent_at pieces trimmed_text argument_at chance_at count_at time_at task_at term_at terms_at reading
+unfolding digits node_numbers after fold same_cell terms_in_text choice number_at short_number_at decimals_at percent_at pieces trimmed_text argument_at chance_at count_at time_at task_at term_at terms_at reading
 seen_at_last = refl

@@ -6,7 +6,7 @@ use Rattle.actions.specs.Value.{off}
 use Rattle.actions.specs.Choice.{choice}
 use Rattle.actions.specs.Numbers.{number_at, short_number_at, decimals_at, percent_at}
 use Rattle.actions.specs.Reading.{pieces, trimmed_text, argument_at, chance_at, count_at, time_at, task_at, term_at, terms_at, reading}
-use Rattle.counters.specs.Sums.{numbers}
+use Rattle.counters.specs.Sums.{node_numbers}
 use Rattle.stamp_register.specs.Keys.{KeyValue, terms_in_text}
 use Rattle.replica_state.specs.Operations.{Hits, Execs, Shifts, Operation, Set, Count, IsIn, same_cell}
 use Rattle.replica_state.specs.States.{rights_of, spent_of, total_hits}
@@ -68,11 +68,11 @@ answered : answers (nodes 3) script ≡
     Some (asks.IsEmitted (Ok last)) ∷
     Some (asks.IsDelivered true) ∷
     Some (asks.IsDelivered false) ∷ []
-unfolding digits numbers after fold same_cell terms_in_text choice number_at short_number_at decimals_at percent_at pieces trimmed_text argument_at chance_at count_at time_at task_at term_at terms_at reading
+unfolding digits node_numbers after fold same_cell terms_in_text choice number_at short_number_at decimals_at percent_at pieces trimmed_text argument_at chance_at count_at time_at task_at term_at terms_at reading
 answered = refl
 
 is_schedule : IsSchedule (nodes 3) (reverse script)
-unfolding digits numbers after fold same_cell terms_in_text choice number_at short_number_at decimals_at percent_at pieces trimmed_text argument_at chance_at count_at time_at task_at term_at terms_at reading
+unfolding digits node_numbers after fold same_cell terms_in_text choice number_at short_number_at decimals_at percent_at pieces trimmed_text argument_at chance_at count_at time_at task_at term_at terms_at reading
 is_schedule = (
   inr (inr (inl refl)),
   (
@@ -97,33 +97,33 @@ is_schedule = (
     held_by_2 op (inr (inr h)) = inr (inr (inr h))
 
 spent_there : spent_of (state_of (nodes 3) (reverse script) 0) p 0 ≡ 2
-unfolding digits numbers after fold same_cell terms_in_text choice number_at short_number_at decimals_at percent_at pieces trimmed_text argument_at chance_at count_at time_at task_at term_at terms_at reading
+unfolding digits node_numbers after fold same_cell terms_in_text choice number_at short_number_at decimals_at percent_at pieces trimmed_text argument_at chance_at count_at time_at task_at term_at terms_at reading
 spent_there = refl
 
 hits_there : total_hits (state_of (nodes 3) (reverse script) 0) p ≡ 3
-unfolding digits numbers after fold same_cell terms_in_text choice number_at short_number_at decimals_at percent_at pieces trimmed_text argument_at chance_at count_at time_at task_at term_at terms_at reading
+unfolding digits node_numbers after fold same_cell terms_in_text choice number_at short_number_at decimals_at percent_at pieces trimmed_text argument_at chance_at count_at time_at task_at term_at terms_at reading
 hits_there = refl
 
 rights_of_0 : rights_of (state_of (nodes 3) (reverse script) 0) p 0 0 ≡ pos 3
-unfolding digits numbers after fold same_cell terms_in_text choice number_at short_number_at decimals_at percent_at pieces trimmed_text argument_at chance_at count_at time_at task_at term_at terms_at reading
+unfolding digits node_numbers after fold same_cell terms_in_text choice number_at short_number_at decimals_at percent_at pieces trimmed_text argument_at chance_at count_at time_at task_at term_at terms_at reading
 rights_of_0 = refl
 
 rights_of_1 : rights_of (state_of (nodes 3) (reverse script) 0) p 0 1 ≡ pos 0
-unfolding digits numbers after fold same_cell terms_in_text choice number_at short_number_at decimals_at percent_at pieces trimmed_text argument_at chance_at count_at time_at task_at term_at terms_at reading
+unfolding digits node_numbers after fold same_cell terms_in_text choice number_at short_number_at decimals_at percent_at pieces trimmed_text argument_at chance_at count_at time_at task_at term_at terms_at reading
 rights_of_1 = refl
 
 rights_of_2 : rights_of (state_of (nodes 3) (reverse script) 0) p 0 2 ≡ pos 0
-unfolding digits numbers after fold same_cell terms_in_text choice number_at short_number_at decimals_at percent_at pieces trimmed_text argument_at chance_at count_at time_at task_at term_at terms_at reading
+unfolding digits node_numbers after fold same_cell terms_in_text choice number_at short_number_at decimals_at percent_at pieces trimmed_text argument_at chance_at count_at time_at task_at term_at terms_at reading
 rights_of_2 = refl
 
 executed : all_executions (nodes 3) (reverse script) (stamp 1 0) 0 ≡ 2
-unfolding digits numbers after fold same_cell terms_in_text choice number_at short_number_at decimals_at percent_at pieces trimmed_text argument_at chance_at count_at time_at task_at term_at terms_at reading
+unfolding digits node_numbers after fold same_cell terms_in_text choice number_at short_number_at decimals_at percent_at pieces trimmed_text argument_at chance_at count_at time_at task_at term_at terms_at reading
 executed = refl
 
 left : all_held (nodes 3) (reverse script) p key 0 5 ≡ pos 3
-unfolding digits numbers after fold same_cell terms_in_text choice number_at short_number_at decimals_at percent_at pieces trimmed_text argument_at chance_at count_at time_at task_at term_at terms_at reading
+unfolding digits node_numbers after fold same_cell terms_in_text choice number_at short_number_at decimals_at percent_at pieces trimmed_text argument_at chance_at count_at time_at task_at term_at terms_at reading
 left = refl
 
 none_in_transit : all_in_transit (nodes 3) (reverse script) p key 0 ≡ pos 0
-unfolding digits numbers after fold same_cell terms_in_text choice number_at short_number_at decimals_at percent_at pieces trimmed_text argument_at chance_at count_at time_at task_at term_at terms_at reading
+unfolding digits node_numbers after fold same_cell terms_in_text choice number_at short_number_at decimals_at percent_at pieces trimmed_text argument_at chance_at count_at time_at task_at term_at terms_at reading
 none_in_transit = refl

@@ -4,7 +4,7 @@ use Rattle.std.proofs.lemmas.Bool.{true≢false, eqb-true, eq-eqb, le-ltb}
 use Rattle.std.specs.Prelude.{is_none}
 use Rattle.std.specs.List.{list_any}
 use Rattle.actions.specs.Value.{TermValue}
-use Rattle.counters.specs.Sums.{numbers, sum_below}
+use Rattle.counters.specs.Sums.{node_numbers, sum_below}
 use Rattle.counters.proofs.SumLemmas.{sum-le, sum-narrow}
 use Rattle.stamp_register.specs.declared.key.Stamp.{Stamp}
 use Rattle.stamp_register.specs.Keys.{KeyValue, stamp_of}
@@ -86,7 +86,7 @@ none_below (suc n) test h = both (test n) (any_below n test) (h n) (none_below n
     both true b h k = h
     both false b h k = k
 
-module _ (c : Cluster) (es : List Event) (few : c.nodes ≤ numbers) (s : IsSchedule c es) (i : ℕ) (m : Message) (sent_then : IsIn m (world c es).messages) where
+module _ (c : Cluster) (es : List Event) (few : c.nodes ≤ node_numbers) (s : IsSchedule c es) (i : ℕ) (m : Message) (sent_then : IsIn m (world c es).messages) where
   abbrev merged : List Operation
   merged = m.ops ++ ((world c es).node i).ops
 
@@ -98,15 +98,15 @@ module _ (c : Cluster) (es : List Event) (few : c.nodes ≤ numbers) (s : IsSche
   with_writer : (op : Operation) → IsIn op merged → IsIn op ((world c es).node (writer_of op)).ops
   with_writer op l = ⊎_elim (λ k. (known c es s).sent m sent_then op k) (λ k. (known c es s).held i op k) (IsIn-append_cases op _ _ l)
 
-  at_most : (name : List ℕ) (key : KeyValue) (term count : ℕ) → (fold merged).key name ≡ Some key → count_of key term ≡ Some count → sum_below numbers ((fold merged).execs name term) ≤ count
+  at_most : (name : List ℕ) (key : KeyValue) (term count : ℕ) → (fold merged).key name ≡ Some key → count_of key term ≡ Some count → sum_below node_numbers ((fold merged).execs name term) ≤ count
   at_most name key term count p q =
       let issued = is_issued name key p in
-      let each = sum-le numbers ((fold merged).execs name term) (executions c es (stamp_of key) term) (λ j.
+      let each = sum-le node_numbers ((fold merged).execs name term) (executions c es (stamp_of key) term) (λ j.
       let here = under_execs merged name key term j p in
       let own = own_execs c es s name key term count q (one_stamp c es name key issued) j in
       let upto : number_at (Execs name key term j) merged ≤ number_at (Execs name key term j) ((world c es).node j).ops = number_at-mono (Execs name key term j) _ _ (λ k. with_writer (Count (Execs name key term j) k)) in
       omega (arith, here, own, upto)) in
-      let narrow = sum-narrow c.nodes numbers (executions c es (stamp_of key) term) few (λ j l. executed_by_none c es (stamp_of key) term j l) in
+      let narrow = sum-narrow c.nodes node_numbers (executions c es (stamp_of key) term) few (λ j l. executed_by_none c es (stamp_of key) term j l) in
       let most = (conserved c es few s name key term count issued q).at_most in
       omega (arith, each, narrow, most)
 
@@ -117,7 +117,7 @@ module _ (c : Cluster) (es : List Event) (few : c.nodes ≤ numbers) (s : IsSche
       at None p = refl
       at (Some setting) p = none_below (length setting.1) _ (λ term. of term (count_at setting.1 term) refl)
         where
-          of : (term : ℕ) (o : Option ℕ) → count_at setting.1 term ≡ o → is_above o (sum_below numbers ((fold merged).execs name term)) ≡ false
+          of : (term : ℕ) (o : Option ℕ) → count_at setting.1 term ≡ o → is_above o (sum_below node_numbers ((fold merged).execs name term)) ≡ false
           of term None q = refl
           of term (Some count) q =
               let is = setting_parts ((fold merged).key name) setting.0 setting.1 p in

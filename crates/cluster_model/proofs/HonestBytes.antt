@@ -1,6 +1,6 @@
 -- No node refuses a message of the cluster for what it says, nor the bytes that spell one, which may be delivered.
 use Rattle.std.proofs.Common.{◌≡◌, ℕ, ◌≤◌, List, [], length, sym, subst, Some, Ok}
-use Rattle.counters.specs.Sums.{numbers}
+use Rattle.counters.specs.Sums.{node_numbers}
 use Rattle.replica_state.specs.Operations.{IsIn}
 use Rattle.node_core.specs.Asks.{Message, message_read}
 use Rattle.node_core.specs.Asks as asks
@@ -13,7 +13,7 @@ use Rattle.cluster_model.specs.Laws.{kept, IsHonest, IsOwnReason}
 use Rattle.cluster_model.proofs.Replays.{node_is_replay}
 use Rattle.cluster_model.proofs.Honest.{honest_message, own_reason}
 
-module _ (c : Cluster) (es : List Event) (few : c.nodes ≤ numbers) (s : IsSchedule c es) (i : ℕ) (message : Message) where
+module _ (c : Cluster) (es : List Event) (few : c.nodes ≤ node_numbers) (s : IsSchedule c es) (i : ℕ) (message : Message) where
   pub honest_messages : IsIn message (world c es).messages → IsHonest c es i message × IsOwnReason (refusal (kept c es i) (asks.Deliver (Ok message)) [])
   honest_messages h = (
     honest_message c es few s i message h,

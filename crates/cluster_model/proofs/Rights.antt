@@ -4,7 +4,7 @@ use Rattle.std.proofs.lemmas.Bool.{true≢false, eqb-true, and_parts, and_from, 
 use Rattle.std.proofs.lemmas.Int.{ints}
 use Rattle.std.specs.Prelude.{pos, ◌-ℤ◌}
 use Rattle.std.specs.Str.{bytes_eq}
-use Rattle.counters.specs.Sums.{numbers, sum_others}
+use Rattle.counters.specs.Sums.{node_numbers, sum_others}
 use Rattle.counters.specs.Budgets.{Budget, given_to, gone_from}
 use Rattle.counters.proofs.SumLemmas.{sum_others-le, sum_others-add, sum_others-same, sum_others-at_most, sum_others-zero}
 use Rattle.stamp_register.specs.Keys.{KeyValue, stamp_of, same_key}
@@ -49,20 +49,20 @@ rights_mean i ops name key term count amount e h =
 -- ---- what a step takes was there
 
 abbrev taken_by : ℕ → Node → Option Asked → List ℕ → List ℕ → KeyValue → ℕ → ℕ
-taken_by i n a words name key term = sum_others numbers i (amount_moved n a name key term) + acted (stamp_of key) term i n a words
+taken_by i n a words name key term = sum_others node_numbers i (amount_moved n a name key term) + acted (stamp_of key) term i n a words
 
-nothing_taken : (i : ℕ) (b : Budget) (f : ℕ → ℕ) (t : ℕ) → ((j : ℕ) → f j ≡ 0) → t ≡ 0 → gone_from b i ≤ given_to b i → gone_from b i + (sum_others numbers i f + t) ≤ given_to b i
+nothing_taken : (i : ℕ) (b : Budget) (f : ℕ → ℕ) (t : ℕ) → ((j : ℕ) → f j ≡ 0) → t ≡ 0 → gone_from b i ≤ given_to b i → gone_from b i + (sum_others node_numbers i f + t) ≤ given_to b i
 nothing_taken i b f t h e l =
-    let none = sum_others-zero numbers i f h in
+    let none = sum_others-zero node_numbers i f h in
     omega (arith, none, e, l)
 
 pass_taken : (i : ℕ) (ops : List Operation) (name other : List ℕ) (key : KeyValue) (term count : ℕ) → count_of key term ≡ Some count → OneHere (fold ops) name key → gone_from (cells name key term count ops) i ≤ given_to (cells name key term count ops) i →
-    (o : Outcome) → IsOutcome i (fold ops) other o → gone_from (cells name key term count ops) i + (sum_others numbers i (λ j. 0) + cond (is_act_of (stamp_of key) term (passed_as o)) 1 0) ≤ given_to (cells name key term count ops) i
+    (o : Outcome) → IsOutcome i (fold ops) other o → gone_from (cells name key term count ops) i + (sum_others node_numbers i (λ j. 0) + cond (is_act_of (stamp_of key) term (passed_as o)) 1 0) ≤ given_to (cells name key term count ops) i
 pass_taken i ops name other key term count counted one l NotSet is = nothing_taken i (cells name key term count ops) (λ j. 0) 0 (λ j. refl) refl l
 pass_taken i ops name other key term count counted one l (Nothing k) is = nothing_taken i (cells name key term count ops) (λ j. 0) 0 (λ j. refl) refl l
 pass_taken i ops name other key term count counted one l (Triggered k t c task) is = at (k.clock == key.clock && (k.node == key.node && (t == term))) refl
   where
-    at : (b : Bool) → (k.clock == key.clock && (k.node == key.node && (t == term))) ≡ b → gone_from (cells name key term count ops) i + (sum_others numbers i (λ j. 0) + cond b 1 0) ≤ given_to (cells name key term count ops) i
+    at : (b : Bool) → (k.clock == key.clock && (k.node == key.node && (t == term))) ≡ b → gone_from (cells name key term count ops) i + (sum_others node_numbers i (λ j. 0) + cond b 1 0) ≤ given_to (cells name key term count ops) i
     at false f = nothing_taken i (cells name key term count ops) (λ j. 0) 0 (λ j. refl) refl l
     at true f =
         let same = same_call i (fold ops) other name k key t term c one is f in
@@ -71,14 +71,14 @@ pass_taken i ops name other key term count counted one l (Triggered k t c task) 
         let may : has_rights_of i (fold ops) other k t 1 (Some count) ≡ true = is.may count counts in
         let may_here : has_rights_of i (fold ops) other k t 1 (Some count) ≡ has_rights_of i (fold ops) name key term 1 (Some count) = λ r. has_rights_of i (fold ops) (same.names r) (same.keys r) (same.terms r) 1 (Some count) in
         let enough = rights_mean i ops name key term count 1 under (sym may_here ∙ may) in
-        let none = sum_others-zero numbers i (λ j. 0) (λ j. refl) in
+        let none = sum_others-zero node_numbers i (λ j. 0) (λ j. refl) in
         omega (arith, enough, none)
 
 shift_taken : (i : ℕ) (ops : List Operation) (name other : List ℕ) (key : KeyValue) (term count t to amount : ℕ) → count_of key term ≡ Some count → gone_from (cells name key term count ops) i ≤ given_to (cells name key term count ops) i →
     ((k : KeyValue) → (fold ops).key other ≡ Some k → has_rights_of i (fold ops) other k t amount (count_of k t) ≡ true) → (k : Option KeyValue) → (fold ops).key other ≡ k →
-    gone_from (cells name key term count ops) i + sum_others numbers i (λ j. cond (bytes_eq other name && (t == term && (to == j && is_key key k))) amount 0) ≤ given_to (cells name key term count ops) i
+    gone_from (cells name key term count ops) i + sum_others node_numbers i (λ j. cond (bytes_eq other name && (t == term && (to == j && is_key key k))) amount 0) ≤ given_to (cells name key term count ops) i
 shift_taken i ops name other key term count t to amount counted l may None e =
-    let none = sum_others-zero numbers i (λ j. cond (bytes_eq other name && (t == term && (to == j && false))) amount 0) (λ j. zero_at (bytes_eq other name && (t == term && (to == j && false))) (and_false (bytes_eq other name) (t == term) (to == j))) in
+    let none = sum_others-zero node_numbers i (λ j. cond (bytes_eq other name && (t == term && (to == j && false))) amount 0) (λ j. zero_at (bytes_eq other name && (t == term && (to == j && false))) (and_false (bytes_eq other name) (t == term) (to == j))) in
     omega (arith, none, l)
   where
     zero_at : (b : Bool) → b ≡ false → cond b amount 0 ≡ 0
@@ -97,9 +97,9 @@ shift_taken i ops name other key term count t to amount counted l may (Some k) e
     at_most true = omega arith
     at_most false = omega arith
 
-    at : (b : Bool) → (bytes_eq other name && (t == term && same_key k key)) ≡ b → gone_from (cells name key term count ops) i + sum_others numbers i amounts ≤ given_to (cells name key term count ops) i
+    at : (b : Bool) → (bytes_eq other name && (t == term && same_key k key)) ≡ b → gone_from (cells name key term count ops) i + sum_others node_numbers i amounts ≤ given_to (cells name key term count ops) i
     at false f =
-        let none = sum_others-zero numbers i amounts (λ j. zero_at _ (λ h.
+        let none = sum_others-zero node_numbers i amounts (λ j. zero_at _ (λ h.
         let p = and_parts (bytes_eq other name) _ h in
         let q = and_parts (t == term) _ p.1 in
         let r = and_parts (to == j) _ q.1 in
@@ -115,7 +115,7 @@ shift_taken i ops name other key term count t to amount counted l may (Some k) e
         let counts : count_of k t ≡ Some count = ap (λ (l : KeyValue). count_of l t) keys ∙ ap (λ u. count_of key u) terms ∙ counted in
         let may_here : has_rights_of i (fold ops) other k t amount (count_of k t) ≡ has_rights_of i (fold ops) name key term amount (Some count) = λ r. has_rights_of i (fold ops) (names r) (keys r) (terms r) amount (counts r) in
         let enough = rights_mean i ops name key term count amount under (sym may_here ∙ may k e) in
-        let some = sum_others-at_most numbers i amounts to amount (λ j ne. zero_at _ (λ h.
+        let some = sum_others-at_most node_numbers i amounts to amount (λ j ne. zero_at _ (λ h.
         let p = and_parts (bytes_eq other name) _ h in
         let q = and_parts (t == term) _ p.1 in
         let r = and_parts (to == j) _ q.1 in
@@ -128,7 +128,7 @@ step_taken : (c : Cluster) (w : World) (e : Event) (i : ℕ) (a : Option Asked) 
 step_taken c w e i None g name key term count counted one l = nothing_taken i (cells name key term count (w.node i).ops) (λ j. 0) 0 (λ j. refl) refl l
 step_taken c w e i (Some (asks.Pass other)) g name key term count counted one l =
     let o = outcome_of i (state_shown (w.node i)) other e.words in
-    subst (λ (p : Passed). gone_from (cells name key term count (w.node i).ops) i + (sum_others numbers i (λ j. 0) + cond (is_act_of (stamp_of key) term p) 1 0) ≤ given_to (cells name key term count (w.node i).ops) i) (sym o.reply)
+    subst (λ (p : Passed). gone_from (cells name key term count (w.node i).ops) i + (sum_others node_numbers i (λ j. 0) + cond (is_act_of (stamp_of key) term p) 1 0) ≤ given_to (cells name key term count (w.node i).ops) i) (sym o.reply)
     (pass_taken i (w.node i).ops name other key term count counted one l o.outcome o.is)
 step_taken c w e i (Some (asks.Shift other t to amount)) g name key term count counted one l =
     let enough = shift_taken i (w.node i).ops name other key term count t to amount counted l (shifted_is _ _ (w.node i) other t to amount e.words g).may ((state_shown (w.node i)).key other) refl in
@@ -140,7 +140,7 @@ step_taken c w e i (Some ask) g name key term count counted one l = nothing_take
 pub solvent : (c : Cluster) (es : List Event) → IsSchedule c es → (name : List ℕ) (key : KeyValue) (term count : ℕ) → count_of key term ≡ Some count → OneStamp c es name key → (i : ℕ) →
     gone_from (cells name key term count ((world c es).node i).ops) i ≤ given_to (cells name key term count ((world c es).node i).ops) i
 solvent c [] s name key term count counted one i =
-    let none = sum_others-zero numbers i (λ j. 0) (λ j. refl) in
+    let none = sum_others-zero node_numbers i (λ j. 0) (λ j. refl) in
     omega (arith, none)
 solvent c (e ∷ es) s name key term count counted one i =
     let n = (world c es).node i in
@@ -150,12 +150,12 @@ solvent c (e ∷ es) s name key term count counted one i =
     let before = solvent c es s.1 name key term count counted one_then i in
     let enough = step_taken c (world c es) e i a (agreed c (world c es) e i) name key term count counted here before in
     let spent = exec_step i n a e.words name key term count counted here (delivered_own c (world c es) e i (Execs name key term i) (known c es s.1) s.0 refl) in
-    let out = sum_others-same numbers i
+    let out = sum_others-same node_numbers i
     (λ j. number_at (Shifts name key term i j) (node_after i n a e.words).ops)
     (λ j. amount_moved n a name key term j + number_at (Shifts name key term i j) n.ops)
     (λ j. shift_step i n a e.words name key term j (delivered_own c (world c es) e i (Shifts name key term i j) (known c es s.1) s.0 refl)) in
-    let split = sum_others-add numbers i (amount_moved n a name key term) (λ j. number_at (Shifts name key term i j) n.ops) in
-    let more = sum_others-le numbers i (λ j. number_at (Shifts name key term j i) n.ops) (λ j. number_at (Shifts name key term j i) (node_after i n a e.words).ops)
+    let split = sum_others-add node_numbers i (amount_moved n a name key term) (λ j. number_at (Shifts name key term i j) n.ops) in
+    let more = sum_others-le node_numbers i (λ j. number_at (Shifts name key term j i) n.ops) (λ j. number_at (Shifts name key term j i) (node_after i n a e.words).ops)
     (λ j. number_at-mono (Shifts name key term j i) n.ops (node_after i n a e.words).ops (λ m. keeps i n a e.words (Count (Shifts name key term j i) m))) in
     omega (arith, enough, spent, out, split, more)
 
@@ -233,8 +233,8 @@ takes_nothing i n (Some ask) words name key term one not = record { moves = λ j
 pub record Balance (c : Cluster) (es : List Event) (name : List ℕ) (key : KeyValue) (term count i : ℕ) : Type 0 where
   pub rights : ℕ
   pub is : held c es name key term count i ≡ pos rights
-  pub adds_up : rights + (sum_others numbers i (λ j. moved c es name key term i j) + executions c es (stamp_of key) term i)
-      ≡ cond (i == key.node) count 0 + sum_others numbers i (λ j. seen c es name key term j i)
+  pub adds_up : rights + (sum_others node_numbers i (λ j. moved c es name key term i j) + executions c es (stamp_of key) term i)
+      ≡ cond (i == key.node) count 0 + sum_others node_numbers i (λ j. seen c es name key term j i)
 
 pub int_less : (a b : ℕ) → b ≤ a → pos a -ℤ pos b ≡ pos (a - b)
 int_less a b h = omega (arith, ints)
@@ -247,7 +247,7 @@ plain a = omega arith
 
 pub balance : (c : Cluster) (es : List Event) → IsSchedule c es → (name : List ℕ) (key : KeyValue) (term count : ℕ) → count_of key term ≡ Some count → OneStamp c es name key → (i : ℕ) → Balance c es name key term count i
 balance c [] s name key term count counted one i =
-    let none = sum_others-zero numbers i (λ j. 0) (λ j. refl) in
+    let none = sum_others-zero node_numbers i (λ j. 0) (λ j. refl) in
     record { rights = cond (i == key.node) count 0; is = refl; adds_up = omega (arith, none) }
 balance c (e ∷ es) s name key term count counted one i = at (is_under c (e ∷ es) name key i) refl (balance c es s.1 name key term count counted (one_before c e es name key one) i)
   where
@@ -266,13 +266,13 @@ balance c (e ∷ es) s name key term count counted one i = at (is_under c (e ∷
         let under = under_cells name key term count ops (is_key-of key (v.key name) u) in
         let solv : gone_from b i ≤ given_to b i = subst (λ (d : Budget). gone_from d i ≤ given_to d i) (sym under) (solvent c (e ∷ es) s name key term count counted one i) in
         let gone_is : gone_from b i ≡ gone_from (cells name key term count ops) i = ap (λ (d : Budget). gone_from d i) under in
-        let out : sum_others numbers i (λ j. number_at (Shifts name key term i j) ops) ≡ sum_others numbers i (λ j. moved c (e ∷ es) name key term i j) =
-        sum_others-same numbers i _ _ (λ j. own_shifts c (e ∷ es) s name key term i j) in
+        let out : sum_others node_numbers i (λ j. number_at (Shifts name key term i j) ops) ≡ sum_others node_numbers i (λ j. moved c (e ∷ es) name key term i j) =
+        sum_others-same node_numbers i _ _ (λ j. own_shifts c (e ∷ es) s name key term i j) in
         let spent : number_at (Execs name key term i) ops ≡ executions c (e ∷ es) (stamp_of key) term i = own_execs c (e ∷ es) s name key term count counted one i in
-        let came : sum_others numbers i (λ j. seen c (e ∷ es) name key term j i) ≡ sum_others numbers i (λ j. v.shifts name term j i) =
-        sum_others-same numbers i _ _ (λ j. ap (λ t. shifts_under (last_state t) name term j i) u) in
-        let gone_now : gone_from b i ≡ sum_others numbers i (λ j. moved c (e ∷ es) name key term i j) + executions c (e ∷ es) (stamp_of key) term i = gone_is ∙ (λ r. out r + spent r) in
-        let given_now : given_to b i ≡ cond (i == key.node) count 0 + sum_others numbers i (λ j. seen c (e ∷ es) name key term j i) = ap (λ x. cond (i == key.node) count 0 + x) (sym came) in
+        let came : sum_others node_numbers i (λ j. seen c (e ∷ es) name key term j i) ≡ sum_others node_numbers i (λ j. v.shifts name term j i) =
+        sum_others-same node_numbers i _ _ (λ j. ap (λ t. shifts_under (last_state t) name term j i) u) in
+        let gone_now : gone_from b i ≡ sum_others node_numbers i (λ j. moved c (e ∷ es) name key term i j) + executions c (e ∷ es) (stamp_of key) term i = gone_is ∙ (λ r. out r + spent r) in
+        let given_now : given_to b i ≡ cond (i == key.node) count 0 + sum_others node_numbers i (λ j. seen c (e ∷ es) name key term j i) = ap (λ x. cond (i == key.node) count 0 + x) (sym came) in
         record {
           rights = given_to b i - gone_from b i;
           is = ap (λ t. rights_under (last_state t) name key term count i) u ∙ int_less _ _ solv;
@@ -283,11 +283,11 @@ balance c (e ∷ es) s name key term count counted one i = at (is_under c (e ∷
         let none = takes_nothing i ((world c es).node i) (accepted c (world c es) e i) e.words name key term (one_here c es name key i s.1 one_then)
         (λ under. true≢false (sym (is_key-some key (v.key name) under) ∙ u)) in
         let more = executed_more (stamp_of key) term i ((world c es).node i) ((world c es).trace i) (accepted c (world c es) e i) e.words in
-        let out : sum_others numbers i (λ j. moved c (e ∷ es) name key term i j) ≡ sum_others numbers i (λ j. moved c es name key term i j) =
-        sum_others-same numbers i _ _ (λ j. ap (λ x. x + moved c es name key term i j) (none.moves j) ∙ plain _) in
+        let out : sum_others node_numbers i (λ j. moved c (e ∷ es) name key term i j) ≡ sum_others node_numbers i (λ j. moved c es name key term i j) =
+        sum_others-same node_numbers i _ _ (λ j. ap (λ x. x + moved c es name key term i j) (none.moves j) ∙ plain _) in
         let spent : executions c (e ∷ es) (stamp_of key) term i ≡ executions c es (stamp_of key) term i = more ∙ ap (λ x. x + executions c es (stamp_of key) term i) none.spends ∙ plain _ in
-        let came : sum_others numbers i (λ j. seen c (e ∷ es) name key term j i) ≡ sum_others numbers i (λ j. seen c es name key term j i) =
-        sum_others-same numbers i _ _ (λ j. ap (λ t. shifts_under (last_state t) name term j i) u) in
+        let came : sum_others node_numbers i (λ j. seen c (e ∷ es) name key term j i) ≡ sum_others node_numbers i (λ j. seen c es name key term j i) =
+        sum_others-same node_numbers i _ _ (λ j. ap (λ t. shifts_under (last_state t) name term j i) u) in
         record {
           rights = before.rights;
           is = ap (λ t. rights_under (last_state t) name key term count i) u ∙ before.is;

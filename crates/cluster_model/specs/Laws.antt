@@ -2,7 +2,7 @@
 use Rattle.std.specs.Prelude.{◌≡◌, ◌≢◌, ℕ, ◌≤◌, ◌<◌, ◌==◌, ◌&&◌, Bool, false, pos, ◌+ℤ◌, ◌≤ℤ◌, List, [], ◌∷◌, ◌++◌, ◌↔◌, Option, Some, None, Ok, count_by, slice_get}
 use Rattle.std.specs.List.{list_any}
 use Rattle.actions.specs.Value.{TermValue, TaskValue}
-use Rattle.counters.specs.Sums.{numbers}
+use Rattle.counters.specs.Sums.{node_numbers}
 use Rattle.stamp_register.specs.declared.key.Stamp.{Stamp}
 use Rattle.stamp_register.specs.Keys.{KeyValue, stamp_of, terms_set}
 use Rattle.replica_state.specs.Operations.{Operation, Set, Count, IsIn, count_of}
@@ -114,7 +114,7 @@ pub record IsConserved (c : Cluster) (es : List Event) (name : List ℕ) (key : 
 
 -- a node number is below 256
 abbrev pub Escrow : Type 0
-Escrow = (c : Cluster) (es : List Event) → c.nodes ≤ numbers → IsSchedule c es →
+Escrow = (c : Cluster) (es : List Event) → c.nodes ≤ node_numbers → IsSchedule c es →
     (name : List ℕ) (key : KeyValue) (term count : ℕ) →
     IsIssued c es name key → count_of key term ≡ Some count → IsConserved c es name key term count
 
@@ -156,13 +156,13 @@ IsOwnReason (Some _) = ⊥
 
 -- so whichever node a message comes to, and however late, none refuses it for what it says
 abbrev pub HonestMessages : Type 0
-HonestMessages = (c : Cluster) (es : List Event) → c.nodes ≤ numbers → IsSchedule c es →
+HonestMessages = (c : Cluster) (es : List Event) → c.nodes ≤ node_numbers → IsSchedule c es →
     (i : ℕ) (message : Message) → IsIn message (world c es).messages →
     IsHonest c es i message × IsOwnReason (refusal (kept c es i) (asks.Deliver (Ok message)) [])
 
 -- so it is with the bytes of such a message, and a schedule allows to deliver them
 abbrev pub HonestBytes : Type 0
-HonestBytes = (c : Cluster) (es : List Event) → c.nodes ≤ numbers → IsSchedule c es →
+HonestBytes = (c : Cluster) (es : List Event) → c.nodes ≤ node_numbers → IsSchedule c es →
     (i : ℕ) (message : Message) (bytes : List ℕ) → IsIn message (world c es).messages →
     message_read c.nodes bytes ≡ Ok message →
     Allows (world c es) i (Some (delivery_of (kept c es i) bytes))

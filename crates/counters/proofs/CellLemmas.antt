@@ -10,7 +10,7 @@ use Rattle.std.proofs.lemmas.Bool.{eqb-false, eqb-true}
 use Rattle.lattice_laws.specs.Map.{IsMap, MapOrder, admitted_at, map_order, value_at}
 use Rattle.lattice_laws.specs.Max.{IsAtMost, IsNumber, max_order, zero_max}
 use Rattle.lattice_laws.specs.declared.max.Max.{Max}
-use Rattle.counters.specs.Sums.{numbers, sum_below, sum_others}
+use Rattle.counters.specs.Sums.{node_numbers, sum_below, sum_others}
 use Rattle.counters.specs.Cells.{Cells, Rows, cell, row_cell}
 use Rattle.counters.proofs.EntrySums.{sum_below-bound, sum-entry}
 use Rattle.counters.proofs.SumLemmas.{sum_others-zero, sum-zero}
@@ -34,12 +34,12 @@ pub apart-tail : {J : Type 0} (k : ℕ) (v : J) (rest : List (ℕ × J)) → Are
 apart-tail k v rest h = IsDistinct-tail (eq_by_cmp nat_cmp) k (keys_of rest) h
 
 -- a node's number is a number of 8 bits
-below-numbers : (k : ℕ) → k < 256 → k < numbers
-unfolding numbers
+below-numbers : (k : ℕ) → k < 256 → k < node_numbers
+unfolding node_numbers
 below-numbers k h = h
 
-numbers-is : numbers ≡ 256
-unfolding numbers
+numbers-is : node_numbers ≡ 256
+unfolding node_numbers
 numbers-is = refl
 
 zero-either : (t : Bool) → cond t 0 0 ≡ zero
@@ -48,25 +48,25 @@ zero-either false = refl
 
 -- an entry more adds its number
 pub total-entry : (k : ℕ) (v : Max) (rest : Cells) → k < 256 → AreApart ((k, v) ∷ rest)
-    → sum_below numbers (cell ((k, v) ∷ rest)) ≡ v.0 + sum_below numbers (cell rest)
+    → sum_below node_numbers (cell ((k, v) ∷ rest)) ≡ v.0 + sum_below node_numbers (cell rest)
 unfolding cell
-total-entry k v rest below apart = sum-entry zero_max numbers (λ q (held : Max). held.0) (λ q. refl) k v rest (below-numbers k below) apart
+total-entry k v rest below apart = sum-entry zero_max node_numbers (λ q (held : Max). held.0) (λ q. refl) k v rest (below-numbers k below) apart
 
 -- unless it is left out
 total_of_others-entry : (node k : ℕ) (v : Max) (rest : Cells) → k < 256 → AreApart ((k, v) ∷ rest)
-    → sum_others numbers node (cell ((k, v) ∷ rest)) ≡ cond (k == node) 0 v.0 + sum_others numbers node (cell rest)
+    → sum_others node_numbers node (cell ((k, v) ∷ rest)) ≡ cond (k == node) 0 v.0 + sum_others node_numbers node (cell rest)
 unfolding cell
 total_of_others-entry node k v rest below apart =
-    sum-entry zero_max numbers (λ q (held : Max). cond (q == node) 0 held.0) (λ q. zero-either (q == node)) k v rest
+    sum-entry zero_max node_numbers (λ q (held : Max). cond (q == node) 0 held.0) (λ q. zero-either (q == node)) k v rest
     (below-numbers k below) apart
 
 -- and a row more its number at the node
 total_from_others-entry : (node k : ℕ) (v : Cells) (rest : Rows) → k < 256 → AreApart ((k, v) ∷ rest)
-    → sum_others numbers node (λ from. row_cell ((k, v) ∷ rest) from node)
-    ≡ cond (k == node) 0 (cell v node) + sum_others numbers node (λ from. row_cell rest from node)
+    → sum_others node_numbers node (λ from. row_cell ((k, v) ∷ rest) from node)
+    ≡ cond (k == node) 0 (cell v node) + sum_others node_numbers node (λ from. row_cell rest from node)
 unfolding cell row_cell
 total_from_others-entry node k v rest below apart =
-    sum-entry [] numbers (λ q (held : Cells). cond (q == node) 0 (cell held node))
+    sum-entry [] node_numbers (λ q (held : Cells). cond (q == node) 0 (cell held node))
     (λ q. zero-either (q == node)) k v rest (below-numbers k below) apart
 
 -- what a test for one node chooses
@@ -85,31 +85,31 @@ chosen-other i k n m ne = at (i == k) refl
     at false e = refl
 
 pub total_of_others-counted : (node k : ℕ) (v : Max) (rest : Cells) → k < 256 → AreApart ((k, v) ∷ rest) → k ≢ node
-    → sum_others numbers node (cell ((k, v) ∷ rest)) ≡ v.0 + sum_others numbers node (cell rest)
+    → sum_others node_numbers node (cell ((k, v) ∷ rest)) ≡ v.0 + sum_others node_numbers node (cell rest)
 total_of_others-counted node k v rest below apart ne =
     total_of_others-entry node k v rest below apart
-    ∙ ap (λ n. n + sum_others numbers node (cell rest)) (chosen-other k node 0 v.0 ne)
+    ∙ ap (λ n. n + sum_others node_numbers node (cell rest)) (chosen-other k node 0 v.0 ne)
 
 pub total_of_others-left_out : (node k : ℕ) (v : Max) (rest : Cells) → k < 256 → AreApart ((k, v) ∷ rest) → k ≡ node
-    → sum_others numbers node (cell ((k, v) ∷ rest)) ≡ 0 + sum_others numbers node (cell rest)
+    → sum_others node_numbers node (cell ((k, v) ∷ rest)) ≡ 0 + sum_others node_numbers node (cell rest)
 total_of_others-left_out node k v rest below apart same =
     total_of_others-entry node k v rest below apart
-    ∙ ap (λ n. n + sum_others numbers node (cell rest)) (chosen-same k node 0 v.0 same)
+    ∙ ap (λ n. n + sum_others node_numbers node (cell rest)) (chosen-same k node 0 v.0 same)
 
 pub total_from_others-counted : (node k : ℕ) (v : Cells) (rest : Rows) → k < 256 → AreApart ((k, v) ∷ rest) → k ≢ node
-    → sum_others numbers node (λ from. row_cell ((k, v) ∷ rest) from node)
-    ≡ cell v node + sum_others numbers node (λ from. row_cell rest from node)
+    → sum_others node_numbers node (λ from. row_cell ((k, v) ∷ rest) from node)
+    ≡ cell v node + sum_others node_numbers node (λ from. row_cell rest from node)
 total_from_others-counted node k v rest below apart ne =
     total_from_others-entry node k v rest below apart
-    ∙ ap (λ n. n + sum_others numbers node (λ from. row_cell rest from node)) (chosen-other k node 0 (cell v node) ne)
+    ∙ ap (λ n. n + sum_others node_numbers node (λ from. row_cell rest from node)) (chosen-other k node 0 (cell v node) ne)
 
 pub total_from_others-left_out : (node k : ℕ) (v : Cells) (rest : Rows) → k < 256 → AreApart ((k, v) ∷ rest)
     → k ≡ node
-    → sum_others numbers node (λ from. row_cell ((k, v) ∷ rest) from node)
-    ≡ 0 + sum_others numbers node (λ from. row_cell rest from node)
+    → sum_others node_numbers node (λ from. row_cell ((k, v) ∷ rest) from node)
+    ≡ 0 + sum_others node_numbers node (λ from. row_cell rest from node)
 total_from_others-left_out node k v rest below apart same =
     total_from_others-entry node k v rest below apart
-    ∙ ap (λ n. n + sum_others numbers node (λ from. row_cell rest from node)) (chosen-same k node 0 (cell v node) same)
+    ∙ ap (λ n. n + sum_others node_numbers node (λ from. row_cell rest from node)) (chosen-same k node 0 (cell v node) same)
 
 -- each number is one of 64 bits
 pub cell-bound : (cells : Cells) → AreCells cells → (q : ℕ) → cell cells q < 2 ^ 64
@@ -123,34 +123,34 @@ row_cell-bound rows h from to =
     (admitted_at nat_cmp AreCells (MapOrder nat_cmp IsAtMost zero_max) [] (map_order nat_cmp max_order) rows h from) to
 
 -- so all of them fit 128 bits
-bound : (f : ℕ → ℕ) → ((i : ℕ) → f i < 2 ^ 64) → sum_below numbers f ≤ 256 * 2 ^ 64
-bound f h = subst (λ (n : ℕ). sum_below numbers f ≤ n * 2 ^ 64) numbers-is (sum_below-bound numbers (2 ^ 64) f (λ i. let here = h i in omega arith))
+bound : (f : ℕ → ℕ) → ((i : ℕ) → f i < 2 ^ 64) → sum_below node_numbers f ≤ 256 * 2 ^ 64
+bound f h = subst (λ (n : ℕ). sum_below node_numbers f ≤ n * 2 ^ 64) numbers-is (sum_below-bound node_numbers (2 ^ 64) f (λ i. let here = h i in omega arith))
 
-bound-others : (node : ℕ) (f : ℕ → ℕ) → ((i : ℕ) → f i < 2 ^ 64) → sum_others numbers node f ≤ 256 * 2 ^ 64
+bound-others : (node : ℕ) (f : ℕ → ℕ) → ((i : ℕ) → f i < 2 ^ 64) → sum_others node_numbers node f ≤ 256 * 2 ^ 64
 bound-others node f h = bound (λ j. cond (j == node) 0 (f j)) (λ j. at (j == node) (h j))
   where
     at : (t : Bool) {n : ℕ} → n < 2 ^ 64 → cond t 0 n < 2 ^ 64
     at true h = omega arith
     at false h = h
 
-pub total-bound : (cells : Cells) → AreCells cells → sum_below numbers (cell cells) ≤ 256 * 2 ^ 64
+pub total-bound : (cells : Cells) → AreCells cells → sum_below node_numbers (cell cells) ≤ 256 * 2 ^ 64
 total-bound cells h = bound (cell cells) (cell-bound cells h)
 
-pub total_of_others-bound : (node : ℕ) (cells : Cells) → AreCells cells → sum_others numbers node (cell cells) ≤ 256 * 2 ^ 64
+pub total_of_others-bound : (node : ℕ) (cells : Cells) → AreCells cells → sum_others node_numbers node (cell cells) ≤ 256 * 2 ^ 64
 total_of_others-bound node cells h = bound-others node (cell cells) (cell-bound cells h)
 
-pub total_from_others-bound : (node : ℕ) (rows : Rows) → AreRows rows → sum_others numbers node (λ from. row_cell rows from node) ≤ 256 * 2 ^ 64
+pub total_from_others-bound : (node : ℕ) (rows : Rows) → AreRows rows → sum_others node_numbers node (λ from. row_cell rows from node) ≤ 256 * 2 ^ 64
 total_from_others-bound node rows h = bound-others node (λ from. row_cell rows from node) (λ from. row_cell-bound rows h from node)
 
 -- nothing is left where no entries are
-pub total-empty : sum_below numbers (cell []) ≡ 0
+pub total-empty : sum_below node_numbers (cell []) ≡ 0
 unfolding cell
-total-empty = sum-zero numbers (λ q. 0) (λ q. refl)
+total-empty = sum-zero node_numbers (λ q. 0) (λ q. refl)
 
-pub total_of_others-empty : (node : ℕ) → sum_others numbers node (cell []) ≡ 0
+pub total_of_others-empty : (node : ℕ) → sum_others node_numbers node (cell []) ≡ 0
 unfolding cell
-total_of_others-empty node = sum_others-zero numbers node (λ q. 0) (λ q. refl)
+total_of_others-empty node = sum_others-zero node_numbers node (λ q. 0) (λ q. refl)
 
-pub total_from_others-empty : (node : ℕ) → sum_others numbers node (λ from. row_cell [] from node) ≡ 0
+pub total_from_others-empty : (node : ℕ) → sum_others node_numbers node (λ from. row_cell [] from node) ≡ 0
 unfolding cell row_cell
-total_from_others-empty node = sum_others-zero numbers node (λ q. 0) (λ q. refl)
+total_from_others-empty node = sum_others-zero node_numbers node (λ q. 0) (λ q. refl)

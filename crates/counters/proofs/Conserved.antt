@@ -3,7 +3,7 @@ use Rattle.std.proofs.Common.{◌≡◌, ℕ, ◌+◌, ◌==◌, zero, suc, Bool
 use Rattle.std.proofs.lemmas.Bool.{eqb-true, eqb-false}
 use Rattle.std.proofs.lemmas.Int.{ints}
 use Rattle.std.specs.Prelude.{pos, ◌+ℤ◌, ◌-ℤ◌}
-use Rattle.counters.specs.Sums.{numbers, sum_below, sum_others, int_sum_below}
+use Rattle.counters.specs.Sums.{node_numbers, sum_below, sum_others, int_sum_below}
 use Rattle.counters.specs.Budgets.{given_to, gone_from, total_spent, RemainingAndSpentAreTheCount}
 use Rattle.counters.proofs.SumLemmas.{sum-same, sum-add, sum-at, sum-swap}
 
@@ -32,9 +32,9 @@ balanced all came own out spent count all_gone a b c d = omega (arith, ints)
 
 pub remaining_and_spent : RemainingAndSpentAreTheCount
 remaining_and_spent b below =
-    (λ p. int_sum-differences numbers (given_to b) (gone_from b) p +ℤ pos (total_spent b)) ∙
+    (λ p. int_sum-differences node_numbers (given_to b) (gone_from b) p +ℤ pos (total_spent b)) ∙
     balanced _ _ _ _ _ _ _
-    (sum-at numbers b.setter b.count below)
-    (sum-add numbers (λ i. cond (i == b.setter) b.count 0) (λ i. sum_others numbers i (λ j. b.shifted j i)))
-    (sum-add numbers (λ i. sum_others numbers i (λ j. b.shifted i j)) b.spent)
-    (from_to numbers b.shifted)
+    (sum-at node_numbers b.setter b.count below)
+    (sum-add node_numbers (λ i. cond (i == b.setter) b.count 0) (λ i. sum_others node_numbers i (λ j. b.shifted j i)))
+    (sum-add node_numbers (λ i. sum_others node_numbers i (λ j. b.shifted i j)) b.spent)
+    (from_to node_numbers b.shifted)

@@ -1,5 +1,5 @@
 -- What a change of a map's entries does to its cells.
-use Rattle.std.specs.Prelude.{◌≡◌, ◌≢◌, ◌<◌, ◌≤◌, ℕ, max, true, false, Option, Some, None, IsSome, [], unwrap_or, Result, Ok, Err, OnOk, OnErr}
+use Rattle.std.specs.Prelude.{◌≡◌, ◌≢◌, ◌≤◌, ℕ, max, true, false, Option, Some, None, IsSome, [], unwrap_or, Result, Ok, Err, OnOk, OnErr}
 use Rattle.std.specs.Ordering.{nat_cmp}
 use Rattle.std.specs.declared.cmp.Ordering.TheVariants.{Equal}
 use Rattle.std.proofs.Common.{ap, arith, refl, sym, ◌∙◌, ⊎_elim}

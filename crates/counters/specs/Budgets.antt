@@ -1,6 +1,6 @@
 -- The budget of one counted term: who holds how many rights to execute it.
 use Rattle.std.specs.Prelude.{◌≡◌, ℕ, Bool, ◌+◌, ◌<◌, ◌==◌, nat_le, ℤ, pos, ◌+ℤ◌, ◌-ℤ◌, if◌then◌else◌}
-use Rattle.counters.specs.Sums.{numbers, sum_below, int_sum_below, sum_others}
+use Rattle.counters.specs.Sums.{node_numbers, sum_below, int_sum_below, sum_others}
 
 -- a term counted in a key: the node that set it, its count, the total that each node shifted to
 -- each, and what each spent
@@ -12,11 +12,11 @@ pub record Budget : Type 0 where
 
 -- what node i was given: the whole count if it set the key, and what others shifted to it
 abbrev pub given_to : Budget → ℕ → ℕ
-given_to b i = (if i == b.setter then b.count else 0) + sum_others numbers i (λ j. b.shifted j i)
+given_to b i = (if i == b.setter then b.count else 0) + sum_others node_numbers i (λ j. b.shifted j i)
 
 -- what went from node i: what it shifted to others, and what it spent
 abbrev pub gone_from : Budget → ℕ → ℕ
-gone_from b i = sum_others numbers i (λ j. b.shifted i j) + b.spent i
+gone_from b i = sum_others node_numbers i (λ j. b.shifted i j) + b.spent i
 
 -- the rights of node i, which are negative where a spend is known before the shift that paid for it
 abbrev pub rights : Budget → ℕ → ℤ
@@ -28,12 +28,12 @@ has_rights b i amount = nat_le (gone_from b i + amount) (given_to b i)
 
 -- what all nodes spent, and the rights that remain over all nodes
 abbrev pub total_spent : Budget → ℕ
-total_spent b = sum_below numbers b.spent
+total_spent b = sum_below node_numbers b.spent
 
 abbrev pub remaining_rights : Budget → ℤ
-remaining_rights b = int_sum_below numbers (rights b)
+remaining_rights b = int_sum_below node_numbers (rights b)
 
 -- whatever was shifted and spent, what was spent and what remains are the count
 abbrev pub RemainingAndSpentAreTheCount : Type 0
 RemainingAndSpentAreTheCount =
-    (b : Budget) → b.setter < numbers → remaining_rights b +ℤ pos (total_spent b) ≡ pos b.count
+    (b : Budget) → b.setter < node_numbers → remaining_rights b +ℤ pos (total_spent b) ≡ pos b.count

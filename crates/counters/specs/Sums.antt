@@ -2,8 +2,8 @@
 use Rattle.std.specs.Prelude.{ℕ, ◌+◌, ◌==◌, zero, suc, if◌then◌else◌, ℤ, pos, ◌+ℤ◌}
 
 -- every node number is below this
-unfoldable pub numbers : ℕ
-numbers = 256
+unfoldable pub node_numbers : ℕ
+node_numbers = 256
 
 -- the sum over the numbers below n
 abbrev pub sum_below : ℕ → (ℕ → ℕ) → ℕ

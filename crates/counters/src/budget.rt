@@ -1,13 +1,13 @@
 //! What the nodes spent of a budget, and what each moved to each.
 
 ghost use Rattle.std.specs.Prelude.{◌≡◌, ◌+◌, ◌<◌, Some, None, IfOk, IfErr, OnOk, OnErr, max};
-ghost use Rattle.counters.specs.Sums.{numbers, sum_below};
+ghost use Rattle.counters.specs.Sums.{node_numbers, sum_below};
 ghost use Rattle.counters.specs.Budgets.{rights};
 ghost use Rattle.counters.specs.Cells.{no_shares, spent_cell, moved_cell, budget_of, WritesSpent, WritesMoved};
-ghost use Rattle.counters.specs.Refusals.{spend_refusal, shift_refusal, IsRefusal};
+ghost use Rattle.counters.specs.Refusals.{spend_refusal, shift_refusal, too_great, IsRefusal};
 
 use crate::cells::{
-    Cells, Rows, number_in_row, number_of, raise, raise_row, total, total_from_others,
+    Cells, Rows, count, number_in_row, number_of, raise, raise_row, total, total_from_others,
     total_to_others,
 };
 use crate::fault::CounterFault;
@@ -77,7 +77,7 @@ impl Budget {
 
     /// What all nodes spent.
     pub fn total_spent(&self) -> u128
-        ensures { result ≡ sum_below numbers (spent_cell self.now) }
+        ensures { result ≡ sum_below node_numbers (spent_cell self.now) }
     {
         total(&self.shares.first)
     }
@@ -103,6 +103,20 @@ impl Budget {
         let spent = self.spend_checked(setter, count, node)?;
         raise(&mut self.shares.first, alloc, node, spent)?;
         Ok(spent)
+    }
+
+    /// Counts one right more that a node spent, whether or not it has one, and answers how many it
+    /// has now spent. It is refused where the node has spent 2^64 - 1 (`CellFull`), and where it has
+    /// spent none and memory is refused (`OutOfMemory`).
+    pub fn count_spent(&mut self, alloc: Global, node: u8) -> Result<u64, CounterFault>
+        ensures ok { OnOk result (too_great (spent_cell self.old node + 1) ≡ None) }
+        ensures answer { IfOk result (λ spent. spent ≡ spent_cell self.old node + 1) }
+        ensures after { IfOk result (WritesSpent self.old self.new node) }
+        ensures refused { IfErr result
+            (IsRefusal (too_great (spent_cell self.old node + 1)) (spent_cell self.old node)) }
+        ensures err { OnErr result (self.new ≡ self.old) }
+    {
+        count(&mut self.shares.first, alloc, node)
     }
 
     /// Moves rights of a node to another, and answers how many it has now moved there in all. It

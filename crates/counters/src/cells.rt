@@ -1,7 +1,7 @@
 //! Numbers by node, 0 where there is none, and rows of them.
 
 ghost use Rattle.std.specs.Prelude.{◌≡◌, ◌≤◌, ◌+◌, ◌*◌, ◌^◌, max, Some, None, IfOk, IfErr, OnOk, OnErr};
-ghost use Rattle.counters.specs.Sums.{numbers, sum_below, sum_others};
+ghost use Rattle.counters.specs.Sums.{node_numbers, sum_below, sum_others};
 ghost use Rattle.counters.specs.Cells.{cell, row_cell, WritesCell, WritesRowCell};
 ghost use Rattle.counters.specs.Refusals.{hit_refusal, too_great, IsRefusal};
 
@@ -39,7 +39,7 @@ pub(crate) fn number_in_row(rows: &Rows, from: u8, to: u8) -> u64
 
 /// All numbers together.
 pub(crate) fn total(cells: &Cells) -> u128
-    ensures { result ≡ sum_below numbers (cell cells.now) }
+    ensures { result ≡ sum_below node_numbers (cell cells.now) }
 {
     let mut sum = 0u128;
     for (node, number) in cells.iter() {
@@ -52,7 +52,7 @@ pub(crate) fn total(cells: &Cells) -> u128
 
 /// The numbers of the nodes other than this one, together.
 pub(crate) fn total_of_others(cells: &Cells, node: u8) -> u128
-    ensures value { result ≡ sum_others numbers node (cell cells.now) }
+    ensures value { result ≡ sum_others node_numbers node (cell cells.now) }
     ensures small { result ≤ 256 * 2 ^ 64 }
 {
     let mut sum = 0u128;
@@ -66,7 +66,7 @@ pub(crate) fn total_of_others(cells: &Cells, node: u8) -> u128
 
 /// What a node's row has at the other nodes, together.
 pub(crate) fn total_to_others(rows: &Rows, node: u8) -> u128
-    ensures value { result ≡ sum_others numbers node (row_cell rows.now node) }
+    ensures value { result ≡ sum_others node_numbers node (row_cell rows.now node) }
     ensures small { result ≤ 256 * 2 ^ 64 }
 {
     match rows.get(&node) {
@@ -77,7 +77,7 @@ pub(crate) fn total_to_others(rows: &Rows, node: u8) -> u128
 
 /// What the rows of the nodes other than this one have at this one, together.
 pub(crate) fn total_from_others(rows: &Rows, node: u8) -> u128
-    ensures value { result ≡ sum_others numbers node (λ from. row_cell rows.now from node) }
+    ensures value { result ≡ sum_others node_numbers node (λ from. row_cell rows.now from node) }
     ensures small { result ≤ 256 * 2 ^ 64 }
 {
     let mut sum = 0u128;

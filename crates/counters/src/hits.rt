@@ -1,7 +1,7 @@
 //! How many hits each node counted.
 
 ghost use Rattle.std.specs.Prelude.{◌≡◌, ◌+◌, [], None, IfOk, IfErr, OnOk, OnErr, max};
-ghost use Rattle.counters.specs.Sums.{numbers, sum_below};
+ghost use Rattle.counters.specs.Sums.{node_numbers, sum_below};
 ghost use Rattle.counters.specs.Cells.{cell, WritesCell};
 ghost use Rattle.counters.specs.Refusals.{hit_refusal, IsRefusal};
 
@@ -46,7 +46,7 @@ impl HitCounter {
 
     /// The hits of all nodes.
     pub fn total(&self) -> u128
-        ensures { result ≡ sum_below numbers (cell self.now) }
+        ensures { result ≡ sum_below node_numbers (cell self.now) }
     {
         total(&self.hits)
     }

@@ -1,32 +1,25 @@
 -- Lists made of the marked cells that changed after a version: their members, and their order.
-use Rattle.std.proofs.Common.{◌≡◌, ℕ, ◌<◌, ◌≤◌, Bool, true, false, cond, List, [], ◌∷◌, length, map, inl, inr, ◌⊎◌, ⊎_elim, Some, refl, sym, ap, subst, ◌∙◌, arith}
+use Rattle.std.proofs.Common.{◌≡◌, ℕ, ◌<◌, ◌≤◌, Bool, true, false, cond, List, [], ◌∷◌, length, map, inl, inr, ◌⊎◌, Some, refl, sym, subst, ◌∙◌, arith}
 use Rattle.std.specs.Prelude.{nat_lt}
 use Rattle.std.specs.List.{flat_map}
 use Rattle.std.specs.List.Sorted.{IsStrictlySortedBy}
 use Rattle.std.specs.Map.{lookup, keys_of}
 use Rattle.std.specs.BTreeMap.{is_at}
 use Rattle.std.specs.Cmp.{IsTotalOrder}
-use Rattle.std.specs.Ordering.{nat_cmp, is_eq, ordering_reverse}
+use Rattle.std.specs.Ordering.{nat_cmp}
 use Rattle.std.specs.Cmp.Lexicographic.{slice_cmp}
-use Rattle.std.specs.declared.cmp.Ordering.{Ordering}
-use Rattle.std.specs.declared.cmp.Ordering.TheVariants.{Less, Equal, Greater}
+use Rattle.std.specs.declared.cmp.Ordering.TheVariants.{Less, Equal}
 use Rattle.std.proofs.lemmas.Bool.Decides.{nat_tests}
 use Rattle.std.proofs.lemmas.Cmp.{nat_list_cmp_total, on_total, tied_itself}
-use Rattle.std.proofs.lemmas.List.{map-append}
-use Rattle.std.proofs.lemmas.List.Concat.{flat_map-cons}
-use Rattle.std.proofs.lemmas.Map.Keys.{sorted_head, sorted_tail}
-use Rattle.std.proofs.lemmas.Map.Entries.{lookup_head, lookup_tail}
-use Rattle.std.proofs.lemmas.Map.Lookups.{exact_bytes}
+use Rattle.std.proofs.lemmas.Map.Lookups.{CmpEqualImpliesEq, exact_bytes}
 use Rattle.replica_state.specs.Operations.{IsIn}
 use Rattle.replica_state.specs.Points.{place_of_counted, counted_cmp, is_hits}
 use Rattle.replica_state.specs.declared.point.Counted.{Counted}
 use Rattle.replica_state.specs.declared.point.Counted.TheVariants.{Hits, Execs, Shifts}
-use Rattle.replica_state.proofs.Sets.{IsIn-append_left, IsIn-append_right, IsIn-append_cases}
 use Rattle.replica_state.proofs.Names.{IsAscending}
 use Rattle.delta_exchange.specs.Marks.{cell_change}
 use Rattle.delta_exchange.specs.Since.{later}
-use Rattle.delta_exchange.proofs.LawfulLemmas.{one_of, mapped_from, mapped_in}
-use Rattle.delta_exchange.proofs.BelowLemmas.{ascending_append}
+use Rattle.delta_exchange.proofs.SinceMaps.{found_in, value_at, in_flat, flat_in, flat_ascends}
 
 -- ---- the order of what is counted
 
@@ -44,53 +37,8 @@ by_place (Execs t i) (Shifts u j p) e = absurd cc
 by_place (Shifts t i o) (Hits j) e = absurd cc
 by_place (Shifts t i o) (Execs u j) e = absurd cc
 
-same_place : (c d : Counted) → is_at (counted_cmp c) d ≡ true → c ≡ d
-same_place c d e = by_place c d (exact_bytes (place_of_counted c) (place_of_counted d) (equal (counted_cmp c d) e))
-  where
-    equal : (o : Ordering) → is_eq o ≡ true → o ≡ Equal
-    equal Less e = absurd cc
-    equal Equal e = refl
-    equal Greater e = absurd cc
-
--- ---- the mark of a cell
-
-pub found_in : (es : List (Counted × ℕ)) (c : Counted) (n : ℕ) → lookup (is_at (counted_cmp c)) es ≡ Some n → IsIn (c, n) es
-found_in [] c n h = absurd cc
-found_in (e ∷ es) c n h = by_test (found_in es c n) (is_at (counted_cmp c) e.0) refl h
-  where
-    by_test : (lookup (is_at (counted_cmp c)) es ≡ Some n → IsIn (c, n) es) → (b : Bool) → is_at (counted_cmp c) e.0 ≡ b → cond b (Some e.1) (lookup (is_at (counted_cmp c)) es) ≡ Some n → IsIn (c, n) (e ∷ es)
-    by_test rest true t s =
-        let same = same_place c e.0 t in
-        let number : n ≡ e.1 = cc in
-        inl (λ i. (same i, number i))
-    by_test rest false t s = inr (rest s)
-
-pub mark_of : (es : List (Counted × ℕ)) (c : Counted) (n : ℕ) → IsStrictlySortedBy counted_cmp (keys_of es) → IsIn (c, n) es → lookup (is_at (counted_cmp c)) es ≡ Some n
-mark_of [] c n sorted h = absurd h
-mark_of (e ∷ es) c n sorted (inl s) =
-    let here : c ≡ e.0 = ap (λ (x : Counted × ℕ). x.0) s in
-    let number : n ≡ e.1 = ap (λ (x : Counted × ℕ). x.1) s in
-    let tied : is_at (counted_cmp c) e.0 ≡ true = ap is_eq (subst (λ d. counted_cmp c d ≡ Equal) here (tied_itself counted_total c)) in
-    lookup_head (is_at (counted_cmp c)) e es tied ∙ ap Some (sym number)
-mark_of (e ∷ es) c n sorted (inr h) =
-    let above : counted_cmp e.0 c ≡ Less = one_of (λ d. counted_cmp e.0 d ≡ Less) (keys_of es) (sorted_head counted_cmp e.0 (keys_of es) sorted) c (mapped_in (λ (x : Counted × ℕ). x.0) es (c, n) h) in
-    let apart : is_at (counted_cmp c) e.0 ≡ false = ap is_eq (counted_total.antisymm c e.0 ∙ ap ordering_reverse above) in
-    lookup_tail (is_at (counted_cmp c)) e es apart ∙ mark_of es c n (sorted_tail counted_cmp e.0 (keys_of es) sorted) h
-
--- ---- lists one after the other
-
-module _ {A B : Type 0} (f : A → List B) where
-  in_flat : (xs : List A) (y : B) → IsIn y (flat_map f xs) → (x : A) × IsIn x xs × IsIn y (f x)
-  in_flat [] y h = absurd h
-  in_flat (x ∷ xs) y h = ⊎_elim
-      (λ l. (x, inl refl, l))
-      (λ l. let r = in_flat xs y l in (r.0, inr r.1, r.2))
-      (IsIn-append_cases y (f x) (flat_map f xs) (subst (IsIn y) (flat_map-cons f x xs) h))
-
-  flat_in : (xs : List A) (x : A) (y : B) → IsIn x xs → IsIn y (f x) → IsIn y (flat_map f xs)
-  flat_in [] x y h k = absurd h
-  flat_in (z ∷ xs) x y (inl s) k = subst (IsIn y) (sym (flat_map-cons f z xs)) (IsIn-append_left y (f z) (flat_map f xs) (subst (λ a. IsIn y (f a)) s k))
-  flat_in (z ∷ xs) x y (inr h) k = subst (IsIn y) (sym (flat_map-cons f z xs)) (IsIn-append_right y (f z) (flat_map f xs) (flat_in xs x y h k))
+counted_exact : CmpEqualImpliesEq counted_cmp
+counted_exact c d e = by_place c d (exact_bytes (place_of_counted c) (place_of_counted d) e)
 
 -- ---- what changed after a version
 
@@ -124,10 +72,10 @@ module _ {C : Type 0} (f : Counted → List C) (key base : ℕ) where
   later_member es d sorted h =
       let r = in_flat (later key base f) es d h in
       let one = in_one r.0 d r.2 in
-      record { counted = r.0.0; mark = r.0.1; marked = mark_of es r.0.0 r.0.1 sorted r.1; above = one.0; is = one.1 }
+      record { counted = r.0.0; mark = r.0.1; marked = value_at counted_cmp counted_total counted_exact es r.0.0 r.0.1 sorted r.1; above = one.0; is = one.1 }
 
   pub member_later : (es : List (Counted × ℕ)) (c : Counted) (n : ℕ) (d : C) → lookup (is_at (counted_cmp c)) es ≡ Some n → base < cell_change (is_hits c) n key → IsIn d (f c) → IsIn d (flat_map (later key base f) es)
-  member_later es c n d e lt h = flat_in (later key base f) es (c, n) d (found_in es c n e) (one_in (c, n) d lt h)
+  member_later es c n d e lt h = flat_in (later key base f) es (c, n) d (found_in counted_cmp counted_total counted_exact es c n e) (one_in (c, n) d lt h)
 
   one_ascends : (place : C → List ℕ) (e : Counted × ℕ) → IsAscending (map place (f e.0)) → IsAscending (map place (later key base f e))
   one_ascends place e h = by_test (nat_lt base (change e))
@@ -139,20 +87,9 @@ module _ {C : Type 0} (f : Counted → List C) (key base : ℕ) where
   pub later_ascends : (place : C → List ℕ) → ((c : Counted) → IsAscending (map place (f c)))
       → ((c e : Counted) (x y : C) → counted_cmp c e ≡ Less → IsIn x (f c) → IsIn y (f e) → slice_cmp nat_cmp (place x) (place y) ≡ Less)
       → (es : List (Counted × ℕ)) → IsStrictlySortedBy counted_cmp (keys_of es) → IsAscending (map place (flat_map (later key base f) es))
-  later_ascends place each across [] sorted = tt
-  later_ascends place each across (e ∷ es) sorted =
-      let rest = flat_map (later key base f) es in
-      subst (λ ds. IsAscending (map place ds)) (sym (flat_map-cons (later key base f) e es))
-      (subst IsAscending (sym (map-append place (later key base f e) rest))
-      (ascending_append (map place (later key base f e)) (map place rest) (one_ascends place e (each e.0)) (later_ascends place each across es (sorted_tail counted_cmp e.0 (keys_of es) sorted))
-      (λ p q a b.
-      let x = mapped_from place (later key base f e) p a in
-      let y = mapped_from place rest q b in
-      let r = in_flat (later key base f) es y.0 y.1 in
-      let one = in_one e x.0 x.1 in
-      let other = in_one r.0 y.0 r.2 in
-      let less : counted_cmp e.0 r.0.0 ≡ Less = one_of (λ d. counted_cmp e.0 d ≡ Less) (keys_of es) (sorted_head counted_cmp e.0 (keys_of es) sorted) r.0.0 (mapped_in (λ (z : Counted × ℕ). z.0) es r.0 r.1) in
-      subst (λ z. slice_cmp nat_cmp z q ≡ Less) (sym x.2) (subst (λ z. slice_cmp nat_cmp (place x.0) z ≡ Less) (sym y.2) (across e.0 r.0.0 x.0 y.0 less one.1 other.1)))))
+  later_ascends place each across = flat_ascends counted_cmp (later key base f) place
+      (λ e. one_ascends place e (each e.0))
+      (λ e g x y lt h k. across e.0 g.0 x y lt (in_one e x h).1 (in_one g y k).1)
 
 -- ---- a list in order that is part of another one is no longer
 

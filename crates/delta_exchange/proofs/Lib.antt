@@ -24,6 +24,7 @@ pub mod ChangeLemmas
 pub mod InPlace
 pub mod NewsLemmas
 pub mod RoomLemmas
+pub mod SinceMaps
 pub mod LaterCells
 pub mod SinceCells
 pub mod SinceEntries
@@ -31,3 +32,7 @@ pub mod SinceChanges
 pub mod SinceLemmas
 pub mod NewsChanges
 pub mod LearnsLemmas
+pub mod OneMessage
+pub mod Filters
+pub mod Differences
+pub mod DifferenceExamples

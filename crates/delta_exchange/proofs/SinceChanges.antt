@@ -65,13 +65,13 @@ module _ (v : State) (m : Marks) (base : ℕ) (name : List ℕ) where
     unfolding marks_value
     latest_is o at = ap (λ x. latest_of x) at
 
-    pub marks_changed : (IsUnchangedSince v (changes_of m) base name → ⊥) → (w : NameMarks) × (marks_at m.names.entries name ≡ Some w) × IsTrue (nat_lt base w.latest)
+    pub marks_changed : (IsUnchangedSince v (changes_of m) base name → ⊥) → (w : NameMarks) × (marks_at m.names.entries name ≡ Some w) × (base < w.latest)
     marks_changed h = by_marks (marks_at m.names.entries name) refl
       where
-        by_marks : (o : Option NameMarks) → marks_at m.names.entries name ≡ o → (w : NameMarks) × (marks_at m.names.entries name ≡ Some w) × IsTrue (nat_lt base w.latest)
+        by_marks : (o : Option NameMarks) → marks_at m.names.entries name ≡ o → (w : NameMarks) × (marks_at m.names.entries name ≡ Some w) × (base < w.latest)
         by_marks None at = let none = latest_is None at in absurd (h (unchanged_upto (omega (arith, none))))
         by_marks (Some w) at = let is = latest_is (Some w) at in ⊎_elim
-            (λ lt. (w, at, grind (arith, nat_tests)))
+            (λ lt. (w, at, lt))
             (λ le. absurd (h (unchanged_upto (omega (arith, is, le)))))
             (cases_lt base w.latest)
 
@@ -159,13 +159,13 @@ module _ (v : State) (m : Marks) (base : ℕ) (name : List ℕ) where
 
     -- ---- it can be written
 
-    pub entry_is : IsIn name v.names → EntryFits entry → IsEntry nodes entry
-    entry_is held fits =
+    pub entry_is : EntryFits entry → IsEntry nodes entry
+    entry_is fits =
         let few_hits = few_hits_since v nodes lawful few m base name w at ordered in
         let few_execs = few_execs_since v nodes lawful few m base name w at ordered key keyed in
         let few_shifts = few_shifts_since v nodes lawful few m base name w at ordered key keyed in
         record {
-          name = lawful.named name held;
+          name = lawful.named name (lawful.key_name name key keyed);
           key = lawful.key name key keyed;
           few_hits = omega (arith, few_hits);
           hits = all_of (IsHit nodes) entry.hits (λ c h. hit_is c (one_of (λ (x : ℕ × ℕ). x.1 < 2 ^ 64) entry.hits fits.0 c h) h);
@@ -204,6 +204,5 @@ pub entry_changed : (v : State) (nodes : ℕ) (lawful : IsLawfulState nodes v) (
     → (w : NameMarks) × (marks_at m.names.entries name ≡ Some w) × IsOrdered counted_cmp w.cells × IsIn (entry_since v name key base w) (all_since v base m)
 entry_changed v nodes lawful few m base version upto ordered name key keyed h =
     let r = marks_changed v m base name version upto h in
-    let held = lawful.key_name name key keyed in
-    let order = order_of v base m ordered name r.0 held r.1 in
-    (r.0, r.1, order, member_entry v base m name key r.0 held keyed r.1 r.2 (change_told v m base name nodes lawful few r.0 r.1 order key keyed h))
+    let order = order_of v base m ordered name key r.0 r.1 r.2 keyed in
+    (r.0, r.1, order, member_entry v base m ordered name key r.0 keyed r.1 r.2 (change_told v m base name nodes lawful few r.0 r.1 order key keyed h))

@@ -1,7 +1,14 @@
--- The entries of what changed after a version: which they are, that each changed name has one, and that they can be written.
-use Rattle.std.proofs.Common.{◌≡◌, ℕ, ◌*◌, ◌<◌, ◌≤◌, ◌&&◌, ◌||◌, Bool, true, false, cond, List, [], ◌∷◌, length, map, inl, inr, Option, Some, None, refl, sym, subst, arith}
-use Rattle.std.specs.Prelude.{IsTrue, nat_lt, slice_get, IfSome}
+-- The entries of what changed after a version: which they are, in which order they stand, and how many there are.
+use Rattle.std.proofs.Common.{◌≡◌, ℕ, ◌<◌, ◌≤◌, ◌||◌, Bool, true, false, cond, List, [], ◌∷◌, ◌++◌, length, map, inl, inr, Option, Some, None, refl, sym, ap, subst, ◌∙◌, append_assoc, arith}
+use Rattle.std.specs.Prelude.{IsTrue, is_some, nat_lt}
+use Rattle.std.specs.List.{AllByRecursion}
 use Rattle.std.specs.BTreeMap.{IsOrdered}
+use Rattle.std.specs.Ordering.{nat_cmp}
+use Rattle.std.specs.Cmp.Lexicographic.{slice_cmp}
+use Rattle.std.proofs.lemmas.Bool.Decides.{nat_tests}
+use Rattle.std.proofs.lemmas.Cmp.{nat_list_cmp_total}
+use Rattle.std.proofs.lemmas.List.{length-map}
+use Rattle.std.proofs.lemmas.Map.Lookups.{exact_bytes}
 use Rattle.stamp_register.specs.Keys.{KeyValue}
 use Rattle.replica_state.specs.Operations.{IsIn}
 use Rattle.replica_state.specs.States.{State}
@@ -11,118 +18,151 @@ use Rattle.delta_exchange.specs.declared.marks.NameMarks.{NameMarks}
 use Rattle.delta_exchange.specs.declared.marks.Marks.{Marks}
 use Rattle.delta_exchange.specs.Marks.{marks_at}
 use Rattle.delta_exchange.specs.Messages.{EntryValue}
-use Rattle.delta_exchange.specs.Since.{entry_since, tells_cells, entry_told, entry_marked, entry_since_at, entries_since, IsOrderedAt}
-use Rattle.delta_exchange.proofs.BelowLemmas.{below_in, in_below, length_below, ascending_below}
-use Rattle.delta_exchange.proofs.HeldEntries.{place_in, get_in, get_less}
-
--- ---- which entries there are
+use Rattle.delta_exchange.specs.Since.{entry_since, tells_cells, entry_told, entry_under, entry_marked, entries_since, AreCellsOrdered}
+use Rattle.delta_exchange.proofs.LawfulLemmas.{one_of, mapped_from}
+use Rattle.delta_exchange.proofs.SinceMaps.{found_in, value_at, in_flat, flat_in, flat_ascends}
+use Rattle.delta_exchange.proofs.LaterCells.{part_is_short}
 
 module _ (v : State) (base : ℕ) (m : Marks) where
-  record IsEntryAt (place : Option (List ℕ)) (e : EntryValue) : Type 0 where
-    pub name : List ℕ
+  abbrev pub all_since : List EntryValue
+  all_since = entries_since v base m
+
+  -- ---- of one name
+
+  -- an entry of a name with these marks
+  record IsEntryOf (n : List ℕ × NameMarks) (e : EntryValue) : Type 0 where
     pub key : KeyValue
-    pub marks : NameMarks
-    pub found : place ≡ Some name
-    pub keyed : v.key name ≡ Some key
-    pub at : marks_at m.names.entries name ≡ Some marks
-    pub told : IsTrue (nat_lt base marks.key || tells_cells (entry_since v name key base marks))
-    pub is : e ≡ entry_since v name key base marks
+    pub keyed : v.key n.0 ≡ Some key
+    pub later : base < n.1.latest
+    pub told : IsTrue (nat_lt base n.1.key || tells_cells (entry_since v n.0 key base n.1))
+    pub is : e ≡ entry_since v n.0 key base n.1
 
   in_told : (w : NameMarks) (s e : EntryValue) → IsIn e (entry_told base w s) → IsTrue (nat_lt base w.key || tells_cells s) × (e ≡ s)
-  in_told w s e h = by_test (nat_lt base w.latest) (nat_lt base w.key || tells_cells s) refl h
+  in_told w s e h = by_test (nat_lt base w.key || tells_cells s) refl h
     where
-      by_test : (b t : Bool) → (nat_lt base w.key || tells_cells s) ≡ t → IsIn e (cond (b && t) (s ∷ []) []) → IsTrue (nat_lt base w.key || tells_cells s) × (e ≡ s)
-      by_test true true q (inl i) = (q, i)
-      by_test true true q (inr i) = absurd i
-      by_test true false q i = absurd i
-      by_test false t q i = absurd i
+      by_test : (b : Bool) → (nat_lt base w.key || tells_cells s) ≡ b → IsIn e (cond b (s ∷ []) []) → IsTrue (nat_lt base w.key || tells_cells s) × (e ≡ s)
+      by_test true t (inl i) = (t, i)
+      by_test true t (inr i) = absurd i
+      by_test false t i = absurd i
 
-  in_marked : (name : List ℕ) (k : Option KeyValue) (o : Option NameMarks) (e : EntryValue) → v.key name ≡ k → marks_at m.names.entries name ≡ o → IsIn e (entry_marked v name k base o) → IsEntryAt (Some name) e
-  in_marked name (Some key) (Some w) e keyed at h =
-      let r = in_told w (entry_since v name key base w) e h in
-      record { name = name; key = key; marks = w; found = refl; keyed = keyed; at = at; told = r.0; is = r.1 }
-  in_marked name (Some key) None e keyed at h = absurd h
-  in_marked name None (Some w) e keyed at h = absurd h
-  in_marked name None None e keyed at h = absurd h
+  in_marked : (n : List ℕ × NameMarks) (e : EntryValue) → IsIn e (entry_marked v base n) → IsEntryOf n e
+  in_marked n e h = by_test (nat_lt base n.1.latest) refl h
+    where
+      by_key : (k : Option KeyValue) → v.key n.0 ≡ k → base < n.1.latest → IsIn e (entry_under v n.0 k base n.1) → IsEntryOf n e
+      by_key None keyed lt i = absurd i
+      by_key (Some key) keyed lt i =
+          let r = in_told n.1 (entry_since v n.0 key base n.1) e i in
+          record { key = key; keyed = keyed; later = lt; told = r.0; is = r.1 }
 
-  in_place : (place : Option (List ℕ)) (e : EntryValue) → IsIn e (entry_since_at v base m place) → IsEntryAt place e
-  in_place None e h = absurd h
-  in_place (Some name) e h = in_marked name (v.key name) (marks_at m.names.entries name) e refl refl h
+      by_test : (b : Bool) → nat_lt base n.1.latest ≡ b → IsIn e (cond b (entry_under v n.0 (v.key n.0) base n.1) []) → IsEntryOf n e
+      by_test true t i = by_key (v.key n.0) refl (grind (arith, nat_tests)) i
+      by_test false t i = absurd i
+
+  -- the walk goes over a name of which nothing changed
+  pub passed_over : (n : List ℕ × NameMarks) (told rest all : List EntryValue) → n.1.latest ≤ base → told ++ (entry_marked v base n ++ rest) ≡ all → told ++ rest ≡ all
+  passed_over n told rest all le e = by_test (nat_lt base n.1.latest) refl e
+    where
+      by_test : (b : Bool) → nat_lt base n.1.latest ≡ b → told ++ (cond b (entry_under v n.0 (v.key n.0) base n.1) [] ++ rest) ≡ all → told ++ rest ≡ all
+      by_test true t e = absurd (grind (arith, nat_tests))
+      by_test false t e = e
+
+  -- and adds what changed of another one
+  pub looked_at : (n : List ℕ × NameMarks) (told more rest all : List EntryValue) → base < n.1.latest → more ≡ told ++ entry_under v n.0 (v.key n.0) base n.1 → told ++ (entry_marked v base n ++ rest) ≡ all → more ++ rest ≡ all
+  looked_at n told more rest all lt added e = by_test (nat_lt base n.1.latest) refl e
+    where
+      one : List EntryValue
+      one = entry_under v n.0 (v.key n.0) base n.1
+
+      by_test : (b : Bool) → nat_lt base n.1.latest ≡ b → told ++ (cond b one [] ++ rest) ≡ all → more ++ rest ≡ all
+      by_test true t e = ap (λ es. es ++ rest) added ∙ append_assoc told one rest ∙ e
+      by_test false t e = absurd (grind (arith, nat_tests))
+
+  one_told : (w : NameMarks) (s : EntryValue) → IsAscending (map (λ e. e.name) (entry_told base w s))
+  one_told w s = by_test (nat_lt base w.key || tells_cells s)
+    where
+      by_test : (b : Bool) → IsAscending (map (λ (e : EntryValue). e.name) (cond b (s ∷ []) []))
+      by_test true = (λ n i. absurd i, tt)
+      by_test false = tt
+
+  one_marked : (n : List ℕ × NameMarks) → IsAscending (map (λ e. e.name) (entry_marked v base n))
+  one_marked n = by_test (nat_lt base n.1.latest)
+    where
+      by_key : (k : Option KeyValue) → IsAscending (map (λ (e : EntryValue). e.name) (entry_under v n.0 k base n.1))
+      by_key None = tt
+      by_key (Some key) = one_told n.1 (entry_since v n.0 key base n.1)
+
+      by_test : (b : Bool) → IsAscending (map (λ (e : EntryValue). e.name) (cond b (entry_under v n.0 (v.key n.0) base n.1) []))
+      by_test true = by_key (v.key n.0)
+      by_test false = tt
+
+  -- ---- of all names
+
+  -- the marks are in order, by name and of each name
+  pub record AreOrdered : Type 0 where
+    pub names : IsOrdered (slice_cmp nat_cmp) m.names
+    pub cells : AllByRecursion (AreCellsOrdered v base) m.names.entries
 
   pub record IsEntrySince (e : EntryValue) : Type 0 where
     pub name : List ℕ
     pub key : KeyValue
     pub marks : NameMarks
-    pub held : IsIn name v.names
     pub keyed : v.key name ≡ Some key
     pub at : marks_at m.names.entries name ≡ Some marks
     pub ordered : IsOrdered counted_cmp marks.cells
     pub told : IsTrue (nat_lt base marks.key || tells_cells (entry_since v name key base marks))
     pub is : e ≡ entry_since v name key base marks
 
-  abbrev pub all_since : List EntryValue
-  all_since = entries_since v base m (length v.names)
+  module _ (ordered : AreOrdered) where
+    order_in : (n : List ℕ × NameMarks) (key : KeyValue) → IsIn n m.names.entries → base < n.1.latest → v.key n.0 ≡ Some key → IsOrdered counted_cmp n.1.cells
+    order_in n key h later keyed = one_of (AreCellsOrdered v base) m.names.entries ordered.cells n h later (ap is_some keyed)
 
-  abbrev pub AreOrdered : Type 0
-  AreOrdered = (i : ℕ) → i < length v.names → IsOrderedAt m (slice_get v.names i)
+    marks_in : (name : List ℕ) (w : NameMarks) → marks_at m.names.entries name ≡ Some w → IsIn (name, w) m.names.entries
+    marks_in name w at = found_in (slice_cmp nat_cmp) nat_list_cmp_total exact_bytes m.names.entries name w at
 
-  order_at : (place : Option (List ℕ)) (name : List ℕ) (w : NameMarks) → place ≡ Some name → marks_at m.names.entries name ≡ Some w → IsOrderedAt m place → IsOrdered counted_cmp w.cells
-  order_at place name w found at h = subst (λ o. IfSome o (λ x. IsOrdered counted_cmp x.cells)) at (subst (IsOrderedAt m) found h)
+    pub order_of : (name : List ℕ) (key : KeyValue) (w : NameMarks) → marks_at m.names.entries name ≡ Some w → base < w.latest → v.key name ≡ Some key → IsOrdered counted_cmp w.cells
+    order_of name key w at later keyed = order_in (name, w) key (marks_in name w at) later keyed
 
-  pub order_of : AreOrdered → (name : List ℕ) (w : NameMarks) → IsIn name v.names → marks_at m.names.entries name ≡ Some w → IsOrdered counted_cmp w.cells
-  order_of ordered name w h at =
-      let r = place_in v.names name h in
-      order_at (slice_get v.names r.0) name w r.2 at (ordered r.0 r.1)
+    pub entry_member : (e : EntryValue) → IsIn e all_since → IsEntrySince e
+    entry_member e h =
+        let r = in_flat (entry_marked v base) m.names.entries e h in
+        let one = in_marked r.0 e r.2 in
+        let at = value_at (slice_cmp nat_cmp) nat_list_cmp_total exact_bytes m.names.entries r.0.0 r.0.1 ordered.names r.1 in
+        record { name = r.0.0; key = one.key; marks = r.0.1; keyed = one.keyed; at = at; ordered = order_in r.0 one.key r.1 one.later one.keyed; told = one.told; is = one.is }
 
-  pub entry_member : AreOrdered → (e : EntryValue) → IsIn e all_since → IsEntrySince e
-  entry_member ordered e h =
-      let r = below_in (λ index. entry_since_at v base m (slice_get v.names index)) (length v.names) e h in
-      let one = in_place (slice_get v.names r.0) e r.2 in
-      let held = get_in v.names r.0 one.name one.found in
-      record { name = one.name; key = one.key; marks = one.marks; held = held; keyed = one.keyed; at = one.at; ordered = order_of ordered one.name one.marks held one.at; told = one.told; is = one.is }
+    told_in : (n : List ℕ × NameMarks) (key : KeyValue) → v.key n.0 ≡ Some key → base < n.1.latest → IsTrue (nat_lt base n.1.key || tells_cells (entry_since v n.0 key base n.1))
+        → IsIn (entry_since v n.0 key base n.1) (entry_marked v base n)
+    told_in n key keyed later told = by_test (nat_lt base n.1.latest) refl
+      where
+        e : EntryValue
+        e = entry_since v n.0 key base n.1
 
-  told_in : (w : NameMarks) (s : EntryValue) → IsTrue (nat_lt base w.latest) → IsTrue (nat_lt base w.key || tells_cells s) → IsIn s (entry_told base w s)
-  told_in w s a b = subst (λ t. IsIn s (cond (t && (nat_lt base w.key || tells_cells s)) (s ∷ []) [])) (sym a) (subst (λ t. IsIn s (cond t (s ∷ []) [])) (sym b) (inl refl))
+        by_test : (b : Bool) → nat_lt base n.1.latest ≡ b → IsIn e (cond b (entry_under v n.0 (v.key n.0) base n.1) [])
+        by_test true t = subst (λ k. IsIn e (entry_under v n.0 k base n.1)) (sym keyed) (subst (λ t. IsIn e (cond t (e ∷ []) [])) (sym told) (inl refl))
+        by_test false t = absurd (grind (arith, nat_tests))
 
-  pub member_entry : (name : List ℕ) (key : KeyValue) (w : NameMarks) → IsIn name v.names → v.key name ≡ Some key → marks_at m.names.entries name ≡ Some w
-      → IsTrue (nat_lt base w.latest) → IsTrue (nat_lt base w.key || tells_cells (entry_since v name key base w)) → IsIn (entry_since v name key base w) all_since
-  member_entry name key w h keyed at later told =
-      let r = place_in v.names name h in
-      let e = entry_since v name key base w in
-      in_below (λ index. entry_since_at v base m (slice_get v.names index)) (length v.names) r.0 e r.1
-      (subst (λ place. IsIn e (entry_since_at v base m place)) (sym r.2)
-      (subst (λ k. IsIn e (entry_marked v name k base (marks_at m.names.entries name))) (sym keyed)
-      (subst (λ o. IsIn e (entry_marked v name (Some key) base o)) (sym at) (told_in w e later told))))
+    pub member_entry : (name : List ℕ) (key : KeyValue) (w : NameMarks) → v.key name ≡ Some key → marks_at m.names.entries name ≡ Some w
+        → base < w.latest → IsTrue (nat_lt base w.key || tells_cells (entry_since v name key base w)) → IsIn (entry_since v name key base w) all_since
+    member_entry name key w keyed at later told =
+        flat_in (entry_marked v base) m.names.entries (name, w) (entry_since v name key base w) (marks_in name w at) (told_in (name, w) key keyed later told)
 
-  one_told : (w : NameMarks) (s : EntryValue) → length (entry_told base w s) ≤ 1
-  one_told w s = by_test (nat_lt base w.latest && (nat_lt base w.key || tells_cells s))
-    where
-      by_test : (b : Bool) → length (cond b (s ∷ []) []) ≤ 1
-      by_test true = omega arith
-      by_test false = omega arith
+    pub entries_ascend : IsAscending (map (λ e. e.name) all_since)
+    entries_ascend = flat_ascends (slice_cmp nat_cmp) (entry_marked v base) (λ (e : EntryValue). e.name) one_marked
+        (λ n o c d lt h k.
+        let a = in_marked n c h in
+        let b = in_marked o d k in
+        rw (a.is, b.is) lt)
+        m.names.entries ordered.names
 
-  one_marked : (name : List ℕ) (k : Option KeyValue) (o : Option NameMarks) → length (entry_marked v name k base o) ≤ 1
-  one_marked name (Some key) (Some w) = one_told w (entry_since v name key base w)
-  one_marked name (Some key) None = omega arith
-  one_marked name None (Some w) = omega arith
-  one_marked name None None = omega arith
-
-  one_at : (place : Option (List ℕ)) → length (entry_since_at v base m place) ≤ 1
-  one_at None = omega arith
-  one_at (Some name) = one_marked name (v.key name) (marks_at m.names.entries name)
-
-  pub few_entries : length v.names ≤ 256 → length all_since ≤ 256 * 1
-  few_entries few = length_below (λ index. entry_since_at v base m (slice_get v.names index)) 1 (length v.names) 256 few (λ index. one_at (slice_get v.names index))
-
-  short_ascends : (es : List EntryValue) → length es ≤ 1 → IsAscending (map (λ e. e.name) es)
-  short_ascends [] h = tt
-  short_ascends (e ∷ []) h = (λ n i. absurd i, tt)
-  short_ascends (e ∷ f ∷ es) h = absurd (omega (arith, h))
-
-  pub entries_ascend : IsAscending v.names → IsAscending (map (λ e. e.name) all_since)
-  entries_ascend h = ascending_below (λ index. entry_since_at v base m (slice_get v.names index)) (λ (e : EntryValue). e.name) (length v.names)
-      (λ index. short_ascends (entry_since_at v base m (slice_get v.names index)) (one_at (slice_get v.names index)))
-      (λ i j c d lt k l.
-      let a = in_place (slice_get v.names i) c k in
-      let b = in_place (slice_get v.names j) d l in
-      rw (a.is, b.is) (get_less v.names i j a.name b.name h lt a.found b.found))
+    -- no more than there are names, since each has a key
+    pub few_entries : IsAscending v.names → ((name : List ℕ) (key : KeyValue) → v.key name ≡ Some key → IsIn name v.names) → length all_since ≤ length v.names
+    few_entries ascending key_name =
+        let short = part_is_short (map (λ (e : EntryValue). e.name) all_since) v.names entries_ascend ascending part in
+        let same = length-map all_since (λ (e : EntryValue). e.name) in
+        omega (arith, short, same)
+      where
+        part : (name : List ℕ) → IsIn name (map (λ (e : EntryValue). e.name) all_since) → IsIn name v.names
+        part name h =
+            let r = mapped_from (λ (e : EntryValue). e.name) all_since name h in
+            let one = entry_member r.0 r.1 in
+            let same : name ≡ one.name = subst (λ (e : EntryValue). name ≡ e.name) one.is r.2 in
+            subst (λ n. IsIn n v.names) (sym same) (key_name one.name one.key one.keyed)

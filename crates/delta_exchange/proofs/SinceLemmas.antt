@@ -98,7 +98,7 @@ module _ (v : State) (nodes : ℕ) (lawful : IsLawfulState nodes v) (few : nodes
         let r = entry_member v base m ordered e h in
         let s = entry_since v r.name r.key base r.marks in
         let fits : EntryFits s = subst EntryFits r.is (one_of EntryFits entries fit e h) in
-        let is = entry_is v m base r.name nodes lawful few r.marks r.at r.ordered r.key r.keyed r.held fits in
+        let is = entry_is v m base r.name nodes lawful few r.marks r.at r.ordered r.key r.keyed fits in
         let hits = few_hits_since v nodes lawful few m base r.name r.marks r.at r.ordered in
         let execs = few_execs_since v nodes lawful few m base r.name r.marks r.at r.ordered r.key r.keyed in
         let shifts = few_shifts_since v nodes lawful few m base r.name r.marks r.at r.ordered r.key r.keyed in
@@ -106,7 +106,7 @@ module _ (v : State) (nodes : ℕ) (lawful : IsLawfulState nodes v) (few : nodes
 
     pub is_spelled : (n : MessageValue) → n.entries ≡ entries → n.from < nodes → n.to < nodes → n.to ≢ n.from → n.base < 2 ^ 64 → n.upto < 2 ^ 64 → n.ack < 2 ^ 64 → IsMessage nodes n
     is_spelled n same lt less apart b u a =
-        let most = few_entries v base m names in
+        let most = few_entries v base m ordered lawful.ascending lawful.key_name in
         record {
           few_nodes = omega (arith, few);
           from = lt;
@@ -116,17 +116,17 @@ module _ (v : State) (nodes : ℕ) (lawful : IsLawfulState nodes v) (few : nodes
           upto = u;
           ack = a;
           entries = rw same (record {
-            few = omega (arith, most);
+            few = omega (arith, most, names);
             each = all_of (IsEntry nodes) entries (λ e h. (each_is e h).0);
-            ascend = ascends _ (entries_ascend v base m lawful.ascending);
+            ascend = ascends _ (entries_ascend v base m ordered);
           });
         }
 
     pub is_short : (n : MessageValue) → n.entries ≡ entries → length (message_bytes n) ≤ max_message
     is_short n same =
-        let most = few_entries v base m names in
+        let most = few_entries v base m ordered lawful.ascending lawful.key_name in
         let bytes = length_flat entry_bytes 48930 entries (λ e h. (each_is e h).1) in
-        rw same (omega (arith, most, bytes))
+        rw same (omega (arith, most, names, bytes))
 
 -- where the state can be told
 pub is_message_since : (v : VersionedValue) (m : Marks) (n : MessageValue) (nodes from to base : ℕ) → v.last ≡ changes_of m → AreUpto (marks_value m) v.version → CanBeTold nodes from to v.state

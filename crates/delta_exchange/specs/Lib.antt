@@ -11,3 +11,4 @@ pub mod Marks
 pub mod Versions
 pub mod News
 pub mod Since
+pub mod Differences

@@ -1,6 +1,6 @@
 -- What changed of a replica with versions after one of them: what a message tells of it, and which
 -- entries that makes, by the marks.
-use Rattle.std.specs.Prelude.{◌≡◌, ◌≢◌, ℕ, ◌<◌, ◌≤◌, ◌↔◌, ◌&&◌, ◌||◌, Bool, nat_lt, List, [], ◌∷◌, length, slice_get, if◌then◌else◌, Option, Some, None, IfSome}
+use Rattle.std.specs.Prelude.{◌≡◌, ◌≢◌, ℕ, ◌<◌, ◌≤◌, ◌↔◌, ◌||◌, Bool, nat_lt, List, [], ◌∷◌, length, if◌then◌else◌, Option, Some, None, IsSome}
 use Rattle.std.specs.List.{flat_map}
 use Rattle.std.specs.BTreeMap.{IsOrdered}
 use Rattle.stamp_register.specs.Keys.{KeyValue}
@@ -12,10 +12,10 @@ use Rattle.replica_state.specs.declared.point.Counted.{Counted}
 use Rattle.replica_state.specs.declared.point.Counted.TheVariants.{Hits, Execs, Shifts}
 use Rattle.delta_exchange.specs.declared.marks.NameMarks.{NameMarks}
 use Rattle.delta_exchange.specs.declared.marks.Marks.{Marks}
-use Rattle.delta_exchange.specs.Marks.{marks_at, cell_change}
+use Rattle.delta_exchange.specs.Marks.{cell_change}
 use Rattle.delta_exchange.specs.Messages.{EntryValue, MessageValue, operations_in}
 use Rattle.delta_exchange.specs.Spelling.{IsMessage, message_bytes, max_message}
-use Rattle.delta_exchange.specs.Cells.{each_below, cell_of}
+use Rattle.delta_exchange.specs.Cells.{cell_of}
 use Rattle.delta_exchange.specs.Limits.{max_nodes, max_names}
 use Rattle.delta_exchange.specs.Wholes.{AreLawful}
 use Rattle.delta_exchange.specs.Changes.{IsChangeSince}
@@ -87,20 +87,19 @@ tells_cells e = nat_lt 0 (length e.hits) || (nat_lt 0 (length e.execs) || nat_lt
 
 -- an entry, where its key changed or it tells a cell
 abbrev pub entry_told : ℕ → NameMarks → EntryValue → List EntryValue
-entry_told base marks e = if nat_lt base marks.latest && (nat_lt base marks.key || tells_cells e) then e ∷ [] else []
+entry_told base marks e = if nat_lt base marks.key || tells_cells e then e ∷ [] else []
 
-abbrev pub entry_marked : State → List ℕ → Option KeyValue → ℕ → Option NameMarks → List EntryValue
-entry_marked v name (Some key) base (Some marks) = entry_told base marks (entry_since v name key base marks)
-entry_marked v name _ base _ = []
+abbrev pub entry_under : State → List ℕ → Option KeyValue → ℕ → NameMarks → List EntryValue
+entry_under v name None base marks = []
+entry_under v name (Some key) base marks = entry_told base marks (entry_since v name key base marks)
 
-abbrev pub entry_since_at : State → ℕ → Marks → Option (List ℕ) → List EntryValue
-entry_since_at v base marks None = []
-entry_since_at v base marks (Some name) = entry_marked v name (v.key name) base (marks_at marks.names.entries name)
+-- nothing of a name changed after the latest of its marks
+abbrev pub entry_marked : State → ℕ → List ℕ × NameMarks → List EntryValue
+entry_marked v base n = if nat_lt base n.1.latest then entry_under v n.0 (v.key n.0) base n.1 else []
 
-abbrev pub entries_since : State → ℕ → Marks → ℕ → List EntryValue
-entries_since v base marks count = each_below (λ index. entry_since_at v base marks (slice_get v.names index)) count
+abbrev pub entries_since : State → ℕ → Marks → List EntryValue
+entries_since v base marks = flat_map (entry_marked v base) marks.names.entries
 
--- the marks of a name at a place are in order
-abbrev pub IsOrderedAt : Marks → Option (List ℕ) → Type 0
-IsOrderedAt marks None = Unit {0}
-IsOrderedAt marks (Some name) = IfSome (marks_at marks.names.entries name) (λ m. IsOrdered counted_cmp m.cells)
+-- the marks of a name with a key are in order, if one is after this version
+abbrev pub AreCellsOrdered : State → ℕ → List ℕ × NameMarks → Type 0
+AreCellsOrdered v base n = base < n.1.latest → IsSome (v.key n.0) → IsOrdered counted_cmp n.1.cells

@@ -1,12 +1,12 @@
 -- A replica with versions: its state, how many changes it had, which versions of others it knows and
 -- which of its own others are known to know, and when each key and each cell last changed.
-use Rattle.std.specs.Prelude.{◌≡◌, ℕ, ◌+◌, max, Bool, ◌==◌, ◌&&◌, nat_le, nat_lt, List, [], if◌then◌else◌, is_some}
+use Rattle.std.specs.Prelude.{◌≡◌, ℕ, ◌+◌, ◌<◌, ◌^◌, max, Bool, ◌==◌, ◌&&◌, nat_le, nat_lt, List, [], if◌then◌else◌, Option, is_some, IfSome, IsSome}
 use Rattle.std.specs.Option.{unwrap_or}
 use Rattle.std.specs.Map.{lookup}
 use Rattle.std.specs.BTreeMap.{is_at}
 use Rattle.std.specs.Ordering.{nat_cmp}
 use Rattle.replica_state.specs.Operations.{Operation}
-use Rattle.replica_state.specs.States.{State}
+use Rattle.replica_state.specs.States.{State, budget_of}
 use Rattle.replica_state.specs.Folds.{fold}
 use Rattle.replica_state.specs.Knowledge.{changes}
 use Rattle.delta_exchange.specs.declared.versions.NodeVersions.{NodeVersions}
@@ -57,6 +57,15 @@ known_raised from base upto known j =
 -- the acknowledged version of a sender is raised to the one that it acknowledges
 abbrev pub acked_raised : ℕ → ℕ → (ℕ → ℕ) → ℕ → ℕ
 acked_raised from ack acked j = if j == from then max (acked j) ack else acked j
+
+-- a pass may be counted: the point has a key, which counts the term that is spent, and there is room
+-- for one hit, one execution and one change more
+pub record MayPass (v : VersionedValue) (name : List ℕ) (node : ℕ) (spent : Option ℕ) : Type 0 where
+  pub set : IsSome (v.state.key name)
+  pub counted : IfSome spent (λ term. IsSome (budget_of v.state name term))
+  pub hits : v.state.hits name node + 1 < 2 ^ 64
+  pub execs : (term : ℕ) → v.state.execs name term node + 1 < 2 ^ 64
+  pub version : v.version + 1 < 2 ^ 64
 
 -- one change, after which the state is this one
 pub record ChangesTo (before : VersionedValue) (state : State) (after : VersionedValue) : Type 0 where

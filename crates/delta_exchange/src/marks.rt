@@ -1,11 +1,13 @@
 //! When each key and each cell last changed, by versions.
 #![tactic(auto, unfolding(crate::specs::Marks::marks_value, crate::specs::Marks::has_room))]
 
-ghost use Rattle.std.specs.Prelude.{◌≡◌, IsTrue, ℕ, List, [], Option, Some, None, true, if◌then◌else◌, filter, option_map, IfSome, OnOk, OnErr};
+ghost use Rattle.std.specs.Prelude.{◌≡◌, IsTrue, ℕ, List, [], Option, Some, None, true, if◌then◌else◌, filter, OnOk, OnErr};
 ghost use Rattle.std.specs.BTreeMap.{IsOrdered};
+ghost use Rattle.std.specs.Ordering.{nat_cmp};
+ghost use Rattle.std.specs.Cmp.Lexicographic.{slice_cmp};
 ghost use Rattle.replica_state.specs.Points.{counted_cmp, is_hits};
 ghost use Rattle.replica_state.specs.declared.point.Counted.{Counted};
-ghost use Rattle.delta_exchange.specs.Marks.{KeepsRoom, cell_change, cell_of, has_cell, has_room, is_of, key_of, latest_of, marks_at, marks_value, with_mark, with_new_key};
+ghost use Rattle.delta_exchange.specs.Marks.{KeepsRoom, cell_change, cell_of, has_cell, has_room, is_of, key_of, latest_of, marks_value, with_mark, with_new_key};
 
 use actions::Name;
 use replica_state::Counted;
@@ -138,15 +140,12 @@ impl Marks {
         }
     }
 
-    /// The marks of a name, if it has any or room for them.
-    pub(crate) fn of_name(&self, name: &Name) -> Option<&NameMarks>
-        ensures marks { option_map (λ m. m.now) result ≡ marks_at self.now.names.entries name.now }
-        ensures ordered { IfSome result (λ m. IsOrdered counted_cmp m.now.cells) }
+    /// The names that have marks or room for them, with their marks, in the order of the names.
+    pub(crate) fn names(&self) -> Iter<'_, Name, NameMarks>
+        ensures rest { result ≡ self.now.names.entries }
+        ensures ordered { IsOrdered (slice_cmp nat_cmp) self.now.names }
     {
-        let marks = self.names.get(name)?;
-        // What `cells` promises puts them in order.
-        let _ = marks.cells();
-        Some(marks)
+        self.names.iter()
     }
 
     /// Makes room for the marks of a name and of what is counted of it, if anything is. No mark

@@ -1,11 +1,16 @@
 //! What changed of a replica with versions after one of them, as a message.
 
-ghost use Rattle.std.specs.Prelude.{◌≡◌, ◌<◌, ◌++◌, ℕ, List, length, map, slice_get, IfOk, OnOk};
+ghost use Rattle.std.specs.Prelude.{◌≡◌, ◌++◌, ℕ, List, map, IfOk, IsSome, OnOk};
+ghost use Rattle.std.specs.List.{AllByRecursion};
+ghost use Rattle.std.specs.BTreeMap.{IsOrdered};
+ghost use Rattle.std.specs.Ordering.{nat_cmp};
+ghost use Rattle.std.specs.Cmp.Lexicographic.{slice_cmp};
 ghost use Rattle.stamp_register.specs.Keys.{key_value};
+ghost use Rattle.replica_state.specs.Points.{counted_cmp};
 ghost use Rattle.delta_exchange.specs.Messages.{entry_value, message_value};
 ghost use Rattle.delta_exchange.specs.Cells.{HitsFit, ExecsFit, ShiftsFit, EntryFits, EntriesFit};
 ghost use Rattle.delta_exchange.specs.Versions.{value_of};
-ghost use Rattle.delta_exchange.specs.Since.{CanBeTold, IsMessageSince, IsOrderedAt, hits_since, execs_since, shifts_since, entry_since, entry_since_at, entries_since, tells_cells};
+ghost use Rattle.delta_exchange.specs.Since.{CanBeTold, IsMessageSince, AreCellsOrdered, hits_since, execs_since, shifts_since, entry_since, entry_under, entries_since, tells_cells};
 
 use crate::marks::{Marks, NameMarks};
 use crate::message::{Message, NameEntry};
@@ -23,6 +28,7 @@ fn hits_since<R: Replica>(
     base: u64,
     marks: &NameMarks,
 ) -> Result<Vec<(u8, u64)>, AllocError>
+    ensures ordered { IfOk result (λ _. IsOrdered counted_cmp marks.now.cells) }
     ensures fit { IfOk result (λ cells. HitsFit cells.items) }
     ensures cells { IfOk result (λ cells. cells.items
         ≡ hits_since (R.state replica.now) name.now base marks.now) }
@@ -103,6 +109,7 @@ fn entry_since<R: Replica>(
     base: u64,
     marks: &NameMarks,
 ) -> Result<NameEntry, AllocError>
+    ensures ordered { IfOk result (λ _. IsOrdered counted_cmp marks.now.cells) }
     ensures fits { IfOk result (λ e. EntryFits (entry_value e)) }
     ensures entry { IfOk result (λ e. entry_value e
         ≡ entry_since (R.state replica.now) name.now (key_value key.now) base marks.now) }
@@ -123,33 +130,24 @@ fn tells_cells(entry: &NameEntry) -> bool
     !entry.hits.is_empty() || !entry.execs.is_empty() || !entry.shifts.is_empty()
 }
 
-/// Adds what changed after a version of the name at this place, if anything did.
+/// Adds what changed after a version of a name with these marks, if it has a key.
 fn push_entry_since<R: Replica>(
     alloc: Global,
     entries: &mut Vec<NameEntry>,
     replica: &R,
+    name: &Name,
     base: u64,
-    marks: &Marks,
-    index: usize,
+    marks: &NameMarks,
 ) -> Result<(), AllocError>
     ensures fit { OnOk result (EntriesFit (map entry_value entries.old.items)
         → EntriesFit (map entry_value entries.new.items)) }
-    ensures ordered { OnOk result
-        (IsOrderedAt marks.now (slice_get (R.state replica.now).names index)) }
+    ensures ordered { OnOk result (IsSome ((R.state replica.now).key name.now)
+        → IsOrdered counted_cmp marks.now.cells) }
     ensures entries { OnOk result (map entry_value entries.new.items
         ≡ map entry_value entries.old.items
-        ++ entry_since_at (R.state replica.now) base marks.now
-        (slice_get (R.state replica.now).names index)) }
+        ++ entry_under (R.state replica.now) name.now ((R.state replica.now).key name.now)
+        base marks.now) }
 {
-    let Some(name) = replica.name_at(index) else {
-        return Ok(());
-    };
-    let Some(marks) = marks.of_name(name) else {
-        return Ok(());
-    };
-    if marks.latest() <= base {
-        return Ok(());
-    }
     let Some(key) = replica.key(name) else {
         return Ok(());
     };
@@ -161,7 +159,6 @@ fn push_entry_since<R: Replica>(
 }
 
 /// What changed after a version, by name.
-#[tactic(auto, unfolding(crate::specs::Cells::each_below))]
 fn entries_since<R: Replica>(
     alloc: Global,
     replica: &R,
@@ -169,15 +166,17 @@ fn entries_since<R: Replica>(
     marks: &Marks,
 ) -> Result<Vec<NameEntry>, AllocError>
     ensures fit { IfOk result (λ es. EntriesFit (map entry_value es.items)) }
-    ensures ordered { IfOk result (λ _. (index : ℕ) → index < length (R.state replica.now).names
-        → IsOrderedAt marks.now (slice_get (R.state replica.now).names index)) }
+    ensures names { IfOk result (λ _. IsOrdered (slice_cmp nat_cmp) marks.now.names) }
+    ensures ordered { IfOk result (λ _. AllByRecursion
+        (AreCellsOrdered (R.state replica.now) base) marks.now.names.entries) }
     ensures entries { IfOk result (λ es. map entry_value es.items
-        ≡ entries_since (R.state replica.now) base marks.now
-        (length (R.state replica.now).names)) }
+        ≡ entries_since (R.state replica.now) base marks.now) }
 {
     let mut entries = Vec::new(alloc);
-    for index in 0..replica.names() {
-        push_entry_since(alloc, &mut entries, replica, base, marks, index)?;
+    for (name, marked) in marks.names() {
+        if marked.latest() > base {
+            push_entry_since(alloc, &mut entries, replica, name, base, marked)?;
+        }
     }
     Ok(entries)
 }
@@ -188,8 +187,8 @@ impl<R: Replica> Versioned<R> {
     /// aren't 0. Its base is that version.
     ///
     /// Of at most 16 nodes and 256 names it is never too long to be written. Only want of memory is
-    /// an error. The cells of a name of which nothing changed aren't looked at, and of others those
-    /// that have a mark.
+    /// an error. The names that have marks are walked once, in their order. Of a name of which
+    /// nothing changed one mark alone is looked at, and of others the cells that have a mark.
     pub fn changed_since(
         &self,
         alloc: Global,

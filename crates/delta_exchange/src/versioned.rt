@@ -1,9 +1,9 @@
 //! A replica with versions.
 #![tactic(auto, unfolding(crate::specs::Versions::value_of))]
 
-ghost use Rattle.std.specs.Prelude.{◌≡◌, ◌+◌, ◌<◌, ◌^◌, ℕ, List, Some, false, map, option_map, IfOk, IsSome, OnOk, OnErr};
+ghost use Rattle.std.specs.Prelude.{◌≡◌, ◌≢◌, ◌+◌, ◌<◌, ◌^◌, ℕ, List, Some, false, map, option_map, IfOk, IsSome, OnOk, OnErr};
 ghost use Rattle.stamp_register.specs.Keys.{key_value};
-ghost use Rattle.replica_state.specs.States.{with_key, with_pass, with_shifts};
+ghost use Rattle.replica_state.specs.States.{budget_of, with_key, with_pass, with_shifts};
 ghost use Rattle.std.specs.List.{AllByRecursion};
 ghost use Rattle.replica_state.specs.Operations.{Operation, IsWellFormed, operation};
 ghost use Rattle.replica_state.specs.Knowledge.{is_upto, changes};
@@ -43,7 +43,7 @@ fn executed(spent: Option<u8>, node: u8) -> Option<Counted>
 
 impl<R: Replica> Versioned<R> {
     ghost use Rattle.delta_exchange.specs.News.{news_in, news_of, operation_of};
-    ghost use Rattle.delta_exchange.specs.Versions.{value_of, nothing_known, ChangesTo, Issues, Receives};
+    ghost use Rattle.delta_exchange.specs.Versions.{value_of, nothing_known, MayPass, ChangesTo, Issues, Receives};
 
     /// The replica that knows nothing, at version 0.
     pub fn new(alloc: Global) -> Versioned<R>
@@ -113,11 +113,7 @@ impl<R: Replica> Versioned<R> {
         node: u8,
         spent: Option<u8>,
     ) -> Result<(), AllocError>
-        requires set { IsSome ((value_of R.state self.old).state.key name.now) }
-        requires hits { (value_of R.state self.old).state.hits name.now node + 1 < 2 ^ 64 }
-        requires execs { (term : ℕ)
-            → (value_of R.state self.old).state.execs name.now term node + 1 < 2 ^ 64 }
-        requires version { (value_of R.state self.old).version + 1 < 2 ^ 64 }
+        requires { MayPass (value_of R.state self.old) name.now node spent }
         ensures ok { OnOk result (ChangesTo (value_of R.state self.old)
             (with_pass name.now node spent (value_of R.state self.old).state)
             (value_of R.state self.new)) }
@@ -145,11 +141,7 @@ impl<R: Replica> Versioned<R> {
         node: u8,
         spent: Option<u8>,
     ) -> Result<(), AllocError>
-        requires set { IsSome ((value_of R.state self.old).state.key name.now) }
-        requires hits { (value_of R.state self.old).state.hits name.now node + 1 < 2 ^ 64 }
-        requires execs { (term : ℕ)
-            → (value_of R.state self.old).state.execs name.now term node + 1 < 2 ^ 64 }
-        requires version { (value_of R.state self.old).version + 1 < 2 ^ 64 }
+        requires { MayPass (value_of R.state self.old) name.now node spent }
         ensures ok { OnOk result (ChangesTo (value_of R.state self.old)
             (with_pass name.now node spent (value_of R.state self.old).state)
             (value_of R.state self.new)) }
@@ -166,8 +158,8 @@ impl<R: Replica> Versioned<R> {
         Ok(())
     }
 
-    /// Counts the rights to a term of the point's key that one node moved to another, so many in
-    /// all and more than before. Where memory is refused, nothing has changed.
+    /// Counts the rights to a counted term of the point's key that one node moved to another, so
+    /// many in all and more than before. Where memory is refused, nothing has changed.
     pub fn count_shift(
         &mut self,
         alloc: Global,
@@ -179,6 +171,8 @@ impl<R: Replica> Versioned<R> {
     ) -> Result<(), AllocError>
         requires set { IsSome ((value_of R.state self.old).state.key name.now) }
         requires more { (value_of R.state self.old).state.shifts name.now term from to < total }
+        requires counted { IsSome (budget_of (value_of R.state self.old).state name.now term) }
+        requires another { from ≢ to }
         requires version { (value_of R.state self.old).version + 1 < 2 ^ 64 }
         ensures ok { OnOk result (ChangesTo (value_of R.state self.old)
             (with_shifts name.now term from to total (value_of R.state self.old).state)

@@ -6,6 +6,7 @@ mod faults;
 mod greatest;
 mod known;
 mod printed;
+mod refused;
 mod since;
 mod versions;
 mod whole;

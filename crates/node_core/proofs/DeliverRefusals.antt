@@ -1,14 +1,12 @@
 -- The refusals of a delivery whose bytes were read.
-use Rattle.std.proofs.Common.{◌≡◌, ℕ, ◌<◌, ◌≤◌, Bool, true, false, not, ◌==◌, nat_lt, List, [], ◌++◌, length, map, ◌↔◌, IsTrue, subst, Some, None, Result, Ok, refl, sym, ◌∙◌, ap, arith}
+use Rattle.std.proofs.Common.{◌≡◌, ℕ, ◌<◌, ◌≤◌, Bool, true, false, ◌==◌, nat_lt, List, [], ◌++◌, length, map, subst, Some, None, Result, Ok, refl, sym, ◌∙◌, ap, arith}
 use Rattle.std.proofs.lemmas.Bool.Decides.{nat_tests}
 use Rattle.std.specs.Prelude.{nat_le}
 use Rattle.std.proofs.lemmas.Bool.{eq-eqb}
 use Rattle.std.specs.List.{list_any, flat_map}
-use Rattle.counters.specs.Sums.{numbers}
+use Rattle.counters.specs.Sums.{node_numbers}
 use Rattle.replica_state.specs.States.{State}
 use Rattle.replica_state.specs.Folds.{fold, clock_of}
-use Rattle.replica_state.specs.StateOrder.{IsBelow}
-use Rattle.replica_state.specs.Knowledge.{changes}
 use Rattle.replica_state.specs.Unions.{with_names}
 use Rattle.delta_exchange.specs.declared.message.NameEntry.{NameEntry}
 use Rattle.delta_exchange.specs.Messages.{MessageValue, entry_value, operations_of, operations_in}
@@ -25,7 +23,7 @@ use Rattle.node_core.specs.Room.{HasRoom}
 use Rattle.node_core.specs.Traces.{Kept, delivery_of, node_of, refusal}
 use Rattle.node_core.specs.Holds.{IsInStep}
 use Rattle.node_core.specs.Deliveries.{IsDelivery, is_overspent_below}
-use Rattle.node_core.proofs.Merged.{merged_names, overspends_told, changes_unless}
+use Rattle.node_core.proofs.Merged.{merged_names, overspends_told}
 
 module _ (config : Config) (entries : ℕ) (n : Node) (room : entries < config.trace_cap) (read : Result Message WireFault) where
   has_room : nat_le config.trace_cap entries ≡ false
@@ -105,11 +103,15 @@ module _ {k : Kept} {clock version : ℕ} {state : State} {bytes : List ℕ} {m 
       known_is : nat_lt n.marks.version m.ack ≡ false
       known_is = let at = x.step.1.version_is in grind (arith, nat_tests, at, known)
 
-      unfolded : 256 ≡ numbers
-      unfolding numbers
+      -- the message acknowledges no version that is still to come
+      pub reached : m.ack ≤ n.marks.version
+      reached = let at = x.step.1.version_is in omega (arith, known, at)
+
+      unfolded : 256 ≡ node_numbers
+      unfolding node_numbers
       unfolded = refl
 
-      few_nodes : k.config.nodes ≤ numbers
+      few_nodes : k.config.nodes ≤ node_numbers
       few_nodes = let all = unfolded in let few = x.step.0.few in omega (arith, all, few)
 
       over_of : over ≡ list_any (overspends (fold (operations_in m ++ n.ops))) (operations_in m)
@@ -134,14 +136,11 @@ module _ {k : Kept} {clock version : ℕ} {state : State} {bytes : List ℕ} {m 
             let same = names_of_both in
             not_refused k.config (length k.trace) n x.room (message_read k.config.nodes bytes) (message_of m) x.read mine_is (sym ahead_of ∙ behind) known_is (sym over_of ∙ within) (omega (arith, same, few))
 
-        pub delivery_is : names ≤ 256 → (below : Bool) → (IsTrue below ↔ IsBelow brought state) → (later : ℕ) → later ≡ clock_of (operations_in m) →
-            IsDelivery k.config n (message_read k.config.nodes bytes) brought later (not below)
-        delivery_is few below upto later last =
-            subst (λ r. IsDelivery k.config n r brought later (not below)) (sym x.read)
+        pub delivery_is : names ≤ 256 → (later : ℕ) → later ≡ clock_of (operations_in m) → IsDelivery k.config n (message_read k.config.nodes bytes) later
+        delivery_is few later last =
+            subst (λ r. IsDelivery k.config n r later) (sym x.read)
             (record {
-              state_is = executions.brings;
               clock_is = last;
-              changes_so = changes_unless (operations_in m) n.ops state brought (sym x.step.0.state_is) executions.brings below upto ∙ sym (ap (λ (v : State). changes v (operations_in m)) x.step.0.state_is);
               lawful = told_lawful k.config.nodes m x.spelled;
               behind = sym ahead_of ∙ behind;
               few_names = (let same = names_of_both in omega (arith, same, few));

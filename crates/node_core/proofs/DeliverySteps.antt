@@ -1,5 +1,5 @@
 -- What a node holds after it made a message, and after one was delivered to it.
-use Rattle.std.proofs.Common.{◌≡◌, ℕ, ◌+◌, ◌<◌, ◌≤◌, max, Bool, [], ◌++◌, Result, Ok, Err, sym, ap, subst, arith}
+use Rattle.std.proofs.Common.{◌≡◌, ℕ, ◌+◌, ◌<◌, ◌≤◌, max, [], ◌++◌, Result, Ok, Err, sym, ap, subst, arith}
 use Rattle.replica_state.specs.States.{State}
 use Rattle.replica_state.specs.Folds.{fold, clock_of}
 use Rattle.delta_exchange.specs.declared.fault.WireFault.{WireFault}
@@ -44,10 +44,10 @@ holds_emit config clock state len n to (Err fault) h room =
     }
 
 -- a delivery leaves what the node itself wrote
-pub holds_delivered : (config : Config) (clock : ℕ) (state next : State) (len : ℕ) (n : Node) (read : Result Message WireFault) (brought : State) (later : ℕ) (changed : Bool) → Holds config clock state len n → len < config.trace_cap →
-    IsDelivery config n read brought later changed → next ≡ fold ((message_in read).ops ++ n.ops) → Holds config (max clock later) next (len + 1) (after config.node n (Deliver read) [])
+pub holds_delivered : (config : Config) (clock : ℕ) (state next : State) (len : ℕ) (n : Node) (read : Result Message WireFault) (later : ℕ) → Holds config clock state len n → len < config.trace_cap →
+    IsDelivery config n read later → next ≡ fold ((message_in read).ops ++ n.ops) → Holds config (max clock later) next (len + 1) (after config.node n (Deliver read) [])
 unfolding after
-holds_delivered config clock state next len n read brought later changed h room d e =
+holds_delivered config clock state next len n read later h room d e =
     let same : fold n.ops ≡ state = h.state_is in
     let was : clock_of n.ops ≤ clock = h.carried in
     let at = h.clock_is in

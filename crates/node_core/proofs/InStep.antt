@@ -7,15 +7,17 @@ use Rattle.actions.specs.Names.{is_name}
 use Rattle.replica_state.specs.States.{State, with_key, with_shifts, rights_of}
 use Rattle.replica_state.specs.Operations.{Operation}
 use Rattle.replica_state.specs.Folds.{fold}
+use Rattle.replica_state.specs.Knowledge.{changes}
 use Rattle.delta_exchange.specs.declared.fault.WireFault.{WireFault}
 use Rattle.delta_exchange.specs.Spelling.{IsBody}
+use Rattle.delta_exchange.specs.Told.{HasLearned}
 use Rattle.node_core.specs.declared.config.Config.{Config}
 use Rattle.node_core.specs.declared.trace.Entry.{Entry}
 use Rattle.node_core.specs.Asks.{Call, Message, Load, Pass, Shift, Deliver, call, emit_of}
 use Rattle.node_core.specs.Outcomes.{AreTellable, HasKey, ops_done, state_done, state_loaded}
 use Rattle.node_core.specs.Passes.{pass_ops}
 use Rattle.node_core.specs.Room.{HasRoom, HasClocks, HasPlace, HavePlaces}
-use Rattle.node_core.specs.Steps.{new_key, points_in, settings}
+use Rattle.node_core.specs.Steps.{message_in, new_key, points_in, settings}
 use Rattle.node_core.specs.Traces.{Kept, kept_of, node_of, state_known}
 use Rattle.node_core.specs.Holds.{IsInStep}
 use Rattle.node_core.specs.Deliveries.{IsDelivery}
@@ -72,12 +74,12 @@ module _ (k : Kept) (clock version : ℕ) (state next : State) (c : Call) (is : 
     shift_tell k.config clock version state k.trace c is.0 is.1 room name term to amount asks with set enough there low,
   )
 
-  pub deliver_in_step : (read : Result Message WireFault) (brought : State) (later : ℕ) (changed : Bool) (last more : ℕ) → c.ask ≡ Deliver read → c.words ≡ [] →
-      IsDelivery k.config (node_of k) read brought later changed → ((a b : List Operation) → state ≡ fold a → brought ≡ fold b → next ≡ fold (a ++ b)) →
-      last ≡ max clock later → more ≡ from_bool changed → IsInStepThen last more
-  deliver_in_step read brought later changed last more asks with d merged late counted = (
-    deliver_kept k.config clock state next k.trace c is.0 room read brought later changed last asks with d merged late,
-    deliver_tell k.config clock version state k.trace c is.0 is.1 room read brought later changed more asks with d counted,
+  pub deliver_in_step : (read : Result Message WireFault) (later last : ℕ) (changed : Bool) (more : ℕ) → c.ask ≡ Deliver read → c.words ≡ [] →
+      IsDelivery k.config (node_of k) read later → HasLearned state next (message_in read).ops →
+      last ≡ max clock later → changed ≡ changes (state_known k) (message_in read).ops → more ≡ from_bool changed → IsInStepThen last more
+  deliver_in_step read later last changed more asks with d learned late changing counted = (
+    deliver_kept k.config clock state next k.trace c is.0 room read later last asks with d learned late,
+    deliver_tell k.config clock version state k.trace c is.0 is.1 room read later changed more asks with d changing counted,
   )
 
 -- a message that was made leaves the state

@@ -9,6 +9,7 @@ use Rattle.replica_state.specs.States.{State, with_key, with_shifts, rights_of}
 use Rattle.replica_state.specs.Operations.{Operation}
 use Rattle.replica_state.specs.Folds.{fold}
 use Rattle.delta_exchange.specs.declared.fault.WireFault.{WireFault}
+use Rattle.delta_exchange.specs.Told.{HasLearned}
 use Rattle.node_core.specs.declared.config.Config.{Config}
 use Rattle.node_core.specs.Asks.{Asked, Call, Message, Load, Pass, Shift, Deliver, emit_of}
 use Rattle.node_core.specs.Nodes.{Node, state_shown, setting_of}
@@ -19,7 +20,7 @@ use Rattle.node_core.specs.Traces.{replay}
 use Rattle.node_core.specs.Holds.{Holds}
 use Rattle.node_core.specs.Deliveries.{IsDelivery}
 use Rattle.node_core.proofs.TraceLemmas.{holds_grown, holds_pass}
-use Rattle.node_core.proofs.SettingSteps.{Issues, issues_some, issues_load, fold_alone, fold_merged, holds_set, turned}
+use Rattle.node_core.proofs.SettingSteps.{Issues, issues_some, issues_load, fold_alone, fold_merged, holds_set}
 use Rattle.node_core.proofs.DeliverySteps.{holds_emit, holds_delivered}
 use Rattle.node_core.proofs.ShiftSteps.{holds_shift}
 
@@ -73,12 +74,12 @@ module _ (config : Config) (clock : ℕ) (state next : State) (trace : List Call
           (subst (λ (v : State). pos amount ≤ℤ rights_of v name term config.node) h.state_is enough.1)
           (s ∙ ap (λ t. with_shifts name term config.node to t state) (more ∙ ap (λ (v : State). v.shifts name term config.node to + amount) h.state_is)))
 
-  pub deliver_kept : (read : Result Message WireFault) (brought : State) (later : ℕ) (changed : Bool) (last : ℕ) → c.ask ≡ Deliver read → c.words ≡ [] → IsDelivery config n read brought later changed →
-      ((a b : List Operation) → state ≡ fold a → brought ≡ fold b → next ≡ fold (a ++ b)) → last ≡ max clock later → HoldsThen last
-  deliver_kept read brought later changed last is with d merged late =
+  pub deliver_kept : (read : Result Message WireFault) (later last : ℕ) → c.ask ≡ Deliver read → c.words ≡ [] → IsDelivery config n read later →
+      HasLearned state next (message_in read).ops → last ≡ max clock later → HoldsThen last
+  deliver_kept read later last is with d learned late =
       subst (λ k. HoldsThen k) (sym late)
       (put (max clock later) (Deliver read) [] is with
-      (holds_delivered config clock state next (length trace) n read brought later changed h space d (merged n.ops (message_in read).ops (sym h.state_is) d.state_is ∙ turned n.ops (message_in read).ops)))
+      (holds_delivered config clock state next (length trace) n read later h space d (learned n.ops (sym h.state_is))))
 
 -- a message that was made leaves the state
 pub emit_kept : (config : Config) (clock : ℕ) (state : State) (trace : List Call) (c : Call) →

@@ -146,9 +146,10 @@ module _ (config : Config) (clock version : ℕ) (state : State) (trace : List C
       subst (λ k. TellsThen k) unchanged
       (put (version + 0) (emit_of to read) [] is with (tell_after config version (length trace) n (emit_of to read) [] false t refl t.lawful t.few_names))
 
-  pub deliver_tell : (read : Result Message WireFault) (brought : State) (later : ℕ) (changed : Bool) (more : ℕ) → c.ask ≡ Deliver read → c.words ≡ [] → IsDelivery config n read brought later changed → more ≡ from_bool changed →
+  pub deliver_tell : (read : Result Message WireFault) (later : ℕ) (changed : Bool) (more : ℕ) → c.ask ≡ Deliver read → c.words ≡ [] → IsDelivery config n read later →
+      changed ≡ changes (state_shown n) (message_in read).ops → more ≡ from_bool changed →
       TellsThen (version + more)
-  deliver_tell read brought later changed more is with d counted =
+  deliver_tell read later changed more is with d changing counted =
       subst (λ k. TellsThen (version + k)) (sym counted)
       (put (version + from_bool changed) (Deliver read) [] is with
-      (tell_after config version (length trace) n (Deliver read) [] changed t (sym d.changes_so) (lawful_together config.nodes (message_in read).ops n.ops d.lawful t.lawful) d.few_names))
+      (tell_after config version (length trace) n (Deliver read) [] changed t (sym changing) (lawful_together config.nodes (message_in read).ops n.ops d.lawful t.lawful) d.few_names))

@@ -8,6 +8,7 @@ pub mod ShiftSteps
 pub mod Kept
 pub mod ShiftRefusals
 pub mod LoadRefusals
+pub mod LoadSteps
 pub mod Ahead
 pub mod BadMessages
 pub mod Overspent
@@ -20,12 +21,11 @@ pub mod DeliverySteps
 pub mod LawfulSteps
 pub mod KeptTelling
 pub mod InStep
-pub mod Replied
 pub mod SpareWords
 pub mod MemoryLemmas
 pub mod Pasts
 pub mod RepliedDelta
-pub mod OneMessage
+pub mod DeltaBytes
 pub mod OneSpelling
 pub mod UptoStates
 pub mod Changed

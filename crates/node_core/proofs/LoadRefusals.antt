@@ -10,15 +10,15 @@ use Rattle.replica_state.specs.Unions.{with_names}
 use Rattle.node_core.specs.declared.fault.NodeFault.TheVariants as faults
 use Rattle.node_core.specs.Asks.{Load}
 use Rattle.node_core.specs.Nodes.{Node, state_shown}
-use Rattle.node_core.specs.Outcomes.{state_set}
+use Rattle.node_core.specs.Outcomes.{state_loaded, state_set}
 use Rattle.refusals.specs.Refusals.{first_fault}
 use Rattle.counters.specs.Cells.{most}
 use Rattle.node_core.specs.Refusals.{no_clock, no_place}
-use Rattle.node_core.specs.Room.{HasRoom}
-use Rattle.node_core.specs.Steps.{settings_of}
-use Rattle.node_core.specs.Traces.{Kept, node_of, refusal}
+use Rattle.node_core.specs.Room.{HasRoom, HavePlaces}
+use Rattle.node_core.specs.Steps.{points_read, settings_of}
+use Rattle.node_core.specs.Traces.{Kept, last_clock, node_of, refusal}
 use Rattle.node_core.specs.Holds.{IsInStep}
-use Rattle.node_core.proofs.SettingSteps.{names_loaded}
+use Rattle.node_core.proofs.SettingSteps.{names_loaded, names_set}
 
 abbrev Points : Type 0
 Points = List (List ℕ × List TermValue)
@@ -27,14 +27,14 @@ names_of_settings : (points : Points) → map (λ s. s.0) (settings_of points) �
 names_of_settings [] = refl
 names_of_settings (point ∷ points) = ap (λ ns. point.0 ∷ ns) (names_of_settings points)
 
--- what a node has found when a setting text is read and its points are set in a state of their own
-pub record Loads (k : Kept) (clock version : ℕ) (state loaded : State) (text : List ℕ) (points : Points) (low : ℕ) : Type 0 where
+-- what a node has found when a setting text is read and its names are known by themselves
+pub record Loads (k : Kept) (clock version : ℕ) (state : State) (named : List (List ℕ)) (text : List ℕ) (points : Points) : Type 0 where
   pub step : IsInStep k clock version state
   pub room : HasRoom k
   pub read : setting_reading text ≡ Ok points
-  pub keyed : loaded ≡ state_set k.config.node low (settings_of points) (fold [])
+  pub named_is : named ≡ with_names (map (λ point. point.0) points) []
 
-module _ {k : Kept} {clock version : ℕ} {state loaded : State} {text : List ℕ} {points : Points} {low : ℕ} (x : Loads k clock version state loaded text points low) {together : ℕ} (counted : together ≡ length (with_names loaded.names state.names)) where
+module _ {k : Kept} {clock version : ℕ} {state : State} {named : List (List ℕ)} {text : List ℕ} {points : Points} (x : Loads k clock version state named text points) {together : ℕ} (counted : together ≡ length (with_names named state.names)) where
   abbrev n : Node
   n = node_of k
 
@@ -47,12 +47,32 @@ module _ {k : Kept} {clock version : ℕ} {state loaded : State} {text : List �
   same : refusal k (Load text) [] ≡ first_fault (no_place names ∷ no_clock n (length points) ∷ None ∷ [])
   same = rw (has_room, x.read) refl
 
+  -- the names are those of the points at any clock
+  named_alone : (low : ℕ) → (state_set k.config.node low (settings_of points) (fold [])).names ≡ named
+  unfolding fold
+  named_alone low =
+      names_set k.config.node low (settings_of points) (fold [])
+      ∙ ap (λ ns. with_names ns []) (names_of_settings points)
+      ∙ sym x.named_is
+
+  with_known : length (with_names named (state_shown n).names) ≡ together
+  with_known = ap (λ (v : State). length (with_names named v.names)) x.step.0.state_is ∙ sym counted
+
   as_many : length names ≡ together
   as_many =
       ap (λ ns. length (with_names ns (state_shown n).names)) (sym (names_of_settings points))
-      ∙ ap length (sym (names_loaded k.config.node low clock (settings_of points) n.ops x.step.0.carried))
-      ∙ (λ i. length (with_names ((sym x.keyed) i).names (x.step.0.state_is i).names))
-      ∙ sym counted
+      ∙ ap length (sym (names_loaded k.config.node clock clock (settings_of points) n.ops x.step.0.carried))
+      ∙ ap (λ ns. length (with_names ns (state_shown n).names)) (named_alone clock)
+      ∙ with_known
+
+  loaded_together : length (with_names (state_loaded k text).names (state_shown n).names) ≡ together
+  loaded_together =
+      ap (λ r. length (with_names (state_set k.config.node (last_clock k) (settings_of (points_read r)) (fold [])).names (state_shown n).names)) x.read
+      ∙ ap (λ ns. length (with_names ns (state_shown n).names)) (named_alone (last_clock k))
+      ∙ with_known
+
+  pub have_places : together ≤ 256 → HavePlaces k (state_loaded k text).names
+  have_places upto = let all = loaded_together in omega (arith, all, upto)
 
   few : together ≤ 256 → nat_lt 256 (length names) ≡ false
   few upto = let all = as_many in grind (arith, nat_tests, all, upto)

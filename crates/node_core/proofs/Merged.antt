@@ -1,24 +1,19 @@
 -- What a node knows once it learnt what a message tells.
-use Rattle.std.proofs.Common.{◌≡◌, ℕ, ◌+◌, ◌<◌, ◌≤◌, zero, suc, Bool, true, false, not, ◌||◌, List, [], ◌∷◌, ◌++◌, length, map, inl, inr, ⊎_elim, ◌⊎◌, ◌↔◌, Option, Some, None, IsTrue, refl, sym, ◌∙◌, ap, subst, arith}
-use Rattle.std.proofs.lemmas.Bool.{true≢false, cases_lt, le-leb}
+use Rattle.std.proofs.Common.{◌≡◌, ℕ, ◌+◌, ◌<◌, ◌≤◌, zero, suc, Bool, true, false, ◌||◌, List, [], ◌∷◌, ◌++◌, length, map, inl, inr, ◌⊎◌, Option, Some, None, refl, sym, ◌∙◌, ap, subst, arith}
+use Rattle.std.proofs.lemmas.Bool.{cases_lt}
 use Rattle.std.proofs.lemmas.List.{append-nil}
 use Rattle.std.specs.List.{list_any, flat_map}
 use Rattle.std.specs.declared.cmp.Ordering.{Ordering}
 use Rattle.std.specs.declared.cmp.Ordering.TheVariants.{Less, Equal, Greater}
-use Rattle.counters.specs.Sums.{numbers, sum_below}
-use Rattle.stamp_register.specs.Keys.{KeyValue, same_key}
-use Rattle.stamp_register.proofs.KeyLemmas.{same_key-true}
-use Rattle.replica_state.specs.Operations.{Operation, Set, Count, Hits, Execs, Shifts, IsIn, count_at}
+use Rattle.counters.specs.Sums.{node_numbers, sum_below}
+use Rattle.stamp_register.specs.Keys.{KeyValue}
+use Rattle.replica_state.specs.Operations.{Operation, Set, Count, Hits, Execs, Shifts, count_at}
 use Rattle.replica_state.specs.States.{State}
-use Rattle.replica_state.specs.Folds.{fold, name_in, key_in, key_of, number_at, at_key}
-use Rattle.replica_state.specs.StateOrder.{IsBelow}
-use Rattle.replica_state.specs.Knowledge.{is_upto, knows, knows_count, changes}
+use Rattle.replica_state.specs.Folds.{fold, name_in, key_of, number_at, at_key}
 use Rattle.replica_state.specs.Unions.{key_order, number_both, with_names, union_of}
-use Rattle.replica_state.proofs.Sets.{KeyUpto, KeyUpto-trans, key_of-is_in, number_at-is_in, number_at-least}
-use Rattle.replica_state.proofs.KnownSets.{keys_only, below_not_above, own_name, union_above_left}
+use Rattle.replica_state.proofs.Sets.{number_at-least}
 use Rattle.replica_state.proofs.SetJoins.{fold-unites}
 use Rattle.replica_state.proofs.StateOrders.{stands_above, stands_equal, stands_below}
-use Rattle.replica_state.proofs.Changes.{false_any, changes_is_change}
 use Rattle.delta_exchange.specs.declared.message.NameEntry.{NameEntry}
 use Rattle.delta_exchange.specs.Messages.{EntryValue, entry_value, operations_of}
 use Rattle.delta_exchange.specs.Wholes.{AreLawful}
@@ -88,17 +83,17 @@ none_both Less a b h k = h
 none_both Equal a b h k = omega (arith, h, k)
 none_both Greater a b h k = k
 
-module _ (nodes : ℕ) (few : nodes ≤ numbers) (ops known : List Operation) (v t : State) (is_v : v ≡ fold known) (is_t : t ≡ fold ops) (lawful : AreLawful nodes known) (brought : AreLawful nodes ops) where
+module _ (nodes : ℕ) (few : nodes ≤ node_numbers) (ops known : List Operation) (v t : State) (is_v : v ≡ fold known) (is_t : t ≡ fold ops) (lawful : AreLawful nodes known) (brought : AreLawful nodes ops) where
   execs_none : (name : List ℕ) (term node : ℕ) → nodes ≤ node → number_both (key_order (t.key name) (v.key name)) (v.execs name term node) (t.execs name term node) ≡ 0
   execs_none name term node high =
       none_both (key_order (t.key name) (v.key name)) (v.execs name term node) (t.execs name term node)
       (ap (λ (s : State). s.execs name term node) is_v ∙ no_execs nodes known lawful name term node high)
       (ap (λ (s : State). s.execs name term node) is_t ∙ no_execs nodes ops brought name term node high)
 
-  all_execs : (name : List ℕ) (term : ℕ) → sum_below numbers ((union_of v t).execs name term) ≡ execs_both nodes (key_order (t.key name) (v.key name)) v t name term
+  all_execs : (name : List ℕ) (term : ℕ) → sum_below node_numbers ((union_of v t).execs name term) ≡ execs_both nodes (key_order (t.key name) (v.key name)) v t name term
   all_execs name term =
-      sum_same numbers ((union_of v t).execs name term) (λ node. number_both (key_order (t.key name) (v.key name)) (v.execs name term node) (t.execs name term node)) (execs_united v t name term)
-      ∙ sum_upto nodes numbers (λ node. number_both (key_order (t.key name) (v.key name)) (v.execs name term node) (t.execs name term node)) (execs_none name term) few
+      sum_same node_numbers ((union_of v t).execs name term) (λ node. number_both (key_order (t.key name) (v.key name)) (v.execs name term node) (t.execs name term node)) (execs_united v t name term)
+      ∙ sum_upto nodes node_numbers (λ node. number_both (key_order (t.key name) (v.key name)) (v.execs name term node) (t.execs name term node)) (execs_none name term) few
 
   name_overspent : (name : List ℕ) → is_overspent (union_of v t) name (terms_in (setting_of (union_of v t) name)) ≡ is_overspent_below nodes v t name
   name_overspent name =
@@ -144,85 +139,3 @@ module _ (nodes : ℕ) (few : nodes ≤ numbers) (ops known : List Operation) (v
   pub overspends_told : (es : List NameEntry) → ops ≡ flat_map operations_of (map entry_value es) → list_any (λ e. is_overspent_below nodes v t e.name) es ≡ list_any (overspends (fold (ops ++ known))) ops
   overspends_told es is =
       sym (any_as es) ∙ sym (any_told (overspends (fold (ops ++ known))) es) ∙ ap (list_any (overspends (fold (ops ++ known)))) (sym is)
-
--- ---- whether anything changes
-
-true_upto : (a b : Option KeyValue) → KeyUpto a b → is_upto a b ≡ true
-true_upto None b h = refl
-true_upto (Some a) None h = absurd h
-true_upto (Some a) (Some b) h = h
-
--- a count under a key that is at most the one that is known, where the count is known if the key is that one
-count_known : (key : KeyValue) (number here : ℕ) (held : Option KeyValue) → KeyUpto (Some key) held → (held ≡ Some key → number ≤ here) → knows_count key number here held ≡ true
-count_known key number here None upto h = absurd upto
-count_known key number here (Some other) upto h = by_test (same_key other key) refl
-  where
-    by_test : (b : Bool) → same_key other key ≡ b → knows_count key number here (Some other) ≡ true
-    by_test true e = rw e (le-leb number here (h (ap Some (same_key-true other key e))))
-    by_test false e = rw e upto
-
-module _ (a b : List Operation) (below : IsBelow (fold a) (fold b)) where
-  keys_below : (name : List ℕ) → KeyUpto (key_of name a) (key_of name b)
-  unfolding fold
-  keys_below name = keys_only name (fold a) (fold b) (below name)
-
-  hits_below : (name : List ℕ) (node : ℕ) → number_at (Hits name node) a ≤ (fold b).hits name node
-  unfolding fold
-  hits_below name node = (below name).hits node
-
-  carried : (name : List ℕ) (key : KeyValue) (op : Operation) → IsIn op a → key_in name op ≡ Some key → KeyUpto (Some key) (key_of name a)
-  carried name key op h c = subst (λ (o : Option KeyValue). KeyUpto o (key_of name a)) c (key_of-is_in name op a h)
-
-  same_keys : (name : List ℕ) (key : KeyValue) → KeyUpto (Some key) (key_of name a) → (fold b).key name ≡ Some key → key_of name a ≡ Some key
-  unfolding fold
-  same_keys name key low is = ⊎_elim (λ less. absurd (below_not_above (key_of name a) (key_of name b) less (subst (λ (o : Option KeyValue). KeyUpto o (key_of name a)) (sym is) low))) (λ rest. rest.0 ∙ is) (below name).cells
-
-  execs_below : (name : List ℕ) (key : KeyValue) (term node : ℕ) → KeyUpto (Some key) (key_of name a) → (fold b).key name ≡ Some key → number_at (Execs name key term node) a ≤ (fold b).execs name term node
-  unfolding fold
-  execs_below name key term node low is =
-      ⊎_elim (λ less. absurd (below_not_above (key_of name a) (key_of name b) less (subst (λ (o : Option KeyValue). KeyUpto o (key_of name a)) (sym is) low)))
-      (λ rest. subst (λ (o : Option KeyValue). at_key o (λ k. number_at (Execs name k term node) a) ≤ (fold b).execs name term node) (same_keys name key low is) (rest.1 term node))
-      (below name).cells
-
-  shifts_below : (name : List ℕ) (key : KeyValue) (term from to : ℕ) → KeyUpto (Some key) (key_of name a) → (fold b).key name ≡ Some key → number_at (Shifts name key term from to) a ≤ (fold b).shifts name term from to
-  unfolding fold
-  shifts_below name key term from to low is =
-      ⊎_elim (λ less. absurd (below_not_above (key_of name a) (key_of name b) less (subst (λ (o : Option KeyValue). KeyUpto o (key_of name a)) (sym is) low)))
-      (λ rest. subst (λ (o : Option KeyValue). at_key o (λ k. number_at (Shifts name k term from to) a) ≤ (fold b).shifts name term from to) (same_keys name key low is) (rest.2 term from to))
-      (below name).cells
-
-  held_key : (name : List ℕ) (o : Option KeyValue) → KeyUpto o (key_of name b) → KeyUpto o ((fold b).key name)
-  unfolding fold
-  held_key name o h = h
-
-  known : (op : Operation) → IsIn op a → knows (fold b) op ≡ true
-  known (Set name key) h = true_upto (Some key) ((fold b).key name) (held_key name (Some key) (KeyUpto-trans (Some key) (key_of name a) (key_of name b) (carried name key (Set name key) h (own_name name key)) (keys_below name)))
-  known (Count (Hits name node) number) h = let low = number_at-is_in (Hits name node) number a h in let upto = hits_below name node in le-leb number ((fold b).hits name node) (omega (arith, low, upto))
-  known (Count (Execs name key term node) number) h =
-      let under = carried name key (Count (Execs name key term node) number) h (own_name name key) in
-      let low = number_at-is_in (Execs name key term node) number a h in
-      count_known key number ((fold b).execs name term node) ((fold b).key name) (held_key name (Some key) (KeyUpto-trans (Some key) (key_of name a) (key_of name b) under (keys_below name)))
-      (λ is. let upto = execs_below name key term node under is in omega (arith, low, upto))
-  known (Count (Shifts name key term from to) number) h =
-      let under = carried name key (Count (Shifts name key term from to) number) h (own_name name key) in
-      let low = number_at-is_in (Shifts name key term from to) number a h in
-      count_known key number ((fold b).shifts name term from to) ((fold b).key name) (held_key name (Some key) (KeyUpto-trans (Some key) (key_of name a) (key_of name b) under (keys_below name)))
-      (λ is. let upto = shifts_below name key term from to under is in omega (arith, low, upto))
-
-  none_new : changes (fold b) a ≡ false
-  none_new = false_any (λ op. not (knows (fold b) op)) a (λ op h. ap not (known op h))
-
--- something changes where what is told isn't below what is known
-pub changes_unless : (a b : List Operation) (v t : State) → v ≡ fold b → t ≡ fold a → (r : Bool) → (IsTrue r ↔ IsBelow t v) → not r ≡ changes v a
-changes_unless a b v t is_v is_t r below = by_result r refl ∙ ap (λ (s : State). changes s a) (sym is_v)
-  where
-    by_change : (c : Bool) → changes (fold b) a ≡ c → r ≡ false → true ≡ changes (fold b) a
-    by_change true e f = sym e
-    by_change false e f =
-        let upto : IsBelow (fold a) (fold b) = subst (λ (s : State). IsBelow (fold a) s) ((changes_is_change a b).0 e) (union_above_left a b) in
-        let holds : IsTrue r = below.1 (subst (λ (s : State). IsBelow s v) (sym is_t) (subst (λ (s : State). IsBelow (fold a) s) (sym is_v) upto)) in
-        absurd (true≢false (sym holds ∙ f))
-
-    by_result : (b' : Bool) → r ≡ b' → not b' ≡ changes (fold b) a
-    by_result true e = sym (none_new a b (subst (λ (s : State). IsBelow s (fold b)) is_t (subst (λ (s : State). IsBelow t s) is_v (below.0 e))))
-    by_result false e = by_change (changes (fold b) a) refl e

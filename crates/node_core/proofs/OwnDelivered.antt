@@ -5,7 +5,7 @@ use Rattle.std.proofs.lemmas.Int.{ints}
 use Rattle.std.specs.List.{list_any}
 use Rattle.std.specs.Prelude.{pos, ◌≤ℤ◌, option_map}
 use Rattle.std.specs.Option.{option_map_or}
-use Rattle.counters.specs.Sums.{numbers, sum_others}
+use Rattle.counters.specs.Sums.{node_numbers, sum_others}
 use Rattle.counters.specs.Budgets.{Budget, rights}
 use Rattle.counters.proofs.SumLemmas.{sum_others-le, sum_others-zero}
 use Rattle.stamp_register.specs.Keys.{KeyValue, key_le, same_key}
@@ -142,15 +142,15 @@ module _ (i : ℕ) (ops known : List Operation) (mine : list_any (is_ahead i (fo
     -- under the same key
     same_rights : (key : KeyValue) (n : ℕ) → u.key q ≡ Some key → v.key q ≡ Some key → pos 0 ≤ℤ rights (budget v q k key.node n) i → pos 0 ≤ℤ rights (budget u q k key.node n) i
     same_rights key n e same had =
-        let came : sum_others numbers i (λ j. v.shifts q k j i) ≤ sum_others numbers i (λ j. u.shifts q k j i) = sum_others-le numbers i (λ j. v.shifts q k j i) (λ j. u.shifts q k j i) (λ j. shifts_came k j key e same) in
-        let went : sum_others numbers i (λ j. u.shifts q k i j) ≤ sum_others numbers i (λ j. v.shifts q k i j) = sum_others-le numbers i (λ j. u.shifts q k i j) (λ j. v.shifts q k i j) (λ j. shifts_at k j) in
+        let came : sum_others node_numbers i (λ j. v.shifts q k j i) ≤ sum_others node_numbers i (λ j. u.shifts q k j i) = sum_others-le node_numbers i (λ j. v.shifts q k j i) (λ j. u.shifts q k j i) (λ j. shifts_came k j key e same) in
+        let went : sum_others node_numbers i (λ j. u.shifts q k i j) ≤ sum_others node_numbers i (λ j. v.shifts q k i j) = sum_others-le node_numbers i (λ j. u.shifts q k i j) (λ j. v.shifts q k i j) (λ j. shifts_at k j) in
         let spent : u.execs q k i ≤ v.execs q k i = execs_at k in
         omega (arith, ints, had, came, went, spent)
 
     -- under a greater one
     new_rights : (key : KeyValue) (n : ℕ) → u.key q ≡ Some key → (KeyUpto (Some key) (v.key q) → ⊥) → pos 0 ≤ℤ rights (budget u q k key.node n) i
     new_rights key n e above =
-        let went : sum_others numbers i (λ j. u.shifts q k i j) ≡ 0 = sum_others-zero numbers i (λ j. u.shifts q k i j) (λ j. shifts_none k j key e above) in
+        let went : sum_others node_numbers i (λ j. u.shifts q k i j) ≡ 0 = sum_others-zero node_numbers i (λ j. u.shifts q k i j) (λ j. shifts_none k j key e above) in
         let spent : u.execs q k i ≡ 0 = execs_none k key e above in
         omega (arith, ints, went, spent)
 

@@ -6,7 +6,7 @@ use Rattle.std.proofs.lemmas.Slice.Eq.{bytes_eq-Decides}
 use Rattle.std.specs.Str.{bytes_eq}
 use Rattle.std.specs.Prelude.{ℤ, pos, ◌≤ℤ◌, ◌-ℤ◌, option_map}
 use Rattle.std.specs.Option.{option_map_or}
-use Rattle.counters.specs.Sums.{numbers, sum_others}
+use Rattle.counters.specs.Sums.{node_numbers, sum_others}
 use Rattle.counters.specs.Budgets.{Budget, rights, given_to, gone_from}
 use Rattle.counters.proofs.SumLemmas.{sum_others-zero}
 use Rattle.stamp_register.specs.Keys.{KeyValue}
@@ -37,7 +37,7 @@ module _ (v : State) (name : List ℕ) (key : KeyValue) (i : ℕ) (own : HasOwn 
 
   fresh : (count : ℕ) → pos 0 ≤ℤ rights (budget_then true key.node count) i
   fresh count =
-      let none : gone_from (budget_then true key.node count) i ≡ 0 = (let went : sum_others numbers i (λ j. 0) ≡ 0 = sum_others-zero numbers i (λ j. 0) (λ j. refl) in omega (arith, went)) in
+      let none : gone_from (budget_then true key.node count) i ≡ 0 = (let went : sum_others node_numbers i (λ j. 0) ≡ 0 = sum_others-zero node_numbers i (λ j. 0) (λ j. refl) in omega (arith, went)) in
       omega (arith, ints, none)
 
   by_count : (found : Option ℕ) → pos 0 ≤ℤ option_map_or (λ (b : Budget). rights b i) (option_map (λ count. budget_then true key.node count) found) (pos 0)
@@ -64,7 +64,7 @@ module _ (v : State) (name : List ℕ) (k i : ℕ) (own : HasOwn v i) (one : pos
   old held = option_map_or (λ (b : Budget). rights b i) (budget_under v q t held) (pos 0)
 
   at_test : (n : ℕ) (key : KeyValue) (b : Bool) → (b ≡ true → v.execs name k i ≡ v.execs q t i) → pos 0 ≤ℤ rights (budget v q t key.node n) i → (b ≡ true → pos 1 ≤ℤ rights (budget v q t key.node n) i) →
-      pos 0 ≤ℤ (pos (given_to (budget v q t key.node n) i) -ℤ pos (sum_others numbers i (λ j. v.shifts q t i j) + cond b (v.execs name k i + 1) (v.execs q t i)))
+      pos 0 ≤ℤ (pos (given_to (budget v q t key.node n) i) -ℤ pos (sum_others node_numbers i (λ j. v.shifts q t i j) + cond b (v.execs name k i + 1) (v.execs q t i)))
   at_test n key true same p r = let cells = same refl in let more = r refl in omega (arith, ints, cells, more)
   at_test n key false same p r = p
 

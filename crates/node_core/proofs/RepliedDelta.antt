@@ -5,11 +5,11 @@ use Rattle.replica_state.specs.Deltas.{IsDelta}
 use Rattle.delta_exchange.specs.Messages.{operations_in}
 use Rattle.delta_exchange.specs.Spelling.{message_bytes}
 use Rattle.delta_exchange.proofs.MessageLemmas.{message_again}
+use Rattle.delta_exchange.proofs.OneMessage.{one_message}
 use Rattle.node_core.specs.Asks.{Message, Versions, IsEmitted, message_of, read_of, message_read, emit_of}
 use Rattle.node_core.specs.Steps.{message_to}
 use Rattle.node_core.specs.Traces.{Kept, node_of, state_known, reply_to, emission_of, SendsDelta}
 use Rattle.node_core.specs.Deliveries.{TellsDelta, versions_in}
-use Rattle.node_core.proofs.OneMessage.{one_message}
 
 module _ (k : Kept) (to : ℕ) (bytes : List ℕ) (told : TellsDelta k to bytes) where
   pub delta_read : message_read k.config.nodes bytes ≡ Ok (message_of told.message)

@@ -3,13 +3,13 @@ use Rattle.std.proofs.Common.{◌≡◌, ℕ, ◌+◌, ◌≤◌, Bool, true, fa
 use Rattle.std.proofs.lemmas.Bool.Decides.{nat_tests}
 use Rattle.std.proofs.lemmas.Int.{ints}
 use Rattle.std.specs.Prelude.{ℤ, pos, ◌≤ℤ◌, ◌-ℤ◌, ◌↔◌, IsTrue, nat_le, option_map, slice_get, is_some, not, ◌&&◌, ◌||◌}
-use Rattle.std.specs.Option.{option_map_or}
+use Rattle.std.specs.Option.{option_map_or, IsSome}
 use Rattle.actions.specs.Value.{TermValue}
 use Rattle.actions.specs.Choice.{choice, first_below, triggers, triggers_by, word_at}
 use Rattle.counters.specs.Budgets.{Budget, rights, given_to, gone_from}
 use Rattle.stamp_register.specs.Keys.{KeyValue, terms_set}
 use Rattle.replica_state.specs.Operations.{count_at, count_in, count_under}
-use Rattle.replica_state.specs.States.{State, budget, budget_under, rights_of}
+use Rattle.replica_state.specs.States.{State, budget, budget_under, budget_of, rights_of}
 use Rattle.node_core.specs.Nodes.{setting_in, setting_of}
 use Rattle.actions.proofs.ChoiceLemmas.{first_from_choice}
 use Rattle.actions.specs.Choice.{passes}
@@ -48,6 +48,14 @@ by_numbers false a b h = by_test (nat_le (b + 1) a) refl
         let more : pos 1 ≤ℤ (pos a -ℤ pos b) = omega (arith, ints) in
         let impossible : false ≡ true = h.1 more in
         cc
+
+-- of a term that isn't counted nobody has a right
+pub counted_by_rights : (v : State) (name : List ℕ) (term i n : ℕ) → 0 < n → pos n ≤ℤ rights_of v name term i → IsSome (budget_of v name term)
+counted_by_rights v name term i n some enough = by_budget (budget_of v name term) enough
+  where
+    by_budget : (found : Option Budget) → pos n ≤ℤ option_map_or (λ (b : Budget). rights b i) found (pos 0) → IsSome found
+    by_budget None more = absurd (omega (arith, ints, some, more))
+    by_budget (Some b) more = refl
 
 -- the rights of a node of a counted term of the key that it holds
 pub counted_rights : (i : ℕ) (v : State) (name : List ℕ) (key : KeyValue) (terms : List TermValue) (term : ℕ) → setting_of v name ≡ Some (key, terms) → rights_of v name term i ≡ option_map_or (λ (b : Budget). rights b i) (option_map (λ n. budget v name term key.node n) (count_at terms term)) (pos 0)

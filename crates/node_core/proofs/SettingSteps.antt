@@ -62,13 +62,6 @@ pub issued_clock : (i clock : ℕ) (ss : Settings) (ops : List Operation) → cl
 issued_clock i clock [] ops low = omega (arith, low)
 issued_clock i clock (s ∷ ss) ops low = let rest = issued_clock i (clock + 1) ss ops (omega (arith, low)) in omega (arith, rest)
 
--- one setting more at the end
-pub state_set-more : (i clock : ℕ) (ss : Settings) (s : List ℕ × Option (List ℕ)) (v : State) → state_set i clock (ss ++ s ∷ []) v ≡ with_key s.0 (new_key i (clock + length ss) s.1) (state_set i clock ss v)
-state_set-more i clock [] s v = ap (λ c. with_key s.0 (new_key i c s.1) v) (omega arith)
-state_set-more i clock (r ∷ ss) s v =
-    state_set-more i (clock + 1) ss s (with_key r.0 (new_key i clock r.1) v)
-    ∙ ap (λ c. with_key s.0 (new_key i c s.1) (state_set i (clock + 1) ss (with_key r.0 (new_key i clock r.1) v))) (omega arith)
-
 -- ---- the names of that state
 
 names_key : (name : List ℕ) (key : KeyValue) (v : State) → (with_key name key v).names ≡ with_names (name ∷ []) v.names

@@ -6,7 +6,7 @@ use Rattle.std.proofs.lemmas.Slice.Eq.{bytes_eq-Decides}
 use Rattle.std.specs.Str.{bytes_eq}
 use Rattle.std.specs.Prelude.{ℤ, pos, ◌≤ℤ◌, option_map}
 use Rattle.std.specs.Option.{option_map_or}
-use Rattle.counters.specs.Sums.{numbers, sum_others}
+use Rattle.counters.specs.Sums.{node_numbers, sum_others}
 use Rattle.counters.specs.Budgets.{Budget, rights}
 use Rattle.counters.proofs.SumLemmas.{sum_others-le, sum_others-add, sum_others-at_most, sum_others-same}
 use Rattle.stamp_register.specs.Keys.{KeyValue}
@@ -68,11 +68,11 @@ module _ (v : State) (name : List ℕ) (k i to amount : ℕ) (own : HasOwn v i) 
   unfolding with_shifts
   came j = kept (bytes_eq name q) (k == t) (i == j) (to == i) (v.shifts name k i to + amount) (v.shifts q t j i) (ne_eqb to i apart)
 
-  others_went : sum_others numbers i (λ j. then.shifts q t i j) ≤ sum_others numbers i (λ j. v.shifts q t i j) + cond test amount 0
+  others_went : sum_others node_numbers i (λ j. then.shifts q t i j) ≤ sum_others node_numbers i (λ j. v.shifts q t i j) + cond test amount 0
   others_went =
-      let all = sum_others-le numbers i (λ j. then.shifts q t i j) (λ j. v.shifts q t i j + cond (to == j) (cond test amount 0) 0) went in
-      let apart = sum_others-add numbers i (λ j. v.shifts q t i j) (λ j. cond (to == j) (cond test amount 0) 0) in
-      let one = sum_others-at_most numbers i (λ j. cond (to == j) (cond test amount 0) 0) to (cond test amount 0) (λ j ne. ap (λ b. cond b (cond test amount 0) 0) (ne_eqb to j (λ e. ne (sym e)))) (most (to == to)) in
+      let all = sum_others-le node_numbers i (λ j. then.shifts q t i j) (λ j. v.shifts q t i j + cond (to == j) (cond test amount 0) 0) went in
+      let apart = sum_others-add node_numbers i (λ j. v.shifts q t i j) (λ j. cond (to == j) (cond test amount 0) 0) in
+      let one = sum_others-at_most node_numbers i (λ j. cond (to == j) (cond test amount 0) 0) to (cond test amount 0) (λ j ne. ap (λ b. cond b (cond test amount 0) 0) (ne_eqb to j (λ e. ne (sym e)))) (most (to == to)) in
       omega (arith, all, apart, one)
     where
       most : (b : Bool) → cond b (cond test amount 0) 0 ≤ cond test amount 0
@@ -83,16 +83,16 @@ module _ (v : State) (name : List ℕ) (k i to amount : ℕ) (own : HasOwn v i) 
   unfolding with_shifts
   left n key p more = by_test test refl
     where
-      same_given : sum_others numbers i (λ j. then.shifts q t j i) ≡ sum_others numbers i (λ j. v.shifts q t j i)
-      same_given = sum_others-same numbers i (λ j. then.shifts q t j i) (λ j. v.shifts q t j i) came
+      same_given : sum_others node_numbers i (λ j. then.shifts q t j i) ≡ sum_others node_numbers i (λ j. v.shifts q t j i)
+      same_given = sum_others-same node_numbers i (λ j. then.shifts q t j i) (λ j. v.shifts q t j i) came
 
       by_test : (b : Bool) → test ≡ b → pos 0 ≤ℤ rights (budget then q t key.node n) i
       by_test true e =
           let amounts : pos amount ≤ℤ rights (budget v q t key.node n) i = more e in
-          let most : sum_others numbers i (λ j. then.shifts q t i j) ≤ sum_others numbers i (λ j. v.shifts q t i j) + amount = subst (λ b. sum_others numbers i (λ j. then.shifts q t i j) ≤ sum_others numbers i (λ j. v.shifts q t i j) + cond b amount 0) e others_went in
+          let most : sum_others node_numbers i (λ j. then.shifts q t i j) ≤ sum_others node_numbers i (λ j. v.shifts q t i j) + amount = subst (λ b. sum_others node_numbers i (λ j. then.shifts q t i j) ≤ sum_others node_numbers i (λ j. v.shifts q t i j) + cond b amount 0) e others_went in
           omega (arith, ints, amounts, most, same_given)
       by_test false e =
-          let most : sum_others numbers i (λ j. then.shifts q t i j) ≤ sum_others numbers i (λ j. v.shifts q t i j) + 0 = subst (λ b. sum_others numbers i (λ j. then.shifts q t i j) ≤ sum_others numbers i (λ j. v.shifts q t i j) + cond b amount 0) e others_went in
+          let most : sum_others node_numbers i (λ j. then.shifts q t i j) ≤ sum_others node_numbers i (λ j. v.shifts q t i j) + 0 = subst (λ b. sum_others node_numbers i (λ j. then.shifts q t i j) ≤ sum_others node_numbers i (λ j. v.shifts q t i j) + cond b amount 0) e others_went in
           omega (arith, ints, p, most, same_given)
 
   abbrev old : Option KeyValue → ℤ

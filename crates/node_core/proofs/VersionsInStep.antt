@@ -1,20 +1,21 @@
 -- The clock and the replica with versions of a node stay in step with its trace, when a call is put at its end.
-use Rattle.std.proofs.Common.{◌≡◌, ◌≢◌, ℕ, ◌+◌, ◌<◌, ◌≤◌, ◌^◌, max, Bool, true, false, nat_lt, List, [], ◌∷◌, ◌++◌, length, map, Option, Some, Result, Ok, IsTrue, refl, sym, ◌∙◌, ap, subst, arith}
+use Rattle.std.proofs.Common.{◌≡◌, ◌≢◌, ℕ, ◌+◌, ◌<◌, ◌≤◌, ◌^◌, max, Bool, true, false, nat_lt, List, [], ◌∷◌, ◌++◌, length, map, Option, Some, None, Result, Ok, IsTrue, refl, sym, ◌∙◌, ap, subst, arith}
 use Rattle.std.proofs.lemmas.List.{map-append}
 use Rattle.std.specs.Int.{from_bool}
-use Rattle.std.specs.Option.{IsSome}
+use Rattle.std.specs.Option.{IfSome, IsSome}
 use Rattle.std.specs.Prelude.{pos, ◌≤ℤ◌}
 use Rattle.actions.specs.Names.{is_name}
-use Rattle.replica_state.specs.States.{State, with_key, with_pass, with_shifts, rights_of}
+use Rattle.replica_state.specs.States.{State, with_key, with_pass, with_shifts, budget_of, rights_of}
 use Rattle.replica_state.specs.Operations.{Operation}
 use Rattle.replica_state.specs.Folds.{fold, clock_of}
-use Rattle.replica_state.specs.Knowledge.{is_upto}
+use Rattle.replica_state.specs.Knowledge.{is_upto, changes}
 use Rattle.replica_state.proofs.Unions.{fold-union}
 use Rattle.delta_exchange.specs.declared.fault.WireFault.{WireFault}
 use Rattle.delta_exchange.specs.Messages.{MessageValue, operations_in}
 use Rattle.delta_exchange.specs.Since.{CanBeTold}
 use Rattle.delta_exchange.specs.Spelling.{IsBody}
-use Rattle.delta_exchange.specs.Versions.{VersionedValue, nothing_known, ChangesTo, Issues, Receives}
+use Rattle.delta_exchange.specs.Told.{HasLearned}
+use Rattle.delta_exchange.specs.Versions.{VersionedValue, nothing_known, ChangesTo, Issues, MayPass, Receives}
 use Rattle.node_core.specs.declared.config.Config.{Config}
 use Rattle.node_core.specs.declared.trace.Entry.{Entry}
 use Rattle.node_core.specs.Asks.{Call, Message, Load, Pass, Shift, Deliver, call, emit_of, message_of}
@@ -25,11 +26,12 @@ use Rattle.node_core.specs.Nodes.{Node}
 use Rattle.node_core.specs.Outcomes.{AreTellable, HasKey, ops_done, state_loaded}
 use Rattle.node_core.specs.Passes.{pass_ops}
 use Rattle.node_core.specs.Room.{HasRoom, HasClocks, HasPlace, HavePlaces}
-use Rattle.node_core.specs.Steps.{new_key, operations_issued, points_in, settings}
+use Rattle.node_core.specs.Steps.{message_in, new_key, operations_issued, points_in, settings}
 use Rattle.node_core.specs.Traces.{Kept, kept_of, node_of, state_known}
 use Rattle.node_core.proofs.InStep.{with_call, issue_in_step, load_in_step, pass_in_step, shift_in_step, deliver_in_step, emit_in_step}
 use Rattle.node_core.proofs.KeptVersions.{versions_start, set_versions, load_versions, pass_versions, unset_versions, shift_versions, emit_versions, deliver_versions}
 use Rattle.node_core.proofs.LawfulSteps.{unknown_key}
+use Rattle.node_core.proofs.Rights.{counted_by_rights}
 use Rattle.node_core.proofs.SettingSteps.{fold_alone, turned}
 
 -- a new node
@@ -52,6 +54,23 @@ can_be_told k clock value is to low apart = record {
   lawful = ((node_of k).ops, sym is.1.state_is, is.0.1.lawful);
   few_names = subst (λ (v : State). length v.names ≤ 256) is.1.state_is is.0.1.few_names;
 }
+
+-- a pass can be counted, where there is room for its entry
+pub may_pass : (k : Kept) (clock : ℕ) (value : VersionedValue) → IsInStepWith k clock value → HasRoom k → (name : List ℕ) (is_set : Bool) (spent : Option ℕ) → (is_set ≡ true → HasKey value.state name) →
+    ((t : ℕ) → spent ≡ Some t → pos 1 ≤ℤ rights_of value.state name t k.config.node) → is_set ≡ true → MayPass value name k.config.node spent
+may_pass k clock value is room name is_set spent key right set =
+    let small = is.0.0.small in
+    record {
+      set = (key set).0;
+      counted = by_spent spent right;
+      hits = (let few = is.0.0.hits_few name in omega (arith, room, small, few));
+      execs = λ term. (let few = is.0.0.execs_few name term in omega (arith, room, small, few));
+      version = (let few = is.0.1.few_versions in omega (arith, room, small, few));
+    }
+  where
+    by_spent : (o : Option ℕ) → ((t : ℕ) → o ≡ Some t → pos 1 ≤ℤ rights_of value.state name t k.config.node) → IfSome o (λ term. IsSome (budget_of value.state name term))
+    by_spent None rights = tt
+    by_spent (Some t) rights = counted_by_rights value.state name t k.config.node 1 (omega arith) (rights t refl)
 
 -- the entries of a trace that grew by one
 pub entries_with : (config : Config) (clock : ℕ) (value : VersionedValue) (old mid new : List Entry) (e : Entry) → new ≡ mid ++ e ∷ [] → mid ≡ old →
@@ -137,18 +156,14 @@ module _ (k : Kept) (clock : ℕ) (value next : VersionedValue) (c : Call) (is :
       (subst (λ (v : State). IsSome (v.key name)) is.1.state_is set.0) there.1 (grown.0.state_is ∙ step.state_is) step)
 
   -- a message is delivered, which acknowledges no version that is still to come
-  pub deliver_with : (read : Result Message WireFault) (m : MessageValue) (brought : State) (later last : ℕ) (changed : Bool) → read ≡ Ok (message_of m) → c.ask ≡ Deliver read → c.words ≡ [] →
-      IsDelivery k.config n read brought later changed → m.ack ≤ value.version → Receives value m next → last ≡ max clock later → InStepThen last
-  deliver_with read m brought later last changed was asked with d reached step late =
+  pub deliver_with : (read : Result Message WireFault) (m : MessageValue) (later last : ℕ) (changed : Bool) → read ≡ Ok (message_of m) → c.ask ≡ Deliver read → c.words ≡ [] →
+      IsDelivery k.config n read later → m.ack ≤ n.marks.version → changed ≡ changes value.state (operations_in m) → Receives value m next → last ≡ max clock later → InStepThen last
+  deliver_with read m later last changed was asked with d reached changing step late =
       together last (value.version + from_bool changed)
-      (deliver_in_step k clock value.version value.state next.state c is.0 room read brought later changed last (from_bool changed) asked with d merged late refl)
-      (deliver_versions k c value is.1 m next (asked ∙ ap Deliver was) with reached step)
-    where
-      told : IsDelivery k.config n (Ok (message_of m)) brought later changed
-      told = subst (λ r. IsDelivery k.config n r brought later changed) was d
-
-      merged : (a b : List Operation) → value.state ≡ fold a → brought ≡ fold b → next.state ≡ fold (a ++ b)
-      merged a b e f = step.learned.state a e ∙ turned (operations_in m) a ∙ fold-union a (operations_in m) a b refl (sym told.state_is ∙ f)
+      (deliver_in_step k clock value.version value.state next.state c is.0 room read later last changed (from_bool changed) asked with d
+      (subst (λ r. HasLearned value.state next.state (message_in r).ops) (sym was) step.learned.state) late
+      (subst (λ r. changed ≡ changes (state_known k) (message_in r).ops) (sym was) (changing ∙ ap (λ (v : State). changes v (operations_in m)) (sym is.1.state_is))) refl)
+      (deliver_versions k c value is.1 m next (asked ∙ ap Deliver was) with (subst (λ v. m.ack ≤ v) is.1.version_is reached) step)
 
 -- a message is made
 pub emit_with : (k : Kept) (clock : ℕ) (value : VersionedValue) (c : Call) → IsInStepWith k clock value → HasRoom k →

@@ -6,7 +6,7 @@ use Rattle.node_core.specs.declared.ask.Ask.TheVariants as asks
 use Rattle.node_core.specs.declared.reply.Reply.{Reply}
 use Rattle.node_core.specs.declared.reply.Reply.TheVariants as replies
 use Rattle.node_core.specs.Traces.{Kept}
-use Rattle.node_core.specs.Deliveries.{TellsAll}
+use Rattle.node_core.specs.Deliveries.{TellsDelta}
 
 -- why a delivery that is refused so is refused with words
 abbrev pub delivery_refused_with : NodeFault → NodeFault
@@ -15,8 +15,8 @@ delivery_refused_with faults.TooManyPoints = faults.TooManyPoints
 delivery_refused_with faults.OutOfMemory = faults.OutOfMemory
 delivery_refused_with _ = faults.BadWords 0
 
--- the reply to an emit tells all that the node knows
+-- the reply to an emit tells what differs from what the receiver has
 abbrev pub TellsIfEmit : Kept → Ask → Reply → Type 0
-TellsIfEmit k (asks.Emit to) (replies.Emit bytes) = TellsAll k to bytes.items
+TellsIfEmit k (asks.Emit to) (replies.Emit bytes) = TellsDelta k to bytes.items
 TellsIfEmit k (asks.Emit to) _ = ⊥
 TellsIfEmit k _ reply = Unit {0}

@@ -122,7 +122,7 @@ bytes_of _ = []
 abbrev pub passed : PassReply → Passed
 passed passes.Unset = Unset
 passed (passes.NoTerm stamp) = NoTerm stamp
-passed (passes.Act stamp term task) = Act stamp term (task_value task)
+passed (passes.Act term stamp task) = Act stamp term (task_value task)
 
 abbrev pub reply_value : ℕ → Reply → Answered
 reply_value nodes (replies.Set stamp) = IsSet stamp

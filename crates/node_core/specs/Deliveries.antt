@@ -1,5 +1,5 @@
 -- What a message comes to at the node that it is delivered to, and what a node tells.
-use Rattle.std.specs.Prelude.{◌≡◌, ◌≤◌, ◌==◌, ◌&&◌, ℕ, Bool, false, true, nat_lt, List, ◌++◌, length, Result}
+use Rattle.std.specs.Prelude.{◌≡◌, ◌≤◌, ◌==◌, ◌&&◌, ℕ, Bool, false, true, nat_lt, List, ◌++◌, length, Result, Ok}
 use Rattle.std.specs.List.{list_any}
 use Rattle.std.specs.Ordering.{match_ordering}
 use Rattle.std.specs.declared.cmp.Ordering.{Ordering}
@@ -7,20 +7,17 @@ use Rattle.counters.specs.Sums.{sum_below}
 use Rattle.actions.specs.Value.{TermValue}
 use Rattle.replica_state.specs.Operations.{count_at}
 use Rattle.replica_state.specs.States.{State}
-use Rattle.node_core.specs.Replicas.{state_in}
 use Rattle.replica_state.specs.Unions.{key_order, number_both}
 use Rattle.replica_state.specs.Folds.{fold, clock_of}
 use Rattle.replica_state.specs.Deltas.{IsDelta}
-use Rattle.replica_state.specs.Knowledge.{changes}
 use Rattle.delta_exchange.specs.declared.fault.WireFault.{WireFault}
 use Rattle.delta_exchange.specs.Limits.{max_names}
-use Rattle.delta_exchange.specs.Messages.{MessageValue, operations_in}
-use Rattle.delta_exchange.specs.Spelling.{SpellsMessage, message_bytes}
-use Rattle.delta_exchange.specs.Wholes.{AreLawful, IsWhole}
-use Rattle.delta_exchange.specs.Cells.{whole_of}
+use Rattle.delta_exchange.specs.Messages.{MessageValue, message_value, operations_in}
+use Rattle.delta_exchange.specs.Spelling.{IsMessage, SpellsMessage}
+use Rattle.delta_exchange.specs.Wholes.{AreLawful}
 use Rattle.node_core.specs.declared.config.Config.{Config}
 use Rattle.node_core.specs.declared.delivery.Delivery.{Delivery}
-use Rattle.node_core.specs.Asks.{Message, Versions, message_read}
+use Rattle.node_core.specs.Asks.{Message, Versions, message_of, message_read}
 use Rattle.node_core.specs.Nodes.{Node, state_shown, setting_of, terms_in}
 use Rattle.node_core.specs.Refusals.{any_below, is_above, says_more}
 use Rattle.node_core.specs.Steps.{message_in}
@@ -64,29 +61,22 @@ is_overspent_below nodes v t name =
     let order = key_order (t.key name) (v.key name) in
     are_overspent nodes order v t name (terms_both order v t name)
 
--- what a message that a node accepts comes to: the state of what it tells, its greatest clock, and
--- whether it changes anything; it says no more of the node than the node knows, and with it there are
--- few names
-pub record IsDelivery (config : Config) (n : Node) (read : Result Message WireFault)
-    (state : State) (clock : ℕ) (changed : Bool) : Type 0 where
-  pub state_is : state ≡ fold (message_in read).ops
+-- what a message that a node accepts comes to: its greatest clock; it says no more of the node than the
+-- node knows, and with it there are few names
+pub record IsDelivery (config : Config) (n : Node) (read : Result Message WireFault) (clock : ℕ) : Type 0 where
   pub clock_is : clock ≡ clock_of (message_in read).ops
-  pub changes_so : changed ≡ changes (state_shown n) (message_in read).ops
   pub lawful : AreLawful config.nodes (message_in read).ops
   pub behind : says_more config.node (state_shown n) (message_in read).ops ≡ false
   pub few_names : length (fold ((message_in read).ops ++ n.ops)).names ≤ max_names
 
--- what these bytes come to at a node
-abbrev pub DeliversAs : Kept → List ℕ → Delivery → Type 0
-DeliversAs k bytes d =
-    IsDelivery k.config (node_of k) (message_read k.config.nodes bytes) (state_in d.brought) d.clock d.changed
-
--- bytes of a message to a node that tells all that the sender knows, and no version
-pub record TellsAll (k : Kept) (to : ℕ) (bytes : List ℕ) : Type 0 where
-  pub message : MessageValue
-  pub whole : IsWhole k.config.nodes k.config.node to (state_shown (node_of k)) message
-  pub is : message ≡ whole_of (state_shown (node_of k)) k.config.nodes k.config.node to
-  pub written : bytes ≡ message_bytes message
+-- what these bytes come to at a node: they are read as a message that acknowledges no version which is
+-- still to come
+pub record DeliversAs (k : Kept) (bytes : List ℕ) (d : Delivery) : Type 0 where
+  pub is_read : message_read k.config.nodes bytes ≡ Ok (message_of (message_value d.message))
+  pub spelled : IsMessage k.config.nodes (message_value d.message)
+  pub reached : (message_value d.message).ack ≤ (node_of k).marks.version
+  pub delivery :
+      IsDelivery k.config (node_of k) (message_read k.config.nodes bytes) d.clock
 
 -- the versions that a message tells
 abbrev pub versions_in : MessageValue → Versions

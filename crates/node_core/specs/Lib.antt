@@ -7,10 +7,12 @@ pub mod Steps
 pub mod Outcomes
 pub mod Refusals
 pub mod Traces
+pub mod Lasts
 pub mod Room
 pub mod Holds
 pub mod Texts
 pub mod Deliveries
+pub mod Emissions
 pub mod Memory
 pub mod Applied
 pub mod KeptVersions

@@ -11,7 +11,7 @@ use Rattle.actions.specs.SettingReading.{setting_reading}
 use Rattle.actions.specs.declared.fault.ActionFault.{ActionFault}
 use Rattle.actions.specs.declared.fault.SettingFault.{SettingFault}
 use Rattle.actions.specs.declared.fault.SettingFault.TheVariants as settings
-use Rattle.counters.specs.Sums.{numbers, sum_below}
+use Rattle.counters.specs.Sums.{node_numbers, sum_below}
 use Rattle.counters.specs.Budgets.{given_to, gone_from}
 use Rattle.counters.specs.Cells.{is_too_great}
 use Rattle.stamp_register.specs.Keys.{KeyValue}
@@ -113,7 +113,7 @@ any_below (suc n) test = test n || any_below n test
 
 abbrev pub is_overspent : State → List ℕ → List TermValue → Bool
 is_overspent v name terms =
-    any_below (length terms) (λ term. is_above (count_at terms term) (sum_below numbers (v.execs name term)))
+    any_below (length terms) (λ term. is_above (count_at terms term) (sum_below node_numbers (v.execs name term)))
 
 -- of a name that a message carries, in the state after it
 abbrev pub overspends : State → Operation → Bool

@@ -1,7 +1,12 @@
 -- What a node's replica stands for. Its type is named here alone: all else goes by the trait of replicas.
 use Rattle.replica_state.specs.declared.matrix.Matrix.{Matrix}
 use Rattle.replica_state.specs.States.{State}
-use Rattle.replica_state.specs.Slots.{matrix_state}
+use Rattle.replica_state.specs.MatrixStates.{matrix_state}
+use Rattle.delta_exchange.specs.declared.versioned.Versioned.{Versioned}
+use Rattle.delta_exchange.specs.Versions.{VersionedValue, value_of}
+
+abbrev pub value_in : Versioned Matrix → VersionedValue
+value_in v = value_of matrix_state v
 
 abbrev pub state_in : Matrix → State
 state_in replica = matrix_state replica

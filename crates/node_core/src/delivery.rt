@@ -1,6 +1,6 @@
 //! What a message says to the node that it is delivered to.
 
-ghost use Rattle.std.specs.Prelude.{◌≡◌, ◌⊎◌, ◌≤◌, ◌==◌, ◌&&◌, nat_lt, ℕ, [], map, IfOk, IfErr, OnOk, IsOk, IsErrOf, Some, Ok, MatchOption};
+ghost use Rattle.std.specs.Prelude.{◌≡◌, ◌⊎◌, ◌==◌, ◌&&◌, [], map, IfOk, IfErr, OnOk, IsOk, IsErrOf, Some, Ok, MatchOption};
 ghost use Rattle.std.specs.List.{flat_map, list_any};
 ghost use Rattle.std.specs.Ordering.{is_gt};
 ghost use Rattle.stamp_register.specs.Keys.{key_value};
@@ -26,13 +26,11 @@ use stamp_register::Key;
 use std::alloc::Global;
 use std::cmp::Ordering;
 
-/// What a message comes to at a node: a state that knows just what it tells, the greatest clock of
-/// its keys, and whether the node learns anything.
+/// What a node accepts: a message, and the greatest clock of its keys.
 #[derive(Debug, Drop)]
 pub(crate) struct Delivery {
-    pub(crate) brought: State,
+    pub(crate) message: Message,
     pub(crate) clock: u64,
-    pub(crate) changed: bool,
 }
 
 /// How a node refuses bytes that are refused so.

@@ -28,7 +28,7 @@ use crate::list::list_of;
 use crate::setting::words_needed;
 use crate::trace::Trace;
 use actions::{Name, NameFault};
-use delta_exchange::MAX_NODES;
+use delta_exchange::{MAX_NODES, Versioned};
 use replica_state::Replica;
 use stamp_register::Stamp;
 use std::alloc::{AllocError, Global};
@@ -40,22 +40,20 @@ use std::marker::Model;
 pub struct NodeCore {
     config: Config,
     clock: u64,
-    // How many accepted calls changed the state.
-    version: u64,
-    state: State,
+    replica: Versioned<State>,
     trace: Trace,
 }
 
 impl Model for NodeCore {
-    ghost use Rattle.node_core.specs.Replicas.{state_in};
+    ghost use Rattle.node_core.specs.Replicas.{value_in};
     ghost use Rattle.node_core.specs.Traces.{Kept, kept_of};
-    ghost use Rattle.node_core.specs.Holds.{IsInStep};
+    ghost use Rattle.node_core.specs.KeptVersions.{IsInStepWith};
 
     ghost Value = { Kept };
 
     ghost view = { λ c. kept_of c.config c.trace.items };
 
-    ghost invariant = { λ c. IsInStep (kept_of c.config c.trace.items) c.clock c.version (state_in c.state) };
+    ghost invariant = { λ c. IsInStepWith (kept_of c.config c.trace.items) c.clock (value_in c.replica) };
 }
 
 impl NodeCore {
@@ -71,8 +69,7 @@ impl NodeCore {
         Ok(NodeCore {
             config,
             clock: 0,
-            version: 0,
-            state: State::empty(alloc),
+            replica: Versioned::new(alloc),
             trace: Vec::new(alloc),
         })
     }
@@ -88,7 +85,7 @@ impl NodeCore {
     pub fn words_needed(&self, name: &Name) -> u8
         ensures { result ≡ words_for (state_known self.now) name.now }
     {
-        words_needed(&self.state, name)
+        words_needed(self.replica.state(), name)
     }
 
     /// The rights of a node to execute a counted term, in this node's view; 0 where there is no
@@ -97,7 +94,7 @@ impl NodeCore {
         ensures value { result ≡ rights_of (state_known self.now) name.now term node }
         ensures own { node ≡ self.now.config.node → pos 0 ≤ℤ result }
     {
-        self.state.rights(name, term, node)
+        self.replica.state().rights(name, term, node)
     }
 
     /// The executions of a counted term at all nodes, in this node's view; 0 where there is no
@@ -105,21 +102,21 @@ impl NodeCore {
     pub fn spent(&self, name: &Name, term: u8) -> u128
         ensures { result ≡ spent_of (state_known self.now) name.now term }
     {
-        self.state.spent(name, term)
+        self.replica.state().spent(name, term)
     }
 
     /// The passes of a point at all nodes while it was set, in this node's view.
     pub fn hits(&self, name: &Name) -> u128
         ensures { result ≡ total_hits (state_known self.now) name.now }
     {
-        self.state.total_hits(name)
+        self.replica.state().total_hits(name)
     }
 
     /// Whether a pause that began under a stamp is over: true unless the point still has it.
     pub fn pause_over(&self, name: &Name, stamp: Stamp) -> bool
         ensures { IsTrue result ↔ (HasStamp ((state_known self.now).key name.now) stamp → ⊥) }
     {
-        match self.state.key(name) {
+        match self.replica.state().key(name) {
             Some(key) => key.stamp() != stamp,
             None => true,
         }
@@ -129,14 +126,36 @@ impl NodeCore {
     pub fn list(&self, alloc: Global) -> Result<String, AllocError>
         ensures { IfOk result (λ text. string_bytes text ≡ list_text (state_known self.now)) }
     {
-        list_of(alloc, &self.state)
+        list_of(alloc, self.replica.state())
+    }
+
+    /// How many accepted calls changed what the node knows.
+    pub fn version(&self) -> u64
+        ensures { result ≡ (node_of self.now).marks.version }
+    {
+        self.replica.version()
+    }
+
+    /// The version of another node that this one has all of, 0 at first.
+    pub fn known(&self, from: u8) -> u64
+        ensures { result ≡ (node_of self.now).marks.known from }
+    {
+        self.replica.known(from)
+    }
+
+    /// The version of this node that another one said it has, 0 at first.
+    pub fn acked(&self, to: u8) -> u64
+        ensures value { result ≡ (node_of self.now).marks.acked to }
+        ensures reached { result ≤ (node_of self.now).marks.version }
+    {
+        self.replica.acked(to)
     }
 
     /// All that the node knows of settings, hits, executions and moved rights.
     pub fn state(&self) -> &State
         ensures { state_in result.now ≡ state_known self.now }
     {
-        &self.state
+        self.replica.state()
     }
 
     /// The accepted calls.
@@ -150,7 +169,7 @@ impl NodeCore {
     pub(crate) fn is_lawful(&self)
         ensures { AreLawful self.now.config.nodes (node_of self.now).ops }
     {
-        let _ = &self.state;
+        let _ = &self.replica;
     }
 
     // Whether the trace takes one more call.

@@ -15,7 +15,7 @@ pub enum PassReply {
     /// The point is set, and none of its terms was triggered.
     NoTerm { stamp: Stamp },
     /// This term was triggered, numbered from 0.
-    Act { stamp: Stamp, term: u8, task: Task },
+    Act { term: u8, stamp: Stamp, task: Task },
 }
 
 impl PassReply {
@@ -26,9 +26,9 @@ impl PassReply {
         Ok(match self {
             PassReply::Unset => PassReply::Unset,
             PassReply::NoTerm { stamp } => PassReply::NoTerm { stamp: *stamp },
-            PassReply::Act { stamp, term, task } => PassReply::Act {
-                stamp: *stamp,
+            PassReply::Act { term, stamp, task } => PassReply::Act {
                 term: *term,
+                stamp: *stamp,
                 task: task.copied(alloc)?,
             },
         })

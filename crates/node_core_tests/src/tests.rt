@@ -17,6 +17,7 @@ mod refused_calls;
 mod settings;
 mod shifts;
 mod stage;
+mod versions;
 
 use actions::{Name, NameFault, Task};
 use node_core::{Ask, Config, NodeCore, NodeFault, PassReply, Reply};

@@ -7,6 +7,7 @@ use Rattle.std.proofs.lemmas.Bool.Decides.{nat_tests}
 use Rattle.stamp_register.specs.Keys.{KeyValue, key_le, same_key, key_rank}
 use Rattle.replica_state.specs.Operations.{Hits, Execs, Shifts, Operation, Set, Count, same_cell}
 use Rattle.replica_state.specs.Folds.{fold, names_of, greater, key_of, number_at, at_key, clock_of}
+use Rattle.replica_state.specs.Knowledge.{is_upto}
 use Rattle.replica_state.specs.States.{with_name, with_hits, with_execs, with_shifts, with_key}
 
 pub max_zero : (n : ℕ) → max 0 n ≡ n
@@ -188,6 +189,12 @@ module _ (key : KeyValue) where
   unfolding is_later
   later_greater None h = refl
   later_greater (Some a) h = let not_le : key_le key a ≡ false = grind (arith, nat_tests) in rw not_le refl
+
+  -- such a key is above the one that is held
+  pub later_above : (o : Option KeyValue) → is_later o → is_upto (Some key) o ≡ false
+  unfolding is_later
+  later_above None h = refl
+  later_above (Some a) h = grind (arith, nat_tests)
 
   pub fold_key : (name : List ℕ) (ops : List Operation) → clock_of ops < key.clock → fold (Set name key ∷ ops) ≡ with_key name key (fold ops)
   unfolding fold with_key

@@ -20,3 +20,5 @@ pub mod MatrixJoins
 pub mod NamesTogether
 pub mod Marks
 pub mod StoredSlots
+pub mod Reaching
+pub mod NamesHeld

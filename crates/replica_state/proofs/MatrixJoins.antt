@@ -26,12 +26,11 @@ use Rattle.stamp_register.specs.contracts.key.KeyOrd.TheImpl.Laws as key_laws
 use Rattle.stamp_register.proofs.KeyLemmas.{same_rank}
 use Rattle.replica_state.specs.declared.point.Counted.{Counted}
 use Rattle.replica_state.specs.declared.point.Counted.TheVariants.{Hits, Execs, Shifts}
-use Rattle.replica_state.specs.declared.matrix.Matrix.{Matrix}
 use Rattle.replica_state.specs.Operations.{Operation, IsIn}
 use Rattle.replica_state.specs.Folds.{fold, greater}
 use Rattle.replica_state.specs.Points.{Held}
 use Rattle.replica_state.specs.Unions.{union_of, both_held, with_names, key_order, number_both}
-use Rattle.replica_state.specs.Slots.{Slot, Budgets, no_slot, budgets_number, under_key, slot_number, slot_held, slot_at, shown_slots, matrix_state}
+use Rattle.replica_state.specs.Slots.{Slot, Budgets, no_slot, budgets_number, under_key, slot_number, slot_held, slot_at, shown_slots}
 use Rattle.replica_state.specs.MatrixStates.{first_key}
 use Rattle.replica_state.specs.MatrixOrder.{First, first_order, are_firsts, cells_order, are_cells, shares_order, are_shares, shares_laws, budgets_order, are_budgets, key_cmp, slots_order, are_slots, slots_laws, slots_map}
 use Rattle.replica_state.proofs.StateOrders.{stands_above, stands_equal, stands_below}
@@ -209,13 +208,12 @@ shown_joined x y j join = λ i. record {
     held : (name : List ℕ) → slot_held (slot_at j name) ≡ both_held (slot_held (slot_at x name)) (slot_held (slot_at y name))
     held name = slots_joined (slot_at x name) (slot_at y name) (slot_at j name) (at_name x y j join name)
 
-pub matrices_joined : (x y both : Matrix) → IsJoined x.slots y.slots both.slots → (a b : List Operation) → matrix_state x ≡ fold a → matrix_state y ≡ fold b → matrix_state both ≡ fold (a ++ b)
-unfolding matrix_state
-matrices_joined x y both join a b h k = united_folds (shown_slots both.slots) (shown_slots x.slots) (shown_slots y.slots) (shown_joined x.slots y.slots both.slots join) a b h k
+pub slots_unite : (x y both : List (List ℕ × Slot)) → IsJoined x y both → (a b : List Operation) → shown_slots x ≡ fold a → shown_slots y ≡ fold b → shown_slots both ≡ fold (a ++ b)
+slots_unite x y both join a b h k = united_folds (shown_slots both) (shown_slots x) (shown_slots y) (shown_joined x y both join) a b h k
 
-pub matrix_copied : (x copy : Matrix) → IsCopy slots_map (MapOrder (slice_cmp nat_cmp) slots_order no_slot) x.slots copy.slots → matrix_state copy ≡ matrix_state x
-unfolding matrix_state shown_slots slot_held
-matrix_copied x copy is = λ i. record {
+pub slots_copied : (x copy : List (List ℕ × Slot)) → IsCopy slots_map (MapOrder (slice_cmp nat_cmp) slots_order no_slot) x copy → shown_slots copy ≡ shown_slots x
+unfolding shown_slots slot_held
+slots_copied x copy is = λ i. record {
   names = names i;
   key = λ name. ap (λ (h : Held). h.key) (held name) i;
   hits = λ name node. ap (λ (h : Held). h.number (Hits node)) (held name) i;
@@ -223,10 +221,10 @@ matrix_copied x copy is = λ i. record {
   shifts = λ name term from to. ap (λ (h : Held). h.number (Shifts term from to)) (held name) i;
 }
   where
-    names : keys_of copy.slots ≡ keys_of x.slots
-    names = same_ascending (keys_of copy.slots) (keys_of x.slots) (sorted_ascends (keys_of copy.slots) is.admitted_copy.ordered) (sorted_ascends (keys_of x.slots) is.admitted_source.ordered)
-        (names_below copy.slots x.slots is.admitted_copy is.admitted_source is.below)
-        (names_below x.slots copy.slots is.admitted_source is.admitted_copy is.above)
+    names : keys_of copy ≡ keys_of x
+    names = same_ascending (keys_of copy) (keys_of x) (sorted_ascends (keys_of copy) is.admitted_copy.ordered) (sorted_ascends (keys_of x) is.admitted_source.ordered)
+        (names_below copy x is.admitted_copy is.admitted_source is.below)
+        (names_below x copy is.admitted_source is.admitted_copy is.above)
 
-    held : (name : List ℕ) → slot_held (slot_at copy.slots name) ≡ slot_held (slot_at x.slots name)
-    held name = slot_same (slot_at copy.slots name) (slot_at x.slots name) (is.below name, is.above name)
+    held : (name : List ℕ) → slot_held (slot_at copy name) ≡ slot_held (slot_at x name)
+    held name = slot_same (slot_at copy name) (slot_at x name) (is.below name, is.above name)

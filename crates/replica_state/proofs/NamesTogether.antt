@@ -30,7 +30,7 @@ unfolding shared
 shared-none p = refl
 
 -- a name that is there adds none
-name_there : (name : List ℕ) (ns : List (List ℕ)) → IsAscending ns → IsIn name ns → with_name name ns ≡ ns
+pub name_there : (name : List ℕ) (ns : List (List ℕ)) → IsAscending ns → IsIn name ns → with_name name ns ≡ ns
 name_there name ns up here = same_ascending (with_name name ns) ns (with_name-ascending name ns up) up
     (λ q h. ⊎_elim (λ e. subst (λ n. IsIn n ns) (sym e) here) (λ k. k) (with_name-cases name q ns h))
     (λ q h. with_name-old name q ns h)

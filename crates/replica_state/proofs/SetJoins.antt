@@ -17,7 +17,6 @@ use Rattle.stamp_register.specs.Keys.{KeyValue, same_key}
 use Rattle.replica_state.specs.declared.point.Counted.{Counted}
 use Rattle.replica_state.specs.declared.point.Counted.TheVariants as kinds
 use Rattle.replica_state.specs.declared.point.Point.{Point}
-use Rattle.replica_state.specs.declared.op_set.OpSet.{OpSet}
 use Rattle.replica_state.specs.Operations.{Operation, Hits, Execs, Shifts, IsIn}
 use Rattle.replica_state.specs.States.{State, with_name}
 use Rattle.replica_state.specs.Folds.{fold, greater, key_of, at_key, number_at, names_of}
@@ -25,7 +24,7 @@ use Rattle.replica_state.specs.StateOrder.{IsKeyBelow, IsBelow}
 use Rattle.replica_state.specs.Points.{Held, held_of}
 use Rattle.replica_state.specs.Unions.{with_names, key_order, no_key_order, number_both, numbers_both, union_of, both_held, IsHeldBelow}
 use Rattle.replica_state.specs.OpSets as sets
-use Rattle.replica_state.specs.OpSets.{state_of, shown, point_at, key_at, held_at, with_held}
+use Rattle.replica_state.specs.OpSets.{shown, point_at, key_at, held_at, with_held}
 use Rattle.replica_state.proofs.Orders.{bytes_eq-refl, bytes_eq-true, same_key-refl, same_key-true}
 use Rattle.replica_state.proofs.StateOrders.{stands_above, stands_equal, stands_below}
 use Rattle.replica_state.proofs.Sets.{number_at-append}
@@ -217,8 +216,8 @@ module _ (n : List ℕ) (p : Point) (rest : List (List ℕ × Point)) (sorted : 
 
 -- ---- copies and unions of plain replicas
 
-pub copied_state : (set copy : OpSet) (v : State) → IsStrictlySortedBy (slice_cmp nat_cmp) (keys_of set) → state_of copy ≡ union_of v (state_of set) → v ≡ fold [] → state_of copy ≡ state_of set
-unfolding state_of shown
+pub copied_state : (set copy : List (List ℕ × Point)) (v : State) → IsStrictlySortedBy (slice_cmp nat_cmp) (keys_of set) → shown copy ≡ union_of v (shown set) → v ≡ fold [] → shown copy ≡ shown set
+unfolding shown
 copied_state set copy v sorted e empty = e ∙ ap (λ (s : State). union_of s (shown set)) empty ∙ none-unites (shown set) (sorted_ascends (keys_of set) sorted)
 
 pub united_folds : (u v w : State) → u ≡ union_of v w → (a b : List Operation) → v ≡ fold a → w ≡ fold b → u ≡ fold (a ++ b)

@@ -6,7 +6,7 @@ use Rattle.std.specs.Prelude.{unwrap_or, option_map, IfNone, IfSome}
 use Rattle.std.specs.Prelude.{pos}
 use Rattle.std.specs.Option.{IsSome, option_map_or}
 use Rattle.std.proofs.lemmas.Int.{ints}
-use Rattle.counters.specs.Sums.{numbers}
+use Rattle.counters.specs.Sums.{node_numbers}
 use Rattle.counters.specs.Budgets.{Budget, rights, total_spent}
 use Rattle.counters.proofs.SumLemmas.{sum_others-zero, sum-zero}
 use Rattle.replica_state.specs.Operations.{count_of}
@@ -171,21 +171,21 @@ raised_on (Some c) f g h d = ap (λ n. cond (same_counted c.counted d) (max c.nu
 
 pub nothing_held : (first : Option (Key × Budgets)) (second : Cells) → first ≡ None → second ≡ [] → slot_held (record { first = first; second = second }) ≡ empty_held
 unfolding slot_held empty_held cell
-nothing_held first second e f = (λ i. slot_held (record { first = e i; second = f i })) ∙ (λ i. record { key = None; number = λ d. numbers d i })
+nothing_held first second e f = (λ i. slot_held (record { first = e i; second = f i })) ∙ (λ i. record { key = None; number = λ d. node_numbers d i })
   where
-    numbers : (d : Counted) → slot_number (record { first = None; second = [] }) d ≡ 0
-    numbers (Hits node) = refl
-    numbers (Execs term node) = refl
-    numbers (Shifts term from to) = refl
+    node_numbers : (d : Counted) → slot_number (record { first = None; second = [] }) d ≡ 0
+    node_numbers (Hits node) = refl
+    node_numbers (Execs term node) = refl
+    node_numbers (Shifts term from to) = refl
 
 pub taken_held : (slot : Slot) (key : Key) (first : Option (Key × Budgets)) (budgets : Budgets) → first ≡ Some (key, budgets) → budgets ≡ [] → slot_held (record { first = first; second = slot.second }) ≡ held_after_key (key_value key) (slot_held slot)
 unfolding slot_held held_after_key
-taken_held slot key first budgets e f = (λ i. slot_held (record { first = (e ∙ ap (λ b. Some (key, b)) f) i; second = slot.second })) ∙ (λ i. record { key = Some (key_value key); number = λ d. numbers d i })
+taken_held slot key first budgets e f = (λ i. slot_held (record { first = (e ∙ ap (λ b. Some (key, b)) f) i; second = slot.second })) ∙ (λ i. record { key = Some (key_value key); number = λ d. node_numbers d i })
   where
-    numbers : (d : Counted) → slot_number (record { first = Some (key, []); second = slot.second }) d ≡ only_hits (slot_number slot) d
-    numbers (Hits node) = refl
-    numbers (Execs term node) = none_counted (Execs term node)
-    numbers (Shifts term from to) = none_counted (Shifts term from to)
+    node_numbers : (d : Counted) → slot_number (record { first = Some (key, []); second = slot.second }) d ≡ only_hits (slot_number slot) d
+    node_numbers (Hits node) = refl
+    node_numbers (Execs term node) = none_counted (Execs term node)
+    node_numbers (Shifts term from to) = none_counted (Shifts term from to)
 
 -- what is held of a term under a key
 pub under : (slot : Slot) (c : Counted) (term : ℕ) → term_of c ≡ Some term → slot_number slot c ≡ under_key slot.first c
@@ -288,13 +288,13 @@ module _ (slot : Slot) (key : Key) (budgets : Budgets) (term count : ℕ) (held 
 
     pub fresh_rights : (node : ℕ) → rights (budget_in (slot_number slot) term key.node count) node ≡ pos (cond (node == key.node) count 0)
     fresh_rights node =
-        let came = sum_others-zero numbers node (λ j. slot_number slot (Shifts term j node)) (λ j. zero_at (Shifts term j node) refl) in
-        let went = sum_others-zero numbers node (λ j. slot_number slot (Shifts term node j)) (λ j. zero_at (Shifts term node j) refl) in
+        let came = sum_others-zero node_numbers node (λ j. slot_number slot (Shifts term j node)) (λ j. zero_at (Shifts term j node) refl) in
+        let went = sum_others-zero node_numbers node (λ j. slot_number slot (Shifts term node j)) (λ j. zero_at (Shifts term node j) refl) in
         let spent = zero_at (Execs term node) refl in
         omega (arith, ints, came, went, spent)
 
     pub fresh_spent : total_spent (budget_in (slot_number slot) term key.node count) ≡ 0
-    fresh_spent = sum-zero numbers (λ node. slot_number slot (Execs term node)) (λ node. zero_at (Execs term node) refl)
+    fresh_spent = sum-zero node_numbers (λ node. slot_number slot (Execs term node)) (λ node. zero_at (Execs term node) refl)
 
 pub for_setter : (node setter count : ℕ) → node ≡ setter → pos count ≡ pos (cond (node == setter) count 0)
 for_setter node setter count e = ap (λ b. pos (cond b count 0)) (sym (eq-eqb node setter e))

@@ -12,7 +12,7 @@ use Rattle.replica_state.specs.States.{State}
 use Rattle.replica_state.specs.Folds.{greater}
 use Rattle.replica_state.specs.StateOrder.{IsKeyBelow, IsBelowAt, IsBelow}
 use Rattle.replica_state.specs.Unions.{key_order, number_both, union_of}
-use Rattle.replica_state.specs.OpSets.{state_of, IsSet, IsSetBelow}
+use Rattle.replica_state.specs.SetOrder.{state_of, IsSet, IsSetBelow}
 use Rattle.replica_state.specs.SetOrder.{below-refl}
 use Rattle.replica_state.proofs.Orders.{key_le-antisym}
 

@@ -7,7 +7,7 @@ use Rattle.std.specs.Option.{IsSome, is_some, option_copied, option_map_or}
 use Rattle.std.specs.Ordering.{nat_cmp}
 use Rattle.std.specs.Cmp.Lexicographic.{slice_cmp}
 use Rattle.lattice_laws.specs.Map.{ChangesOnly, RaisesOnly}
-use Rattle.counters.specs.Sums.{numbers, sum_below}
+use Rattle.counters.specs.Sums.{node_numbers, sum_below}
 use Rattle.counters.specs.Budgets.{Budget, rights, total_spent}
 use Rattle.counters.proofs.SumLemmas.{sum-zero}
 use Rattle.stamp_register.specs.declared.key.Key.{Key}
@@ -93,8 +93,8 @@ spent_is v name slot is term = ap (λ (o : Option Budget). option_map_or total_s
 pub no_budget : (v : State) (name : List ℕ) → HasNoSlot v name → (term : ℕ) → budget_of v name term ≡ None
 no_budget v name not term = ap (λ (o : Option KeyValue). states.budget_under v name term o) not.key
 
-pub hits_are : (v : State) (name : List ℕ) (slot : Slot) → IsSlotOf v name slot → sum_below numbers (λ node. slot_number slot (Hits node)) ≡ total_hits v name
-hits_are v name slot is = ap (λ (f : ℕ → ℕ). sum_below numbers f) (λ i node. is.number (Hits node) i)
+pub hits_are : (v : State) (name : List ℕ) (slot : Slot) → IsSlotOf v name slot → sum_below node_numbers (λ node. slot_number slot (Hits node)) ≡ total_hits v name
+hits_are v name slot is = ap (λ (f : ℕ → ℕ). sum_below node_numbers f) (λ i node. is.number (Hits node) i)
 
 -- ---- what a change writes
 
@@ -144,7 +144,7 @@ writes call v w name answer changed f e some =
     changed.written (λ none. some (sym now ∙ none)) ∙ ap (λ h. with_held name h v) now
 
 pub no_hits : (v : State) (name : List ℕ) → HasNoSlot v name → total_hits v name ≡ 0
-no_hits v name not = sum-zero numbers (v.hits name) (λ node. not.number (Hits node))
+no_hits v name not = sum-zero node_numbers (v.hits name) (λ node. not.number (Hits node))
 
 -- ---- what a key, a pass or a shift leaves is something
 

@@ -1,10 +1,11 @@
 -- What holds of every set of operations.
 use Rattle.std.specs.Prelude.{◌≡◌, ℕ, ◌<◌, List, ◌++◌, ◌↔◌, true, false, Some, pos, ◌+ℤ◌}
-use Rattle.counters.specs.Sums.{numbers}
+use Rattle.counters.specs.Sums.{node_numbers}
 use Rattle.counters.specs.Budgets.{Budget, remaining_rights, total_spent}
 use Rattle.replica_state.specs.Operations.{Operation, IsIn, IsWellFormed}
 use Rattle.replica_state.specs.States.{State, budget_of}
-use Rattle.replica_state.specs.Folds.{fold}
+use Rattle.replica_state.specs.Folds.{fold, Learns, IsUnion}
+use Rattle.replica_state.specs.Reached.{ComeToWith, ComeToBoth, IsReached, AreNamesHeld}
 use Rattle.replica_state.specs.StateOrder.{IsBelow}
 use Rattle.replica_state.specs.Knowledge.{Knows, KnowsAll, knows, changes}
 
@@ -34,4 +35,16 @@ ChangesIsChange = (a b : List Operation) → (changes (fold b) a ≡ false) ↔ 
 -- in each state, of each counted term, what was spent and what remains are the count
 abbrev pub SpentAndRemainingAreTheCount : Type 0
 SpentAndRemainingAreTheCount = (v : State) (name : List ℕ) (term : ℕ) (b : Budget) →
-    budget_of v name term ≡ Some b → b.setter < numbers → remaining_rights b +ℤ pos (total_spent b) ≡ pos b.count
+    budget_of v name term ≡ Some b → b.setter < node_numbers → remaining_rights b +ℤ pos (total_spent b) ≡ pos b.count
+
+-- what a state learns that some well-formed operations come to is one operation more
+abbrev pub LearnedIsOneMore : Type 0
+LearnedIsOneMore = (v w : State) (op : Operation) → IsReached v → IsWellFormed op → Learns v w op → ∥ ComeToWith v w op ∥₁
+
+-- the union of two such states is that of operations that come to them
+abbrev pub UnionIsBoth : Type 0
+UnionIsBoth = (v w both : State) → IsReached v → IsReached w → IsUnion v w both → ∥ ComeToBoth v w both ∥₁
+
+-- the names of such a state are those that have a key or a hit
+abbrev pub NamesAreHeld : Type 0
+NamesAreHeld = (v : State) → IsReached v → AreNamesHeld v

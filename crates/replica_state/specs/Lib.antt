@@ -1,6 +1,7 @@
 pub mod Operations
 pub mod States
 pub mod Folds
+pub mod Reached
 pub mod StateOrder
 pub mod Knowledge
 pub mod Deltas

@@ -1,4 +1,5 @@
 -- How matrices are ordered: at each name by the key, then by each cell.
+use Rattle.std.proofs.Common.{refl}
 use Rattle.std.specs.Prelude.{ℕ, List, [], Option}
 use Rattle.std.specs.Ordering.{nat_cmp}
 use Rattle.std.specs.Cmp.Lexicographic.{slice_cmp}
@@ -8,12 +9,14 @@ use Rattle.lattice_laws.specs.Lex.{HoldsOnly, LexOrder, lex_order}
 use Rattle.lattice_laws.specs.Map.{IsMap, MapOrder, map_order}
 use Rattle.lattice_laws.specs.Max.{IsNumber, IsAtMost, zero_max, max_order}
 use Rattle.lattice_laws.specs.Pair.{AreBoth, PairOrder, pair_order}
-use Rattle.counters.specs.Cells.{Cells, Shares, no_shares}
+use Rattle.counters.specs.Cells.{Cells, Shares, cell, no_shares}
 use Rattle.stamp_register.specs.declared.key.Key.{Key}
 use Rattle.stamp_register.specs.Keys.{key_value, key_rank}
 use Rattle.stamp_register.specs.contracts.key.KeyOrd.TheImpl.Laws as key_laws
 use Rattle.replica_state.specs.declared.matrix.Matrix.{Matrix}
-use Rattle.replica_state.specs.Slots.{Budgets, Slot, no_slot}
+use Rattle.replica_state.specs.Folds.{fold}
+use Rattle.replica_state.specs.Reached.{IsReached}
+use Rattle.replica_state.specs.Slots.{Budgets, Slot, no_slot, shown_slots}
 
 abbrev pub cells_order : Cells → Cells → Type 0
 cells_order = MapOrder nat_cmp IsAtMost zero_max
@@ -69,9 +72,14 @@ IsMatrix matrix = slots_map matrix.slots
 abbrev pub IsMatrixBelow : Matrix → Matrix → Type 0
 IsMatrixBelow matrix other = MapOrder (slice_cmp nat_cmp) slots_order no_slot matrix.slots other.slots
 
+-- no slots come of no operations
+pub nothing_reached : IsReached (shown_slots [])
+unfolding shown_slots fold cell
+nothing_reached = ∣ record { ops = []; formed = tt; state = refl } ∣₁
+
 -- the matrix without names
 abbrev pub no_matrix : Matrix
-no_matrix = record { slots = [] }
+no_matrix = record { slots = []; reached = nothing_reached }
 
 pub matrix_order : IsJoinOrder IsMatrix IsMatrixBelow no_matrix
 matrix_order = order_through (λ (matrix : Matrix). matrix.slots) no_matrix (map_order (slice_cmp nat_cmp) slots_laws)

@@ -1,4 +1,4 @@
--- Matrices are ordered as their states are.
+-- What matrices stand for, and that they are ordered as their states are.
 use Rattle.std.proofs.Common.{◌≡◌, ℕ, ◌≤◌, inl, inr, Option, Some, None, arith, refl, ◌∙◌, ap, subst}
 use Rattle.std.proofs.lemmas.Cmp.{nat_list_cmp_total, tied_itself}
 use Rattle.std.specs.Prelude.{option_map}
@@ -11,12 +11,23 @@ use Rattle.lattice_laws.proofs.LexJoins.{lex_less, lex_equal}
 use Rattle.counters.specs.Cells.{Cells, Shares, cell, row_cell}
 use Rattle.stamp_register.specs.Keys.{KeyValue, key_value, key_rank}
 use Rattle.stamp_register.proofs.KeyLemmas.{key_le-antisym}
+use Rattle.replica_state.specs.declared.matrix.Matrix.{Matrix}
 use Rattle.replica_state.specs.declared.point.Counted.{Counted}
 use Rattle.replica_state.specs.declared.point.Counted.TheVariants.{Hits, Execs, Shifts}
+use Rattle.replica_state.specs.States.{State}
 use Rattle.replica_state.specs.StateOrder.{IsKeyBelow, AreCellsBelow, OrdersByState}
+use Rattle.replica_state.specs.Reached.{IsReached}
 use Rattle.replica_state.specs.SetOrder.{key_below-irrefl, key_below-trans}
-use Rattle.replica_state.specs.Slots.{Budgets, share_number, budgets_number, under_key, slot_at, shown_slots, matrix_state}
+use Rattle.replica_state.specs.Slots.{Budgets, share_number, budgets_number, under_key, slot_at, shown_slots}
 use Rattle.replica_state.specs.MatrixOrder.{First, first_order, cells_order, shares_order, budgets_order, key_cmp, IsMatrix, IsMatrixBelow}
+
+-- the state of a matrix
+unfoldable pub matrix_state : Matrix → State
+matrix_state matrix = shown_slots matrix.slots
+
+pub matrix_reached : (matrix : Matrix) → IsReached (matrix_state matrix)
+unfolding matrix_state
+matrix_reached matrix = matrix.reached
 
 abbrev pub first_key : First → Option KeyValue
 first_key first = option_map (λ p. key_value p.0) first

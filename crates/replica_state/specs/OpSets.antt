@@ -1,5 +1,5 @@
 -- What the plain replica shows.
-use Rattle.std.specs.Prelude.{ℕ, List, [], if◌then◌else◌, Option, Some, None, option_map}
+use Rattle.std.specs.Prelude.{ℕ, List, if◌then◌else◌, Option, Some, None, option_map}
 use Rattle.std.specs.Str.{bytes_eq}
 use Rattle.std.specs.Map.{lookup, keys_of}
 use Rattle.std.specs.BTreeMap.{is_at}
@@ -9,13 +9,11 @@ use Rattle.stamp_register.specs.Keys.{KeyValue, key_value}
 use Rattle.replica_state.specs.declared.point.Counted.{Counted}
 use Rattle.replica_state.specs.declared.point.Counted.TheVariants.{Hits, Execs, Shifts}
 use Rattle.replica_state.specs.declared.point.Point.{Point}
-use Rattle.replica_state.specs.declared.op_set.OpSet.{OpSet}
 use Rattle.replica_state.specs.declared.point.Count.{Count as Counting}
 use Rattle.replica_state.specs.Operations as cells
 use Rattle.replica_state.specs.Operations.{Operation, Set, Count}
 use Rattle.replica_state.specs.States.{State, with_name}
 use Rattle.replica_state.specs.Points.{Held, number_of}
-use Rattle.replica_state.specs.StateOrder.{IsBelow}
 
 -- what is held of one name, if anything is
 abbrev pub key_at : Option Point → Option KeyValue
@@ -41,22 +39,6 @@ shown_by names at =
 
 unfoldable pub shown : List (List ℕ × Point) → State
 shown points = shown_by (keys_of points) (point_at points)
-
--- the state of a plain replica
-unfoldable pub state_of : OpSet → State
-state_of set = shown set
-
--- the plain replica without points
-abbrev pub no_points : OpSet
-no_points = []
-
--- each plain replica is one
-abbrev pub IsSet : OpSet → Type 0
-IsSet set = Unit {0}
-
--- the one knows no more than the other
-abbrev pub IsSetBelow : OpSet → OpSet → Type 0
-IsSetBelow set other = IsBelow (state_of set) (state_of other)
 
 -- what a state holds of a name
 abbrev pub cell_of : State → List ℕ → Counted → ℕ

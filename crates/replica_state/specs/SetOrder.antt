@@ -1,11 +1,39 @@
--- Plain replicas are ordered as their states are.
-use Rattle.std.proofs.Common.{◌≡◌, ℕ, true, List, inl, inr, sym, ◌∙◌, refl, subst, arith, Option, Some, None}
+-- What plain replicas stand for, and that they are ordered as their states are.
+use Rattle.std.proofs.Common.{◌≡◌, ℕ, true, List, [], inl, inr, sym, ◌∙◌, refl, subst, arith, Option, Some, None}
 use Rattle.lattice_laws.specs.Order.{IsJoinOrder}
 use Rattle.stamp_register.specs.Keys.{KeyValue, key_le}
 use Rattle.stamp_register.proofs.KeyLemmas.{key_le-trans, key_le-antisym}
+use Rattle.replica_state.specs.declared.op_set.OpSet.{OpSet}
 use Rattle.replica_state.specs.States.{State}
 use Rattle.replica_state.specs.StateOrder.{IsKeyBelow, AreCellsBelow, IsBelow}
-use Rattle.replica_state.specs.OpSets.{state_of, shown, no_points, IsSet, IsSetBelow}
+use Rattle.replica_state.specs.Folds.{fold}
+use Rattle.replica_state.specs.Reached.{IsReached}
+use Rattle.replica_state.specs.OpSets.{shown}
+
+-- the state of a plain replica
+unfoldable pub state_of : OpSet → State
+state_of set = shown set.points
+
+pub set_reached : (set : OpSet) → IsReached (state_of set)
+unfolding state_of
+set_reached set = set.reached
+
+-- each plain replica is one
+abbrev pub IsSet : OpSet → Type 0
+IsSet set = Unit {0}
+
+-- the one knows no more than the other
+abbrev pub IsSetBelow : OpSet → OpSet → Type 0
+IsSetBelow set other = IsBelow (state_of set) (state_of other)
+
+-- no points come of no operations
+pub nothing_reached : IsReached (shown [])
+unfolding shown fold
+nothing_reached = ∣ record { ops = []; formed = tt; state = refl } ∣₁
+
+-- the plain replica without points
+abbrev pub no_points : OpSet
+no_points = record { points = []; reached = nothing_reached }
 
 pub key_below-trans : (a b c : Option KeyValue) → IsKeyBelow a b → IsKeyBelow b c → IsKeyBelow a c
 key_below-trans None None c h k = absurd h

@@ -1,4 +1,4 @@
--- What a matrix shows: of each name, in byte order, the cells that are stored of it.
+-- What the slots of a matrix show: of each name, in byte order, the cells that are stored of it.
 use Rattle.std.specs.Prelude.{◌≡◌, ◌≢◌, ℕ, ◌+◌, ◌≤◌, max, length, List, [], Option, Some, None, option_map, ℤ}
 use Rattle.std.specs.Map.{keys_of}
 use Rattle.std.specs.Ordering.{nat_cmp}
@@ -12,7 +12,6 @@ use Rattle.stamp_register.specs.Keys.{KeyValue, key_value}
 use Rattle.replica_state.specs.declared.point.Counted.{Counted}
 use Rattle.replica_state.specs.declared.point.Counted.TheVariants.{Hits, Execs, Shifts}
 use Rattle.replica_state.specs.declared.point.Count.{Count}
-use Rattle.replica_state.specs.declared.matrix.Matrix.{Matrix}
 use Rattle.replica_state.specs.States.{State, with_name}
 use Rattle.replica_state.specs.Points.{Held, empty_held, rights_of_key}
 use Rattle.replica_state.specs.OpSets.{cell_of, with_held}
@@ -103,10 +102,6 @@ abbrev pub IsShareRaised : Shares → Shares → Counted → ℕ → Type 0
 IsShareRaised old new (Hits node) number = new ≡ old
 IsShareRaised old new (Execs term node) number = WritesSpent old new node (max (spent_cell old node) number)
 IsShareRaised old new (Shifts term from to) number = WritesMoved old new from to (max (moved_cell old from to) number)
-
--- the state of a matrix
-unfoldable pub matrix_state : Matrix → State
-matrix_state matrix = shown_slots matrix.slots
 
 -- an operation with this key or none, and this count or none, says something of its name
 abbrev pub SaysSomething : Option KeyValue → Option Count → Type 0

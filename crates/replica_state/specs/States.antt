@@ -4,7 +4,7 @@ use Rattle.std.specs.Option.{option_map_or}
 use Rattle.std.specs.Str.{bytes_eq}
 use Rattle.std.specs.Ordering.{nat_cmp, match_ordering}
 use Rattle.std.specs.Cmp.Lexicographic.{slice_cmp}
-use Rattle.counters.specs.Sums.{numbers, sum_below}
+use Rattle.counters.specs.Sums.{node_numbers, sum_below}
 use Rattle.counters.specs.Budgets.{Budget, rights, total_spent}
 use Rattle.stamp_register.specs.Keys.{KeyValue}
 use Rattle.replica_state.specs.Operations.{count_of}
@@ -60,7 +60,7 @@ with_pass name node spent v = with_spend name node spent (with_hits name node (v
 
 -- the hits of a name at all nodes
 abbrev pub total_hits : State → List ℕ → ℕ
-total_hits v name = sum_below numbers (v.hits name)
+total_hits v name = sum_below node_numbers (v.hits name)
 
 -- the budget of a term in a key of the name
 abbrev pub budget : State → List ℕ → ℕ → ℕ → ℕ → Budget

@@ -2,7 +2,7 @@
 
 ghost use Rattle.std.specs.Prelude.{◌≡◌, ◌*◌, ◌<◌, ◌≤◌, ◌^◌, ℕ, Some, None};
 ghost use Rattle.stamp_register.specs.Keys.{key_value};
-ghost use Rattle.counters.specs.Sums.{numbers, sum_below, sum_others};
+ghost use Rattle.counters.specs.Sums.{node_numbers, sum_below, sum_others};
 ghost use Rattle.counters.specs.Budgets.{given_to, gone_from, rights};
 ghost use Rattle.replica_state.specs.Operations.{count_of};
 ghost use Rattle.replica_state.specs.Points.{number_of, budget_in};
@@ -12,9 +12,9 @@ use crate::point::{Count, Counted, number_of};
 use stamp_register::Key;
 
 /// How many node numbers there are.
-#[tactic(auto, unfolding(counters::specs::Sums::numbers))]
-fn numbers() -> u16
-    ensures value { result ≡ numbers }
+#[tactic(auto, unfolding(counters::specs::Sums::node_numbers))]
+fn node_numbers() -> u16
+    ensures value { result ≡ node_numbers }
     ensures small { result ≤ 256 }
 {
     256
@@ -22,10 +22,10 @@ fn numbers() -> u16
 
 /// The hits at all nodes.
 pub(crate) fn sum_hits(counts: &[Count]) -> u128
-    ensures { result ≡ sum_below numbers (λ node. number_of counts.now (Hits node)) }
+    ensures { result ≡ sum_below node_numbers (λ node. number_of counts.now (Hits node)) }
 {
     let mut sum = 0u128;
-    for node in 0..numbers() {
+    for node in 0..node_numbers() {
         let counted = Counted::Hits { node: node as u8 };
         sum += u128::from(number_of(counts, counted));
     }
@@ -34,10 +34,10 @@ pub(crate) fn sum_hits(counts: &[Count]) -> u128
 
 /// The executions of a term at all nodes.
 pub(crate) fn sum_execs(counts: &[Count], term: u8) -> u128
-    ensures { result ≡ sum_below numbers (λ node. number_of counts.now (Execs term node)) }
+    ensures { result ≡ sum_below node_numbers (λ node. number_of counts.now (Execs term node)) }
 {
     let mut sum = 0u128;
-    for node in 0..numbers() {
+    for node in 0..node_numbers() {
         let counted = Counted::Execs {
             term,
             node: node as u8,
@@ -49,12 +49,12 @@ pub(crate) fn sum_execs(counts: &[Count], term: u8) -> u128
 
 // What others moved to a node.
 fn sum_to(counts: &[Count], term: u8, to: u8) -> u128
-    ensures value { result ≡ sum_others numbers to
+    ensures value { result ≡ sum_others node_numbers to
         (λ from. number_of counts.now (Shifts term from to)) }
     ensures small { result ≤ 256 * 2 ^ 64 }
 {
     let mut sum = 0u128;
-    for node in 0..numbers() {
+    for node in 0..node_numbers() {
         let from = node as u8;
         if from != to {
             sum += u128::from(number_of(counts, Counted::Shifts { term, from, to }));
@@ -65,12 +65,12 @@ fn sum_to(counts: &[Count], term: u8, to: u8) -> u128
 
 // What a node moved to others.
 fn sum_from(counts: &[Count], term: u8, from: u8) -> u128
-    ensures value { result ≡ sum_others numbers from
+    ensures value { result ≡ sum_others node_numbers from
         (λ to. number_of counts.now (Shifts term from to)) }
     ensures small { result ≤ 256 * 2 ^ 64 }
 {
     let mut sum = 0u128;
-    for node in 0..numbers() {
+    for node in 0..node_numbers() {
         let to = node as u8;
         if to != from {
             sum += u128::from(number_of(counts, Counted::Shifts { term, from, to }));

@@ -1,6 +1,7 @@
-//! What holds of every set of operations.
+//! What holds of every set of operations, and so of every replica: the law `reached` of `Replica`
+//! says that each value stands for the state of one.
 
-ghost use Rattle.replica_state.specs.Laws.{SameOperationsSameState, SameKnownSameState, UnionIsLeast, StateKnowsAsSet, ChangesIsChange, SpentAndRemainingAreTheCount};
+ghost use Rattle.replica_state.specs.Laws.{SameOperationsSameState, SameKnownSameState, UnionIsLeast, StateKnowsAsSet, ChangesIsChange, SpentAndRemainingAreTheCount, LearnedIsOneMore, UnionIsBoth, NamesAreHeld};
 
 /// The state of a set depends on no order and no repeats, and sets that know the same operations
 /// come to one state.
@@ -24,4 +25,18 @@ pub fn changed()
 /// In every state, what was spent of a counted term and the rights that remain are its count.
 pub fn conserved()
     ensures { SpentAndRemainingAreTheCount }
+{}
+
+/// What a replica learns is one operation more: where some well-formed operations come to a state,
+/// such operations come to it, and with the one that it learns to the state after. A union is of
+/// such operations of both.
+pub fn learned()
+    ensures one { LearnedIsOneMore }
+    ensures union { UnionIsBoth }
+{}
+
+/// The names of every state that well-formed operations come to are those with a key or a hit, in
+/// byte order and each once.
+pub fn named()
+    ensures { NamesAreHeld }
 {}

@@ -9,8 +9,10 @@ mod matrix;
 mod op;
 mod op_set;
 mod point;
+mod point_map;
 mod replica;
 mod slot;
+mod slot_map;
 
 pub use matrix::Matrix;
 pub use op::Op;

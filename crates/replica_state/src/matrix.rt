@@ -1,22 +1,18 @@
 //! The replica that nodes run.
-#![tactic(auto, unfolding(crate::specs::Slots::matrix_state, crate::specs::Slots::shown_slots))]
+#![tactic(auto, unfolding(crate::specs::MatrixStates::matrix_state, crate::specs::Slots::shown_slots))]
 
-ghost use Rattle.std.specs.Prelude.{◌≡◌, ◌≢◌, ◌+◌, ◌<◌, ◌^◌, ℕ, [], ◌∷◌, ◌++◌, is_none, Some, IfOk, IfNone, IfSome, IsSome, OnOk, OnErr};
-ghost use Rattle.std.specs.Borrow.{MutBor};
-ghost use Rattle.std.specs.Fn.{FnOnceReturnsAtMut};
-ghost use Rattle.stamp_register.specs.Keys.{key_value};
-ghost use Rattle.replica_state.specs.Points.{is_hits, empty_held, held_after_learning, held_after_key, held_after_pass, held_after_shift, given_key};
-ghost use Rattle.replica_state.specs.OpSets.{cell_of, with_held, with_change};
+ghost use Rattle.std.specs.Prelude.{◌≡◌, IfOk, IfNone, IfSome, OnOk, OnErr};
 ghost use Rattle.lattice_laws.specs.Order.{IsCopy, IsJoin};
 ghost use Rattle.replica_state.specs.Folds.{IsUnion};
-ghost use Rattle.replica_state.specs.MatrixOrder.{IsMatrix, IsMatrixBelow};
-ghost use Rattle.replica_state.specs.Slots.{IsSlotOf, HasNoSlot, ChangesSlot, SaysSomething, slot_held, slot_key, slot_number, matrix_state};
-ghost use Rattle.replica_state.specs.declared.point.Counted.TheVariants.{Hits, Execs};
+ghost use Rattle.replica_state.specs.OpSets.{cell_of};
+ghost use Rattle.replica_state.specs.Reached.{IsReached};
+ghost use Rattle.replica_state.specs.Slots.{IsSlotOf, HasNoSlot, shown_slots};
 
 use crate::op::Op;
 use crate::point::{Count, Counted, key_with};
 use crate::replica::Replica;
 use crate::slot::{self, Slot};
+use crate::slot_map::{self, Slots};
 use actions::Name;
 use lattice_laws::{Join, MapOf};
 use stamp_register::Key;
@@ -26,58 +22,19 @@ use std::alloc::{AllocError, Global};
 /// each number in a cell of its own. What is written changes its cell in place.
 #[derive(Debug, Drop)]
 pub struct Matrix {
-    slots: MapOf<Name, Slot>,
+    slots: Slots,
+    ghost reached: { IsReached (shown_slots slots) },
 }
 
 impl Matrix {
-    // The slots. What `is_bottom` answers is of no use: its call says that they are those of a map.
-    fn slots(&self) -> &MapOf<Name, Slot>
-        ensures value { result.now ≡ self.now.slots }
-        ensures is_map { IsMatrix self.now }
-    {
-        let _ = self.slots.is_bottom();
-        &self.slots
-    }
+    ghost use Rattle.replica_state.specs.MatrixStates.{matrix_state};
 
     // What is stored of a name, if anything is.
     fn slot_of(&self, name: &Name) -> Option<&Slot>
         ensures some { IfSome result (λ slot. IsSlotOf (matrix_state self.now) name.now slot.now) }
         ensures none { IfNone result (HasNoSlot (matrix_state self.now) name.now) }
     {
-        self.slots().get(name)
-    }
-
-    // Changes what is stored of a name in place. Where nothing is, nothing changes.
-    fn change_slot<F: FnOnce(&mut Slot) -> Result<(), AllocError>>(
-        &mut self,
-        name: &Name,
-        change: F,
-    ) -> Option<Result<(), AllocError>>
-        requires { (slot : MutBor _) → IsSlotOf (matrix_state self.old) name.now slot.now
-            → F.pre change slot }
-        ensures some { IfSome result (ChangesSlot (FnOnceReturnsAtMut F.FnOnce change)
-            (matrix_state self.old) (matrix_state self.new) name.now) }
-        ensures none { IfNone result (HasNoSlot (matrix_state self.old) name.now) }
-        ensures unchanged { IfNone result (self.new ≡ self.old) }
-    {
-        let _ = self.slots();
-        let changed = self.slots.change(name, change);
-        let _ = self.slots();
-        changed
-    }
-
-    // Stores what is known of a name of which nothing was.
-    fn add_slot(&mut self, alloc: Global, name: Name, slot: Slot) -> Result<(), AllocError>
-        requires new { HasNoSlot (matrix_state self.old) name }
-        requires some { slot_held slot ≢ empty_held }
-        ensures ok { OnOk result (matrix_state self.new
-            ≡ with_held name (slot_held slot) (matrix_state self.old)) }
-        ensures err { OnErr result (self.new ≡ self.old) }
-    {
-        let _ = self.slots();
-        self.slots.raise(alloc, name, slot)?;
-        let _ = self.slots();
-        Ok(())
+        slot_map::get(&self.slots, name)
     }
 
     // The number of what is counted so.
@@ -89,38 +46,11 @@ impl Matrix {
             None => 0,
         }
     }
-
-    // Learns what an operation of a name says that has this key or none, and this count or none.
-    fn learn_key_and_count(
-        &mut self,
-        alloc: Global,
-        name: &Name,
-        key: Option<&Key>,
-        count: Option<Count>,
-    ) -> Result<(), AllocError>
-        requires kinds { IfSome count (λ c. is_hits c.counted ≡ is_none key) }
-        requires something { SaysSomething (given_key key) count }
-        ensures ok { OnOk result (matrix_state self.new
-            ≡ with_change name.now (held_after_learning (given_key key.entry) count) (matrix_state self.old)) }
-        ensures err { OnErr result (matrix_state self.new ≡ matrix_state self.old) }
-    {
-        let learn = |held: &mut Slot|
-            requires { IfSome count (λ c. is_hits c.counted ≡ is_none key) }
-            ensures ok { OnOk result (slot_held held.new
-                ≡ held_after_learning (given_key key.entry) count (slot_held held.old)) }
-            ensures err { OnErr result (slot_held held.new ≡ slot_held held.old) }
-        { slot::learn(held, alloc, key, count) };
-        if let Some(learned) = self.change_slot(name, learn) {
-            return learned;
-        }
-        let mut new = slot::empty(alloc);
-        slot::learn(&mut new, alloc, key, count)?;
-        self.add_slot(alloc, name.copied(alloc)?, new)
-    }
 }
 
 impl Join for Matrix {
     ghost use Rattle.replica_state.specs.MatrixOrder.{no_matrix, IsMatrix, IsMatrixBelow, matrix_order};
+    ghost use Rattle.replica_state.specs.MatrixStates.{matrix_state};
 
     ghost admitted = { IsMatrix };
 
@@ -170,12 +100,13 @@ impl Join for Matrix {
 }
 
 impl Replica for Matrix {
-    ghost use Rattle.replica_state.specs.Slots.{matrix_state};
-    ghost use Rattle.replica_state.specs.MatrixStates.{matrix_ordered};
+    ghost use Rattle.replica_state.specs.MatrixStates.{matrix_state, matrix_ordered, matrix_reached};
 
     ghost state = { matrix_state };
 
     ghost ordered = { matrix_ordered };
+
+    ghost reached = { matrix_reached };
 
     fn empty(alloc: Global) -> Matrix {
         Matrix {
@@ -184,7 +115,7 @@ impl Replica for Matrix {
     }
 
     fn add(&mut self, alloc: Global, op: &Op) -> Result<(), AllocError> {
-        self.learn_key_and_count(alloc, op.name(), op.key(), op.count())
+        slot_map::learn(&mut self.slots, alloc, op.name(), op.key(), op.count())
     }
 
     fn learn(
@@ -194,23 +125,11 @@ impl Replica for Matrix {
         key: &Key,
         count: Option<Count>,
     ) -> Result<(), AllocError> {
-        self.learn_key_and_count(alloc, name, key_with(key, count), count)
+        slot_map::learn(&mut self.slots, alloc, name, key_with(key, count), count)
     }
 
     fn set_key(&mut self, alloc: Global, name: Name, key: Key) -> Result<(), AllocError> {
-        if self.slot_of(&name).is_some() {
-            let take = |held: &mut Slot|
-                ensures { slot_held held.new ≡ held_after_key (key_value key) (slot_held held.old) }
-            {
-                slot::take(held, alloc, key);
-                Ok(())
-            };
-            let _ = self.change_slot(&name, take);
-            return Ok(());
-        }
-        let mut new = slot::empty(alloc);
-        slot::take(&mut new, alloc, key);
-        self.add_slot(alloc, name, new)
+        slot_map::set_key(&mut self.slots, alloc, name, key)
     }
 
     fn count_pass(
@@ -220,17 +139,7 @@ impl Replica for Matrix {
         node: u8,
         spent: Option<u8>,
     ) -> Result<(), AllocError> {
-        let pass = |held: &mut Slot|
-            requires set { IsSome (slot_key held.old) }
-            requires hits { slot_number held.old (Hits node) + 1 < 2 ^ 64 }
-            requires execs { (term : ℕ) → slot_number held.old (Execs term node) + 1 < 2 ^ 64 }
-            ensures ok { OnOk result (slot_held held.new ≡ held_after_pass node spent (slot_held held.old)) }
-            ensures err { OnErr result (slot_held held.new ≡ slot_held held.old) }
-        { slot::pass(held, alloc, node, spent) };
-        match self.change_slot(name, pass) {
-            Some(passed) => passed,
-            None => Ok(()),
-        }
+        slot_map::count_pass(&mut self.slots, alloc, name, node, spent)
     }
 
     fn count_shift(
@@ -242,16 +151,7 @@ impl Replica for Matrix {
         to: u8,
         total: u64,
     ) -> Result<(), AllocError> {
-        let shift = |held: &mut Slot|
-            requires set { IsSome (slot_key held.old) }
-            ensures ok { OnOk result (slot_held held.new
-                ≡ held_after_shift term from to total (slot_held held.old)) }
-            ensures err { OnErr result (slot_held held.new ≡ slot_held held.old) }
-        { slot::shift(held, alloc, term, from, to, total) };
-        match self.change_slot(name, shift) {
-            Some(shifted) => shifted,
-            None => Ok(()),
-        }
+        slot_map::count_shift(&mut self.slots, alloc, name, term, from, to, total)
     }
 
     fn merge(&mut self, alloc: Global, other: Matrix) -> Result<(), AllocError> {
@@ -318,10 +218,10 @@ impl Replica for Matrix {
     }
 
     fn names_together(&self, other: &Matrix) -> usize {
-        let slots = self.slots();
-        let mut names = slots.len() + other.slots.len();
+        slot_map::note_is_map(&self.slots);
+        let mut names = self.slots.len() + other.slots.len();
         for (name, _) in other.slots.iter() {
-            if slots.get(name).is_some() {
+            if self.slots.get(name).is_some() {
                 names -= 1;
             }
         }

@@ -1,40 +1,34 @@
 //! The plain replica.
-#![tactic(auto, unfolding(crate::specs::OpSets::state_of, crate::specs::OpSets::shown))]
+#![tactic(auto, unfolding(crate::specs::SetOrder::state_of, crate::specs::OpSets::shown))]
 
-ghost use Rattle.std.specs.Prelude.{◌≡◌, ◌+◌, ◌<◌, ◌^◌, ◌↔◌, ℕ, List, [], ◌∷◌, ◌++◌, Some, IfOk, IsTrue, OnOk, OnErr};
+ghost use Rattle.std.specs.Prelude.{◌≡◌, ◌↔◌, IfOk, IsTrue};
 ghost use Rattle.lattice_laws.specs.Order.{IsCopy, IsJoin};
 ghost use Rattle.replica_state.specs.Folds.{IsUnion};
-ghost use Rattle.replica_state.specs.Points.{held_after_learning, held_of, given_key};
-ghost use Rattle.replica_state.specs.Unions.{both_held, union_of, IsHeldBelow};
-ghost use Rattle.replica_state.specs.OpSets.{state_of, cell_of, held_at, no_points, IsSet, IsSetBelow, with_change};
+ghost use Rattle.replica_state.specs.Points.{held_of};
+ghost use Rattle.replica_state.specs.Unions.{IsHeldBelow};
+ghost use Rattle.replica_state.specs.OpSets.{cell_of, held_at, shown};
+ghost use Rattle.replica_state.specs.Reached.{IsReached};
 
 use crate::op::Op;
 use crate::point::{Count, Counted, Point, key_with};
+use crate::point_map::Points;
 use crate::replica::Replica;
 use actions::Name;
 use lattice_laws::Join;
 use stamp_register::Key;
 use std::alloc::{AllocError, Global};
-use std::collections::BTreeMap;
-use std::marker::Model;
 
 /// The plain replica: of each name it keeps the operations that no other has overtaken, and each
 /// reader looks through those.
 #[derive(Debug, Drop)]
 pub struct OpSet {
-    points: BTreeMap<Name, Point>,
-}
-
-impl Model for OpSet {
-    ghost use Rattle.std.specs.Prelude.{ℕ, List};
-    ghost use Rattle.replica_state.specs.declared.point.Point.{Point};
-
-    ghost Value = { List (List ℕ × Point) };
-
-    ghost view = { λ s. s.points.entries };
+    points: Points,
+    ghost reached: { IsReached (shown points) },
 }
 
 impl OpSet {
+    ghost use Rattle.replica_state.specs.SetOrder.{state_of};
+
     // The number of what is counted so.
     fn number(&self, name: &Name, counted: Counted) -> u64
         ensures { result ≡ cell_of (state_of self.now) name.now counted }
@@ -43,52 +37,6 @@ impl OpSet {
             Some(point) => point.number(counted),
             None => 0,
         }
-    }
-
-    // Learns what an operation of a name says that has this key or none, and this count or none.
-    fn learn_key_and_count(
-        &mut self,
-        alloc: Global,
-        name: &Name,
-        key: Option<&Key>,
-        count: Option<Count>,
-    ) -> Result<(), AllocError>
-        ensures ok { OnOk result (state_of self.new
-            ≡ with_change name.now (held_after_learning (given_key key.entry) count) (state_of self.old)) }
-        ensures err { OnErr result (state_of self.new ≡ state_of self.old) }
-    {
-        if let Some(point) = self.points.get_mut(name) {
-            return point.learn(alloc, key, count);
-        }
-        let mut point = Point::empty(alloc);
-        point.learn(alloc, key, count)?;
-        self.points.insert(name.copied(alloc)?, point)?;
-        Ok(())
-    }
-
-    // Learns all that is held of a name elsewhere.
-    fn take_point(&mut self, alloc: Global, name: &Name, other: &Point) -> Result<(), AllocError>
-        ensures { OnOk result (state_of self.new
-            ≡ with_change name.now (λ h. both_held h (held_of other.now)) (state_of self.old)) }
-    {
-        if let Some(point) = self.points.get_mut(name) {
-            return point.take_in(alloc, other);
-        }
-        let mut point = Point::empty(alloc);
-        point.take_in(alloc, other)?;
-        self.points.insert(name.copied(alloc)?, point)?;
-        Ok(())
-    }
-
-    // Learns all that the other set knows. After an error it may have learned a part.
-    fn take_in(&mut self, alloc: Global, other: &OpSet) -> Result<(), AllocError>
-        ensures { OnOk result (state_of self.new
-            ≡ union_of (state_of self.old) (state_of other.now)) }
-    {
-        for (name, point) in other.points.iter() {
-            self.take_point(alloc, name, point)?;
-        }
-        Ok(())
     }
 
     // Whether it holds as much of a name as is held elsewhere.
@@ -104,8 +52,7 @@ impl OpSet {
 }
 
 impl Join for OpSet {
-    ghost use Rattle.replica_state.specs.OpSets.{no_points, IsSet, IsSetBelow};
-    ghost use Rattle.replica_state.specs.SetOrder.{set_order};
+    ghost use Rattle.replica_state.specs.SetOrder.{state_of, no_points, IsSet, IsSetBelow, set_order};
 
     ghost admitted = { IsSet };
 
@@ -121,9 +68,9 @@ impl Join for OpSet {
         ensures union { IfOk result
             (λ both. IsUnion (state_of self.now) (state_of other.now) (state_of both)) }
     {
-        let mut both = self.copied(alloc)?;
-        both.take_in(alloc, other)?;
-        Ok(both)
+        let mut points = self.points.copied(alloc)?;
+        points.take_in(alloc, &other.points)?;
+        Ok(OpSet { points })
     }
 
     fn below(&self, other: &OpSet) -> bool {
@@ -149,29 +96,28 @@ impl Join for OpSet {
         ensures copy { IfOk result (IsCopy IsSet IsSetBelow self.now) }
         ensures state { IfOk result (λ copy. state_of copy ≡ state_of self.now) }
     {
-        // What `len` promises puts the names in order.
-        let _ = self.points.len();
-        let mut copy = OpSet::empty(alloc);
-        copy.take_in(alloc, self)?;
-        Ok(copy)
+        let points = self.points.copied(alloc)?;
+        Ok(OpSet { points })
     }
 }
 
 impl Replica for OpSet {
-    ghost use Rattle.replica_state.specs.OpSets.{state_of};
+    ghost use Rattle.replica_state.specs.SetOrder.{state_of, set_reached};
 
     ghost state = { state_of };
 
     ghost ordered = { λ v w _ _. (λ below. below, λ below. below) };
 
+    ghost reached = { set_reached };
+
     fn empty(alloc: Global) -> OpSet {
         OpSet {
-            points: BTreeMap::new(alloc),
+            points: Points::new(alloc),
         }
     }
 
     fn add(&mut self, alloc: Global, op: &Op) -> Result<(), AllocError> {
-        self.learn_key_and_count(alloc, op.name(), op.key(), op.count())
+        self.points.learn(alloc, op.name(), op.key(), op.count())
     }
 
     fn learn(
@@ -181,31 +127,21 @@ impl Replica for OpSet {
         key: &Key,
         count: Option<Count>,
     ) -> Result<(), AllocError> {
-        self.learn_key_and_count(alloc, name, key_with(key, count), count)
+        self.points.learn(alloc, name, key_with(key, count), count)
     }
 
     fn set_key(&mut self, alloc: Global, name: Name, key: Key) -> Result<(), AllocError> {
-        if let Some(point) = self.points.get_mut(&name) {
-            point.take(key);
-            return Ok(());
-        }
-        let mut point = Point::empty(alloc);
-        point.take(key);
-        self.points.insert(name, point)?;
-        Ok(())
+        self.points.set_key(alloc, name, key)
     }
 
     fn count_pass(
         &mut self,
-        alloc: Global,
+        _alloc: Global,
         name: &Name,
         node: u8,
         spent: Option<u8>,
     ) -> Result<(), AllocError> {
-        if let Some(point) = self.points.get_mut(name) {
-            return point.pass(node, spent);
-        }
-        Ok(())
+        self.points.count_pass(name, node, spent)
     }
 
     fn count_shift(
@@ -217,10 +153,7 @@ impl Replica for OpSet {
         to: u8,
         total: u64,
     ) -> Result<(), AllocError> {
-        if let Some(point) = self.points.get_mut(name) {
-            return point.shift(term, from, to, total);
-        }
-        Ok(())
+        self.points.count_shift(name, term, from, to, total)
     }
 
     fn merge(&mut self, alloc: Global, other: OpSet) -> Result<(), AllocError> {
@@ -293,6 +226,6 @@ impl Replica for OpSet {
     }
 
     fn name_at(&self, index: usize) -> Option<&Name> {
-        self.points.keys().nth(index)
+        self.points.name_at(index)
     }
 }

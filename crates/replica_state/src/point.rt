@@ -3,7 +3,7 @@
 ghost use Rattle.std.specs.Prelude.{◌≡◌, ◌+◌, ◌-◌, ◌<◌, ◌≤◌, ◌^◌, ◌*◌, ◌↔◌, ◌||◌, ℕ, List, max, nat_le, not, filter, vec_len, vec_capacity, position, option_map, Some, None, OnOk, OnErr, IsSome, IsTrue};
 ghost use Rattle.std.specs.List.{list_all};
 ghost use Rattle.std.specs.Option.{option_copied};
-ghost use Rattle.counters.specs.Sums.{numbers, sum_below};
+ghost use Rattle.counters.specs.Sums.{node_numbers, sum_below};
 ghost use Rattle.counters.specs.Budgets.{rights};
 ghost use Rattle.stamp_register.specs.Keys.{key_value};
 ghost use Rattle.replica_state.specs.Points.{same_counted, is_hits, term_of, number_of, only_hits, empty_held, held_of, key_standing, held_after_learning, held_after_pass, held_after_shift, given_key, Raises, rights_of_key, spent_of_key};
@@ -211,7 +211,7 @@ impl Point {
 
     /// The hits at all nodes.
     pub(crate) fn total_hits(&self) -> u128
-        ensures { result ≡ sum_below numbers (λ node. number_of self.now.counts.items (Hits node)) }
+        ensures { result ≡ sum_below node_numbers (λ node. number_of self.now.counts.items (Hits node)) }
     {
         sum_hits(&self.counts)
     }

@@ -1,17 +1,19 @@
 //! What a node needs of the thing that holds its state.
 
-ghost use Rattle.std.specs.Prelude.{◌≡◌, ◌+◌, ◌<◌, ◌≤◌, ◌^◌, ℕ, [], ◌∷◌, ◌++◌, length, slice_get, option_map, IfSome, IsSome, OnOk, OnErr};
+ghost use Rattle.std.specs.Prelude.{◌≡◌, ◌≢◌, ◌+◌, ◌<◌, ◌≤◌, ◌^◌, ℕ, [], ◌∷◌, ◌++◌, ◌↔◌, length, slice_get, false, option_map, Some, IfSome, IsSome, IsTrue, OnOk, OnErr};
 ghost use Rattle.std.specs.Option.{option_copied};
 ghost use Rattle.stamp_register.specs.Keys.{key_value};
 ghost use Rattle.replica_state.specs.Operations.{operation, IsWellFormed};
-ghost use Rattle.replica_state.specs.States.{State, with_name, with_key, with_pass, with_shifts, total_hits, rights_of, spent_of, MarksRights};
+ghost use Rattle.replica_state.specs.States.{State, with_name, with_key, with_pass, with_shifts, total_hits, budget_of, rights_of, spent_of, MarksRights};
 ghost use Rattle.replica_state.specs.Folds.{fold, Learns, IsUnion};
+ghost use Rattle.replica_state.specs.Reached.{IsReached};
+ghost use Rattle.replica_state.specs.Knowledge.{is_upto};
 ghost use Rattle.replica_state.specs.OpSets.{operation_told};
 ghost use Rattle.replica_state.specs.StateOrder.{OrdersByState};
 ghost use Rattle.replica_state.specs.Unions.{with_names};
 ghost use Rattle.replica_state.specs.Points.{given_key};
 
-use crate::budget::terms_of;
+use crate::budget::{count_of, terms_of};
 use crate::op::Op;
 use crate::point::Count;
 use actions::Name;
@@ -19,8 +21,9 @@ use lattice_laws::Join;
 use stamp_register::Key;
 use std::alloc::{AllocError, Global};
 
-/// A replica of the cluster's points: it stands for the state that a set of operations comes to.
-/// What isn't there reads 0. Replicas are joined as the values that their states mean.
+/// A replica of the cluster's points: each value stands for the state that some well-formed
+/// operations come to. What isn't there reads 0. Replicas are joined as the values that their
+/// states mean.
 pub trait Replica: Join {
     ghost state: { Self → State };
 
@@ -51,8 +54,9 @@ pub trait Replica: Join {
             (operation_told name.now (key_value key.now) count)) }
         ensures err { OnErr result (state self.new ≡ state self.old) };
 
-    /// Gives a point another key, of which nothing was executed or shifted yet.
+    /// Gives a point a key above the one that it has, of which nothing was executed or shifted yet.
     fn set_key(&mut self, alloc: Global, name: Name, key: Key) -> Result<(), AllocError>
+        requires above { is_upto (Some (key_value key)) ((state self.old).key name) ≡ false }
         ensures ok { OnOk result (state self.new ≡ with_key name (key_value key) (state self.old)) }
         ensures err { OnErr result (state self.new ≡ state self.old) };
 
@@ -68,11 +72,13 @@ pub trait Replica: Join {
         requires set { IsSome ((state self.old).key name.now) }
         requires hits { (state self.old).hits name.now node + 1 < 2 ^ 64 }
         requires execs { (term : ℕ) → (state self.old).execs name.now term node + 1 < 2 ^ 64 }
+        requires counted { IfSome spent
+            (λ term. IsSome (budget_of (state self.old) name.now term)) }
         ensures ok { OnOk result (state self.new ≡ with_pass name.now node spent (state self.old)) }
         ensures err { OnErr result (state self.new ≡ state self.old) };
 
-    /// Counts the rights to a term of the point's key that one node moved to another, so many in
-    /// all.
+    /// Counts the rights to a counted term of the point's key that one node moved to another, so
+    /// many in all.
     fn count_shift(
         &mut self,
         alloc: Global,
@@ -84,6 +90,8 @@ pub trait Replica: Join {
     ) -> Result<(), AllocError>
         requires set { IsSome ((state self.old).key name.now) }
         requires more { (state self.old).shifts name.now term from to ≤ total }
+        requires counted { IsSome (budget_of (state self.old) name.now term) }
+        requires another { from ≢ to }
         ensures ok { OnOk result (state self.new
             ≡ with_shifts name.now term from to total (state self.old)) }
         ensures err { OnErr result (state self.new ≡ state self.old) };
@@ -138,6 +146,16 @@ pub trait Replica: Join {
         Some((key, marks))
     }
 
+    /// Whether the point's key counts a term.
+    fn is_counted(&self, name: &Name, term: u8) -> bool
+        ensures { IsTrue result ↔ IsSome (budget_of (state self.now) name.now term) }
+    {
+        match self.key(name) {
+            Some(key) => count_of(key, term).is_some(),
+            None => false,
+        }
+    }
+
     /// The executions of a counted term at all nodes.
     fn spent(&self, name: &Name, term: u8) -> u128
         ensures { result ≡ spent_of (state self.now) name.now term };
@@ -160,4 +178,7 @@ pub trait Replica: Join {
 
     /// One value is below another where its state knows no more.
     ghost ordered: { OrdersByState Self.admitted Self.order state };
+
+    /// Each value stands for what some well-formed operations come to.
+    ghost reached: { (replica : Self) → IsReached (state replica) };
 }

@@ -1,8 +1,9 @@
 //! What a matrix stores of one name.
 
 ghost use Rattle.std.specs.Prelude.{◌≡◌, ◌+◌, ◌<◌, ◌^◌, ℕ, option_map, is_none, Some, None, OnOk, OnErr, IfOk, IfNone, IfSome, IsSome, false};
-ghost use Rattle.counters.specs.Sums.{numbers, sum_below};
+ghost use Rattle.counters.specs.Sums.{node_numbers, sum_below};
 ghost use Rattle.counters.specs.Budgets.{total_spent};
+ghost use Rattle.counters.specs.Cells.{spent_cell, WritesSpent};
 ghost use Rattle.stamp_register.specs.Keys.{key_value};
 ghost use Rattle.replica_state.specs.Points.{is_hits, term_of, raised_numbers, empty_held, key_standing, held_after_learning, held_after_key, held_after_pass, held_after_shift, given_key, Raises, spent_of_key};
 ghost use Rattle.replica_state.specs.Slots.{IsShareRaised, slot_held, slot_key, slot_number, slot_rights, share_number, budgets_number};
@@ -72,7 +73,7 @@ pub(crate) fn number(slot: &Slot, counted: Counted) -> u64
 
 /// The hits at all nodes.
 pub(crate) fn total_hits(slot: &Slot) -> u128
-    ensures { result ≡ sum_below numbers (λ node. slot_number slot.now (Hits node)) }
+    ensures { result ≡ sum_below node_numbers (λ node. slot_number slot.now (Hits node)) }
 {
     slot.second.total()
 }
@@ -253,12 +254,55 @@ pub(crate) fn learn(
     }
 }
 
-// The next count of what is counted so.
-fn next(slot: &Slot, counted: Counted) -> Count
-    requires { slot_number slot.now counted + 1 < 2 ^ 64 }
-    ensures { result ≡ record { counted = counted; number = slot_number slot.now counted + 1 } }
+// Counts an execution of a budget's own term at a node.
+fn execute_share(budget: &mut Budget, alloc: Global, node: u8) -> Result<(), AllocError>
+    ensures ok { OnOk result
+        (WritesSpent budget.old budget.new node (spent_cell budget.old node + 1)) }
+    ensures err { OnErr result (budget.new ≡ budget.old) }
 {
-    counted.times(number(slot, counted) + 1)
+    match budget.count_spent(alloc, node) {
+        Ok(_) => Ok(()),
+        Err(_) => Err(AllocError),
+    }
+}
+
+// Counts an execution of a term at a node.
+fn execute_term(budgets: &mut Budgets, alloc: Global, term: u8, node: u8) -> Result<(), AllocError>
+    ensures ok { OnOk result (Raises (budgets_number budgets.old) (budgets_number budgets.new)
+        (Some (record {
+          counted = Execs term node;
+          number = budgets_number budgets.old (Execs term node) + 1;
+        }))) }
+    ensures err { OnErr result (budgets.new ≡ budgets.old) }
+{
+    match budgets.change(&term, |budget| execute_share(budget, alloc, node)) {
+        Some(executed) => executed,
+        None => {
+            let mut budget = Budget::new(alloc);
+            execute_share(&mut budget, alloc, node)?;
+            budgets.raise(alloc, term, budget)
+        }
+    }
+}
+
+// Counts an execution of a term of the key at a node.
+fn execute(slot: &mut Slot, alloc: Global, term: u8, node: u8) -> Result<(), AllocError>
+    requires { IsSome (slot_key slot.old) }
+    ensures key { slot_key slot.new ≡ slot_key slot.old }
+    ensures ok { OnOk result (Raises (slot_number slot.old) (slot_number slot.new)
+        (Some (record {
+          counted = Execs term node;
+          number = slot_number slot.old (Execs term node) + 1;
+        }))) }
+    ensures err { OnErr result (slot_held slot.new ≡ slot_held slot.old) }
+{
+    match slot
+        .first
+        .change(|budgets| execute_term(budgets, alloc, term, node))
+    {
+        Some(executed) => executed,
+        None => Ok(()),
+    }
 }
 
 // Counts a hit at a node.
@@ -292,16 +336,15 @@ pub(crate) fn pass(
     let Some(term) = spent else {
         return hit(slot, alloc, node);
     };
-    let execs = next(slot, Counted::Execs { term, node });
     if slot.second.of(node) == 0 {
         // The hit takes memory, as perhaps the execution does: so it is counted aside first.
         let mut counter = slot.second.copied(alloc)?;
         counter.raise(alloc, node, 1)?;
-        raise(slot, alloc, execs)?;
+        execute(slot, alloc, term, node)?;
         slot.second = counter;
         return Ok(());
     }
-    raise(slot, alloc, execs)?;
+    execute(slot, alloc, term, node)?;
     hit(slot, alloc, node)
 }
 

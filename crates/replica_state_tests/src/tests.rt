@@ -1,7 +1,9 @@
-ghost use Rattle.std.specs.Prelude.{◌≡◌, ◌+◌, ◌<◌, ◌≤◌, ◌^◌, ℕ, true, IsSome, IfOk};
+ghost use Rattle.std.specs.Prelude.{◌≡◌, ◌+◌, ◌<◌, ◌≤◌, ◌^◌, ℕ, true, false, Some, IfSome, IsSome, IfOk};
 ghost use Rattle.stamp_register.specs.Keys.{key_value};
 ghost use Rattle.replica_state.specs.Operations.{operation, count_of, IsWellFormed};
-ghost use Rattle.replica_state.specs.OpSets.{state_of};
+ghost use Rattle.replica_state.specs.Knowledge.{is_upto};
+ghost use Rattle.replica_state.specs.SetOrder.{state_of};
+ghost use Rattle.replica_state.specs.States.{budget_of};
 
 mod counted;
 mod joins;
@@ -123,6 +125,28 @@ fn is_well_formed(op: &Op) -> bool
     }
 }
 
+/// Whether a key is above the one that a point has.
+fn is_above<R: Replica>(replica: &R, name: &Name, key: &Key) -> bool
+    ensures { result ≡ true
+        → is_upto (Some (key_value key.now)) ((R.state replica.now).key name.now) ≡ false }
+{
+    match replica.key(name) {
+        Some(held) => !(key <= held),
+        None => true,
+    }
+}
+
+/// Whether a pass may spend this term, if it spends one.
+fn may_spend<R: Replica>(replica: &R, name: &Name, spent: Option<u8>) -> bool
+    ensures { result ≡ true
+        → IfSome spent (λ term. IsSome (budget_of (R.state replica.now) name.now term)) }
+{
+    match spent {
+        Some(term) => replica.is_counted(name, term),
+        None => true,
+    }
+}
+
 /// Learns an operation. If its memory is refused, nothing may have changed, and it is asked again.
 fn add<R: Replica>(rt: &impl Abort, alloc: Global, replica: &mut R, name: &Name, op: &Op) {
     let fits = is_well_formed(op);
@@ -135,7 +159,7 @@ fn add<R: Replica>(rt: &impl Abort, alloc: Global, replica: &mut R, name: &Name,
     }
 }
 
-/// Counts a pass, and says whether it did.
+/// Counts a pass that spends a counted term or none, and says whether it did.
 fn count(
     set: &mut OpSet,
     alloc: Global,
@@ -152,6 +176,9 @@ fn count(
     ensures hits { (i : ℕ) → (state_of set.new).hits name.now i ≤ most + 1 }
     ensures execs { (term i : ℕ) → (state_of set.new).execs name.now term i ≤ most + 1 }
 {
+    if !may_spend(set, name, spent) {
+        return false;
+    }
     set.count_pass(alloc, name, node, spent).is_ok()
 }
 
@@ -186,6 +213,8 @@ fn pass(
 fn set_key(rt: &impl Abort, set: &mut OpSet, alloc: Global, name: &Name) -> Result<(), Fail> {
     let before = answers(set, name);
     let key = key(alloc, 2, 1, "5*off")?;
+    let above = is_above(set, name, &key);
+    assert!(rt; above);
     if set.set_key(alloc, name.copied(alloc)?, key).is_err() {
         let is_unchanged = shows(set, name, before);
         assert!(rt; is_unchanged);
@@ -208,8 +237,12 @@ fn fresh(alloc: Global, name: &Name) -> Result<OpSet, Fail>
 
 fn order_of_names<R: Replica>(rt: &impl Abort, alloc: Global) -> Result<(), Fail> {
     let mut replica = R::empty(alloc);
-    for text in ["b", "a", "b", "c"] {
-        replica.set_key(alloc, name(alloc, text)?, key(alloc, 1, 0, "off")?)?;
+    for (text, clock) in [("b", 1), ("a", 1), ("b", 2), ("c", 1)] {
+        let point = name(alloc, text)?;
+        let later = key(alloc, clock, 0, "off")?;
+        let above = is_above(&replica, &point, &later);
+        assert!(rt; above);
+        replica.set_key(alloc, point, later)?;
     }
     for (index, want) in ["a", "b", "c"].iter().enumerate() {
         let at = replica.name_at(index).ok_or("no name")?;

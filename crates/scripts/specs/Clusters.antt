@@ -8,8 +8,8 @@ use Rattle.replica_state.specs.States.{State, rights_of, spent_of, total_hits}
 use Rattle.delta_exchange.specs.Limits.{max_nodes}
 use Rattle.node_core.specs.declared.fault.NodeFault.{NodeFault}
 use Rattle.delta_exchange.specs.Spelling.{message_bytes}
-use Rattle.delta_exchange.specs.Cells.{whole_of}
 use Rattle.node_core.specs.Asks.{Asked, Answered, bare_emit}
+use Rattle.node_core.specs.Emissions.{message_emitted}
 use Rattle.node_core.specs.Traces.{Kept, after_call, delivery_of, emission_of, refusal, reply_to, state_known}
 use Rattle.node_core.specs.Texts.{node_fault_text, list_text}
 use Rattle.scripts.specs.Commands.{RequestValue, call, list, rights, spent, hits}
@@ -70,9 +70,9 @@ abbrev pub node_after_request : Kept → RequestValue → Kept
 node_after_request k (call ask words) = node_after_call k ask words
 node_after_request k question = k
 
--- the bytes of a message to another node that tells all that a node knows
+-- the bytes of a node's message to another
 unfoldable pub emit_bytes : Kept → ℕ → List ℕ
-emit_bytes k to = message_bytes (whole_of (state_known k) k.config.nodes k.config.node to)
+emit_bytes k to = message_bytes (message_emitted k to)
 
 -- whether a node refuses to make it, and what it asked where it didn't
 abbrev pub emit_refusal : Kept → ℕ → Option NodeFault

@@ -133,10 +133,10 @@ hits_in rest = do
 -- what follows the node's number, by the line's first word; nothing follows it in `list`
 abbrev pub request_in : List ℕ → List ℕ → Option RequestValue
 request_in word rest =
-    if bytes_eq word (codes "set") then set_in rest else
+    if bytes_eq word (codes "pass") then pass_in rest else
+    (if bytes_eq word (codes "set") then set_in rest else
     (if bytes_eq word (codes "remove") then remove_in rest else
     (if bytes_eq word (codes "load") then load_in rest else
-    (if bytes_eq word (codes "pass") then pass_in rest else
     (if bytes_eq word (codes "shift") then shift_in rest else
     (if bytes_eq word (codes "rights") then rights_in rest else
     (if bytes_eq word (codes "spent") then spent_in rest else

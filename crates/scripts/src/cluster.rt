@@ -93,8 +93,11 @@ fn pass_point(
     ensures after { OnOk result (
         node.new ≡ node_after_call node.old (asks.Pass name.now) words.now) }
 {
-    match node.pass_with(alloc, name, words) {
-        Ok(reply) => print_pass(out, &reply),
+    match node.record_pass(alloc, name, words) {
+        Ok(()) => match node.last_pass() {
+            Some(reply) => print_pass(out, reply),
+            None => unreachable!(),
+        },
         Err(fault) => print_refusal(out, fault),
     }
 }

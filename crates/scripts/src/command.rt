@@ -179,11 +179,12 @@ fn read_request<'a>(
     ensures { IfOk result (λ request.
         option_map request_value request ≡ request_in word.now rest.now) }
 {
+    // Passes come first, since scripts have most of them.
     match word {
+        "pass" => pass_request(alloc, rest),
         "set" => Ok(set_request(rest)),
         "remove" => Ok(remove_request(rest)),
         "load" => Ok(load_request(rest)),
-        "pass" => pass_request(alloc, rest),
         "shift" => Ok(shift_request(rest)),
         "rights" => Ok(rights_request(rest)),
         "spent" => Ok(spent_request(rest)),

@@ -17,7 +17,16 @@ pub fn print_pass(out: &mut String, reply: &PassReply) -> Result<(), AllocError>
     match reply {
         PassReply::Unset => writeln!(out, "unset"),
         PassReply::NoTerm { stamp } => writeln!(out, "none {stamp}"),
-        PassReply::Act { stamp, term, task } => writeln!(out, "act {stamp} {term} {task}"),
+        // The words between are pushed as they are: a formatter makes them as dear as numbers.
+        PassReply::Act { stamp, term, task } => {
+            out.push_str("act ")?;
+            write!(out, "{stamp}")?;
+            out.push_str(" ")?;
+            write!(out, "{term}")?;
+            out.push_str(" ")?;
+            write!(out, "{task}")?;
+            out.push_str("\n")
+        }
     }
 }
 

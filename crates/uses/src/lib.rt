@@ -15,6 +15,6 @@ pub use crate::counters_caller::take_in;
 pub use crate::delta_exchange_caller::written_again;
 pub use crate::lattice_laws_caller::learn;
 pub use crate::node_core_caller::pass_and_count;
-pub use crate::replica_state_caller::hits_under;
+pub use crate::replica_state_caller::{hits_under, spend};
 pub use crate::scripts_caller::run_text;
 pub use crate::stamp_register_caller::removal_of;

@@ -2,7 +2,7 @@
 
 use super::*;
 
-pub fn shown<T: Display>(alloc: Global, value: &T) -> Result<String, Fail> {
+pub(super) fn shown<T: Display>(alloc: Global, value: &T) -> Result<String, Fail> {
     match format!(in alloc; "{value}") {
         Err(_) => Ok(format!(in alloc; "{value}")?),
         first => Ok(first?),
@@ -32,7 +32,7 @@ fn push_cells(alloc: Global, text: &mut String, entry: &NameEntry) -> Result<(),
 }
 
 /// From, to, base, upto and ack; and of each name its stamp, its actions, and its cells.
-pub fn message_text(alloc: Global, message: &Message) -> Result<String, AllocError> {
+pub(super) fn message_text(alloc: Global, message: &Message) -> Result<String, AllocError> {
     let Message {
         from,
         to,
@@ -62,7 +62,7 @@ fn try_reading(alloc: Global, bytes: &[u8]) -> Result<String, WireFault> {
 }
 
 /// The message that these bytes are, in print.
-pub fn reading(alloc: Global, bytes: &[u8]) -> Result<String, Fail> {
+pub(super) fn reading(alloc: Global, bytes: &[u8]) -> Result<String, Fail> {
     match try_reading(alloc, bytes) {
         Err(_) => Ok(try_reading(alloc, bytes)?),
         first => Ok(first?),

@@ -41,7 +41,7 @@ fn copy_of(alloc: Global, name: &Name) -> Result<Name, Fail> {
 }
 
 /// A key that sets `5*off`.
-fn key(alloc: Global, clock: u64) -> Result<Key, Fail> {
+pub(super) fn key(alloc: Global, clock: u64) -> Result<Key, Fail> {
     let actions = match parse_actions(alloc, "5*off") {
         Err(ActionFault::OutOfMemory) => parse_actions(alloc, "5*off")?,
         first => first?,
@@ -54,7 +54,7 @@ fn key(alloc: Global, clock: u64) -> Result<Key, Fail> {
 }
 
 // Whether there is room for one more version.
-fn has_room<R: Replica>(versioned: &Versioned<R>) -> bool
+pub(super) fn has_room<R: Replica>(versioned: &Versioned<R>) -> bool
     ensures { IsTrue result → (value_of R.state versioned.now).version + 1 < 2 ^ 64 }
 {
     versioned.version() < u64::MAX
@@ -155,7 +155,12 @@ fn count<R: Replica>(alloc: Global, versioned: &mut Versioned<R>, name: &Name) -
 {
     let has_key = versioned.state().key(name).is_some();
     let fits = versioned.state().hits(name, 1) < u64::MAX;
-    has_key && fits && has_room(versioned) && versioned.count_pass(alloc, name, 1, Some(0)).is_ok()
+    let counts = versioned.state().is_counted(name, 0);
+    has_key
+        && fits
+        && counts
+        && has_room(versioned)
+        && versioned.count_pass(alloc, name, 1, Some(0)).is_ok()
 }
 
 /// Counts a pass at node 1. If its memory is refused, nothing may have changed.
@@ -179,8 +184,10 @@ pub(super) fn pass<R: Replica>(
 fn move_two<R: Replica>(alloc: Global, versioned: &mut Versioned<R>, name: &Name) -> bool {
     let has_key = versioned.state().key(name).is_some();
     let is_more = versioned.state().moved(name, 0, 0, 1) < 2;
+    let counts = versioned.state().is_counted(name, 0);
     has_key
         && is_more
+        && counts
         && has_room(versioned)
         && versioned.count_shift(alloc, name, 0, 0, 1, 2).is_ok()
 }

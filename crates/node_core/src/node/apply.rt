@@ -46,7 +46,7 @@ impl NodeCore {
             (call_of self.old e).ask ≡ ask_value self.old.config.nodes ask.now e.reply) }
         ensures ok { IfOk result (λ e. Records self.old self.new (call_of self.old e) words.now) }
         // What an emit tells.
-        ensures all { IfOk result (λ e. TellsIfEmit self.old ask.now e.reply) }
+        ensures delta { IfOk result (λ e. TellsIfEmit self.old ask.now e.reply) }
         ensures refused { IfErr result (IsRefusalOf self.old
             (ask_value_first self.old.config.nodes ask.now) words.now) }
         ensures err { OnErr result (self.new ≡ self.old) }
@@ -69,7 +69,7 @@ impl NodeCore {
         requires { is_pass ask.now ≡ false → words.now ≡ [] }
         ensures ok { IfOk result (λ r. Accepts self.old self.new
             (ask_value self.old.config.nodes ask.now r) words.now (reply_value self.old.config.nodes r)) }
-        ensures all { IfOk result (λ r. TellsIfEmit self.old ask.now r) }
+        ensures delta { IfOk result (λ r. TellsIfEmit self.old ask.now r) }
         ensures refused { IfErr result (IsRefusalOf self.old
             (ask_value_first self.old.config.nodes ask.now) words.now) }
         ensures err { OnErr result (self.new ≡ self.old) }

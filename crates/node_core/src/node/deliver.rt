@@ -6,7 +6,7 @@ ghost use Rattle.node_core.specs.Asks as asks;
 ghost use Rattle.node_core.specs.Deliveries.{DeliversAs};
 ghost use Rattle.node_core.specs.Memory.{DeliveryNeedsMemory};
 ghost use Rattle.node_core.specs.Room.{HasRoom};
-ghost use Rattle.node_core.specs.Traces.{Accepts, IsRefusalOf, after_call, delivery_of, refusal};
+ghost use Rattle.node_core.specs.Traces.{Accepts, IsRefusalOf, after_call, delivery_of, refusal, reply_to};
 
 use super::NodeCore;
 use crate::State;
@@ -16,7 +16,6 @@ use crate::fault::NodeFault;
 use crate::reply::Reply;
 use crate::trace::Entry;
 use delta_exchange::{MAX_NAMES, replica_of};
-use lattice_laws::Join;
 use replica_state::Replica;
 use std::alloc::{AllocError, Global};
 
@@ -33,9 +32,7 @@ impl NodeCore {
         ensures err { OnErr result (self.new ≡ self.old) }
     {
         let delivery = self.deliver_checked(alloc, message)?;
-        let changed = delivery.changed;
-        self.learn(alloc, delivery, Vec::from_slice(alloc, message)?)?;
-        Ok(changed)
+        Ok(self.learn(alloc, delivery, Vec::from_slice(alloc, message)?)?)
     }
 
     // What a message comes to, or the refusal.
@@ -52,53 +49,53 @@ impl NodeCore {
         if message.to != self.config.node {
             return Err(NodeFault::NotForMe);
         }
-        if is_message_ahead(&self.state, self.config.node, &message) {
+        if is_message_ahead(self.replica.state(), self.config.node, &message) {
             return Err(NodeFault::OwnAhead);
         }
-        if message.ack > self.version {
+        if message.ack > self.replica.version() {
             return Err(NodeFault::AckAhead);
         }
         let brought: State = replica_of(alloc, &message)?;
-        if is_any_overspent(self.config.nodes, &self.state, &brought, &message.entries) {
+        if is_any_overspent(
+            self.config.nodes,
+            self.replica.state(),
+            &brought,
+            &message.entries,
+        ) {
             return Err(NodeFault::Overspent);
         }
-        if self.state.names_together(&brought) > MAX_NAMES {
+        if self.replica.state().names_together(&brought) > MAX_NAMES {
             return Err(NodeFault::TooManyPoints);
         }
         Ok(Delivery {
-            changed: !brought.below(&self.state),
             clock: latest_clock(&message.entries),
-            brought,
+            message,
         })
     }
 
-    // Learns what a message tells, as an accepted call asks.
+    // Learns what a message tells, as an accepted call asks, and answers whether that is anything.
     fn learn(
         &mut self,
         alloc: Global,
         delivery: Delivery,
         message: Vec<u8>,
-    ) -> Result<(), AllocError>
+    ) -> Result<bool, AllocError>
         requires room { HasRoom self.old }
         requires delivery { DeliversAs self.old message.items delivery }
         ensures after { OnOk result (self.new ≡ after_call self.old (delivery_of self.old message.items) []) }
+        ensures changed { IfOk result (λ changed. reply_to self.old (delivery_of self.old message.items) []
+            ≡ asks.IsDelivered changed) }
         ensures err { OnErr result (self.new ≡ self.old) }
     {
         self.trace.reserve(1)?;
-        let Delivery {
-            brought,
-            clock,
-            changed,
-        } = delivery;
-        self.state.merge(alloc, brought)?;
-        self.clock = self.clock.max(clock);
-        self.version += u64::from(changed);
+        let changed = self.replica.receive(alloc, &delivery.message)?;
+        self.clock = self.clock.max(delivery.clock);
         let entry = Entry {
             ask: Ask::Deliver { message },
             words: Vec::new(alloc),
             reply: Reply::Deliver(changed),
         };
         self.trace.push_reserved(entry);
-        Ok(())
+        Ok(changed)
     }
 }

@@ -3,7 +3,7 @@
 ghost use Rattle.std.specs.Prelude.{◌≡◌, ◌≢◌, [], ◌<◌, IfOk, IfErr, OnOk, OnErr, IsErrOf, Some, None};
 ghost use Rattle.node_core.specs.Asks as asks;
 ghost use Rattle.node_core.specs.Asks.{bare_emit, message_read};
-ghost use Rattle.node_core.specs.Deliveries.{TellsAll};
+ghost use Rattle.node_core.specs.Deliveries.{TellsDelta};
 ghost use Rattle.node_core.specs.Memory.{EmitNeedsMemory};
 ghost use Rattle.node_core.specs.Room.{HasRoom};
 ghost use Rattle.node_core.specs.Traces.{Emits, IsRefusalOf, after_call, emission_of, refusal, reply_to};
@@ -13,15 +13,16 @@ use crate::ask::Ask;
 use crate::fault::NodeFault;
 use crate::reply::Reply;
 use crate::trace::Entry;
-use delta_exchange::{encode, message_of_all};
+use delta_exchange::encode;
 use std::alloc::{AllocError, Global};
 
 impl NodeCore {
-    /// Makes a message to another node that tells all that this one knows, and answers its bytes.
+    /// Makes a message to another node and answers its bytes: it tells what differs between what this
+    /// node knew at the version that the other one is known to have and what it knows now.
     pub fn emit(&mut self, alloc: Global, to: u8) -> Result<Vec<u8>, NodeFault>
         ensures ok { IfOk result (λ b. Emits self.old self.new to b.items) }
         // What it tells.
-        ensures all { IfOk result (λ b. TellsAll self.old to b.items) }
+        ensures delta { IfOk result (λ b. TellsDelta self.old to b.items) }
         ensures refused { IfErr result (IsRefusalOf self.old (bare_emit to) []) }
         ensures memory { IsErrOf result NodeFault.OutOfMemory → EmitNeedsMemory self.old to }
         ensures err { OnErr result (self.new ≡ self.old) }
@@ -47,12 +48,15 @@ impl NodeCore {
         Ok(())
     }
 
-    // The bytes of a message to another node that tells all that this one knows.
+    // The bytes of a message to another node that tells what it isn't known to have.
     fn message_to(&self, alloc: Global, to: u8) -> Result<Vec<u8>, AllocError>
         requires to { (to < self.now.config.nodes) × (to ≢ self.now.config.node) }
-        ensures { IfOk result (λ b. TellsAll self.now to b.items) }
+        ensures { IfOk result (λ b. TellsDelta self.now to b.items) }
     {
-        let message = message_of_all(alloc, &self.state, self.config.nodes, self.config.node, to)?;
+        let base = self.replica.acked(to);
+        let message = self
+            .replica
+            .changed_since(alloc, base, self.config.node, to)?;
         encode(alloc, &message)
     }
 

@@ -1,22 +1,22 @@
 //! Setting many points at once.
 
-ghost use Rattle.std.specs.Prelude.{◌≡◌, ◌⊎◌, ◌+◌, ◌<◌, ◌^◌, ◌≤◌, ℕ, List, [], length, string_bytes, IfOk, IfErr, IsErrOf, OnOk, OnErr, IsTrue, Ok, Some, None};
+ghost use Rattle.std.specs.Prelude.{◌≡◌, ◌⊎◌, ◌+◌, ◌<◌, ◌^◌, ◌≤◌, ℕ, List, [], length, map, string_bytes, IfOk, IfErr, IsErrOf, OnOk, OnErr, IsTrue, Ok, Some, None};
 ghost use Rattle.actions.specs.Value.{TermValue};
 ghost use Rattle.actions.specs.Names.{is_name};
 ghost use Rattle.actions.specs.Canonical.{canonical};
 ghost use Rattle.actions.specs.SettingReading.{setting_reading};
 ghost use Rattle.stamp_register.specs.Keys.{body_value};
-ghost use Rattle.replica_state.specs.Operations.{IsIn};
-ghost use Rattle.replica_state.specs.Folds.{fold};
-ghost use Rattle.node_core.specs.Replicas.{state_in};
+ghost use Rattle.replica_state.specs.Operations.{IsIn, operation};
+ghost use Rattle.replica_state.specs.Unions.{with_names};
 ghost use Rattle.delta_exchange.specs.Spelling.{IsBody};
 ghost use Rattle.node_core.specs.Asks as asks;
 ghost use Rattle.node_core.specs.Memory.{LoadNeedsMemory};
-ghost use Rattle.node_core.specs.Outcomes.{AreTellable, state_loaded, state_set};
+ghost use Rattle.node_core.specs.Outcomes.{AreTellable, state_loaded};
 ghost use Rattle.node_core.specs.Refusals.{bad_setting};
+ghost use Rattle.node_core.specs.Replicas.{state_in};
 ghost use Rattle.node_core.specs.Room.{HasRoom, HasClocks, HavePlaces};
-ghost use Rattle.node_core.specs.Steps.{points_in, settings, settings_of};
-ghost use Rattle.node_core.specs.Traces.{Accepts, IsRefusalOf, after_call, refusal};
+ghost use Rattle.node_core.specs.Steps.{operations_issued, points_in, settings, settings_of};
+ghost use Rattle.node_core.specs.Traces.{Accepts, IsRefusalOf, after_call, last_clock, refusal};
 
 use super::NodeCore;
 use crate::State;
@@ -26,7 +26,7 @@ use crate::reply::Reply;
 use crate::trace::Entry;
 use actions::{Actions, Name, SettingFault, parse_setting};
 use delta_exchange::MAX_NAMES;
-use replica_state::Replica;
+use replica_state::{Op, Replica};
 use stamp_register::{Body, Key};
 use std::alloc::{AllocError, Global};
 
@@ -40,20 +40,25 @@ impl NodeCore {
         ensures memory { IsErrOf result NodeFault.OutOfMemory → LoadNeedsMemory self.old text.now }
         ensures err { OnErr result (self.new ≡ self.old) }
     {
-        let (loaded, entries) = self.load_checked(alloc, text)?;
-        self.take_in(alloc, loaded, entries, String::from_str(alloc, text)?)?;
+        let (ops, entries) = self.load_checked(alloc, text)?;
+        self.take_in(alloc, &ops, entries, String::from_str(alloc, text)?)?;
         Ok(entries)
     }
 
-    // The points of a setting in a state of their own, and how many entries there are, or the
+    // The operations that set the points of a setting, and how many entries there are, or the
     // refusal.
-    pub(crate) fn load_checked(&self, alloc: Global, text: &str) -> Result<(State, u16), NodeFault>
+    pub(crate) fn load_checked(
+        &self,
+        alloc: Global,
+        text: &str,
+    ) -> Result<(Vec<Op>, u16), NodeFault>
         ensures ok { IfOk result (λ p. (refusal self.now (asks.Load text.now) [] ≡ None)
             × (p.1 ≡ length (points_in text.now))) }
-        ensures state { IfOk result (λ p. state_in p.0 ≡ state_loaded self.now text.now) }
+        ensures ops { IfOk result (λ p. map operation p.0.items ≡ operations_issued
+            self.now.config.node (last_clock self.now) (settings (asks.Load text.now))) }
         ensures room { IfOk result (λ p. HasRoom self.now × HasClocks self.now p.1) }
         ensures tellable { OnOk result (AreTellable (settings (asks.Load text.now))) }
-        ensures few { IfOk result (λ p. HavePlaces self.now (state_in p.0).names) }
+        ensures few { OnOk result (HavePlaces self.now (state_loaded self.now text.now).names) }
         ensures refused { IfErr result (IsRefusalOf self.now (asks.Load text.now) []) }
         ensures short { OnOk result (length text.now ≤ 65536) }
         ensures memory { IsErrOf result NodeFault.OutOfMemory → LoadNeedsMemory self.now text.now }
@@ -61,24 +66,22 @@ impl NodeCore {
         self.check_trace()?;
         let points = read_points(alloc, text)?;
         let entries = points.len() as u16;
-        let has_clocks = self.clock <= u64::MAX - u64::from(entries);
-        // The names are the same at any clock, and too many of them is the lower refusal.
-        let clock = if has_clocks { self.clock } else { 0 };
-        let loaded = state_with(alloc, self.config.node, clock, points)?;
-        if self.state.names_together(&loaded) > MAX_NAMES {
+        let named = state_of_names(alloc, &points)?;
+        if self.replica.state().names_together(&named) > MAX_NAMES {
             return Err(NodeFault::TooManyPoints);
         }
-        if !has_clocks {
+        if self.clock > u64::MAX - u64::from(entries) {
             return Err(NodeFault::ClockFull);
         }
-        Ok((loaded, entries))
+        let ops = settings_issued(alloc, self.config.node, self.clock, points)?;
+        Ok((ops, entries))
     }
 
     // Takes in the points of a setting, as an accepted call asks.
     fn take_in(
         &mut self,
         alloc: Global,
-        loaded: State,
+        ops: &[Op],
         entries: u16,
         text: String,
     ) -> Result<(), AllocError>
@@ -86,15 +89,15 @@ impl NodeCore {
         requires entries { entries ≡ length (points_in (string_bytes text)) }
         requires clock { HasClocks self.old entries }
         requires tellable { AreTellable (settings (asks.Load (string_bytes text))) }
-        requires few { HavePlaces self.old (state_in loaded).names }
-        requires state { state_in loaded ≡ state_loaded self.old (string_bytes text) }
+        requires few { HavePlaces self.old (state_loaded self.old (string_bytes text)).names }
+        requires ops { map operation ops.now ≡ operations_issued
+            self.old.config.node (last_clock self.old) (settings (asks.Load (string_bytes text))) }
         ensures after { OnOk result (self.new ≡ after_call self.old (asks.Load (string_bytes text)) []) }
         ensures err { OnErr result (self.new ≡ self.old) }
     {
         self.trace.reserve(1)?;
-        self.state.merge(alloc, loaded)?;
+        self.replica.issue(alloc, ops)?;
         self.clock += u64::from(entries);
-        self.version += u64::from(entries > 0);
         let entry = Entry {
             ask: Ask::Load { text },
             words: Vec::new(alloc),
@@ -134,21 +137,39 @@ pub(crate) fn set_to(actions: Actions) -> Body
     Body::Set(actions)
 }
 
-/// A state in which just these points are set, one after the other, under keys of consecutive
-/// clocks after this one.
-pub(crate) fn state_with(
+/// A state that knows just the names of points, to count them by. Each is removed there, so that
+/// no text is copied.
+fn state_of_names(alloc: Global, points: &[(Name, Actions)]) -> Result<State, AllocError>
+    ensures { IfOk result (λ named. (state_in named).names
+        ≡ with_names (map (λ point. point.0) points.now) []) }
+{
+    let removed = Key {
+        clock: 0,
+        node: 0,
+        body: Body::Removed,
+    };
+    let mut named = State::empty(alloc);
+    for (name, _) in points {
+        named.learn(alloc, name, &removed, None)?;
+    }
+    Ok(named)
+}
+
+/// The operations that set points, one after the other, under keys of consecutive clocks after
+/// this one.
+fn settings_issued(
     alloc: Global,
     me: u8,
     clock: u64,
     points: Vec<(Name, Actions)>,
-) -> Result<State, AllocError>
+) -> Result<Vec<Op>, AllocError>
     requires { clock + length points.items < 2 ^ 64 }
-    ensures value { IfOk result (λ state. state_in state
-        ≡ state_set me clock (settings_of points.items) (fold [])) }
+    ensures value { IfOk result (λ ops. map operation ops.items
+        ≡ operations_issued me clock (settings_of points.items)) }
     ensures bodies { OnOk result ((s : List ℕ × List TermValue)
         → IsIn s points.items → IsBody (Some (canonical s.1))) }
 {
-    let mut state = State::empty(alloc);
+    let mut ops = Vec::with_capacity(alloc, points.len())?;
     let mut last = clock;
     for (name, actions) in points {
         last += 1;
@@ -157,7 +178,7 @@ pub(crate) fn state_with(
             node: me,
             body: set_to(actions),
         };
-        state.set_key(alloc, name, key)?;
+        ops.push_reserved(Op::Set { name, key });
     }
-    Ok(state)
+    Ok(ops)
 }

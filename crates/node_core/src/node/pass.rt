@@ -1,20 +1,24 @@
 //! Passing a point.
 
 ghost use Rattle.std.specs.Prelude.{◌≡◌, ◌⊎◌, ℕ, length, ◌+◌, ◌^◌, ◌<◌, ◌≤ℤ◌, pos, IfOk, IfErr, OnOk, OnErr, IsErrOf, IsSome, IfSome, IsTrue, MatchOption, true, Some, None, is_some, option_map, slice_get};
+ghost use Rattle.std.specs.Bool.{then_some};
 ghost use Rattle.actions.specs.Names.{is_name};
 ghost use Rattle.actions.specs.Value.{task_value};
 ghost use Rattle.stamp_register.specs.Keys.{key_value};
-ghost use Rattle.node_core.specs.Replicas.{state_in};
-ghost use Rattle.replica_state.specs.States.{rights_of};
+ghost use Rattle.node_core.specs.Replicas.{state_in, value_in};
+ghost use Rattle.delta_exchange.specs.Versions.{ChangesTo, MayPass};
+ghost use Rattle.std.specs.Prelude.{false};
+ghost use Rattle.replica_state.specs.States.{rights_of, with_pass};
 ghost use Rattle.node_core.specs.Asks as asks;
 ghost use Rattle.node_core.specs.Asks.{passed};
+ghost use Rattle.node_core.specs.Lasts.{last_passed};
 ghost use Rattle.node_core.specs.Memory.{NameNeedsMemory};
 ghost use Rattle.node_core.specs.Nodes.{setting_of};
 ghost use Rattle.node_core.specs.Outcomes.{task_or_off, outcome_reply, spent_by, ops_done, state_done, HasKey};
 ghost use Rattle.node_core.specs.Passes.{words_for, triggered_term, task_in, pass_reply, pass_ops};
 ghost use Rattle.node_core.specs.Refusals.{bad_words};
 ghost use Rattle.node_core.specs.Room.{HasRoom};
-ghost use Rattle.node_core.specs.Traces.{Accepts, IsRefusalOf};
+ghost use Rattle.node_core.specs.Traces.{Accepts, IsRefusalOf, reply_to};
 
 use super::{NodeCore, read_name};
 use crate::State;
@@ -23,6 +27,7 @@ use crate::fault::NodeFault;
 use crate::reply::{PassReply, Reply};
 use crate::trace::Entry;
 use actions::{Actions, Name, Task, decide};
+use delta_exchange::Versioned;
 use replica_state::Replica;
 use stamp_register::{Key, Stamp};
 use std::alloc::{AllocError, Global};
@@ -43,28 +48,65 @@ impl NodeCore {
     {
         self.check_trace()?;
         let point = read_name(alloc, name)?;
-        self.pass(alloc, point, words)
+        match self.pass(alloc, point, words, true)? {
+            Some(reply) => Ok(reply),
+            None => unreachable!(),
+        }
     }
 
-    // Passes a point whose name was read.
-    fn pass(&mut self, alloc: Global, point: Name, words: &[u32]) -> Result<PassReply, NodeFault>
+    /// Passes a point as `pass_with` does, without a reply of its own: the trace has it, and
+    /// `last_pass` lends it from there.
+    pub fn record_pass(&mut self, alloc: Global, name: &str, words: &[u32]) -> Result<(), NodeFault>
+        ensures ok { OnOk result (Accepts self.old self.new
+            (asks.Pass name.now) words.now (reply_to self.old (asks.Pass name.now) words.now)) }
+        ensures last { OnOk result (option_map asks.IsPassed (last_passed self.new)
+            ≡ Some (reply_to self.old (asks.Pass name.now) words.now)) }
+        ensures refused { IfErr result (IsRefusalOf self.old (asks.Pass name.now) words.now) }
+        ensures memory { IsErrOf result NodeFault.OutOfMemory → NameNeedsMemory self.old name.now }
+        ensures err { OnErr result (self.new ≡ self.old) }
+    {
+        self.check_trace()?;
+        let point = read_name(alloc, name)?;
+        self.pass(alloc, point, words, false)?;
+        Ok(())
+    }
+
+    /// The reply of the last accepted call, if that was a pass.
+    pub fn last_pass(&self) -> Option<&PassReply>
+        ensures { option_map (λ r. passed r.now) result ≡ last_passed self.now }
+    {
+        match &self.trace.last()?.reply {
+            Reply::Pass(reply) => Some(reply),
+            _ => None,
+        }
+    }
+
+    // Passes a point whose name was read, and answers the reply where one is wanted.
+    fn pass(
+        &mut self,
+        alloc: Global,
+        point: Name,
+        words: &[u32],
+        is_answered: bool,
+    ) -> Result<Option<PassReply>, NodeFault>
         requires room { HasRoom self.old }
         requires named { IsTrue (is_name point) }
-        ensures ok { IfOk result (λ r. Accepts self.old self.new
-            (asks.Pass point) words.now (asks.IsPassed (passed r))) }
+        ensures ok { OnOk result (Accepts self.old self.new
+            (asks.Pass point) words.now (reply_to self.old (asks.Pass point) words.now)) }
+        ensures answer { IfOk result (λ reply. option_map (λ r. asks.IsPassed (passed r)) reply
+            ≡ then_some is_answered (reply_to self.old (asks.Pass point) words.now)) }
         ensures refused { IfErr result (IsRefusalOf self.old (asks.Pass point) words.now) }
         ensures err { OnErr result (self.new ≡ self.old) }
     {
         let me = self.config.node;
-        let outcome = outcome_of(&self.state, me, &point, words)?;
-        let reply = outcome.reply(alloc)?;
+        let outcome = outcome_of(self.replica.state(), me, &point, words)?;
+        let reply = outcome.answer(alloc, is_answered)?;
         let recorded = outcome.reply(alloc)?;
         let is_set = outcome.stamp.is_some();
         let spent = outcome.spent;
         let words = Vec::from_slice(alloc, words)?;
         self.trace.reserve(1)?;
-        count(&mut self.state, alloc, me, &point, is_set, spent)?;
-        self.version += u64::from(is_set);
+        count(&mut self.replica, alloc, me, &point, is_set, spent)?;
         let entry = Entry {
             ask: Ask::Pass {
                 name: point.into_text(),
@@ -168,27 +210,40 @@ impl Outcome<'_> {
             Some(task) => task.copied(alloc)?,
             None => Task::Off,
         };
-        Ok(PassReply::Act { stamp, term, task })
+        Ok(PassReply::Act { term, stamp, task })
+    }
+
+    /// The same where it is wanted.
+    fn answer(self, alloc: Global, is_wanted: bool) -> Result<Option<PassReply>, AllocError>
+        ensures { IfOk result (λ reply. option_map passed reply ≡ then_some is_wanted
+            (outcome_reply self.entry.stamp self.entry.term
+            (option_map (λ task. task_value task.now) self.entry.task))) }
+    {
+        if is_wanted {
+            Ok(Some(self.reply(alloc)?))
+        } else {
+            Ok(None)
+        }
     }
 }
 
 /// Counts a hit, and perhaps an execution.
 fn count(
-    state: &mut State,
+    replica: &mut Versioned<State>,
     alloc: Global,
     me: u8,
     name: &Name,
     is_set: bool,
     spent: Option<u8>,
 ) -> Result<(), AllocError>
-    requires key { is_set ≡ true → IsSome ((state_in state.old).key name.now) }
-    requires hits { (state_in state.old).hits name.now me + 1 < 2 ^ 64 }
-    requires execs { (term : ℕ) → (state_in state.old).execs name.now term me + 1 < 2 ^ 64 }
-    ensures ok { OnOk result (state_in state.new ≡ state_done me (state_in state.old) name.now is_set spent) }
-    ensures err { OnErr result (state_in state.new ≡ state_in state.old) }
+    requires { is_set ≡ true → MayPass (value_in replica.old) name.now me spent }
+    ensures done { OnOk result (is_set ≡ true → ChangesTo (value_in replica.old)
+        (with_pass name.now me spent (value_in replica.old).state) (value_in replica.new)) }
+    ensures unset { OnOk result (is_set ≡ false → value_in replica.new ≡ value_in replica.old) }
+    ensures err { OnErr result (value_in replica.new ≡ value_in replica.old) }
 {
     if is_set {
-        state.count_pass(alloc, name, me, spent)?;
+        replica.count_pass(alloc, name, me, spent)?;
     }
     Ok(())
 }

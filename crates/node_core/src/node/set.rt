@@ -111,7 +111,7 @@ impl NodeCore {
         ensures ok { OnOk result (HasPlace self.now point.now × HasClocks self.now 1) }
         ensures refused { IfErr result (λ f. key_refusal (node_of self.now) point.now ≡ Some f) }
     {
-        if self.state.names_with(point) > MAX_NAMES {
+        if self.replica.state().names_with(point) > MAX_NAMES {
             return Err(NodeFault::TooManyPoints);
         }
         if self.clock == u64::MAX {
@@ -156,9 +156,8 @@ impl NodeCore {
             node: self.config.node,
             body,
         };
-        self.state.set_key(alloc, point, key)?;
+        self.replica.set_key(alloc, point, key)?;
         self.clock += 1;
-        self.version += 1;
         self.trace.push_reserved(entry);
         Ok(())
     }

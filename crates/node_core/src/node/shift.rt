@@ -67,7 +67,7 @@ impl NodeCore {
     {
         self.check_trace()?;
         let point = read_name(alloc, name)?;
-        let total = total_with(&self.state, self.config, &point, term, to, amount)?;
+        let total = total_with(self.replica.state(), self.config, &point, term, to, amount)?;
         Ok((point, total))
     }
 
@@ -92,8 +92,8 @@ impl NodeCore {
     {
         let me = self.config.node;
         self.trace.reserve(1)?;
-        self.state.count_shift(alloc, &point, term, me, to, total)?;
-        self.version += 1;
+        self.replica
+            .count_shift(alloc, &point, term, me, to, total)?;
         let entry = Entry {
             ask: Ask::Shift {
                 name: point.into_text(),

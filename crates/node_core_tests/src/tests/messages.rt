@@ -13,7 +13,7 @@ const EMPTY: [u8; 32] = [
 const ONE_NAME: [u8; 75] = [
     0x46, 0x50, 0x47, 0x31, 0, 1, // magic, from, to
     0, 0, 0, 0, 0, 0, 0, 0, // base
-    0, 0, 0, 0, 0, 0, 0, 0, // upto
+    0, 0, 0, 0, 0, 0, 0, 2, // upto
     0, 0, 0, 0, 0, 0, 0, 0, // ack
     0, 1, // one name
     1, 0x61, // a

@@ -22,7 +22,7 @@ pub const SECOND_OF_TWO: Config = Config {
 };
 
 /// A node that has accepted no call.
-pub fn empty_node(alloc: Global, config: Config) -> Result<NodeCore, NodeFault> {
+pub(super) fn empty_node(alloc: Global, config: Config) -> Result<NodeCore, NodeFault> {
     NodeCore::new(alloc, config)
 }
 
@@ -31,7 +31,7 @@ fn parse_name(alloc: Global, text: &str) -> Result<Name, NameFault> {
 }
 
 /// A name of a text that is one.
-pub fn name_of(alloc: Global, text: &str) -> Result<Name, Fail> {
+pub(super) fn name_of(alloc: Global, text: &str) -> Result<Name, Fail> {
     match parse_name(alloc, text) {
         Err(NameFault::OutOfMemory) => Ok(parse_name(alloc, text)?),
         first => Ok(first?),
@@ -74,7 +74,7 @@ fn deliver(alloc: Global, node: &mut NodeCore, message: &[u8]) -> Result<Reply, 
 }
 
 /// What a node answers to the call that an ask stands for.
-pub fn by_call(
+pub(super) fn by_call(
     alloc: Global,
     node: &mut NodeCore,
     ask: &Ask,
@@ -97,7 +97,7 @@ pub fn by_call(
 }
 
 /// What it answers to the ask as a value.
-pub fn by_value(
+pub(super) fn by_value(
     alloc: Global,
     node: &mut NodeCore,
     ask: &Ask,
@@ -108,7 +108,7 @@ pub fn by_value(
 }
 
 /// What a call answers, made again where memory is refused.
-pub fn ask_twice(alloc: Global, node: &mut NodeCore, ask: &Ask) -> Result<Reply, NodeFault> {
+pub(super) fn ask_twice(alloc: Global, node: &mut NodeCore, ask: &Ask) -> Result<Reply, NodeFault> {
     match by_call(alloc, node, ask, &[]) {
         Err(NodeFault::OutOfMemory) => by_call(alloc, node, ask, &[]),
         first => first,

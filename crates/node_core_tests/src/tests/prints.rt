@@ -3,7 +3,7 @@
 use super::*;
 
 /// Room for so many values.
-pub fn room<T>(alloc: Global, values: usize) -> Result<Vec<T>, Fail> {
+pub(super) fn room<T>(alloc: Global, values: usize) -> Result<Vec<T>, Fail> {
     match Vec::with_capacity(alloc, values) {
         Err(_) => Ok(Vec::with_capacity(alloc, values)?),
         first => Ok(first?),
@@ -11,21 +11,21 @@ pub fn room<T>(alloc: Global, values: usize) -> Result<Vec<T>, Fail> {
 }
 
 /// An empty text with room for so many bytes.
-pub fn text_with_room(alloc: Global, bytes: usize) -> Result<String, Fail> {
+pub(super) fn text_with_room(alloc: Global, bytes: usize) -> Result<String, Fail> {
     match String::with_capacity(alloc, bytes) {
         Err(_) => Ok(String::with_capacity(alloc, bytes)?),
         first => Ok(first?),
     }
 }
 
-pub fn copy_of(alloc: Global, text: &str) -> Result<String, Fail> {
+pub(super) fn copy_of(alloc: Global, text: &str) -> Result<String, Fail> {
     match String::from_str(alloc, text) {
         Err(_) => Ok(String::from_str(alloc, text)?),
         first => Ok(first?),
     }
 }
 
-pub fn text_of<T: Display>(alloc: Global, value: &T) -> Result<String, Fail> {
+pub(super) fn text_of<T: Display>(alloc: Global, value: &T) -> Result<String, Fail> {
     match format!(in alloc; "{value}") {
         Err(_) => Ok(format!(in alloc; "{value}")?),
         first => Ok(first?),
@@ -33,7 +33,7 @@ pub fn text_of<T: Display>(alloc: Global, value: &T) -> Result<String, Fail> {
 }
 
 /// Two texts with a space between them.
-pub fn text_of_both(alloc: Global, first: &str, second: &str) -> Result<String, Fail> {
+pub(super) fn text_of_both(alloc: Global, first: &str, second: &str) -> Result<String, Fail> {
     match format!(in alloc; "{first} {second}") {
         Err(_) => Ok(format!(in alloc; "{first} {second}")?),
         both => Ok(both?),
@@ -41,7 +41,7 @@ pub fn text_of_both(alloc: Global, first: &str, second: &str) -> Result<String, 
 }
 
 /// A word and a number.
-pub fn numbered_text(alloc: Global, word: &str, number: usize) -> Result<String, Fail> {
+pub(super) fn numbered_text(alloc: Global, word: &str, number: usize) -> Result<String, Fail> {
     let number = text_of(alloc, &number)?;
     text_of_both(alloc, word, number.as_str())
 }
@@ -79,7 +79,7 @@ fn try_answer_text(alloc: Global, answer: &Result<Reply, NodeFault>) -> Result<S
 }
 
 /// An answer in print, also where it is a refusal.
-pub fn answer_text(alloc: Global, answer: &Result<Reply, NodeFault>) -> Result<String, Fail> {
+pub(super) fn answer_text(alloc: Global, answer: &Result<Reply, NodeFault>) -> Result<String, Fail> {
     match try_answer_text(alloc, answer) {
         Err(_) => Ok(try_answer_text(alloc, answer)?),
         first => Ok(first?),
@@ -87,7 +87,7 @@ pub fn answer_text(alloc: Global, answer: &Result<Reply, NodeFault>) -> Result<S
 }
 
 /// What a call answers in print, made again where memory is refused.
-pub fn printed(alloc: Global, node: &mut NodeCore, ask: &Ask) -> Result<String, Fail> {
+pub(super) fn printed(alloc: Global, node: &mut NodeCore, ask: &Ask) -> Result<String, Fail> {
     let answer = ask_twice(alloc, node, ask);
     answer_text(alloc, &answer)
 }
@@ -101,7 +101,7 @@ fn try_config_text(alloc: Global, config: &Config) -> Result<String, AllocError>
     format!(in alloc; "node {node} of {nodes}, {trace_cap} calls")
 }
 
-pub fn config_text(alloc: Global, node: &NodeCore) -> Result<String, Fail> {
+pub(super) fn config_text(alloc: Global, node: &NodeCore) -> Result<String, Fail> {
     let config = node.config();
     match try_config_text(alloc, &config) {
         Err(_) => Ok(try_config_text(alloc, &config)?),
@@ -109,7 +109,7 @@ pub fn config_text(alloc: Global, node: &NodeCore) -> Result<String, Fail> {
     }
 }
 
-pub fn list(alloc: Global, node: &NodeCore) -> Result<String, Fail> {
+pub(super) fn list(alloc: Global, node: &NodeCore) -> Result<String, Fail> {
     match node.list(alloc) {
         Err(_) => Ok(node.list(alloc)?),
         first => Ok(first?),
@@ -138,7 +138,7 @@ fn try_view(alloc: Global, node: &NodeCore) -> Result<String, AllocError> {
 
 /// What a node shows: its points, and of each name that it holds the rights of three nodes to
 /// execute the first term, the executions of that term and the passes.
-pub fn view(alloc: Global, node: &NodeCore) -> Result<String, Fail> {
+pub(super) fn view(alloc: Global, node: &NodeCore) -> Result<String, Fail> {
     match try_view(alloc, node) {
         Err(_) => Ok(try_view(alloc, node)?),
         first => Ok(first?),

@@ -38,6 +38,11 @@ pub enum Step {
     View,
     Names,
     Entries,
+    Version,
+    /// The version of another node that this one has.
+    Known(u8),
+    /// The version of this node that another one has.
+    Acked(u8),
 }
 
 /// The place of a node, what it is asked there, and the answer.
@@ -51,7 +56,7 @@ pub struct Cast {
 }
 
 /// No node and no message yet, with room for so many nodes.
-pub fn empty_cast(alloc: Global, nodes: usize) -> Result<Cast, Fail> {
+pub(super) fn empty_cast(alloc: Global, nodes: usize) -> Result<Cast, Fail> {
     Ok(Cast {
         nodes: room(alloc, nodes)?,
         messages: room(alloc, 20)?,
@@ -163,7 +168,7 @@ fn words_of(step: &Step) -> &'static [u32] {
     }
 }
 
-pub fn rights(
+pub(super) fn rights(
     alloc: Global,
     node: &NodeCore,
     name: &str,
@@ -223,13 +228,26 @@ fn look(alloc: Global, node: &NodeCore, messages: &[Vec<u8>], step: &Step) -> Re
         Step::View => view(alloc, node),
         Step::Names => text_of(alloc, &node.state().names()),
         Step::Entries => text_of(alloc, &node.trace().len()),
+        Step::Version => text_of(alloc, &node.version()),
+        Step::Known(from) => text_of(alloc, &node.known(*from)),
+        Step::Acked(to) => text_of(alloc, &node.acked(*to)),
         _ => copy_of(alloc, "no look"),
     }
 }
 
+/// What a node knows of the versions of the first two nodes, and they of its own.
+fn versions(node: &NodeCore) -> (u64, [u64; 2], [u64; 2]) {
+    let known = [node.known(0), node.known(1)];
+    let acked = [node.acked(0), node.acked(1)];
+    (node.version(), known, acked)
+}
+
 /// All that a refused call has to leave as it was.
-fn all_of(alloc: Global, node: &NodeCore) -> Result<(String, usize), Fail> {
-    Ok((view(alloc, node)?, node.trace().len()))
+fn all_of(
+    alloc: Global,
+    node: &NodeCore,
+) -> Result<(String, usize, (u64, [u64; 2], [u64; 2])), Fail> {
+    Ok((view(alloc, node)?, node.trace().len(), versions(node)))
 }
 
 fn once(
@@ -248,7 +266,7 @@ fn once(
 
 /// What a call answers. Where it is refused, the node has to be as it was; and where memory is
 /// refused, it is made again.
-pub fn answer_of(
+pub(super) fn answer_of(
     alloc: Global,
     node: &mut NodeCore,
     as_value: bool,
@@ -294,7 +312,7 @@ fn answer(
 }
 
 /// The first line that answers otherwise, and how; nothing where there is none.
-pub fn first_other(
+pub(super) fn first_other(
     alloc: Global,
     cast: &mut Cast,
     as_value: bool,
@@ -335,7 +353,7 @@ fn difference_so(
 
 /// Plays a story of some parts over nodes that have accepted no call, once by calls and once by
 /// values, and answers what is otherwise: nothing where each line answers as wanted.
-pub fn difference(alloc: Global, configs: &[Config], parts: &[&[Line]]) -> Result<String, Fail> {
+pub(super) fn difference(alloc: Global, configs: &[Config], parts: &[&[Line]]) -> Result<String, Fail> {
     for as_value in [false, true] {
         let other = difference_so(alloc, configs, parts, as_value)?;
         if !other.is_empty() {
@@ -346,7 +364,7 @@ pub fn difference(alloc: Global, configs: &[Config], parts: &[&[Line]]) -> Resul
 }
 
 /// What a node answers in print to the ask of a step as a value, with these words.
-pub fn answer_with(
+pub(super) fn answer_with(
     alloc: Global,
     node: &mut NodeCore,
     step: &Step,

@@ -3,7 +3,7 @@
 ghost use Rattle.std.specs.Prelude.{◌≤◌, ℕ, IfOk};
 
 use super::readers::{answers, shows, wanted};
-use super::{key, name};
+use super::{is_above, key, name};
 use actions::Name;
 use replica_state::{Matrix, OpSet, Replica};
 use std::alloc::Global;
@@ -27,7 +27,8 @@ fn count<R: Replica>(alloc: Global, replica: &mut R, name: &Name) -> bool
 {
     let has_key = replica.key(name).is_some();
     let has_room = replica.hits(name, 1) < u64::MAX;
-    has_key && has_room && replica.count_pass(alloc, name, 1, Some(0)).is_ok()
+    let counts = replica.is_counted(name, 0);
+    has_key && has_room && counts && replica.count_pass(alloc, name, 1, Some(0)).is_ok()
 }
 
 /// Counts a pass at node 1. If its memory is refused, nothing may have changed.
@@ -54,7 +55,10 @@ fn overtaken<R: Replica>(rt: &impl Abort, alloc: Global) -> Result<(), Fail> {
     pass(rt, alloc, &mut replica, &a)?;
     let counted = shows(&replica, &a, wanted(1, (0, 1), (0, 1), (0, 0), (2, -1)));
     assert!(rt; counted);
-    replica.set_key(alloc, a.copied(alloc)?, key(alloc, 2, 1, "5*off")?)?;
+    let later = key(alloc, 2, 1, "5*off")?;
+    let above = is_above(&replica, &a, &later);
+    assert!(rt; above);
+    replica.set_key(alloc, a.copied(alloc)?, later)?;
     let overtaken = shows(&replica, &a, wanted(2, (0, 1), (0, 0), (0, 0), (0, 5)));
     assert!(rt; overtaken);
     Ok(())

@@ -184,6 +184,7 @@ fn no_points(rt: HostRuntime) -> Result<(), Fail> {
 }
 
 /// A replica in which a name has a key.
+#[tactic(auto, unfolding(replica_state::specs::Folds::fold))]
 fn with_key<R: Replica>(alloc: Global, text: &str, clock: u64) -> Result<R, Fail> {
     let mut replica = R::empty(alloc);
     let refused = replica

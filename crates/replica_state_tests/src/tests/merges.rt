@@ -76,7 +76,8 @@ fn merges(rt: HostRuntime) -> Result<(), Fail> {
 fn shift<R: Replica>(alloc: Global, replica: &mut R, name: &Name, total: u64) -> bool {
     let has_key = replica.key(name).is_some();
     let is_more = replica.moved(name, 0, 0, 1) <= total;
-    has_key && is_more && replica.count_shift(alloc, name, 0, 0, 1, total).is_ok()
+    let counts = replica.is_counted(name, 0);
+    has_key && is_more && counts && replica.count_shift(alloc, name, 0, 0, 1, total).is_ok()
 }
 
 fn moved_rights<R: Replica>(rt: &impl Abort, alloc: Global) -> Result<(), Fail> {

@@ -1,7 +1,7 @@
-use Rattle.std.specs.Prelude.{◌≡◌, ◌+◌, ℕ, max, Option, Result, Ok, Err, None, Some, IfOk, IfErr, OnOk, OnErr}
+use Rattle.std.specs.Prelude.{◌≡◌, ◌+◌, ℕ, max, Option, Result, Ok, Err, None, Some, IfOk, IfErr, OnOk}
 use Rattle.std.proofs.Common.{◌∙◌, ap, inl, inr, refl, sym, subst, rules}
-use Rattle.counters.specs.Cells.{Cells, WritesCell, cell}
-use Rattle.counters.specs.Refusals.{hit_refusal, too_great, IsRefusal}
+use Rattle.counters.specs.Cells.{WritesCell, cell}
+use Rattle.counters.specs.Refusals.{too_great, IsRefusal}
 use Rattle.counters.specs.declared.fault.CounterFault.{CounterFault}
 use Rattle.counters.specs.declared.fault.CounterFault.TheVariants.{OutOfMemory}
 use Rattle.counters.proofs.WriteLemmas.{absent_cell, found_cell, put_cell, raised_cell}

@@ -1,8 +1,6 @@
 use Rattle.std.specs.Prelude.{◌≡◌, [], max, OnErr, OnOk}
 use Rattle.std.proofs.Common.{◌∙◌, subst, sym, rules}
-use Rattle.std.specs.Ordering.{nat_cmp}
-use Rattle.lattice_laws.specs.Map.{stored_at}
-use Rattle.counters.specs.Cells.{Cells, WritesCell, cell}
+use Rattle.counters.specs.Cells.{WritesCell, cell}
 use Rattle.counters.proofs.WriteLemmas.{OnErr-always, OnErr-map, OnOk-map, absent_row_cell, empty_cell, found_row_cell, put_row, raised_row}
 use Rattle.counters.proofs.cells.raise_row.Goals as goal
 

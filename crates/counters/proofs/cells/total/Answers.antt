@@ -1,6 +1,6 @@
 use Rattle.std.specs.Prelude.{◌≡◌, ◌<◌, ◌≤◌, ◌+◌, ◌*◌, ◌^◌, []}
 use Rattle.std.proofs.Common.{arith, rules}
-use Rattle.counters.specs.Sums.{numbers, sum_below}
+use Rattle.counters.specs.Sums.{node_numbers, sum_below}
 use Rattle.counters.specs.Cells.{cell}
 use Rattle.counters.proofs.CellLemmas.{apart-map, apart-tail, total-bound, total-empty, total-entry}
 use Rattle.counters.proofs.cells.total.Goals as goal
@@ -16,7 +16,7 @@ overflow_add-sum c =
     let below : c.in-Some.node.now < 256 = omega arith in
     let before = rw c.in-Some.ensures.steps at c.loop-node.invariant in
     let entry = total-entry c.in-Some.node.now c.in-Some.number.now c.next.new.self below before.apart in
-    let all : sum_below numbers (cell c.args.cells.now) ≤ 256 * 2 ^ 64 = total-bound c.args.cells.now c.iter-node-items.ensures.is_map in
+    let all : sum_below node_numbers (cell c.args.cells.now) ≤ 256 * 2 ^ 64 = total-bound c.args.cells.now c.iter-node-items.ensures.is_map in
     let fits : c.loop-node.sum + c.from-sum.result < 2 ^ 128 = omega (arith, before.sum, entry, all, c.from-sum.ensures) in
     omega arith
 

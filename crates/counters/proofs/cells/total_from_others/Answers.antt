@@ -1,6 +1,6 @@
 use Rattle.std.specs.Prelude.{◌≡◌, ◌≢◌, ◌<◌, ◌≤◌, ◌+◌, ◌*◌, ◌^◌, []}
 use Rattle.std.proofs.Common.{arith, rules}
-use Rattle.counters.specs.Sums.{numbers, sum_others}
+use Rattle.counters.specs.Sums.{node_numbers, sum_others}
 use Rattle.counters.specs.Cells.{row_cell}
 use Rattle.counters.proofs.CellLemmas.{apart-map, apart-tail, total_from_others-bound, total_from_others-counted, total_from_others-empty, total_from_others-left_out}
 use Rattle.counters.proofs.cells.total_from_others.Goals as goal
@@ -17,7 +17,7 @@ overflow_add-sum c =
     let ne : c.in-Some.from.now ≢ c.args.node = search rules in
     let before = rw c.in-Some.ensures.steps at c.loop-from.invariant in
     let entry = total_from_others-counted c.args.node c.in-Some.from.now c.in-Some.row.now c.next.new.self below before.apart ne in
-    let all : sum_others numbers c.args.node (λ from. row_cell c.args.rows.now from c.args.node) ≤ 256 * 2 ^ 64 =
+    let all : sum_others node_numbers c.args.node (λ from. row_cell c.args.rows.now from c.args.node) ≤ 256 * 2 ^ 64 =
     total_from_others-bound c.args.node c.args.rows.now c.iter-from-items.ensures.is_map in
     let fits : c.loop-from.sum + c.from-sum.result < 2 ^ 128 = omega (arith, before.sum, entry, all, c.from-sum.ensures, c.number_of.ensures) in
     omega arith
@@ -49,6 +49,6 @@ returns-clause-value c =
 
 pub returns-clause-small : goal.returns-clause-small
 returns-clause-small c =
-    let all : sum_others numbers c.args.node (λ from. row_cell c.args.rows.now from c.args.node) ≤ 256 * 2 ^ 64 =
+    let all : sum_others node_numbers c.args.node (λ from. row_cell c.args.rows.now from c.args.node) ≤ 256 * 2 ^ 64 =
     total_from_others-bound c.args.node c.args.rows.now c.iter-from-items.ensures.is_map in
     omega (arith, all, c.loop-from.invariant.sum)

@@ -1,6 +1,6 @@
 use Rattle.std.specs.Prelude.{◌≡◌, ◌≢◌, ◌<◌, ◌≤◌, ◌+◌, ◌*◌, ◌^◌, []}
 use Rattle.std.proofs.Common.{arith, rules}
-use Rattle.counters.specs.Sums.{numbers, sum_others}
+use Rattle.counters.specs.Sums.{node_numbers, sum_others}
 use Rattle.counters.specs.Cells.{cell}
 use Rattle.counters.proofs.CellLemmas.{apart-map, apart-tail, total_of_others-bound, total_of_others-counted, total_of_others-empty, total_of_others-left_out}
 use Rattle.counters.proofs.cells.total_of_others.Goals as goal
@@ -17,7 +17,7 @@ overflow_add-sum c =
     let ne : c.in-Some.other.now ≢ c.args.node = search rules in
     let before = rw c.in-Some.ensures.steps at c.loop-other.invariant in
     let entry = total_of_others-counted c.args.node c.in-Some.other.now c.in-Some.number.now c.next.new.self below before.apart ne in
-    let all : sum_others numbers c.args.node (cell c.args.cells.now) ≤ 256 * 2 ^ 64 =
+    let all : sum_others node_numbers c.args.node (cell c.args.cells.now) ≤ 256 * 2 ^ 64 =
     total_of_others-bound c.args.node c.args.cells.now c.iter-other-items.ensures.is_map in
     let fits : c.loop-other.sum + c.from-sum.result < 2 ^ 128 = omega (arith, before.sum, entry, all, c.from-sum.ensures) in
     omega arith
@@ -49,6 +49,6 @@ returns-clause-value c =
 
 pub returns-clause-small : goal.returns-clause-small
 returns-clause-small c =
-    let all : sum_others numbers c.args.node (cell c.args.cells.now) ≤ 256 * 2 ^ 64 =
+    let all : sum_others node_numbers c.args.node (cell c.args.cells.now) ≤ 256 * 2 ^ 64 =
     total_of_others-bound c.args.node c.args.cells.now c.iter-other-items.ensures.is_map in
     omega (arith, all, c.loop-other.invariant.sum)

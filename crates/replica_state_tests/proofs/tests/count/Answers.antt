@@ -1,7 +1,7 @@
 use Rattle.std.proofs.Common.{◌≡◌, ℕ, ◌+◌, ◌≤◌, Bool, true, false, cond, List, Option, Some, None, Result, Ok, Err, OnOk, OnErr, sym, subst, arith, ◌&&◌, eqb}
 use Rattle.std.specs.Str.{bytes_eq}
 use Rattle.std.specs.Option.{IsSome}
-use Rattle.replica_state.specs.OpSets.{state_of}
+use Rattle.replica_state.specs.SetOrder.{state_of}
 use Rattle.replica_state.specs.States.{State, with_pass, with_hits, with_execs}
 use Rattle.replica_state_tests.proofs.tests.count.Goals as goal
 

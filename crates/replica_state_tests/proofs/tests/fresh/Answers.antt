@@ -1,9 +1,10 @@
-use Rattle.std.proofs.Common.{◌≡◌, ℕ, ◌≤◌, Bool, true, false, cond, List, [], Some, None, refl, sym, ◌∙◌, subst, arith}
+use Rattle.std.proofs.Common.{◌≡◌, ℕ, ◌≤◌, Bool, true, false, cond, List, [], Some, None, refl, sym, ◌∙◌, ap, subst, arith}
 use Rattle.std.specs.Str.{bytes_eq}
 use Rattle.std.specs.Option.{IsSome}
 use Rattle.stamp_register.specs.Keys.{KeyValue, key_value}
 use Rattle.replica_state.specs.States.{State, with_key}
 use Rattle.replica_state.specs.Folds.{fold}
+use Rattle.replica_state.specs.Knowledge.{is_upto}
 use Rattle.replica_state.proofs.Orders.{bytes_eq-refl}
 use Rattle.replica_state_tests.proofs.tests.fresh.Goals as goal
 
@@ -26,6 +27,14 @@ no_execs name key t i = by_test (bytes_eq name name)
 -- the state that was made
 made : (n name : List ℕ) (key : KeyValue) (v w : State) → w ≡ with_key n key v → n ≡ name → v ≡ fold [] → w ≡ with_key name key (fold [])
 made n name key v w e f g = e ∙ (λ i. with_key (f i) key (g i))
+
+-- any key is above none
+above_none : (key : KeyValue) (name : List ℕ) (v : State) → v ≡ fold [] → is_upto (Some key) (v.key name) ≡ false
+unfolding fold
+above_none key name v e = ap (λ (w : State). is_upto (Some key) (w.key name)) e
+
+pub set_key-requires : goal.set_key-requires
+set_key-requires c = record { above = above_none (key_value c.in_ok-key.key) c.in_ok-copied.field-0 _ c.empty-set.ensures }
 
 pub returns-clause-set : goal.returns-clause-set
 returns-clause-set c = subst (λ (v : State). IsSome (v.key c.args.name.now)) (sym (made c.in_ok-copied.field-0 c.args.name.now (key_value c.in_ok-key.key) _ _ c.in_ok-set_key.ensures.ok c.in_ok-copied.ensures c.empty-set.ensures)) (has_key c.args.name.now (key_value c.in_ok-key.key))

@@ -3,7 +3,7 @@ use Rattle.std.proofs.Common.{arith, sym, ◌∙◌}
 use Rattle.std.proofs.lemmas.Int.{ints}
 use mir.Syntax.{w128}
 use mir.Val.{of_z, to_z}
-use Rattle.counters.specs.Sums.{numbers, sum_others}
+use Rattle.counters.specs.Sums.{node_numbers, sum_others}
 use Rattle.counters.specs.Budgets.{given_to, gone_from}
 use Rattle.counters.specs.Cells.{budget_of, moved_cell, spent_cell}
 use Rattle.counters.proofs.CellLemmas.{chosen-other, chosen-same}
@@ -24,9 +24,9 @@ returns c =
     ] in
     let small : c.if-node-setter.own < 2 ^ 64 = elim c.if-node-setter.branch [ then-node-setter w ↦ omega arith | else-node-setter w ↦ omega arith ] in
     let came : c.total_from_others.result
-    ≡ sum_others numbers c.args.node (λ from. moved_cell c.args.self.now from c.args.node) =
+    ≡ sum_others node_numbers c.args.node (λ from. moved_cell c.args.self.now from c.args.node) =
     rw (← c.self.view_is) c.total_from_others.ensures.value in
-    let went : c.total_to_others.result ≡ sum_others numbers c.args.node (moved_cell c.args.self.now c.args.node) =
+    let went : c.total_to_others.result ≡ sum_others node_numbers c.args.node (moved_cell c.args.self.now c.args.node) =
     rw (← c.self.view_is) c.total_to_others.ensures.value in
     let spent : c.from-spent.result ≡ spent_cell c.args.self.now c.args.node = c.from-spent.ensures ∙ c.spent.ensures in
     difference (c.if-node-setter.own + c.total_from_others.result) (c.total_to_others.result + c.from-spent.result)

@@ -1,78 +1,86 @@
 use Rattle.std.proofs.Common.{List, inr, ap, ◌∙◌, refl, map}
 use Rattle.std.specs.List.{list_any, flat_map}
-use Rattle.node_core.specs.Replicas.{state_in}
-use Rattle.replica_state.specs.MatrixStates.{matrix_ordered}
+use Rattle.node_core.specs.Replicas.{state_in, value_in}
 use Rattle.replica_state.specs.Folds.{clock_of}
 use Rattle.delta_exchange.specs.declared.message.NameEntry.{NameEntry}
 use Rattle.delta_exchange.specs.Messages.{message_value, entry_value, operations_of}
 use Rattle.node_core.specs.Traces.{kept_of}
-use Rattle.node_core.proofs.DeliverRefusals.{Checked, FindsOwn, FindsExecutions, refused_ahead, refused_ack, refused_overspent, refused_many, delivery_accepted, delivery_is}
+use Rattle.node_core.proofs.DeliverRefusals.{Checked, FindsOwn, FindsExecutions, refused_ahead, refused_ack, refused_overspent, refused_many, delivery_accepted, delivery_is, reached}
 use Rattle.node_core.proofs.node.NodeCore.deliver_checked.Goals as goal
 
 pub returns-then-is_message_ahead-clause-refused : goal.returns-then-is_message_ahead-clause-refused
 returns-then-is_message_ahead-clause-refused c =
     let node = c.self.inside in
     let k = kept_of node.config node.trace.items in
-    let checked : Checked k node.clock node.version (state_in node.state) c.args.bytes.now (message_value c.in_ok-message.message) =
-    record { step = c.self.invariant; room = rw (← c.self.view_is) at c.in_ok-check_trace.ensures.ok; read = c.in_ok-message.ensures.ok; spelled = c.in_ok-message.ensures.spelled; mine = c.if-message-self.false } in
-    let own : FindsOwn k (state_in node.state) (message_value c.in_ok-message.message) c.is_message_ahead.result = record { is = c.is_message_ahead.ensures } in
+    let value = value_in node.replica in
+    let checked : Checked k node.clock value.version value.state c.args.bytes.now (message_value c.in_ok-message.message) =
+    record { step = c.self.invariant.0; room = rw (← c.self.view_is) at c.in_ok-check_trace.ensures.ok; read = c.in_ok-message.ensures.ok; spelled = c.in_ok-message.ensures.spelled; mine = c.if-message-self.false } in
+    let own : FindsOwn k value.state (message_value c.in_ok-message.message) c.is_message_ahead.result = record { is = rw c.state.ensures at c.is_message_ahead.ensures } in
     inr (rw (← c.self.view_is) (refused_ahead checked own c.if-is_message_ahead.true))
 
-pub returns-then-message-self-2-clause-refused : goal.returns-then-message-self-2-clause-refused
-returns-then-message-self-2-clause-refused c =
+pub returns-then-message-version-clause-refused : goal.returns-then-message-version-clause-refused
+returns-then-message-version-clause-refused c =
     let node = c.self.inside in
     let k = kept_of node.config node.trace.items in
-    let checked : Checked k node.clock node.version (state_in node.state) c.args.bytes.now (message_value c.in_ok-message.message) =
-    record { step = c.self.invariant; room = rw (← c.self.view_is) at c.in_ok-check_trace.ensures.ok; read = c.in_ok-message.ensures.ok; spelled = c.in_ok-message.ensures.spelled; mine = c.if-message-self.false } in
-    let own : FindsOwn k (state_in node.state) (message_value c.in_ok-message.message) c.is_message_ahead.result = record { is = c.is_message_ahead.ensures } in
-    inr (rw (← c.self.view_is) (refused_ack checked own c.if-is_message_ahead.false c.if-message-self-2.true))
+    let value = value_in node.replica in
+    let checked : Checked k node.clock value.version value.state c.args.bytes.now (message_value c.in_ok-message.message) =
+    record { step = c.self.invariant.0; room = rw (← c.self.view_is) at c.in_ok-check_trace.ensures.ok; read = c.in_ok-message.ensures.ok; spelled = c.in_ok-message.ensures.spelled; mine = c.if-message-self.false } in
+    let own : FindsOwn k value.state (message_value c.in_ok-message.message) c.is_message_ahead.result = record { is = rw c.state.ensures at c.is_message_ahead.ensures } in
+    inr (rw (← c.self.view_is) (refused_ack checked own c.if-is_message_ahead.false (rw c.version.ensures at c.if-message-version.true)))
 
 pub returns-then-is_any_overspent-clause-refused : goal.returns-then-is_any_overspent-clause-refused
 returns-then-is_any_overspent-clause-refused c =
     let node = c.self.inside in
     let k = kept_of node.config node.trace.items in
-    let checked : Checked k node.clock node.version (state_in node.state) c.args.bytes.now (message_value c.in_ok-message.message) =
-    record { step = c.self.invariant; room = rw (← c.self.view_is) at c.in_ok-check_trace.ensures.ok; read = c.in_ok-message.ensures.ok; spelled = c.in_ok-message.ensures.spelled; mine = c.if-message-self.false } in
-    let own : FindsOwn k (state_in node.state) (message_value c.in_ok-message.message) c.is_message_ahead.result = record { is = c.is_message_ahead.ensures } in
-    let executions : FindsExecutions k (state_in node.state) (state_in c.in_ok-brought.brought) (message_value c.in_ok-message.message) c.is_any_overspent.result =
-    record { entries = c.in_ok-message.message.entries.items; are = refl; brings = c.in_ok-brought.ensures; is = c.is_any_overspent.ensures ∙ ap (list_any _) c.deref.ensures.value } in
-    inr (rw (← c.self.view_is) (refused_overspent checked own c.if-is_message_ahead.false c.if-message-self-2.false executions c.if-is_any_overspent.true))
+    let value = value_in node.replica in
+    let checked : Checked k node.clock value.version value.state c.args.bytes.now (message_value c.in_ok-message.message) =
+    record { step = c.self.invariant.0; room = rw (← c.self.view_is) at c.in_ok-check_trace.ensures.ok; read = c.in_ok-message.ensures.ok; spelled = c.in_ok-message.ensures.spelled; mine = c.if-message-self.false } in
+    let own : FindsOwn k value.state (message_value c.in_ok-message.message) c.is_message_ahead.result = record { is = rw c.state.ensures at c.is_message_ahead.ensures } in
+    let executions : FindsExecutions k value.state (state_in c.in_ok-brought.brought) (message_value c.in_ok-message.message) c.is_any_overspent.result =
+    record { entries = c.in_ok-message.message.entries.items; are = refl; brings = c.in_ok-brought.ensures; is = rw c.state-2.ensures at (c.is_any_overspent.ensures ∙ ap (list_any _) c.deref.ensures.value) } in
+    inr (rw (← c.self.view_is) (refused_overspent checked own c.if-is_message_ahead.false (rw c.version.ensures at c.if-message-version.false) executions c.if-is_any_overspent.true))
 
 pub returns-then-names_together-gt-MAX_NAMES-clause-refused : goal.returns-then-names_together-gt-MAX_NAMES-clause-refused
 returns-then-names_together-gt-MAX_NAMES-clause-refused c =
     let node = c.self.inside in
     let k = kept_of node.config node.trace.items in
-    let checked : Checked k node.clock node.version (state_in node.state) c.args.bytes.now (message_value c.in_ok-message.message) =
-    record { step = c.self.invariant; room = rw (← c.self.view_is) at c.in_ok-check_trace.ensures.ok; read = c.in_ok-message.ensures.ok; spelled = c.in_ok-message.ensures.spelled; mine = c.if-message-self.false } in
-    let own : FindsOwn k (state_in node.state) (message_value c.in_ok-message.message) c.is_message_ahead.result = record { is = c.is_message_ahead.ensures } in
-    let executions : FindsExecutions k (state_in node.state) (state_in c.in_ok-brought.brought) (message_value c.in_ok-message.message) c.is_any_overspent.result =
-    record { entries = c.in_ok-message.message.entries.items; are = refl; brings = c.in_ok-brought.ensures; is = c.is_any_overspent.ensures ∙ ap (list_any _) c.deref.ensures.value } in
-    inr (rw (← c.self.view_is) (refused_many checked own c.if-is_message_ahead.false c.if-message-self-2.false executions
-    c.if-is_any_overspent.false c.names_together.ensures c.if-names_together-gt-MAX_NAMES.true))
+    let value = value_in node.replica in
+    let checked : Checked k node.clock value.version value.state c.args.bytes.now (message_value c.in_ok-message.message) =
+    record { step = c.self.invariant.0; room = rw (← c.self.view_is) at c.in_ok-check_trace.ensures.ok; read = c.in_ok-message.ensures.ok; spelled = c.in_ok-message.ensures.spelled; mine = c.if-message-self.false } in
+    let own : FindsOwn k value.state (message_value c.in_ok-message.message) c.is_message_ahead.result = record { is = rw c.state.ensures at c.is_message_ahead.ensures } in
+    let executions : FindsExecutions k value.state (state_in c.in_ok-brought.brought) (message_value c.in_ok-message.message) c.is_any_overspent.result =
+    record { entries = c.in_ok-message.message.entries.items; are = refl; brings = c.in_ok-brought.ensures; is = rw c.state-2.ensures at (c.is_any_overspent.ensures ∙ ap (list_any _) c.deref.ensures.value) } in
+    inr (rw (← c.self.view_is) (refused_many checked own c.if-is_message_ahead.false (rw c.version.ensures at c.if-message-version.false) executions
+    c.if-is_any_overspent.false (rw c.state-3.ensures at c.names_together.ensures) c.if-names_together-gt-MAX_NAMES.true))
 
 pub returns-clause-ok : goal.returns-clause-ok
 returns-clause-ok c =
     let node = c.self.inside in
     let k = kept_of node.config node.trace.items in
-    let checked : Checked k node.clock node.version (state_in node.state) c.args.bytes.now (message_value c.in_ok-message.message) =
-    record { step = c.self.invariant; room = rw (← c.self.view_is) at c.in_ok-check_trace.ensures.ok; read = c.in_ok-message.ensures.ok; spelled = c.in_ok-message.ensures.spelled; mine = c.if-message-self.false } in
-    let own : FindsOwn k (state_in node.state) (message_value c.in_ok-message.message) c.is_message_ahead.result = record { is = c.is_message_ahead.ensures } in
-    let executions : FindsExecutions k (state_in node.state) (state_in c.in_ok-brought.brought) (message_value c.in_ok-message.message) c.is_any_overspent.result =
-    record { entries = c.in_ok-message.message.entries.items; are = refl; brings = c.in_ok-brought.ensures; is = c.is_any_overspent.ensures ∙ ap (list_any _) c.deref.ensures.value } in
-    rw (← c.self.view_is) (delivery_accepted checked own c.if-is_message_ahead.false c.if-message-self-2.false executions
-    c.if-is_any_overspent.false c.names_together.ensures c.if-names_together-gt-MAX_NAMES.false)
+    let value = value_in node.replica in
+    let checked : Checked k node.clock value.version value.state c.args.bytes.now (message_value c.in_ok-message.message) =
+    record { step = c.self.invariant.0; room = rw (← c.self.view_is) at c.in_ok-check_trace.ensures.ok; read = c.in_ok-message.ensures.ok; spelled = c.in_ok-message.ensures.spelled; mine = c.if-message-self.false } in
+    let own : FindsOwn k value.state (message_value c.in_ok-message.message) c.is_message_ahead.result = record { is = rw c.state.ensures at c.is_message_ahead.ensures } in
+    let executions : FindsExecutions k value.state (state_in c.in_ok-brought.brought) (message_value c.in_ok-message.message) c.is_any_overspent.result =
+    record { entries = c.in_ok-message.message.entries.items; are = refl; brings = c.in_ok-brought.ensures; is = rw c.state-2.ensures at (c.is_any_overspent.ensures ∙ ap (list_any _) c.deref.ensures.value) } in
+    rw (← c.self.view_is) (delivery_accepted checked own c.if-is_message_ahead.false (rw c.version.ensures at c.if-message-version.false) executions
+    c.if-is_any_overspent.false (rw c.state-3.ensures at c.names_together.ensures) c.if-names_together-gt-MAX_NAMES.false)
 
 pub returns-clause-delivery : goal.returns-clause-delivery
 returns-clause-delivery c =
     let node = c.self.inside in
     let k = kept_of node.config node.trace.items in
-    let checked : Checked k node.clock node.version (state_in node.state) c.args.bytes.now (message_value c.in_ok-message.message) =
-    record { step = c.self.invariant; room = rw (← c.self.view_is) at c.in_ok-check_trace.ensures.ok; read = c.in_ok-message.ensures.ok; spelled = c.in_ok-message.ensures.spelled; mine = c.if-message-self.false } in
-    let own : FindsOwn k (state_in node.state) (message_value c.in_ok-message.message) c.is_message_ahead.result = record { is = c.is_message_ahead.ensures } in
-    let executions : FindsExecutions k (state_in node.state) (state_in c.in_ok-brought.brought) (message_value c.in_ok-message.message) c.is_any_overspent.result =
-    record { entries = c.in_ok-message.message.entries.items; are = refl; brings = c.in_ok-brought.ensures; is = c.is_any_overspent.ensures ∙ ap (list_any _) c.deref.ensures.value } in
-    let ordered = matrix_ordered c.in_ok-brought.brought node.state c.below.ensures.admitted_self c.below.ensures.admitted_other in
-    rw (← c.self.view_is) (delivery_is checked own c.if-is_message_ahead.false c.if-message-self-2.false executions
-    c.if-is_any_overspent.false c.names_together.ensures c.if-names_together-gt-MAX_NAMES.false
-    c.below.result (λ b. ordered.0 (c.below.ensures.value.0 b), λ b. c.below.ensures.value.1 (ordered.1 b))
-    c.latest_clock.result (c.latest_clock.ensures ∙ ap (λ (es : List NameEntry). clock_of (flat_map operations_of (map entry_value es))) c.deref-2.ensures.value))
+    let value = value_in node.replica in
+    let checked : Checked k node.clock value.version value.state c.args.bytes.now (message_value c.in_ok-message.message) =
+    record { step = c.self.invariant.0; room = rw (← c.self.view_is) at c.in_ok-check_trace.ensures.ok; read = c.in_ok-message.ensures.ok; spelled = c.in_ok-message.ensures.spelled; mine = c.if-message-self.false } in
+    let own : FindsOwn k value.state (message_value c.in_ok-message.message) c.is_message_ahead.result = record { is = rw c.state.ensures at c.is_message_ahead.ensures } in
+    let executions : FindsExecutions k value.state (state_in c.in_ok-brought.brought) (message_value c.in_ok-message.message) c.is_any_overspent.result =
+    record { entries = c.in_ok-message.message.entries.items; are = refl; brings = c.in_ok-brought.ensures; is = rw c.state-2.ensures at (c.is_any_overspent.ensures ∙ ap (list_any _) c.deref.ensures.value) } in
+    rw (← c.self.view_is) (record {
+      is_read = c.in_ok-message.ensures.ok;
+      spelled = c.in_ok-message.ensures.spelled;
+      reached = reached checked own c.if-is_message_ahead.false (rw c.version.ensures at c.if-message-version.false) executions;
+      delivery = delivery_is checked own c.if-is_message_ahead.false (rw c.version.ensures at c.if-message-version.false) executions
+          c.if-is_any_overspent.false (rw c.state-3.ensures at c.names_together.ensures) c.if-names_together-gt-MAX_NAMES.false
+          c.latest_clock.result (c.latest_clock.ensures ∙ ap (λ (es : List NameEntry). clock_of (flat_map operations_of (map entry_value es))) c.deref-2.ensures.value);
+    })

@@ -1,6 +1,6 @@
-use Rattle.node_core.proofs.InStep.{entries_in_step, issue_in_step}
+use Rattle.node_core.proofs.VersionsInStep.{entries_with, set_with, key_above}
 use Rattle.node_core.specs.Traces.{kept_of}
-use Rattle.node_core.specs.Replicas.{state_in}
+use Rattle.node_core.specs.Replicas.{value_in}
 use Rattle.stamp_register.specs.Keys.{body_value}
 use Rattle.node_core.proofs.node.NodeCore.issue.Goals as goal
 
@@ -12,6 +12,11 @@ invariant_of-self-2 c =
     let setting = rw (← c.self.view_is) at c.requires.setting in
     let clocks = rw (← c.self.view_is) at c.requires.clock in
     let few = rw (← c.self.view_is) at c.requires.few in
-    entries_in_step node.config _ _ _ node.trace.items _ c.push_reserved.new.self.items _ c.push_reserved.ensures.items c.in_ok-reserve.ensures.items
-    (issue_in_step k node.clock node.version (state_in node.state) _ _ c.self.invariant room
+    entries_with node.config _ _ node.trace.items _ c.push_reserved.new.self.items _ c.push_reserved.ensures.items c.in_ok-reserve.ensures.items
+    (set_with k node.clock (value_in node.replica) _ _ c.self.invariant room
     c.args.point (body_value c.args.body) c.requires.words setting c.in_ok-set_key.ensures.ok clocks c.requires.named c.requires.body few)
+
+pub set_key-requires-clause-above : goal.set_key-requires-clause-above
+set_key-requires-clause-above c =
+    let node = c.self.inside in
+    key_above (kept_of node.config node.trace.items) node.clock (value_in node.replica) c.self.invariant c.args.point (body_value c.args.body)

@@ -1,8 +1,9 @@
 use Rattle.std.proofs.Common.{refl}
-use Rattle.node_core.proofs.InStep.{entries_in_step, deliver_in_step}
+use Rattle.delta_exchange.specs.Messages.{message_value}
+use Rattle.node_core.proofs.VersionsInStep.{entries_with, deliver_with}
 use Rattle.node_core.specs.Asks.{message_read}
 use Rattle.node_core.specs.Traces.{kept_of}
-use Rattle.node_core.specs.Replicas.{state_in}
+use Rattle.node_core.specs.Replicas.{value_in}
 use Rattle.node_core.proofs.node.NodeCore.learn.Goals as goal
 
 pub invariant_of-self-2 : goal.invariant_of-self-2
@@ -10,8 +11,8 @@ invariant_of-self-2 c =
     let node = c.self.inside in
     let k = kept_of node.config node.trace.items in
     let room = rw (← c.self.view_is) at c.requires.room in
-    let delivery = rw (← c.self.view_is) at c.requires.delivery in
-    entries_in_step node.config _ _ _ node.trace.items _ c.push_reserved.new.self.items _ c.push_reserved.ensures.items c.in_ok-reserve.ensures.items
-    (deliver_in_step k node.clock node.version (state_in node.state) _ _ c.self.invariant room
-    (message_read node.config.nodes c.args.message.items) (state_in c.args.delivery.brought) c.args.delivery.clock c.args.delivery.changed _ c.from.result refl c.new.ensures.items delivery c.in_ok-merge.ensures.ok
-    c.max-self-inside.ensures c.from.ensures)
+    let told = rw (← c.self.view_is) at c.requires.delivery in
+    entries_with node.config _ _ node.trace.items _ c.push_reserved.new.self.items _ c.push_reserved.ensures.items c.in_ok-reserve.ensures.items
+    (deliver_with k node.clock (value_in node.replica) _ _ c.self.invariant room
+    (message_read node.config.nodes c.args.message.items) (message_value c.args.delivery.message) c.args.delivery.clock _ c.in_ok-changed.changed
+    told.is_read refl c.new.ensures.items told.delivery told.reached c.in_ok-changed.ensures.changed c.in_ok-changed.ensures.ok c.max-self-inside.ensures)

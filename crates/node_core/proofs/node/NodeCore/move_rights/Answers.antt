@@ -1,8 +1,21 @@
-use Rattle.node_core.proofs.InStep.{entries_in_step, shift_in_step}
+use Rattle.std.proofs.Common.{subst}
+use Rattle.std.specs.Option.{IsSome}
+use Rattle.replica_state.specs.States.{State, budget_of}
+use Rattle.node_core.proofs.Rights.{counted_by_rights}
+use Rattle.node_core.proofs.VersionsInStep.{entries_with, shift_with}
 use Rattle.node_core.specs.Asks.{Shift}
-use Rattle.node_core.specs.Traces.{kept_of}
-use Rattle.node_core.specs.Replicas.{state_in}
+use Rattle.node_core.specs.Traces.{kept_of, state_known}
+use Rattle.node_core.specs.Replicas.{value_in}
 use Rattle.node_core.proofs.node.NodeCore.move_rights.Goals as goal
+
+pub count_shift-requires-clause-counted : goal.count_shift-requires-clause-counted
+count_shift-requires-clause-counted c =
+    let node = c.self.inside in
+    let k = kept_of node.config node.trace.items in
+    let enough = rw (← c.self.view_is) at c.requires.enough in
+    let there = rw (← c.self.view_is) at c.requires.there in
+    subst (λ (v : State). IsSome (budget_of v c.args.point c.args.term)) c.self.invariant.1.state_is
+    (counted_by_rights (state_known k) c.args.point c.args.term node.config.node c.args.amount there.1 enough.1)
 
 pub invariant_of-self-2 : goal.invariant_of-self-2
 invariant_of-self-2 c =
@@ -13,7 +26,7 @@ invariant_of-self-2 c =
     let enough = rw (← c.self.view_is) at c.requires.enough in
     let there = rw (← c.self.view_is) at c.requires.there in
     let total = rw (← c.self.view_is) at c.requires.total in
-    entries_in_step node.config _ _ _ node.trace.items _ c.push_reserved.new.self.items _ c.push_reserved.ensures.items c.in_ok-reserve.ensures.items
-    (shift_in_step k node.clock node.version (state_in node.state) _ _ c.self.invariant room
+    entries_with node.config _ _ node.trace.items _ c.push_reserved.new.self.items _ c.push_reserved.ensures.items c.in_ok-reserve.ensures.items
+    (shift_with k node.clock (value_in node.replica) _ _ c.self.invariant room
     c.args.point c.args.term c.args.to c.args.amount c.args.total (λ i. Shift (c.into_text.ensures i) c.args.term c.args.to c.args.amount) c.new.ensures.items
     set enough there c.ranges.term.fits total c.in_ok-count_shift.ensures.ok)

@@ -1,18 +1,30 @@
-use Rattle.std.proofs.Common.{refl, string_bytes}
-use Rattle.node_core.proofs.InStep.{entries_in_step, load_in_step}
-use Rattle.node_core.specs.Traces.{kept_of}
-use Rattle.node_core.specs.Replicas.{state_in}
+use Rattle.std.proofs.Common.{refl, sym, subst, string_bytes, ◌∙◌, ap, map, List}
+use Rattle.std.specs.List.{AllByRecursion}
+use Rattle.replica_state.specs.Operations.{Operation, IsWellFormed, operation}
+use Rattle.node_core.proofs.LoadSteps.{issued_formed}
+use Rattle.node_core.proofs.VersionsInStep.{entries_with, load_with}
+use Rattle.node_core.specs.Asks.{Load}
+use Rattle.node_core.specs.Outcomes.{state_loaded}
+use Rattle.node_core.specs.Steps.{operations_issued, settings}
+use Rattle.node_core.specs.Traces.{kept_of, last_clock}
+use Rattle.node_core.specs.Replicas.{value_in}
 use Rattle.node_core.proofs.node.NodeCore.take_in.Goals as goal
+
+pub issue-requires-clause-formed : goal.issue-requires-clause-formed
+issue-requires-clause-formed c =
+    subst (λ (ops : List Operation). AllByRecursion IsWellFormed ops) (sym c.requires.ops)
+    (issued_formed c.args.self.now.config.node (last_clock c.args.self.now) (settings (Load (string_bytes c.args.text))))
 
 pub invariant_of-self-2 : goal.invariant_of-self-2
 invariant_of-self-2 c =
     let node = c.self.inside in
     let k = kept_of node.config node.trace.items in
     let room = rw (← c.self.view_is) at c.requires.room in
-    let keys = rw (← c.self.view_is) at c.requires.state in
+    let ops = rw (← c.self.view_is) at c.requires.ops in
     let clocks = rw (← c.self.view_is) at c.requires.clock in
     let few = rw (← c.self.view_is) at c.requires.few in
-    entries_in_step node.config _ _ _ node.trace.items _ c.push_reserved.new.self.items _ c.push_reserved.ensures.items c.in_ok-reserve.ensures.items
-    (load_in_step k node.clock node.version (state_in node.state) _ _ c.self.invariant room
-    (string_bytes c.args.text) (state_in c.args.loaded) c.args.entries c.from.result c.from-2.result c.from.ensures refl c.new.ensures.items c.requires.entries keys c.in_ok-merge.ensures.ok
-    clocks c.requires.tellable few c.from-2.ensures)
+    entries_with node.config _ _ node.trace.items _ c.push_reserved.new.self.items _ c.push_reserved.ensures.items c.in_ok-reserve.ensures.items
+    (load_with k node.clock (value_in node.replica) _ _ c.self.invariant room
+    (string_bytes c.args.text) (map operation c.args.ops.now) (state_loaded k (string_bytes c.args.text)) c.args.entries c.from.result c.from.ensures refl c.new.ensures.items c.requires.entries refl
+    (ops ∙ ap (λ at. operations_issued node.config.node at (settings (Load (string_bytes c.args.text)))) c.self.invariant.0.0.clock_is)
+    c.in_ok-issue.ensures.ok clocks c.requires.tellable few)

@@ -1,31 +1,15 @@
-use Rattle.std.specs.Prelude.{OnOk}
-use Rattle.std.proofs.Common.{◌≡◌, ◌+◌, ◌<◌, ◌^◌, subst, sym, ◌∙◌, rules}
-use Rattle.std.specs.Option.{IsSome}
-use Rattle.replica_state.specs.declared.point.Counted.TheVariants.{Hits, Execs}
-use Rattle.replica_state.specs.Points.{held_after_pass}
-use Rattle.replica_state.specs.Slots.{matrix_state, slot_held}
+use Rattle.std.proofs.Common.{sym, subst}
+use Rattle.replica_state.specs.Reached.{IsReached}
+use Rattle.replica_state.specs.Slots.{shown_slots}
+use Rattle.replica_state.specs.MatrixStates.{matrix_state}
 use Rattle.replica_state.proofs.Learned.{on_ok}
-use Rattle.replica_state.proofs.Shown.{pass_seen}
-use Rattle.replica_state.proofs.StoredSlots.{passed_is_something, writes}
+use Rattle.replica_state.proofs.Reaching.{after_call, passed}
 use Rattle.replica_state.proofs.matrix.MatrixReplica.count_pass.Goals as goal
 
-pub change_slot-requires : goal.change_slot-requires
-change_slot-requires c = λ slot is. (
-  subst (λ o. IsSome o) (sym is.key) c.requires.set,
-  (
-    subst (λ n. n + 1 < 2 ^ 64) (sym (is.number (Hits c.args.node))) c.requires.hits,
-    λ term. subst (λ n. n + 1 < 2 ^ 64) (sym (is.number (Execs term c.args.node))) (c.requires.execs term),
-  ),
-)
-
-pub returns-in-Some-clause-ok : goal.returns-in-Some-clause-ok
-returns-in-Some-clause-ok c =
-    let changed = c.in-Some.ensures.some in
-    let called = changed.is_called in
-    let met = called.met in
-    let shows = called.shows in
-    let leaves = called.leaves in
-    let wrote : OnOk c.in-Some.passed (slot_held changed.after ≡ held_after_pass c.args.node c.args.spent (slot_held changed.before)) = search rules in
-    on_ok c.in-Some.passed (λ e. writes _ (matrix_state c.args.self.now) (matrix_state c.change_slot.new.self) c.args.name.now c.in-Some.passed changed (λ h. held_after_pass c.args.node c.args.spent h) e
-    (passed_is_something c.args.node c.args.spent _ c.requires.set)
-    ∙ pass_seen c.args.name.now c.args.node c.args.spent (matrix_state c.args.self.now) changed.is_stored.named) wrote
+pub invariant_of-self : goal.invariant_of-self
+unfolding matrix_state
+invariant_of-self c = record {
+  reached = after_call c.count_pass.result (shown_slots c.args.self.now.slots) (shown_slots c.count_pass.new.slots) c.args.self.now.reached
+      (on_ok c.count_pass.result (λ h. subst IsReached (sym h) (passed c.args.name.now c.args.node c.args.spent (shown_slots c.args.self.now.slots) c.requires.set c.requires.counted c.args.self.now.reached)) c.count_pass.ensures.ok)
+      c.count_pass.ensures.err;
+}

@@ -1,20 +1,15 @@
-use Rattle.std.specs.Prelude.{OnOk}
-use Rattle.std.proofs.Common.{◌≡◌, ◌∙◌, rules}
-use Rattle.replica_state.specs.Points.{held_after_shift}
-use Rattle.replica_state.specs.Slots.{matrix_state, slot_held}
+use Rattle.std.proofs.Common.{sym, subst}
+use Rattle.replica_state.specs.Reached.{IsReached}
+use Rattle.replica_state.specs.Slots.{shown_slots}
+use Rattle.replica_state.specs.MatrixStates.{matrix_state}
 use Rattle.replica_state.proofs.Learned.{on_ok}
-use Rattle.replica_state.proofs.Shown.{shift_seen}
-use Rattle.replica_state.proofs.StoredSlots.{moved_is_something, writes}
+use Rattle.replica_state.proofs.Reaching.{after_call, shifted}
 use Rattle.replica_state.proofs.matrix.MatrixReplica.count_shift.Goals as goal
 
-pub returns-in-Some-clause-ok : goal.returns-in-Some-clause-ok
-returns-in-Some-clause-ok c =
-    let changed = c.in-Some.ensures.some in
-    let called = changed.is_called in
-    let met = called.met in
-    let shows = called.shows in
-    let leaves = called.leaves in
-    let wrote : OnOk c.in-Some.shifted (slot_held changed.after ≡ held_after_shift c.args.term c.args.from c.args.to c.args.total (slot_held changed.before)) = search rules in
-    on_ok c.in-Some.shifted (λ e. writes _ (matrix_state c.args.self.now) (matrix_state c.change_slot.new.self) c.args.name.now c.in-Some.shifted changed (λ h. held_after_shift c.args.term c.args.from c.args.to c.args.total h) e
-    (moved_is_something c.args.term c.args.from c.args.to c.args.total _ c.requires.set)
-    ∙ shift_seen c.args.name.now c.args.term c.args.from c.args.to c.args.total (matrix_state c.args.self.now) c.requires.more changed.is_stored.named) wrote
+pub invariant_of-self : goal.invariant_of-self
+unfolding matrix_state
+invariant_of-self c = record {
+  reached = after_call c.count_shift.result (shown_slots c.args.self.now.slots) (shown_slots c.count_shift.new.slots) c.args.self.now.reached
+      (on_ok c.count_shift.result (λ h. subst IsReached (sym h) (shifted c.args.name.now c.args.term c.args.from c.args.to c.args.total (shown_slots c.args.self.now.slots) c.requires.more c.requires.counted c.requires.another c.args.self.now.reached)) c.count_shift.ensures.ok)
+      c.count_shift.ensures.err;
+}

@@ -1,6 +1,6 @@
 use Rattle.std.proofs.Common.{◌≡◌, ℕ, List, refl, subst, sym}
 use Rattle.replica_state.specs.States.{State}
-use Rattle.replica_state.specs.Slots.{matrix_state}
+use Rattle.replica_state.specs.MatrixStates.{matrix_state}
 use Rattle.replica_state.proofs.matrix.MatrixReplica.exec.Goals as goal
 
 execs_of : (v : State) (name : List ℕ) (term node given result : ℕ) → result ≡ v.execs name given node → term ≡ given → result ≡ v.execs name term node

@@ -1,6 +1,6 @@
 use Rattle.std.proofs.Common.{◌≡◌, ℕ, List, refl, subst, sym}
 use Rattle.replica_state.specs.States.{State}
-use Rattle.replica_state.specs.Slots.{matrix_state}
+use Rattle.replica_state.specs.MatrixStates.{matrix_state}
 use Rattle.replica_state.proofs.matrix.MatrixReplica.hits.Goals as goal
 
 hits_of : (v : State) (name : List ℕ) (node given result : ℕ) → result ≡ v.hits name given → node ≡ given → result ≡ v.hits name node

@@ -1,4 +1,4 @@
-use Rattle.replica_state.specs.Slots.{matrix_state}
+use Rattle.replica_state.specs.MatrixStates.{matrix_state}
 use Rattle.replica_state.proofs.StoredSlots.{rights_are}
 use Rattle.replica_state.proofs.Marks.{marks_same}
 use Rattle.replica_state.proofs.matrix.MatrixReplica.key_and_rights.Goals as goal

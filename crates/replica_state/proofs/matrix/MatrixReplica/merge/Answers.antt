@@ -4,7 +4,7 @@ use Rattle.replica_state.specs.declared.matrix.Matrix.{Matrix}
 use Rattle.replica_state.specs.Operations.{Operation}
 use Rattle.replica_state.specs.Folds.{fold}
 use Rattle.replica_state.specs.States.{State}
-use Rattle.replica_state.specs.Slots.{matrix_state}
+use Rattle.replica_state.specs.MatrixStates.{matrix_state}
 use Rattle.replica_state.proofs.matrix.MatrixReplica.merge.Goals as goal
 
 abbrev Unites : State → State → State → Type 0

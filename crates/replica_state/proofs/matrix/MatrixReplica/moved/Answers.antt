@@ -1,6 +1,6 @@
 use Rattle.std.proofs.Common.{◌≡◌, ℕ, List, refl, subst, sym}
 use Rattle.replica_state.specs.States.{State}
-use Rattle.replica_state.specs.Slots.{matrix_state}
+use Rattle.replica_state.specs.MatrixStates.{matrix_state}
 use Rattle.replica_state.proofs.matrix.MatrixReplica.moved.Goals as goal
 
 shifts_of : (v : State) (name : List ℕ) (term from given to other result : ℕ) → result ≡ v.shifts name term given other → from ≡ given → to ≡ other → result ≡ v.shifts name term from to

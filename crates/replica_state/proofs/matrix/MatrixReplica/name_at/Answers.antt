@@ -1,6 +1,7 @@
 use Rattle.std.proofs.Common.{ap, sym, ◌∙◌}
 use Rattle.std.specs.Option.{option_map}
-use Rattle.replica_state.specs.Slots.{matrix_state, shown_slots}
+use Rattle.replica_state.specs.Slots.{shown_slots}
+use Rattle.replica_state.specs.MatrixStates.{matrix_state}
 use Rattle.replica_state.proofs.Slots.{key_place}
 use Rattle.replica_state.proofs.matrix.MatrixReplica.name_at.Goals as goal
 

@@ -1,7 +1,7 @@
 use Rattle.std.proofs.Common.{◌∙◌}
 use Rattle.std.proofs.lemmas.Int.{to_z-of_z}
 use mir.Syntax.{w128}
-use Rattle.replica_state.specs.Slots.{matrix_state}
+use Rattle.replica_state.specs.MatrixStates.{matrix_state}
 use Rattle.replica_state.proofs.StoredSlots.{rights_are}
 use Rattle.replica_state.proofs.matrix.MatrixReplica.rights.Goals as goal
 

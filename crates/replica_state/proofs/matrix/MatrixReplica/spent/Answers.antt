@@ -1,5 +1,5 @@
 use Rattle.std.proofs.Common.{◌∙◌}
-use Rattle.replica_state.specs.Slots.{matrix_state}
+use Rattle.replica_state.specs.MatrixStates.{matrix_state}
 use Rattle.replica_state.proofs.StoredSlots.{spent_is}
 use Rattle.replica_state.proofs.matrix.MatrixReplica.spent.Goals as goal
 

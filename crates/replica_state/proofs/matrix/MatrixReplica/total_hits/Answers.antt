@@ -1,5 +1,5 @@
 use Rattle.std.proofs.Common.{sym, ◌∙◌}
-use Rattle.replica_state.specs.Slots.{matrix_state}
+use Rattle.replica_state.specs.MatrixStates.{matrix_state}
 use Rattle.replica_state.proofs.StoredSlots.{hits_are, no_hits}
 use Rattle.replica_state.proofs.matrix.MatrixReplica.total_hits.Goals as goal
 

@@ -1,10 +1,16 @@
-use Rattle.replica_state.specs.OpSets.{state_of}
-use Rattle.replica_state.proofs.SetJoins.{copied_state}
+use Rattle.std.proofs.Common.{sym, subst}
+use Rattle.replica_state.specs.Reached.{IsReached}
+use Rattle.replica_state.specs.SetOrder.{state_of}
 use Rattle.replica_state.proofs.StateOrders.{same_copies}
 use Rattle.replica_state.proofs.op_set.OpSetJoin.copied.Goals as goal
 
+pub invariant_of-result : goal.invariant_of-result
+invariant_of-result c = record { reached = subst IsReached (sym c.in_ok-points.ensures) c.args.self.now.reached }
+
 pub returns-clause-copy : goal.returns-clause-copy
-returns-clause-copy c = same_copies c.args.self.now c.take_in.new.self (copied_state c.args.self.now c.take_in.new.self (state_of c.empty-copy.result) (rw c.self.view_is at c.len.ensures.ordered) c.in_ok-take_in.ensures c.empty-copy.ensures)
+unfolding state_of
+returns-clause-copy c = same_copies c.args.self.now _ c.in_ok-points.ensures
 
 pub returns-clause-state : goal.returns-clause-state
-returns-clause-state c = copied_state c.args.self.now c.take_in.new.self (state_of c.empty-copy.result) (rw c.self.view_is at c.len.ensures.ordered) c.in_ok-take_in.ensures c.empty-copy.ensures
+unfolding state_of
+returns-clause-state c = c.in_ok-points.ensures

@@ -1,20 +1,15 @@
-use Rattle.std.proofs.Common.{◌+◌, ◌<◌, ◌^◌, Option, subst, ◌∙◌, sym}
-use Rattle.replica_state.specs.declared.point.Point.{Point}
-use Rattle.replica_state.specs.Points.{held_after_pass}
-use Rattle.replica_state.specs.OpSets.{state_of, shown, number_at}
-use Rattle.replica_state.specs.declared.point.Counted.TheVariants.{Execs}
-use Rattle.replica_state.proofs.Learned.{on_ok, on_err}
-use Rattle.replica_state.proofs.Shown.{lent_step, kept_step, names_kept, pass_seen}
+use Rattle.std.proofs.Common.{sym, subst}
+use Rattle.replica_state.specs.Reached.{IsReached}
+use Rattle.replica_state.specs.OpSets.{shown}
+use Rattle.replica_state.specs.SetOrder.{state_of}
+use Rattle.replica_state.proofs.Learned.{on_ok}
+use Rattle.replica_state.proofs.Reaching.{after_call, passed}
 use Rattle.replica_state.proofs.op_set.OpSetReplica.count_pass.Goals as goal
 
-pub pass-requires-clause-execs : goal.pass-requires-clause-execs
-unfolding state_of shown
-pass-requires-clause-execs c = λ term. subst (λ (o : Option Point). number_at o (Execs term c.args.node) + 1 < 2 ^ 64) (sym c.in-Some.ensures.value) (rw c.self.view_is (c.requires.execs term))
-
-pub returns-in-Some-clause-ok : goal.returns-in-Some-clause-ok
-unfolding state_of shown
-returns-in-Some-clause-ok c = rw (← c.self.view_is) (on_ok c.pass.result (λ h. lent_step c.self.inside.points c.get_mut.follows.lender c.args.name.now c.in-Some.point.now _ c.get_mut.follows.holds c.get_mut.ensures.ordered (sym c.in-Some.ensures.value) (held_after_pass c.args.node c.args.spent) h ∙ pass_seen c.args.name.now c.args.node c.args.spent (shown c.self.inside.points.entries) (names_kept c.self.inside.points.entries c.args.name.now c.in-Some.point.now c.get_mut.ensures.ordered (sym c.in-Some.ensures.value))) c.pass.ensures.ok)
-
-pub returns-in-Some-clause-err : goal.returns-in-Some-clause-err
+pub invariant_of-self : goal.invariant_of-self
 unfolding state_of
-returns-in-Some-clause-err c = rw (← c.self.view_is) (on_err c.pass.result (kept_step c.self.inside.points c.get_mut.follows.lender c.args.name.now c.in-Some.point.now _ c.get_mut.follows.holds c.get_mut.ensures.ordered (sym c.in-Some.ensures.value)) c.pass.ensures.err)
+invariant_of-self c = record {
+  reached = after_call c.count_pass.result (shown c.args.self.now.points) (shown c.count_pass.new.self) c.args.self.now.reached
+      (on_ok c.count_pass.result (λ h. subst IsReached (sym h) (passed c.args.name.now c.args.node c.args.spent (shown c.args.self.now.points) c.requires.set c.requires.counted c.args.self.now.reached)) c.count_pass.ensures.ok)
+      c.count_pass.ensures.err;
+}

@@ -1,14 +1,15 @@
-use Rattle.std.proofs.Common.{◌∙◌, sym}
-use Rattle.replica_state.specs.Points.{held_after_shift}
-use Rattle.replica_state.specs.OpSets.{state_of, shown}
-use Rattle.replica_state.proofs.Learned.{on_ok, on_err}
-use Rattle.replica_state.proofs.Shown.{lent_step, kept_step, names_kept, shift_seen}
+use Rattle.std.proofs.Common.{sym, subst}
+use Rattle.replica_state.specs.Reached.{IsReached}
+use Rattle.replica_state.specs.OpSets.{shown}
+use Rattle.replica_state.specs.SetOrder.{state_of}
+use Rattle.replica_state.proofs.Learned.{on_ok}
+use Rattle.replica_state.proofs.Reaching.{after_call, shifted}
 use Rattle.replica_state.proofs.op_set.OpSetReplica.count_shift.Goals as goal
 
-pub returns-in-Some-clause-ok : goal.returns-in-Some-clause-ok
-unfolding state_of shown
-returns-in-Some-clause-ok c = rw (← c.self.view_is) (on_ok c.shift.result (λ h. lent_step c.self.inside.points c.get_mut.follows.lender c.args.name.now c.in-Some.point.now _ c.get_mut.follows.holds c.get_mut.ensures.ordered (sym c.in-Some.ensures.value) (held_after_shift c.args.term c.args.from c.args.to c.args.total) h ∙ shift_seen c.args.name.now c.args.term c.args.from c.args.to c.args.total (shown c.self.inside.points.entries) (rw c.self.view_is c.requires.more) (names_kept c.self.inside.points.entries c.args.name.now c.in-Some.point.now c.get_mut.ensures.ordered (sym c.in-Some.ensures.value))) c.shift.ensures.ok)
-
-pub returns-in-Some-clause-err : goal.returns-in-Some-clause-err
+pub invariant_of-self : goal.invariant_of-self
 unfolding state_of
-returns-in-Some-clause-err c = rw (← c.self.view_is) (on_err c.shift.result (kept_step c.self.inside.points c.get_mut.follows.lender c.args.name.now c.in-Some.point.now _ c.get_mut.follows.holds c.get_mut.ensures.ordered (sym c.in-Some.ensures.value)) c.shift.ensures.err)
+invariant_of-self c = record {
+  reached = after_call c.count_shift.result (shown c.args.self.now.points) (shown c.count_shift.new.self) c.args.self.now.reached
+      (on_ok c.count_shift.result (λ h. subst IsReached (sym h) (shifted c.args.name.now c.args.term c.args.from c.args.to c.args.total (shown c.args.self.now.points) c.requires.more c.requires.counted c.requires.another c.args.self.now.reached)) c.count_shift.ensures.ok)
+      c.count_shift.ensures.err;
+}

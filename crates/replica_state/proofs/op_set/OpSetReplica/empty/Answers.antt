@@ -1,8 +1,14 @@
-use Rattle.std.proofs.Common.{ap, ◌∙◌}
-use Rattle.replica_state.specs.OpSets.{state_of, shown}
+use Rattle.std.proofs.Common.{ap, sym, subst, ◌∙◌, ℕ, List}
+use Rattle.replica_state.specs.declared.point.Point.{Point}
+use Rattle.replica_state.specs.OpSets.{shown}
+use Rattle.replica_state.specs.Reached.{IsReached}
+use Rattle.replica_state.specs.SetOrder.{state_of, nothing_reached}
 use Rattle.replica_state.proofs.Shown.{shown_none}
 use Rattle.replica_state.proofs.op_set.OpSetReplica.empty.Goals as goal
 
+pub invariant_of-result : goal.invariant_of-result
+invariant_of-result c = record { reached = subst (λ (points : List (List ℕ × Point)). IsReached (shown points)) (sym c.new.ensures) nothing_reached }
+
 pub returns : goal.returns
 unfolding state_of
-returns c = ap shown c.new.ensures.empty ∙ shown_none
+returns c = ap shown c.new.ensures ∙ shown_none

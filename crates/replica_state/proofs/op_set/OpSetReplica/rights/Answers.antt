@@ -4,10 +4,10 @@ use mir.Syntax.{w128}
 use Rattle.std.specs.Prelude.{pos}
 use Rattle.std.specs.Option.{option_map_or}
 use Rattle.counters.specs.Budgets.{Budget, rights}
-use Rattle.replica_state.specs.OpSets.{state_of}
+use Rattle.replica_state.specs.SetOrder.{state_of}
 use Rattle.replica_state.proofs.Shown.{budget_held}
 use Rattle.replica_state.proofs.op_set.OpSetReplica.rights.Goals as goal
 
 pub returns-in-Some : goal.returns-in-Some
 unfolding state_of
-returns-in-Some c = rw (← c.self.view_is) (to_z-of_z w128 c.rights.result (record { sfits = c.rights.type_inv }) ∙ c.rights.ensures ∙ ap (λ (b : Option Budget). option_map_or (λ b. rights b c.args.node) b (pos 0)) (budget_held c.self.inside.points.entries c.args.name.now c.args.term c.in-Some.point.now c.in-Some.ensures.value))
+returns-in-Some c = (to_z-of_z w128 c.rights.result (record { sfits = c.rights.type_inv }) ∙ c.rights.ensures ∙ ap (λ (b : Option Budget). option_map_or (λ b. rights b c.args.node) b (pos 0)) (budget_held c.args.self.now.points c.args.name.now c.args.term c.in-Some.point.now c.in-Some.ensures.value))

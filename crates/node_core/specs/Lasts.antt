@@ -1,0 +1,20 @@
+-- The last call of a trace.
+use Rattle.std.specs.Prelude.{◌-◌, List, length, slice_get, Option, Some, None}
+use Rattle.node_core.specs.Asks.{Answered, Call, Passed, IsPassed}
+use Rattle.node_core.specs.Traces.{Kept}
+
+abbrev pub last_call : List Call → Option Call
+last_call trace = slice_get trace (length trace - 1)
+
+-- what a call was answered, if it was a pass
+abbrev pub passed_in : Answered → Option Passed
+passed_in (IsPassed passed) = Some passed
+passed_in _ = None
+
+abbrev pub passed_at : Option Call → Option Passed
+passed_at None = None
+passed_at (Some call) = passed_in call.reply
+
+-- the same of the last call
+abbrev pub last_passed : Kept → Option Passed
+last_passed k = passed_at (last_call k.trace)
