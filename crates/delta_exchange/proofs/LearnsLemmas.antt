@@ -5,7 +5,7 @@ use Rattle.std.specs.List.{AllByRecursion}
 use Rattle.std.proofs.lemmas.List.{append-nil, length-map}
 use Rattle.replica_state.specs.Operations.{Operation, IsIn, IsWellFormed}
 use Rattle.replica_state.specs.States.{State}
-use Rattle.replica_state.specs.Folds.{fold}
+use Rattle.replica_state.specs.Folds.{fold, IsUnion}
 use Rattle.replica_state.specs.Knowledge.{knows, changes}
 use Rattle.replica_state.proofs.Sets.{IsIn-append_left, IsIn-append_right, IsIn-append_cases}
 use Rattle.replica_state.proofs.KnownSets.{same_members}
@@ -13,7 +13,7 @@ use Rattle.replica_state.proofs.Changes.{no_change}
 use Rattle.delta_exchange.specs.declared.news.Told.{Told}
 use Rattle.delta_exchange.specs.Changes.{ChangesAt}
 use Rattle.delta_exchange.specs.Marks.{MarksValue, AreUpto, last_changes}
-use Rattle.delta_exchange.specs.News.{brings_key, unknown_in, news_in, news_of, operation_of, with_news}
+use Rattle.delta_exchange.specs.News.{brings_key, unknown_in, news_in, news_of, operation_of, with_news, BringsNews}
 use Rattle.delta_exchange.specs.Told.{HasLearned}
 use Rattle.delta_exchange.specs.Versions.{VersionedValue, Issues}
 use Rattle.delta_exchange.proofs.NewsChanges.{any_in_part, all_in_part, news_suffice, news_change}
@@ -26,6 +26,9 @@ operations_new : (v : State) (ops : List Operation) → map (λ (n : Operation �
 operations_new v [] = refl
 operations_new v (op ∷ ops) = ap (λ os. op ∷ os) (operations_new v ops)
 
+turned : (xs ys : List Operation) (op : Operation) → IsIn op (xs ++ ys) → IsIn op (ys ++ xs)
+turned xs ys op h = ⊎_elim (λ k. IsIn-append_right op ys xs k) (λ k. IsIn-append_left op ys xs k) (IsIn-append_cases op xs ys h)
+
 module _ (v : State) (told : List Operation) (ts : List Told) (e : map news_of ts ≡ news_in v told) where
   pub are_unknown : map operation_of ts ≡ unknown_in v told
   are_unknown = sym (operations_told ts) ∙ ap (map (λ (n : Operation × Bool). n.0)) e ∙ operations_new v (unknown_in v told)
@@ -33,15 +36,21 @@ module _ (v : State) (told : List Operation) (ts : List Told) (e : map news_of t
   pub change_if_any : changes v told ≡ nat_lt 0 (length ts)
   change_if_any = any_in_part (λ op. not (knows v op)) told ∙ ap (λ n. nat_lt 0 n) (sym (length-map (unknown_in v told) (λ op. (op, brings_key v op))) ∙ ap length (sym e) ∙ length-map ts news_of)
 
-  -- the state that a merge with the news comes to
-  pub learned_state : (w more : State) → more ≡ fold (map operation_of ts ++ []) → ((a b : List Operation) → v ≡ fold a → more ≡ fold b → w ≡ fold (a ++ b)) → (a : List Operation) → v ≡ fold a → w ≡ fold (unknown_in v told ++ a)
-  learned_state w more learned union a f =
-      union a (map operation_of ts ++ []) f learned ∙
-      ap (λ os. fold (a ++ os)) (append-nil (map operation_of ts) ∙ are_unknown) ∙
-      same_members (a ++ unknown_in v told) (unknown_in v told ++ a) (turned a (unknown_in v told)) (turned (unknown_in v told) a)
-    where
-      turned : (xs ys : List Operation) (op : Operation) → IsIn op (xs ++ ys) → IsIn op (ys ++ xs)
-      turned xs ys op h = ⊎_elim (λ k. IsIn-append_right op ys xs k) (λ k. IsIn-append_left op ys xs k) (IsIn-append_cases op xs ys h)
+  -- who knows just the news brings them
+  pub news_brought : (brought : State) → brought ≡ fold (map operation_of ts ++ []) → BringsNews v brought (map operation_of ts)
+  news_brought brought knows a both f union =
+      let news = map operation_of ts in
+      union a (news ++ []) f knows ∙ ap (λ os. fold (a ++ os)) (append-nil news) ∙ same_members (a ++ news) (news ++ a) (turned a news) (turned news a)
+
+  -- so does who knows all that was told
+  pub told_brought : (brought : State) → brought ≡ fold told → BringsNews v brought (map operation_of ts)
+  told_brought brought knows a both f union =
+      union a told f knows ∙ same_members (a ++ told) (told ++ a) (turned a told) (turned told a) ∙ sym (news_suffice a told)
+      ∙ ap (λ (x : State). fold (unknown_in x told ++ a)) (sym f) ∙ ap (λ os. fold (os ++ a)) (sym are_unknown)
+
+  -- the state that a merge with them comes to
+  pub learned_state : (w brought : State) → BringsNews v brought (map operation_of ts) → IsUnion v brought w → (a : List Operation) → v ≡ fold a → w ≡ fold (unknown_in v told ++ a)
+  learned_state w brought brings union a f = brings a w f union ∙ ap (λ os. fold (os ++ a)) are_unknown
 
   pub learned_all : (w : State) → ((a : List Operation) → v ≡ fold a → w ≡ fold (unknown_in v told ++ a)) → HasLearned v w told
   learned_all w state a f = state a f ∙ ap (λ (x : State). fold (unknown_in x told ++ a)) f ∙ news_suffice a told

@@ -34,5 +34,6 @@ pub mod NewsChanges
 pub mod LearnsLemmas
 pub mod OneMessage
 pub mod Filters
+pub mod KeysLearned
 pub mod Differences
 pub mod DifferenceExamples

@@ -17,7 +17,7 @@ use Rattle.delta_exchange.proofs.LawfulLemmas.{one_of, mapped_in, hit_told, exec
 -- ---- lists in the order of their places
 
 module _ {A : Type 0} (place : A → List ℕ) where
-  first_below : (x : A) (xs : List A) → Ascend (map place (x ∷ xs)) → (y : A) → IsIn y xs → slice_cmp nat_cmp (place x) (place y) ≡ Less
+  pub first_below : (x : A) (xs : List A) → Ascend (map place (x ∷ xs)) → (y : A) → IsIn y xs → slice_cmp nat_cmp (place x) (place y) ≡ Less
   unfolding IsStrictlySortedBy
   first_below x xs h y m = one_of (λ p. slice_cmp nat_cmp (place x) p ≡ Less) (map place xs) h.0 (place y) (mapped_in place xs y m)
 
@@ -54,7 +54,7 @@ module _ {A : Type 0} (place : A → List ℕ) where
 
 -- ---- which entry tells an operation
 
-abbrev Kinds : EntryValue → Operation → Type 0
+abbrev pub Kinds : EntryValue → Operation → Type 0
 Kinds e op = (op ≡ Set e.name e.key) ⊎ (((c : ℕ × ℕ) × IsIn c e.hits × (op ≡ hit_told e c))
     ⊎ (((c : ℕ × ℕ × ℕ) × IsIn c e.execs × (op ≡ exec_told e c))
     ⊎ ((c : ℕ × ℕ × ℕ × ℕ) × IsIn c e.shifts × (op ≡ shift_told e c))))

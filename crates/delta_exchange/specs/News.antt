@@ -1,5 +1,5 @@
 -- What a state doesn't know yet of what it is told.
-use Rattle.std.specs.Prelude.{◌≡◌, ℕ, Bool, not, false, List, [], ◌∷◌, map, if◌then◌else◌, Option, Some, None, IsTrue, filter}
+use Rattle.std.specs.Prelude.{◌≡◌, ℕ, Bool, not, false, List, [], ◌∷◌, ◌++◌, map, if◌then◌else◌, Option, Some, None, IsTrue, filter}
 use Rattle.std.specs.Ordering.{is_gt}
 use Rattle.std.specs.declared.cmp.Ordering.{Ordering}
 use Rattle.stamp_register.specs.Keys.{key_value}
@@ -7,7 +7,7 @@ use Rattle.replica_state.specs.declared.point.Counted.{Counted}
 use Rattle.replica_state.specs.declared.point.Count.{Count}
 use Rattle.replica_state.specs.Operations.{Operation}
 use Rattle.replica_state.specs.States.{State}
-use Rattle.replica_state.specs.Folds.{name_in}
+use Rattle.replica_state.specs.Folds.{fold, name_in, IsUnion}
 use Rattle.replica_state.specs.Knowledge.{is_upto, knows}
 use Rattle.replica_state.specs.Points.{is_hits, key_standing}
 use Rattle.replica_state.specs.OpSets.{key_told, count_told, operation_told}
@@ -25,6 +25,12 @@ unknown_in v ops = filter (λ op. not (knows v op)) ops
 
 abbrev pub news_in : State → List Operation → List (Operation × Bool)
 news_in v ops = map (λ op. (op, brings_key v op)) (unknown_in v ops)
+
+-- where a state is that of some set, together with what another brings it is that of the set with the
+-- news
+abbrev pub BringsNews : State → State → List Operation → Type 0
+BringsNews v brought news =
+    (ops : List Operation) (both : State) → v ≡ fold ops → IsUnion v brought both → both ≡ fold (news ++ ops)
 
 -- ---- the same as the code has it
 

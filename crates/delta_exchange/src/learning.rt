@@ -1,33 +1,30 @@
 //! What a message tells, learned by a replica.
 
-ghost use Rattle.std.specs.Prelude.{◌≡◌, ℕ, IfOk, OnOk};
-ghost use Rattle.std.specs.List.{AllByRecursion};
+ghost use Rattle.std.specs.Prelude.{◌≡◌, ℕ, Some, None, IfOk, OnOk};
 ghost use Rattle.stamp_register.specs.Keys.{key_value};
 ghost use Rattle.replica_state.specs.Folds.{fold};
 ghost use Rattle.delta_exchange.specs.Messages.{entry_value, message_value, operations_of, operations_in, hits_in, execs_in, shifts_in};
-ghost use Rattle.delta_exchange.specs.Spelling.{IsHit, IsExec, IsShift, IsEntry, IsMessage};
-ghost use Rattle.delta_exchange.specs.Told.{HasLearned};
+ghost use Rattle.delta_exchange.specs.Spelling.{IsEntry, IsMessage};
+ghost use Rattle.delta_exchange.specs.Told.{HasKeyOf, HasLearned};
 
 use crate::message::{Message, NameEntry};
-use actions::Name;
 use replica_state::{Counted, Replica};
-use stamp_register::Key;
 use std::alloc::{AllocError, Global};
 
+// What is counted of an entry's name is learned under the key that the replica has of it by then.
 fn learn_hits<R: Replica>(
     replica: &mut R,
     alloc: Global,
-    name: &Name,
-    key: &Key,
-    hits: &[(u8, u64)],
+    entry: &NameEntry,
 ) -> Result<(), AllocError>
-    requires { (nodes : ℕ) × AllByRecursion (IsHit nodes) hits.now }
+    requires entry { (nodes : ℕ) × IsEntry nodes (entry_value entry.now) }
+    requires keyed { HasKeyOf (R.state replica.old) entry.now.name (Some (key_value entry.now.key)) }
     ensures { OnOk result (HasLearned (R.state replica.old) (R.state replica.new)
-        (hits_in name.now hits.now)) }
+        (hits_in entry.now.name entry.now.hits.items)) }
 {
-    for (node, number) in hits {
+    for (node, number) in &entry.hits {
         let hits = Counted::Hits { node: *node };
-        replica.learn(alloc, name, key, Some(hits.times(*number)))?;
+        replica.learn_count(alloc, &entry.name, hits.times(*number))?;
     }
     Ok(())
 }
@@ -35,20 +32,19 @@ fn learn_hits<R: Replica>(
 fn learn_execs<R: Replica>(
     replica: &mut R,
     alloc: Global,
-    name: &Name,
-    key: &Key,
-    execs: &[(u8, u8, u64)],
+    entry: &NameEntry,
 ) -> Result<(), AllocError>
-    requires { (nodes : ℕ) × AllByRecursion (IsExec nodes (key_value key.now)) execs.now }
+    requires entry { (nodes : ℕ) × IsEntry nodes (entry_value entry.now) }
+    requires keyed { HasKeyOf (R.state replica.old) entry.now.name (Some (key_value entry.now.key)) }
     ensures { OnOk result (HasLearned (R.state replica.old) (R.state replica.new)
-        (execs_in name.now (key_value key.now) execs.now)) }
+        (execs_in entry.now.name (key_value entry.now.key) entry.now.execs.items)) }
 {
-    for (term, node, number) in execs {
+    for (term, node, number) in &entry.execs {
         let execs = Counted::Execs {
             term: *term,
             node: *node,
         };
-        replica.learn(alloc, name, key, Some(execs.times(*number)))?;
+        replica.learn_count(alloc, &entry.name, execs.times(*number))?;
     }
     Ok(())
 }
@@ -56,38 +52,39 @@ fn learn_execs<R: Replica>(
 fn learn_shifts<R: Replica>(
     replica: &mut R,
     alloc: Global,
-    name: &Name,
-    key: &Key,
-    shifts: &[(u8, u8, u8, u64)],
+    entry: &NameEntry,
 ) -> Result<(), AllocError>
-    requires { (nodes : ℕ) × AllByRecursion (IsShift nodes (key_value key.now)) shifts.now }
+    requires entry { (nodes : ℕ) × IsEntry nodes (entry_value entry.now) }
+    requires keyed { HasKeyOf (R.state replica.old) entry.now.name (Some (key_value entry.now.key)) }
     ensures { OnOk result (HasLearned (R.state replica.old) (R.state replica.new)
-        (shifts_in name.now (key_value key.now) shifts.now)) }
+        (shifts_in entry.now.name (key_value entry.now.key) entry.now.shifts.items)) }
 {
-    for (term, from, to, total) in shifts {
+    for (term, from, to, total) in &entry.shifts {
         let shifts = Counted::Shifts {
             term: *term,
             from: *from,
             to: *to,
         };
-        replica.learn(alloc, name, key, Some(shifts.times(*total)))?;
+        replica.learn_count(alloc, &entry.name, shifts.times(*total))?;
     }
     Ok(())
 }
 
+// Learns an entry of a name that has no key yet.
 fn learn_entry<R: Replica>(
     replica: &mut R,
     alloc: Global,
     entry: &NameEntry,
 ) -> Result<(), AllocError>
-    requires { (nodes : ℕ) × IsEntry nodes (entry_value entry.now) }
+    requires entry { (nodes : ℕ) × IsEntry nodes (entry_value entry.now) }
+    requires new { HasKeyOf (R.state replica.old) entry.now.name None }
     ensures { OnOk result (HasLearned (R.state replica.old) (R.state replica.new)
         (operations_of (entry_value entry.now))) }
 {
     replica.learn(alloc, &entry.name, &entry.key, None)?;
-    learn_hits(replica, alloc, &entry.name, &entry.key, &entry.hits)?;
-    learn_execs(replica, alloc, &entry.name, &entry.key, &entry.execs)?;
-    learn_shifts(replica, alloc, &entry.name, &entry.key, &entry.shifts)
+    learn_hits(replica, alloc, entry)?;
+    learn_execs(replica, alloc, entry)?;
+    learn_shifts(replica, alloc, entry)
 }
 
 /// A replica that knows just what a message tells. The message's nodes are those of some cluster,

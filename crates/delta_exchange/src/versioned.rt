@@ -6,12 +6,14 @@ ghost use Rattle.stamp_register.specs.Keys.{key_value};
 ghost use Rattle.replica_state.specs.States.{budget_of, with_key, with_pass, with_shifts};
 ghost use Rattle.std.specs.List.{AllByRecursion};
 ghost use Rattle.replica_state.specs.Operations.{Operation, IsWellFormed, operation};
+ghost use Rattle.replica_state.specs.Folds.{fold};
 ghost use Rattle.replica_state.specs.Knowledge.{is_upto, changes};
 ghost use Rattle.replica_state.specs.declared.point.Counted.TheVariants.{Execs};
 ghost use Rattle.delta_exchange.specs.Messages.{message_value, operations_in};
 ghost use Rattle.delta_exchange.specs.Spelling.{IsMessage};
 ghost use Rattle.delta_exchange.specs.Marks.{marks_value, AreUpto};
 
+use crate::learning::replica_of;
 use crate::marks::Marks;
 use crate::message::Message;
 use crate::news::{Told, learned, make_room, mark_all, news_of_message, news_of_ops};
@@ -42,7 +44,7 @@ fn executed(spent: Option<u8>, node: u8) -> Option<Counted>
 }
 
 impl<R: Replica> Versioned<R> {
-    ghost use Rattle.delta_exchange.specs.News.{news_in, news_of, operation_of};
+    ghost use Rattle.delta_exchange.specs.News.{news_in, news_of, operation_of, BringsNews};
     ghost use Rattle.delta_exchange.specs.Versions.{value_of, nothing_known, MayPass, ChangesTo, Issues, Receives};
 
     /// The replica that knows nothing, at version 0.
@@ -205,7 +207,8 @@ impl<R: Replica> Versioned<R> {
             body: Body::Removed,
         };
         let news = news_of_ops(alloc, &self.replica, ops, &no_key)?;
-        self.learn(alloc, &news)
+        let learned = learned(alloc, &news)?;
+        self.learn(alloc, &news, learned)
     }
 
     /// Learns what a message tells, all at once: its operations, the version of its sender, if this
@@ -221,19 +224,40 @@ impl<R: Replica> Versioned<R> {
             (message_value message.now) (value_of R.state self.new)) }
         ensures err { OnErr result (value_of R.state self.new ≡ value_of R.state self.old) }
     {
+        let brought = replica_of(alloc, message)?;
+        self.receive_brought(alloc, message, brought)
+    }
+
+    /// Does what `receive` does, where the replica that knows just what the message tells is at hand.
+    pub fn receive_brought(
+        &mut self,
+        alloc: Global,
+        message: &Message,
+        brought: R,
+    ) -> Result<bool, AllocError>
+        requires brought { R.state brought ≡ fold (operations_in (message_value message.now)) }
+        requires version { (value_of R.state self.old).version + 1 < 2 ^ 64 }
+        ensures changed { IfOk result (λ changed. changed ≡ changes
+            (value_of R.state self.old).state (operations_in (message_value message.now))) }
+        ensures ok { OnOk result (Receives (value_of R.state self.old)
+            (message_value message.now) (value_of R.state self.new)) }
+        ensures err { OnErr result (value_of R.state self.new ≡ value_of R.state self.old) }
+    {
         let news = news_of_message(alloc, &self.replica, message)?;
         self.known.make_room(message.from)?;
         self.acked.make_room(message.from)?;
-        let changed = self.learn(alloc, &news)?;
+        let changed = self.learn(alloc, &news, brought)?;
         self.known
             .raise_known(message.from, message.base, message.upto);
         self.acked.raise_acked(message.from, message.ack);
         Ok(changed)
     }
 
-    // Learns the news, all at once, as one change. The answer says whether there are any.
-    fn learn(&mut self, alloc: Global, news: &[Told]) -> Result<bool, AllocError>
-        requires formed { AllByRecursion (λ told. IsWellFormed (operation_of told)) news.now }
+    // Learns the news that another replica brings, all at once, as one change. The answer says
+    // whether there are any.
+    fn learn(&mut self, alloc: Global, news: &[Told], brought: R) -> Result<bool, AllocError>
+        requires brings { BringsNews (value_of R.state self.old).state (R.state brought)
+            (map operation_of news.now) }
         requires version { (value_of R.state self.old).version + 1 < 2 ^ 64 }
         ensures changed { IfOk result (λ changed. (told : List Operation)
             → map news_of news.now ≡ news_in (value_of R.state self.old).state told
@@ -248,9 +272,8 @@ impl<R: Replica> Versioned<R> {
         if news.is_empty() {
             return Ok(false);
         }
-        let learned = learned(alloc, news)?;
         make_room(alloc, &mut self.marks, news)?;
-        self.replica.merge(alloc, learned)?;
+        self.replica.merge(alloc, brought)?;
         self.version += 1;
         mark_all(&mut self.marks, news, self.version);
         Ok(true)

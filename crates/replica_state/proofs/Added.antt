@@ -2,6 +2,7 @@
 use Rattle.std.proofs.Common.{◌≡◌, ℕ, max, Bool, true, false, cond, ◌&&◌, eqb, List, [], ◌∷◌, Option, Some, None, refl, sym, ◌∙◌, ap, arith}
 use Rattle.std.proofs.lemmas.Bool.{true≢false}
 use Rattle.std.proofs.lemmas.Bool.Decides.{nat_tests}
+use Rattle.std.specs.Prelude.{unwrap_or}
 use Rattle.std.specs.Str.{bytes_eq}
 use Rattle.std.specs.Ordering.{nat_cmp, is_le, is_eq, match_ordering}
 use Rattle.std.specs.Cmp.Lexicographic.{slice_cmp}
@@ -14,10 +15,11 @@ use Rattle.replica_state.specs.declared.point.Counted.{Counted}
 use Rattle.replica_state.specs.Operations.{Hits, Execs, Shifts, Operation, Set, Count as Counting, same_cell, IsWellFormed}
 use Rattle.replica_state.specs.Folds.{fold, names_of, greater, key_in, key_of, number_at, at_key, name_in, holds_name}
 use Rattle.replica_state.specs.States.{State, with_name}
-use Rattle.replica_state.specs.Points.{key_standing, held_after_learning}
+use Rattle.replica_state.specs.Points.{Held, key_standing, held_after_learning, held_after_count}
 use Rattle.replica_state.specs.OpSets.{held_at, with_held, key_told, count_told, cell_told, operation_told}
 use Rattle.replica_state.proofs.Orders.{key_le-trans, key_le-other, same_key-cmp, same_key-true, same_key-refl, bytes_eq-true}
 use Rattle.replica_state.proofs.FoldSteps.{max_zero}
+use Rattle.replica_state.proofs.Learned.{held_none, held_equal}
 
 -- a key above the greater of two is above both
 above_both : (key : KeyValue) (a b : Option KeyValue) → key_standing key (greater a b) ≡ Greater → (key_standing key a ≡ Greater) × (key_standing key b ≡ Greater)
@@ -236,3 +238,35 @@ added_told v name key told carried k h ops e = added_parts v (operation_told nam
     counted : (t : Option Count) → t ≡ count_told (operation_told name key t)
     counted None = refl
     counted (Some t) = (of_cell t.counted t.number).1
+
+-- ---- a count under the key that is held
+
+its_standing : (key : KeyValue) → key_standing key (Some key) ≡ Equal
+its_standing key = tied (slice_cmp nat_cmp (key_rank key) (key_rank key)) (sym (same_key-cmp key key) ∙ same_key-refl key)
+  where
+    tied : (o : Ordering) → is_eq o ≡ true → o ≡ Equal
+    tied Less e = absurd (true≢false (sym e))
+    tied Equal e = refl
+    tied Greater e = absurd (true≢false (sym e))
+
+pub added_count : (v : State) (name : List ℕ) (key : KeyValue) (count : Count) → v.key name ≡ Some key → IsWellFormed (operation_told name key (Some count)) → (ops : List Operation) → v ≡ fold ops → with_held name (held_after_count count (held_at v name)) v ≡ fold (operation_told name key (Some count) ∷ ops)
+unfolding held_after_count
+added_count v name key count here formed ops e = by_kind count.counted count.number formed
+  where
+    of_kind : (c : Count) (carried : Option KeyValue) → ((n : List ℕ) → carried ≡ key_told (operation_told n key (Some c))) → IsWellFormed (operation_told name key (Some c)) → held_after_count c (held_at v name) ≡ held_after_learning carried (Some c) (held_at v name) → with_held name (held_after_count c (held_at v name)) v ≡ fold (operation_told name key (Some c) ∷ ops)
+    of_kind c carried told h same = ap (λ (g : Held). with_held name g v) same ∙ added_told v name key (Some c) carried told h ops e
+
+    under : (c : Count) → held_after_count c (held_at v name) ≡ held_after_learning (Some key) (Some c) (held_at v name)
+    under c = held_equal (held_at v name) (held_after_count c (held_at v name)) (Some key) (Some c) key refl (ap (key_standing key) here ∙ its_standing key) refl (λ d. refl)
+
+    beside : (c : Count) → held_after_count c (held_at v name) ≡ held_after_learning None (Some c) (held_at v name)
+    beside c = held_none (held_at v name) (held_after_count c (held_at v name)) None (Some c) refl refl (λ d. refl)
+
+    by_kind : (counted : Counted) (n : ℕ) → IsWellFormed (operation_told name key (Some (record { counted = counted; number = n }))) → with_held name (held_after_count (record { counted = counted; number = n }) (held_at v name)) v ≡ fold (operation_told name key (Some (record { counted = counted; number = n })) ∷ ops)
+    by_kind (kinds.Hits node) n h = of_kind (record { counted = kinds.Hits node; number = n }) None (λ q. refl) h (beside _)
+    by_kind (kinds.Execs term node) n h = of_kind (record { counted = kinds.Execs term node; number = n }) (Some key) (λ q. refl) h (under _)
+    by_kind (kinds.Shifts term from to) n h = of_kind (record { counted = kinds.Shifts term from to; number = n }) (Some key) (λ q. refl) h (under _)
+
+-- the key that a name has is one
+pub one_key : {k : Option KeyValue} (a b : KeyValue) → k ≡ Some a → k ≡ Some b → a ≡ b
+one_key a b e f = ap (λ o. unwrap_or o a) (sym e ∙ f)

@@ -10,11 +10,11 @@ use Rattle.std.specs.declared.cmp.Ordering.TheVariants.{Less, Equal, Greater}
 use Rattle.stamp_register.specs.Keys.{KeyValue, key_value}
 use Rattle.stamp_register.specs.declared.key.Key.{Key}
 use Rattle.replica_state.specs.declared.point.Counted.{Counted}
-use Rattle.replica_state.specs.declared.point.Counted.TheVariants.{Hits, Shifts}
+use Rattle.replica_state.specs.declared.point.Counted.TheVariants.{Hits}
 use Rattle.replica_state.specs.declared.point.Count.{Count}
 use Rattle.replica_state.specs.declared.point.Point.{Point}
 use Rattle.replica_state.specs.Folds.{greater}
-use Rattle.replica_state.specs.Points.{Held, held_of, number_of, key_standing, raised_numbers, only_hits, held_after_learning, held_after_key, spending, held_after_pass, held_after_shift, budget_in, budget_under}
+use Rattle.replica_state.specs.Points.{Held, held_of, number_of, key_standing, raised_numbers, only_hits, held_after_learning, held_after_key, spending, held_after_pass, held_after_count, budget_in, budget_under}
 
 -- a fact for one variant gives another for it
 pub on_ok : {A E P Q : Type 0} (r : Result A E) → (P → Q) → OnOk r P → OnOk r Q
@@ -98,10 +98,10 @@ pub held_taken : (p w : Point) (key : Key) → w.key ≡ Some key → ((d : Coun
 unfolding held_of held_after_key
 held_taken p w key k h = λ i. record { key = option_map key_value (k i); number = λ d. h d i }
 
--- with a total of shifted rights more
-pub held_moved : (h w : Held) (term from to total : ℕ) → w.key ≡ h.key → ((d : Counted) → w.number d ≡ raised_numbers (Some (record { counted = Shifts term from to; number = total })) h.number d) → w ≡ held_after_shift term from to total h
-unfolding held_after_shift
-held_moved h w term from to total k f = λ i. record { key = k i; number = λ d. f d i }
+-- with a count more
+pub held_counted : (h w : Held) (count : Count) → w.key ≡ h.key → ((d : Counted) → w.number d ≡ raised_numbers (Some count) h.number d) → w ≡ held_after_count count h
+unfolding held_after_count
+held_counted h w count k f = λ i. record { key = k i; number = λ d. f d i }
 
 -- a point with the same key and the same counts holds the same
 pub same_held : (p w : Point) → w.key ≡ p.key → w.counts.items ≡ p.counts.items → held_of w ≡ held_of p

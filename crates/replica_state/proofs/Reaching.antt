@@ -17,7 +17,7 @@ use Rattle.replica_state.specs.Operations.{Hits, Execs, Shifts, Operation, Set, 
 use Rattle.replica_state.specs.States.{State, with_name, with_key, with_hits, with_execs, with_shifts, with_pass, budget_of, budget_under, rights_of}
 use Rattle.replica_state.specs.Folds.{fold, key_of, number_at, at_key, names_of, Learns, IsUnion, clock_of}
 use Rattle.replica_state.specs.Knowledge.{is_upto}
-use Rattle.replica_state.specs.Points.{Held, key_standing, same_counted, held_after_learning, held_after_key, held_after_shift}
+use Rattle.replica_state.specs.Points.{Held, key_standing, same_counted, held_after_learning, held_after_key, held_after_count, held_after_shift}
 use Rattle.replica_state.specs.OpSets.{held_at, with_held}
 use Rattle.replica_state.specs.Reached.{ComeTo, ComeToWith, ComeToBoth, IsReached}
 use Rattle.replica_state.proofs.Added.{added_parts}
@@ -158,7 +158,7 @@ passed name node (Some term) v set counted h =
 
 -- a total of 0 where nothing was moved changes nothing
 unmoved : (h : Held) (term from to : ℕ) → held_after_shift term from to 0 h ≡ h
-unfolding held_after_shift
+unfolding held_after_count
 unmoved h term from to = λ i. record { key = h.key; number = λ c. same (same_counted (kinds.Shifts term from to) c) (h.number c) i }
   where
     same : (t : Bool) (n : ℕ) → cond t (max 0 n) n ≡ n

@@ -23,7 +23,7 @@ use Rattle.replica_state.specs.declared.point.Point.{Point}
 use Rattle.replica_state.specs.States.{State, with_name, with_key, with_hits, with_execs, with_shifts, with_pass, budget_of}
 use Rattle.replica_state.specs.States as states
 use Rattle.replica_state.specs.Folds.{fold}
-use Rattle.replica_state.specs.Points.{Held, held_of, empty_held, number_of, held_after_key, held_after_pass, held_after_shift, budget_under}
+use Rattle.replica_state.specs.Points.{Held, held_of, empty_held, number_of, held_after_key, held_after_pass, held_after_count, held_after_shift, budget_under}
 use Rattle.replica_state.specs.OpSets.{shown, point_at, key_at, number_at, held_at, with_held}
 use Rattle.replica_state.proofs.Orders.{bytes_eq-true}
 
@@ -197,7 +197,7 @@ module _ (name : List ℕ) (term from to total : ℕ) (v : State) (low : v.shift
   same_shift t m n false b c e f g h = cc
 
   pub shift_seen : with_name name v.names ≡ v.names → with_held name (held_after_shift term from to total (held_at v name)) v ≡ with_shifts name term from to total v
-  unfolding with_held held_after_shift with_shifts
+  unfolding with_held held_after_count with_shifts
   shift_seen kept = λ i. record {
     names = kept i;
     key = λ q. same_at name v.key q (bytes_eq name q) refl i;

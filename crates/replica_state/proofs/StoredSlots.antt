@@ -12,11 +12,12 @@ use Rattle.counters.specs.Budgets.{Budget, rights, total_spent}
 use Rattle.counters.proofs.SumLemmas.{sum-zero}
 use Rattle.stamp_register.specs.declared.key.Key.{Key}
 use Rattle.stamp_register.specs.Keys.{KeyValue}
+use Rattle.replica_state.specs.declared.point.Count.{Count}
 use Rattle.replica_state.specs.declared.point.Counted.{Counted}
 use Rattle.replica_state.specs.declared.point.Counted.TheVariants.{Hits, Execs, Shifts}
 use Rattle.replica_state.specs.States as states
 use Rattle.replica_state.specs.States.{State, with_name, total_hits, budget_of, rights_of, spent_of}
-use Rattle.replica_state.specs.Points.{Held, empty_held, held_after_key, held_after_pass, held_after_shift, budget_under}
+use Rattle.replica_state.specs.Points.{Held, empty_held, held_after_key, held_after_pass, held_after_count, budget_under}
 use Rattle.replica_state.specs.OpSets.{cell_of, held_at, with_held}
 use Rattle.replica_state.specs.Slots.{Budgets, Slot, IsSlotOf, HasNoSlot, ChangesSlot, no_slot, under_key, slot_key, slot_number, slot_held, slot_rights, shown_slots}
 use Rattle.replica_state.specs.MatrixOrder.{slots_order, are_slots, slots_map}
@@ -156,9 +157,9 @@ pub passed_is_something : (node : ℕ) (spent : Option ℕ) (h : Held) → IsSom
 unfolding held_after_pass
 passed_is_something node spent h set = keyed_is_something (held_after_pass node spent h) set
 
-pub moved_is_something : (term from to total : ℕ) (h : Held) → IsSome h.key → held_after_shift term from to total h ≢ empty_held
-unfolding held_after_shift
-moved_is_something term from to total h set = keyed_is_something (held_after_shift term from to total h) set
+pub counted_is_something : (count : Count) (h : Held) → IsSome h.key → held_after_count count h ≢ empty_held
+unfolding held_after_count
+counted_is_something count h set = keyed_is_something (held_after_count count h) set
 
 -- ---- what a test of a look-up says
 

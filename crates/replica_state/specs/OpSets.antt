@@ -1,5 +1,5 @@
 -- What the plain replica shows.
-use Rattle.std.specs.Prelude.{ℕ, List, if◌then◌else◌, Option, Some, None, option_map}
+use Rattle.std.specs.Prelude.{◌≡◌, ℕ, List, if◌then◌else◌, Option, Some, None, option_map}
 use Rattle.std.specs.Str.{bytes_eq}
 use Rattle.std.specs.Map.{lookup, keys_of}
 use Rattle.std.specs.BTreeMap.{is_at}
@@ -11,8 +11,9 @@ use Rattle.replica_state.specs.declared.point.Counted.TheVariants.{Hits, Execs, 
 use Rattle.replica_state.specs.declared.point.Point.{Point}
 use Rattle.replica_state.specs.declared.point.Count.{Count as Counting}
 use Rattle.replica_state.specs.Operations as cells
-use Rattle.replica_state.specs.Operations.{Operation, Set, Count}
+use Rattle.replica_state.specs.Operations.{Operation, Set, Count, IsWellFormed}
 use Rattle.replica_state.specs.States.{State, with_name}
+use Rattle.replica_state.specs.Folds.{Learns}
 use Rattle.replica_state.specs.Points.{Held, number_of}
 
 -- what is held of one name, if anything is
@@ -87,3 +88,13 @@ cell_told name key (Shifts term from to) = cells.Shifts name key term from to
 abbrev pub operation_told : List ℕ → KeyValue → Option Counting → Operation
 operation_told name key None = Set name key
 operation_told name key (Some told) = Count (cell_told name key told.counted) told.number
+
+-- a count can be learned of a name under the key that it has
+abbrev pub MayLearnCount : State → List ℕ → Counting → Type 0
+MayLearnCount v name count =
+    (key : KeyValue) × (v.key name ≡ Some key) × IsWellFormed (operation_told name key (Some count))
+
+-- with it the state is that of its set with the count under that key
+abbrev pub LearnsCount : State → State → List ℕ → Counting → Type 0
+LearnsCount v w name count =
+    (key : KeyValue) → v.key name ≡ Some key → Learns v w (operation_told name key (Some count))

@@ -129,7 +129,10 @@ held_after_pass node spent h =
           (raised_numbers (Some (record { counted = Hits node; number = h.number (Hits node) + 1 })) h.number);
     }
 
+-- with so much counted, under the same key
+unfoldable pub held_after_count : Count → Held → Held
+held_after_count count h = record { key = h.key; number = raised_numbers (Some count) h.number }
+
 -- with so many rights to a term moved in all from one node to another
-unfoldable pub held_after_shift : ℕ → ℕ → ℕ → ℕ → Held → Held
-held_after_shift term from to total h =
-    record { key = h.key; number = raised_numbers (Some (record { counted = Shifts term from to; number = total })) h.number }
+abbrev pub held_after_shift : ℕ → ℕ → ℕ → ℕ → Held → Held
+held_after_shift term from to total = held_after_count (record { counted = Shifts term from to; number = total })

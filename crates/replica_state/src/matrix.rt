@@ -128,6 +128,10 @@ impl Replica for Matrix {
         slot_map::learn(&mut self.slots, alloc, name, key_with(key, count), count)
     }
 
+    fn learn_count(&mut self, alloc: Global, name: &Name, count: Count) -> Result<(), AllocError> {
+        slot_map::count(&mut self.slots, alloc, name, count)
+    }
+
     fn set_key(&mut self, alloc: Global, name: Name, key: Key) -> Result<(), AllocError> {
         slot_map::set_key(&mut self.slots, alloc, name, key)
     }

@@ -8,7 +8,7 @@ ghost use Rattle.replica_state.specs.States.{State, with_name, with_key, with_pa
 ghost use Rattle.replica_state.specs.Folds.{fold, Learns, IsUnion};
 ghost use Rattle.replica_state.specs.Reached.{IsReached};
 ghost use Rattle.replica_state.specs.Knowledge.{is_upto};
-ghost use Rattle.replica_state.specs.OpSets.{operation_told};
+ghost use Rattle.replica_state.specs.OpSets.{operation_told, MayLearnCount, LearnsCount};
 ghost use Rattle.replica_state.specs.StateOrder.{OrdersByState};
 ghost use Rattle.replica_state.specs.Unions.{with_names};
 ghost use Rattle.replica_state.specs.Points.{given_key};
@@ -53,6 +53,20 @@ pub trait Replica: Join {
         ensures ok { OnOk result (Learns (state self.old) (state self.new)
             (operation_told name.now (key_value key.now) count)) }
         ensures err { OnErr result (state self.new ≡ state self.old) };
+
+    /// Learns what is counted of a point that has a key, which isn't compared with any: a hit, or else
+    /// what is counted under that key. On want of memory the state is as it was.
+    fn learn_count(&mut self, alloc: Global, name: &Name, count: Count) -> Result<(), AllocError>
+        requires { MayLearnCount (state self.old) name.now count }
+        ensures ok { OnOk result (LearnsCount (state self.old) (state self.new) name.now count) }
+        ensures err { OnErr result (state self.new ≡ state self.old) }
+    {
+        let key = match self.key(name) {
+            Some(key) => key.copied(alloc)?,
+            None => return Ok(()),
+        };
+        self.learn(alloc, name, &key, Some(count))
+    }
 
     /// Gives a point a key above the one that it has, of which nothing was executed or shifted yet.
     fn set_key(&mut self, alloc: Global, name: Name, key: Key) -> Result<(), AllocError>

@@ -5,7 +5,7 @@ ghost use Rattle.counters.specs.Sums.{node_numbers, sum_below};
 ghost use Rattle.counters.specs.Budgets.{total_spent};
 ghost use Rattle.counters.specs.Cells.{spent_cell, WritesSpent};
 ghost use Rattle.stamp_register.specs.Keys.{key_value};
-ghost use Rattle.replica_state.specs.Points.{is_hits, term_of, raised_numbers, empty_held, key_standing, held_after_learning, held_after_key, held_after_pass, held_after_shift, given_key, Raises, spent_of_key};
+ghost use Rattle.replica_state.specs.Points.{is_hits, term_of, raised_numbers, empty_held, key_standing, held_after_learning, held_after_key, held_after_pass, held_after_count, given_key, Raises, spent_of_key};
 ghost use Rattle.replica_state.specs.Slots.{IsShareRaised, slot_held, slot_key, slot_number, slot_rights, share_number, budgets_number};
 ghost use Rattle.replica_state.specs.States.{MarksRights};
 ghost use Rattle.replica_state.specs.declared.point.Counted.{Counted};
@@ -348,18 +348,11 @@ pub(crate) fn pass(
     hit(slot, alloc, node)
 }
 
-/// Counts the rights to a term that one node moved to another, so many in all.
-pub(crate) fn shift(
-    slot: &mut Slot,
-    alloc: Global,
-    term: u8,
-    from: u8,
-    to: u8,
-    total: u64,
-) -> Result<(), AllocError>
+/// Counts so much under the key that is held, which isn't looked at.
+pub(crate) fn count(slot: &mut Slot, alloc: Global, count: Count) -> Result<(), AllocError>
     requires set { IsSome (slot_key slot.old) }
-    ensures ok { OnOk result (slot_held slot.new ≡ held_after_shift term from to total (slot_held slot.old)) }
+    ensures ok { OnOk result (slot_held slot.new ≡ held_after_count count (slot_held slot.old)) }
     ensures err { OnErr result (slot_held slot.new ≡ slot_held slot.old) }
 {
-    raise(slot, alloc, Counted::Shifts { term, from, to }.times(total))
+    raise(slot, alloc, count)
 }

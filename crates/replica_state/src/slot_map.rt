@@ -5,9 +5,9 @@ ghost use Rattle.std.specs.Prelude.{◌≡◌, ◌≢◌, ◌+◌, ◌<◌, ◌�
 ghost use Rattle.std.specs.Borrow.{MutBor};
 ghost use Rattle.std.specs.Fn.{FnOnceReturnsAtMut};
 ghost use Rattle.stamp_register.specs.Keys.{key_value};
-ghost use Rattle.replica_state.specs.Points.{is_hits, empty_held, held_after_learning, held_after_key, held_after_pass, held_after_shift, given_key};
+ghost use Rattle.replica_state.specs.Points.{is_hits, empty_held, held_after_learning, held_after_key, held_after_pass, held_after_count, given_key};
 ghost use Rattle.replica_state.specs.OpSets.{with_held, with_change};
-ghost use Rattle.replica_state.specs.States.{with_key, with_pass, with_shifts};
+ghost use Rattle.replica_state.specs.States.{with_name, with_key, with_pass, with_shifts};
 ghost use Rattle.replica_state.specs.Slots.{IsSlotOf, HasNoSlot, ChangesSlot, SaysSomething, slot_held, slot_key, slot_number, shown_slots};
 ghost use Rattle.replica_state.specs.MatrixOrder.{slots_map};
 ghost use Rattle.replica_state.specs.declared.point.Counted.TheVariants.{Hits, Execs};
@@ -155,6 +155,31 @@ pub(crate) fn count_pass(
     }
 }
 
+/// Counts so much of a name that has a key, under that key.
+pub(crate) fn count(
+    slots: &mut Slots,
+    alloc: Global,
+    name: &Name,
+    count: Count,
+) -> Result<(), AllocError>
+    requires { IsSome ((shown_slots slots.old).key name.now) }
+    ensures ok { OnOk result (shown_slots slots.new
+        ≡ with_change name.now (held_after_count count) (shown_slots slots.old)) }
+    ensures named { with_name name.now (shown_slots slots.old).names
+        ≡ (shown_slots slots.old).names }
+    ensures err { OnErr result (shown_slots slots.new ≡ shown_slots slots.old) }
+{
+    let raise = |held: &mut Slot|
+        requires { IsSome (slot_key held.old) }
+        ensures ok { OnOk result (slot_held held.new ≡ held_after_count count (slot_held held.old)) }
+        ensures err { OnErr result (slot_held held.new ≡ slot_held held.old) }
+    { slot::count(held, alloc, count) };
+    match change(slots, name, raise) {
+        Some(raised) => raised,
+        None => Ok(()),
+    }
+}
+
 /// Counts the rights to a term that one node moved to another, of a name that has a key.
 pub(crate) fn count_shift(
     slots: &mut Slots,
@@ -171,14 +196,6 @@ pub(crate) fn count_shift(
         ≡ with_shifts name.now term from to total (shown_slots slots.old)) }
     ensures err { OnErr result (shown_slots slots.new ≡ shown_slots slots.old) }
 {
-    let shift = |held: &mut Slot|
-        requires set { IsSome (slot_key held.old) }
-        ensures ok { OnOk result (slot_held held.new
-            ≡ held_after_shift term from to total (slot_held held.old)) }
-        ensures err { OnErr result (slot_held held.new ≡ slot_held held.old) }
-    { slot::shift(held, alloc, term, from, to, total) };
-    match change(slots, name, shift) {
-        Some(shifted) => shifted,
-        None => Ok(()),
-    }
+    let shifts = Counted::Shifts { term, from, to };
+    count(slots, alloc, name, shifts.times(total))
 }

@@ -1,18 +1,17 @@
-use Rattle.std.proofs.Common.{◌≡◌, map, sym, subst, ap, ◌∙◌}
-use Rattle.std.specs.List.{AllByRecursion}
-use Rattle.replica_state.specs.Operations.{IsWellFormed}
+use Rattle.std.proofs.Common.{◌≡◌, List, map, sym, subst, ap, ◌∙◌}
 use Rattle.delta_exchange.specs.Messages.{message_value, operations_in}
 use Rattle.delta_exchange.specs.declared.news.Told.{Told}
-use Rattle.delta_exchange.specs.News.{operation_of, news_of}
+use Rattle.delta_exchange.specs.News.{operation_of, news_of, BringsNews}
 use Rattle.delta_exchange.specs.Versions.{value_of, version_of, known_raised, acked_raised}
-use Rattle.delta_exchange.proofs.ToldLemmas.{entries_told}
-use Rattle.delta_exchange.proofs.LearnsLemmas.{news_well_formed}
-use Rattle.delta_exchange.proofs.versioned.Versioned.receive.Goals as goal
+use Rattle.delta_exchange.proofs.LearnsLemmas.{told_brought}
+use Rattle.delta_exchange.proofs.versioned.Versioned.receive_brought.Goals as goal
 
-pub learn-requires-clause-formed : goal.learn-requires-clause-formed
-learn-requires-clause-formed g c = subst (λ ts. AllByRecursion (λ (t : Told). IsWellFormed (operation_of t)) ts) (sym c.deref.ensures.value)
-    (news_well_formed (g.R.Replica.state c.args.self.now.replica) (operations_in (message_value c.args.message.now)) c.in_ok-news.news.items c.in_ok-news.ensures
-    (entries_told c.requires.message.0 (message_value c.args.message.now).entries c.requires.message.1.entries.each))
+pub learn-requires-clause-brings : goal.learn-requires-clause-brings
+unfolding value_of
+learn-requires-clause-brings g c =
+    let v = g.R.Replica.state c.args.self.now.replica in
+    subst (λ (ts : List Told). BringsNews v (g.R.Replica.state c.args.brought) (map operation_of ts)) (sym c.deref.ensures.value)
+    (told_brought v (operations_in (message_value c.args.message.now)) c.in_ok-news.news.items c.in_ok-news.ensures (g.R.Replica.state c.args.brought) c.requires.brought)
 
 pub returns-clause-ok : goal.returns-clause-ok
 unfolding value_of
