@@ -17,6 +17,7 @@ use Rattle.delta_exchange.specs.Spelling.{IsMessage, SpellsMessage}
 use Rattle.delta_exchange.specs.Wholes.{AreLawful}
 use Rattle.node_core.specs.declared.config.Config.{Config}
 use Rattle.node_core.specs.declared.delivery.Delivery.{Delivery}
+use Rattle.node_core.specs.Replicas.{state_in}
 use Rattle.node_core.specs.Asks.{Message, Versions, message_of, message_read}
 use Rattle.node_core.specs.Nodes.{Node, state_shown, setting_of, terms_in}
 use Rattle.node_core.specs.Refusals.{any_below, is_above, says_more}
@@ -70,10 +71,11 @@ pub record IsDelivery (config : Config) (n : Node) (read : Result Message WireFa
   pub few_names : length (fold ((message_in read).ops ++ n.ops)).names ≤ max_names
 
 -- what these bytes come to at a node: they are read as a message that acknowledges no version which is
--- still to come
+-- still to come, and the replica that is brought knows just what it tells
 pub record DeliversAs (k : Kept) (bytes : List ℕ) (d : Delivery) : Type 0 where
   pub is_read : message_read k.config.nodes bytes ≡ Ok (message_of (message_value d.message))
   pub spelled : IsMessage k.config.nodes (message_value d.message)
+  pub brought : state_in d.brought ≡ fold (operations_in (message_value d.message))
   pub reached : (message_value d.message).ack ≤ (node_of k).marks.version
   pub delivery :
       IsDelivery k.config (node_of k) (message_read k.config.nodes bytes) d.clock

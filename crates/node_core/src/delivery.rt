@@ -26,11 +26,13 @@ use stamp_register::Key;
 use std::alloc::Global;
 use std::cmp::Ordering;
 
-/// What a node accepts: a message, and the greatest clock of its keys.
+/// What a node accepts: a message, the greatest clock of its keys, and the replica that knows just
+/// what it tells.
 #[derive(Debug, Drop)]
 pub(crate) struct Delivery {
     pub(crate) message: Message,
     pub(crate) clock: u64,
+    pub(crate) brought: State,
 }
 
 /// How a node refuses bytes that are refused so.

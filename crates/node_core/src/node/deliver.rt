@@ -70,6 +70,7 @@ impl NodeCore {
         Ok(Delivery {
             clock: latest_clock(&message.entries),
             message,
+            brought,
         })
     }
 
@@ -78,20 +79,25 @@ impl NodeCore {
         &mut self,
         alloc: Global,
         delivery: Delivery,
-        message: Vec<u8>,
+        bytes: Vec<u8>,
     ) -> Result<bool, AllocError>
         requires room { HasRoom self.old }
-        requires delivery { DeliversAs self.old message.items delivery }
-        ensures after { OnOk result (self.new ≡ after_call self.old (delivery_of self.old message.items) []) }
-        ensures changed { IfOk result (λ changed. reply_to self.old (delivery_of self.old message.items) []
+        requires delivery { DeliversAs self.old bytes.items delivery }
+        ensures after { OnOk result (self.new ≡ after_call self.old (delivery_of self.old bytes.items) []) }
+        ensures changed { IfOk result (λ changed. reply_to self.old (delivery_of self.old bytes.items) []
             ≡ asks.IsDelivered changed) }
         ensures err { OnErr result (self.new ≡ self.old) }
     {
+        let Delivery {
+            message,
+            clock,
+            brought,
+        } = delivery;
         self.trace.reserve(1)?;
-        let changed = self.replica.receive(alloc, &delivery.message)?;
-        self.clock = self.clock.max(delivery.clock);
+        let changed = self.replica.receive_brought(alloc, &message, brought)?;
+        self.clock = self.clock.max(clock);
         let entry = Entry {
-            ask: Ask::Deliver { message },
+            ask: Ask::Deliver { message: bytes },
             words: Vec::new(alloc),
             reply: Reply::Deliver(changed),
         };

@@ -79,6 +79,7 @@ returns-clause-delivery c =
     rw (← c.self.view_is) (record {
       is_read = c.in_ok-message.ensures.ok;
       spelled = c.in_ok-message.ensures.spelled;
+      brought = c.in_ok-brought.ensures;
       reached = reached checked own c.if-is_message_ahead.false (rw c.version.ensures at c.if-message-version.false) executions;
       delivery = delivery_is checked own c.if-is_message_ahead.false (rw c.version.ensures at c.if-message-version.false) executions
           c.if-is_any_overspent.false (rw c.state-3.ensures at c.names_together.ensures) c.if-names_together-gt-MAX_NAMES.false

@@ -14,5 +14,5 @@ invariant_of-self-2 c =
     let told = rw (← c.self.view_is) at c.requires.delivery in
     entries_with node.config _ _ node.trace.items _ c.push_reserved.new.self.items _ c.push_reserved.ensures.items c.in_ok-reserve.ensures.items
     (deliver_with k node.clock (value_in node.replica) _ _ c.self.invariant room
-    (message_read node.config.nodes c.args.message.items) (message_value c.args.delivery.message) c.args.delivery.clock _ c.in_ok-changed.changed
+    (message_read node.config.nodes c.args.bytes.items) (message_value c.args.delivery.message) c.args.delivery.clock _ c.in_ok-changed.changed
     told.is_read refl c.new.ensures.items told.delivery told.reached c.in_ok-changed.ensures.changed c.in_ok-changed.ensures.ok c.max-self-inside.ensures)
