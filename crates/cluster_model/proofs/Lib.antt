@@ -17,6 +17,8 @@ pub mod KnownVersions
 pub mod Views
 pub mod Acks
 pub mod SeesWhole
+pub mod Budgets
+pub mod NotOverspent
 pub mod Examples
 pub mod ExampleMovedRight
 pub mod ExampleOvertakenKey

@@ -31,7 +31,7 @@ abbrev pub cells : List ℕ → KeyValue → ℕ → ℕ → List Operation → 
 cells name key term count ops =
     record { setter = key.node; count = count; shifted = λ from to. number_at (Shifts name key term from to) ops; spent = λ node. number_at (Execs name key term node) ops }
 
-under_cells : (name : List ℕ) (key : KeyValue) (term count : ℕ) (ops : List Operation) → (fold ops).key name ≡ Some key → budget (fold ops) name term key.node count ≡ cells name key term count ops
+pub under_cells : (name : List ℕ) (key : KeyValue) (term count : ℕ) (ops : List Operation) → (fold ops).key name ≡ Some key → budget (fold ops) name term key.node count ≡ cells name key term count ops
 unfolding fold
 under_cells name key term count ops e = λ i.
     record {
