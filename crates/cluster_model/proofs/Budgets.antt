@@ -1,27 +1,17 @@
 -- Where each node's own cells are as of a state in which no more went from it than it was given, no more was spent
 -- than the count.
-use Rattle.std.proofs.Common.{◌≡◌, ◌≢◌, ℕ, ◌+◌, ◌≤◌, ◌==◌, Bool, true, false, cond, ◌⊎◌, inl, inr, refl, sym, ◌∙◌, ap, subst, arith, ⊎_elim, List, Option, Some, None}
-use Rattle.std.proofs.lemmas.Bool.{eqb-true, eqb-false}
-use Rattle.counters.specs.Sums.{node_numbers, sum_below, sum_others}
+use Rattle.std.proofs.Common.{◌≡◌, ℕ, ◌≤◌, ◌==◌, Bool, true, false, cond, refl, sym, ◌∙◌, arith, ⊎_elim, List, Some}
+use Rattle.std.proofs.lemmas.Bool.{eqb-true}
+use Rattle.counters.specs.Sums.{node_numbers, sum_others}
 use Rattle.counters.specs.Budgets.{Budget, given_to, gone_from, total_spent}
-use Rattle.counters.proofs.SumLemmas.{sum-same, sum-le, sum-add, sum-one, sum-swap, sum_others-le, sum_others-zero}
+use Rattle.counters.proofs.Conserved.{from_to}
+use Rattle.counters.proofs.SumLemmas.{sum-le, sum-add, sum-one, sum_others-le, sum_others-zero}
 use Rattle.stamp_register.specs.Keys.{KeyValue}
 use Rattle.replica_state.specs.Operations.{Execs, Shifts}
 use Rattle.replica_state.specs.States.{State, budget}
 use Rattle.node_core.proofs.UptoStates.{cases_key, upto_below}
 use Rattle.cluster_model.specs.Views.{IsAsOf}
 use Rattle.cluster_model.proofs.Views.{number_as_of}
-
-from_to : (n : ℕ) (s : ℕ → ℕ → ℕ) → sum_below n (λ i. sum_others n i (λ j. s i j)) ≡ sum_below n (λ i. sum_others n i (λ j. s j i))
-from_to n s =
-    sum-swap n n (λ i j. cond (j == i) 0 (s i j)) ∙
-    sum-same n _ _ (λ j below. sum-same n _ _ (λ i here. either i j (j == i) (i == j) refl refl))
-  where
-    either : (i j : ℕ) (a b : Bool) → (j == i) ≡ a → (i == j) ≡ b → cond a 0 (s i j) ≡ cond b 0 (s i j)
-    either i j true true e f = refl
-    either i j false false e f = refl
-    either i j true false e f = absurd (eqb-false i j f (sym (eqb-true j i e)))
-    either i j false true e f = absurd (eqb-false j i e (sym (eqb-true i j f)))
 
 -- where from no node went more than it was given, no more was spent than the count
 pub spent_at_most : (b : Budget) → ((i : ℕ) → gone_from b i ≤ given_to b i) → total_spent b ≤ b.count

@@ -1,6 +1,6 @@
 -- A message that tells what differs never brings its receiver to a state that is overspent: of each node that state has
 -- what the node had at one of its versions, and at none of them had more gone from it than it was given.
-use Rattle.std.proofs.Common.{◌≡◌, ℕ, ◌≤◌, List, [], ◌∷◌, ◌++◌, false, refl, sym, ◌∙◌, ap, subst, arith, ⊎_elim, Option, Some, None}
+use Rattle.std.proofs.Common.{◌≡◌, ℕ, ◌≤◌, List, [], ◌∷◌, ◌++◌, false, sym, ◌∙◌, ap, subst, ⊎_elim, Option, Some, None}
 use Rattle.std.specs.List.{list_any}
 use Rattle.counters.specs.Sums.{node_numbers, sum_below}
 use Rattle.counters.specs.Budgets.{Budget, given_to, gone_from}
