@@ -16,13 +16,11 @@ use Rattle.cluster_model.specs.Schedules.{IsSchedule, IsDeltaSchedule}
 use Rattle.cluster_model.specs.Histories.{state_of}
 use Rattle.cluster_model.specs.Views.{SeesWhole}
 use Rattle.cluster_model.proofs.Stamps.{OneStamp, one_stamp, one_before}
-use Rattle.cluster_model.proofs.Versions.{marked}
 use Rattle.cluster_model.proofs.Rights.{under_cells, solvent}
 use Rattle.cluster_model.proofs.Honest.{none_overspent, merged_issued}
 use Rattle.cluster_model.proofs.Closed.{deltas_are_schedules}
-use Rattle.cluster_model.proofs.KnownVersions.{node_has_history, past_or_now, all_synced}
-use Rattle.cluster_model.proofs.Acks.{has_acks}
-use Rattle.cluster_model.proofs.SeesWhole.{merge_sees_whole, sees_whole}
+use Rattle.cluster_model.proofs.KnownVersions.{node_has_history, past_or_now}
+use Rattle.cluster_model.proofs.SeesWhole.{merged_sees_whole}
 use Rattle.cluster_model.proofs.Budgets.{spent_at_most, solvent_as_of}
 
 -- no more of the term went from node i than it was given
@@ -58,10 +56,7 @@ merge_not_overspent c es delta i m sent_then mine = false_any (overspends (fold 
     s : IsSchedule c es
     s = deltas_are_schedules c es delta
 
-    sees : (j : ℕ) → SeesWhole (world c es) (fold merged) j
-    sees = merge_sees_whole (world c es) (all_synced c es delta) (marked c es s) (has_acks c es s) (sees_whole c es delta) i m sent_then mine
-
     at_most : (name : List ℕ) (key : KeyValue) (term count : ℕ) → (fold merged).key name ≡ Some key → count_of key term ≡ Some count → sum_below node_numbers ((fold merged).execs name term) ≤ count
     at_most name key term count under counted =
         spent_at_most (budget (fold merged) name term key.node count)
-        (λ j. solvent_seen name key term count counted c es s (one_stamp c es name key (merged_issued c es s i m sent_then name key under)) (fold merged) j (sees j) under)
+        (λ j. solvent_seen name key term count counted c es s (one_stamp c es name key (merged_issued c es s i m sent_then name key under)) (fold merged) j (merged_sees_whole c es delta i m sent_then mine j) under)

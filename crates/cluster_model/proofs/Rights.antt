@@ -165,7 +165,7 @@ pub is_key-of : (key : KeyValue) (o : Option KeyValue) → is_key key o ≡ true
 is_key-of key None h = absurd (true≢false (sym h))
 is_key-of key (Some k) h = ap Some (same_key-true k key h)
 
-is_key-some : (key : KeyValue) (o : Option KeyValue) → o ≡ Some key → is_key key o ≡ true
+pub is_key-some : (key : KeyValue) (o : Option KeyValue) → o ≡ Some key → is_key key o ≡ true
 is_key-some key o e = ap (is_key key) e ∙ same_key-refl key
 
 -- where no key is issued or delivered, each key is as it was

@@ -58,7 +58,7 @@ module _ (w : World) (synced : IsSynced w) (marked : HasMarks w) (acks : HasAcks
       (λ k. inr k)
       (told_union m.ops (w.node i).ops op t)
 
-  pub merge_sees_whole : (j : ℕ) → SeesWhole w (fold merged) j
+  merge_sees_whole : (j : ℕ) → SeesWhole w (fold merged) j
   merge_sees_whole j = later (cases_lt here.version there.version)
     where
       there : SeesWhole w sender_then j
@@ -148,3 +148,9 @@ sees_whole c [] s = λ i v l j. record { version = 0; reached = omega arith; as_
 sees_whole c (e ∷ es) s =
     let before = deltas_are_schedules c es s.1 in
     whole_after c (world c es) e (all_synced c es s.1) (marked c es before) (has_acks c es before) (sees_whole c es s.1) (deltas_are_schedules c (e ∷ es) s).0
+
+-- what a message brings its receiver to sees each node whole too
+pub merged_sees_whole : (c : Cluster) (es : List Event) → IsDeltaSchedule c es → (i : ℕ) (m : Message) → IsIn m (world c es).messages → m.to ≡ i → (j : ℕ) → SeesWhole (world c es) (fold (m.ops ++ ((world c es).node i).ops)) j
+merged_sees_whole c es s i m =
+    let before = deltas_are_schedules c es s in
+    merge_sees_whole (world c es) (all_synced c es s) (marked c es before) (has_acks c es before) (sees_whole c es s) i m

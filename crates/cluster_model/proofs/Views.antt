@@ -1,5 +1,5 @@
 -- What a set of operations tells, what two sets tell together, and when that is as of one state.
-use Rattle.std.proofs.Common.{◌≡◌, ℕ, ◌≤◌, List, ◌++◌, ◌⊎◌, inl, inr, sym, ◌∙◌, ap, subst, arith, ⊎_elim, Some}
+use Rattle.std.proofs.Common.{◌≡◌, ℕ, ◌≤◌, if◌then◌else◌, Bool, true, false, cond, List, ◌++◌, ◌⊎◌, inl, inr, refl, sym, ◌∙◌, ap, subst, arith, ⊎_elim, Some}
 use Rattle.std.proofs.lemmas.Bool.{cases_eq}
 use Rattle.stamp_register.specs.Keys.{KeyValue}
 use Rattle.replica_state.specs.Operations.{Cell, Hits, Execs, Shifts, Operation, Set, Count, writer_of_cell, writer_of, IsIn}
@@ -11,7 +11,9 @@ use Rattle.replica_state.specs.Deltas.{HasNumber, IsTold, IsDelta}
 use Rattle.replica_state.proofs.Sets.{IsIn-append_left, IsIn-append_right, IsIn-append_cases, number_at-is_in, number_at-mono, KeyUpto, KeyUpto-antisym, key_of-is_in, key_of-mono, key_of-found}
 use Rattle.replica_state.proofs.KnownSets.{keys_only, own_name}
 use Rattle.node_core.proofs.UptoStates.{upto_below}
+use Rattle.cluster_model.specs.Histories.{is_key}
 use Rattle.cluster_model.specs.Views.{IsAsOf}
+use Rattle.cluster_model.proofs.Rights.{is_key-of, is_key-some}
 use Rattle.cluster_model.proofs.Closed.{held_number, delta_key, told_number}
 
 -- ---- what a part of a set tells
@@ -109,6 +111,44 @@ as_of_later v a b x y j above told of_a of_b later =
       no_more = λ op own t. ⊎_elim (λ k. told_between x y v later below op (of_a.no_more op own k) t) (λ k. of_b.no_more op own k) (told op t);
     }
 
--- each number of what node j wrote is 0, or the same there
-pub number_as_of : (v w : State) (j : ℕ) → IsAsOf v w j → (cell : Cell) → writer_of_cell cell ≡ j → (number : ℕ) → HasNumber v cell number → (number ≡ 0) ⊎ HasNumber w cell number
-number_as_of v w j as_of cell own number h = ⊎_elim (λ z. inl z) (λ ne. inr (as_of.no_more (Count cell number) own (h, ne)).0) (cases_eq number 0)
+-- ---- and their numbers
+
+-- the number of a cell, where the state is under the cell's key; a hit is under none
+abbrev pub number_under : State → Cell → ℕ
+number_under v (Hits name node) = v.hits name node
+number_under v (Execs name key term node) = if is_key key (v.key name) then v.execs name term node else 0
+number_under v (Shifts name key term from to) = if is_key key (v.key name) then v.shifts name term from to else 0
+
+has_under : (v : State) (cell : Cell) (number : ℕ) → HasNumber v cell number → number ≡ number_under v cell
+has_under v (Hits name node) number h = sym h
+has_under v (Execs name key term node) number h = sym (ap (λ t. cond t (v.execs name term node) 0) (is_key-some key (v.key name) h.0) ∙ h.1)
+has_under v (Shifts name key term from to) number h = sym (ap (λ t. cond t (v.shifts name term from to) 0) (is_key-some key (v.key name) h.0) ∙ h.1)
+
+-- below a state that has 0 of a cell there is none
+none_under : (v w : State) → IsBelow w v → (cell : Cell) → HasNumber v cell 0 → 0 ≡ number_under w cell
+none_under v w below (Hits name node) h =
+    let upto = (below name).hits node in
+    omega (arith, upto, h)
+none_under v w below (Execs name key term node) h = at (is_key key (w.key name)) refl
+  where
+    at : (t : Bool) → is_key key (w.key name) ≡ t → 0 ≡ cond t (w.execs name term node) 0
+    at false e = refl
+    at true e =
+        let upto = (upto_below w v name (below name)).execs (is_key-of key (w.key name) e ∙ sym h.0) term node in
+        let none = h.1 in
+        omega (arith, upto, none)
+none_under v w below (Shifts name key term from to) h = at (is_key key (w.key name)) refl
+  where
+    at : (t : Bool) → is_key key (w.key name) ≡ t → 0 ≡ cond t (w.shifts name term from to) 0
+    at false e = refl
+    at true e =
+        let upto = (upto_below w v name (below name)).shifts (is_key-of key (w.key name) e ∙ sym h.0) term from to in
+        let none = h.1 in
+        omega (arith, upto, none)
+
+-- of each cell that node j writes there is as much
+pub same_number : (v w : State) (j : ℕ) → IsAsOf v w j → (cell : Cell) → writer_of_cell cell ≡ j → (number : ℕ) → HasNumber v cell number → number ≡ number_under w cell
+same_number v w j as_of cell own number h = ⊎_elim
+    (λ z. z ∙ none_under v w as_of.above cell (subst (HasNumber v cell) z h))
+    (λ ne. has_under w cell number (as_of.no_more (Count cell number) own (h, ne)).0)
+    (cases_eq number 0)
