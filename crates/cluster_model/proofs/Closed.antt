@@ -34,7 +34,7 @@ set_of_key ops closed name key e =
     let found = held_carrier ops name key e in
     closed.sets found.op found.held name key found.carries
 
-keys_in_ops : (i : ℕ) (n : Node) (a : Option Asked) (words : List ℕ) (op : Operation) → IsIn op (keys_by i n a) → IsIn op (ops_issued i n a words)
+pub keys_in_ops : (i : ℕ) (n : Node) (a : Option Asked) (words : List ℕ) (op : Operation) → IsIn op (keys_by i n a) → IsIn op (ops_issued i n a words)
 keys_in_ops i n None words op h = absurd h
 keys_in_ops i n (Some (asks.Set name text)) words op h = h
 keys_in_ops i n (Some (asks.Remove name)) words op h = h
@@ -163,11 +163,11 @@ number_found cell (op ∷ ops) = at (number_in_is cell op) (number_found cell op
     at (inl z) b (inr l) = inl (omega arith)
     at (inr h) b (inr l) = inr (inl (here l h))
 
-held_number : (cell : Cell) (ops : List Operation) (k : ℕ) → k ≡ number_at cell ops → k ≢ 0 → IsIn (Count cell k) ops
+pub held_number : (cell : Cell) (ops : List Operation) (k : ℕ) → k ≡ number_at cell ops → k ≢ 0 → IsIn (Count cell k) ops
 held_number cell ops k e ne = ⊎_elim (λ z. absurd (ne (e ∙ z))) (λ h. subst (λ m. IsIn (Count cell m) ops) (sym e) h) (number_found cell ops)
 
 -- what a delta carries is of the key now
-delta_key : (v w : State) (op : Operation) (name : List ℕ) (key : KeyValue) → IsInDelta v w op → key_in name op ≡ Some key → (w.key name ≡ Some key) × (TellSameOf v w name → ⊥)
+pub delta_key : (v w : State) (op : Operation) (name : List ℕ) (key : KeyValue) → IsInDelta v w op → key_in name op ≡ Some key → (w.key name ≡ Some key) × (TellSameOf v w name → ⊥)
 delta_key v w (Set n k) name key d c =
     let parts = carried_name name n key k c in
     (subst (λ m. w.key m ≡ Some key) parts.0 (d.0 ∙ ap Some parts.1), λ s. d.1 (subst (λ m. TellSameOf v w m) (sym parts.0) s))
@@ -180,7 +180,7 @@ delta_key v w (Count (Shifts n k term from to) number) name key d c =
     (subst (λ m. w.key m ≡ Some key) parts.0 (d.0.0.0 ∙ ap Some parts.1), λ s. d.1 ((s (Count (Shifts n k term from to) number) parts.0).1 d.0))
 
 -- the number that a state tells of a cell is the greatest of its set
-told_number : (ops : List Operation) (cell : Cell) (number : ℕ) → IsTold (fold ops) (Count cell number) → number ≡ number_at cell ops
+pub told_number : (ops : List Operation) (cell : Cell) (number : ℕ) → IsTold (fold ops) (Count cell number) → number ≡ number_at cell ops
 unfolding fold
 told_number ops (Hits name node) number d = sym d.0
 told_number ops (Execs name key term node) number d = sym d.0.1 ∙ ap (λ k. at_key k (λ l. number_at (Execs name l term node) ops)) d.0.0

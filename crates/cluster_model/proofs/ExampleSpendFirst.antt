@@ -1,5 +1,6 @@
 -- A spend that is known before the shift that paid for it: its node has less than no rights for a while.
-use Rattle.std.proofs.Common.{◌≡◌, ℕ, true, false, List, [], ◌∷◌, ◌++◌, Some, Ok, inl, inr, refl}
+use Rattle.std.proofs.Common.{◌≡◌, ℕ, ◌≤◌, true, false, List, [], ◌∷◌, ◌++◌, Some, Ok, inl, inr, refl, ◌∙◌, ap, subst, arith, ⊎_elim}
+use Rattle.std.proofs.lemmas.Bool.{cases_eq}
 use Rattle.std.specs.Prelude.{pos, ◌-ℤ◌, reverse, codes}
 use Rattle.std.specs.Fmt.{digits}
 use Rattle.actions.specs.Value.{off}
@@ -9,16 +10,19 @@ use Rattle.actions.specs.Reading.{pieces, trimmed_text, argument_at, chance_at, 
 use Rattle.counters.specs.Sums.{node_numbers}
 use Rattle.stamp_register.specs.Keys.{KeyValue, terms_in_text}
 use Rattle.replica_state.specs.Operations.{Hits, Execs, Shifts, Operation, Set, Count, IsIn, same_cell}
-use Rattle.replica_state.specs.States.{rights_of, spent_of}
+use Rattle.replica_state.specs.States.{State, rights_of, spent_of}
 use Rattle.replica_state.specs.Folds.{fold}
 use Rattle.replica_state.specs.Knowledge.{changes}
+use Rattle.replica_state.specs.Deltas.{IsTold}
 use Rattle.replica_state.proofs.Changes.{changes_is_change}
 use Rattle.node_core.specs.Asks.{Message, NoTerm, Act}
 use Rattle.node_core.specs.Asks as asks
 use Rattle.node_core.specs.Steps.{after}
-use Rattle.cluster_model.specs.Worlds.{Event}
+use Rattle.node_core.proofs.UptoStates.{upto_below}
+use Rattle.cluster_model.specs.Worlds.{Event, world}
 use Rattle.cluster_model.specs.Schedules.{IsSchedule}
 use Rattle.cluster_model.specs.Histories.{state_of}
+use Rattle.cluster_model.specs.Views.{IsAsOf, SeesWhole}
 use Rattle.cluster_model.proofs.Examples.{nodes, event, stamp, key_at, first_told, message, answers, may_tell, may_send_one}
 
 abbrev a : List ℕ
@@ -133,3 +137,61 @@ seen_first = refl
 seen_at_last : rights_of (state_of (nodes 3) (reverse later) 2) a 0 1 ≡ pos 0
 unfolding digits node_numbers after fold same_cell terms_in_text choice number_at short_number_at decimals_at percent_at pieces trimmed_text argument_at chance_at count_at time_at task_at term_at terms_at reading
 seen_at_last = refl
+
+-- ---- node 2 then sees node 1 at none of its versions: the spend is told without the shift that paid for it
+
+abbrev seen : State
+seen = state_of (nodes 3) (reverse script) 2
+
+abbrev held_at : ℕ → State
+held_at = ((world (nodes 3) (reverse script)).node 1).past
+
+reached_upto : ((world (nodes 3) (reverse script)).node 1).marks.version ≡ 2
+unfolding digits node_numbers after fold same_cell terms_in_text choice number_at short_number_at decimals_at percent_at pieces trimmed_text argument_at chance_at count_at time_at task_at term_at terms_at reading
+reached_upto = refl
+
+told_spend : IsTold seen (Count (Execs a key 0 1) 1)
+unfolding digits node_numbers after fold same_cell terms_in_text choice number_at short_number_at decimals_at percent_at pieces trimmed_text argument_at chance_at count_at time_at task_at term_at terms_at reading
+told_spend = ((refl, refl), λ e. omega (arith, e))
+
+-- at its first versions node 1 hadn't spent, and at the last one it had the shift
+not_spent_at_0 : (held_at 0).execs a 0 1 ≡ 0
+unfolding digits node_numbers after fold same_cell terms_in_text choice number_at short_number_at decimals_at percent_at pieces trimmed_text argument_at chance_at count_at time_at task_at term_at terms_at reading
+not_spent_at_0 = refl
+
+not_spent_at_1 : (held_at 1).execs a 0 1 ≡ 0
+unfolding digits node_numbers after fold same_cell terms_in_text choice number_at short_number_at decimals_at percent_at pieces trimmed_text argument_at chance_at count_at time_at task_at term_at terms_at reading
+not_spent_at_1 = refl
+
+same_key_at_2 : (held_at 2).key a ≡ seen.key a
+unfolding digits node_numbers after fold same_cell terms_in_text choice number_at short_number_at decimals_at percent_at pieces trimmed_text argument_at chance_at count_at time_at task_at term_at terms_at reading
+same_key_at_2 = refl
+
+moved_at_2 : (held_at 2).shifts a 0 0 1 ≡ 1
+unfolding digits node_numbers after fold same_cell terms_in_text choice number_at short_number_at decimals_at percent_at pieces trimmed_text argument_at chance_at count_at time_at task_at term_at terms_at reading
+moved_at_2 = refl
+
+not_moved : seen.shifts a 0 0 1 ≡ 0
+unfolding digits node_numbers after fold same_cell terms_in_text choice number_at short_number_at decimals_at percent_at pieces trimmed_text argument_at chance_at count_at time_at task_at term_at terms_at reading
+not_moved = refl
+
+not_as_of : (v : ℕ) → v ≤ 2 → IsAsOf seen (held_at v) 1 → ⊥
+not_as_of v l h = ⊎_elim
+    (λ e. unspent (ap (λ u. (held_at u).execs a 0 1) e ∙ not_spent_at_0))
+    (λ ne. ⊎_elim (λ e. unspent (ap (λ u. (held_at u).execs a 0 1) e ∙ not_spent_at_1)) (λ n. moved (omega (arith, l, ne, n))) (cases_eq v 1))
+    (cases_eq v 0)
+  where
+    unspent : (held_at v).execs a 0 1 ≡ 0 → ⊥
+    unspent z =
+        let one = (h.no_more (Count (Execs a key 0 1) 1) refl told_spend).0.1 in
+        absurd (omega (arith, z, one))
+
+    moved : v ≡ 2 → ⊥
+    moved e =
+        let upto = (upto_below (held_at v) seen a (h.above a)).shifts (ap (λ u. (held_at u).key a) e ∙ same_key_at_2) 0 0 1 in
+        let one : (held_at v).shifts a 0 0 1 ≡ 1 = ap (λ u. (held_at u).shifts a 0 0 1) e ∙ moved_at_2 in
+        let none = not_moved in
+        absurd (omega (arith, upto, one, none))
+
+not_whole : SeesWhole (world (nodes 3) (reverse script)) seen 1 → ⊥
+not_whole sees = not_as_of sees.version (subst (λ n. sees.version ≤ n) reached_upto sees.reached) sees.as_of

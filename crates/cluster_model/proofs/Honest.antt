@@ -86,21 +86,39 @@ none_below (suc n) test h = both (test n) (any_below n test) (h n) (none_below n
     both true b h k = h
     both false b h k = k
 
+-- where no term is executed more often than its count, none is overspent
+pub none_overspent : (v : State) → ((name : List ℕ) (key : KeyValue) (term count : ℕ) → v.key name ≡ Some key → count_of key term ≡ Some count → sum_below node_numbers (v.execs name term) ≤ count) →
+    (name : List ℕ) → is_overspent v name (terms_in (setting_of v name)) ≡ false
+none_overspent v at_most name = at (setting_of v name) refl
+  where
+    at : (o : Option (KeyValue × List TermValue)) → setting_of v name ≡ o → is_overspent v name (terms_in o) ≡ false
+    at None p = refl
+    at (Some setting) p = none_below (length setting.1) _ (λ term. of term (count_at setting.1 term) refl)
+      where
+        of : (term : ℕ) (o : Option ℕ) → count_at setting.1 term ≡ o → is_above o (sum_below node_numbers (v.execs name term)) ≡ false
+        of term None q = refl
+        of term (Some count) q =
+            let is = setting_parts (v.key name) setting.0 setting.1 p in
+            let counted : count_of setting.0 term ≡ Some count = ap (λ (o : Option (List TermValue)). count_under o term) is.is_terms ∙ q in
+            le-ltb count _ (at_most name setting.0 term count is.is_key counted)
+
+-- a key that a message brings, or finds, was issued
+pub merged_issued : (c : Cluster) (es : List Event) → IsSchedule c es → (i : ℕ) (m : Message) → IsIn m (world c es).messages → (name : List ℕ) (key : KeyValue) →
+    (fold (m.ops ++ ((world c es).node i).ops)).key name ≡ Some key → IsIssued c es name key
+merged_issued c es s i m sent_then name key p =
+    let found = held_carrier (m.ops ++ ((world c es).node i).ops) name key p in
+    ⊎_elim (λ l. (carried c es s).sent m sent_then found.op l name key found.carries) (λ l. (carried c es s).held i found.op l name key found.carries) (IsIn-append_cases found.op _ _ found.held)
+
 module _ (c : Cluster) (es : List Event) (few : c.nodes ≤ node_numbers) (s : IsSchedule c es) (i : ℕ) (m : Message) (sent_then : IsIn m (world c es).messages) where
   abbrev merged : List Operation
   merged = m.ops ++ ((world c es).node i).ops
-
-  is_issued : (name : List ℕ) (key : KeyValue) → (fold merged).key name ≡ Some key → IsIssued c es name key
-  is_issued name key p =
-      let found = held_carrier merged name key p in
-      ⊎_elim (λ l. (carried c es s).sent m sent_then found.op l name key found.carries) (λ l. (carried c es s).held i found.op l name key found.carries) (IsIn-append_cases found.op _ _ found.held)
 
   with_writer : (op : Operation) → IsIn op merged → IsIn op ((world c es).node (writer_of op)).ops
   with_writer op l = ⊎_elim (λ k. (known c es s).sent m sent_then op k) (λ k. (known c es s).held i op k) (IsIn-append_cases op _ _ l)
 
   at_most : (name : List ℕ) (key : KeyValue) (term count : ℕ) → (fold merged).key name ≡ Some key → count_of key term ≡ Some count → sum_below node_numbers ((fold merged).execs name term) ≤ count
   at_most name key term count p q =
-      let issued = is_issued name key p in
+      let issued = merged_issued c es s i m sent_then name key p in
       let each = sum-le node_numbers ((fold merged).execs name term) (executions c es (stamp_of key) term) (λ j.
       let here = under_execs merged name key term j p in
       let own = own_execs c es s name key term count q (one_stamp c es name key issued) j in
@@ -110,26 +128,12 @@ module _ (c : Cluster) (es : List Event) (few : c.nodes ≤ node_numbers) (s : I
       let most = (conserved c es few s name key term count issued q).at_most in
       omega (arith, each, narrow, most)
 
-  not_over : (name : List ℕ) → is_overspent (fold merged) name (terms_in (setting_of (fold merged) name)) ≡ false
-  not_over name = at (setting_of (fold merged) name) refl
-    where
-      at : (o : Option (KeyValue × List TermValue)) → setting_of (fold merged) name ≡ o → is_overspent (fold merged) name (terms_in o) ≡ false
-      at None p = refl
-      at (Some setting) p = none_below (length setting.1) _ (λ term. of term (count_at setting.1 term) refl)
-        where
-          of : (term : ℕ) (o : Option ℕ) → count_at setting.1 term ≡ o → is_above o (sum_below node_numbers ((fold merged).execs name term)) ≡ false
-          of term None q = refl
-          of term (Some count) q =
-              let is = setting_parts ((fold merged).key name) setting.0 setting.1 p in
-              let counted : count_of setting.0 term ≡ Some count = ap (λ (o : Option (List TermValue)). count_under o term) is.is_terms ∙ q in
-              le-ltb count _ (at_most name setting.0 term count is.is_key counted)
-
   pub honest_message : IsHonest c es i m
   honest_message =
       record {
         not_ahead = false_any _ m.ops (not_ahead c es s i m sent_then);
         acked = λ e. subst (λ j. m.ack ≤ ((world c es).node j).marks.version) e ((marked c es s).ack m sent_then);
-        not_overspent = false_any (overspends (fold merged)) m.ops (λ op h. not_over (name_in op));
+        not_overspent = false_any (overspends (fold merged)) m.ops (λ op h. none_overspent (fold merged) at_most (name_in op));
       }
 
   -- the first refusal that applies is none of those

@@ -1,9 +1,10 @@
 -- A node that knows a version of another is above the state that the other had at that version.
-use Rattle.std.proofs.Common.{◌≡◌, ℕ, ◌≤◌, ◌==◌, max, nat_le, Bool, true, false, cond, List, [], ◌∷◌, ◌++◌, length, inl, inr, refl, sym, ◌∙◌, ap, subst, arith, ⊎_elim, Option, Some, None, Result}
-use Rattle.std.proofs.lemmas.Bool.{eqb-true, and_parts, leb-true, ltb-false}
+use Rattle.std.proofs.Common.{◌≡◌, ℕ, ◌+◌, ◌≤◌, ◌==◌, ◌⊎◌, max, nat_le, Bool, true, false, cond, List, [], ◌∷◌, ◌++◌, length, inl, inr, refl, sym, ◌∙◌, ap, subst, arith, ⊎_elim, Option, Some, None, Result}
+use Rattle.std.proofs.lemmas.Bool.{eqb-true, and_parts, leb-true, ltb-false, cases_lt}
 use Rattle.replica_state.specs.Operations.{Operation, IsIn}
 use Rattle.replica_state.specs.States.{State}
 use Rattle.replica_state.specs.Folds.{fold}
+use Rattle.replica_state.specs.Knowledge.{changes}
 use Rattle.replica_state.specs.StateOrder.{IsBelow}
 use Rattle.replica_state.specs.SetOrder.{below-refl, below-trans}
 use Rattle.replica_state.specs.Deltas.{IsDelta}
@@ -13,7 +14,7 @@ use Rattle.delta_exchange.specs.declared.fault.WireFault.{WireFault}
 use Rattle.node_core.specs.declared.config.Config.{Config}
 use Rattle.node_core.specs.Asks.{Asked, Message, Versions}
 use Rattle.node_core.specs.Asks as asks
-use Rattle.node_core.specs.Nodes.{Node}
+use Rattle.node_core.specs.Nodes.{Node, state_shown}
 use Rattle.node_core.specs.Steps.{after, operations_added, message_in, message_to}
 use Rattle.node_core.specs.Refusals.{faults_of, refusal_at}
 use Rattle.node_core.specs.Traces.{SendsDelta}
@@ -34,9 +35,29 @@ node_history : (i : ℕ) (n : Node) (a : Option Asked) (words : List ℕ) → Ha
 node_history i n None words has = has
 node_history i n (Some ask) words has = history_after i n ask words has
 
-past_kept : (i : ℕ) (n : Node) (a : Option Asked) (words : List ℕ) → HasHistory n → (v : ℕ) → v ≤ n.marks.version → (node_after i n a words).past v ≡ n.past v
+pub past_kept : (i : ℕ) (n : Node) (a : Option Asked) (words : List ℕ) → HasHistory n → (v : ℕ) → v ≤ n.marks.version → (node_after i n a words).past v ≡ n.past v
 past_kept i n None words has v l = refl
 past_kept i n (Some ask) words has v l = past_after i n ask words has v l
+
+version_next : (i : ℕ) (n : Node) (a : Option Asked) (words : List ℕ) → (node_after i n a words).marks.version ≤ n.marks.version + 1
+unfolding after
+version_next i n None words = omega arith
+version_next i n (Some ask) words = at (changes (state_shown n) (operations_added i n ask words))
+  where
+    at : (t : Bool) → n.marks.version + cond t 1 0 ≤ n.marks.version + 1
+    at true = omega arith
+    at false = omega arith
+
+-- a version that a node has is one that it had, with the state that it then had, or its present one
+pub past_or_now : (i : ℕ) (n : Node) (a : Option Asked) (words : List ℕ) → HasHistory n → (v : ℕ) → v ≤ (node_after i n a words).marks.version →
+    ((v ≤ n.marks.version) × ((node_after i n a words).past v ≡ n.past v)) ⊎ ((node_after i n a words).past v ≡ fold (node_after i n a words).ops)
+past_or_now i n a words has v l = ⊎_elim
+    (λ k.
+    let next = version_next i n a words in
+    let now : v ≡ (node_after i n a words).marks.version = omega (arith, l, k, next) in
+    inr (ap (node_after i n a words).past now ∙ (node_history i n a words has).last))
+    (λ k. inl (k, past_kept i n a words has v k))
+    (cases_lt n.marks.version v)
 
 pub node_has_history : (c : Cluster) (es : List Event) (i : ℕ) → HasHistory ((world c es).node i)
 node_has_history c es i = subst HasHistory (sym (node_is_replay c es i)) (has_history i ((world c es).trace i))
@@ -57,12 +78,12 @@ past_was c (e ∷ later) es i =
 -- ---- the world
 
 -- a message carries what had changed at its sender from one version to another
-record IsChange (sender : Node) (m : Message) : Type 0 where
+pub record IsChange (sender : Node) (m : Message) : Type 0 where
   pub base : m.base ≤ sender.marks.version
   pub upto : m.upto ≤ sender.marks.version
   pub delta : IsDelta (sender.past m.base) (sender.past m.upto) m.ops
 
-record IsSynced (w : World) : Type 0 where
+pub record IsSynced (w : World) : Type 0 where
   pub past : (i : ℕ) → HasHistory (w.node i)
   pub acked : (i j : ℕ) → (w.node i).marks.acked j ≤ (w.node i).marks.version
   pub sent : (m : Message) → IsIn m w.messages → IsChange (w.node m.from) m
@@ -128,7 +149,7 @@ sent_change c w e i synced allowed m h = at (accepted c w e i) refl h
     at (Some ask) p q = absurd q
 
 -- a delivery that raises what is known brings all up to it
-brings : (sender : Node) (ops : List Operation) (m : Message) (known : ℕ) → HasHistory sender → IsChange sender m → IsBelow (sender.past known) (fold ops) → known ≤ sender.marks.version → m.base ≤ known → IsBelow (sender.past m.upto) (fold (m.ops ++ ops))
+pub brings : (sender : Node) (ops : List Operation) (m : Message) (known : ℕ) → HasHistory sender → IsChange sender m → IsBelow (sender.past known) (fold ops) → known ≤ sender.marks.version → m.base ≤ known → IsBelow (sender.past m.upto) (fold (m.ops ++ ops))
 brings sender ops m known has change above l base =
     let made = has.folds m.upto in
     subst (λ (s : State). IsBelow s (fold (m.ops ++ ops))) (sym made.1)
@@ -167,7 +188,7 @@ synced_after c w e synced has allowed sends =
           (above_after c w e i j synced has allowed);
     }
 
-all_synced : (c : Cluster) (es : List Event) → IsDeltaSchedule c es → IsSynced (world c es)
+pub all_synced : (c : Cluster) (es : List Event) → IsDeltaSchedule c es → IsSynced (world c es)
 all_synced c [] s =
     record {
       past = node_has_history c [];

@@ -14,6 +14,11 @@ pub mod Emissions
 pub mod LegalEmits
 pub mod Differences
 pub mod KnownVersions
+pub mod Views
+pub mod Acks
+pub mod SeesWhole
+pub mod Budgets
+pub mod NotOverspent
 pub mod Examples
 pub mod ExampleMovedRight
 pub mod ExampleOvertakenKey

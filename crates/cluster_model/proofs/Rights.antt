@@ -31,7 +31,7 @@ abbrev pub cells : List ℕ → KeyValue → ℕ → ℕ → List Operation → 
 cells name key term count ops =
     record { setter = key.node; count = count; shifted = λ from to. number_at (Shifts name key term from to) ops; spent = λ node. number_at (Execs name key term node) ops }
 
-under_cells : (name : List ℕ) (key : KeyValue) (term count : ℕ) (ops : List Operation) → (fold ops).key name ≡ Some key → budget (fold ops) name term key.node count ≡ cells name key term count ops
+pub under_cells : (name : List ℕ) (key : KeyValue) (term count : ℕ) (ops : List Operation) → (fold ops).key name ≡ Some key → budget (fold ops) name term key.node count ≡ cells name key term count ops
 unfolding fold
 under_cells name key term count ops e = λ i.
     record {
@@ -165,7 +165,7 @@ pub is_key-of : (key : KeyValue) (o : Option KeyValue) → is_key key o ≡ true
 is_key-of key None h = absurd (true≢false (sym h))
 is_key-of key (Some k) h = ap Some (same_key-true k key h)
 
-is_key-some : (key : KeyValue) (o : Option KeyValue) → o ≡ Some key → is_key key o ≡ true
+pub is_key-some : (key : KeyValue) (o : Option KeyValue) → o ≡ Some key → is_key key o ≡ true
 is_key-some key o e = ap (is_key key) e ∙ same_key-refl key
 
 -- where no key is issued or delivered, each key is as it was

@@ -22,6 +22,7 @@ use Rattle.node_core.specs.Deliveries.{TellsDelta}
 use Rattle.node_core.specs.Refusals.{is_ahead, overspends}
 use Rattle.cluster_model.specs.Worlds.{Cluster, Event, config_of, accepted, world}
 use Rattle.cluster_model.specs.Schedules.{MaySend, Allows, IsSchedule, AllowsDelta, IsDeltaSchedule}
+use Rattle.cluster_model.specs.Views.{SeesWhole}
 use Rattle.cluster_model.specs.Histories.{state_of, all_learnt, keys_issued, IsIssued, held, in_transit, all_held, all_in_transit, all_executions}
 
 -- each node is what its trace comes to
@@ -251,3 +252,9 @@ KnownVersionsSameState = (c : Cluster) (es : List Event) → IsDeltaSchedule c e
     ((world c es).node j).marks.known i ≡ ((world c es).node i).marks.version →
     ((world c es).node i).marks.known j ≡ ((world c es).node j).marks.version →
     state_of c es i ≡ state_of c es j
+
+-- and what a node held, at any of its versions, of what another wrote is what that other held at one of its own
+abbrev pub EachVersionSeesWhole : Type 0
+EachVersionSeesWhole = (c : Cluster) (es : List Event) → IsDeltaSchedule c es → (i j version : ℕ) →
+    version ≤ ((world c es).node i).marks.version →
+    SeesWhole (world c es) (((world c es).node i).past version) j

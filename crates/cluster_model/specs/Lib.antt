@@ -1,4 +1,5 @@
 pub mod Worlds
 pub mod Schedules
+pub mod Views
 pub mod Histories
 pub mod Laws

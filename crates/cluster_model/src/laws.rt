@@ -6,7 +6,7 @@
 ghost use Rattle.std.specs.Prelude.{◌≡◌, ℕ};
 ghost use Rattle.replica_state.specs.Laws.{UnionIsLeast};
 ghost use Rattle.node_core.specs.Traces.{Kept};
-ghost use Rattle.cluster_model.specs.Laws.{NodeIsReplay, EventIsCall, StateIsFold, AnyOrderSameState, MutualKnowledgeSameState, DeliveryIsLeast, Escrow, StampIsIssuedOnce, StampIsOneKey, HonestMessages, HonestBytes, MessagesAreReplies, ToldExecutionsAreIssued, DeltaMaySend, DeltasAreSchedules, TracesAreLegal, DeltaIsEmission, DeltaIsOne, IsLegalEmit, PastBegins, PastIsPresent, PastStays, PastIsState, KnownVersionIsBelow, KnownVersionsSameState};
+ghost use Rattle.cluster_model.specs.Laws.{NodeIsReplay, EventIsCall, StateIsFold, AnyOrderSameState, MutualKnowledgeSameState, DeliveryIsLeast, Escrow, StampIsIssuedOnce, StampIsOneKey, HonestMessages, HonestBytes, MessagesAreReplies, ToldExecutionsAreIssued, DeltaMaySend, DeltasAreSchedules, TracesAreLegal, DeltaIsEmission, DeltaIsOne, IsLegalEmit, PastBegins, PastIsPresent, PastStays, PastIsState, KnownVersionIsBelow, KnownVersionsSameState, EachVersionSeesWhole};
 
 /// Each event of a schedule is a call of one node: it is refused, and changes nothing, or it changes
 /// that node by the step that the contracts of `NodeCore` cite, and its trace tells all of it. The
@@ -79,8 +79,10 @@ pub fn past()
 
 /// Where each node sends what differs, a node that knows a version of another holds all that the
 /// other held at that version, and two nodes that know each other's present version hold the same
-/// state.
+/// state. And each node sees each other whole: of what the other wrote it holds all that the other
+/// held at one of its versions, and nothing later.
 pub fn known_versions()
     ensures below { KnownVersionIsBelow }
     ensures same { KnownVersionsSameState }
+    ensures whole { EachVersionSeesWhole }
 {}

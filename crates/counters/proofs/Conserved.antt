@@ -15,7 +15,7 @@ int_sum-differences (suc n) f g =
     omega (arith, ints)
 
 -- what node i shifts to j comes from i at j
-from_to : (n : ℕ) (s : ℕ → ℕ → ℕ) → sum_below n (λ i. sum_others n i (λ j. s i j)) ≡ sum_below n (λ i. sum_others n i (λ j. s j i))
+pub from_to : (n : ℕ) (s : ℕ → ℕ → ℕ) → sum_below n (λ i. sum_others n i (λ j. s i j)) ≡ sum_below n (λ i. sum_others n i (λ j. s j i))
 from_to n s =
     sum-swap n n (λ i j. cond (j == i) 0 (s i j)) ∙
     sum-same n _ _ (λ j below. sum-same n _ _ (λ i here. either i j (j == i) (i == j) refl refl))
