@@ -1,13 +1,13 @@
 //! When each key and each cell last changed, by versions.
 #![tactic(auto, unfolding(crate::specs::Marks::marks_value, crate::specs::Marks::has_room))]
 
-ghost use Rattle.std.specs.Prelude.{◌≡◌, IsTrue, ℕ, List, [], Option, Some, None, true, if◌then◌else◌, filter, OnOk, OnErr};
+ghost use Rattle.std.specs.Prelude.{◌≡◌, IsTrue, ℕ, List, [], Option, Some, None, if◌then◌else◌, filter, OnOk};
 ghost use Rattle.std.specs.BTreeMap.{IsOrdered};
 ghost use Rattle.std.specs.Ordering.{nat_cmp};
 ghost use Rattle.std.specs.Cmp.Lexicographic.{slice_cmp};
 ghost use Rattle.replica_state.specs.Points.{counted_cmp, is_hits};
 ghost use Rattle.replica_state.specs.declared.point.Counted.{Counted};
-ghost use Rattle.delta_exchange.specs.Marks.{KeepsRoom, cell_change, cell_of, has_cell, has_room, is_of, key_of, latest_of, marks_value, with_mark, with_new_key};
+ghost use Rattle.delta_exchange.specs.Marks.{KeepsRoom, cell_change, cell_of, has_cell, has_room, is_of, marks_value, with_mark, with_new_key};
 
 use actions::Name;
 use replica_state::Counted;

@@ -1,7 +1,6 @@
 //! Reading a message.
 
 ghost use Rattle.std.specs.Prelude.{◌≡◌, map, IfOk, IfErr, Ok};
-ghost use Rattle.std.specs.Int.{w16};
 ghost use Rattle.delta_exchange.specs.Messages.{MessageValue, entry_value, message_value};
 ghost use Rattle.delta_exchange.specs.Spelling.{SpellsMessage};
 ghost use Rattle.delta_exchange.specs.Reading.{Gives, GivesAlways, entries_at, magic_at, versions_at, header_at, header_of, fields_at, message_at};

@@ -3,7 +3,7 @@
 //!
 //! Each reader answers the field's value and what is left after it.
 
-ghost use Rattle.std.specs.Prelude.{◌≡◌, length};
+ghost use Rattle.std.specs.Prelude.{◌≡◌};
 ghost use Rattle.std.specs.Int.{w16, w64};
 ghost use Rattle.delta_exchange.specs.Reading.{GivesAlways, offset, bytes_at, byte_at, number_at, node_at, other_node_at};
 

@@ -3,7 +3,7 @@
 ghost use Rattle.std.specs.Prelude.{◌≡◌, ◌*◌, ◌<◌, ◌≤◌, ◌^◌, ℕ, Some, None};
 ghost use Rattle.stamp_register.specs.Keys.{key_value};
 ghost use Rattle.counters.specs.Sums.{node_numbers, sum_below, sum_others};
-ghost use Rattle.counters.specs.Budgets.{given_to, gone_from, rights};
+ghost use Rattle.counters.specs.Budgets.{rights};
 ghost use Rattle.replica_state.specs.Operations.{count_of};
 ghost use Rattle.replica_state.specs.Points.{number_of, budget_in};
 ghost use Rattle.replica_state.specs.declared.point.Counted.TheVariants.{Hits, Execs, Shifts};

@@ -5,7 +5,7 @@ ghost use Rattle.counters.specs.Sums.{node_numbers, sum_below};
 ghost use Rattle.counters.specs.Budgets.{total_spent};
 ghost use Rattle.counters.specs.Cells.{spent_cell, WritesSpent};
 ghost use Rattle.stamp_register.specs.Keys.{key_value};
-ghost use Rattle.replica_state.specs.Points.{is_hits, term_of, raised_numbers, empty_held, key_standing, held_after_learning, held_after_key, held_after_pass, held_after_count, given_key, Raises, spent_of_key};
+ghost use Rattle.replica_state.specs.Points.{is_hits, term_of, empty_held, key_standing, held_after_learning, held_after_key, held_after_pass, held_after_count, given_key, Raises, spent_of_key};
 ghost use Rattle.replica_state.specs.Slots.{IsShareRaised, slot_held, slot_key, slot_number, slot_rights, share_number, budgets_number};
 ghost use Rattle.replica_state.specs.States.{MarksRights};
 ghost use Rattle.replica_state.specs.declared.point.Counted.{Counted};

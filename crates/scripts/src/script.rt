@@ -3,7 +3,7 @@
 ghost use Rattle.std.specs.Prelude.{◌≡◌, Some, None, Ok, IfOk, OnOk, option_map, string_bytes};
 ghost use Rattle.scripts.specs.Commands.{command_value, nodes};
 ghost use Rattle.scripts.specs.Replies.{Prints};
-ghost use Rattle.scripts.specs.Script.{text_in, command_in, command_output, cluster_after, asked_output, cluster_after_asked, line_output, cluster_after_line, script_text};
+ghost use Rattle.scripts.specs.Script.{text_in, command_in, command_output, cluster_after, line_output, cluster_after_line, script_text};
 
 use crate::cluster::Cluster;
 use crate::command::{Command, read_command};

@@ -1,6 +1,6 @@
 //! Passing a point.
 
-ghost use Rattle.std.specs.Prelude.{◌≡◌, ◌⊎◌, ℕ, length, ◌+◌, ◌^◌, ◌<◌, ◌≤ℤ◌, pos, IfOk, IfErr, OnOk, OnErr, IsErrOf, IsSome, IfSome, IsTrue, MatchOption, true, Some, None, is_some, option_map, slice_get};
+ghost use Rattle.std.specs.Prelude.{◌≡◌, ℕ, length, ◌^◌, ◌<◌, ◌≤ℤ◌, pos, IfOk, IfErr, OnOk, OnErr, IsErrOf, IsSome, IfSome, IsTrue, MatchOption, true, Some, None, is_some, option_map, slice_get};
 ghost use Rattle.std.specs.Bool.{then_some};
 ghost use Rattle.actions.specs.Names.{is_name};
 ghost use Rattle.actions.specs.Value.{task_value};
@@ -14,7 +14,7 @@ ghost use Rattle.node_core.specs.Asks.{passed};
 ghost use Rattle.node_core.specs.Lasts.{last_passed};
 ghost use Rattle.node_core.specs.Memory.{NameNeedsMemory};
 ghost use Rattle.node_core.specs.Nodes.{setting_of};
-ghost use Rattle.node_core.specs.Outcomes.{task_or_off, outcome_reply, spent_by, ops_done, state_done, HasKey};
+ghost use Rattle.node_core.specs.Outcomes.{task_or_off, outcome_reply, spent_by, ops_done, HasKey};
 ghost use Rattle.node_core.specs.Passes.{words_for, triggered_term, task_in, pass_reply, pass_ops};
 ghost use Rattle.node_core.specs.Refusals.{bad_words};
 ghost use Rattle.node_core.specs.Room.{HasRoom};
