@@ -6,8 +6,6 @@
 
 mod asks;
 mod calls;
-mod exchange;
-mod large;
 mod limits;
 mod messages;
 mod nodes;

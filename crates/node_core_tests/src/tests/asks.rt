@@ -47,13 +47,22 @@ const SPARE_WORDS: &[(Step, &[u32], &str)] = &[
     (Step::DeliverBytes(b"FPG"), &[1], "N1 TraceFull"),
 ];
 
+/// The first answer that isn't the wanted one; nothing where there is none.
+fn first_other_answer(alloc: Global, node: &mut NodeCore) -> Result<String, Fail> {
+    for (step, words, wanted) in SPARE_WORDS {
+        let answer = answer_with(alloc, node, step, words)?;
+        if answer.as_str() != *wanted {
+            return Ok(answer);
+        }
+    }
+    Ok(String::new(alloc))
+}
+
 #[test]
 fn spare_words_are_refused_last_but_before_a_message(rt: HostRuntime) -> Result<(), Fail> {
     let alloc = rt.alloc();
     let mut node = empty_node(alloc, ONE_CALL)?;
-    for (step, words, wanted) in SPARE_WORDS {
-        let answer = answer_with(alloc, &mut node, step, words)?;
-        assert_eq!(rt; answer.as_str(), *wanted);
-    }
+    let other = first_other_answer(alloc, &mut node)?;
+    assert_eq!(rt; other.as_str(), "");
     Ok(())
 }

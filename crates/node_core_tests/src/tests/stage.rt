@@ -236,18 +236,24 @@ fn look(alloc: Global, node: &NodeCore, messages: &[Vec<u8>], step: &Step) -> Re
 }
 
 /// What a node knows of the versions of the first two nodes, and they of its own.
-fn versions(node: &NodeCore) -> (u64, [u64; 2], [u64; 2]) {
-    let known = [node.known(0), node.known(1)];
-    let acked = [node.acked(0), node.acked(1)];
-    (node.version(), known, acked)
+fn try_versions_text(alloc: Global, node: &NodeCore) -> Result<String, AllocError> {
+    let version = node.version();
+    let (known_0, known_1) = (node.known(0), node.known(1));
+    let (acked_0, acked_1) = (node.acked(0), node.acked(1));
+    format!(in alloc; "version {version}, known {known_0} {known_1}, acked {acked_0} {acked_1}")
+}
+
+fn versions_text(alloc: Global, node: &NodeCore) -> Result<String, Fail> {
+    match try_versions_text(alloc, node) {
+        Err(_) => Ok(try_versions_text(alloc, node)?),
+        first => Ok(first?),
+    }
 }
 
 /// All that a refused call has to leave as it was.
-fn all_of(
-    alloc: Global,
-    node: &NodeCore,
-) -> Result<(String, usize, (u64, [u64; 2], [u64; 2])), Fail> {
-    Ok((view(alloc, node)?, node.trace().len(), versions(node)))
+fn all_of(alloc: Global, node: &NodeCore) -> Result<String, Fail> {
+    let shown = numbered_text(alloc, view(alloc, node)?.as_str(), node.trace().len())?;
+    text_of_both(alloc, shown.as_str(), versions_text(alloc, node)?.as_str())
 }
 
 fn once(
