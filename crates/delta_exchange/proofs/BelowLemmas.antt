@@ -15,7 +15,7 @@ use Rattle.replica_state.proofs.Sets.{IsIn-append_left, IsIn-append_right, IsIn-
 use Rattle.replica_state.proofs.Names.{IsAscending}
 use Rattle.delta_exchange.specs.Spelling.{Ascend}
 use Rattle.delta_exchange.specs.Cells.{each_below}
-use Rattle.delta_exchange.proofs.LawfulLemmas.{all_of, mapped_from}
+use Rattle.delta_exchange.proofs.Members.{all_of, mapped_from}
 
 -- ---- the order of places
 

@@ -11,9 +11,10 @@ use Rattle.replica_state.specs.States.{State}
 use Rattle.replica_state.specs.Folds.{fold}
 use Rattle.delta_exchange.specs.Cells.{each_below, hit_cells, exec_cells, shift_cells, entry_of, entries_of}
 use Rattle.delta_exchange.specs.Differences.{tells_hits, tells_execs, tells_shifts, untold_entry, untold_entries, difference_of}
+use Rattle.delta_exchange.proofs.Members.{flat_none, flat_same}
 use Rattle.delta_exchange.proofs.HeldEntries.{entry_member}
 use Rattle.delta_exchange.proofs.Differences.{tells_its_key, tells_its_hits, tells_its_execs, tells_its_shifts, hit_held, exec_held, shift_held}
-use Rattle.delta_exchange.proofs.Filters.{passes_not, filter_all, filter_none, flat_same, flat_none}
+use Rattle.delta_exchange.proofs.Filters.{passes_not, filter_all, filter_none}
 
 -- ---- from nothing
 

@@ -19,11 +19,12 @@ use Rattle.delta_exchange.specs.Spelling.{hit_place, exec_place, shift_place, Is
 use Rattle.delta_exchange.specs.Cells.{hit_cells, exec_cells, shift_cells, entry_of, entries_of}
 use Rattle.delta_exchange.specs.Since.{tells_cells}
 use Rattle.delta_exchange.specs.Differences.{is_key, tells_key, tells_hits, tells_execs, tells_shifts, untold_cells, untold_entry, untold_entries, difference_of}
-use Rattle.delta_exchange.proofs.LawfulLemmas.{one_of, mapped_from, mapped_in, hit_told, exec_told, shift_told, told_by, tells}
+use Rattle.delta_exchange.proofs.Members.{flat_in, in_flat, mapped_from, mapped_in, one_of}
+use Rattle.delta_exchange.proofs.LawfulLemmas.{hit_told, exec_told, shift_told}
 use Rattle.delta_exchange.proofs.BelowLemmas.{ascends}
 use Rattle.delta_exchange.proofs.HeldCells.{hit_member, member_hit, hits_ascend, exec_member, member_exec, execs_ascend, shift_member, member_shift, shifts_ascend}
 use Rattle.delta_exchange.proofs.HeldEntries.{term_below, entry_member, member_entry, entries_ascend}
-use Rattle.delta_exchange.proofs.Filters.{not_both, passes_not, in_filter, filter_in, filter_ascends, in_flat, flat_in}
+use Rattle.delta_exchange.proofs.Filters.{not_both, passes_not, in_filter, filter_in, filter_ascends}
 use Rattle.delta_exchange.proofs.OneMessage.{one_there, same_list, set_of, hit_of, exec_of, shift_of, hit_in, exec_in, shift_in}
 
 -- ---- whether an entry tells a cell
@@ -145,7 +146,7 @@ module _ (past : State) where
 
 module _ (past now : State) (nodes : ℕ) (es : List EntryValue) (are : AreEntries nodes es) (delta : IsDelta past now (flat_map operations_of es)) where
   keyed : (e : EntryValue) → IsIn e es → now.key e.name ≡ Some e.key
-  keyed e h = ((delta (Set e.name e.key)).0 (tells es e (Set e.name e.key) h (inl refl))).0
+  keyed e h = ((delta (Set e.name e.key)).0 (flat_in operations_of es e (Set e.name e.key) h (inl refl))).0
 
   entry_is : (e : EntryValue) → IsIn e es → IsEntry nodes e
   entry_is e h = one_of (IsEntry nodes) es are.each e h
@@ -161,19 +162,19 @@ module _ (past now : State) (nodes : ℕ) (es : List EntryValue) (are : AreEntri
   -- a cell in the difference is in the entry of its name
   hit_there : (e : EntryValue) → IsIn e es → (name : List ℕ) (c : ℕ × ℕ) → e.name ≡ name → IsInDelta past now (Count (Hits name c.0) c.1) → IsIn c e.hits
   hit_there e h name c s d =
-      let r = told_by es (Count (Hits name c.0) c.1) ((delta (Count (Hits name c.0) c.1)).1 d) in
+      let r = in_flat operations_of es (Count (Hits name c.0) c.1) ((delta (Count (Hits name c.0) c.1)).1 d) in
       let k = hit_of r.0 name c r.2 in
       subst (λ (x : EntryValue). IsIn c x.hits) (this e r.0 h r.1 (s ∙ k.0)) k.1
 
   exec_there : (e : EntryValue) → IsIn e es → (name : List ℕ) (key : KeyValue) (c : ℕ × ℕ × ℕ) → e.name ≡ name → IsInDelta past now (Count (Execs name key c.0 c.1) c.2) → IsIn c e.execs
   exec_there e h name key c s d =
-      let r = told_by es (Count (Execs name key c.0 c.1) c.2) ((delta (Count (Execs name key c.0 c.1) c.2)).1 d) in
+      let r = in_flat operations_of es (Count (Execs name key c.0 c.1) c.2) ((delta (Count (Execs name key c.0 c.1) c.2)).1 d) in
       let k = exec_of r.0 name key c r.2 in
       subst (λ (x : EntryValue). IsIn c x.execs) (this e r.0 h r.1 (s ∙ k.0)) k.1
 
   shift_there : (e : EntryValue) → IsIn e es → (name : List ℕ) (key : KeyValue) (c : ℕ × ℕ × ℕ × ℕ) → e.name ≡ name → IsInDelta past now (Count (Shifts name key c.0 c.1 c.2) c.3) → IsIn c e.shifts
   shift_there e h name key c s d =
-      let r = told_by es (Count (Shifts name key c.0 c.1 c.2) c.3) ((delta (Count (Shifts name key c.0 c.1 c.2) c.3)).1 d) in
+      let r = in_flat operations_of es (Count (Shifts name key c.0 c.1 c.2) c.3) ((delta (Count (Shifts name key c.0 c.1 c.2) c.3)).1 d) in
       let k = shift_of r.0 name key c r.2 in
       subst (λ (x : EntryValue). IsIn c x.shifts) (this e r.0 h r.1 (s ∙ k.0)) k.1
 
@@ -198,7 +199,7 @@ module _ (past now : State) (nodes : ℕ) (es : List EntryValue) (are : AreEntri
     hit_left : (c : ℕ × ℕ) → IsIn c e.hits → IsIn c (left e.name e.key).hits
     hit_left c k =
         let one = one_of (IsHit nodes) e.hits (entry_is e h).hits c k in
-        let d = (delta (hit_told e c)).0 (tells es e (hit_told e c) h (hit_in e c k)) in
+        let d = (delta (hit_told e c)).0 (flat_in operations_of es e (hit_told e c) h (hit_in e c k)) in
         let held = member_hit now e.name nodes c.0 one.0 (λ z. d.0.1 (sym d.0.0 ∙ z)) in
         filter_in (λ x. not (tells_hits past e.name x)) (hit_cells now e.name nodes) c
         (subst (λ n. IsIn (c.0, n) (hit_cells now e.name nodes)) d.0.0 held)
@@ -210,7 +211,7 @@ module _ (past now : State) (nodes : ℕ) (es : List EntryValue) (are : AreEntri
     exec_left : (c : ℕ × ℕ × ℕ) → IsIn c e.execs → IsIn c (left e.name e.key).execs
     exec_left c k =
         let one = one_of (IsExec nodes e.key) e.execs (entry_is e h).execs c k in
-        let d = (delta (exec_told e c)).0 (tells es e (exec_told e c) h (exec_in e c k)) in
+        let d = (delta (exec_told e c)).0 (flat_in operations_of es e (exec_told e c) h (exec_in e c k)) in
         let below = term_below nodes e.key c.0 (entry_is e h).key one.0.0 in
         let held = member_exec now e.name nodes e.key c.0 c.1 below one.0.0 one.1 (λ z. d.0.1 (sym d.0.0.1 ∙ z)) in
         filter_in (λ x. not (tells_execs past e.name e.key x)) (exec_cells now e.name e.key nodes) c
@@ -223,7 +224,7 @@ module _ (past now : State) (nodes : ℕ) (es : List EntryValue) (are : AreEntri
     shift_left : (c : ℕ × ℕ × ℕ × ℕ) → IsIn c e.shifts → IsIn c (left e.name e.key).shifts
     shift_left c k =
         let one = one_of (IsShift nodes e.key) e.shifts (entry_is e h).shifts c k in
-        let d = (delta (shift_told e c)).0 (tells es e (shift_told e c) h (shift_in e c k)) in
+        let d = (delta (shift_told e c)).0 (flat_in operations_of es e (shift_told e c) h (shift_in e c k)) in
         let below = term_below nodes e.key c.0 (entry_is e h).key one.0.0 in
         let held = member_shift now e.name nodes e.key c.0 c.1 c.2 below one.0.0 one.1 one.2 one.3 (λ z. d.0.1 (sym d.0.0.1 ∙ z)) in
         filter_in (λ x. not (tells_shifts past e.name e.key x)) (shift_cells now e.name e.key nodes) c
@@ -308,7 +309,7 @@ module _ (past now : State) (nodes : ℕ) (es : List EntryValue) (are : AreEntri
       where
         by_cells : (t : Bool) → tells_cells e ≡ t → past.key e.name ≡ Some e.key → tells_cells e ≡ true
         by_cells true q had = q
-        by_cells false q had = absurd (((delta (Set e.name e.key)).0 (tells es e (Set e.name e.key) h (inl refl))).1 (tell_same below had q))
+        by_cells false q had = absurd (((delta (Set e.name e.key)).0 (flat_in operations_of es e (Set e.name e.key) h (inl refl))).1 (tell_same below had q))
 
         by_key : (b : Bool) → tells_key past e.name e.key ≡ b → IsTrue (not (tells_key past e.name e.key) || tells_cells e)
         by_key true t = or_right (not (tells_key past e.name e.key)) (tells_cells e) (by_cells (tells_cells e) refl (key_is_told past e.name e.key t))
@@ -348,7 +349,7 @@ module _ (past now : State) (nodes : ℕ) (es : List EntryValue) (are : AreEntri
 
   left_there : (name : List ℕ) (key : KeyValue) → now.key name ≡ Some key → IsUntold name key → IsIn (left name key) es
   left_there name key held t =
-      let r = told_by es (Set name key) ((delta (Set name key)).1 (held, differs name key held t)) in
+      let r = in_flat operations_of es (Set name key) ((delta (Set name key)).1 (held, differs name key held t)) in
       let s = set_of r.0 name key r.2 in
       subst (λ x. IsIn x es) (entry_left r.0 r.1 ∙ sym (λ i. left (s.0 i) (s.1 i))) r.1
 

@@ -9,7 +9,7 @@ use Rattle.std.proofs.lemmas.List.Concat.{flat_map-cons}
 use Rattle.replica_state.specs.Operations.{IsIn}
 use Rattle.replica_state.proofs.Names.{IsAscending}
 use Rattle.replica_state.proofs.Sets.{IsIn-append_left, IsIn-append_right, IsIn-append_cases}
-use Rattle.delta_exchange.proofs.LawfulLemmas.{mapped_from, mapped_in}
+use Rattle.delta_exchange.proofs.Members.{mapped_from, mapped_in}
 
 -- ---- what passes a test
 
@@ -60,26 +60,3 @@ module _ {A : Type 0} (test : A → Bool) where
   pub filter_none : (xs : List A) → ((x : A) → IsIn x xs → test x ≡ false) → filter test xs ≡ []
   filter_none [] h = refl
   filter_none (x ∷ xs) h = ap (λ b. cond b (x ∷ filter test xs) (filter test xs)) (h x (inl refl)) ∙ filter_none xs (λ y i. h y (inr i))
-
--- ---- lists one after the other
-
-module _ {A B : Type 0} (f : A → List B) where
-  pub in_flat : (xs : List A) (y : B) → IsIn y (flat_map f xs) → (x : A) × IsIn x xs × IsIn y (f x)
-  in_flat [] y h = absurd h
-  in_flat (x ∷ xs) y h = ⊎_elim
-      (λ l. (x, inl refl, l))
-      (λ l. let r = in_flat xs y l in (r.0, inr r.1, r.2))
-      (IsIn-append_cases y (f x) (flat_map f xs) (subst (IsIn y) (flat_map-cons f x xs) h))
-
-  pub flat_in : (xs : List A) (x : A) (y : B) → IsIn x xs → IsIn y (f x) → IsIn y (flat_map f xs)
-  flat_in [] x y h k = absurd h
-  flat_in (z ∷ xs) x y (inl e) k = subst (IsIn y) (sym (flat_map-cons f z xs)) (IsIn-append_left y (f z) (flat_map f xs) (subst (λ u. IsIn y (f u)) e k))
-  flat_in (z ∷ xs) x y (inr h) k = subst (IsIn y) (sym (flat_map-cons f z xs)) (IsIn-append_right y (f z) (flat_map f xs) (flat_in xs x y h k))
-
-  pub flat_none : (xs : List A) → ((x : A) → IsIn x xs → f x ≡ []) → flat_map f xs ≡ []
-  flat_none [] h = refl
-  flat_none (x ∷ xs) h = flat_map-cons f x xs ∙ (λ i. h x (inl refl) i ++ flat_map f xs) ∙ flat_none xs (λ y k. h y (inr k))
-
-pub flat_same : {A : Type 0} (f : A → List A) (xs : List A) → ((x : A) → IsIn x xs → f x ≡ x ∷ []) → flat_map f xs ≡ xs
-flat_same f [] h = refl
-flat_same f (x ∷ xs) h = flat_map-cons f x xs ∙ (λ i. h x (inl refl) i ++ flat_map f xs) ∙ ap (λ ys. x ∷ ys) (flat_same f xs (λ y k. h y (inr k)))

@@ -18,7 +18,7 @@ use Rattle.replica_state.proofs.Names.{IsAscending}
 use Rattle.delta_exchange.specs.Messages.{EntryValue}
 use Rattle.delta_exchange.specs.Spelling.{IsHit, IsExec, IsShift, IsBody, IsKey, IsEntry, hit_bytes, exec_bytes, shift_bytes, body_bytes, entry_bytes}
 use Rattle.delta_exchange.specs.Cells.{hit_cells, exec_cells, shift_cells, entry_of, entry_under, entry_at, entries_of, EntryFits}
-use Rattle.delta_exchange.proofs.LawfulLemmas.{one_of, all_of}
+use Rattle.delta_exchange.proofs.Members.{all_of, one_of}
 use Rattle.delta_exchange.proofs.LawfulStates.{IsLawfulState}
 use Rattle.delta_exchange.proofs.BelowLemmas.{ascends, below_in, in_below, length_below, ascending_below, length_flat}
 use Rattle.delta_exchange.proofs.HeldCells.{hit_member, few_hits, hits_ascend, exec_member, few_execs, execs_ascend, shift_member, few_shifts, shifts_ascend}

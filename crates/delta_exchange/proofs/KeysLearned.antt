@@ -21,8 +21,8 @@ use Rattle.delta_exchange.specs.declared.message.NameEntry.{NameEntry}
 use Rattle.delta_exchange.specs.Messages.{EntryValue, entry_value, operations_of}
 use Rattle.delta_exchange.specs.Spelling.{Ascend}
 use Rattle.delta_exchange.specs.Told.{HasKeyOf, HasLearned}
-use Rattle.delta_exchange.proofs.Filters.{in_flat}
-use Rattle.delta_exchange.proofs.LawfulLemmas.{mapped_from, told_of}
+use Rattle.delta_exchange.proofs.Members.{in_flat, mapped_from}
+use Rattle.delta_exchange.proofs.LawfulLemmas.{told_of}
 use Rattle.delta_exchange.proofs.OneMessage.{Kinds, first_below}
 
 -- ---- a key that stays

@@ -11,32 +11,7 @@ use Rattle.replica_state.proofs.Sets.{IsIn-append_left, IsIn-append_right, IsIn-
 use Rattle.delta_exchange.specs.Messages.{EntryValue, MessageValue, operations_of, operations_in}
 use Rattle.delta_exchange.specs.Spelling.{IsHit, IsExec, IsShift, IsEntry, IsMessage}
 use Rattle.delta_exchange.specs.Wholes.{IsLawful, AreLawful}
-
--- ---- members
-
--- what holds of each holds of a member
-pub one_of : {A : Type 0} (P : A → Type 0) (xs : List A) → AllByRecursion P xs → (x : A) → IsIn x xs → P x
-one_of P [] all x h = absurd h
-one_of P (y ∷ xs) all x (inl e) = subst P (sym e) all.0
-one_of P (y ∷ xs) all x (inr h) = one_of P xs all.1 x h
-
--- and what holds of each member holds of each
-pub all_of : {A : Type 0} (P : A → Type 0) (xs : List A) → ((x : A) → IsIn x xs → P x) → AllByRecursion P xs
-all_of P [] each = tt
-all_of P (x ∷ xs) each = (each x (inl refl), all_of P xs (λ y h. each y (inr h)))
-
--- a member of a mapped list is made of one that is there
-pub mapped_from : {A B : Type 0} (f : A → B) (xs : List A) (y : B) → IsIn y (map f xs) → (x : A) × IsIn x xs × (y ≡ f x)
-mapped_from f [] y h = absurd h
-mapped_from f (x ∷ xs) y (inl e) = (x, inl refl, e)
-mapped_from f (x ∷ xs) y (inr h) =
-    let r = mapped_from f xs y h in
-    (r.0, inr r.1, r.2)
-
-pub mapped_in : {A B : Type 0} (f : A → B) (xs : List A) (x : A) → IsIn x xs → IsIn (f x) (map f xs)
-mapped_in f [] x h = absurd h
-mapped_in f (y ∷ xs) x (inl e) = inl (ap f e)
-mapped_in f (y ∷ xs) x (inr h) = inr (mapped_in f xs x h)
+use Rattle.delta_exchange.proofs.Members.{flat_in, in_flat, mapped_from, one_of}
 
 -- ---- keys
 
@@ -117,28 +92,13 @@ module _ (e : EntryValue) where
       by_kind (inr (inr (inl (c, k, s)))) = absurd cc
       by_kind (inr (inr (inr (c, k, s)))) = absurd cc
 
--- what entries tell is what one of them tells
-pub told_by : (es : List EntryValue) (op : Operation) → IsIn op (flat_map operations_of es) → (e : EntryValue) × IsIn e es × IsIn op (operations_of e)
-told_by [] op h = absurd h
-told_by (e ∷ es) op h = ⊎_elim
-    (λ l. (e, inl refl, l))
-    (λ l. let r = told_by es op l in (r.0, inr r.1, r.2))
-    (IsIn-append_cases op (operations_of e) (flat_map operations_of es) (subst (IsIn op) (flat_map-cons operations_of e es) h))
-
-pub tells : (es : List EntryValue) (e : EntryValue) (op : Operation) → IsIn e es → IsIn op (operations_of e) → IsIn op (flat_map operations_of es)
-tells [] e op h k = absurd h
-tells (f ∷ es) e op (inl s) k =
-    subst (IsIn op) (sym (flat_map-cons operations_of f es)) (IsIn-append_left op (operations_of f) (flat_map operations_of es) (subst (λ g. IsIn op (operations_of g)) s k))
-tells (f ∷ es) e op (inr h) k =
-    subst (IsIn op) (sym (flat_map-cons operations_of f es)) (IsIn-append_right op (operations_of f) (flat_map operations_of es) (tells es e op h k))
-
 pub told_lawful : (nodes : ℕ) (m : MessageValue) → IsMessage nodes m → AreLawful nodes (operations_in m)
 told_lawful nodes m h = record {
   each = λ op k.
-      let r = told_by m.entries op k in
+      let r = in_flat operations_of m.entries op k in
       entry_lawful r.0 nodes (one_of (IsEntry nodes) m.entries h.entries.each r.0 r.1) op r.2;
   keyed = λ name node number k.
-      let r = told_by m.entries (Count (Hits name node) number) k in
-      let there = tells m.entries r.0 (Set r.0.name r.0.key) r.1 (inl refl) in
+      let r = in_flat operations_of m.entries (Count (Hits name node) number) k in
+      let there = flat_in operations_of m.entries r.0 (Set r.0.name r.0.key) r.1 (inl refl) in
       subst (λ (n : List ℕ). IsTrue (is_some (key_of n (operations_in m)))) (hit_has_name r.0 name node number r.2) (set_is_keyed r.0.name r.0.key (operations_in m) there);
 }

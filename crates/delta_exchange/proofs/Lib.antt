@@ -10,6 +10,7 @@ pub mod WiderLemmas
 pub mod Examples
 pub mod EntriesAgain
 pub mod ToldLemmas
+pub mod Members
 pub mod LawfulLemmas
 pub mod Entries
 pub mod ToldSteps

@@ -12,7 +12,8 @@ use Rattle.replica_state.proofs.Sets.{IsIn-append_left, IsIn-append_right}
 use Rattle.replica_state.proofs.Names.{never_less}
 use Rattle.delta_exchange.specs.Messages.{EntryValue, MessageValue, operations_of, operations_in}
 use Rattle.delta_exchange.specs.Spelling.{hit_place, exec_place, shift_place, Ascend, IsEntry, AreEntries, IsMessage}
-use Rattle.delta_exchange.proofs.LawfulLemmas.{one_of, mapped_in, hit_told, exec_told, shift_told, told_of, told_by, tells}
+use Rattle.delta_exchange.proofs.Members.{flat_in, in_flat, mapped_in, one_of}
+use Rattle.delta_exchange.proofs.LawfulLemmas.{hit_told, exec_told, shift_told, told_of}
 
 -- ---- lists in the order of their places
 
@@ -134,15 +135,15 @@ has_cells : (nodes : ℕ) (es fs : List EntryValue) → AreEntries nodes fs → 
 has_cells nodes es fs are there e f m n same =
     record {
       hits = λ c h.
-          let r = told_by fs (hit_told e c) (there (hit_told e c) (tells es e (hit_told e c) m (hit_in e c h))) in
+          let r = in_flat operations_of fs (hit_told e c) (there (hit_told e c) (flat_in operations_of es e (hit_told e c) m (hit_in e c h))) in
           let k = hit_of r.0 e.name c r.2 in
           subst (λ (g : EntryValue). IsIn c g.hits) (this r.0 r.1 k.0) k.1;
       execs = λ c h.
-          let r = told_by fs (exec_told e c) (there (exec_told e c) (tells es e (exec_told e c) m (exec_in e c h))) in
+          let r = in_flat operations_of fs (exec_told e c) (there (exec_told e c) (flat_in operations_of es e (exec_told e c) m (exec_in e c h))) in
           let k = exec_of r.0 e.name e.key c r.2 in
           subst (λ (g : EntryValue). IsIn c g.execs) (this r.0 r.1 k.0) k.1;
       shifts = λ c h.
-          let r = told_by fs (shift_told e c) (there (shift_told e c) (tells es e (shift_told e c) m (shift_in e c h))) in
+          let r = in_flat operations_of fs (shift_told e c) (there (shift_told e c) (flat_in operations_of es e (shift_told e c) m (shift_in e c h))) in
           let k = shift_of r.0 e.name e.key c r.2 in
           subst (λ (g : EntryValue). IsIn c g.shifts) (this r.0 r.1 k.0) k.1;
     }
@@ -152,7 +153,7 @@ has_cells nodes es fs are there e f m n same =
 
 entry_there : (nodes : ℕ) (es fs : List EntryValue) → AreEntries nodes es → AreEntries nodes fs → Tells es fs → Tells fs es → (e : EntryValue) → IsIn e es → IsIn e fs
 entry_there nodes es fs is are there back e m =
-    let r = told_by fs (Set e.name e.key) (there (Set e.name e.key) (tells es e (Set e.name e.key) m (inl refl))) in
+    let r = in_flat operations_of fs (Set e.name e.key) (there (Set e.name e.key) (flat_in operations_of es e (Set e.name e.key) m (inl refl))) in
     let s = set_of r.0 e.name e.key r.2 in
     subst (λ (x : EntryValue). IsIn x fs) (sym (same r.0 r.1 s.0 s.1)) r.1
   where

@@ -21,8 +21,8 @@ use Rattle.delta_exchange.specs.Changes.{LastChanges, IsChangedCell}
 use Rattle.delta_exchange.specs.Spelling.{hit_place, exec_place, shift_place}
 use Rattle.delta_exchange.specs.Cells.{hit_cells, exec_cells, shift_cells}
 use Rattle.delta_exchange.specs.Since.{hit_of, exec_of, shift_of, hits_since, execs_since, shifts_since}
+use Rattle.delta_exchange.proofs.Members.{mapped_from, mapped_in}
 use Rattle.delta_exchange.proofs.LawfulStates.{IsLawfulState}
-use Rattle.delta_exchange.proofs.LawfulLemmas.{mapped_from, mapped_in}
 use Rattle.delta_exchange.proofs.HeldCells.{in_cell, cell_in as one_cell_in, cell_ascends, member_hit, hits_ascend, few_hits, member_exec, execs_ascend, few_execs, member_shift, shifts_ascend, few_shifts}
 use Rattle.delta_exchange.proofs.HeldEntries.{term_below}
 use Rattle.delta_exchange.proofs.LaterCells.{later_member, member_later, later_ascends, part_is_short}

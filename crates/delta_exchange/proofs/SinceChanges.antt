@@ -19,7 +19,7 @@ use Rattle.delta_exchange.specs.Messages.{EntryValue}
 use Rattle.delta_exchange.specs.Spelling.{IsHit, IsExec, IsShift, IsEntry}
 use Rattle.delta_exchange.specs.Cells.{EntryFits}
 use Rattle.delta_exchange.specs.Since.{hits_since, execs_since, shifts_since, entry_since, tells_cells}
-use Rattle.delta_exchange.proofs.LawfulLemmas.{one_of, all_of}
+use Rattle.delta_exchange.proofs.Members.{all_of, one_of}
 use Rattle.delta_exchange.proofs.LawfulStates.{IsLawfulState}
 use Rattle.delta_exchange.proofs.BelowLemmas.{ascends}
 use Rattle.delta_exchange.proofs.SinceCells.{changes_of, key_change, hit_changed, changed_hit, hits_since_ascend, few_hits_since, exec_changed, changed_exec, execs_since_ascend, few_execs_since, shift_changed, changed_shift, shifts_since_ascend, few_shifts_since}

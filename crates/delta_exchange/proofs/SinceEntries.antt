@@ -19,8 +19,8 @@ use Rattle.delta_exchange.specs.declared.marks.Marks.{Marks}
 use Rattle.delta_exchange.specs.Marks.{marks_at}
 use Rattle.delta_exchange.specs.Messages.{EntryValue}
 use Rattle.delta_exchange.specs.Since.{entry_since, tells_cells, entry_told, entry_under, entry_marked, entries_since, AreCellsOrdered}
-use Rattle.delta_exchange.proofs.LawfulLemmas.{one_of, mapped_from}
-use Rattle.delta_exchange.proofs.SinceMaps.{found_in, value_at, in_flat, flat_in, flat_ascends}
+use Rattle.delta_exchange.proofs.Members.{flat_in, in_flat, mapped_from, one_of}
+use Rattle.delta_exchange.proofs.SinceMaps.{found_in, value_at, flat_ascends}
 use Rattle.delta_exchange.proofs.LaterCells.{part_is_short}
 
 module _ (v : State) (base : ℕ) (m : Marks) where

@@ -14,7 +14,8 @@ use Rattle.delta_exchange.specs.Spelling.{IsEntry, IsMessage, entry_bytes, messa
 use Rattle.delta_exchange.specs.Cells.{EntryFits, EntriesFit}
 use Rattle.delta_exchange.specs.Versions.{VersionedValue}
 use Rattle.delta_exchange.specs.Since.{CanBeTold, IsMessageSince, entry_since}
-use Rattle.delta_exchange.proofs.LawfulLemmas.{one_of, all_of, mapped_in, hit_told, exec_told, shift_told, told_of, told_by, tells}
+use Rattle.delta_exchange.proofs.Members.{all_of, flat_in, in_flat, mapped_in, one_of}
+use Rattle.delta_exchange.proofs.LawfulLemmas.{hit_told, exec_told, shift_told, told_of}
 use Rattle.delta_exchange.proofs.LawfulStates.{IsLawfulState, lawful_state}
 use Rattle.delta_exchange.proofs.BelowLemmas.{ascends, length_flat}
 use Rattle.delta_exchange.proofs.HeldEntries.{entry_short}
@@ -60,7 +61,7 @@ module _ (v : State) (nodes : ℕ) (lawful : IsLawfulState nodes v) (few : nodes
 
   told_changed : (op : Operation) → IsIn op (flat_map operations_of entries) → Changes op
   told_changed op h =
-      let r = told_by entries op h in
+      let r = in_flat operations_of entries op h in
       entry_tells r.0 (entry_member v base m ordered r.0 r.1) op r.2
 
   -- ---- what changed it tells
@@ -74,21 +75,21 @@ module _ (v : State) (nodes : ℕ) (lawful : IsLawfulState nodes v) (few : nodes
   changed_told : (op : Operation) → Changes op → IsIn op (flat_map operations_of entries)
   changed_told (Set name key) d =
       let r = entry_changed v nodes lawful few m base version upto ordered name key d.0 d.1 in
-      tells entries (entry_since v name key base r.0) (Set name key) r.3 (inl refl)
+      flat_in operations_of entries (entry_since v name key base r.0) (Set name key) r.3 (inl refl)
   changed_told (Count (Hits name node) number) d =
       let some : v.hits name node ≢ 0 = λ z. d.positive (d.is_now ∙ z) in
       let key = some_key (v.key name) (lawful.keyed name (lawful.hit_name name node some)) in
       let r = entry_changed v nodes lawful few m base version upto ordered name key.0 key.1 (changed_name name (counted.Hits node) number d) in
       let e = entry_since v name key.0 base r.0 in
-      tells entries e (Count (Hits name node) number) r.3 (with_hit e (node, number) (changed_hit v nodes lawful few m base name r.0 r.1 r.2 node number d))
+      flat_in operations_of entries e (Count (Hits name node) number) r.3 (with_hit e (node, number) (changed_hit v nodes lawful few m base name r.0 r.1 r.2 node number d))
   changed_told (Count (Execs name key term node) number) d =
       let r = entry_changed v nodes lawful few m base version upto ordered name key d.0 (changed_name name (counted.Execs term node) number d.1) in
       let e = entry_since v name key base r.0 in
-      tells entries e (Count (Execs name key term node) number) r.3 (with_exec e (term, node, number) (changed_exec v nodes lawful few m base name r.0 r.1 r.2 key d.0 term node number d.1))
+      flat_in operations_of entries e (Count (Execs name key term node) number) r.3 (with_exec e (term, node, number) (changed_exec v nodes lawful few m base name r.0 r.1 r.2 key d.0 term node number d.1))
   changed_told (Count (Shifts name key term from to) number) d =
       let r = entry_changed v nodes lawful few m base version upto ordered name key d.0 (changed_name name (counted.Shifts term from to) number d.1) in
       let e = entry_since v name key base r.0 in
-      tells entries e (Count (Shifts name key term from to) number) r.3 (with_shift e (term, from, to, number) (changed_shift v nodes lawful few m base name r.0 r.1 r.2 key d.0 term from to number d.1))
+      flat_in operations_of entries e (Count (Shifts name key term from to) number) r.3 (with_shift e (term, from, to, number) (changed_shift v nodes lawful few m base name r.0 r.1 r.2 key d.0 term from to number d.1))
 
   -- ---- it can be written
 

@@ -18,7 +18,7 @@ use Rattle.std.proofs.lemmas.Map.Lookups.{CmpEqualImpliesEq}
 use Rattle.replica_state.specs.Operations.{IsIn}
 use Rattle.replica_state.proofs.Sets.{IsIn-append_left, IsIn-append_right, IsIn-append_cases}
 use Rattle.replica_state.proofs.Names.{IsAscending}
-use Rattle.delta_exchange.proofs.LawfulLemmas.{one_of, mapped_from, mapped_in}
+use Rattle.delta_exchange.proofs.Members.{in_flat, mapped_from, mapped_in, one_of}
 use Rattle.delta_exchange.proofs.BelowLemmas.{ascending_append}
 
 -- ---- the value at a key
@@ -57,19 +57,6 @@ module _ {K : Type 0} (cmp : K → K → Ordering) (laws : IsTotalOrder cmp) (ex
         lookup_tail (is_at (cmp k)) e es apart ∙ value_at es k x (sorted_tail cmp e.0 (keys_of es) sorted) h
 
 -- ---- lists one after the other
-
-module _ {A B : Type 0} (f : A → List B) where
-  pub in_flat : (xs : List A) (y : B) → IsIn y (flat_map f xs) → (x : A) × IsIn x xs × IsIn y (f x)
-  in_flat [] y h = absurd h
-  in_flat (x ∷ xs) y h = ⊎_elim
-      (λ l. (x, inl refl, l))
-      (λ l. let r = in_flat xs y l in (r.0, inr r.1, r.2))
-      (IsIn-append_cases y (f x) (flat_map f xs) (subst (IsIn y) (flat_map-cons f x xs) h))
-
-  pub flat_in : (xs : List A) (x : A) (y : B) → IsIn x xs → IsIn y (f x) → IsIn y (flat_map f xs)
-  flat_in [] x y h k = absurd h
-  flat_in (z ∷ xs) x y (inl s) k = subst (IsIn y) (sym (flat_map-cons f z xs)) (IsIn-append_left y (f z) (flat_map f xs) (subst (λ a. IsIn y (f a)) s k))
-  flat_in (z ∷ xs) x y (inr h) k = subst (IsIn y) (sym (flat_map-cons f z xs)) (IsIn-append_right y (f z) (flat_map f xs) (flat_in xs x y h k))
 
 -- they ascend where each does, and those of one key are below those of a greater one
 module _ {K X C : Type 0} (cmp : K → K → Ordering) (f : K × X → List C) (place : C → List ℕ) where

@@ -12,7 +12,8 @@ use Rattle.delta_exchange.specs.Messages.{EntryValue, operations_of, operations_
 use Rattle.delta_exchange.specs.Spelling.{IsEntry, IsMessage, entry_bytes, message_bytes, max_message}
 use Rattle.delta_exchange.specs.Wholes.{AreLawful, IsWhole}
 use Rattle.delta_exchange.specs.Cells.{hit_cells, exec_cells, shift_cells, entry_of, entries_of, whole_of, EntryFits, EntriesFit}
-use Rattle.delta_exchange.proofs.LawfulLemmas.{one_of, all_of, mapped_in, hit_told, exec_told, shift_told, told_of, told_by, tells}
+use Rattle.delta_exchange.proofs.Members.{all_of, flat_in, in_flat, mapped_in, one_of}
+use Rattle.delta_exchange.proofs.LawfulLemmas.{hit_told, exec_told, shift_told, told_of}
 use Rattle.delta_exchange.proofs.LawfulStates.{IsLawfulState, lawful_state}
 use Rattle.delta_exchange.proofs.BelowLemmas.{ascends, length_flat}
 use Rattle.delta_exchange.proofs.HeldCells.{hit_member, member_hit, few_hits, exec_member, member_exec, few_execs, shift_member, member_shift, few_shifts}
@@ -48,7 +49,7 @@ module _ (v : State) (nodes : ℕ) where
 
   whole_tells : (op : Operation) → IsIn op (flat_map operations_of (entries_of v nodes)) → IsTold v op
   whole_tells op h =
-      let r = told_by (entries_of v nodes) op h in
+      let r = in_flat operations_of (entries_of v nodes) op h in
       let e = entry_member v nodes r.0 r.1 in
       entry_tells e.name e.key e.keyed op (subst (λ x. IsIn op (operations_of x)) e.is r.2)
 
@@ -56,7 +57,7 @@ module _ (v : State) (nodes : ℕ) where
     -- ---- what is held it tells
 
     from_entry : (name : List ℕ) (key : KeyValue) (op : Operation) → IsIn name v.names → v.key name ≡ Some key → IsIn op (operations_of (entry_of v nodes name key)) → IsIn op (flat_map operations_of (entries_of v nodes))
-    from_entry name key op h e k = tells (entries_of v nodes) (entry_of v nodes name key) op (member_entry v nodes name key h e) k
+    from_entry name key op h e k = flat_in operations_of (entries_of v nodes) (entry_of v nodes name key) op (member_entry v nodes name key h e) k
 
     with_hits : (name : List ℕ) (key : KeyValue) (c : ℕ × ℕ) → IsIn c (hit_cells v name nodes) → IsIn (Count (Hits name c.0) c.1) (operations_of (entry_of v nodes name key))
     with_hits name key c h =

@@ -6,7 +6,7 @@ use Rattle.actions.specs.SettingGrammar.{Entry, blank, setting, SetEach, SpellsS
 use Rattle.actions.specs.Canonical.{canonical}
 use Rattle.replica_state.specs.Operations.{IsIn}
 use Rattle.delta_exchange.specs.Spelling.{IsBody}
-use Rattle.delta_exchange.proofs.LawfulLemmas.{mapped_from}
+use Rattle.delta_exchange.proofs.Members.{mapped_from}
 
 each_named : (es : List Entry) (points : List (List ℕ × List TermValue)) → SetEach es points → (s : List ℕ × List TermValue) → IsIn s points → IsTrue (is_name s.0)
 each_named [] [] h s k = absurd k

@@ -79,7 +79,10 @@ fn try_answer_text(alloc: Global, answer: &Result<Reply, NodeFault>) -> Result<S
 }
 
 /// An answer in print, also where it is a refusal.
-pub(super) fn answer_text(alloc: Global, answer: &Result<Reply, NodeFault>) -> Result<String, Fail> {
+pub(super) fn answer_text(
+    alloc: Global,
+    answer: &Result<Reply, NodeFault>,
+) -> Result<String, Fail> {
     match try_answer_text(alloc, answer) {
         Err(_) => Ok(try_answer_text(alloc, answer)?),
         first => Ok(first?),

@@ -359,7 +359,11 @@ fn difference_so(
 
 /// Plays a story of some parts over nodes that have accepted no call, once by calls and once by
 /// values, and answers what is otherwise: nothing where each line answers as wanted.
-pub(super) fn difference(alloc: Global, configs: &[Config], parts: &[&[Line]]) -> Result<String, Fail> {
+pub(super) fn difference(
+    alloc: Global,
+    configs: &[Config],
+    parts: &[&[Line]],
+) -> Result<String, Fail> {
     for as_value in [false, true] {
         let other = difference_so(alloc, configs, parts, as_value)?;
         if !other.is_empty() {
