@@ -6,7 +6,6 @@
 
 mod asks;
 mod calls;
-mod limits;
 mod messages;
 mod nodes;
 mod orders;
@@ -19,15 +18,12 @@ mod versions;
 
 use actions::{Name, NameFault, Task};
 use node_core::{Ask, Config, NodeCore, NodeFault, PassReply, Reply};
-use nodes::{
-    ALONE, FIRST_OF_TWO, SECOND_OF_TWO, ask_twice, by_call, by_value, empty_node, name_of,
-};
+use nodes::{ALONE, FIRST_OF_TWO, SECOND_OF_TWO, by_call, by_value, empty_node, name_of};
 use prints::{
-    answer_text, config_text, copy_of, list, numbered_text, printed, room, text_of, text_of_both,
-    text_with_room, view,
+    answer_text, config_text, copy_of, list, numbered_text, room, text_of, text_of_both, view,
 };
 use replica_state::Replica;
-use stage::{Cast, Line, Step, answer_with, difference, empty_cast, first_other, rights};
+use stage::{Line, Step, answer_with, difference};
 use stamp_register::Stamp;
 use std::alloc::{AllocError, Global};
 use std::fmt::Display;

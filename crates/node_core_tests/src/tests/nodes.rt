@@ -106,11 +106,3 @@ pub(super) fn by_value(
     let entry = node.apply(alloc, ask, words)?;
     Ok(entry.reply)
 }
-
-/// What a call answers, made again where memory is refused.
-pub(super) fn ask_twice(alloc: Global, node: &mut NodeCore, ask: &Ask) -> Result<Reply, NodeFault> {
-    match by_call(alloc, node, ask, &[]) {
-        Err(NodeFault::OutOfMemory) => by_call(alloc, node, ask, &[]),
-        first => first,
-    }
-}

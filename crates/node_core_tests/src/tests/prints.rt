@@ -10,14 +10,6 @@ pub(super) fn room<T>(alloc: Global, values: usize) -> Result<Vec<T>, Fail> {
     }
 }
 
-/// An empty text with room for so many bytes.
-pub(super) fn text_with_room(alloc: Global, bytes: usize) -> Result<String, Fail> {
-    match String::with_capacity(alloc, bytes) {
-        Err(_) => Ok(String::with_capacity(alloc, bytes)?),
-        first => Ok(first?),
-    }
-}
-
 pub(super) fn copy_of(alloc: Global, text: &str) -> Result<String, Fail> {
     match String::from_str(alloc, text) {
         Err(_) => Ok(String::from_str(alloc, text)?),
@@ -87,12 +79,6 @@ pub(super) fn answer_text(
         Err(_) => Ok(try_answer_text(alloc, answer)?),
         first => Ok(first?),
     }
-}
-
-/// What a call answers in print, made again where memory is refused.
-pub(super) fn printed(alloc: Global, node: &mut NodeCore, ask: &Ask) -> Result<String, Fail> {
-    let answer = ask_twice(alloc, node, ask);
-    answer_text(alloc, &answer)
 }
 
 fn try_config_text(alloc: Global, config: &Config) -> Result<String, AllocError> {

@@ -50,21 +50,17 @@ pub type Line = (usize, Step, &'static str);
 
 /// The nodes of a story, and the messages that they have made.
 #[derive(Drop)]
-pub struct Cast {
-    pub nodes: Vec<NodeCore>,
+struct Cast {
+    nodes: Vec<NodeCore>,
     messages: Vec<Vec<u8>>,
 }
 
-/// No node and no message yet, with room for so many nodes.
-pub(super) fn empty_cast(alloc: Global, nodes: usize) -> Result<Cast, Fail> {
-    Ok(Cast {
-        nodes: room(alloc, nodes)?,
-        messages: room(alloc, 20)?,
-    })
-}
-
+/// Nodes that have accepted no call, and no message yet.
 fn new_cast(alloc: Global, configs: &[Config]) -> Result<Cast, Fail> {
-    let mut cast = empty_cast(alloc, configs.len())?;
+    let mut cast = Cast {
+        nodes: room(alloc, configs.len())?,
+        messages: room(alloc, 20)?,
+    };
     for config in configs {
         cast.nodes.push(empty_node(alloc, *config)?)?;
     }
@@ -318,7 +314,7 @@ fn answer(
 }
 
 /// The first line that answers otherwise, and how; nothing where there is none.
-pub(super) fn first_other(
+fn first_other(
     alloc: Global,
     cast: &mut Cast,
     as_value: bool,
