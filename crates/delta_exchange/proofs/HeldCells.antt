@@ -6,6 +6,7 @@ use Rattle.stamp_register.specs.Keys.{KeyValue}
 use Rattle.replica_state.specs.Operations.{IsIn, count_of}
 use Rattle.replica_state.specs.States.{State}
 use Rattle.replica_state.proofs.Names.{IsAscending}
+use Rattle.delta_exchange.specs.Limits.{max_nodes}
 use Rattle.delta_exchange.specs.Spelling.{hit_place, exec_place, shift_place}
 use Rattle.delta_exchange.specs.Cells.{cell_of, hit_cells, exec_row, exec_row_of, exec_cells, shift_cell, shift_row, shift_rows, shift_rows_of, shift_cells}
 use Rattle.delta_exchange.proofs.BelowLemmas.{by_first, by_rest, below_in, in_below, length_below, ascending_below}
@@ -83,8 +84,8 @@ module _ (v : State) (name : List ℕ) (nodes : ℕ) where
   member_hit node lt some =
       in_below (λ node. cell_of (v.hits name node) (node, v.hits name node)) nodes node (node, v.hits name node) lt (cell_in (v.hits name node) (node, v.hits name node) some)
 
-  pub few_hits : nodes ≤ 16 → length (hit_cells v name nodes) ≤ 16 * 1
-  few_hits few = length_below (λ node. cell_of (v.hits name node) (node, v.hits name node)) 1 nodes 16 few (λ node. one_cell (v.hits name node) (node, v.hits name node))
+  pub few_hits : nodes ≤ max_nodes → length (hit_cells v name nodes) ≤ max_nodes * 1
+  few_hits few = length_below (λ node. cell_of (v.hits name node) (node, v.hits name node)) 1 nodes max_nodes few (λ node. one_cell (v.hits name node) (node, v.hits name node))
 
   pub hits_ascend : IsAscending (map hit_place (hit_cells v name nodes))
   hits_ascend = ascending_below (λ node. cell_of (v.hits name node) (node, v.hits name node)) hit_place nodes
@@ -112,8 +113,8 @@ module _ (v : State) (name : List ℕ) (nodes : ℕ) where
   row_in_exec term node lt some =
       in_below (λ node. cell_of (v.execs name term node) (term, node, v.execs name term node)) nodes node (term, node, v.execs name term node) lt (cell_in (v.execs name term node) (term, node, v.execs name term node) some)
 
-  few_in_row : (term : ℕ) → nodes ≤ 16 → length (exec_row v name nodes term) ≤ 16 * 1
-  few_in_row term few = length_below (λ node. cell_of (v.execs name term node) (term, node, v.execs name term node)) 1 nodes 16 few (λ node. one_cell (v.execs name term node) (term, node, v.execs name term node))
+  few_in_row : (term : ℕ) → nodes ≤ max_nodes → length (exec_row v name nodes term) ≤ max_nodes * 1
+  few_in_row term few = length_below (λ node. cell_of (v.execs name term node) (term, node, v.execs name term node)) 1 nodes max_nodes few (λ node. one_cell (v.execs name term node) (term, node, v.execs name term node))
 
   row_ascends : (term : ℕ) → IsAscending (map exec_place (exec_row v name nodes term))
   row_ascends term = ascending_below (λ node. cell_of (v.execs name term node) (term, node, v.execs name term node)) exec_place nodes
@@ -142,9 +143,9 @@ module _ (v : State) (name : List ℕ) (nodes : ℕ) where
         in_below (exec_row_of v name key nodes) 16 term (term, node, v.execs name term node) below
         (if_in (is_some (count_of key term)) (exec_row v name nodes term) (term, node, v.execs name term node) counted (row_in_exec term node lt some))
 
-    pub few_execs : nodes ≤ 16 → length (exec_cells v name key nodes) ≤ 256
-    few_execs few = length_below (exec_row_of v name key nodes) 16 16 16 (omega arith)
-        (λ term. if_length (is_some (count_of key term)) (exec_row v name nodes term) 16 (few_in_row term few))
+    pub few_execs : nodes ≤ max_nodes → length (exec_cells v name key nodes) ≤ 512
+    few_execs few = length_below (exec_row_of v name key nodes) max_nodes 16 16 (omega arith)
+        (λ term. if_length (is_some (count_of key term)) (exec_row v name nodes term) max_nodes (few_in_row term few))
 
     pub execs_ascend : IsAscending (map exec_place (exec_cells v name key nodes))
     execs_ascend = ascending_below (exec_row_of v name key nodes) exec_place 16
@@ -195,12 +196,12 @@ module _ (v : State) (name : List ℕ) (nodes : ℕ) where
       let r = below_in (shift_row v name nodes term) nodes c h in
       record { from = r.0; below = r.1; row = shift_in_row term r.0 c r.2 }
 
-  few_shifts_from : (term from : ℕ) → nodes ≤ 16 → length (shift_row v name nodes term from) ≤ 16 * 1
-  few_shifts_from term from few = length_below (shift_cell v name term from) 1 nodes 16 few
+  few_shifts_from : (term from : ℕ) → nodes ≤ max_nodes → length (shift_row v name nodes term from) ≤ max_nodes * 1
+  few_shifts_from term from few = length_below (shift_cell v name term from) 1 nodes max_nodes few
       (λ to. unless_length (to == from) (cell_of (v.shifts name term from to) (term, from, to, v.shifts name term from to)) 1 (one_cell (v.shifts name term from to) (term, from, to, v.shifts name term from to)))
 
-  few_shifts_of : (term : ℕ) → nodes ≤ 16 → length (shift_rows v name nodes term) ≤ 16 * 16
-  few_shifts_of term few = length_below (shift_row v name nodes term) 16 nodes 16 few (λ from. few_shifts_from term from few)
+  few_shifts_of : (term : ℕ) → nodes ≤ max_nodes → length (shift_rows v name nodes term) ≤ max_nodes * max_nodes
+  few_shifts_of term few = length_below (shift_row v name nodes term) max_nodes nodes max_nodes few (λ from. few_shifts_from term from few)
 
   shift_row_ascends : (term from : ℕ) → IsAscending (map shift_place (shift_row v name nodes term from))
   shift_row_ascends term from = ascending_below (shift_cell v name term from) shift_place nodes
@@ -239,9 +240,9 @@ module _ (v : State) (name : List ℕ) (nodes : ℕ) where
         let rows = in_below (shift_row v name nodes term) nodes from cell lt row in
         in_below (shift_rows_of v name key nodes) 16 term cell below (if_in (is_some (count_of key term)) (shift_rows v name nodes term) cell counted rows)
 
-    pub few_shifts : nodes ≤ 16 → length (shift_cells v name key nodes) ≤ 4096
-    few_shifts few = length_below (shift_rows_of v name key nodes) 256 16 16 (omega arith)
-        (λ term. if_length (is_some (count_of key term)) (shift_rows v name nodes term) 256 (few_shifts_of term few))
+    pub few_shifts : nodes ≤ max_nodes → length (shift_cells v name key nodes) ≤ 16384
+    few_shifts few = length_below (shift_rows_of v name key nodes) (max_nodes * max_nodes) 16 16 (omega arith)
+        (λ term. if_length (is_some (count_of key term)) (shift_rows v name nodes term) (max_nodes * max_nodes) (few_shifts_of term few))
 
     pub shifts_ascend : IsAscending (map shift_place (shift_cells v name key nodes))
     shifts_ascend = ascending_below (shift_rows_of v name key nodes) shift_place 16

@@ -15,6 +15,7 @@ use Rattle.stamp_register.specs.Keys.{KeyValue, terms_read, terms_in_text, terms
 use Rattle.replica_state.specs.Operations.{IsIn, count_in, count_under, count_of}
 use Rattle.replica_state.specs.States.{State}
 use Rattle.replica_state.proofs.Names.{IsAscending}
+use Rattle.delta_exchange.specs.Limits.{max_nodes}
 use Rattle.delta_exchange.specs.Messages.{EntryValue}
 use Rattle.delta_exchange.specs.Spelling.{IsHit, IsExec, IsShift, IsBody, IsKey, IsEntry, hit_bytes, exec_bytes, shift_bytes, body_bytes, entry_bytes}
 use Rattle.delta_exchange.specs.Cells.{hit_cells, exec_cells, shift_cells, entry_of, entry_under, entry_at, entries_of, EntryFits}
@@ -136,7 +137,7 @@ module _ (v : State) (nodes : ℕ) where
 
   -- ---- they can be written
 
-  module _ (lawful : IsLawfulState nodes v) (few : nodes ≤ 16) where
+  module _ (lawful : IsLawfulState nodes v) (few : nodes ≤ max_nodes) where
     hit_is : (name : List ℕ) (c : ℕ × ℕ) → c.1 < 2 ^ 64 → IsIn c (hit_cells v name nodes) → IsHit nodes c
     hit_is name c fits h =
         let r = hit_member v name nodes c h in
@@ -200,7 +201,7 @@ name_short name h =
     let e : nat_le (length name) 128 ≡ true = most.1 in
     grind (arith, nat_tests)
 
-pub entry_short : (nodes : ℕ) (e : EntryValue) → IsEntry nodes e → length e.hits ≤ 16 → length e.execs ≤ 256 → length e.shifts ≤ 4096 → length (entry_bytes e) ≤ 48930
+pub entry_short : (nodes : ℕ) (e : EntryValue) → IsEntry nodes e → length e.hits ≤ max_nodes → length e.execs ≤ 512 → length e.shifts ≤ 16384 → length (entry_bytes e) ≤ 186802
 entry_short nodes e h hits execs shifts =
     let name = name_short e.name h.name in
     let body = body_short e.key.body h.key.body in

@@ -111,4 +111,4 @@ message_takes nodes bytes m few fits e =
 pub message_again : (nodes : ℕ) (bytes : List ℕ) (m : MessageValue) → SpellsMessage nodes bytes m → message_at nodes bytes ≡ Ok m
 unfolding message_at
 message_again nodes bytes m h =
-    rw (le-leb (length bytes) 16777216 h.2) (ap (fields_at (length bytes) nodes) h.1 ∙ fields_again (length bytes) nodes m h.0)
+    rw (le-leb (length bytes) 67108864 h.2) (ap (fields_at (length bytes) nodes) h.1 ∙ fields_again (length bytes) nodes m h.0)

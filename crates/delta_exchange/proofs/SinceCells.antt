@@ -13,6 +13,7 @@ use Rattle.replica_state.specs.Points.{counted_cmp, is_hits}
 use Rattle.replica_state.specs.declared.point.Counted.{Counted}
 use Rattle.replica_state.specs.declared.point.Counted.TheVariants.{Hits, Execs, Shifts}
 use Rattle.replica_state.proofs.Names.{IsAscending}
+use Rattle.delta_exchange.specs.Limits.{max_nodes}
 use Rattle.delta_exchange.specs.declared.marks.NameMarks.{NameMarks}
 use Rattle.delta_exchange.specs.declared.marks.Marks.{Marks}
 use Rattle.delta_exchange.specs.Marks as kept
@@ -47,7 +48,7 @@ marked_above key base true None lt = absurd (omega (arith, lt))
 marked_above key base false None lt = absurd (omega (arith, lt))
 marked_above key base hits (Some n) lt = (n, refl, lt)
 
-module _ (v : State) (nodes : ℕ) (lawful : IsLawfulState nodes v) (few : nodes ≤ 16) (m : Marks) (base : ℕ) (name : List ℕ) (w : NameMarks) (at : marks_at m.names.entries name ≡ Some w) (ordered : IsOrdered counted_cmp w.cells) where
+module _ (v : State) (nodes : ℕ) (lawful : IsLawfulState nodes v) (few : nodes ≤ max_nodes) (m : Marks) (base : ℕ) (name : List ℕ) (w : NameMarks) (at : marks_at m.names.entries name ≡ Some w) (ordered : IsOrdered counted_cmp w.cells) where
   abbrev IsChanged : Counted → ℕ → Type 0
   IsChanged c number = IsChangedCell v (changes_of m) base name c number
 
@@ -91,7 +92,7 @@ module _ (v : State) (nodes : ℕ) (lawful : IsLawfulState nodes v) (few : nodes
       across (Execs t i) e x y lt h k = absurd h
       across (Shifts t i o) e x y lt h k = absurd h
 
-  pub few_hits_since : length (hits_since v name base w) ≤ 16
+  pub few_hits_since : length (hits_since v name base w) ≤ max_nodes
   few_hits_since =
       let all = hit_cells v name nodes in
       let short = part_is_short (map hit_place (hits_since v name base w)) (map hit_place all) hits_since_ascend (hits_ascend v name nodes) part in
@@ -156,7 +157,7 @@ module _ (v : State) (nodes : ℕ) (lawful : IsLawfulState nodes v) (few : nodes
         across (Hits i) e x y lt h k = absurd h
         across (Shifts t i o) e x y lt h k = absurd h
 
-    pub few_execs_since : length (execs_since v name base w) ≤ 256
+    pub few_execs_since : length (execs_since v name base w) ≤ 512
     few_execs_since =
         let since = execs_since v name base w in
         let all = exec_cells v name key nodes in
@@ -220,7 +221,7 @@ module _ (v : State) (nodes : ℕ) (lawful : IsLawfulState nodes v) (few : nodes
         across (Hits i) e x y lt h k = absurd h
         across (Execs t i) e x y lt h k = absurd h
 
-    pub few_shifts_since : length (shifts_since v name base w) ≤ 4096
+    pub few_shifts_since : length (shifts_since v name base w) ≤ 16384
     few_shifts_since =
         let since = shifts_since v name base w in
         let all = shift_cells v name key nodes in

@@ -11,6 +11,7 @@ use Rattle.replica_state.specs.Points.{counted_cmp, is_hits}
 use Rattle.replica_state.specs.OpSets as state
 use Rattle.replica_state.specs.declared.point.Counted.{Counted}
 use Rattle.replica_state.specs.declared.point.Counted.TheVariants.{Hits, Execs, Shifts}
+use Rattle.delta_exchange.specs.Limits.{max_nodes}
 use Rattle.delta_exchange.specs.declared.marks.NameMarks.{NameMarks}
 use Rattle.delta_exchange.specs.declared.marks.Marks.{Marks}
 use Rattle.delta_exchange.specs.Marks.{marks_at, latest_of, marks_value, last_changes, cell_change, AreUpto}
@@ -75,7 +76,7 @@ module _ (v : State) (m : Marks) (base : ℕ) (name : List ℕ) where
             (λ le. absurd (h (unchanged_upto (omega (arith, is, le)))))
             (cases_lt base w.latest)
 
-  module _ (nodes : ℕ) (lawful : IsLawfulState nodes v) (few : nodes ≤ 16) (w : NameMarks) (at : marks_at m.names.entries name ≡ Some w) (ordered : IsOrdered counted_cmp w.cells) (key : KeyValue) (keyed : v.key name ≡ Some key) where
+  module _ (nodes : ℕ) (lawful : IsLawfulState nodes v) (few : nodes ≤ max_nodes) (w : NameMarks) (at : marks_at m.names.entries name ≡ Some w) (ordered : IsOrdered counted_cmp w.cells) (key : KeyValue) (keyed : v.key name ≡ Some key) where
     abbrev entry : EntryValue
     entry = entry_since v name key base w
 
@@ -199,7 +200,7 @@ module _ (v : State) (m : Marks) (base : ℕ) (name : List ℕ) where
             (r.0, r.1, r.2, r.3, (omega (arith, positive), fit))
 
 -- so each name of which something changed has its entry
-pub entry_changed : (v : State) (nodes : ℕ) (lawful : IsLawfulState nodes v) (few : nodes ≤ 16) (m : Marks) (base version : ℕ) → AreUpto (marks_value m) version → AreOrdered v base m
+pub entry_changed : (v : State) (nodes : ℕ) (lawful : IsLawfulState nodes v) (few : nodes ≤ max_nodes) (m : Marks) (base version : ℕ) → AreUpto (marks_value m) version → AreOrdered v base m
     → (name : List ℕ) (key : KeyValue) → v.key name ≡ Some key → (IsUnchangedSince v (changes_of m) base name → ⊥)
     → (w : NameMarks) × (marks_at m.names.entries name ≡ Some w) × IsOrdered counted_cmp w.cells × IsIn (entry_since v name key base w) (all_since v base m)
 entry_changed v nodes lawful few m base version upto ordered name key keyed h =

@@ -6,6 +6,7 @@ use Rattle.replica_state.specs.Operations.{Operation, Set, Count, Hits, Execs, S
 use Rattle.replica_state.specs.States.{State}
 use Rattle.replica_state.specs.declared.point.Counted.TheVariants as counted
 use Rattle.replica_state.proofs.Sets.{IsIn-append_left, IsIn-append_right}
+use Rattle.delta_exchange.specs.Limits.{max_nodes}
 use Rattle.delta_exchange.specs.declared.marks.Marks.{Marks}
 use Rattle.delta_exchange.specs.Marks.{marks_value, AreUpto}
 use Rattle.delta_exchange.specs.Changes.{IsChangeSince, IsChangedCell, IsUnchangedSince}
@@ -38,7 +39,7 @@ module _ (e : EntryValue) where
   with_shift c h = inr (IsIn-append_right (shift_told e c) (map (hit_told e) e.hits) (map (exec_told e) e.execs ++ map (shift_told e) e.shifts)
       (IsIn-append_right (shift_told e c) (map (exec_told e) e.execs) (map (shift_told e) e.shifts) (mapped_in (shift_told e) e.shifts c h)))
 
-module _ (v : State) (nodes : ℕ) (lawful : IsLawfulState nodes v) (few : nodes ≤ 16) (m : Marks) (base version : ℕ) (upto : AreUpto (marks_value m) version) (ordered : AreOrdered v base m) where
+module _ (v : State) (nodes : ℕ) (lawful : IsLawfulState nodes v) (few : nodes ≤ max_nodes) (m : Marks) (base version : ℕ) (upto : AreUpto (marks_value m) version) (ordered : AreOrdered v base m) where
   abbrev Changes : Operation → Type 0
   Changes = IsChangeSince v (changes_of m) base
 
@@ -94,7 +95,7 @@ module _ (v : State) (nodes : ℕ) (lawful : IsLawfulState nodes v) (few : nodes
   -- ---- it can be written
 
   module _ (fit : EntriesFit entries) (names : length v.names ≤ 256) where
-    each_is : (e : EntryValue) → IsIn e entries → IsEntry nodes e × (length (entry_bytes e) ≤ 48930)
+    each_is : (e : EntryValue) → IsIn e entries → IsEntry nodes e × (length (entry_bytes e) ≤ 186802)
     each_is e h =
         let r = entry_member v base m ordered e h in
         let s = entry_since v r.name r.key base r.marks in
@@ -103,7 +104,7 @@ module _ (v : State) (nodes : ℕ) (lawful : IsLawfulState nodes v) (few : nodes
         let hits = few_hits_since v nodes lawful few m base r.name r.marks r.at r.ordered in
         let execs = few_execs_since v nodes lawful few m base r.name r.marks r.at r.ordered r.key r.keyed in
         let shifts = few_shifts_since v nodes lawful few m base r.name r.marks r.at r.ordered r.key r.keyed in
-        subst (λ x. IsEntry nodes x × (length (entry_bytes x) ≤ 48930)) (sym r.is) (is, entry_short nodes s is hits execs shifts)
+        subst (λ x. IsEntry nodes x × (length (entry_bytes x) ≤ 186802)) (sym r.is) (is, entry_short nodes s is hits execs shifts)
 
     pub is_spelled : (n : MessageValue) → n.entries ≡ entries → n.from < nodes → n.to < nodes → n.to ≢ n.from → n.base < 2 ^ 64 → n.upto < 2 ^ 64 → n.ack < 2 ^ 64 → IsMessage nodes n
     is_spelled n same lt less apart b u a =
@@ -126,7 +127,7 @@ module _ (v : State) (nodes : ℕ) (lawful : IsLawfulState nodes v) (few : nodes
     pub is_short : (n : MessageValue) → n.entries ≡ entries → length (message_bytes n) ≤ max_message
     is_short n same =
         let most = few_entries v base m ordered lawful.ascending lawful.key_name in
-        let bytes = length_flat entry_bytes 48930 entries (λ e h. (each_is e h).1) in
+        let bytes = length_flat entry_bytes 186802 entries (λ e h. (each_is e h).1) in
         rw same (omega (arith, most, names, bytes))
 
 -- where the state can be told

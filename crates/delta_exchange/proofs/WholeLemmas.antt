@@ -8,6 +8,7 @@ use Rattle.replica_state.specs.States.{State}
 use Rattle.replica_state.specs.Folds.{fold}
 use Rattle.replica_state.specs.Deltas.{IsTold, IsAllTold}
 use Rattle.replica_state.proofs.Sets.{IsIn-append_left, IsIn-append_right}
+use Rattle.delta_exchange.specs.Limits.{max_nodes}
 use Rattle.delta_exchange.specs.Messages.{EntryValue, operations_of, operations_in}
 use Rattle.delta_exchange.specs.Spelling.{IsEntry, IsMessage, entry_bytes, message_bytes, max_message}
 use Rattle.delta_exchange.specs.Wholes.{AreLawful, IsWhole}
@@ -104,14 +105,14 @@ module _ (v : State) (nodes : ℕ) where
 
     -- ---- it can be written
 
-    module _ (few : nodes ≤ 16) (fit : EntriesFit (entries_of v nodes)) where
-      each_is : (e : EntryValue) → IsIn e (entries_of v nodes) → IsEntry nodes e × (length (entry_bytes e) ≤ 48930)
+    module _ (few : nodes ≤ max_nodes) (fit : EntriesFit (entries_of v nodes)) where
+      each_is : (e : EntryValue) → IsIn e (entries_of v nodes) → IsEntry nodes e × (length (entry_bytes e) ≤ 186802)
       each_is e h =
           let r = entry_member v nodes e h in
           let fits : EntryFits (entry_of v nodes r.name r.key) = subst EntryFits r.is (one_of EntryFits (entries_of v nodes) fit e h) in
           let is = entry_is v nodes lawful few r.name r.key r.held r.keyed fits in
           let short = entry_short nodes (entry_of v nodes r.name r.key) is (few_hits v r.name nodes few) (few_execs v r.name nodes r.key few) (few_shifts v r.name nodes r.key few) in
-          subst (λ x. IsEntry nodes x × (length (entry_bytes x) ≤ 48930)) (sym r.is) (is, short)
+          subst (λ x. IsEntry nodes x × (length (entry_bytes x) ≤ 186802)) (sym r.is) (is, short)
 
       can_be_written : (from to : ℕ) → from < nodes → to < nodes → to ≢ from → length v.names ≤ 256 → IsMessage nodes (whole_of v nodes from to)
       can_be_written from to lt less apart names =
@@ -134,7 +135,7 @@ module _ (v : State) (nodes : ℕ) where
       keeps_to_limit : (from to : ℕ) → length v.names ≤ 256 → length (message_bytes (whole_of v nodes from to)) ≤ max_message
       keeps_to_limit from to names =
           let entries = few_entries v nodes names in
-          let bytes = length_flat entry_bytes 48930 (entries_of v nodes) (λ e h. (each_is e h).1) in
+          let bytes = length_flat entry_bytes 186802 (entries_of v nodes) (λ e h. (each_is e h).1) in
           simp length-append (omega (arith, entries, bytes))
 
       pub is_whole : (from to : ℕ) → from < nodes → to < nodes → to ≢ from → length v.names ≤ 256 → IsWhole nodes from to v (whole_of v nodes from to)
@@ -150,7 +151,7 @@ module _ (v : State) (nodes : ℕ) where
       }
 
 -- where the state is that of lawful operations
-pub whole_is_whole : (v : State) (nodes from to : ℕ) → (ops : List Operation) × (v ≡ fold ops) × AreLawful nodes ops → nodes ≤ 16 → from < nodes → to < nodes → to ≢ from → length v.names ≤ 256
+pub whole_is_whole : (v : State) (nodes from to : ℕ) → (ops : List Operation) × (v ≡ fold ops) × AreLawful nodes ops → nodes ≤ max_nodes → from < nodes → to < nodes → to ≢ from → length v.names ≤ 256
     → EntriesFit (entries_of v nodes) → IsWhole nodes from to v (whole_of v nodes from to)
 whole_is_whole v nodes from to (ops, same, lawful) few lt less apart names fit =
     is_whole v nodes (subst (IsLawfulState nodes) (sym same) (lawful_state nodes ops lawful)) few fit from to lt less apart names

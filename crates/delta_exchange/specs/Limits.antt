@@ -2,7 +2,7 @@
 use Rattle.std.specs.Prelude.{ℕ}
 
 abbrev pub max_nodes : ℕ
-max_nodes = 16
+max_nodes = 32
 
 abbrev pub max_names : ℕ
 max_names = 256

@@ -16,7 +16,7 @@ use Rattle.delta_exchange.specs.Messages.{EntryValue, MessageValue}
 
 -- the most bytes of a message
 abbrev pub max_message : ℕ
-max_message = 16777216
+max_message = 67108864
 
 -- ---- the bytes
 

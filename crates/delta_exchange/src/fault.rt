@@ -39,7 +39,7 @@ pub enum WireFault {
     ZeroCell { offset: usize },
     /// The key sets no counted term of this number.
     BadTerm { offset: usize },
-    /// There are more than 16777216 bytes, which is the offset.
+    /// There are more than 67108864 bytes, which is the offset.
     TooBig { offset: usize },
     /// Memory was refused.
     OutOfMemory,

@@ -215,7 +215,7 @@ fn held_entries<R: Replica>(
 /// All that a replica holds, as a message from one node of a cluster to another that tells no
 /// version.
 ///
-/// Of at most 16 nodes and 256 names it is never too long to be written. Only want of memory is an
+/// Of at most 32 nodes and 256 names it is never too long to be written. Only want of memory is an
 /// error. Each number that may differ from 0 is read once.
 pub fn message_of_all<R: Replica>(
     alloc: Global,

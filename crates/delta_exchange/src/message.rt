@@ -4,7 +4,7 @@ use actions::Name;
 use stamp_register::Key;
 
 /// How many nodes a cluster has at most.
-pub const MAX_NODES: u8 = 16;
+pub const MAX_NODES: u8 = 32;
 
 /// How many names a node holds at most, so that one message can tell all of them.
 pub const MAX_NAMES: usize = 256;

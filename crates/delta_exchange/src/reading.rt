@@ -12,7 +12,7 @@ use crate::wire::{MAGIC, Whole, read_bytes, read_node, read_other_node, read_u16
 use std::alloc::Global;
 
 /// The most bytes of a message.
-const MAX_MESSAGE: usize = 16_777_216;
+const MAX_MESSAGE: usize = 67_108_864;
 
 /// What is left after the first four bytes.
 #[tactic(auto, unfolding(crate::specs::Reading::magic_at))]

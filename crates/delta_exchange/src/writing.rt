@@ -104,7 +104,7 @@ fn put_entries(out: &mut Vec<u8>, entries: &[NameEntry]) -> Result<(), AllocErro
     Ok(())
 }
 
-/// The bytes of a message, at most 16777216, from which `decode` gives it again.
+/// The bytes of a message, at most 67108864, from which `decode` gives it again.
 ///
 /// Its nodes are those of some cluster, of at most 256, its texts canonical, and its names and cells
 /// in order. Only want of memory is an error.

@@ -47,15 +47,23 @@ const REMOVED_B: [u8; 12] = [1, b'b', 0, 0, 0, 0, 0, 0, 0, 1, 0, 0];
 /// No cells.
 const NO_CELLS: [u8; 5] = [0, 0, 0, 0, 0];
 
-fn decoded(alloc: Global, bytes: &[u8]) -> Result<Message, WireFault> {
-    match decode(alloc, 2, bytes) {
-        Err(WireFault::OutOfMemory) => decode(alloc, 2, bytes),
+fn decoded_by(alloc: Global, nodes: u8, bytes: &[u8]) -> Result<Message, WireFault> {
+    match decode(alloc, nodes, bytes) {
+        Err(WireFault::OutOfMemory) => decode(alloc, nodes, bytes),
         first => first,
     }
 }
 
+fn decoded(alloc: Global, bytes: &[u8]) -> Result<Message, WireFault> {
+    decoded_by(alloc, 2, bytes)
+}
+
+fn fault_by(alloc: Global, nodes: u8, bytes: &[u8]) -> Option<WireFault> {
+    decoded_by(alloc, nodes, bytes).err()
+}
+
 fn fault(alloc: Global, bytes: &[u8]) -> Option<WireFault> {
-    decoded(alloc, bytes).err()
+    fault_by(alloc, 2, bytes)
 }
 
 /// What the message of these bytes is written as.

@@ -1,11 +1,11 @@
-//! The greatest messages of a cluster of 16 nodes, which `delta_exchange_tests` and `message_times`
+//! The greatest messages of a cluster of 32 nodes, which `delta_exchange_tests` and `message_times`
 //! read and write.
 #![tactic(auto)]
 
 use std::alloc::{AllocError, Global};
 
 /// How many nodes the cluster has.
-pub const NODES: u8 = 16;
+pub const NODES: u8 = 32;
 
 const TERMS: u8 = 16;
 
@@ -15,10 +15,10 @@ const GREATEST: [u8; 8] = [0xff; 8];
 /// Ends a name of 128 bytes of which two are told.
 const REST_OF_NAME: [u8; 126] = [b'x'; 126];
 
-/// Of node 0 to node 15, with so many names.
+/// Of node 0 to node 31, with so many names.
 fn push_head(bytes: &mut Vec<u8>, names: u16) -> Result<(), AllocError> {
     bytes.extend_from_slice(b"FPG1")?;
-    bytes.extend_from_slice(&[0, 15])?;
+    bytes.extend_from_slice(&[0, 31])?;
     for _ in 0..3 {
         bytes.extend_from_slice(&GREATEST)?;
     }
@@ -40,7 +40,7 @@ fn push_text(bytes: &mut Vec<u8>) -> Result<(), AllocError> {
 /// The greatest clock, of the last node.
 fn push_key(bytes: &mut Vec<u8>) -> Result<(), AllocError> {
     bytes.extend_from_slice(&GREATEST)?;
-    bytes.extend_from_slice(&[15, 1, 4, 0])?;
+    bytes.extend_from_slice(&[31, 1, 4, 0])?;
     push_text(bytes)
 }
 
@@ -53,9 +53,9 @@ fn push_hits(bytes: &mut Vec<u8>) -> Result<(), AllocError> {
     Ok(())
 }
 
-/// 256 of them.
+/// 512 of them.
 fn push_execs(bytes: &mut Vec<u8>) -> Result<(), AllocError> {
-    bytes.extend_from_slice(&[1, 0])?;
+    bytes.extend_from_slice(&[2, 0])?;
     for term in 0..TERMS {
         for node in 0..NODES {
             bytes.extend_from_slice(&[term, node])?;
@@ -78,9 +78,9 @@ fn push_shifts_of(bytes: &mut Vec<u8>, term: u8) -> Result<(), AllocError> {
     Ok(())
 }
 
-/// 3840 of them.
+/// 15872 of them.
 fn push_shifts(bytes: &mut Vec<u8>) -> Result<(), AllocError> {
-    bytes.extend_from_slice(&[0x0f, 0])?;
+    bytes.extend_from_slice(&[0x3e, 0])?;
     for term in 0..TERMS {
         push_shifts_of(bytes, term)?;
     }

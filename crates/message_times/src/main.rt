@@ -23,13 +23,25 @@ fn write(alloc: Global, bytes: &[u8], rounds: u32) -> Result<(), WireFault> {
     Ok(())
 }
 
-/// Does the work of this name on a message of so many names, if there is one, and answers the
-/// message's bytes.
+/// Reads a message and writes it, so often, and answers whether each time it got the same bytes.
+fn is_written_again(alloc: Global, bytes: &[u8], rounds: u32) -> Result<bool, WireFault> {
+    for _ in 0..rounds {
+        let message = decode(alloc, NODES, bytes)?;
+        if encode(alloc, &message)?.as_slice() != bytes {
+            return Ok(false);
+        }
+    }
+    Ok(true)
+}
+
+/// Does the work of this name on a message of so many names, and answers the message's bytes; or
+/// nothing where no work has this name, or what was written differs from what was read.
 fn work(alloc: Global, name: &str, names: u16, rounds: u32) -> Result<Option<usize>, WireFault> {
     let bytes = great_message(alloc, names)?;
     match name {
         "decode" => read(alloc, &bytes, rounds)?,
         "encode" => write(alloc, &bytes, rounds)?,
+        "again" if is_written_again(alloc, &bytes, rounds)? => (),
         _ => return Ok(None),
     }
     Ok(Some(bytes.len()))
@@ -46,6 +58,6 @@ fn main(rt: HostRuntime) -> anyhow::Result<ExitCode> {
             }
         }
     }
-    eprintln!(rt; "message_times decode|encode NAMES ROUNDS")?;
+    eprintln!(rt; "message_times decode|encode|again NAMES ROUNDS")?;
     Ok(ExitCode::from(2))
 }

@@ -8,6 +8,7 @@ use Rattle.replica_state.specs.Operations.{Operation, Count, Hits, Execs, same_c
 use Rattle.replica_state.specs.States.{State, with_name, with_hits, with_execs, with_pass, rights_of}
 use Rattle.replica_state.specs.Folds.{fold, clock_of, names_of, key_of, number_at, at_key}
 use Rattle.replica_state.proofs.FoldSteps.{fold_hits, fold_execs, max_zero, is_later, all_later, later_some, either_way}
+use Rattle.delta_exchange.specs.Limits.{max_nodes}
 use Rattle.node_core.specs.declared.config.Config.{Config}
 use Rattle.node_core.specs.Asks.{Call, Pass}
 use Rattle.node_core.specs.Nodes.{Node, start, state_shown, setting_of}
@@ -32,7 +33,7 @@ unfolding fold
 fold_no_execs name k i = refl
 
 -- a new node
-pub holds_new : (config : Config) (state : State) → config.node < config.nodes → config.nodes ≤ 16 → config.trace_cap < 2 ^ 32 → state ≡ fold [] → Holds config 0 state 0 (replay config.node [])
+pub holds_new : (config : Config) (state : State) → config.node < config.nodes → config.nodes ≤ max_nodes → config.trace_cap < 2 ^ 32 → state ≡ fold [] → Holds config 0 state 0 (replay config.node [])
 unfolding replay_from
 holds_new config state own few small e = record {
   own = own;

@@ -1,6 +1,6 @@
 //! Which node this is.
 
-/// Which node of the cluster this is, how many nodes the cluster has (1 to 16), and how many
+/// Which node of the cluster this is, how many nodes the cluster has (1 to 32), and how many
 /// calls the node accepts in its life.
 #[derive(Clone, Copy, Debug, PartialEq, Eq)]
 pub struct Config {

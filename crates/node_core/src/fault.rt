@@ -76,7 +76,7 @@ pub enum NodeFault {
     AckAhead,
     /// With the message a term would have more executions than its count.
     Overspent,
-    /// The cluster hasn't 1 to 16 nodes, or the node isn't one of them.
+    /// The cluster hasn't 1 to 32 nodes, or the node isn't one of them.
     BadConfig,
     /// Memory was refused.
     OutOfMemory,

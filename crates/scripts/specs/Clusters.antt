@@ -15,7 +15,7 @@ use Rattle.node_core.specs.Texts.{node_fault_text, list_text}
 use Rattle.scripts.specs.Commands.{RequestValue, call, list, rights, spent, hits}
 use Rattle.scripts.specs.Replies.{answer_text, message_text, refused_text, no_node_text, no_message_text}
 
--- a cluster has 1 to 16 nodes
+-- a cluster has 1 to 32 nodes
 abbrev pub is_cluster_size : ℕ → Bool
 is_cluster_size count = nat_le 1 count && nat_le count max_nodes
 

@@ -1,6 +1,7 @@
 //! Messages of which bytes are left out or altered.
 
 use super::*;
+use delta_exchange::MAX_NODES;
 
 /// Where the fields of `ONE_NAME` begin.
 const FIELDS: [usize; 22] = [
@@ -14,6 +15,15 @@ fn altered(index: usize, value: u8) -> [u8; 75] {
         *byte = value;
     }
     bytes
+}
+
+/// The bytes with one set to another value.
+fn with_byte(alloc: Global, bytes: &[u8], index: usize, value: u8) -> Result<Vec<u8>, Fail> {
+    let mut bytes = joined(alloc, bytes, bytes.len(), &[])?;
+    if let Some(byte) = bytes.get_mut(index) {
+        *byte = value;
+    }
+    Ok(bytes)
 }
 
 /// Where the field begins that is cut off at this length.
@@ -69,6 +79,26 @@ fn each_byte_at_each_value(rt: HostRuntime) -> Result<(), Fail> {
     }
     // All values of the 24 bytes of versions and the 8 of the clock are read.
     assert!(rt; read > 32 * 256);
+    Ok(())
+}
+
+/// Receivers in the largest cluster, and what stands in place of the magic.
+#[test]
+fn receivers_of_the_largest_cluster(rt: HostRuntime) -> Result<(), Fail> {
+    for (index, value, wanted) in [
+        (5, 31, None),
+        (5, 32, Some(WireFault::BadNode { offset: 5 })),
+        (3, 32, Some(WireFault::Magic { offset: 0 })),
+    ] {
+        for bytes in [EMPTY.as_slice(), &ONE_NAME] {
+            let found = fault_by(
+                rt.alloc(),
+                MAX_NODES,
+                &with_byte(rt.alloc(), bytes, index, value)?,
+            );
+            assert_eq!(rt; found, wanted, "byte {index} at {value}");
+        }
+    }
     Ok(())
 }
 

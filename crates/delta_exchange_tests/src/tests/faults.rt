@@ -25,22 +25,32 @@ fn fault_of_text(alloc: Global, len: [u8; 2], text: &[u8]) -> Result<Option<Wire
     fault_behind(alloc, 44, &[&len, text, &NO_CELLS])
 }
 
-/// Bytes of zeros.
-fn zeros(alloc: Global, len: usize) -> Result<Vec<u8>, Fail> {
-    match vec![in alloc; 0; len] {
-        Err(_) => Ok(vec![in alloc; 0; len]?),
-        first => Ok(first?),
+/// Zeros, one more than a message has bytes at most.
+fn try_zeros(alloc: Global) -> Result<Vec<u8>, AllocError> {
+    let mebibyte = vec![in alloc; 0; 1_048_576]?;
+    let mut bytes = Vec::from_slice(alloc, &[0])?;
+    for _ in 0..64 {
+        bytes.extend_from_slice(&mebibyte)?;
+    }
+    Ok(bytes)
+}
+
+fn zeros(alloc: Global) -> Result<Vec<u8>, AllocError> {
+    match try_zeros(alloc) {
+        Err(_) => try_zeros(alloc),
+        first => first,
     }
 }
 
 #[test]
 fn too_many_bytes(rt: HostRuntime) -> Result<(), Fail> {
+    let bytes = zeros(rt.alloc())?;
     for (len, wanted) in [
-        (16_777_217, WireFault::TooBig { offset: 16_777_216 }),
-        (16_777_216, WireFault::Magic { offset: 0 }),
+        (67_108_865, WireFault::TooBig { offset: 67_108_864 }),
+        (67_108_864, WireFault::Magic { offset: 0 }),
     ] {
-        let bytes = zeros(rt.alloc(), len)?;
-        assert_eq!(rt; fault(rt.alloc(), &bytes), Some(wanted));
+        let first = bytes.get(..len).ok_or("there are so many bytes")?;
+        assert_eq!(rt; fault(rt.alloc(), first), Some(wanted));
     }
     Ok(())
 }
@@ -157,7 +167,7 @@ fn two_shifts(rt: HostRuntime) -> Result<(), Fail> {
 
 #[test]
 fn what_faults_print(rt: HostRuntime) -> Result<(), Fail> {
-    let offset = 16_777_216;
+    let offset = 67_108_864;
     for (fault, text) in [
         (WireFault::Magic { offset: 0 }, "W1 Magic offset=0"),
         (WireFault::Short { offset: 30 }, "W2 Short offset=30"),
@@ -179,7 +189,7 @@ fn what_faults_print(rt: HostRuntime) -> Result<(), Fail> {
         ),
         (WireFault::ZeroCell { offset: 65 }, "W10 ZeroCell offset=65"),
         (WireFault::BadTerm { offset: 63 }, "W11 BadTerm offset=63"),
-        (WireFault::TooBig { offset }, "W12 TooBig offset=16777216"),
+        (WireFault::TooBig { offset }, "W12 TooBig offset=67108864"),
         (WireFault::OutOfMemory, "W13 OutOfMemory"),
     ] {
         let printed = printed::shown(rt.alloc(), &fault)?;

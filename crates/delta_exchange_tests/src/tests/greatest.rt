@@ -1,19 +1,16 @@
-//! The greatest message of a cluster of 16 nodes: 256 names of 128 bytes, each set to 16 counted
-//! terms in 1024 bytes, with all of their cells.
+//! The greatest messages of a cluster of 32 nodes: names of 128 bytes, each set to 16 counted terms
+//! in 1024 bytes, with all of their cells. The one of all 256 names takes too long here, and is read
+//! and written by the stored run of `message_times`.
 
 use super::*;
 use great_messages::{NODES, great_message};
 
-fn greatest_bytes(alloc: Global) -> Result<Vec<u8>, AllocError> {
-    match great_message(alloc, 256) {
-        Err(_) => great_message(alloc, 256),
-        first => first,
-    }
-}
+/// How many names a great message has here.
+const NAMES: u16 = 16;
 
-fn read_by(alloc: Global, nodes: u8, bytes: &[u8]) -> Result<Message, WireFault> {
-    match decode(alloc, nodes, bytes) {
-        Err(WireFault::OutOfMemory) => decode(alloc, nodes, bytes),
+fn great_bytes(alloc: Global, names: u16) -> Result<Vec<u8>, AllocError> {
+    match great_message(alloc, names) {
+        Err(_) => great_message(alloc, names),
         first => first,
     }
 }
@@ -46,40 +43,42 @@ fn lengths(entry: &NameEntry) -> (usize, usize) {
 }
 
 #[test]
-fn greatest_message_is_read(rt: HostRuntime) -> Result<(), Fail> {
+fn great_message_is_read(rt: HostRuntime) -> Result<(), Fail> {
     let alloc = rt.alloc();
-    let message = read_by(alloc, NODES, &greatest_bytes(alloc)?)?;
-    assert!(rt; message.from == 0 && message.to == 15);
+    let message = decoded_by(alloc, NODES, &great_bytes(alloc, NAMES)?)?;
+    assert!(rt; message.from == 0 && message.to == 31);
     assert!(rt; message.base == u64::MAX);
     assert!(rt; message.upto == u64::MAX);
     assert!(rt; message.ack == u64::MAX);
-    assert!(rt; message.entries.len() == 256);
+    assert!(rt; message.entries.len() == 16);
     for entry in &message.entries {
         assert!(rt; lengths(entry) == (128, 1024));
-        assert!(rt; cells(entry) == (16, 256, 3840));
-        assert!(rt; entry.key.clock == u64::MAX && entry.key.node == 15);
+        assert!(rt; cells(entry) == (32, 512, 15_872));
+        assert!(rt; entry.key.clock == u64::MAX && entry.key.node == 31);
     }
     Ok(())
 }
 
 #[test]
-fn last_cells_of_greatest_message(rt: HostRuntime) -> Result<(), Fail> {
+fn last_cells_of_great_message(rt: HostRuntime) -> Result<(), Fail> {
     let alloc = rt.alloc();
-    let message = read_by(alloc, NODES, &greatest_bytes(alloc)?)?;
+    let message = decoded_by(alloc, NODES, &great_bytes(alloc, NAMES)?)?;
     let last = message.entries.last().ok_or("there is a last entry")?;
-    assert!(rt; last.hits.last() == Some(&(15, u64::MAX)));
-    assert!(rt; last.execs.last() == Some(&(15, 15, u64::MAX)));
-    assert!(rt; last.shifts.last() == Some(&(15, 15, 14, u64::MAX)));
+    assert!(rt; last.hits.last() == Some(&(31, u64::MAX)));
+    assert!(rt; last.execs.last() == Some(&(15, 31, u64::MAX)));
+    assert!(rt; last.shifts.last() == Some(&(15, 31, 30, u64::MAX)));
     Ok(())
 }
 
 #[test]
-fn greatest_message_is_written_again(rt: HostRuntime) -> Result<(), Fail> {
+fn great_messages_are_written_again(rt: HostRuntime) -> Result<(), Fail> {
     let alloc = rt.alloc();
-    let bytes = greatest_bytes(alloc)?;
-    assert!(rt; bytes.len() == 11_805_216);
-    assert!(rt; written(alloc, &bytes)?.as_slice() == bytes.as_slice());
-    // It is none of a smaller cluster.
-    assert!(rt; read_by(alloc, 15, &bytes).err() == Some(WireFault::BadNode { offset: 5 }));
+    for (names, len) in [(1, 181_202), (NAMES, 2_898_752)] {
+        let bytes = great_bytes(alloc, names)?;
+        assert!(rt; bytes.len() == len);
+        assert!(rt; written(alloc, &bytes)?.as_slice() == bytes.as_slice());
+        // It is none of a smaller cluster.
+        assert!(rt; fault_by(alloc, 31, &bytes) == Some(WireFault::BadNode { offset: 5 }));
+    }
     Ok(())
 }

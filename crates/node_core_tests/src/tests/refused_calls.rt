@@ -64,8 +64,11 @@ fn configurations(rt: HostRuntime) -> Result<(), Fail> {
     for (node, nodes, wanted) in [
         (0, 1, "0"),
         (15, 16, "0"),
+        (16, 17, "0"),
+        (31, 32, "0"),
         (0, 0, "N21 BadConfig"),
-        (0, 17, "N21 BadConfig"),
+        (0, 33, "N21 BadConfig"),
+        (32, 32, "N21 BadConfig"),
         (1, 1, "N21 BadConfig"),
     ] {
         let config = Config {

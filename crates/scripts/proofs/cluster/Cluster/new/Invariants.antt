@@ -1,5 +1,6 @@
 use Rattle.std.proofs.Common.{◌≡◌, ◌<◌, ◌≤◌, map}
 use Rattle.std.specs.List.{range_with_len}
+use Rattle.delta_exchange.specs.Limits.{max_nodes}
 use Rattle.scripts.specs.Clusters.{new_node}
 use Rattle.scripts.proofs.cluster.Cluster.new.Given as goal
 
@@ -7,5 +8,5 @@ use Rattle.scripts.proofs.cluster.Cluster.new.Given as goal
 abbrev pub invariant-loop-node : goal.invariant-loop-node
 invariant-loop-node l = record {
   made : l.nodes.items ≡ map (new_node l.count l.trace_cap) (range_with_len 0 l.node);
-  few : 0 < l.node → l.count ≤ 16;
+  few : 0 < l.node → l.count ≤ max_nodes;
 }
