@@ -1,6 +1,5 @@
 -- Which key a state has of a name, while it learns a message.
 use Rattle.std.proofs.Common.{◌≡◌, ℕ, ◌<◌, zero, suc, ◌++◌, ◌∙◌, List, [], ◌∷◌, Bool, true, false, cond, Option, Some, None, inl, inr, map, take, length, get_or, refl, sym, subst, ap, arith}
-use Rattle.std.proofs.lemmas.Bool.{true≢false}
 use Rattle.std.proofs.lemmas.List.{append-nil}
 use Rattle.std.proofs.lemmas.List.Elements.{All-from_recursion}
 use Rattle.std.specs.List.{flat_map, AllByRecursion}
@@ -10,7 +9,7 @@ use Rattle.std.specs.Str.{bytes_eq}
 use Rattle.std.specs.Cmp.Lexicographic.{slice_cmp}
 use Rattle.std.specs.declared.cmp.Ordering.TheVariants.{Less}
 use Rattle.stamp_register.specs.Keys.{KeyValue, key_le}
-use Rattle.replica_state.specs.Operations.{Operation, Set, Count, Hits, Execs, Shifts, IsIn, IsWellFormed}
+use Rattle.replica_state.specs.Operations.{Operation, Set, IsIn, IsWellFormed}
 use Rattle.replica_state.specs.States.{State}
 use Rattle.replica_state.specs.Folds.{fold, greater, key_in, key_of, Learns}
 use Rattle.replica_state.proofs.KnownSets.{own_name}
@@ -52,10 +51,13 @@ module _ {C : Type 0} (told : C → Operation) (name : List ℕ) (key : KeyValue
 pub has_now : (u v : State) (name : List ℕ) (key : KeyValue) → HasKeyOf u name None → Learns u v (Set name key) → HasKeyOf v name (Some key)
 unfolding fold
 has_now u v name key (ops, is, k) learned =
-    let after = learned ops is in
-    (Set name key ∷ ops, after, ap (λ (s : State). s.key name) after
-    ∙ ap (λ (o : Option KeyValue). greater o (key_of name ops)) (own_name name key)
-    ∙ ap (λ (o : Option KeyValue). greater (Some key) o) (sym (ap (λ (s : State). s.key name) is) ∙ k))
+    let after = learned ops is in (
+      Set name key ∷ ops,
+      after,
+      ap (λ (s : State). s.key name) after
+          ∙ ap (λ (o : Option KeyValue). greater o (key_of name ops)) (own_name name key)
+          ∙ ap (λ (o : Option KeyValue). greater (Some key) o) (sym (ap (λ (s : State). s.key name) is) ∙ k),
+    )
 
 -- ---- a name that wasn't told yet
 

@@ -1,4 +1,4 @@
-use Rattle.std.proofs.Common.{◌≡◌, ℕ, Some, refl, sym, subst, take, arith}
+use Rattle.std.proofs.Common.{ℕ, Some, refl, sym, subst, take, arith}
 use Rattle.stamp_register.specs.Keys.{key_value}
 use Rattle.replica_state.specs.Operations.{Count, Hits, IsWellFormed}
 use Rattle.replica_state.specs.OpSets.{operation_told}

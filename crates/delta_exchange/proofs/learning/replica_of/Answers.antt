@@ -1,8 +1,6 @@
 use Rattle.std.proofs.Common.{sym, subst}
 use Rattle.std.proofs.lemmas.List.Elements.{All-from_recursion}
 use Rattle.delta_exchange.specs.declared.message.NameEntry.{NameEntry}
-use Rattle.replica_state.specs.States.{State}
-use Rattle.replica_state.specs.Folds.{fold}
 use Rattle.delta_exchange.specs.Messages.{entry_value, operations_of}
 use Rattle.delta_exchange.specs.Spelling.{IsEntry}
 use Rattle.delta_exchange.specs.Told.{HasLearned}

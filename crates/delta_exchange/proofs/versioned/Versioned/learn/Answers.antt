@@ -1,4 +1,4 @@
-use Rattle.std.proofs.Common.{◌≡◌, ◌+◌, [], map, length, refl, sym, ◌∙◌, ap, subst, arith, cond}
+use Rattle.std.proofs.Common.{◌≡◌, ◌+◌, map, length, refl, sym, ◌∙◌, ap, subst, arith, cond}
 use Rattle.delta_exchange.specs.Changes.{ChangesAt}
 use Rattle.delta_exchange.specs.Marks.{MarksValue, marks_value, last_changes, AreUpto}
 use Rattle.delta_exchange.specs.News.{news_of, with_news}
