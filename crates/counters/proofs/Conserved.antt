@@ -4,7 +4,7 @@ use Rattle.std.proofs.lemmas.Bool.{eqb-true, eqb-false}
 use Rattle.std.proofs.lemmas.Int.{ints}
 use Rattle.std.specs.Prelude.{pos, ◌+ℤ◌, ◌-ℤ◌}
 use Rattle.counters.specs.Sums.{node_numbers, sum_below, sum_others, int_sum_below}
-use Rattle.counters.specs.Budgets.{given_to, gone_from, total_spent, RemainingAndSpentAreTheCount}
+use Rattle.counters.specs.Budgets.{given_to, gone_from, granted_by, total_spent, RemainingAndSpentAddUp}
 use Rattle.counters.proofs.SumLemmas.{sum-same, sum-add, sum-at, sum-swap}
 
 -- a sum of differences
@@ -26,15 +26,16 @@ from_to n s =
     either i j true false e f = absurd (eqb-false i j f (sym (eqb-true j i e)))
     either i j false true e f = absurd (eqb-false j i e (sym (eqb-true i j f)))
 
-balanced : (all came own out spent count : ℕ) (all_gone : ℕ) → own ≡ count → all ≡ own + came → all_gone ≡ out + spent
-    → out ≡ came → (pos all -ℤ pos all_gone) +ℤ pos spent ≡ pos count
-balanced all came own out spent count all_gone a b c d = omega (arith, ints)
+balanced : (all came granted had own out spent count all_gone : ℕ) → own ≡ count → had ≡ own + granted → all ≡ had + came
+    → all_gone ≡ out + spent → out ≡ came → (pos all -ℤ pos all_gone) +ℤ pos spent ≡ pos (count + granted)
+balanced all came granted had own out spent count all_gone a b c d e = omega (arith, ints)
 
-pub remaining_and_spent : RemainingAndSpentAreTheCount
+pub remaining_and_spent : RemainingAndSpentAddUp
 remaining_and_spent b below =
     (λ p. int_sum-differences node_numbers (given_to b) (gone_from b) p +ℤ pos (total_spent b)) ∙
-    balanced _ _ _ _ _ _ _
+    balanced _ _ _ _ _ _ _ _ _
     (sum-at node_numbers b.setter b.count below)
-    (sum-add node_numbers (λ i. cond (i == b.setter) b.count 0) (λ i. sum_others node_numbers i (λ j. b.shifted j i)))
+    (sum-add node_numbers (λ i. cond (i == b.setter) b.count 0) (granted_by b))
+    (sum-add node_numbers (λ i. cond (i == b.setter) b.count 0 + granted_by b i) (λ i. sum_others node_numbers i (λ j. b.shifted j i)))
     (sum-add node_numbers (λ i. sum_others node_numbers i (λ j. b.shifted i j)) b.spent)
     (from_to node_numbers b.shifted)

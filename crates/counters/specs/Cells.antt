@@ -42,11 +42,11 @@ pub record WritesRowCell (old new : Rows) (from to number : ℕ) : Type 0 where
   pub this_cell : row_cell new from to ≡ number
   pub other_cells : (f t : ℕ) → ((f ≡ from) × (t ≡ to) → ⊥) → row_cell new f t ≡ row_cell old f t
 
--- what each node spent, and what each moved to each
+-- what each node spent, and what each moved to each other and, at its own place, granted itself
 abbrev pub Shares : Type 0
 Shares = PairOf Cells Rows
 
--- nothing is spent or moved
+-- nothing is spent, moved or granted
 abbrev pub no_shares : Shares
 no_shares = pair_of [] []
 
@@ -58,12 +58,17 @@ spent_cell shares node = cell shares.first node
 abbrev pub moved_cell : Shares → ℕ → ℕ → ℕ
 moved_cell shares from to = row_cell shares.second from to
 
+-- what a node granted itself
+abbrev pub granted_cell : Shares → ℕ → ℕ
+granted_cell shares node = moved_cell shares node node
+
 -- new has the number as what the node spent, and all else as in old
 pub record WritesSpent (old new : Shares) (node number : ℕ) : Type 0 where
   pub spent : WritesCell old.first new.first node number
   pub moved : (from to : ℕ) → moved_cell new from to ≡ moved_cell old from to
 
--- new has the number as what one node moved to another, and all else as in old
+-- new has the number as what one node moved to another, or granted itself where they are one, and
+-- all else as in old
 pub record WritesMoved (old new : Shares) (from to number : ℕ) : Type 0 where
   pub moved : WritesRowCell old.second new.second from to number
   pub spent : (node : ℕ) → spent_cell new node ≡ spent_cell old node

@@ -34,6 +34,11 @@ shift_refusal b from to amount = first_fault (
     ∷ then_some (from == to) SameNode
     ∷ [])
 
+-- a grant of an amount more by a node that granted so much
+abbrev pub grant_refusal : ℕ → ℕ → Option CounterFault
+grant_refusal granted amount =
+    first_fault (too_great (granted + amount) ∷ then_some (amount == 0) ZeroAmount ∷ [])
+
 -- the fault is the refusal; where there is none, memory was refused for a cell that wasn't there
 abbrev pub IsRefusal : Option CounterFault → ℕ → CounterFault → Type 0
 IsRefusal refusal held fault =

@@ -1,10 +1,10 @@
-//! What the nodes spent of a budget, and what each moved to each.
+//! What the nodes spent of a budget, what each moved to each, and what each granted.
 
 ghost use Rattle.std.specs.Prelude.{◌≡◌, ◌+◌, ◌<◌, Some, None, IfOk, IfErr, OnOk, OnErr, max};
 ghost use Rattle.counters.specs.Sums.{node_numbers, sum_below};
 ghost use Rattle.counters.specs.Budgets.{rights};
-ghost use Rattle.counters.specs.Cells.{no_shares, spent_cell, moved_cell, budget_of, WritesSpent, WritesMoved};
-ghost use Rattle.counters.specs.Refusals.{spend_refusal, shift_refusal, too_great, IsRefusal};
+ghost use Rattle.counters.specs.Cells.{no_shares, spent_cell, moved_cell, granted_cell, budget_of, WritesSpent, WritesMoved};
+ghost use Rattle.counters.specs.Refusals.{spend_refusal, shift_refusal, grant_refusal, too_great, IsRefusal};
 
 use crate::cells::{
     Cells, Rows, count, number_in_row, number_of, raise, raise_row, total, total_from_others,
@@ -15,14 +15,15 @@ use lattice_laws::{Join, MapOf, PairOf};
 use std::alloc::{AllocError, Global};
 use std::marker::Model;
 
-/// What each node spent, and what each moved to each.
+/// What each node spent, and what each moved to each other and, at its own place, granted.
 type SpentAndMoved = PairOf<Cells, Rows>;
 
 /// What the nodes did with the count of a term: how many rights to execute it each of them spent,
-/// and how many each moved to each, in all. The node that set the term has the whole count at
-/// first. A node's rights are what it had and was given, less what it moved away and spent; what
-/// it moves to itself counts for nothing. Of two budgets that are joined, the greater number of
-/// each cell holds. After a refusal a budget is as it was.
+/// how many each moved to each, and how many each granted itself beyond the count, in all. The node
+/// that set the term has the whole count at first. A node's rights are what it had, granted and was
+/// given, less what it moved away and spent. What a node granted stands where it would move rights
+/// to itself, as in the bounded counter's matrix (Balegas et al., SRDS 2015). Of two budgets that
+/// are joined, the greater number of each cell holds. After a refusal a budget is as it was.
 #[derive(Debug, Drop)]
 pub struct Budget {
     shares: SpentAndMoved,
@@ -37,7 +38,7 @@ impl Model for Budget {
 }
 
 impl Budget {
-    /// A budget of which nothing is spent or moved.
+    /// A budget of which nothing is spent, moved or granted.
     pub fn new(alloc: Global) -> Self
         ensures { result ≡ no_shares }
     {
@@ -55,7 +56,8 @@ impl Budget {
         ensures { result ≡ rights (budget_of self.now setter count) node }
     {
         let own = if node == setter { u128::from(count) } else { 0 };
-        let given = own + total_from_others(&self.shares.second, node);
+        let granted = u128::from(self.granted(node));
+        let given = own + granted + total_from_others(&self.shares.second, node);
         let spent = u128::from(self.spent(node));
         let gone = total_to_others(&self.shares.second, node) + spent;
         given as i128 - gone as i128
@@ -68,11 +70,18 @@ impl Budget {
         number_of(&self.shares.first, node)
     }
 
-    /// What a node moved to another, in all.
+    /// What a node moved to another in all, or granted where both are one.
     pub fn moved(&self, from: u8, to: u8) -> u64
         ensures { result ≡ moved_cell self.now from to }
     {
         number_in_row(&self.shares.second, from, to)
+    }
+
+    /// What a node granted itself beyond the count, in all.
+    pub fn granted(&self, node: u8) -> u64
+        ensures { result ≡ granted_cell self.now node }
+    {
+        self.moved(node, node)
     }
 
     /// What all nodes spent.
@@ -146,6 +155,23 @@ impl Budget {
         Ok(moved)
     }
 
+    /// Grants a node rights beyond the count, and answers how many it has now granted in all. It
+    /// is refused where the total would be above 2^64 - 1 (`CellFull`), where the amount is 0
+    /// (`ZeroAmount`), and where the node granted none yet and memory is refused (`OutOfMemory`).
+    pub fn grant(&mut self, alloc: Global, node: u8, amount: u64) -> Result<u64, CounterFault>
+        ensures ok { OnOk result (grant_refusal (granted_cell self.old node) amount ≡ None) }
+        ensures answer { IfOk result (λ granted. granted ≡ granted_cell self.old node + amount) }
+        ensures after { IfOk result (WritesMoved self.old self.new node node) }
+        ensures refused { IfErr result
+            (IsRefusal (grant_refusal (granted_cell self.old node) amount)
+            (granted_cell self.old node)) }
+        ensures err { OnErr result (self.new ≡ self.old) }
+    {
+        let granted = self.grant_checked(node, amount)?;
+        raise_row(&mut self.shares.second, alloc, node, node, granted)?;
+        Ok(granted)
+    }
+
     /// Raises what a node spent to at least this number. Memory is asked for only where it spent
     /// nothing.
     pub fn raise_spent(&mut self, alloc: Global, node: u8, spent: u64) -> Result<(), AllocError>
@@ -157,8 +183,8 @@ impl Budget {
         raise(&mut self.shares.first, alloc, node, spent)
     }
 
-    /// Raises what a node moved to another to at least this total. Memory is asked for only where
-    /// it moved nothing there.
+    /// Raises what a node moved to another, or granted where both are one, to at least this total.
+    /// Memory is asked for only where it moved nothing there.
     pub fn raise_moved(
         &mut self,
         alloc: Global,
@@ -172,6 +198,17 @@ impl Budget {
         ensures absent { OnErr result (moved_cell self.old from to ≡ 0) }
     {
         raise_row(&mut self.shares.second, alloc, from, to, total)
+    }
+
+    /// Raises what a node granted to at least this total. Memory is asked for only where it granted
+    /// nothing.
+    pub fn raise_granted(&mut self, alloc: Global, node: u8, total: u64) -> Result<(), AllocError>
+        ensures ok { OnOk result
+            (WritesMoved self.old self.new node node (max (granted_cell self.old node) total)) }
+        ensures err { OnErr result (self.new ≡ self.old) }
+        ensures absent { OnErr result (granted_cell self.old node ≡ 0) }
+    {
+        self.raise_moved(alloc, node, node, total)
     }
 
     // What the node will have spent, or the refusal.
@@ -221,6 +258,23 @@ impl Budget {
             return Err(CounterFault::SameNode);
         }
         Ok(moved)
+    }
+
+    // What the node will have granted, or the refusal.
+    fn grant_checked(&self, node: u8, amount: u64) -> Result<u64, CounterFault>
+        ensures ok { OnOk result (grant_refusal (granted_cell self.now node) amount ≡ None) }
+        ensures answer { IfOk result (λ granted. granted ≡ granted_cell self.now node + amount) }
+        ensures more { IfOk result (λ granted. granted_cell self.now node < granted) }
+        ensures refused { IfErr result
+            (λ fault. grant_refusal (granted_cell self.now node) amount ≡ Some fault) }
+    {
+        let Some(granted) = self.granted(node).checked_add(amount) else {
+            return Err(CounterFault::CellFull);
+        };
+        if amount == 0 {
+            return Err(CounterFault::ZeroAmount);
+        }
+        Ok(granted)
     }
 }
 

@@ -1,6 +1,6 @@
 //! What holds of every counter and of every budget.
 
-ghost use Rattle.counters.specs.Budgets.{RemainingAndSpentAreTheCount};
+ghost use Rattle.counters.specs.Budgets.{RemainingAndSpentAddUp};
 ghost use Rattle.counters.specs.Joins.{GoesByCell, GoesByShare, JoinsByCell, JoinsByShare};
 
 use crate::budget::Budget;
@@ -8,9 +8,9 @@ use crate::hits::HitCounter;
 use lattice_laws::Join;
 
 /// Whatever was shifted among the nodes and spent by them, the rights that remain and what was
-/// spent add up to the count.
+/// spent add up to the count and what the nodes granted.
 pub fn conserved()
-    ensures { RemainingAndSpentAreTheCount }
+    ensures { RemainingAndSpentAddUp }
 {}
 
 /// A counter is below another where no node has more hits, and a join has the greater number of
@@ -20,8 +20,8 @@ pub fn hits_by_node()
     ensures join { JoinsByCell ⟦<HitCounter as Join>⟧.admitted ⟦<HitCounter as Join>⟧.order }
 {}
 
-/// A budget is below another where no node spent more or moved more to another, and a join has
-/// the greater number in each cell.
+/// A budget is below another where no node spent more, moved more to another or granted more, and
+/// a join has the greater number in each cell.
 pub fn budgets_by_cell()
     ensures order { GoesByShare ⟦<Budget as Join>⟧.order }
     ensures join { JoinsByShare ⟦<Budget as Join>⟧.admitted ⟦<Budget as Join>⟧.order }
