@@ -1,5 +1,6 @@
 pub mod FoldSteps
 pub mod Counts
+pub mod NodeSums
 pub mod Orders
 pub mod Added
 pub mod Shown

@@ -1,5 +1,5 @@
 -- What leaves a state one that well-formed operations come to.
-use Rattle.std.proofs.Common.{◌≡◌, ◌≢◌, ℕ, ◌+◌, ◌<◌, ◌≤◌, max, zero, suc, Bool, true, false, cond, IsTrue, List, [], ◌∷◌, ◌++◌, Option, Some, None, Result, Ok, Err, OnOk, OnErr, refl, sym, ◌∙◌, ap, subst, arith}
+use Rattle.std.proofs.Common.{◌≡◌, ℕ, ◌+◌, ◌<◌, ◌≤◌, max, zero, suc, Bool, true, false, cond, IsTrue, List, [], ◌∷◌, ◌++◌, Option, Some, None, Result, Ok, Err, OnOk, OnErr, refl, sym, ◌∙◌, ap, subst, arith}
 use Rattle.std.proofs.Math.Logic.{∥∥₁_map, ∥∥₁_map₂}
 use Rattle.std.proofs.lemmas.Bool.{true≢false}
 use Rattle.std.proofs.lemmas.Int.{ints}
@@ -179,21 +179,21 @@ module _ (name : List ℕ) (term from to : ℕ) (v : State) (has : Counts v name
         state = sym (shift_seen name term from to 0 v low named) ∙ ap (λ (g : Held). with_held name g v) (unmoved (held_at v name) term from to) ∙ with_held-same name v named ∙ c.state;
       }
 
-  shift_comes : (total : ℕ) → 1 ≤ total → from ≢ to → v.shifts name term from to ≤ total → ComeTo (with_shifts name term from to total v)
+  shift_comes : (total : ℕ) → 1 ≤ total → v.shifts name term from to ≤ total → ComeTo (with_shifts name term from to total v)
   unfolding fold
-  shift_comes total some apart low =
+  shift_comes total some low =
       let moved : v.shifts name term from to ≡ number_at (Shifts name has.key term from to) c.ops = ap (λ (s : State). s.shifts name term from to) c.state
       ∙ ap (λ (o : Option KeyValue). at_key o (λ key. number_at (Shifts name key term from to) c.ops)) here in
       record {
         ops = Count (Shifts name has.key term from to) total ∷ c.ops;
-        formed = ((some, apart, has.counted), c.formed);
+        formed = ((some, has.counted), c.formed);
         state = ap (λ (s : State). with_shifts name term from to total s) c.state
             ∙ sym (fold_shifts name has.key c.ops here term from to total (omega (arith, moved, low)) (kept name c.ops has.key here));
       }
 
-pub shifted : (name : List ℕ) (term from to total : ℕ) (v : State) → v.shifts name term from to ≤ total → IsSome (budget_of v name term) → from ≢ to → IsReached v → IsReached (with_shifts name term from to total v)
-shifted name term from to zero v low counted apart h = ∥∥₁_map h (λ c. still name term from to v (counts v name term counted) c low)
-shifted name term from to (suc n) v low counted apart h = ∥∥₁_map h (λ c. shift_comes name term from to v (counts v name term counted) c (suc n) (omega arith) apart low)
+pub shifted : (name : List ℕ) (term from to total : ℕ) (v : State) → v.shifts name term from to ≤ total → IsSome (budget_of v name term) → IsReached v → IsReached (with_shifts name term from to total v)
+shifted name term from to zero v low counted h = ∥∥₁_map h (λ c. still name term from to v (counts v name term counted) c low)
+shifted name term from to (suc n) v low counted h = ∥∥₁_map h (λ c. shift_comes name term from to v (counts v name term counted) c (suc n) (omega arith) low)
 
 -- ---- what callers know
 

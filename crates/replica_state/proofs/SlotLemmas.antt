@@ -291,7 +291,8 @@ module _ (slot : Slot) (key : Key) (budgets : Budgets) (term count : ℕ) (held 
         let came = sum_others-zero node_numbers node (λ j. slot_number slot (Shifts term j node)) (λ j. zero_at (Shifts term j node) refl) in
         let went = sum_others-zero node_numbers node (λ j. slot_number slot (Shifts term node j)) (λ j. zero_at (Shifts term node j) refl) in
         let spent = zero_at (Execs term node) refl in
-        omega (arith, ints, came, went, spent)
+        let granted = zero_at (Shifts term node node) refl in
+        omega (arith, ints, came, went, spent, granted)
 
     pub fresh_spent : total_spent (budget_in (slot_number slot) term key.node count) ≡ 0
     fresh_spent = sum-zero node_numbers (λ node. slot_number slot (Execs term node)) (λ node. zero_at (Execs term node) refl)

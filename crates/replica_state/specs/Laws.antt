@@ -1,7 +1,7 @@
 -- What holds of every set of operations.
-use Rattle.std.specs.Prelude.{◌≡◌, ℕ, ◌<◌, List, ◌++◌, ◌↔◌, true, false, Some, pos, ◌+ℤ◌}
+use Rattle.std.specs.Prelude.{◌≡◌, ℕ, ◌+◌, ◌<◌, List, ◌++◌, ◌↔◌, true, false, Some, pos, ◌+ℤ◌}
 use Rattle.counters.specs.Sums.{node_numbers}
-use Rattle.counters.specs.Budgets.{Budget, remaining_rights, total_spent}
+use Rattle.counters.specs.Budgets.{Budget, remaining_rights, total_granted, total_spent}
 use Rattle.replica_state.specs.Operations.{Operation, IsIn, IsWellFormed}
 use Rattle.replica_state.specs.States.{State, budget_of}
 use Rattle.replica_state.specs.Folds.{fold, Learns, IsUnion}
@@ -32,10 +32,12 @@ StateKnowsAsSet = (ops : List Operation) (op : Operation) → IsWellFormed op �
 abbrev pub ChangesIsChange : Type 0
 ChangesIsChange = (a b : List Operation) → (changes (fold b) a ≡ false) ↔ (fold (a ++ b) ≡ fold b)
 
--- in each state, of each counted term, what was spent and what remains are the count
-abbrev pub SpentAndRemainingAreTheCount : Type 0
-SpentAndRemainingAreTheCount = (v : State) (name : List ℕ) (term : ℕ) (b : Budget) →
-    budget_of v name term ≡ Some b → b.setter < node_numbers → remaining_rights b +ℤ pos (total_spent b) ≡ pos b.count
+-- in each state, of each counted term, what was spent and what remains add up to the count and what
+-- was granted
+abbrev pub SpentAndRemainingAddUp : Type 0
+SpentAndRemainingAddUp = (v : State) (name : List ℕ) (term : ℕ) (b : Budget) →
+    budget_of v name term ≡ Some b → b.setter < node_numbers
+    → remaining_rights b +ℤ pos (total_spent b) ≡ pos (b.count + total_granted b)
 
 -- what a state learns that some well-formed operations come to is one operation more
 abbrev pub LearnedIsOneMore : Type 0

@@ -1,12 +1,14 @@
--- What can be known of the points of a cluster: settings, hits, executions and shifts of rights.
-use Rattle.std.specs.Prelude.{◌≡◌, ◌≢◌, ℕ, ◌≤◌, Bool, false, ◌==◌, ◌&&◌, List, [], ◌∷◌, ◌⊎◌, Option, Some, None, is_some, slice_get, IsTrue}
+-- What can be known of the points of a cluster: settings, hits, executions, and shifts and grants of
+-- rights.
+use Rattle.std.specs.Prelude.{◌≡◌, ℕ, ◌≤◌, Bool, false, ◌==◌, ◌&&◌, List, [], ◌∷◌, ◌⊎◌, Option, Some, None, is_some, slice_get, IsTrue}
 use Rattle.std.specs.Str.{bytes_eq}
 use Rattle.actions.specs.Value.{TermValue}
 use Rattle.stamp_register.specs.Keys.{KeyValue, key_value, same_key, terms_set}
 use Rattle.replica_state.specs.declared.op.Op.{Op}
 use Rattle.replica_state.specs.declared.op.Op.TheVariants as ops
 
--- what a hit, an execution or a shift counts: all of it but its number
+-- what a hit, an execution or a shift counts: all of it but its number. What a node granted itself
+-- beyond a count is what it shifted to itself
 pub data Cell : Type 0 where
   Hits : (name : List ℕ) (node : ℕ) → Cell
   Execs : (name : List ℕ) (key : KeyValue) (term node : ℕ) → Cell
@@ -23,9 +25,10 @@ operation (ops.Set name key) = Set name (key_value key)
 operation (ops.Hit name node number) = Count (Hits name node) number
 operation (ops.Exec name key term node number) = Count (Execs name (key_value key) term node) number
 operation (ops.Shift name key term from to total) = Count (Shifts name (key_value key) term from to) total
+operation (ops.Grant name key term node total) = Count (Shifts name (key_value key) term node node) total
 
--- the node that wrote an operation: it set the key, passed the point, executed the term or gave the
--- rights
+-- the node that wrote an operation: it set the key, passed the point, executed the term, or gave or
+-- granted the rights
 abbrev pub writer_of_cell : Cell → ℕ
 writer_of_cell (Hits name node) = node
 writer_of_cell (Execs name key term node) = node
@@ -61,10 +64,10 @@ count_under (Some terms) k = count_at terms k
 abbrev pub count_of : KeyValue → ℕ → Option ℕ
 count_of key k = count_under (terms_set key.body) k
 
--- numbers are at least 1, nothing is shifted to oneself, and what is executed or shifted is counted
+-- numbers are at least 1, and what is executed, shifted or granted is counted
 abbrev pub IsWellFormed : Operation → Type 0
 IsWellFormed (Set name key) = Unit {0}
 IsWellFormed (Count (Hits name node) number) = 1 ≤ number
 IsWellFormed (Count (Execs name key term node) number) = (1 ≤ number) × IsTrue (is_some (count_of key term))
 IsWellFormed (Count (Shifts name key term from to) total) =
-    (1 ≤ total) × (from ≢ to) × IsTrue (is_some (count_of key term))
+    (1 ≤ total) × IsTrue (is_some (count_of key term))

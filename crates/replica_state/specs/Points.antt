@@ -27,6 +27,12 @@ is_hits (Hits node) = true
 is_hits (Execs term node) = false
 is_hits (Shifts term from to) = false
 
+-- a number above those of its nodes
+abbrev pub node_bound : Counted → ℕ
+node_bound (Hits node) = node + 1
+node_bound (Execs term node) = node + 1
+node_bound (Shifts term from to) = max from to + 1
+
 -- what is counted, as numbers: first hits, then executions, then shifts, and each by its own numbers
 abbrev pub place_of_counted : Counted → List ℕ
 place_of_counted (Hits node) = 0 ∷ node ∷ 0 ∷ 0 ∷ []

@@ -1,4 +1,4 @@
--- The state of a replica: settings, hits, executions and shifted rights, name by name.
+-- The state of a replica: settings, hits, executions, and shifted and granted rights, name by name.
 use Rattle.std.specs.Prelude.{ℕ, ◌+◌, ◌==◌, ◌&&◌, ◌↔◌, Bool, false, IsTrue, List, [], ◌∷◌, Option, Some, None, option_map, slice_index_or, if◌then◌else◌, ℤ, pos, ◌≤ℤ◌}
 use Rattle.std.specs.Option.{option_map_or}
 use Rattle.std.specs.Str.{bytes_eq}
@@ -10,7 +10,8 @@ use Rattle.stamp_register.specs.Keys.{KeyValue}
 use Rattle.replica_state.specs.Operations.{count_of}
 
 -- the names that are held, in byte order and each once; of each name its key or none, the hits of
--- each node, and of that key the executions and the shifts
+-- each node, and of that key the executions and the shifts, where what a node shifted to itself is
+-- what it granted
 pub record State : Type 0 where
   pub names : List (List ℕ)
   pub key : List ℕ → Option KeyValue
@@ -61,6 +62,10 @@ with_pass name node spent v = with_spend name node spent (with_hits name node (v
 -- the hits of a name at all nodes
 abbrev pub total_hits : State → List ℕ → ℕ
 total_hits v name = sum_below node_numbers (v.hits name)
+
+-- what a node granted itself beyond the count of a term
+abbrev pub granted_in : State → List ℕ → ℕ → ℕ → ℕ
+granted_in v name term node = v.shifts name term node node
 
 -- the budget of a term in a key of the name
 abbrev pub budget : State → List ℕ → ℕ → ℕ → ℕ → Budget

@@ -1,23 +1,27 @@
 //! Sums over the nodes, of the counts of one name.
 
-ghost use Rattle.std.specs.Prelude.{◌≡◌, ◌*◌, ◌<◌, ◌≤◌, ◌^◌, ℕ, Some, None};
+ghost use Rattle.std.specs.Prelude.{◌≡◌, ◌≢◌, ◌*◌, ◌<◌, ◌≤◌, ◌^◌, ℕ, Some, None};
 ghost use Rattle.stamp_register.specs.Keys.{key_value};
 ghost use Rattle.counters.specs.Sums.{node_numbers, sum_below, sum_others};
 ghost use Rattle.counters.specs.Budgets.{rights};
 ghost use Rattle.replica_state.specs.Operations.{count_of};
-ghost use Rattle.replica_state.specs.Points.{number_of, budget_in};
+ghost use Rattle.replica_state.specs.Points.{number_of, node_bound, budget_in};
+ghost use Rattle.replica_state.specs.declared.point.Counted.{Counted};
 ghost use Rattle.replica_state.specs.declared.point.Counted.TheVariants.{Hits, Execs, Shifts};
 
 use crate::point::{Count, Counted, number_of};
 use stamp_register::Key;
 
-/// How many node numbers there are.
-#[tactic(auto, unfolding(counters::specs::Sums::node_numbers))]
-fn node_numbers() -> u16
-    ensures value { result ≡ node_numbers }
+/// A number above those of all nodes of which something is counted.
+fn nodes_counted(counts: &[Count]) -> u16
+    ensures above { (c : Counted) → number_of counts.now c ≢ 0 → node_bound c ≤ result }
     ensures small { result ≤ 256 }
 {
-    256
+    let mut nodes = 0u16;
+    for count in counts {
+        nodes = nodes.max(count.counted.node_bound());
+    }
+    nodes
 }
 
 /// The hits at all nodes.
@@ -25,7 +29,7 @@ pub(crate) fn sum_hits(counts: &[Count]) -> u128
     ensures { result ≡ sum_below node_numbers (λ node. number_of counts.now (Hits node)) }
 {
     let mut sum = 0u128;
-    for node in 0..node_numbers() {
+    for node in 0..nodes_counted(counts) {
         let counted = Counted::Hits { node: node as u8 };
         sum += u128::from(number_of(counts, counted));
     }
@@ -37,7 +41,7 @@ pub(crate) fn sum_execs(counts: &[Count], term: u8) -> u128
     ensures { result ≡ sum_below node_numbers (λ node. number_of counts.now (Execs term node)) }
 {
     let mut sum = 0u128;
-    for node in 0..node_numbers() {
+    for node in 0..nodes_counted(counts) {
         let counted = Counted::Execs {
             term,
             node: node as u8,
@@ -54,7 +58,7 @@ fn sum_to(counts: &[Count], term: u8, to: u8) -> u128
     ensures small { result ≤ 256 * 2 ^ 64 }
 {
     let mut sum = 0u128;
-    for node in 0..node_numbers() {
+    for node in 0..nodes_counted(counts) {
         let from = node as u8;
         if from != to {
             sum += u128::from(number_of(counts, Counted::Shifts { term, from, to }));
@@ -70,7 +74,7 @@ fn sum_from(counts: &[Count], term: u8, from: u8) -> u128
     ensures small { result ≤ 256 * 2 ^ 64 }
 {
     let mut sum = 0u128;
-    for node in 0..node_numbers() {
+    for node in 0..nodes_counted(counts) {
         let to = node as u8;
         if to != from {
             sum += u128::from(number_of(counts, Counted::Shifts { term, from, to }));
@@ -108,7 +112,15 @@ pub(crate) fn rights_in(counts: &[Count], term: u8, setter: u8, count: u64, node
     ensures { result ≡ rights (budget_in (number_of counts.now) term setter count) node }
 {
     let own = if node == setter { u128::from(count) } else { 0 };
-    let given = own + sum_to(counts, term, node);
+    let granted = number_of(
+        counts,
+        Counted::Shifts {
+            term,
+            from: node,
+            to: node,
+        },
+    );
+    let given = own + u128::from(granted) + sum_to(counts, term, node);
     let spent = u128::from(number_of(counts, Counted::Execs { term, node }));
     let gone = sum_from(counts, term, node) + spent;
     given as i128 - gone as i128

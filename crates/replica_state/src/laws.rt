@@ -1,7 +1,7 @@
 //! What holds of every set of operations, and so of every replica: the law `reached` of `Replica`
 //! says that each value stands for the state of one.
 
-ghost use Rattle.replica_state.specs.Laws.{SameOperationsSameState, SameKnownSameState, UnionIsLeast, StateKnowsAsSet, ChangesIsChange, SpentAndRemainingAreTheCount, LearnedIsOneMore, UnionIsBoth, NamesAreHeld};
+ghost use Rattle.replica_state.specs.Laws.{SameOperationsSameState, SameKnownSameState, UnionIsLeast, StateKnowsAsSet, ChangesIsChange, SpentAndRemainingAddUp, LearnedIsOneMore, UnionIsBoth, NamesAreHeld};
 
 /// The state of a set depends on no order and no repeats, and sets that know the same operations
 /// come to one state.
@@ -22,9 +22,10 @@ pub fn changed()
     ensures changes { ChangesIsChange }
 {}
 
-/// In every state, what was spent of a counted term and the rights that remain are its count.
+/// In every state, what was spent of a counted term and the rights that remain add up to its count
+/// and what was granted.
 pub fn conserved()
-    ensures { SpentAndRemainingAreTheCount }
+    ensures { SpentAndRemainingAddUp }
 {}
 
 /// What a replica learns is one operation more: where some well-formed operations come to a state,

@@ -35,13 +35,22 @@ pub enum Op {
         number: u64,
     },
     /// The total of rights to execute a counted term that one node moved to another so far,
-    /// under a key.
+    /// under a key; where both are one, what it granted.
     Shift {
         name: Name,
         key: Key,
         term: u8,
         from: u8,
         to: u8,
+        total: u64,
+    },
+    /// The total of rights to execute a counted term that a node granted itself beyond the count
+    /// so far, under a key. It counts where the node would move rights to itself.
+    Grant {
+        name: Name,
+        key: Key,
+        term: u8,
+        node: u8,
         total: u64,
     },
 }
@@ -56,6 +65,7 @@ impl Op {
             Op::Hit { name, .. } => name,
             Op::Exec { name, .. } => name,
             Op::Shift { name, .. } => name,
+            Op::Grant { name, .. } => name,
         }
     }
 
@@ -68,6 +78,7 @@ impl Op {
             Op::Hit { .. } => None,
             Op::Exec { key, .. } => Some(key),
             Op::Shift { key, .. } => Some(key),
+            Op::Grant { key, .. } => Some(key),
         }
     }
 
@@ -98,6 +109,17 @@ impl Op {
                 term: *term,
                 from: *from,
                 to: *to,
+            }
+            .times(*total)),
+            Op::Grant {
+                term,
+                node,
+                total,
+                ..
+            } => Some(Counted::Shifts {
+                term: *term,
+                from: *node,
+                to: *node,
             }
             .times(*total)),
         }

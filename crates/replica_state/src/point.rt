@@ -6,7 +6,7 @@ ghost use Rattle.std.specs.Option.{option_copied};
 ghost use Rattle.counters.specs.Sums.{node_numbers, sum_below};
 ghost use Rattle.counters.specs.Budgets.{rights};
 ghost use Rattle.stamp_register.specs.Keys.{key_value};
-ghost use Rattle.replica_state.specs.Points.{same_counted, is_hits, term_of, number_of, only_hits, empty_held, held_of, key_standing, held_after_learning, held_after_pass, held_after_shift, given_key, Raises, rights_of_key, spent_of_key};
+ghost use Rattle.replica_state.specs.Points.{same_counted, is_hits, node_bound, term_of, number_of, only_hits, empty_held, held_of, key_standing, held_after_learning, held_after_pass, held_after_shift, given_key, Raises, rights_of_key, spent_of_key};
 ghost use Rattle.replica_state.specs.Unions.{both_held, if_counts, IsHeldBelow};
 ghost use Rattle.replica_state.specs.OpSets.{key_told, operation_told};
 ghost use Rattle.replica_state.specs.declared.point.Counted.{Counted};
@@ -24,7 +24,7 @@ pub enum Counted {
     Hits { node: u8 },
     /// The executions of a term at a node.
     Execs { term: u8, node: u8 },
-    /// The rights to a term that one node moved to another.
+    /// The rights to a term that one node moved to another, or granted itself where both are one.
     Shifts { term: u8, from: u8, to: u8 },
 }
 
@@ -71,6 +71,19 @@ impl Counted {
             ) => term == of && from == here && to == there,
             _ => false,
         }
+    }
+
+    /// A number above those of its nodes.
+    pub(crate) fn node_bound(self) -> u16
+        ensures value { result ≡ node_bound self }
+        ensures small { result ≤ 256 }
+    {
+        let last = match self {
+            Counted::Hits { node } => node,
+            Counted::Execs { node, .. } => node,
+            Counted::Shifts { from, to, .. } => from.max(to),
+        };
+        u16::from(last) + 1
     }
 
     /// The term of which something is counted, if it is.
@@ -344,7 +357,8 @@ impl Point {
         Ok(())
     }
 
-    /// Counts the rights to a term that one node moved to another, so many in all.
+    /// Counts the rights to a term that one node moved to another, or granted itself where both are
+    /// one, so many in all.
     pub(crate) fn shift(&mut self, term: u8, from: u8, to: u8, total: u64) -> Result<(), AllocError>
         ensures ok { OnOk result (held_of self.new ≡ held_after_shift term from to total (held_of self.old)) }
         ensures err { OnErr result (held_of self.new ≡ held_of self.old) }

@@ -1,10 +1,10 @@
 //! What a node needs of the thing that holds its state.
 
-ghost use Rattle.std.specs.Prelude.{◌≡◌, ◌≢◌, ◌+◌, ◌<◌, ◌≤◌, ◌^◌, ℕ, [], ◌↔◌, length, slice_get, false, option_map, Some, IfSome, IsSome, IsTrue, OnOk, OnErr};
+ghost use Rattle.std.specs.Prelude.{◌≡◌, ◌+◌, ◌<◌, ◌≤◌, ◌^◌, ℕ, [], ◌↔◌, length, slice_get, false, option_map, Some, IfSome, IsSome, IsTrue, OnOk, OnErr};
 ghost use Rattle.std.specs.Option.{option_copied};
 ghost use Rattle.stamp_register.specs.Keys.{key_value};
 ghost use Rattle.replica_state.specs.Operations.{operation, IsWellFormed};
-ghost use Rattle.replica_state.specs.States.{State, with_name, with_key, with_pass, with_shifts, total_hits, budget_of, rights_of, spent_of, MarksRights};
+ghost use Rattle.replica_state.specs.States.{State, with_name, with_key, with_pass, with_shifts, total_hits, granted_in, budget_of, rights_of, spent_of, MarksRights};
 ghost use Rattle.replica_state.specs.Folds.{fold, Learns, IsUnion};
 ghost use Rattle.replica_state.specs.Reached.{IsReached};
 ghost use Rattle.replica_state.specs.Knowledge.{is_upto};
@@ -91,8 +91,8 @@ pub trait Replica: Join {
         ensures ok { OnOk result (state self.new ≡ with_pass name.now node spent (state self.old)) }
         ensures err { OnErr result (state self.new ≡ state self.old) };
 
-    /// Counts the rights to a counted term of the point's key that one node moved to another, so
-    /// many in all.
+    /// Counts the rights to a counted term of the point's key that one node moved to another, or
+    /// granted itself where both are one, so many in all.
     fn count_shift(
         &mut self,
         alloc: Global,
@@ -105,7 +105,6 @@ pub trait Replica: Join {
         requires set { IsSome ((state self.old).key name.now) }
         requires more { (state self.old).shifts name.now term from to ≤ total }
         requires counted { IsSome (budget_of (state self.old) name.now term) }
-        requires another { from ≢ to }
         ensures ok { OnOk result (state self.new
             ≡ with_shifts name.now term from to total (state self.old)) }
         ensures err { OnErr result (state self.new ≡ state self.old) };
@@ -134,9 +133,18 @@ pub trait Replica: Join {
     fn exec(&self, name: &Name, term: u8, node: u8) -> u64
         ensures { result ≡ (state self.now).execs name.now term node };
 
-    /// The total of rights that one node moved to another, under the point's key.
+    /// The total of rights that one node moved to another, or granted itself where both are one,
+    /// under the point's key.
     fn moved(&self, name: &Name, term: u8, from: u8, to: u8) -> u64
         ensures { result ≡ (state self.now).shifts name.now term from to };
+
+    /// The total of rights that a node granted itself beyond the count of a term, under the point's
+    /// key.
+    fn granted(&self, name: &Name, term: u8, node: u8) -> u64
+        ensures { result ≡ granted_in (state self.now) name.now term node }
+    {
+        self.moved(name, term, node, node)
+    }
 
     /// The rights of a node to execute a counted term. They can be below 0 in the view of another
     /// node, where it knows of a spend before the shift that paid for it.

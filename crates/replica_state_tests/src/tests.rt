@@ -48,6 +48,7 @@ enum Step {
     Hit(u8, u64),
     Exec(u64, u8, &'static str, u8, u64),
     Shift(u64, u8, &'static str, u8, u8, u64),
+    Grant(u64, u8, &'static str, u8, u64),
 }
 
 /// The operation of the name `a` and its first term.
@@ -86,6 +87,13 @@ fn op_on(alloc: Global, text: &str, term: u8, step: Step) -> Result<Op, Fail> {
             to,
             total,
         },
+        Step::Grant(clock, setter, text, node, total) => Op::Grant {
+            name,
+            key: key(alloc, clock, setter, text)?,
+            term,
+            node,
+            total,
+        },
     })
 }
 
@@ -117,11 +125,15 @@ fn is_well_formed(op: &Op) -> bool
         Op::Shift {
             key,
             term,
-            from,
-            to,
             total,
             ..
-        } => *total >= 1 && from != to && count_of(key, *term).is_some(),
+        } => *total >= 1 && count_of(key, *term).is_some(),
+        Op::Grant {
+            key,
+            term,
+            total,
+            ..
+        } => *total >= 1 && count_of(key, *term).is_some(),
     }
 }
 

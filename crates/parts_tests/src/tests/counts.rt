@@ -82,6 +82,8 @@ enum Step {
     Shift(u8, u8, u64),
     RaiseSpent(u8, u64),
     RaiseMoved(u8, u8, u64),
+    Grant(u8, u64),
+    RaiseGranted(u8, u64),
 }
 
 /// What the readers answer of the nodes 0 and 1.
@@ -91,6 +93,7 @@ struct Seen {
     moved: (u64, u64),
     rights: (i128, i128),
     total: u128,
+    granted: (u64, u64),
 }
 
 fn shown(budget: &Budget) -> Seen {
@@ -99,6 +102,7 @@ fn shown(budget: &Budget) -> Seen {
         moved: (budget.moved(0, 1), budget.moved(1, 0)),
         rights: (budget.rights(0, 2, 0), budget.rights(0, 2, 1)),
         total: budget.total_spent(),
+        granted: (budget.granted(0), budget.granted(1)),
     }
 }
 
@@ -108,10 +112,21 @@ fn wanted(spent: (u64, u64), moved: (u64, u64), rights: (i128, i128), total: u12
         moved,
         rights,
         total,
+        granted: (0, 0),
     }
 }
 
-/// Does a call, which answers a number if it spends or shifts.
+fn granted(granted: (u64, u64), moved: (u64, u64), rights: (i128, i128)) -> Seen {
+    Seen {
+        spent: (0, 0),
+        moved,
+        rights,
+        total: 0,
+        granted,
+    }
+}
+
+/// Does a call, which answers a number if it spends, shifts or grants.
 fn take(alloc: Global, budget: &mut Budget, step: Step) -> Result<Option<u64>, CounterFault> {
     match step {
         Step::Spend(node) => Ok(Some(budget.spend(alloc, 0, 2, node)?)),
@@ -122,6 +137,11 @@ fn take(alloc: Global, budget: &mut Budget, step: Step) -> Result<Option<u64>, C
         }
         Step::RaiseMoved(from, to, number) => {
             budget.raise_moved(alloc, from, to, number)?;
+            Ok(None)
+        }
+        Step::Grant(node, amount) => Ok(Some(budget.grant(alloc, node, amount)?)),
+        Step::RaiseGranted(node, total) => {
+            budget.raise_granted(alloc, node, total)?;
             Ok(None)
         }
     }
@@ -224,7 +244,6 @@ fn raises(rt: HostRuntime) -> Result<(), Fail> {
         (Step::Spend(1), Err(have), early),
         (Step::RaiseMoved(0, 1, 2), Ok(None), paid),
         (Step::RaiseMoved(0, 1, 1), Ok(None), paid),
-        (Step::RaiseMoved(0, 0, 9), Ok(None), paid),
         (Step::RaiseMoved(2, 1, 0), Ok(None), paid),
         (
             Step::RaiseMoved(0, 1, max),
@@ -239,6 +258,47 @@ fn raises(rt: HostRuntime) -> Result<(), Fail> {
         (Step::RaiseMoved(1, 0, max), Ok(None), full),
         (Step::Shift(0, 1, 1), Err(CounterFault::CellFull), full),
         (Step::Shift(0, 1, 0), Err(CounterFault::ZeroAmount), full),
+    ];
+    follow(&rt, alloc, &mut budget, &steps);
+    Ok(())
+}
+
+/// A node has what it granted itself beyond the count. A total that is told again adds nothing, and
+/// what a node would move to itself is its grant.
+#[test]
+fn grants(rt: HostRuntime) -> Result<(), Fail> {
+    let alloc = rt.alloc();
+    let mut budget = Budget::new(alloc);
+    let raised = granted((2, 0), (0, 0), (4, 0));
+    let steps = [
+        (Step::RaiseGranted(0, 2), Ok(None), raised),
+        (Step::RaiseGranted(0, 1), Ok(None), raised),
+        (Step::Grant(0, 0), Err(CounterFault::ZeroAmount), raised),
+        (
+            Step::Grant(0, u64::MAX),
+            Err(CounterFault::CellFull),
+            raised,
+        ),
+        (
+            Step::Grant(1, 1),
+            Ok(Some(1)),
+            granted((2, 1), (0, 0), (4, 1)),
+        ),
+        (
+            Step::Grant(0, 3),
+            Ok(Some(5)),
+            granted((5, 1), (0, 0), (7, 1)),
+        ),
+        (
+            Step::RaiseMoved(0, 0, 9),
+            Ok(None),
+            granted((9, 1), (0, 0), (11, 1)),
+        ),
+        (
+            Step::Shift(0, 1, 11),
+            Ok(Some(11)),
+            granted((9, 1), (11, 0), (0, 12)),
+        ),
     ];
     follow(&rt, alloc, &mut budget, &steps);
     Ok(())

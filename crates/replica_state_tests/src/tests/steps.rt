@@ -46,6 +46,31 @@ fn spend_before_shift(rt: HostRuntime) -> Result<(), Fail> {
     follow_both(&rt, rt.alloc(), &steps)
 }
 
+/// A node has what it granted itself, once, also where that is told as a shift to itself. A new key
+/// has no grants.
+#[test]
+fn grants(rt: HostRuntime) -> Result<(), Fail> {
+    let granted = wanted(1, (0, 0), (0, 0), (0, 0), (2, 3));
+    let steps = [
+        (Step::Grant(1, 0, "2*off", 1, 3), granted),
+        (Step::Grant(1, 0, "2*off", 1, 2), granted),
+        (Step::Grant(1, 0, "2*off", 1, 3), granted),
+        (
+            Step::Shift(1, 0, "2*off", 1, 1, 4),
+            wanted(1, (0, 0), (0, 0), (0, 0), (2, 4)),
+        ),
+        (
+            Step::Exec(1, 0, "2*off", 1, 1),
+            wanted(1, (0, 0), (0, 1), (0, 0), (2, 3)),
+        ),
+        (
+            Step::Set(2, 0, "2*off"),
+            wanted(2, (0, 0), (0, 0), (0, 0), (2, 0)),
+        ),
+    ];
+    follow_both(&rt, rt.alloc(), &steps)
+}
+
 /// A greater key drops the executions and the shifts of the one before it, and keeps the hits; a
 /// smaller one changes nothing, and one that comes with an execution is taken. Of one clock and
 /// one node the greater text holds.
