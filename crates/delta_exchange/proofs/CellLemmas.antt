@@ -1,12 +1,15 @@
 -- Cells that are read are those that were written, and what was written is read again.
 use Rattle.std.proofs.Common.{◌≡◌, ℕ, ◌<◌, ◌^◌, List, [], ◌∷◌, ◌++◌, length, map, option_map, Option, None, Ok, refl, sym, ap, subst, ◌∙◌, append_assoc, arith}
 use Rattle.std.specs.List.{flat_map, AllByRecursion}
+use Rattle.std.specs.List.Sorted.{IsStrictlySortedBy}
 use Rattle.std.specs.Int.{w16, w64, to_be_bytes}
 use Rattle.stamp_register.specs.Keys.{KeyValue}
 use Rattle.delta_exchange.specs.declared.fault.WireFault.TheVariants as faults
-use Rattle.delta_exchange.specs.Spelling.{hit_bytes, exec_bytes, shift_bytes, hits_bytes, execs_bytes, shifts_bytes, hit_place, exec_place, shift_place, Ascend, IsHit, IsExec, IsShift}
+use Rattle.delta_exchange.specs.declared.wire.Form.{Form}
+use Rattle.delta_exchange.specs.declared.wire.Form.TheVariants.{Plain, WithGrants}
+use Rattle.delta_exchange.specs.Spelling.{hit_bytes, exec_bytes, shift_bytes, hits_bytes, execs_bytes, shifts_bytes, grants_bytes, hit_place, exec_place, shift_place, grant_place, Ascend, IsHit, IsExec, IsShift, IsGrant}
 use Rattle.refusals.specs.Refusals.{◌>>=◌}
-use Rattle.delta_exchange.specs.Reading.{wants, offset, is_above, byte_at, number_at, node_at, other_node_at, term_at, value_at, hit_at, exec_at, shift_at, each_at, hits_at, execs_at, shifts_at}
+use Rattle.delta_exchange.specs.Reading.{wants, offset, is_above, byte_at, number_at, node_at, other_node_at, term_at, value_at, hit_at, exec_at, shift_at, each_at, hits_at, execs_at, shifts_at, grants_at}
 use Rattle.refusals.proofs.StepLemmas.{bind_ok}
 use Rattle.delta_exchange.proofs.Steps.{wants_ok, at_ok}
 use Rattle.delta_exchange.proofs.Fields.{IsBytes, Takes, Takes-then, byte_takes, byte_again, short_takes, short_again, node_takes, node_again, other_takes, other_again, term_takes, term_again, value_takes, value_again}
@@ -136,3 +139,21 @@ unfolding shifts_at
 shifts_again all nodes key cs rest few h sorted =
     let regrouped = append_assoc (to_be_bytes w16 (length cs)) (flat_map shift_bytes cs) rest in
     ap (shifts_at all nodes key) regrouped ∙ rw (short_again all (length cs) (flat_map shift_bytes cs ++ rest) few) (each_again (shift_at all nodes key) shift_bytes (Above shift_place (IsShift nodes key)) (shift_again all nodes key) None cs rest (chain_from_ascend shift_place (IsShift nodes key) cs h sorted))
+
+-- a plain message tells no grant
+pub grants_take : (all nodes : ℕ) (key : KeyValue) (form : Form) (left : List ℕ) (cs : List (ℕ × ℕ × ℕ)) (rest : List ℕ) → IsBytes left → grants_at all nodes key form left ≡ Ok (cs, rest)
+    → Takes left (grants_bytes form cs) rest × (length cs < 2 ^ 16) × AllByRecursion (IsGrant nodes key) cs × Ascend (map grant_place cs) × (form ≡ Plain → cs ≡ [])
+unfolding grants_at IsStrictlySortedBy
+grants_take all nodes key Plain left cs rest fits e =
+    let taken : Takes left [] left = record { parts = refl; rest_fits = fits } in
+    at_ok (λ (p : List (ℕ × ℕ × ℕ) × List ℕ). Takes left [] p.1 × (length p.0 < 2 ^ 16) × AllByRecursion (IsGrant nodes key) p.0 × Ascend (map grant_place p.0) × (Plain ≡ Plain → p.0 ≡ [])) ([], left) (cs, rest) e
+    (taken, omega arith, tt, tt, λ _. refl)
+grants_take all nodes key WithGrants left cs rest fits e =
+    let t = execs_take all nodes key left cs rest fits e in
+    (t.0, t.1, t.2, t.3, λ same. absurd cc)
+
+pub grants_again : (all nodes : ℕ) (key : KeyValue) (form : Form) (cs : List (ℕ × ℕ × ℕ)) (rest : List ℕ) → length cs < 2 ^ 16 → AllByRecursion (IsGrant nodes key) cs → Ascend (map grant_place cs)
+    → (form ≡ Plain → cs ≡ []) → grants_at all nodes key form (grants_bytes form cs ++ rest) ≡ Ok (cs, rest)
+unfolding grants_at
+grants_again all nodes key Plain cs rest few h sorted none = ap (λ (x : List (ℕ × ℕ × ℕ)). Ok (x, rest)) (sym (none refl))
+grants_again all nodes key WithGrants cs rest few h sorted none = execs_again all nodes key cs rest few h sorted

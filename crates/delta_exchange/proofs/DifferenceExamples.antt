@@ -9,11 +9,11 @@ use Rattle.stamp_register.specs.Keys.{KeyValue, terms_in_text}
 use Rattle.replica_state.specs.Operations.{Operation, Set, Count, Hits, Execs, IsIn, same_cell}
 use Rattle.replica_state.specs.States.{State}
 use Rattle.replica_state.specs.Folds.{fold}
-use Rattle.delta_exchange.specs.Cells.{each_below, hit_cells, exec_cells, shift_cells, entry_of, entries_of}
-use Rattle.delta_exchange.specs.Differences.{tells_hits, tells_execs, tells_shifts, untold_entry, untold_entries, difference_of}
+use Rattle.delta_exchange.specs.Cells.{each_below, hit_cells, exec_cells, shift_cells, grant_cells, entry_of, entries_of}
+use Rattle.delta_exchange.specs.Differences.{tells_hits, tells_execs, tells_shifts, tells_grants, untold_entry, untold_entries, difference_of}
 use Rattle.delta_exchange.proofs.Members.{flat_none, flat_same}
 use Rattle.delta_exchange.proofs.HeldEntries.{entry_member}
-use Rattle.delta_exchange.proofs.Differences.{tells_its_key, tells_its_hits, tells_its_execs, tells_its_shifts, hit_held, exec_held, shift_held}
+use Rattle.delta_exchange.proofs.Differences.{tells_its_key, tells_its_hits, tells_its_execs, tells_its_shifts, tells_its_grants, hit_held, exec_held, shift_held, grant_held}
 use Rattle.delta_exchange.proofs.Filters.{passes_not, filter_all, filter_none}
 
 -- ---- from nothing
@@ -27,6 +27,7 @@ module _ (v : State) (nodes : ℕ) where
     hits = filter_all (λ c. not (0 == c.1)) (hit_cells v name nodes) each_hit i;
     execs = filter_all (λ c. true) (exec_cells v name key nodes) (λ c h. refl) i;
     shifts = filter_all (λ c. true) (shift_cells v name key nodes) (λ c h. refl) i;
+    grants = filter_all (λ c. true) (grant_cells v name key nodes) (λ c h. refl) i;
   } ∷ []
     where
       each_hit : (c : ℕ × ℕ) → IsIn c (hit_cells v name nodes) → IsTrue (not (0 == c.1))
@@ -40,7 +41,7 @@ module _ (v : State) (nodes : ℕ) where
   -- ---- from the state itself
 
   none_untold : (name : List ℕ) (key : KeyValue) → v.key name ≡ Some key → untold_entry v (entry_of v nodes name key) ≡ []
-  none_untold name key e = rw (no_hits, no_execs, no_shifts, tells_its_key v name key e) refl
+  none_untold name key e = rw (no_hits, no_execs, no_shifts, no_grants, tells_its_key v name key e) refl
     where
       no_hits : filter (λ c. not (tells_hits v name c)) (hit_cells v name nodes) ≡ []
       no_hits = filter_none (λ c. not (tells_hits v name c)) (hit_cells v name nodes) (λ c h. ap not (tells_its_hits v name c (hit_held v nodes name c h)))
@@ -50,6 +51,9 @@ module _ (v : State) (nodes : ℕ) where
 
       no_shifts : filter (λ c. not (tells_shifts v name key c)) (shift_cells v name key nodes) ≡ []
       no_shifts = filter_none (λ c. not (tells_shifts v name key c)) (shift_cells v name key nodes) (λ c h. ap not (tells_its_shifts v name key c (shift_held v nodes name key e c h)))
+
+      no_grants : filter (λ c. not (tells_grants v name key c)) (grant_cells v name key nodes) ≡ []
+      no_grants = filter_none (λ c. not (tells_grants v name key c)) (grant_cells v name key nodes) (λ c h. ap not (tells_its_grants v name key c (grant_held v nodes name key e c h)))
 
   pub nothing_from_itself : untold_entries v v nodes ≡ []
   nothing_from_itself = flat_none (untold_entry v) (entries_of v nodes) (λ e h.
@@ -80,8 +84,8 @@ worked : difference_of (fold before) (fold (added ++ before)) 2 0 1 9 11 0 ≡ r
   base = 9;
   upto = 11;
   ack = 0;
-  entries = record { name = codes "a"; key = key_at 1; hits = (1, 1) ∷ []; execs = (0, 1, 1) ∷ []; shifts = [] }
-      ∷ record { name = codes "b"; key = gone; hits = []; execs = []; shifts = [] } ∷ [];
+  entries = record { name = codes "a"; key = key_at 1; hits = (1, 1) ∷ []; execs = (0, 1, 1) ∷ []; shifts = []; grants = [] }
+      ∷ record { name = codes "b"; key = gone; hits = []; execs = []; shifts = []; grants = [] } ∷ [];
 }
 unfolding fold each_below same_cell terms_in_text reading pieces terms_at term_at argument_at trimmed_text chance_at count_at number_at task_at
 worked = refl

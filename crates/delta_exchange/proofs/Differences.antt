@@ -1,13 +1,12 @@
 -- A message that tells what differs between two states of a node is the difference of the two.
-use Rattle.std.proofs.Common.{◌≡◌, ◌≢◌, ℕ, ◌≤◌, ◌==◌, ◌||◌, ◌⊎◌, inl, inr, Bool, true, false, cond, List, [], ◌∷◌, ◌++◌, length, map, Option, Some, None, refl, sym, ap, subst, ◌∙◌, ⊎_elim, arith}
-use Rattle.std.specs.Prelude.{not, nat_lt, IsTrue}
+use Rattle.std.proofs.Common.{◌≡◌, ◌≢◌, ℕ, ◌≤◌, ◌==◌, ◌||◌, inl, inr, Bool, true, false, cond, List, [], ◌∷◌, ◌++◌, map, Option, Some, None, refl, sym, ap, subst, ◌∙◌, ⊎_elim, arith}
+use Rattle.std.specs.Prelude.{not, IsTrue}
 use Rattle.std.specs.List.{flat_map}
-use Rattle.std.proofs.lemmas.Bool.{true≢false, and_parts, and_from, or_left, or_right, eqb-true, eq-eqb}
-use Rattle.std.proofs.lemmas.Bool.Decides.{nat_tests}
+use Rattle.std.proofs.lemmas.Bool.{true≢false, and_parts, and_from, or_left, or_right, eqb-true, eq-eqb, cases_eq}
 use Rattle.std.proofs.lemmas.List.Concat.{flat_map-cons}
 use Rattle.stamp_register.specs.Keys.{KeyValue}
 use Rattle.replica_state.specs.Operations.{Operation, Set, Count, Hits, Execs, Shifts, IsIn}
-use Rattle.replica_state.specs.States.{State}
+use Rattle.replica_state.specs.States.{State, granted_in}
 use Rattle.replica_state.specs.StateOrder.{IsKeyBelow, IsBelow}
 use Rattle.replica_state.specs.SetOrder.{key_below-irrefl}
 use Rattle.replica_state.specs.Folds.{fold, name_in, names_of}
@@ -15,49 +14,18 @@ use Rattle.replica_state.specs.Deltas.{IsTold, IsInDelta, IsDelta, TellSameOf}
 use Rattle.replica_state.proofs.Names.{IsAscending, names_of-ascending, holds-names_of, key_named}
 use Rattle.replica_state.proofs.Orders.{same_key-true, same_key-refl}
 use Rattle.delta_exchange.specs.Messages.{EntryValue, MessageValue, operations_of, operations_in}
-use Rattle.delta_exchange.specs.Spelling.{hit_place, exec_place, shift_place, IsHit, IsExec, IsShift, IsEntry, AreEntries, IsMessage}
-use Rattle.delta_exchange.specs.Cells.{hit_cells, exec_cells, shift_cells, entry_of, entries_of}
+use Rattle.delta_exchange.specs.Spelling.{hit_place, exec_place, shift_place, IsHit, IsExec, IsShift, IsGrant, IsEntry, AreEntries, IsMessage}
+use Rattle.delta_exchange.specs.Cells.{hit_cells, exec_cells, shift_cells, grant_cells, entry_of, entries_of}
 use Rattle.delta_exchange.specs.Since.{tells_cells}
-use Rattle.delta_exchange.specs.Differences.{is_key, tells_key, tells_hits, tells_execs, tells_shifts, untold_cells, untold_entry, untold_entries, difference_of}
+use Rattle.delta_exchange.specs.Differences.{is_key, tells_key, tells_hits, tells_execs, tells_shifts, tells_grants, untold_cells, untold_entry, untold_entries, difference_of}
 use Rattle.delta_exchange.proofs.Members.{flat_in, in_flat, mapped_from, mapped_in, one_of}
-use Rattle.delta_exchange.proofs.LawfulLemmas.{hit_told, exec_told, shift_told}
+use Rattle.delta_exchange.proofs.LawfulLemmas.{hit_told, exec_told, shift_told, grant_told}
 use Rattle.delta_exchange.proofs.BelowLemmas.{ascends}
-use Rattle.delta_exchange.proofs.HeldCells.{hit_member, member_hit, hits_ascend, exec_member, member_exec, execs_ascend, shift_member, member_shift, shifts_ascend}
+use Rattle.delta_exchange.proofs.HeldCells.{hit_member, member_hit, hits_ascend, term_member, member_term, terms_ascend, shift_member, member_shift, shifts_ascend}
 use Rattle.delta_exchange.proofs.HeldEntries.{term_below, entry_member, member_entry, entries_ascend}
 use Rattle.delta_exchange.proofs.Filters.{not_both, passes_not, in_filter, filter_in, filter_ascends}
-use Rattle.delta_exchange.proofs.OneMessage.{one_there, same_list, set_of, hit_of, exec_of, shift_of, hit_in, exec_in, shift_in}
-
--- ---- whether an entry tells a cell
-
-some_in : {A : Type 0} (xs : List A) (x : A) → IsIn x xs → IsTrue (nat_lt 0 (length xs))
-some_in [] x h = absurd h
-some_in (y ∷ xs) x h = grind (arith, nat_tests)
-
-one_in : {A : Type 0} (xs : List A) → IsTrue (nat_lt 0 (length xs)) → (x : A) × IsIn x xs
-one_in [] h = absurd cc
-one_in (x ∷ xs) h = (x, inl refl)
-
-either : (a b : Bool) → IsTrue (a || b) → IsTrue a ⊎ IsTrue b
-either true b h = inl refl
-either false b h = inr h
-
-module _ (e : EntryValue) where
-  hits_tell : (c : ℕ × ℕ) → IsIn c e.hits → IsTrue (tells_cells e)
-  hits_tell c h = or_left (nat_lt 0 (length e.hits)) (nat_lt 0 (length e.execs) || nat_lt 0 (length e.shifts)) (some_in e.hits c h)
-
-  execs_tell : (c : ℕ × ℕ × ℕ) → IsIn c e.execs → IsTrue (tells_cells e)
-  execs_tell c h = or_right (nat_lt 0 (length e.hits)) (nat_lt 0 (length e.execs) || nat_lt 0 (length e.shifts))
-      (or_left (nat_lt 0 (length e.execs)) (nat_lt 0 (length e.shifts)) (some_in e.execs c h))
-
-  shifts_tell : (c : ℕ × ℕ × ℕ × ℕ) → IsIn c e.shifts → IsTrue (tells_cells e)
-  shifts_tell c h = or_right (nat_lt 0 (length e.hits)) (nat_lt 0 (length e.execs) || nat_lt 0 (length e.shifts))
-      (or_right (nat_lt 0 (length e.execs)) (nat_lt 0 (length e.shifts)) (some_in e.shifts c h))
-
-  cell_told : IsTrue (tells_cells e) → ((c : ℕ × ℕ) × IsIn c e.hits) ⊎ (((c : ℕ × ℕ × ℕ) × IsIn c e.execs) ⊎ ((c : ℕ × ℕ × ℕ × ℕ) × IsIn c e.shifts))
-  cell_told t = ⊎_elim
-      (λ a. inl (one_in e.hits a))
-      (λ b. inr (⊎_elim (λ a. inl (one_in e.execs a)) (λ c. inr (one_in e.shifts c)) (either (nat_lt 0 (length e.execs)) (nat_lt 0 (length e.shifts)) b)))
-      (either (nat_lt 0 (length e.hits)) (nat_lt 0 (length e.execs) || nat_lt 0 (length e.shifts)) t)
+use Rattle.delta_exchange.proofs.OneMessage.{one_there, same_list, set_of, hit_of, exec_of, shift_of, grant_of, moves_on, hit_in, exec_in, shift_in, grant_in}
+use Rattle.delta_exchange.proofs.TellsCells.{either, hits_tell, execs_tell, shifts_tell, grants_tell, cell_told}
 
 -- ---- what a state has it tells
 
@@ -95,6 +63,12 @@ module _ (v : State) (name : List ℕ) where
     pub tells_its_shifts : (c : ℕ × ℕ × ℕ × ℕ) → IsTold v (Count (Shifts name key c.0 c.1 c.2) c.3) → IsTrue (tells_shifts v name key c)
     tells_its_shifts c d = and_from (tells_key v name key) (v.shifts name c.0 c.1 c.2 == c.3) (tells_its_key key d.0.0) (eq-eqb (v.shifts name c.0 c.1 c.2) c.3 d.0.1)
 
+    grants_are_told : (c : ℕ × ℕ × ℕ) → c.2 ≢ 0 → IsTrue (tells_grants v name key c) → IsTold v (Count (Shifts name key c.0 c.1 c.1) c.2)
+    grants_are_told c some t = shifts_are_told (c.0, c.1, c.1, c.2) some t
+
+    pub tells_its_grants : (c : ℕ × ℕ × ℕ) → IsTold v (Count (Shifts name key c.0 c.1 c.1) c.2) → IsTrue (tells_grants v name key c)
+    tells_its_grants c d = tells_its_shifts (c.0, c.1, c.1, c.2) d
+
 -- ---- the cells of a state it tells
 
 module _ (v : State) (nodes : ℕ) (name : List ℕ) where
@@ -106,7 +80,7 @@ module _ (v : State) (nodes : ℕ) (name : List ℕ) where
 
   pub exec_held : (key : KeyValue) → v.key name ≡ Some key → (c : ℕ × ℕ × ℕ) → IsIn c (exec_cells v name key nodes) → IsTold v (Count (Execs name key c.0 c.1) c.2)
   exec_held key keyed c h =
-      let m = exec_member v name nodes key c h in
+      let m = term_member (v.execs name) nodes key c h in
       let there : IsTold v (Count (Execs name key m.term m.row.node) (v.execs name m.term m.row.node)) = ((keyed, refl), m.row.some) in
       subst (λ (x : ℕ × ℕ × ℕ). IsTold v (Count (Execs name key x.0 x.1) x.2)) (sym m.row.is) there
 
@@ -115,6 +89,12 @@ module _ (v : State) (nodes : ℕ) (name : List ℕ) where
       let m = shift_member v name nodes key c h in
       let there : IsTold v (Count (Shifts name key m.term m.rows.from m.rows.row.to) (v.shifts name m.term m.rows.from m.rows.row.to)) = ((keyed, refl), m.rows.row.some) in
       subst (λ (x : ℕ × ℕ × ℕ × ℕ). IsTold v (Count (Shifts name key x.0 x.1 x.2) x.3)) (sym m.rows.row.is) there
+
+  pub grant_held : (key : KeyValue) → v.key name ≡ Some key → (c : ℕ × ℕ × ℕ) → IsIn c (grant_cells v name key nodes) → IsTold v (Count (Shifts name key c.0 c.1 c.1) c.2)
+  grant_held key keyed c h =
+      let m = term_member (granted_in v name) nodes key c h in
+      let there : IsTold v (Count (Shifts name key m.term m.row.node m.row.node) (granted_in v name m.term m.row.node)) = ((keyed, refl), m.row.some) in
+      subst (λ (x : ℕ × ℕ × ℕ). IsTold v (Count (Shifts name key x.0 x.1 x.1) x.2)) (sym m.row.is) there
 
 -- ---- which entries are told
 
@@ -172,11 +152,17 @@ module _ (past now : State) (nodes : ℕ) (es : List EntryValue) (are : AreEntri
       let k = exec_of r.0 name key c r.2 in
       subst (λ (x : EntryValue). IsIn c x.execs) (this e r.0 h r.1 (s ∙ k.0)) k.1
 
-  shift_there : (e : EntryValue) → IsIn e es → (name : List ℕ) (key : KeyValue) (c : ℕ × ℕ × ℕ × ℕ) → e.name ≡ name → IsInDelta past now (Count (Shifts name key c.0 c.1 c.2) c.3) → IsIn c e.shifts
-  shift_there e h name key c s d =
+  shift_there : (e : EntryValue) → IsIn e es → (name : List ℕ) (key : KeyValue) (c : ℕ × ℕ × ℕ × ℕ) → c.2 ≢ c.1 → e.name ≡ name → IsInDelta past now (Count (Shifts name key c.0 c.1 c.2) c.3) → IsIn c e.shifts
+  shift_there e h name key c apart s d =
       let r = in_flat operations_of es (Count (Shifts name key c.0 c.1 c.2) c.3) ((delta (Count (Shifts name key c.0 c.1 c.2) c.3)).1 d) in
-      let k = shift_of r.0 name key c r.2 in
+      let k = shift_of r.0 name key c apart r.2 in
       subst (λ (x : EntryValue). IsIn c x.shifts) (this e r.0 h r.1 (s ∙ k.0)) k.1
+
+  grant_there : (e : EntryValue) → IsIn e es → (name : List ℕ) (key : KeyValue) (c : ℕ × ℕ × ℕ) → e.name ≡ name → IsInDelta past now (Count (Shifts name key c.0 c.1 c.1) c.2) → IsIn c e.grants
+  grant_there e h name key c s d =
+      let r = in_flat operations_of es (Count (Shifts name key c.0 c.1 c.1) c.2) ((delta (Count (Shifts name key c.0 c.1 c.1) c.2)).1 d) in
+      let k = grant_of r.0 (moves_on nodes r.0 (entry_is r.0 r.1)) name key c r.2 in
+      subst (λ (x : EntryValue). IsIn c x.grants) (this e r.0 h r.1 (s ∙ k.0)) k.1
 
   -- a cell that is left is in the difference
   hit_untold : (name : List ℕ) (key : KeyValue) (c : ℕ × ℕ) → IsIn c (left name key).hits → IsInDelta past now (Count (Hits name c.0) c.1)
@@ -193,6 +179,17 @@ module _ (past now : State) (nodes : ℕ) (es : List EntryValue) (are : AreEntri
   shift_untold name key held c k =
       let r = in_filter (λ x. not (tells_shifts past name key x)) (shift_cells now name key nodes) c k in
       (shift_held now nodes name key held c r.0, λ d. not_both (tells_shifts past name key c) r.1 (tells_its_shifts past name key c d))
+
+  shift_apart : (name : List ℕ) (key : KeyValue) (c : ℕ × ℕ × ℕ × ℕ) → IsIn c (left name key).shifts → c.2 ≢ c.1
+  shift_apart name key c k =
+      let r = in_filter (λ x. not (tells_shifts past name key x)) (shift_cells now name key nodes) c k in
+      let m = shift_member now name nodes key c r.0 in
+      subst (λ (x : ℕ × ℕ × ℕ × ℕ). x.2 ≢ x.1) (sym m.rows.row.is) m.rows.row.apart
+
+  grant_untold : (name : List ℕ) (key : KeyValue) → now.key name ≡ Some key → (c : ℕ × ℕ × ℕ) → IsIn c (left name key).grants → IsInDelta past now (Count (Shifts name key c.0 c.1 c.1) c.2)
+  grant_untold name key held c k =
+      let r = in_filter (λ x. not (tells_grants past name key x)) (grant_cells now name key nodes) c k in
+      (grant_held now nodes name key held c r.0, λ d. not_both (tells_grants past name key c) r.1 (tells_its_grants past name key c d))
 
   module _ (e : EntryValue) (h : IsIn e es) where
     -- its cells are what is left
@@ -213,7 +210,7 @@ module _ (past now : State) (nodes : ℕ) (es : List EntryValue) (are : AreEntri
         let one = one_of (IsExec nodes e.key) e.execs (entry_is e h).execs c k in
         let d = (delta (exec_told e c)).0 (flat_in operations_of es e (exec_told e c) h (exec_in e c k)) in
         let below = term_below nodes e.key c.0 (entry_is e h).key one.0.0 in
-        let held = member_exec now e.name nodes e.key c.0 c.1 below one.0.0 one.1 (λ z. d.0.1 (sym d.0.0.1 ∙ z)) in
+        let held = member_term (now.execs e.name) nodes e.key c.0 c.1 below one.0.0 one.1 (λ z. d.0.1 (sym d.0.0.1 ∙ z)) in
         filter_in (λ x. not (tells_execs past e.name e.key x)) (exec_cells now e.name e.key nodes) c
         (subst (λ n. IsIn (c.0, c.1, n) (exec_cells now e.name e.key nodes)) d.0.0.1 held)
         (passes_not (tells_execs past e.name e.key c) (λ t. d.1 (execs_are_told past e.name e.key c d.0.1 t)))
@@ -232,15 +229,29 @@ module _ (past now : State) (nodes : ℕ) (es : List EntryValue) (are : AreEntri
         (passes_not (tells_shifts past e.name e.key c) (λ t. d.1 (shifts_are_told past e.name e.key c d.0.1 t)))
 
     left_shift : (c : ℕ × ℕ × ℕ × ℕ) → IsIn c (left e.name e.key).shifts → IsIn c e.shifts
-    left_shift c k = shift_there e h e.name e.key c refl (shift_untold e.name e.key (keyed e h) c k)
+    left_shift c k = shift_there e h e.name e.key c (shift_apart e.name e.key c k) refl (shift_untold e.name e.key (keyed e h) c k)
+
+    grant_left : (c : ℕ × ℕ × ℕ) → IsIn c e.grants → IsIn c (left e.name e.key).grants
+    grant_left c k =
+        let one = one_of (IsGrant nodes e.key) e.grants (entry_is e h).grants c k in
+        let d = (delta (grant_told e c)).0 (flat_in operations_of es e (grant_told e c) h (grant_in e c k)) in
+        let below = term_below nodes e.key c.0 (entry_is e h).key one.0.0 in
+        let held = member_term (granted_in now e.name) nodes e.key c.0 c.1 below one.0.0 one.1 (λ z. d.0.1 (sym d.0.0.1 ∙ z)) in
+        filter_in (λ x. not (tells_grants past e.name e.key x)) (grant_cells now e.name e.key nodes) c
+        (subst (λ n. IsIn (c.0, c.1, n) (grant_cells now e.name e.key nodes)) d.0.0.1 held)
+        (passes_not (tells_grants past e.name e.key c) (λ t. d.1 (grants_are_told past e.name e.key c d.0.1 t)))
+
+    left_grant : (c : ℕ × ℕ × ℕ) → IsIn c (left e.name e.key).grants → IsIn c e.grants
+    left_grant c k = grant_there e h e.name e.key c refl (grant_untold e.name e.key (keyed e h) c k)
 
     entry_left : e ≡ left e.name e.key
     entry_left =
         let one = entry_is e h in
         let hits = same_list hit_place e.hits (left e.name e.key).hits one.hits_ascend (ascends _ (filter_ascends (λ x. not (tells_hits past e.name x)) hit_place (hit_cells now e.name nodes) (hits_ascend now e.name nodes))) hit_left left_hit in
-        let execs = same_list exec_place e.execs (left e.name e.key).execs one.execs_ascend (ascends _ (filter_ascends (λ x. not (tells_execs past e.name e.key x)) exec_place (exec_cells now e.name e.key nodes) (execs_ascend now e.name nodes e.key))) exec_left left_exec in
+        let execs = same_list exec_place e.execs (left e.name e.key).execs one.execs_ascend (ascends _ (filter_ascends (λ x. not (tells_execs past e.name e.key x)) exec_place (exec_cells now e.name e.key nodes) (terms_ascend (now.execs e.name) nodes e.key))) exec_left left_exec in
         let shifts = same_list shift_place e.shifts (left e.name e.key).shifts one.shifts_ascend (ascends _ (filter_ascends (λ x. not (tells_shifts past e.name e.key x)) shift_place (shift_cells now e.name e.key nodes) (shifts_ascend now e.name nodes e.key))) shift_left left_shift in
-        λ i. record { name = e.name; key = e.key; hits = hits i; execs = execs i; shifts = shifts i }
+        let grants = same_list exec_place e.grants (left e.name e.key).grants one.grants_ascend (ascends _ (filter_ascends (λ x. not (tells_grants past e.name e.key x)) exec_place (grant_cells now e.name e.key nodes) (terms_ascend (granted_in now e.name) nodes e.key))) grant_left left_grant in
+        λ i. record { name = e.name; key = e.key; hits = hits i; execs = execs i; shifts = shifts i; grants = grants i }
 
     -- of a name with the same key and no other cell the states tell the same
     module _ (below : IsBelow past now) (had : past.key e.name ≡ Some e.key) (quiet : tells_cells e ≡ false) where
@@ -266,7 +277,13 @@ module _ (past now : State) (nodes : ℕ) (es : List EntryValue) (are : AreEntri
         where
           by_test : (b : Bool) → tells_shifts past name key (term, from, to, number) ≡ b → IsTold past (Count (Shifts name key term from to) number)
           by_test true t = shifts_are_told past name key (term, from, to, number) d.1 t
-          by_test false f = silent (shifts_tell e (term, from, to, number) (shift_there e h name key (term, from, to, number) (sym s) (d, λ p. true≢false (sym (tells_its_shifts past name key (term, from, to, number) p) ∙ f))))
+          by_test false f = ⊎_elim
+              (λ same. silent (grants_tell e (term, from, number) (grant_there e h name key (term, from, number) (sym s) (subst (λ o. IsInDelta past now (Count (Shifts name key term from o) number)) same untold))))
+              (λ apart. silent (shifts_tell e (term, from, to, number) (shift_there e h name key (term, from, to, number) apart (sym s) untold)))
+              (cases_eq to from)
+            where
+              untold : IsInDelta past now (Count (Shifts name key term from to) number)
+              untold = (d, λ p. true≢false (sym (tells_its_shifts past name key (term, from, to, number) p) ∙ f))
 
       execs_upto : (name : List ℕ) → name ≡ e.name → (term node : ℕ) → past.execs name term node ≤ now.execs name term node
       execs_upto name s term node = ⊎_elim
@@ -335,7 +352,7 @@ module _ (past now : State) (nodes : ℕ) (es : List EntryValue) (are : AreEntri
   differs : (name : List ℕ) (key : KeyValue) → now.key name ≡ Some key → IsUntold name key → TellSameOf past now name → ⊥
   differs name key held t same = ⊎_elim
       (λ n. not_both (tells_key past name key) n (tells_its_key past name key ((same (Set name key) refl).1 held)))
-      (λ c. ⊎_elim hits (λ d. ⊎_elim execs shifts d) (cell_told (left name key) c))
+      (λ c. ⊎_elim hits (λ d. ⊎_elim execs (λ f. ⊎_elim shifts grants f) d) (cell_told (left name key) c))
       (either (not (tells_key past name key)) (tells_cells (left name key)) t)
     where
       hits : (c : ℕ × ℕ) × IsIn c (left name key).hits → ⊥
@@ -346,6 +363,9 @@ module _ (past now : State) (nodes : ℕ) (es : List EntryValue) (are : AreEntri
 
       shifts : (c : ℕ × ℕ × ℕ × ℕ) × IsIn c (left name key).shifts → ⊥
       shifts (c, k) = let d = shift_untold name key held c k in d.1 ((same (Count (Shifts name key c.0 c.1 c.2) c.3) refl).1 d.0)
+
+      grants : (c : ℕ × ℕ × ℕ) × IsIn c (left name key).grants → ⊥
+      grants (c, k) = let d = grant_untold name key held c k in d.1 ((same (Count (Shifts name key c.0 c.1 c.1) c.2) refl).1 d.0)
 
   left_there : (name : List ℕ) (key : KeyValue) → now.key name ≡ Some key → IsUntold name key → IsIn (left name key) es
   left_there name key held t =

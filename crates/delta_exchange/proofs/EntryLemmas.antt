@@ -1,9 +1,10 @@
 -- Entries that are read are those that were written, and what was written is read again.
-use Rattle.std.proofs.Common.{◌≡◌, ℕ, ◌<◌, ◌≤◌, ◌^◌, ◌&&◌, ◌⊎◌, inl, inr, Bool, true, false, cond, eqb, ltb, leb, List, [], ◌∷◌, ◌++◌, length, map, option_map, Option, Some, None, Result, Ok, Err, refl, sym, ap, subst, ◌∙◌, append_assoc, arith}
-use Rattle.std.specs.List.{flat_map, list_all, AllByRecursion}
+use Rattle.std.proofs.Common.{◌≡◌, ℕ, ◌<◌, ◌≤◌, ◌^◌, ◌&&◌, ◌⊎◌, inl, inr, Bool, true, false, cond, nat_lt, eqb, ltb, leb, List, [], ◌∷◌, ◌++◌, length, map, option_map, Option, Some, None, Result, Ok, Err, refl, sym, ap, subst, ◌∙◌, append_assoc, arith}
+use Rattle.std.specs.List.{flat_map, list_all, list_any, AllByRecursion}
 use Rattle.std.specs.Int.{w16, w64, to_be_bytes}
 use Rattle.std.specs.Str.{is_utf8}
-use Rattle.std.proofs.lemmas.Bool.{and_parts, and_from, eqb-true, le-leb}
+use Rattle.std.proofs.lemmas.Bool.{and_parts, and_from, or_parts, eqb-true, le-leb}
+use Rattle.std.proofs.lemmas.Bool.Decides.{nat_tests}
 use Rattle.std.proofs.lemmas.Slice.Eq.{bytes_eq-Decides}
 use Rattle.std.proofs.lemmas.Str.{IsUtf8-from_is_utf8, is_utf8-from_IsUtf8}
 use Rattle.actions.specs.Limits.{max_name, max_text}
@@ -17,15 +18,17 @@ use Rattle.actions.proofs.Complete.{reading_complete}
 use Rattle.stamp_register.specs.Keys.{KeyValue}
 use Rattle.delta_exchange.specs.declared.fault.WireFault.{WireFault}
 use Rattle.delta_exchange.specs.declared.fault.WireFault.TheVariants as faults
+use Rattle.delta_exchange.specs.declared.wire.Form.{Form}
+use Rattle.delta_exchange.specs.declared.wire.Form.TheVariants.{Plain, WithGrants}
 use Rattle.delta_exchange.specs.Messages.{EntryValue}
-use Rattle.delta_exchange.specs.Spelling.{name_bytes, body_bytes, key_bytes, hits_bytes, execs_bytes, shifts_bytes, entry_bytes, entries_bytes, Ascend, IsCanonicalText, IsBody, IsKey, IsEntry}
+use Rattle.delta_exchange.specs.Spelling.{name_bytes, body_bytes, key_bytes, hits_bytes, execs_bytes, shifts_bytes, grants_bytes, has_grants, form_of, entry_bytes, entries_bytes, hit_place, exec_place, shift_place, grant_place, Ascend, IsHit, IsExec, IsShift, IsGrant, IsCanonicalText, IsBody, IsKey, IsEntry}
 use Rattle.refusals.specs.Refusals.{◌>>=◌}
-use Rattle.delta_exchange.specs.Reading.{wants, offset, is_above, bytes_at, byte_at, number_at, node_at, each_at, hits_at, execs_at, shifts_at, name_at, is_canonical, is_canonical_text, text_at, body_at, key_at, entry_at, entries_at}
+use Rattle.delta_exchange.specs.Reading.{wants, offset, is_above, bytes_at, byte_at, number_at, node_at, each_at, hits_at, execs_at, shifts_at, grants_at, is_form_of, name_at, is_canonical, is_canonical_text, text_at, body_at, key_at, entry_at, entries_at}
 use Rattle.refusals.proofs.StepLemmas.{bind_ok}
 use Rattle.delta_exchange.proofs.Steps.{wants_ok, at_ok}
 use Rattle.delta_exchange.proofs.Fields.{IsBytes, Takes, Takes-then, bytes_take, bytes_again, byte_takes, byte_again, short_takes, short_again, long_takes, long_again, node_takes, node_again}
 use Rattle.delta_exchange.proofs.Lists.{Above, each_takes, each_again, ascend_from_chain, chain_from_ascend}
-use Rattle.delta_exchange.proofs.CellLemmas.{hits_take, hits_again, execs_take, execs_again, shifts_take, shifts_again}
+use Rattle.delta_exchange.proofs.CellLemmas.{hits_take, hits_again, execs_take, execs_again, shifts_take, shifts_again, grants_take, grants_again}
 
 -- ---- names
 
@@ -146,76 +149,161 @@ key_again all nodes k rest h =
 
 -- ---- entries
 
-abbrev pub EntryAbove : ℕ → Option EntryValue → EntryValue → Type 0
-EntryAbove nodes last e = Above (λ e. e.name) (IsEntry nodes) last e
+-- an entry of a message of a form: of a plain one it tells no grant
+abbrev pub IsEntryOf : Form → ℕ → EntryValue → Type 0
+IsEntryOf form nodes e = IsEntry nodes e × (form ≡ Plain → e.grants ≡ [])
 
-entry_takes : (all nodes : ℕ) (last : Option EntryValue) (left : List ℕ) (v : EntryValue) (rest : List ℕ) → IsBytes left → entry_at all nodes last left ≡ Ok (v, rest)
-    → Takes left (entry_bytes v) rest × EntryAbove nodes last v
+abbrev pub EntryAbove : Form → ℕ → Option EntryValue → EntryValue → Type 0
+EntryAbove form nodes last e = Above (λ e. e.name) (IsEntryOf form nodes) last e
+
+-- an entry that is made of what is read after its key
+record IsMadeOf (nodes : ℕ) (form : Form) (key : KeyValue) (make : List (ℕ × ℕ) → List (ℕ × ℕ × ℕ) → List (ℕ × ℕ × ℕ × ℕ) → List (ℕ × ℕ × ℕ) → EntryValue) (left : List ℕ) (made : EntryValue × List ℕ) : Type 0 where
+  pub hits : List (ℕ × ℕ)
+  pub execs : List (ℕ × ℕ × ℕ)
+  pub shifts : List (ℕ × ℕ × ℕ × ℕ)
+  pub grants : List (ℕ × ℕ × ℕ)
+  pub is : made.0 ≡ make hits execs shifts grants
+  pub taken : Takes left (hits_bytes hits ++ (execs_bytes execs ++ (shifts_bytes shifts ++ grants_bytes form grants))) made.1
+  pub are_hits : (length hits < 2 ^ 8) × AllByRecursion (IsHit nodes) hits × Ascend (map hit_place hits)
+  pub are_execs : (length execs < 2 ^ 16) × AllByRecursion (IsExec nodes key) execs × Ascend (map exec_place execs)
+  pub are_shifts : (length shifts < 2 ^ 16) × AllByRecursion (IsShift nodes key) shifts × Ascend (map shift_place shifts)
+  pub are_grants : (length grants < 2 ^ 16) × AllByRecursion (IsGrant nodes key) grants × Ascend (map grant_place grants)
+  pub plain : form ≡ Plain → grants ≡ []
+
+cells_take : (all nodes : ℕ) (form : Form) (key : KeyValue) (make : List (ℕ × ℕ) → List (ℕ × ℕ × ℕ) → List (ℕ × ℕ × ℕ × ℕ) → List (ℕ × ℕ × ℕ) → EntryValue) (left : List ℕ) (made : EntryValue × List ℕ) → IsBytes left
+    → (hits_at all nodes left >>= λ hits. execs_at all nodes key hits.1 >>= λ execs. shifts_at all nodes key execs.1 >>= λ shifts. grants_at all nodes key form shifts.1 >>= λ grants. Ok (make hits.0 execs.0 shifts.0 grants.0, grants.1)) ≡ Ok made
+    → IsMadeOf nodes form key make left made
+cells_take all nodes form key make left made fits e =
+    let d = bind_ok (hits_at all nodes left) (λ hits. execs_at all nodes key hits.1 >>= λ execs. shifts_at all nodes key execs.1 >>= λ shifts. grants_at all nodes key form shifts.1 >>= λ grants. Ok (make hits.0 execs.0 shifts.0 grants.0, grants.1)) made e in
+    let f = bind_ok (execs_at all nodes key d.0.1) (λ execs. shifts_at all nodes key execs.1 >>= λ shifts. grants_at all nodes key form shifts.1 >>= λ grants. Ok (make d.0.0 execs.0 shifts.0 grants.0, grants.1)) made d.2 in
+    let g = bind_ok (shifts_at all nodes key f.0.1) (λ shifts. grants_at all nodes key form shifts.1 >>= λ grants. Ok (make d.0.0 f.0.0 shifts.0 grants.0, grants.1)) made f.2 in
+    let i = bind_ok (grants_at all nodes key form g.0.1) (λ grants. Ok (make d.0.0 f.0.0 g.0.0 grants.0, grants.1)) made g.2 in
+    let h = hits_take all nodes left d.0.0 d.0.1 fits d.1 in
+    let x = execs_take all nodes key d.0.1 f.0.0 f.0.1 h.0.rest_fits f.1 in
+    let s = shifts_take all nodes key f.0.1 g.0.0 g.0.1 x.0.rest_fits g.1 in
+    let y = grants_take all nodes key form g.0.1 i.0.0 i.0.1 s.0.rest_fits i.1 in
+    let one = Takes-then f.0.1 (shifts_bytes g.0.0) g.0.1 (grants_bytes form i.0.0) i.0.1 s.0 y.0 in
+    let two = Takes-then d.0.1 (execs_bytes f.0.0) f.0.1 (shifts_bytes g.0.0 ++ grants_bytes form i.0.0) i.0.1 x.0 one in
+    at_ok (IsMadeOf nodes form key make left) (make d.0.0 f.0.0 g.0.0 i.0.0, i.0.1) made i.2 (record {
+      hits = d.0.0;
+      execs = f.0.0;
+      shifts = g.0.0;
+      grants = i.0.0;
+      is = refl;
+      taken = Takes-then left (hits_bytes d.0.0) d.0.1 (execs_bytes f.0.0 ++ (shifts_bytes g.0.0 ++ grants_bytes form i.0.0)) i.0.1 h.0 two;
+      are_hits = (h.1, h.2, h.3);
+      are_execs = (x.1, x.2, x.3);
+      are_shifts = (s.1, s.2, s.3);
+      are_grants = (y.1, y.2, y.3);
+      plain = y.4;
+    })
+
+entry_takes : (all nodes : ℕ) (form : Form) (last : Option EntryValue) (left : List ℕ) (v : EntryValue) (rest : List ℕ) → IsBytes left → entry_at all nodes form last left ≡ Ok (v, rest)
+    → Takes left (entry_bytes form v) rest × EntryAbove form nodes last v
 unfolding entry_at
-entry_takes all nodes last left v rest fits e =
+entry_takes all nodes form last left v rest fits e =
     let before = option_map (λ e. e.name) last in
-    let a = bind_ok (name_at all before left) (λ name. key_at all nodes name.1 >>= λ key. hits_at all nodes key.1 >>= λ hits. execs_at all nodes key.0 hits.1 >>= λ execs. shifts_at all nodes key.0 execs.1 >>= λ shifts. Ok (record { name = name.0; key = key.0; hits = hits.0; execs = execs.0; shifts = shifts.0 }, shifts.1)) (v, rest) e in
-    let b = bind_ok (key_at all nodes a.0.1) (λ key. hits_at all nodes key.1 >>= λ hits. execs_at all nodes key.0 hits.1 >>= λ execs. shifts_at all nodes key.0 execs.1 >>= λ shifts. Ok (record { name = a.0.0; key = key.0; hits = hits.0; execs = execs.0; shifts = shifts.0 }, shifts.1)) (v, rest) a.2 in
-    let d = bind_ok (hits_at all nodes b.0.1) (λ hits. execs_at all nodes b.0.0 hits.1 >>= λ execs. shifts_at all nodes b.0.0 execs.1 >>= λ shifts. Ok (record { name = a.0.0; key = b.0.0; hits = hits.0; execs = execs.0; shifts = shifts.0 }, shifts.1)) (v, rest) b.2 in
-    let f = bind_ok (execs_at all nodes b.0.0 d.0.1) (λ execs. shifts_at all nodes b.0.0 execs.1 >>= λ shifts. Ok (record { name = a.0.0; key = b.0.0; hits = d.0.0; execs = execs.0; shifts = shifts.0 }, shifts.1)) (v, rest) d.2 in
-    let g = bind_ok (shifts_at all nodes b.0.0 f.0.1) (λ shifts. Ok (record { name = a.0.0; key = b.0.0; hits = d.0.0; execs = f.0.0; shifts = shifts.0 }, shifts.1)) (v, rest) f.2 in
+    let entry : List ℕ → KeyValue → List (ℕ × ℕ) → List (ℕ × ℕ × ℕ) → List (ℕ × ℕ × ℕ × ℕ) → List (ℕ × ℕ × ℕ) → EntryValue =
+    λ name key hits execs shifts grants. record { name = name; key = key; hits = hits; execs = execs; shifts = shifts; grants = grants } in
+    let a = bind_ok (name_at all before left) (λ name. key_at all nodes name.1 >>= λ key. hits_at all nodes key.1 >>= λ hits. execs_at all nodes key.0 hits.1 >>= λ execs. shifts_at all nodes key.0 execs.1 >>= λ shifts. grants_at all nodes key.0 form shifts.1 >>= λ grants. Ok (entry name.0 key.0 hits.0 execs.0 shifts.0 grants.0, grants.1)) (v, rest) e in
+    let b = bind_ok (key_at all nodes a.0.1) (λ key. hits_at all nodes key.1 >>= λ hits. execs_at all nodes key.0 hits.1 >>= λ execs. shifts_at all nodes key.0 execs.1 >>= λ shifts. grants_at all nodes key.0 form shifts.1 >>= λ grants. Ok (entry a.0.0 key.0 hits.0 execs.0 shifts.0 grants.0, grants.1)) (v, rest) a.2 in
     let n = name_takes all before left a.0.0 a.0.1 fits a.1 in
     let k = key_takes all nodes a.0.1 b.0.0 b.0.1 n.0.rest_fits b.1 in
-    let h = hits_take all nodes b.0.1 d.0.0 d.0.1 k.0.rest_fits d.1 in
-    let x = execs_take all nodes b.0.0 d.0.1 f.0.0 f.0.1 h.0.rest_fits f.1 in
-    let s = shifts_take all nodes b.0.0 f.0.1 g.0.0 g.0.1 x.0.rest_fits g.1 in
-    let two = Takes-then d.0.1 (execs_bytes f.0.0) f.0.1 (shifts_bytes g.0.0) g.0.1 x.0 s.0 in
-    let three = Takes-then b.0.1 (hits_bytes d.0.0) d.0.1 (execs_bytes f.0.0 ++ shifts_bytes g.0.0) g.0.1 h.0 two in
-    let four = Takes-then a.0.1 (key_bytes b.0.0) b.0.1 (hits_bytes d.0.0 ++ (execs_bytes f.0.0 ++ shifts_bytes g.0.0)) g.0.1 k.0 three in
-    let five = Takes-then left (name_bytes a.0.0) a.0.1 (key_bytes b.0.0 ++ (hits_bytes d.0.0 ++ (execs_bytes f.0.0 ++ shifts_bytes g.0.0))) g.0.1 n.0 four in
-    let made : EntryValue × List ℕ = (record { name = a.0.0; key = b.0.0; hits = d.0.0; execs = f.0.0; shifts = g.0.0 }, g.0.1) in
-    let is_entry : IsEntry nodes made.0 = record {
+    let r = cells_take all nodes form b.0.0 (entry a.0.0 b.0.0) b.0.1 (v, rest) k.0.rest_fits b.2 in
+    let cells = hits_bytes r.hits ++ (execs_bytes r.execs ++ (shifts_bytes r.shifts ++ grants_bytes form r.grants)) in
+    let keyed = Takes-then a.0.1 (key_bytes b.0.0) b.0.1 cells rest k.0 r.taken in
+    let taken = Takes-then left (name_bytes a.0.0) a.0.1 (key_bytes b.0.0 ++ cells) rest n.0 keyed in
+    let is_entry : IsEntry nodes (entry a.0.0 b.0.0 r.hits r.execs r.shifts r.grants) = record {
       name = n.1;
       key = k.1;
-      few_hits = h.1;
-      hits = h.2;
-      hits_ascend = h.3;
-      few_execs = x.1;
-      execs = x.2;
-      execs_ascend = x.3;
-      few_shifts = s.1;
-      shifts = s.2;
-      shifts_ascend = s.3;
+      few_hits = r.are_hits.0;
+      hits = r.are_hits.1;
+      hits_ascend = r.are_hits.2;
+      few_execs = r.are_execs.0;
+      execs = r.are_execs.1;
+      execs_ascend = r.are_execs.2;
+      few_shifts = r.are_shifts.0;
+      shifts = r.are_shifts.1;
+      shifts_ascend = r.are_shifts.2;
+      few_grants = r.are_grants.0;
+      grants = r.are_grants.1;
+      grants_ascend = r.are_grants.2;
     } in
-    at_ok (λ (y : EntryValue × List ℕ). Takes left (entry_bytes y.0) y.1 × EntryAbove nodes last y.0) made (v, rest) g.2 (five, (is_entry, n.2))
+    subst (λ (z : EntryValue). Takes left (entry_bytes form z) rest × EntryAbove form nodes last z) (sym r.is) (taken, ((is_entry, r.plain), n.2))
 
-entry_again : (all nodes : ℕ) (last : Option EntryValue) (v : EntryValue) (rest : List ℕ) → EntryAbove nodes last v → entry_at all nodes last (entry_bytes v ++ rest) ≡ Ok (v, rest)
+entry_again : (all nodes : ℕ) (form : Form) (last : Option EntryValue) (v : EntryValue) (rest : List ℕ) → EntryAbove form nodes last v → entry_at all nodes form last (entry_bytes form v ++ rest) ≡ Ok (v, rest)
 unfolding entry_at
-entry_again all nodes last v rest h =
+entry_again all nodes form last v rest h =
     let before = option_map (λ e. e.name) last in
-    let cells = hits_bytes v.hits ++ (execs_bytes v.execs ++ shifts_bytes v.shifts) in
-    let counted = execs_bytes v.execs ++ shifts_bytes v.shifts in
-    let n : name_at all before (entry_bytes v ++ rest) ≡ Ok (v.name, (key_bytes v.key ++ cells) ++ rest) =
-    ap (name_at all before) (append_assoc (name_bytes v.name) (key_bytes v.key ++ cells) rest) ∙ name_again all before v.name ((key_bytes v.key ++ cells) ++ rest) h.0.name h.1 in
+    let moved = shifts_bytes v.shifts ++ grants_bytes form v.grants in
+    let counted = execs_bytes v.execs ++ moved in
+    let cells = hits_bytes v.hits ++ counted in
+    let is = h.0.0 in
+    let n : name_at all before (entry_bytes form v ++ rest) ≡ Ok (v.name, (key_bytes v.key ++ cells) ++ rest) =
+    ap (name_at all before) (append_assoc (name_bytes v.name) (key_bytes v.key ++ cells) rest) ∙ name_again all before v.name ((key_bytes v.key ++ cells) ++ rest) is.name h.1 in
     let k : key_at all nodes ((key_bytes v.key ++ cells) ++ rest) ≡ Ok (v.key, cells ++ rest) =
-    ap (key_at all nodes) (append_assoc (key_bytes v.key) cells rest) ∙ key_again all nodes v.key (cells ++ rest) h.0.key in
+    ap (key_at all nodes) (append_assoc (key_bytes v.key) cells rest) ∙ key_again all nodes v.key (cells ++ rest) is.key in
     let i : hits_at all nodes (cells ++ rest) ≡ Ok (v.hits, counted ++ rest) =
-    ap (hits_at all nodes) (append_assoc (hits_bytes v.hits) counted rest) ∙ hits_again all nodes v.hits (counted ++ rest) h.0.hits h.0.hits_ascend in
-    let x : execs_at all nodes v.key (counted ++ rest) ≡ Ok (v.execs, shifts_bytes v.shifts ++ rest) =
-    ap (execs_at all nodes v.key) (append_assoc (execs_bytes v.execs) (shifts_bytes v.shifts) rest) ∙ execs_again all nodes v.key v.execs (shifts_bytes v.shifts ++ rest) h.0.few_execs h.0.execs h.0.execs_ascend in
-    let s : shifts_at all nodes v.key (shifts_bytes v.shifts ++ rest) ≡ Ok (v.shifts, rest) =
-    shifts_again all nodes v.key v.shifts rest h.0.few_shifts h.0.shifts h.0.shifts_ascend in
-    rw (n, k, i, x, s) refl
+    ap (hits_at all nodes) (append_assoc (hits_bytes v.hits) counted rest) ∙ hits_again all nodes v.hits (counted ++ rest) is.hits is.hits_ascend in
+    let x : execs_at all nodes v.key (counted ++ rest) ≡ Ok (v.execs, moved ++ rest) =
+    ap (execs_at all nodes v.key) (append_assoc (execs_bytes v.execs) moved rest) ∙ execs_again all nodes v.key v.execs (moved ++ rest) is.few_execs is.execs is.execs_ascend in
+    let s : shifts_at all nodes v.key (moved ++ rest) ≡ Ok (v.shifts, grants_bytes form v.grants ++ rest) =
+    ap (shifts_at all nodes v.key) (append_assoc (shifts_bytes v.shifts) (grants_bytes form v.grants) rest) ∙ shifts_again all nodes v.key v.shifts (grants_bytes form v.grants ++ rest) is.few_shifts is.shifts is.shifts_ascend in
+    let g : grants_at all nodes v.key form (grants_bytes form v.grants ++ rest) ≡ Ok (v.grants, rest) =
+    grants_again all nodes v.key form v.grants rest is.few_grants is.grants is.grants_ascend h.0.1 in
+    rw (n, k, i, x, s, g) refl
 
-pub entries_take : (all nodes : ℕ) (left : List ℕ) (es : List EntryValue) (rest : List ℕ) → IsBytes left → entries_at all nodes left ≡ Ok (es, rest)
-    → Takes left (entries_bytes es) rest × (length es < 2 ^ 16) × AllByRecursion (IsEntry nodes) es × Ascend (map (λ e. e.name) es)
+pub entries_take : (all nodes : ℕ) (form : Form) (left : List ℕ) (es : List EntryValue) (rest : List ℕ) → IsBytes left → entries_at all nodes form left ≡ Ok (es, rest)
+    → Takes left (entries_bytes form es) rest × (length es < 2 ^ 16) × AllByRecursion (IsEntryOf form nodes) es × Ascend (map (λ e. e.name) es)
 unfolding entries_at
-entries_take all nodes left es rest fits e =
-    let n = bind_ok (number_at all w16 left) (λ count. each_at (entry_at all nodes) count.0 None count.1) (es, rest) e in
+entries_take all nodes form left es rest fits e =
+    let n = bind_ok (number_at all w16 left) (λ count. each_at (entry_at all nodes form) count.0 None count.1) (es, rest) e in
     let t = short_takes all left n.0.0 n.0.1 fits n.1 in
-    let u = each_takes (entry_at all nodes) entry_bytes (EntryAbove nodes) (entry_takes all nodes) n.0.0 None n.0.1 es rest t.0.rest_fits n.2 in
-    let both = Takes-then left (to_be_bytes w16 n.0.0) n.0.1 (flat_map entry_bytes es) rest t.0 u.0 in
-    let chain = ascend_from_chain (λ (e : EntryValue). e.name) (IsEntry nodes) es u.2 in
-    (subst (λ (k : ℕ). Takes left (to_be_bytes w16 k ++ flat_map entry_bytes es) rest) (sym u.1) both, omega (arith, u.1, t.1), chain.0, chain.1)
+    let u = each_takes (entry_at all nodes form) (entry_bytes form) (EntryAbove form nodes) (entry_takes all nodes form) n.0.0 None n.0.1 es rest t.0.rest_fits n.2 in
+    let both = Takes-then left (to_be_bytes w16 n.0.0) n.0.1 (flat_map (entry_bytes form) es) rest t.0 u.0 in
+    let chain = ascend_from_chain (λ (e : EntryValue). e.name) (IsEntryOf form nodes) es u.2 in
+    (subst (λ (k : ℕ). Takes left (to_be_bytes w16 k ++ flat_map (entry_bytes form) es) rest) (sym u.1) both, omega (arith, u.1, t.1), chain.0, chain.1)
 
-pub entries_again : (all nodes : ℕ) (es : List EntryValue) (rest : List ℕ) → length es < 2 ^ 16 → AllByRecursion (IsEntry nodes) es → Ascend (map (λ e. e.name) es)
-    → entries_at all nodes (entries_bytes es ++ rest) ≡ Ok (es, rest)
+pub entries_again : (all nodes : ℕ) (form : Form) (es : List EntryValue) (rest : List ℕ) → length es < 2 ^ 16 → AllByRecursion (IsEntryOf form nodes) es → Ascend (map (λ e. e.name) es)
+    → entries_at all nodes form (entries_bytes form es ++ rest) ≡ Ok (es, rest)
 unfolding entries_at
-entries_again all nodes es rest few h sorted =
-    let regrouped = append_assoc (to_be_bytes w16 (length es)) (flat_map entry_bytes es) rest in
-    ap (entries_at all nodes) regrouped ∙ rw (short_again all (length es) (flat_map entry_bytes es ++ rest) few) (each_again (entry_at all nodes) entry_bytes (EntryAbove nodes) (entry_again all nodes) None es rest (chain_from_ascend (λ (e : EntryValue). e.name) (IsEntry nodes) es h sorted))
+entries_again all nodes form es rest few h sorted =
+    let regrouped = append_assoc (to_be_bytes w16 (length es)) (flat_map (entry_bytes form) es) rest in
+    ap (entries_at all nodes form) regrouped ∙ rw (short_again all (length es) (flat_map (entry_bytes form) es ++ rest) few) (each_again (entry_at all nodes form) (entry_bytes form) (EntryAbove form nodes) (entry_again all nodes form) None es rest (chain_from_ascend (λ (e : EntryValue). e.name) (IsEntryOf form nodes) es h sorted))
+
+-- ---- the form of a message
+
+-- entries of a plain message are those of one without grants, and of another those of one with some
+pub form_is : (form : Form) (nodes : ℕ) (es : List EntryValue) → AllByRecursion (IsEntryOf form nodes) es → is_form_of form es ≡ true → form_of es ≡ form
+form_is Plain nodes es h tells = ap (λ (t : Bool). cond t WithGrants Plain) (none es h)
+  where
+    none : (es : List EntryValue) → AllByRecursion (IsEntryOf Plain nodes) es → list_any has_grants es ≡ false
+    none [] h = refl
+    none (e ∷ es) h = rw (h.0.1 refl) (none es h.1)
+form_is WithGrants nodes es h tells = ap (λ (t : Bool). cond t WithGrants Plain) tells
+
+pub are_entries : (form : Form) (nodes : ℕ) (es : List EntryValue) → AllByRecursion (IsEntryOf form nodes) es → AllByRecursion (IsEntry nodes) es
+are_entries form nodes [] h = tt
+are_entries form nodes (e ∷ es) h = (h.0.0, are_entries form nodes es h.1)
+
+-- and the entries of a message are of its form
+no_grants : (grants : List (ℕ × ℕ × ℕ)) → nat_lt 0 (length grants) ≡ false → grants ≡ []
+no_grants [] e = refl
+no_grants (c ∷ grants) e = absurd (grind (arith, nat_tests))
+
+pub are_of_form : (nodes : ℕ) (es : List EntryValue) → AllByRecursion (IsEntry nodes) es → AllByRecursion (IsEntryOf (form_of es) nodes) es × (is_form_of (form_of es) es ≡ true)
+are_of_form nodes es h = by_test (list_any has_grants es) refl
+  where
+    with_grants : (es : List EntryValue) → AllByRecursion (IsEntry nodes) es → AllByRecursion (IsEntryOf WithGrants nodes) es
+    with_grants [] h = tt
+    with_grants (e ∷ es) h = ((h.0, λ same. absurd cc), with_grants es h.1)
+
+    plain : (es : List EntryValue) → AllByRecursion (IsEntry nodes) es → list_any has_grants es ≡ false → AllByRecursion (IsEntryOf Plain nodes) es
+    plain [] h e = tt
+    plain (x ∷ es) h e =
+        let parts = or_parts (has_grants x) (list_any has_grants es) e in
+        ((h.0, λ _. no_grants x.grants parts.0), plain es h.1 parts.1)
+
+    by_test : (t : Bool) → list_any has_grants es ≡ t → AllByRecursion (IsEntryOf (cond t WithGrants Plain) nodes) es × (is_form_of (cond t WithGrants Plain) es ≡ true)
+    by_test true e = (with_grants es h, e)
+    by_test false e = (plain es h e, refl)

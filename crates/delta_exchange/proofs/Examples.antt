@@ -48,6 +48,7 @@ a_set = record {
   hits = (0, 1) ∷ [];
   execs = (0, 0, 1) ∷ [];
   shifts = [];
+  grants = [];
 }
 
 one_name_bytes : message_bytes (record { from = 0; to = 1; base = 0; upto = 2; ack = 0; entries = a_set ∷ [] }) ≡ 0x46 ∷ 0x50 ∷ 0x47 ∷ 0x31 ∷ 0 ∷ 1
@@ -71,6 +72,7 @@ setting name text = record {
   hits = (0, 1) ∷ [];
   execs = [];
   shifts = [];
+  grants = [];
 }
 
 pub setting_is_entry : (name text : List ℕ) → is_name name ≡ true → IsCanonicalText text → IsEntry 2 (setting name text)
@@ -87,6 +89,9 @@ setting_is_entry name text named canonical = record {
   few_shifts = lit< tt;
   shifts = tt;
   shifts_ascend = tt;
+  few_grants = lit< tt;
+  grants = tt;
+  grants_ascend = tt;
 }
 
 pub setting_has_spelling : (name text : List ℕ) → is_name name ≡ true → length name ≤ 128 → IsCanonicalText text

@@ -8,7 +8,7 @@ use Rattle.replica_state.specs.States.{State}
 use Rattle.replica_state.proofs.Names.{IsAscending}
 use Rattle.delta_exchange.specs.Limits.{max_nodes}
 use Rattle.delta_exchange.specs.Spelling.{hit_place, exec_place, shift_place}
-use Rattle.delta_exchange.specs.Cells.{cell_of, hit_cells, exec_row, exec_row_of, exec_cells, shift_cell, shift_row, shift_rows, shift_rows_of, shift_cells}
+use Rattle.delta_exchange.specs.Cells.{cell_of, hit_cells, term_row, term_row_of, term_cells, shift_cell, shift_row, shift_rows, shift_rows_of, shift_cells}
 use Rattle.delta_exchange.proofs.BelowLemmas.{by_first, by_rest, below_in, in_below, length_below, ascending_below}
 
 -- ---- one cell, or none
@@ -23,6 +23,11 @@ module _ {C : Type 0} where
   cell_in zero c h = absurd (h refl)
   cell_in (suc n) c h = inl refl
 
+  -- it stands alone
+  pub cell_alone : (n : ℕ) (c : C) → n ≢ 0 → cell_of n c ≡ c ∷ []
+  cell_alone zero c h = absurd (h refl)
+  cell_alone (suc n) c h = refl
+
   one_cell : (n : ℕ) (c : C) → length (cell_of n c) ≤ 1
   one_cell zero c = omega arith
   one_cell (suc n) c = omega arith
@@ -32,11 +37,11 @@ module _ {C : Type 0} where
   cell_ascends place (suc n) c = (λ m h. absurd h, tt)
 
   -- cells where a test passes
-  in_if : (b : Bool) (cs : List C) (c : C) → IsIn c (cond b cs []) → IsTrue b × IsIn c cs
+  pub in_if : (b : Bool) (cs : List C) (c : C) → IsIn c (cond b cs []) → IsTrue b × IsIn c cs
   in_if true cs c h = (refl, h)
   in_if false cs c h = absurd h
 
-  if_in : (b : Bool) (cs : List C) (c : C) → IsTrue b → IsIn c cs → IsIn c (cond b cs [])
+  pub if_in : (b : Bool) (cs : List C) (c : C) → IsTrue b → IsIn c cs → IsIn c (cond b cs [])
   if_in true cs c e h = h
   if_in false cs c e h = absurd cc
 
@@ -44,7 +49,7 @@ module _ {C : Type 0} where
   if_length true cs most h = h
   if_length false cs most h = omega arith
 
-  if_ascends : (place : C → List ℕ) (b : Bool) (cs : List C) → IsAscending (map place cs) → IsAscending (map place (cond b cs []))
+  pub if_ascends : (place : C → List ℕ) (b : Bool) (cs : List C) → IsAscending (map place cs) → IsAscending (map place (cond b cs []))
   if_ascends place true cs h = h
   if_ascends place false cs h = tt
 
@@ -61,9 +66,70 @@ module _ {C : Type 0} where
   unless_length true cs most h = omega arith
   unless_length false cs most h = h
 
-  unless_ascends : (place : C → List ℕ) (b : Bool) (cs : List C) → IsAscending (map place cs) → IsAscending (map place (cond b [] cs))
+  pub unless_ascends : (place : C → List ℕ) (b : Bool) (cs : List C) → IsAscending (map place cs) → IsAscending (map place (cond b [] cs))
   unless_ascends place true cs h = tt
   unless_ascends place false cs h = h
+
+-- ---- what is counted by term and node: executions and grants
+
+module _ (number : ℕ → ℕ → ℕ) (nodes : ℕ) where
+  pub record IsTermCellOf (term : ℕ) (c : ℕ × ℕ × ℕ) : Type 0 where
+    pub node : ℕ
+    pub below : node < nodes
+    pub some : number term node ≢ 0
+    pub is : c ≡ (term, node, number term node)
+
+  cell_in_row : (term : ℕ) (c : ℕ × ℕ × ℕ) → IsIn c (term_row number nodes term) → IsTermCellOf term c
+  cell_in_row term c h =
+      let r = below_in (λ node. cell_of (number term node) (term, node, number term node)) nodes c h in
+      let one = in_cell (number term r.0) (term, r.0, number term r.0) c r.2 in
+      record { node = r.0; below = r.1; some = one.0; is = one.1 }
+
+  row_has_cell : (term node : ℕ) → node < nodes → number term node ≢ 0 → IsIn (term, node, number term node) (term_row number nodes term)
+  row_has_cell term node lt some =
+      in_below (λ node. cell_of (number term node) (term, node, number term node)) nodes node (term, node, number term node) lt (cell_in (number term node) (term, node, number term node) some)
+
+  few_in_row : (term : ℕ) → nodes ≤ max_nodes → length (term_row number nodes term) ≤ max_nodes * 1
+  few_in_row term few = length_below (λ node. cell_of (number term node) (term, node, number term node)) 1 nodes max_nodes few (λ node. one_cell (number term node) (term, node, number term node))
+
+  row_ascends : (term : ℕ) → IsAscending (map exec_place (term_row number nodes term))
+  row_ascends term = ascending_below (λ node. cell_of (number term node) (term, node, number term node)) exec_place nodes
+      (λ node. cell_ascends exec_place (number term node) (term, node, number term node))
+      (λ i j c d lt h k.
+      let a = in_cell (number term i) (term, i, number term i) c h in
+      let b = in_cell (number term j) (term, j, number term j) d k in
+      rw (a.1, b.1) (by_rest term (i ∷ []) (j ∷ []) (by_first i j [] [] lt)))
+
+  module _ (key : KeyValue) where
+    pub record IsTermCell (c : ℕ × ℕ × ℕ) : Type 0 where
+      pub term : ℕ
+      pub below : term < 16
+      pub counted : IsTrue (is_some (count_of key term))
+      pub row : IsTermCellOf term c
+
+    pub term_member : (c : ℕ × ℕ × ℕ) → IsIn c (term_cells number key nodes) → IsTermCell c
+    term_member c h =
+        let r = below_in (term_row_of number key nodes) 16 c h in
+        let s = in_if (is_some (count_of key r.0)) (term_row number nodes r.0) c r.2 in
+        record { term = r.0; below = r.1; counted = s.0; row = cell_in_row r.0 c s.1 }
+
+    pub member_term : (term node : ℕ) → term < 16 → IsTrue (is_some (count_of key term)) → node < nodes → number term node ≢ 0
+        → IsIn (term, node, number term node) (term_cells number key nodes)
+    member_term term node below counted lt some =
+        in_below (term_row_of number key nodes) 16 term (term, node, number term node) below
+        (if_in (is_some (count_of key term)) (term_row number nodes term) (term, node, number term node) counted (row_has_cell term node lt some))
+
+    pub few_terms : nodes ≤ max_nodes → length (term_cells number key nodes) ≤ 512
+    few_terms few = length_below (term_row_of number key nodes) max_nodes 16 16 (omega arith)
+        (λ term. if_length (is_some (count_of key term)) (term_row number nodes term) max_nodes (few_in_row term few))
+
+    pub terms_ascend : IsAscending (map exec_place (term_cells number key nodes))
+    terms_ascend = ascending_below (term_row_of number key nodes) exec_place 16
+        (λ term. if_ascends exec_place (is_some (count_of key term)) (term_row number nodes term) (row_ascends term))
+        (λ i j c d lt h k.
+        let a = cell_in_row i c (in_if (is_some (count_of key i)) (term_row number nodes i) c h).1 in
+        let b = cell_in_row j d (in_if (is_some (count_of key j)) (term_row number nodes j) d k).1 in
+        rw (a.is, b.is) (by_first i j (a.node ∷ []) (b.node ∷ []) lt))
 
 module _ (v : State) (name : List ℕ) (nodes : ℕ) where
   -- ---- hits
@@ -95,76 +161,16 @@ module _ (v : State) (name : List ℕ) (nodes : ℕ) where
       let b = in_cell (v.hits name j) (j, v.hits name j) d k in
       rw (a.1, b.1) (by_first i j [] [] lt))
 
-  -- ---- executions
-
-  pub record IsExecOf (term : ℕ) (c : ℕ × ℕ × ℕ) : Type 0 where
-    pub node : ℕ
-    pub below : node < nodes
-    pub some : v.execs name term node ≢ 0
-    pub is : c ≡ (term, node, v.execs name term node)
-
-  exec_in_row : (term : ℕ) (c : ℕ × ℕ × ℕ) → IsIn c (exec_row v name nodes term) → IsExecOf term c
-  exec_in_row term c h =
-      let r = below_in (λ node. cell_of (v.execs name term node) (term, node, v.execs name term node)) nodes c h in
-      let one = in_cell (v.execs name term r.0) (term, r.0, v.execs name term r.0) c r.2 in
-      record { node = r.0; below = r.1; some = one.0; is = one.1 }
-
-  row_in_exec : (term node : ℕ) → node < nodes → v.execs name term node ≢ 0 → IsIn (term, node, v.execs name term node) (exec_row v name nodes term)
-  row_in_exec term node lt some =
-      in_below (λ node. cell_of (v.execs name term node) (term, node, v.execs name term node)) nodes node (term, node, v.execs name term node) lt (cell_in (v.execs name term node) (term, node, v.execs name term node) some)
-
-  few_in_row : (term : ℕ) → nodes ≤ max_nodes → length (exec_row v name nodes term) ≤ max_nodes * 1
-  few_in_row term few = length_below (λ node. cell_of (v.execs name term node) (term, node, v.execs name term node)) 1 nodes max_nodes few (λ node. one_cell (v.execs name term node) (term, node, v.execs name term node))
-
-  row_ascends : (term : ℕ) → IsAscending (map exec_place (exec_row v name nodes term))
-  row_ascends term = ascending_below (λ node. cell_of (v.execs name term node) (term, node, v.execs name term node)) exec_place nodes
-      (λ node. cell_ascends exec_place (v.execs name term node) (term, node, v.execs name term node))
-      (λ i j c d lt h k.
-      let a = in_cell (v.execs name term i) (term, i, v.execs name term i) c h in
-      let b = in_cell (v.execs name term j) (term, j, v.execs name term j) d k in
-      rw (a.1, b.1) (by_rest term (i ∷ []) (j ∷ []) (by_first i j [] [] lt)))
-
-  module _ (key : KeyValue) where
-    pub record IsExecHeld (c : ℕ × ℕ × ℕ) : Type 0 where
-      pub term : ℕ
-      pub below : term < 16
-      pub counted : IsTrue (is_some (count_of key term))
-      pub row : IsExecOf term c
-
-    pub exec_member : (c : ℕ × ℕ × ℕ) → IsIn c (exec_cells v name key nodes) → IsExecHeld c
-    exec_member c h =
-        let r = below_in (exec_row_of v name key nodes) 16 c h in
-        let s = in_if (is_some (count_of key r.0)) (exec_row v name nodes r.0) c r.2 in
-        record { term = r.0; below = r.1; counted = s.0; row = exec_in_row r.0 c s.1 }
-
-    pub member_exec : (term node : ℕ) → term < 16 → IsTrue (is_some (count_of key term)) → node < nodes → v.execs name term node ≢ 0
-        → IsIn (term, node, v.execs name term node) (exec_cells v name key nodes)
-    member_exec term node below counted lt some =
-        in_below (exec_row_of v name key nodes) 16 term (term, node, v.execs name term node) below
-        (if_in (is_some (count_of key term)) (exec_row v name nodes term) (term, node, v.execs name term node) counted (row_in_exec term node lt some))
-
-    pub few_execs : nodes ≤ max_nodes → length (exec_cells v name key nodes) ≤ 512
-    few_execs few = length_below (exec_row_of v name key nodes) max_nodes 16 16 (omega arith)
-        (λ term. if_length (is_some (count_of key term)) (exec_row v name nodes term) max_nodes (few_in_row term few))
-
-    pub execs_ascend : IsAscending (map exec_place (exec_cells v name key nodes))
-    execs_ascend = ascending_below (exec_row_of v name key nodes) exec_place 16
-        (λ term. if_ascends exec_place (is_some (count_of key term)) (exec_row v name nodes term) (row_ascends term))
-        (λ i j c d lt h k.
-        let a = exec_in_row i c (in_if (is_some (count_of key i)) (exec_row v name nodes i) c h).1 in
-        let b = exec_in_row j d (in_if (is_some (count_of key j)) (exec_row v name nodes j) d k).1 in
-        rw (a.is, b.is) (by_first i j (a.node ∷ []) (b.node ∷ []) lt))
-
   -- ---- shifts
 
-  shift_in_cell : (term from to : ℕ) (c : ℕ × ℕ × ℕ × ℕ) → IsIn c (shift_cell v name term from to) → (to ≢ from) × (v.shifts name term from to ≢ 0) × (c ≡ (term, from, to, v.shifts name term from to))
+  pub shift_in_cell : (term from to : ℕ) (c : ℕ × ℕ × ℕ × ℕ) → IsIn c (shift_cell v name term from to) → (to ≢ from) × (v.shifts name term from to ≢ 0) × (c ≡ (term, from, to, v.shifts name term from to))
   shift_in_cell term from to c h =
       let r = in_unless (to == from) (cell_of (v.shifts name term from to) (term, from, to, v.shifts name term from to)) c h in
       let apart : to ≢ from = λ e. let same : (to == from) ≡ true = eq-eqb to from e in absurd (let not : false ≡ true = sym r.0 ∙ same in cc) in
       let one = in_cell (v.shifts name term from to) (term, from, to, v.shifts name term from to) c r.1 in
       (apart, one.0, one.1)
 
-  cell_in_shift : (term from to : ℕ) → to ≢ from → v.shifts name term from to ≢ 0 → IsIn (term, from, to, v.shifts name term from to) (shift_cell v name term from to)
+  pub cell_in_shift : (term from to : ℕ) → to ≢ from → v.shifts name term from to ≢ 0 → IsIn (term, from, to, v.shifts name term from to) (shift_cell v name term from to)
   cell_in_shift term from to apart some =
       unless_in (to == from) (cell_of (v.shifts name term from to) (term, from, to, v.shifts name term from to)) (term, from, to, v.shifts name term from to) (others (to == from) refl)
       (cell_in (v.shifts name term from to) (term, from, to, v.shifts name term from to) some)

@@ -13,16 +13,18 @@ use Rattle.actions.specs.Names.{is_name_byte, is_name}
 use Rattle.actions.proofs.Complete.{reading_complete}
 use Rattle.stamp_register.specs.Keys.{KeyValue, terms_read, terms_in_text, terms_set}
 use Rattle.replica_state.specs.Operations.{IsIn, count_in, count_under, count_of}
-use Rattle.replica_state.specs.States.{State}
+use Rattle.replica_state.specs.States.{State, granted_in}
 use Rattle.replica_state.proofs.Names.{IsAscending}
 use Rattle.delta_exchange.specs.Limits.{max_nodes}
+use Rattle.delta_exchange.specs.declared.wire.Form.{Form}
+use Rattle.delta_exchange.specs.declared.wire.Form.TheVariants.{Plain, WithGrants}
 use Rattle.delta_exchange.specs.Messages.{EntryValue}
-use Rattle.delta_exchange.specs.Spelling.{IsHit, IsExec, IsShift, IsBody, IsKey, IsEntry, hit_bytes, exec_bytes, shift_bytes, body_bytes, entry_bytes}
-use Rattle.delta_exchange.specs.Cells.{hit_cells, exec_cells, shift_cells, entry_of, entry_under, entry_at, entries_of, EntryFits}
+use Rattle.delta_exchange.specs.Spelling.{IsHit, IsExec, IsShift, IsBody, IsKey, IsEntry, hit_bytes, exec_bytes, shift_bytes, grants_bytes, body_bytes, entry_bytes}
+use Rattle.delta_exchange.specs.Cells.{hit_cells, term_cells, exec_cells, grant_cells, shift_cells, entry_of, entry_under, entry_at, entries_of, EntryFits}
 use Rattle.delta_exchange.proofs.Members.{all_of, one_of}
 use Rattle.delta_exchange.proofs.LawfulStates.{IsLawfulState}
 use Rattle.delta_exchange.proofs.BelowLemmas.{ascends, below_in, in_below, length_below, ascending_below, length_flat}
-use Rattle.delta_exchange.proofs.HeldCells.{hit_member, few_hits, hits_ascend, exec_member, few_execs, execs_ascend, shift_member, few_shifts, shifts_ascend}
+use Rattle.delta_exchange.proofs.HeldCells.{hit_member, few_hits, hits_ascend, term_member, few_terms, terms_ascend, shift_member, few_shifts, shifts_ascend}
 
 -- ---- names by their places
 
@@ -145,12 +147,12 @@ module _ (v : State) (nodes : ℕ) where
         let b : c.1 ≡ v.hits name r.node = ap (λ (x : ℕ × ℕ). x.1) r.is in
         (omega (arith, a, r.below), (omega (arith, b, r.some), fits))
 
-    exec_is : (name : List ℕ) (key : KeyValue) (c : ℕ × ℕ × ℕ) → c.2 < 2 ^ 64 → IsIn c (exec_cells v name key nodes) → IsExec nodes key c
-    exec_is name key c fits h =
-        let r = exec_member v name nodes key c h in
+    exec_is : (number : ℕ → ℕ → ℕ) (key : KeyValue) (c : ℕ × ℕ × ℕ) → c.2 < 2 ^ 64 → IsIn c (term_cells number key nodes) → IsExec nodes key c
+    exec_is number key c fits h =
+        let r = term_member number nodes key c h in
         let t : c.0 ≡ r.term = ap (λ (x : ℕ × ℕ × ℕ). x.0) r.row.is in
         let a : c.1 ≡ r.row.node = ap (λ (x : ℕ × ℕ × ℕ). x.1) r.row.is in
-        let b : c.2 ≡ v.execs name r.term r.row.node = ap (λ (x : ℕ × ℕ × ℕ). x.2) r.row.is in
+        let b : c.2 ≡ number r.term r.row.node = ap (λ (x : ℕ × ℕ × ℕ). x.2) r.row.is in
         ((subst (λ term. IsTrue (is_some (count_of key term))) (sym t) r.counted, omega (arith, t, r.below)), omega (arith, a, r.row.below), (omega (arith, b, r.row.some), fits))
 
     shift_is : (name : List ℕ) (key : KeyValue) (c : ℕ × ℕ × ℕ × ℕ) → c.3 < 2 ^ 64 → IsIn c (shift_cells v name key nodes) → IsShift nodes key c
@@ -170,7 +172,8 @@ module _ (v : State) (nodes : ℕ) where
     pub entry_is : (name : List ℕ) (key : KeyValue) → IsIn name v.names → v.key name ≡ Some key → EntryFits (entry_of v nodes name key) → IsEntry nodes (entry_of v nodes name key)
     entry_is name key held keyed fits =
         let hits = few_hits v name nodes few in
-        let execs = few_execs v name nodes key few in
+        let execs = few_terms (v.execs name) nodes key few in
+        let grants = few_terms (granted_in v name) nodes key few in
         let shifts = few_shifts v name nodes key few in
         record {
           name = lawful.named name held;
@@ -179,11 +182,14 @@ module _ (v : State) (nodes : ℕ) where
           hits = all_of (IsHit nodes) (hit_cells v name nodes) (λ c h. hit_is name c (one_of (λ (x : ℕ × ℕ). x.1 < 2 ^ 64) (hit_cells v name nodes) fits.0 c h) h);
           hits_ascend = ascends _ (hits_ascend v name nodes);
           few_execs = omega (arith, execs);
-          execs = all_of (IsExec nodes key) (exec_cells v name key nodes) (λ c h. exec_is name key c (one_of (λ (x : ℕ × ℕ × ℕ). x.2 < 2 ^ 64) (exec_cells v name key nodes) fits.1 c h) h);
-          execs_ascend = ascends _ (execs_ascend v name nodes key);
+          execs = all_of (IsExec nodes key) (exec_cells v name key nodes) (λ c h. exec_is (v.execs name) key c (one_of (λ (x : ℕ × ℕ × ℕ). x.2 < 2 ^ 64) (exec_cells v name key nodes) fits.1 c h) h);
+          execs_ascend = ascends _ (terms_ascend (v.execs name) nodes key);
           few_shifts = omega (arith, shifts);
           shifts = all_of (IsShift nodes key) (shift_cells v name key nodes) (λ c h. shift_is name key c (one_of (λ (x : ℕ × ℕ × ℕ × ℕ). x.3 < 2 ^ 64) (shift_cells v name key nodes) fits.2 c h) h);
           shifts_ascend = ascends _ (shifts_ascend v name nodes key);
+          few_grants = omega (arith, grants);
+          grants = all_of (IsExec nodes key) (grant_cells v name key nodes) (λ c h. exec_is (granted_in v name) key c (one_of (λ (x : ℕ × ℕ × ℕ). x.2 < 2 ^ 64) (grant_cells v name key nodes) fits.3 c h) h);
+          grants_ascend = ascends _ (terms_ascend (granted_in v name) nodes key);
         }
 
 -- ---- in how many bytes
@@ -201,11 +207,18 @@ name_short name h =
     let e : nat_le (length name) 128 ≡ true = most.1 in
     grind (arith, nat_tests)
 
-pub entry_short : (nodes : ℕ) (e : EntryValue) → IsEntry nodes e → length e.hits ≤ max_nodes → length e.execs ≤ 512 → length e.shifts ≤ 16384 → length (entry_bytes e) ≤ 186802
-entry_short nodes e h hits execs shifts =
+grants_short : (form : Form) (cells : List (ℕ × ℕ × ℕ)) → length cells ≤ 512 → length (grants_bytes form cells) ≤ 5122
+grants_short Plain cells few = omega arith
+grants_short WithGrants cells few =
+    let all = length_flat exec_bytes 10 cells (λ c i. omega arith) in
+    simp length-append (omega (arith, all, few))
+
+pub entry_short : (nodes : ℕ) (e : EntryValue) → IsEntry nodes e → length e.hits ≤ max_nodes → length e.execs ≤ 512 → length e.shifts ≤ 16384 → length e.grants ≤ 512 → (form : Form) → length (entry_bytes form e) ≤ 191924
+entry_short nodes e h hits execs shifts grants form =
     let name = name_short e.name h.name in
     let body = body_short e.key.body h.key.body in
     let a = length_flat hit_bytes 9 e.hits (λ c i. omega arith) in
     let b = length_flat exec_bytes 10 e.execs (λ c i. omega arith) in
     let d = length_flat shift_bytes 11 e.shifts (λ c i. omega arith) in
-    simp length-append (omega (arith, name, body, a, b, d, hits, execs, shifts))
+    let last = grants_short form e.grants grants in
+    simp length-append (omega (arith, name, body, a, b, d, last, hits, execs, shifts))

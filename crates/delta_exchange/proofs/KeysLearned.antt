@@ -21,8 +21,8 @@ use Rattle.delta_exchange.specs.Messages.{EntryValue, entry_value, operations_of
 use Rattle.delta_exchange.specs.Spelling.{Ascend}
 use Rattle.delta_exchange.specs.Told.{HasKeyOf, HasLearned}
 use Rattle.delta_exchange.proofs.Members.{in_flat, mapped_from}
-use Rattle.delta_exchange.proofs.LawfulLemmas.{told_of}
-use Rattle.delta_exchange.proofs.OneMessage.{Kinds, first_below}
+use Rattle.delta_exchange.proofs.LawfulLemmas.{IsTold, told_of}
+use Rattle.delta_exchange.proofs.OneMessage.{first_below}
 
 -- ---- a key that stays
 
@@ -75,11 +75,12 @@ tells_its_name e n key op h k = by_kind (told_of e op h)
     carried : (o : Operation) → op ≡ o → key_in n o ≡ Some key
     carried o s = subst (λ p. key_in n p ≡ Some key) s k
 
-    by_kind : Kinds e op → e.name ≡ n
+    by_kind : IsTold e op → e.name ≡ n
     by_kind (inl s) = at_its_name e.name n e.key key (carried _ s)
     by_kind (inr (inl (c, i, s))) = absurd (let none = carried _ s in cc)
     by_kind (inr (inr (inl (c, i, s)))) = at_its_name e.name n e.key key (carried _ s)
-    by_kind (inr (inr (inr (c, i, s)))) = at_its_name e.name n e.key key (carried _ s)
+    by_kind (inr (inr (inr (inl (c, i, s))))) = at_its_name e.name n e.key key (carried _ s)
+    by_kind (inr (inr (inr (inr (c, i, s))))) = at_its_name e.name n e.key key (carried _ s)
 
 there : {A : Type 0} (xs : List A) (i : ℕ) (d : A) → i < length xs → IsIn (get_or xs i d) xs
 there [] i d below = absurd (omega (arith, below))

@@ -1,5 +1,5 @@
 -- Lists made of the marked cells that changed after a version: their members, and their order.
-use Rattle.std.proofs.Common.{◌≡◌, ℕ, ◌<◌, ◌≤◌, Bool, true, false, cond, List, [], ◌∷◌, length, map, inl, inr, ◌⊎◌, Some, refl, sym, subst, ◌∙◌, arith}
+use Rattle.std.proofs.Common.{◌≡◌, ℕ, ◌<◌, ◌≤◌, Bool, true, false, cond, List, [], ◌∷◌, ◌++◌, length, map, inl, inr, ◌⊎◌, Some, refl, sym, ap, subst, ◌∙◌, append_assoc, arith}
 use Rattle.std.specs.Prelude.{nat_lt}
 use Rattle.std.specs.List.{flat_map}
 use Rattle.std.specs.List.Sorted.{IsStrictlySortedBy}
@@ -10,6 +10,7 @@ use Rattle.std.specs.Ordering.{nat_cmp}
 use Rattle.std.specs.Cmp.Lexicographic.{slice_cmp}
 use Rattle.std.specs.declared.cmp.Ordering.TheVariants.{Less, Equal}
 use Rattle.std.proofs.lemmas.Bool.Decides.{nat_tests}
+use Rattle.std.proofs.lemmas.List.Concat.{flat_map-cons}
 use Rattle.std.proofs.lemmas.Cmp.{nat_list_cmp_total, on_total, tied_itself}
 use Rattle.std.proofs.lemmas.Map.Lookups.{CmpEqualImpliesEq, exact_bytes}
 use Rattle.replica_state.specs.Operations.{IsIn}
@@ -77,6 +78,18 @@ module _ {C : Type 0} (f : Counted → List C) (key base : ℕ) where
 
   pub member_later : (es : List (Counted × ℕ)) (c : Counted) (n : ℕ) (d : C) → lookup (is_at (counted_cmp c)) es ≡ Some n → base < cell_change (is_hits c) n key → IsIn d (f c) → IsIn d (flat_map (later key base f) es)
   member_later es c n d e lt h = flat_in (later key base f) es (c, n) d (found_in counted_cmp counted_total counted_exact es c n e) (one_in (c, n) d lt h)
+
+  -- one more cell that changed, taken from what is left
+  pub one_more : (front all : List C) (e : Counted × ℕ) (rest : List (Counted × ℕ)) (d : C) → base < change e → f e.0 ≡ d ∷ [] → front ++ flat_map (later key base f) (e ∷ rest) ≡ all → (front ++ d ∷ []) ++ flat_map (later key base f) rest ≡ all
+  one_more front all e rest d lt is h =
+      append_assoc front (d ∷ []) (flat_map (later key base f) rest) ∙ ap (λ ds. front ++ ds) (sym next) ∙ h
+    where
+      passes : (b : Bool) → nat_lt base (change e) ≡ b → cond b (f e.0) [] ≡ f e.0
+      passes true t = refl
+      passes false t = absurd (grind (arith, nat_tests))
+
+      next : flat_map (later key base f) (e ∷ rest) ≡ d ∷ flat_map (later key base f) rest
+      next = flat_map-cons (later key base f) e rest ∙ ap (λ ds. ds ++ flat_map (later key base f) rest) (passes (nat_lt base (change e)) refl ∙ is)
 
   one_ascends : (place : C → List ℕ) (e : Counted × ℕ) → IsAscending (map place (f e.0)) → IsAscending (map place (later key base f e))
   one_ascends place e h = by_test (nat_lt base (change e))

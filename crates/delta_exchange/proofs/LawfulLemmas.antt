@@ -56,19 +56,27 @@ module _ (e : EntryValue) where
   abbrev pub shift_told : ℕ × ℕ × ℕ × ℕ → Operation
   shift_told c = Count (Shifts e.name e.key c.0 c.1 c.2) c.3
 
+  abbrev pub grant_told : ℕ × ℕ × ℕ → Operation
+  grant_told c = Count (Shifts e.name e.key c.0 c.1 c.1) c.2
+
   -- an operation of the entry is its setting or that of one of its cells
-  pub told_of : (op : Operation) → IsIn op (operations_of e)
-      → (op ≡ Set e.name e.key) ⊎ (((c : ℕ × ℕ) × IsIn c e.hits × (op ≡ hit_told c)) ⊎ (((c : ℕ × ℕ × ℕ) × IsIn c e.execs × (op ≡ exec_told c)) ⊎ ((c : ℕ × ℕ × ℕ × ℕ) × IsIn c e.shifts × (op ≡ shift_told c))))
+  abbrev pub IsTold : Operation → Type 0
+  IsTold op = (op ≡ Set e.name e.key) ⊎ (((c : ℕ × ℕ) × IsIn c e.hits × (op ≡ hit_told c))
+      ⊎ (((c : ℕ × ℕ × ℕ) × IsIn c e.execs × (op ≡ exec_told c))
+      ⊎ (((c : ℕ × ℕ × ℕ × ℕ) × IsIn c e.shifts × (op ≡ shift_told c))
+      ⊎ ((c : ℕ × ℕ × ℕ) × IsIn c e.grants × (op ≡ grant_told c)))))
+
+  pub told_of : (op : Operation) → IsIn op (operations_of e) → IsTold op
   told_of op (inl h) = inl h
   told_of op (inr h) = inr (⊎_elim
       (λ l. inl (mapped_from hit_told e.hits op l))
-      (λ l. inr (⊎_elim (λ k. inl (mapped_from exec_told e.execs op k)) (λ k. inr (mapped_from shift_told e.shifts op k)) (IsIn-append_cases op (map exec_told e.execs) (map shift_told e.shifts) l)))
-      (IsIn-append_cases op (map hit_told e.hits) (map exec_told e.execs ++ map shift_told e.shifts) h))
+      (λ l. inr (⊎_elim (λ k. inl (mapped_from exec_told e.execs op k)) (λ k. inr (⊎_elim (λ j. inl (mapped_from shift_told e.shifts op j)) (λ j. inr (mapped_from grant_told e.grants op j)) (IsIn-append_cases op (map shift_told e.shifts) (map grant_told e.grants) k))) (IsIn-append_cases op (map exec_told e.execs) (map shift_told e.shifts ++ map grant_told e.grants) l)))
+      (IsIn-append_cases op (map hit_told e.hits) (map exec_told e.execs ++ (map shift_told e.shifts ++ map grant_told e.grants)) h))
 
   entry_lawful : (nodes : ℕ) → IsEntry nodes e → (op : Operation) → IsIn op (operations_of e) → IsLawful nodes op
   entry_lawful nodes h op k = by_kind (told_of op k)
     where
-      by_kind : (op ≡ Set e.name e.key) ⊎ (((c : ℕ × ℕ) × IsIn c e.hits × (op ≡ hit_told c)) ⊎ (((c : ℕ × ℕ × ℕ) × IsIn c e.execs × (op ≡ exec_told c)) ⊎ ((c : ℕ × ℕ × ℕ × ℕ) × IsIn c e.shifts × (op ≡ shift_told c)))) → IsLawful nodes op
+      by_kind : IsTold op → IsLawful nodes op
       by_kind (inl s) = subst (IsLawful nodes) (sym s) (h.name, h.key)
       by_kind (inr (inl (c, k, s))) =
           let one = one_of (IsHit nodes) e.hits h.hits c k in
@@ -76,19 +84,23 @@ module _ (e : EntryValue) where
       by_kind (inr (inr (inl (c, k, s)))) =
           let one = one_of (IsExec nodes e.key) e.execs h.execs c k in
           subst (IsLawful nodes) (sym s) (h.name, h.key, one.0, one.1, one.2.0)
-      by_kind (inr (inr (inr (c, k, s)))) =
+      by_kind (inr (inr (inr (inl (c, k, s))))) =
           let one = one_of (IsShift nodes e.key) e.shifts h.shifts c k in
-          subst (IsLawful nodes) (sym s) (h.name, h.key, one.0, one.1, one.2, one.3, one.4.0)
+          subst (IsLawful nodes) (sym s) (h.name, h.key, one.0, one.1, one.2, one.4.0)
+      by_kind (inr (inr (inr (inr (c, k, s))))) =
+          let one = one_of (IsExec nodes e.key) e.grants h.grants c k in
+          subst (IsLawful nodes) (sym s) (h.name, h.key, one.0, one.1, one.1, one.2.0)
 
   -- a hit that the entry tells is of its name
   hit_has_name : (name : List ℕ) (node number : ℕ) → IsIn (Count (Hits name node) number) (operations_of e) → e.name ≡ name
   hit_has_name name node number k = by_kind (told_of (Count (Hits name node) number) k)
     where
-      by_kind : (Count (Hits name node) number ≡ Set e.name e.key) ⊎ (((c : ℕ × ℕ) × IsIn c e.hits × (Count (Hits name node) number ≡ hit_told c)) ⊎ (((c : ℕ × ℕ × ℕ) × IsIn c e.execs × (Count (Hits name node) number ≡ exec_told c)) ⊎ ((c : ℕ × ℕ × ℕ × ℕ) × IsIn c e.shifts × (Count (Hits name node) number ≡ shift_told c)))) → e.name ≡ name
+      by_kind : IsTold (Count (Hits name node) number) → e.name ≡ name
       by_kind (inl s) = absurd cc
       by_kind (inr (inl (c, k, s))) = cc
       by_kind (inr (inr (inl (c, k, s)))) = absurd cc
-      by_kind (inr (inr (inr (c, k, s)))) = absurd cc
+      by_kind (inr (inr (inr (inl (c, k, s))))) = absurd cc
+      by_kind (inr (inr (inr (inr (c, k, s))))) = absurd cc
 
 pub told_lawful : (nodes : ℕ) (m : MessageValue) → IsMessage nodes m → AreLawful nodes (operations_in m)
 told_lawful nodes m h = record {

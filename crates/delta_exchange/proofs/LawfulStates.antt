@@ -59,7 +59,7 @@ pub record IsLawfulState (nodes : ℕ) (v : State) : Type 0 where
   pub hits : (name : List ℕ) (node : ℕ) → v.hits name node ≢ 0 → node < nodes
   pub execs : (name : List ℕ) (key : KeyValue) (term node : ℕ) → v.key name ≡ Some key → v.execs name term node ≢ 0 → IsCountedTerm key term × (node < nodes)
   pub shifts : (name : List ℕ) (key : KeyValue) (term from to : ℕ) → v.key name ≡ Some key → v.shifts name term from to ≢ 0
-      → IsCountedTerm key term × (from < nodes) × (to < nodes) × (to ≢ from)
+      → IsCountedTerm key term × (from < nodes) × (to < nodes)
 
 module _ (nodes : ℕ) (ops : List Operation) (lawful : AreLawful nodes ops) where
   holds_in : (name : List ℕ) → HoldsName name ops → IsIn name (names_of ops)
@@ -96,12 +96,12 @@ module _ (nodes : ℕ) (ops : List Operation) (lawful : AreLawful nodes ops) whe
       (one.2, one.3)
 
   its_shifts : (name : List ℕ) (key : KeyValue) (term from to : ℕ) → key_of name ops ≡ Some key → at_key (key_of name ops) (λ k. number_at (Shifts name k term from to) ops) ≢ 0
-      → IsCountedTerm key term × (from < nodes) × (to < nodes) × (to ≢ from)
+      → IsCountedTerm key term × (from < nodes) × (to < nodes)
   its_shifts name key term from to e h =
       let some = subst (λ o. at_key o (λ k. number_at (Shifts name k term from to) ops) ≢ 0) e h in
       let r = number_held (Shifts name key term from to) ops some in
       let one = lawful.each (Count (Shifts name key term from to) r.0) r.1 in
-      (one.2, one.3, one.4, one.5)
+      (one.2, one.3, one.4)
 
   pub lawful_state : IsLawfulState nodes (fold ops)
   unfolding fold

@@ -25,6 +25,7 @@ pub mod ChangeLemmas
 pub mod InPlace
 pub mod NewsLemmas
 pub mod RoomLemmas
+pub mod TellsCells
 pub mod SinceMaps
 pub mod LaterCells
 pub mod SinceCells

@@ -94,3 +94,9 @@ module _ {C : Type 0} (place : C → List ℕ) (Is : C → Type 0) where
 
   pub chain_from_ascend : (cs : List C) → AllByRecursion Is cs → Ascend (map place cs) → Chain Above None cs
   chain_from_ascend cs all sorted = chained None cs all sorted tt
+
+-- ---- one more
+
+pub all_and_one : {A : Type 0} (Is : A → Type 0) (xs : List A) (x : A) → AllByRecursion Is xs → Is x → AllByRecursion Is (xs ++ x ∷ [])
+all_and_one Is [] x all one = (one, tt)
+all_and_one Is (y ∷ xs) x all one = (all.0, all_and_one Is xs x all.1 one)

@@ -1,14 +1,16 @@
 -- The cells of a name that changed after a version: the lists have just these, in order, and no more than all cells.
-use Rattle.std.proofs.Common.{◌≡◌, ◌≢◌, ℕ, ◌<◌, ◌≤◌, Bool, true, false, List, length, map, Option, Some, None, refl, sym, ap, subst, ◌∙◌, arith}
+use Rattle.std.proofs.Common.{◌≡◌, ◌≢◌, ℕ, ◌<◌, ◌≤◌, ◌==◌, Bool, true, false, List, [], ◌∷◌, length, map, Option, Some, None, refl, sym, ap, subst, ◌∙◌, arith}
 use Rattle.std.specs.Option.{unwrap_or}
 use Rattle.std.specs.BTreeMap.{IsOrdered}
-use Rattle.std.specs.Ordering.{nat_cmp}
+use Rattle.std.specs.Ordering.{nat_cmp, ordering_then}
 use Rattle.std.specs.Cmp.Lexicographic.{slice_cmp}
-use Rattle.std.specs.declared.cmp.Ordering.TheVariants.{Less}
+use Rattle.std.specs.declared.cmp.Ordering.{Ordering}
+use Rattle.std.specs.declared.cmp.Ordering.TheVariants.{Less, Equal, Greater}
+use Rattle.std.proofs.lemmas.Bool.{eqb-true, eq-eqb}
 use Rattle.std.proofs.lemmas.List.{length-map}
 use Rattle.stamp_register.specs.Keys.{KeyValue}
 use Rattle.replica_state.specs.Operations.{IsIn}
-use Rattle.replica_state.specs.States.{State}
+use Rattle.replica_state.specs.States.{State, granted_in}
 use Rattle.replica_state.specs.Points.{counted_cmp, is_hits}
 use Rattle.replica_state.specs.declared.point.Counted.{Counted}
 use Rattle.replica_state.specs.declared.point.Counted.TheVariants.{Hits, Execs, Shifts}
@@ -20,11 +22,11 @@ use Rattle.delta_exchange.specs.Marks as kept
 use Rattle.delta_exchange.specs.Marks.{marks_at, marks_value, last_changes, cell_in, cell_change}
 use Rattle.delta_exchange.specs.Changes.{LastChanges, IsChangedCell}
 use Rattle.delta_exchange.specs.Spelling.{hit_place, exec_place, shift_place}
-use Rattle.delta_exchange.specs.Cells.{hit_cells, exec_cells, shift_cells}
-use Rattle.delta_exchange.specs.Since.{hit_of, exec_of, shift_of, hits_since, execs_since, shifts_since}
+use Rattle.delta_exchange.specs.Cells.{cell_of, hit_cells, exec_cells, shift_cells, grant_cells}
+use Rattle.delta_exchange.specs.Since.{hit_of, exec_of, shift_of, grant_of, hits_since, execs_since, shifts_since, grants_since}
 use Rattle.delta_exchange.proofs.Members.{mapped_from, mapped_in}
 use Rattle.delta_exchange.proofs.LawfulStates.{IsLawfulState}
-use Rattle.delta_exchange.proofs.HeldCells.{in_cell, cell_in as one_cell_in, cell_ascends, member_hit, hits_ascend, few_hits, member_exec, execs_ascend, few_execs, member_shift, shifts_ascend, few_shifts}
+use Rattle.delta_exchange.proofs.HeldCells.{in_cell, cell_in as one_cell_in, cell_ascends, in_if, if_in, if_ascends, unless_ascends, shift_in_cell, cell_in_shift, member_hit, hits_ascend, few_hits, member_term, terms_ascend, few_terms, member_shift, shifts_ascend, few_shifts}
 use Rattle.delta_exchange.proofs.HeldEntries.{term_below}
 use Rattle.delta_exchange.proofs.LaterCells.{later_member, member_later, later_ascends, part_is_short}
 
@@ -47,6 +49,14 @@ marked_above : (key base : ℕ) (hits : Bool) (o : Option ℕ) → base < cell_c
 marked_above key base true None lt = absurd (omega (arith, lt))
 marked_above key base false None lt = absurd (omega (arith, lt))
 marked_above key base hits (Some n) lt = (n, refl, lt)
+
+-- places whose last two numbers are the same are in the order of the others
+said_once : (o p : Ordering) → ordering_then o (ordering_then p (ordering_then p Equal)) ≡ Less → ordering_then o (ordering_then p Equal) ≡ Less
+said_once Less p e = refl
+said_once Equal Less e = refl
+said_once Equal Equal e = e
+said_once Equal Greater e = e
+said_once Greater p e = e
 
 module _ (v : State) (nodes : ℕ) (lawful : IsLawfulState nodes v) (few : nodes ≤ max_nodes) (m : Marks) (base : ℕ) (name : List ℕ) (w : NameMarks) (at : marks_at m.names.entries name ≡ Some w) (ordered : IsOrdered counted_cmp w.cells) where
   abbrev IsChanged : Counted → ℕ → Type 0
@@ -129,7 +139,7 @@ module _ (v : State) (nodes : ℕ) (lawful : IsLawfulState nodes v) (few : nodes
     exec_held term node some =
         let where_at = lawful.execs name key term node keyed some in
         let below = term_below nodes key term (lawful.key name key keyed) where_at.0.0 in
-        member_exec v name nodes key term node below where_at.0.0 where_at.1 some
+        member_term (v.execs name) nodes key term node below where_at.0.0 where_at.1 some
 
     pub changed_exec : (term node number : ℕ) → IsChanged (Execs term node) number → IsIn (term, node, number) (execs_since v name base w)
     changed_exec term node number d =
@@ -161,8 +171,8 @@ module _ (v : State) (nodes : ℕ) (lawful : IsLawfulState nodes v) (few : nodes
     few_execs_since =
         let since = execs_since v name base w in
         let all = exec_cells v name key nodes in
-        let short = part_is_short (map exec_place since) (map exec_place all) execs_since_ascend (execs_ascend v name nodes key) part in
-        let most = few_execs v name nodes key few in
+        let short = part_is_short (map exec_place since) (map exec_place all) execs_since_ascend (terms_ascend (v.execs name) nodes key) part in
+        let most = few_terms (v.execs name) nodes key few in
         let a = length-map since exec_place in
         let b = length-map all exec_place in
         omega (arith, short, most, a, b)
@@ -177,31 +187,31 @@ module _ (v : State) (nodes : ℕ) (lawful : IsLawfulState nodes v) (few : nodes
 
     -- ---- shifts
 
-    pub shift_changed : (c : ℕ × ℕ × ℕ × ℕ) → IsIn c (shifts_since v name base w) → IsChanged (Shifts c.0 c.1 c.2) c.3
+    pub shift_changed : (c : ℕ × ℕ × ℕ × ℕ) → IsIn c (shifts_since v name base w) → (c.2 ≢ c.1) × IsChanged (Shifts c.0 c.1 c.2) c.3
     shift_changed c h = let r = later_member (shift_of v name) w.key base w.cells.entries c ordered h in by_kind r.counted r.mark r.marked r.above r.is
       where
-        by_kind : (d : Counted) (n : ℕ) → cell_in w d ≡ Some n → base < cell_change (is_hits d) n w.key → IsIn c (shift_of v name d) → IsChanged (Shifts c.0 c.1 c.2) c.3
+        by_kind : (d : Counted) (n : ℕ) → cell_in w d ≡ Some n → base < cell_change (is_hits d) n w.key → IsIn c (shift_of v name d) → (c.2 ≢ c.1) × IsChanged (Shifts c.0 c.1 c.2) c.3
         by_kind (Hits node) n e lt k = absurd k
         by_kind (Execs term node) n e lt k = absurd k
         by_kind (Shifts term from to) n e lt k =
-            let one = in_cell (v.shifts name term from to) (term, from, to, v.shifts name term from to) c k in
+            let one = shift_in_cell v name nodes term from to c k in
             let mark = change_is m name w at (Shifts term from to) ∙ ap (λ o. cell_change false (unwrap_or o 0) w.key) e in
-            let there : IsChanged (Shifts term from to) (v.shifts name term from to) = record { is_now = refl; positive = one.0; later = subst (λ k. base < k) (sym mark) lt } in
-            subst (λ (x : ℕ × ℕ × ℕ × ℕ). IsChanged (Shifts x.0 x.1 x.2) x.3) (sym one.1) there
+            let there : IsChanged (Shifts term from to) (v.shifts name term from to) = record { is_now = refl; positive = one.1; later = subst (λ k. base < k) (sym mark) lt } in
+            subst (λ (x : ℕ × ℕ × ℕ × ℕ). (x.2 ≢ x.1) × IsChanged (Shifts x.0 x.1 x.2) x.3) (sym one.2) (one.0, there)
 
-    shift_held : (term from to : ℕ) → v.shifts name term from to ≢ 0 → IsIn (term, from, to, v.shifts name term from to) (shift_cells v name key nodes)
-    shift_held term from to some =
+    shift_held : (term from to : ℕ) → to ≢ from → v.shifts name term from to ≢ 0 → IsIn (term, from, to, v.shifts name term from to) (shift_cells v name key nodes)
+    shift_held term from to apart some =
         let where_at = lawful.shifts name key term from to keyed some in
         let below = term_below nodes key term (lawful.key name key keyed) where_at.0.0 in
-        member_shift v name nodes key term from to below where_at.0.0 where_at.1 where_at.2 where_at.3 some
+        member_shift v name nodes key term from to below where_at.0.0 where_at.1 where_at.2 apart some
 
-    pub changed_shift : (term from to number : ℕ) → IsChanged (Shifts term from to) number → IsIn (term, from, to, number) (shifts_since v name base w)
-    changed_shift term from to number d =
+    pub changed_shift : (term from to number : ℕ) → to ≢ from → IsChanged (Shifts term from to) number → IsIn (term, from, to, number) (shifts_since v name base w)
+    changed_shift term from to number apart d =
         let some : v.shifts name term from to ≢ 0 = λ z. d.positive (d.is_now ∙ z) in
         let k = marked_above w.key base false (cell_in w (Shifts term from to)) (subst (λ z. base < z) (change_is m name w at (Shifts term from to)) d.later) in
         let cell : ℕ × ℕ × ℕ × ℕ = (term, from, to, v.shifts name term from to) in
         subst (λ n. IsIn (term, from, to, n) (shifts_since v name base w)) (sym d.is_now)
-        (member_later (shift_of v name) w.key base w.cells.entries (Shifts term from to) k.0 cell k.1 k.2 (one_cell_in (v.shifts name term from to) cell some))
+        (member_later (shift_of v name) w.key base w.cells.entries (Shifts term from to) k.0 cell k.1 k.2 (cell_in_shift v name nodes term from to apart some))
 
     pub shifts_since_ascend : IsAscending (map shift_place (shifts_since v name base w))
     shifts_since_ascend = later_ascends (shift_of v name) w.key base shift_place each across w.cells.entries ordered
@@ -209,13 +219,15 @@ module _ (v : State) (nodes : ℕ) (lawful : IsLawfulState nodes v) (few : nodes
         each : (c : Counted) → IsAscending (map shift_place (shift_of v name c))
         each (Hits node) = tt
         each (Execs term node) = tt
-        each (Shifts term from to) = cell_ascends shift_place (v.shifts name term from to) (term, from, to, v.shifts name term from to)
+        each (Shifts term from to) =
+            let cell : ℕ × ℕ × ℕ × ℕ = (term, from, to, v.shifts name term from to) in
+            unless_ascends shift_place (to == from) (cell_of (v.shifts name term from to) cell) (cell_ascends shift_place (v.shifts name term from to) cell)
 
         across : (c e : Counted) (x y : ℕ × ℕ × ℕ × ℕ) → counted_cmp c e ≡ Less → IsIn x (shift_of v name c) → IsIn y (shift_of v name e) → slice_cmp nat_cmp (shift_place x) (shift_place y) ≡ Less
         across (Shifts s i n) (Shifts t j o) x y lt h k =
-            let a = in_cell (v.shifts name s i n) (s, i, n, v.shifts name s i n) x h in
-            let b = in_cell (v.shifts name t j o) (t, j, o, v.shifts name t j o) y k in
-            rw (a.1, b.1) lt
+            let a = shift_in_cell v name nodes s i n x h in
+            let b = shift_in_cell v name nodes t j o y k in
+            rw (a.2, b.2) lt
         across (Shifts s i n) (Hits j) x y lt h k = absurd k
         across (Shifts s i n) (Execs t j) x y lt h k = absurd k
         across (Hits i) e x y lt h k = absurd h
@@ -235,6 +247,87 @@ module _ (v : State) (nodes : ℕ) (lawful : IsLawfulState nodes v) (few : nodes
         part p h =
             let r = mapped_from shift_place (shifts_since v name base w) p h in
             let d = shift_changed r.0 r.1 in
-            let some : v.shifts name r.0.0 r.0.1 r.0.2 ≢ 0 = λ z. d.positive (d.is_now ∙ z) in
+            let some : v.shifts name r.0.0 r.0.1 r.0.2 ≢ 0 = λ z. d.1.positive (d.1.is_now ∙ z) in
             subst (λ q. IsIn q (map shift_place (shift_cells v name key nodes))) (sym r.2)
-            (mapped_in shift_place (shift_cells v name key nodes) (r.0.0, r.0.1, r.0.2, v.shifts name r.0.0 r.0.1 r.0.2) (shift_held r.0.0 r.0.1 r.0.2 some))
+            (mapped_in shift_place (shift_cells v name key nodes) (r.0.0, r.0.1, r.0.2, v.shifts name r.0.0 r.0.1 r.0.2) (shift_held r.0.0 r.0.1 r.0.2 d.0 some))
+
+    -- ---- grants
+
+    grant_in_cell : (term from to : ℕ) (c : ℕ × ℕ × ℕ) → IsIn c (grant_of v name (Shifts term from to)) → (to ≡ from) × (granted_in v name term from ≢ 0) × (c ≡ (term, from, granted_in v name term from))
+    grant_in_cell term from to c h =
+        let cell : ℕ × ℕ × ℕ = (term, from, granted_in v name term from) in
+        let r = in_if (to == from) (cell_of (granted_in v name term from) cell) c h in
+        let one = in_cell (granted_in v name term from) cell c r.1 in
+        (eqb-true to from r.0, one.0, one.1)
+
+    cell_in_grant : (term node : ℕ) → granted_in v name term node ≢ 0 → IsIn (term, node, granted_in v name term node) (grant_of v name (Shifts term node node))
+    cell_in_grant term node some =
+        let cell : ℕ × ℕ × ℕ = (term, node, granted_in v name term node) in
+        if_in (node == node) (cell_of (granted_in v name term node) cell) cell (eq-eqb node node refl) (one_cell_in (granted_in v name term node) cell some)
+
+    pub grant_changed : (c : ℕ × ℕ × ℕ) → IsIn c (grants_since v name base w) → IsChanged (Shifts c.0 c.1 c.1) c.2
+    grant_changed c h = let r = later_member (grant_of v name) w.key base w.cells.entries c ordered h in by_kind r.counted r.mark r.marked r.above r.is
+      where
+        by_kind : (d : Counted) (n : ℕ) → cell_in w d ≡ Some n → base < cell_change (is_hits d) n w.key → IsIn c (grant_of v name d) → IsChanged (Shifts c.0 c.1 c.1) c.2
+        by_kind (Hits node) n e lt k = absurd k
+        by_kind (Execs term node) n e lt k = absurd k
+        by_kind (Shifts term from to) n e lt k =
+            let one = grant_in_cell term from to c k in
+            let own = subst (λ o. cell_in w (Shifts term from o) ≡ Some n) one.0 e in
+            let mark = change_is m name w at (Shifts term from from) ∙ ap (λ o. cell_change false (unwrap_or o 0) w.key) own in
+            let there : IsChanged (Shifts term from from) (granted_in v name term from) = record { is_now = refl; positive = one.1; later = subst (λ k. base < k) (sym mark) lt } in
+            subst (λ (x : ℕ × ℕ × ℕ). IsChanged (Shifts x.0 x.1 x.1) x.2) (sym one.2) there
+
+    grant_held : (term node : ℕ) → granted_in v name term node ≢ 0 → IsIn (term, node, granted_in v name term node) (grant_cells v name key nodes)
+    grant_held term node some =
+        let where_at = lawful.shifts name key term node node keyed some in
+        let below = term_below nodes key term (lawful.key name key keyed) where_at.0.0 in
+        member_term (granted_in v name) nodes key term node below where_at.0.0 where_at.1 some
+
+    pub changed_grant : (term node number : ℕ) → IsChanged (Shifts term node node) number → IsIn (term, node, number) (grants_since v name base w)
+    changed_grant term node number d =
+        let some : granted_in v name term node ≢ 0 = λ z. d.positive (d.is_now ∙ z) in
+        let k = marked_above w.key base false (cell_in w (Shifts term node node)) (subst (λ z. base < z) (change_is m name w at (Shifts term node node)) d.later) in
+        let cell : ℕ × ℕ × ℕ = (term, node, granted_in v name term node) in
+        subst (λ n. IsIn (term, node, n) (grants_since v name base w)) (sym d.is_now)
+        (member_later (grant_of v name) w.key base w.cells.entries (Shifts term node node) k.0 cell k.1 k.2 (cell_in_grant term node some))
+
+    pub grants_since_ascend : IsAscending (map exec_place (grants_since v name base w))
+    grants_since_ascend = later_ascends (grant_of v name) w.key base exec_place each across w.cells.entries ordered
+      where
+        each : (c : Counted) → IsAscending (map exec_place (grant_of v name c))
+        each (Hits node) = tt
+        each (Execs term node) = tt
+        each (Shifts term from to) =
+            let cell : ℕ × ℕ × ℕ = (term, from, granted_in v name term from) in
+            if_ascends exec_place (to == from) (cell_of (granted_in v name term from) cell) (cell_ascends exec_place (granted_in v name term from) cell)
+
+        across : (c e : Counted) (x y : ℕ × ℕ × ℕ) → counted_cmp c e ≡ Less → IsIn x (grant_of v name c) → IsIn y (grant_of v name e) → slice_cmp nat_cmp (exec_place x) (exec_place y) ≡ Less
+        across (Shifts s i n) (Shifts t j o) x y lt h k =
+            let a = grant_in_cell s i n x h in
+            let b = grant_in_cell t j o y k in
+            let own = subst (λ z. slice_cmp nat_cmp (s ∷ i ∷ n ∷ []) (t ∷ j ∷ z ∷ []) ≡ Less) b.0 lt in
+            let owns = subst (λ z. slice_cmp nat_cmp (s ∷ i ∷ z ∷ []) (t ∷ j ∷ j ∷ []) ≡ Less) a.0 own in
+            rw (a.2, b.2) (said_once (nat_cmp s t) (nat_cmp i j) owns)
+        across (Shifts s i n) (Hits j) x y lt h k = absurd k
+        across (Shifts s i n) (Execs t j) x y lt h k = absurd k
+        across (Hits i) e x y lt h k = absurd h
+        across (Execs t i) e x y lt h k = absurd h
+
+    pub few_grants_since : length (grants_since v name base w) ≤ 512
+    few_grants_since =
+        let since = grants_since v name base w in
+        let all = grant_cells v name key nodes in
+        let short = part_is_short (map exec_place since) (map exec_place all) grants_since_ascend (terms_ascend (granted_in v name) nodes key) part in
+        let most = few_terms (granted_in v name) nodes key few in
+        let a = length-map since exec_place in
+        let b = length-map all exec_place in
+        omega (arith, short, most, a, b)
+      where
+        part : (p : List ℕ) → IsIn p (map exec_place (grants_since v name base w)) → IsIn p (map exec_place (grant_cells v name key nodes))
+        part p h =
+            let r = mapped_from exec_place (grants_since v name base w) p h in
+            let d = grant_changed r.0 r.1 in
+            let some : granted_in v name r.0.0 r.0.1 ≢ 0 = λ z. d.positive (d.is_now ∙ z) in
+            subst (λ q. IsIn q (map exec_place (grant_cells v name key nodes))) (sym r.2)
+            (mapped_in exec_place (grant_cells v name key nodes) (r.0.0, r.0.1, granted_in v name r.0.0 r.0.1) (grant_held r.0.0 r.0.1 some))

@@ -1,12 +1,12 @@
 -- A name of which something changed after a version has an entry, which can be written.
-use Rattle.std.proofs.Common.{◌≡◌, ◌≢◌, ℕ, max, ◌<◌, ◌≤◌, ◌^◌, ◌==◌, ◌||◌, Bool, true, false, cond, List, [], ◌∷◌, length, ◌⊎◌, ⊎_elim, inl, inr, Option, Some, None, refl, sym, ap, ◌∙◌, arith}
+use Rattle.std.proofs.Common.{◌≡◌, ◌≢◌, ℕ, max, ◌<◌, ◌≤◌, ◌^◌, ◌==◌, ◌||◌, Bool, true, false, cond, List, ⊎_elim, Option, Some, None, refl, sym, ap, subst, ◌∙◌, arith}
 use Rattle.std.specs.Prelude.{IsTrue, nat_lt}
 use Rattle.std.specs.BTreeMap.{IsOrdered}
-use Rattle.std.proofs.lemmas.Bool.{true≢false, cases_lt}
+use Rattle.std.proofs.lemmas.Bool.{true≢false, cases_lt, cases_eq}
 use Rattle.std.proofs.lemmas.Bool.Decides.{nat_tests}
 use Rattle.stamp_register.specs.Keys.{KeyValue}
 use Rattle.replica_state.specs.Operations.{IsIn}
-use Rattle.replica_state.specs.States.{State}
+use Rattle.replica_state.specs.States.{State, granted_in}
 use Rattle.replica_state.specs.Points.{counted_cmp, is_hits}
 use Rattle.replica_state.specs.OpSets as state
 use Rattle.replica_state.specs.declared.point.Counted.{Counted}
@@ -17,18 +17,15 @@ use Rattle.delta_exchange.specs.declared.marks.Marks.{Marks}
 use Rattle.delta_exchange.specs.Marks.{marks_at, latest_of, marks_value, last_changes, cell_change, AreUpto}
 use Rattle.delta_exchange.specs.Changes.{IsChangedCell, IsUnchangedSince}
 use Rattle.delta_exchange.specs.Messages.{EntryValue}
-use Rattle.delta_exchange.specs.Spelling.{IsHit, IsExec, IsShift, IsEntry}
+use Rattle.delta_exchange.specs.Spelling.{IsHit, IsExec, IsShift, IsGrant, IsEntry}
 use Rattle.delta_exchange.specs.Cells.{EntryFits}
-use Rattle.delta_exchange.specs.Since.{hits_since, execs_since, shifts_since, entry_since, tells_cells}
+use Rattle.delta_exchange.specs.Since.{hits_since, execs_since, shifts_since, grants_since, entry_since, tells_cells}
 use Rattle.delta_exchange.proofs.Members.{all_of, one_of}
 use Rattle.delta_exchange.proofs.LawfulStates.{IsLawfulState}
 use Rattle.delta_exchange.proofs.BelowLemmas.{ascends}
-use Rattle.delta_exchange.proofs.SinceCells.{changes_of, key_change, hit_changed, changed_hit, hits_since_ascend, few_hits_since, exec_changed, changed_exec, execs_since_ascend, few_execs_since, shift_changed, changed_shift, shifts_since_ascend, few_shifts_since}
+use Rattle.delta_exchange.proofs.SinceCells.{changes_of, key_change, hit_changed, changed_hit, hits_since_ascend, few_hits_since, exec_changed, changed_exec, execs_since_ascend, few_execs_since, shift_changed, changed_shift, shifts_since_ascend, few_shifts_since, grant_changed, changed_grant, grants_since_ascend, few_grants_since}
+use Rattle.delta_exchange.proofs.TellsCells.{either, hits_tell, execs_tell, shifts_tell, grants_tell, cell_told}
 use Rattle.delta_exchange.proofs.SinceEntries.{all_since, AreOrdered, order_of, member_entry}
-
-some_in : {A : Type 0} (xs : List A) (x : A) → IsIn x xs → IsTrue (nat_lt 0 (length xs))
-some_in [] x h = absurd h
-some_in (y ∷ xs) x h = grind (arith, nat_tests)
 
 left_true : (a b : Bool) → IsTrue a → IsTrue (a || b)
 left_true a b h = rw h refl
@@ -80,24 +77,20 @@ module _ (v : State) (m : Marks) (base : ℕ) (name : List ℕ) where
     abbrev entry : EntryValue
     entry = entry_since v name key base w
 
-    hits_tell : (c : ℕ × ℕ) → IsIn c (hits_since v name base w) → IsTrue (tells_cells entry)
-    hits_tell c h = left_true (nat_lt 0 (length (hits_since v name base w))) (nat_lt 0 (length (execs_since v name base w)) || nat_lt 0 (length (shifts_since v name base w))) (some_in (hits_since v name base w) c h)
-
-    execs_tell : (c : ℕ × ℕ × ℕ) → IsIn c (execs_since v name base w) → IsTrue (tells_cells entry)
-    execs_tell c h = right_true (nat_lt 0 (length (hits_since v name base w))) (nat_lt 0 (length (execs_since v name base w)) || nat_lt 0 (length (shifts_since v name base w)))
-        (left_true (nat_lt 0 (length (execs_since v name base w))) (nat_lt 0 (length (shifts_since v name base w))) (some_in (execs_since v name base w) c h))
-
-    shifts_tell : (c : ℕ × ℕ × ℕ × ℕ) → IsIn c (shifts_since v name base w) → IsTrue (tells_cells entry)
-    shifts_tell c h = right_true (nat_lt 0 (length (hits_since v name base w))) (nat_lt 0 (length (execs_since v name base w)) || nat_lt 0 (length (shifts_since v name base w)))
-        (right_true (nat_lt 0 (length (execs_since v name base w))) (nat_lt 0 (length (shifts_since v name base w))) (some_in (shifts_since v name base w) c h))
-
     cell_tells : (c : Counted) → state.cell_of v name c ≢ 0 → base < (changes_of m).cell name c → IsTrue (tells_cells entry)
     cell_tells (Hits node) some lt =
-        hits_tell (node, v.hits name node) (changed_hit v nodes lawful few m base name w at ordered node (v.hits name node) (record { is_now = refl; positive = some; later = lt }))
+        hits_tell entry (node, v.hits name node) (changed_hit v nodes lawful few m base name w at ordered node (v.hits name node) (record { is_now = refl; positive = some; later = lt }))
     cell_tells (Execs term node) some lt =
-        execs_tell (term, node, v.execs name term node) (changed_exec v nodes lawful few m base name w at ordered key keyed term node (v.execs name term node) (record { is_now = refl; positive = some; later = lt }))
-    cell_tells (Shifts term from to) some lt =
-        shifts_tell (term, from, to, v.shifts name term from to) (changed_shift v nodes lawful few m base name w at ordered key keyed term from to (v.shifts name term from to) (record { is_now = refl; positive = some; later = lt }))
+        execs_tell entry (term, node, v.execs name term node) (changed_exec v nodes lawful few m base name w at ordered key keyed term node (v.execs name term node) (record { is_now = refl; positive = some; later = lt }))
+    cell_tells (Shifts term from to) some lt = ⊎_elim
+        (λ same.
+        let own = subst (λ o. IsChangedCell v (changes_of m) base name (Shifts term from o) (v.shifts name term from o)) same changed in
+        grants_tell entry (term, from, granted_in v name term from) (changed_grant v nodes lawful few m base name w at ordered key keyed term from (granted_in v name term from) own))
+        (λ apart. shifts_tell entry (term, from, to, v.shifts name term from to) (changed_shift v nodes lawful few m base name w at ordered key keyed term from to (v.shifts name term from to) apart changed))
+        (cases_eq to from)
+      where
+        changed : IsChangedCell v (changes_of m) base name (Shifts term from to) (v.shifts name term from to)
+        changed = record { is_now = refl; positive = some; later = lt }
 
     pub change_told : (IsUnchangedSince v (changes_of m) base name → ⊥) → IsTrue (nat_lt base w.key || tells_cells entry)
     change_told h = by_test (nat_lt base w.key || tells_cells entry) refl
@@ -123,21 +116,13 @@ module _ (v : State) (m : Marks) (base : ℕ) (name : List ℕ) where
 
     -- ---- it is a change that is told
 
-    one_in : {A : Type 0} (xs : List A) → IsTrue (nat_lt 0 (length xs)) → (x : A) × IsIn x xs
-    one_in [] h = absurd cc
-    one_in (x ∷ xs) h = (x, inl refl)
-
-    either : (a b : Bool) → IsTrue (a || b) → IsTrue a ⊎ IsTrue b
-    either true b h = inl refl
-    either false b h = inr h
-
     pub told_change : IsTrue (nat_lt base w.key || tells_cells entry) → IsUnchangedSince v (changes_of m) base name → ⊥
     told_change told same = ⊎_elim
         (λ t.
         let is = key_change m name w at in
         let le = same.key in
         absurd (grind (arith, nat_tests)))
-        (λ t. ⊎_elim hits others (either (nat_lt 0 (length (hits_since v name base w))) (nat_lt 0 (length (execs_since v name base w)) || nat_lt 0 (length (shifts_since v name base w))) t))
+        (λ t. ⊎_elim hits (λ c. ⊎_elim execs (λ d. ⊎_elim shifts grants d) c) (cell_told entry t))
         (either (nat_lt base w.key) (tells_cells entry) told)
       where
         same_cell : (c : Counted) (number : ℕ) → IsChangedCell v (changes_of m) base name c number → ⊥
@@ -146,17 +131,17 @@ module _ (v : State) (m : Marks) (base : ℕ) (name : List ℕ) where
             let lt = d.later in
             absurd (omega (arith, le, lt))
 
-        hits : IsTrue (nat_lt 0 (length (hits_since v name base w))) → ⊥
-        hits t = let r = one_in (hits_since v name base w) t in same_cell (Hits r.0.0) r.0.1 (hit_changed v nodes lawful few m base name w at ordered r.0 r.1)
+        hits : (c : ℕ × ℕ) × IsIn c entry.hits → ⊥
+        hits (c, h) = same_cell (Hits c.0) c.1 (hit_changed v nodes lawful few m base name w at ordered c h)
 
-        execs : IsTrue (nat_lt 0 (length (execs_since v name base w))) → ⊥
-        execs t = let r = one_in (execs_since v name base w) t in same_cell (Execs r.0.0 r.0.1) r.0.2 (exec_changed v nodes lawful few m base name w at ordered key keyed r.0 r.1)
+        execs : (c : ℕ × ℕ × ℕ) × IsIn c entry.execs → ⊥
+        execs (c, h) = same_cell (Execs c.0 c.1) c.2 (exec_changed v nodes lawful few m base name w at ordered key keyed c h)
 
-        shifts : IsTrue (nat_lt 0 (length (shifts_since v name base w))) → ⊥
-        shifts t = let r = one_in (shifts_since v name base w) t in same_cell (Shifts r.0.0 r.0.1 r.0.2) r.0.3 (shift_changed v nodes lawful few m base name w at ordered key keyed r.0 r.1)
+        shifts : (c : ℕ × ℕ × ℕ × ℕ) × IsIn c entry.shifts → ⊥
+        shifts (c, h) = same_cell (Shifts c.0 c.1 c.2) c.3 (shift_changed v nodes lawful few m base name w at ordered key keyed c h).1
 
-        others : IsTrue (nat_lt 0 (length (execs_since v name base w)) || nat_lt 0 (length (shifts_since v name base w))) → ⊥
-        others t = ⊎_elim execs shifts (either (nat_lt 0 (length (execs_since v name base w))) (nat_lt 0 (length (shifts_since v name base w))) t)
+        grants : (c : ℕ × ℕ × ℕ) × IsIn c entry.grants → ⊥
+        grants (c, h) = same_cell (Shifts c.0 c.1 c.1) c.2 (grant_changed v nodes lawful few m base name w at ordered key keyed c h)
 
     -- ---- it can be written
 
@@ -165,6 +150,7 @@ module _ (v : State) (m : Marks) (base : ℕ) (name : List ℕ) where
         let few_hits = few_hits_since v nodes lawful few m base name w at ordered in
         let few_execs = few_execs_since v nodes lawful few m base name w at ordered key keyed in
         let few_shifts = few_shifts_since v nodes lawful few m base name w at ordered key keyed in
+        let few_grants = few_grants_since v nodes lawful few m base name w at ordered key keyed in
         record {
           name = lawful.named name (lawful.key_name name key keyed);
           key = lawful.key name key keyed;
@@ -177,6 +163,9 @@ module _ (v : State) (m : Marks) (base : ℕ) (name : List ℕ) where
           few_shifts = omega (arith, few_shifts);
           shifts = all_of (IsShift nodes key) entry.shifts (λ c h. shift_is c (one_of (λ (x : ℕ × ℕ × ℕ × ℕ). x.3 < 2 ^ 64) entry.shifts fits.2 c h) h);
           shifts_ascend = ascends _ (shifts_since_ascend v nodes lawful few m base name w at ordered key keyed);
+          few_grants = omega (arith, few_grants);
+          grants = all_of (IsGrant nodes key) entry.grants (λ c h. grant_is c (one_of (λ (x : ℕ × ℕ × ℕ). x.2 < 2 ^ 64) entry.grants fits.3 c h) h);
+          grants_ascend = ascends _ (grants_since_ascend v nodes lawful few m base name w at ordered key keyed);
         }
       where
         hit_is : (c : ℕ × ℕ) → c.1 < 2 ^ 64 → IsIn c (hits_since v name base w) → IsHit nodes c
@@ -195,9 +184,16 @@ module _ (v : State) (m : Marks) (base : ℕ) (name : List ℕ) where
         shift_is : (c : ℕ × ℕ × ℕ × ℕ) → c.3 < 2 ^ 64 → IsIn c (shifts_since v name base w) → IsShift nodes key c
         shift_is c fit h =
             let d = shift_changed v nodes lawful few m base name w at ordered key keyed c h in
+            let positive = d.1.positive in
+            let r = lawful.shifts name key c.0 c.1 c.2 keyed (λ z. d.1.positive (d.1.is_now ∙ z)) in
+            (r.0, r.1, r.2, d.0, (omega (arith, positive), fit))
+
+        grant_is : (c : ℕ × ℕ × ℕ) → c.2 < 2 ^ 64 → IsIn c (grants_since v name base w) → IsGrant nodes key c
+        grant_is c fit h =
+            let d = grant_changed v nodes lawful few m base name w at ordered key keyed c h in
             let positive = d.positive in
-            let r = lawful.shifts name key c.0 c.1 c.2 keyed (λ z. d.positive (d.is_now ∙ z)) in
-            (r.0, r.1, r.2, r.3, (omega (arith, positive), fit))
+            let r = lawful.shifts name key c.0 c.1 c.1 keyed (λ z. d.positive (d.is_now ∙ z)) in
+            (r.0, r.1, (omega (arith, positive), fit))
 
 -- so each name of which something changed has its entry
 pub entry_changed : (v : State) (nodes : ℕ) (lawful : IsLawfulState nodes v) (few : nodes ≤ max_nodes) (m : Marks) (base version : ℕ) → AreUpto (marks_value m) version → AreOrdered v base m

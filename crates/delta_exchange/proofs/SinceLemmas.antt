@@ -1,43 +1,31 @@
 -- What changed after a version, as a message: it can be written, and it tells just the changes.
-use Rattle.std.proofs.Common.{◌≡◌, ◌≢◌, ℕ, ◌<◌, ◌≤◌, ◌^◌, ◌⊎◌, inl, inr, List, ◌++◌, length, map, refl, sym, subst, ◌∙◌, arith}
+use Rattle.std.proofs.Common.{◌≡◌, ◌≢◌, ℕ, ◌<◌, ◌≤◌, ◌^◌, inl, inr, ⊎_elim, List, length, refl, sym, subst, ◌∙◌, length-append, arith}
 use Rattle.std.specs.Prelude.{◌↔◌}
 use Rattle.std.specs.List.{flat_map}
+use Rattle.std.proofs.lemmas.Bool.{cases_eq}
 use Rattle.replica_state.specs.Operations.{Operation, Set, Count, Hits, Execs, Shifts, IsIn}
 use Rattle.replica_state.specs.States.{State}
 use Rattle.replica_state.specs.declared.point.Counted.TheVariants as counted
-use Rattle.replica_state.proofs.Sets.{IsIn-append_left, IsIn-append_right}
 use Rattle.delta_exchange.specs.Limits.{max_nodes}
 use Rattle.delta_exchange.specs.declared.marks.Marks.{Marks}
+use Rattle.delta_exchange.specs.declared.wire.Form.{Form}
 use Rattle.delta_exchange.specs.Marks.{marks_value, AreUpto}
 use Rattle.delta_exchange.specs.Changes.{IsChangeSince, IsChangedCell, IsUnchangedSince}
 use Rattle.delta_exchange.specs.Messages.{EntryValue, MessageValue, operations_of}
-use Rattle.delta_exchange.specs.Spelling.{IsEntry, IsMessage, entry_bytes, message_bytes, max_message}
+use Rattle.delta_exchange.specs.Spelling.{IsEntry, IsMessage, form_of, entry_bytes, message_bytes, max_message}
 use Rattle.delta_exchange.specs.Cells.{EntryFits, EntriesFit}
 use Rattle.delta_exchange.specs.Versions.{VersionedValue}
 use Rattle.delta_exchange.specs.Since.{CanBeTold, IsMessageSince, entry_since}
-use Rattle.delta_exchange.proofs.Members.{all_of, flat_in, in_flat, mapped_in, one_of}
-use Rattle.delta_exchange.proofs.LawfulLemmas.{hit_told, exec_told, shift_told, told_of}
+use Rattle.delta_exchange.proofs.Members.{all_of, flat_in, in_flat, one_of}
+use Rattle.delta_exchange.proofs.LawfulLemmas.{IsTold, told_of}
+use Rattle.delta_exchange.proofs.OneMessage.{hit_in, exec_in, shift_in, grant_in}
 use Rattle.delta_exchange.proofs.LawfulStates.{IsLawfulState, lawful_state}
 use Rattle.delta_exchange.proofs.BelowLemmas.{ascends, length_flat}
 use Rattle.delta_exchange.proofs.HeldEntries.{entry_short}
-use Rattle.delta_exchange.proofs.WholeLemmas.{some_key}
-use Rattle.delta_exchange.proofs.SinceCells.{changes_of, hit_changed, changed_hit, few_hits_since, exec_changed, changed_exec, few_execs_since, shift_changed, changed_shift, few_shifts_since}
+use Rattle.delta_exchange.proofs.WholeLemmas.{magic_short, some_key}
+use Rattle.delta_exchange.proofs.SinceCells.{changes_of, hit_changed, changed_hit, few_hits_since, exec_changed, changed_exec, few_execs_since, shift_changed, changed_shift, few_shifts_since, grant_changed, changed_grant, few_grants_since}
 use Rattle.delta_exchange.proofs.SinceEntries.{all_since, AreOrdered, IsEntrySince, entry_member, few_entries, entries_ascend}
 use Rattle.delta_exchange.proofs.SinceChanges.{told_change, entry_is, entry_changed}
-
--- ---- what the cells of an entry tell
-
-module _ (e : EntryValue) where
-  with_hit : (c : ℕ × ℕ) → IsIn c e.hits → IsIn (hit_told e c) (operations_of e)
-  with_hit c h = inr (IsIn-append_left (hit_told e c) (map (hit_told e) e.hits) (map (exec_told e) e.execs ++ map (shift_told e) e.shifts) (mapped_in (hit_told e) e.hits c h))
-
-  with_exec : (c : ℕ × ℕ × ℕ) → IsIn c e.execs → IsIn (exec_told e c) (operations_of e)
-  with_exec c h = inr (IsIn-append_right (exec_told e c) (map (hit_told e) e.hits) (map (exec_told e) e.execs ++ map (shift_told e) e.shifts)
-      (IsIn-append_left (exec_told e c) (map (exec_told e) e.execs) (map (shift_told e) e.shifts) (mapped_in (exec_told e) e.execs c h)))
-
-  with_shift : (c : ℕ × ℕ × ℕ × ℕ) → IsIn c e.shifts → IsIn (shift_told e c) (operations_of e)
-  with_shift c h = inr (IsIn-append_right (shift_told e c) (map (hit_told e) e.hits) (map (exec_told e) e.execs ++ map (shift_told e) e.shifts)
-      (IsIn-append_right (shift_told e c) (map (exec_told e) e.execs) (map (shift_told e) e.shifts) (mapped_in (shift_told e) e.shifts c h)))
 
 module _ (v : State) (nodes : ℕ) (lawful : IsLawfulState nodes v) (few : nodes ≤ max_nodes) (m : Marks) (base version : ℕ) (upto : AreUpto (marks_value m) version) (ordered : AreOrdered v base m) where
   abbrev Changes : Operation → Type 0
@@ -54,11 +42,12 @@ module _ (v : State) (nodes : ℕ) (lawful : IsLawfulState nodes v) (few : nodes
       s : EntryValue
       s = entry_since v r.name r.key base r.marks
 
-      by_kind : (op ≡ Set s.name s.key) ⊎ (((c : ℕ × ℕ) × IsIn c s.hits × (op ≡ hit_told s c)) ⊎ (((c : ℕ × ℕ × ℕ) × IsIn c s.execs × (op ≡ exec_told s c)) ⊎ ((c : ℕ × ℕ × ℕ × ℕ) × IsIn c s.shifts × (op ≡ shift_told s c)))) → Changes op
+      by_kind : IsTold s op → Changes op
       by_kind (inl e) = subst Changes (sym e) (r.keyed, told_change v m base r.name nodes lawful few r.marks r.at r.ordered r.key r.keyed r.told)
       by_kind (inr (inl (c, k, e))) = subst Changes (sym e) (hit_changed v nodes lawful few m base r.name r.marks r.at r.ordered c k)
       by_kind (inr (inr (inl (c, k, e)))) = subst Changes (sym e) (r.keyed, exec_changed v nodes lawful few m base r.name r.marks r.at r.ordered r.key r.keyed c k)
-      by_kind (inr (inr (inr (c, k, e)))) = subst Changes (sym e) (r.keyed, shift_changed v nodes lawful few m base r.name r.marks r.at r.ordered r.key r.keyed c k)
+      by_kind (inr (inr (inr (inl (c, k, e))))) = subst Changes (sym e) (r.keyed, (shift_changed v nodes lawful few m base r.name r.marks r.at r.ordered r.key r.keyed c k).1)
+      by_kind (inr (inr (inr (inr (c, k, e))))) = subst Changes (sym e) (r.keyed, grant_changed v nodes lawful few m base r.name r.marks r.at r.ordered r.key r.keyed c k)
 
   told_changed : (op : Operation) → IsIn op (flat_map operations_of entries) → Changes op
   told_changed op h =
@@ -82,20 +71,26 @@ module _ (v : State) (nodes : ℕ) (lawful : IsLawfulState nodes v) (few : nodes
       let key = some_key (v.key name) (lawful.keyed name (lawful.hit_name name node some)) in
       let r = entry_changed v nodes lawful few m base version upto ordered name key.0 key.1 (changed_name name (counted.Hits node) number d) in
       let e = entry_since v name key.0 base r.0 in
-      flat_in operations_of entries e (Count (Hits name node) number) r.3 (with_hit e (node, number) (changed_hit v nodes lawful few m base name r.0 r.1 r.2 node number d))
+      flat_in operations_of entries e (Count (Hits name node) number) r.3 (hit_in e (node, number) (changed_hit v nodes lawful few m base name r.0 r.1 r.2 node number d))
   changed_told (Count (Execs name key term node) number) d =
       let r = entry_changed v nodes lawful few m base version upto ordered name key d.0 (changed_name name (counted.Execs term node) number d.1) in
       let e = entry_since v name key base r.0 in
-      flat_in operations_of entries e (Count (Execs name key term node) number) r.3 (with_exec e (term, node, number) (changed_exec v nodes lawful few m base name r.0 r.1 r.2 key d.0 term node number d.1))
+      flat_in operations_of entries e (Count (Execs name key term node) number) r.3 (exec_in e (term, node, number) (changed_exec v nodes lawful few m base name r.0 r.1 r.2 key d.0 term node number d.1))
   changed_told (Count (Shifts name key term from to) number) d =
       let r = entry_changed v nodes lawful few m base version upto ordered name key d.0 (changed_name name (counted.Shifts term from to) number d.1) in
       let e = entry_since v name key base r.0 in
-      flat_in operations_of entries e (Count (Shifts name key term from to) number) r.3 (with_shift e (term, from, to, number) (changed_shift v nodes lawful few m base name r.0 r.1 r.2 key d.0 term from to number d.1))
+      flat_in operations_of entries e (Count (Shifts name key term from to) number) r.3 (⊎_elim
+      (λ same.
+      let own = subst (λ o. IsChangedCell v (changes_of m) base name (counted.Shifts term from o) number) same d.1 in
+      let grant = grant_in e (term, from, number) (changed_grant v nodes lawful few m base name r.0 r.1 r.2 key d.0 term from number own) in
+      subst (λ o. IsIn (Count (Shifts name key term from o) number) (operations_of e)) (sym same) grant)
+      (λ apart. shift_in e (term, from, to, number) (changed_shift v nodes lawful few m base name r.0 r.1 r.2 key d.0 term from to number apart d.1))
+      (cases_eq to from))
 
   -- ---- it can be written
 
   module _ (fit : EntriesFit entries) (names : length v.names ≤ 256) where
-    each_is : (e : EntryValue) → IsIn e entries → IsEntry nodes e × (length (entry_bytes e) ≤ 186802)
+    each_is : (e : EntryValue) → IsIn e entries → IsEntry nodes e × ((form : Form) → length (entry_bytes form e) ≤ 191924)
     each_is e h =
         let r = entry_member v base m ordered e h in
         let s = entry_since v r.name r.key base r.marks in
@@ -104,7 +99,8 @@ module _ (v : State) (nodes : ℕ) (lawful : IsLawfulState nodes v) (few : nodes
         let hits = few_hits_since v nodes lawful few m base r.name r.marks r.at r.ordered in
         let execs = few_execs_since v nodes lawful few m base r.name r.marks r.at r.ordered r.key r.keyed in
         let shifts = few_shifts_since v nodes lawful few m base r.name r.marks r.at r.ordered r.key r.keyed in
-        subst (λ x. IsEntry nodes x × (length (entry_bytes x) ≤ 186802)) (sym r.is) (is, entry_short nodes s is hits execs shifts)
+        let grants = few_grants_since v nodes lawful few m base r.name r.marks r.at r.ordered r.key r.keyed in
+        subst (λ x. IsEntry nodes x × ((form : Form) → length (entry_bytes form x) ≤ 191924)) (sym r.is) (is, entry_short nodes s is hits execs shifts grants)
 
     pub is_spelled : (n : MessageValue) → n.entries ≡ entries → n.from < nodes → n.to < nodes → n.to ≢ n.from → n.base < 2 ^ 64 → n.upto < 2 ^ 64 → n.ack < 2 ^ 64 → IsMessage nodes n
     is_spelled n same lt less apart b u a =
@@ -127,8 +123,10 @@ module _ (v : State) (nodes : ℕ) (lawful : IsLawfulState nodes v) (few : nodes
     pub is_short : (n : MessageValue) → n.entries ≡ entries → length (message_bytes n) ≤ max_message
     is_short n same =
         let most = few_entries v base m ordered lawful.ascending lawful.key_name in
-        let bytes = length_flat entry_bytes 186802 entries (λ e h. (each_is e h).1) in
-        rw same (omega (arith, most, names, bytes))
+        let form = form_of entries in
+        let bytes = length_flat (entry_bytes form) 191924 entries (λ e h. (each_is e h).1 form) in
+        let head = magic_short form in
+        rw same (simp length-append (omega (arith, most, names, bytes, head)))
 
 -- where the state can be told
 pub is_message_since : (v : VersionedValue) (m : Marks) (n : MessageValue) (nodes from to base : ℕ) → v.last ≡ changes_of m → AreUpto (marks_value m) v.version → CanBeTold nodes from to v.state

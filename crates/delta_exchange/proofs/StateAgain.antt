@@ -87,7 +87,7 @@ module _ (ops told : List Operation) (all : IsAllTold (fold ops) told) where
       (all (Count cell (number_at cell ops))).1 ((e, sym now), not))
   knows nodes lawful (Count (Shifts name key term from to) number) h =
       let cell = Shifts name key term from to in
-      let some = (lawful.each (Count cell number) h).6 in
+      let some = (lawful.each (Count cell number) h).5 in
       let upto = number_at-is_in cell number ops h in
       let not : number_at cell ops ≢ 0 = λ z. absurd (omega (arith, z, some, upto)) in
       under_key name key cell number (own_name name key) h (λ e.

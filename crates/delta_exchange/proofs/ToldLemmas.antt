@@ -19,10 +19,15 @@ entry_told nodes e h =
     let hit = λ (c : ℕ × ℕ). Count (Hits e.name c.0) c.1 in
     let exec = λ (c : ℕ × ℕ × ℕ). Count (Execs e.name e.key c.0 c.1) c.2 in
     let shift = λ (c : ℕ × ℕ × ℕ × ℕ). Count (Shifts e.name e.key c.0 c.1 c.2) c.3 in
+    let grant = λ (c : ℕ × ℕ × ℕ). Count (Shifts e.name e.key c.0 c.1 c.1) c.2 in
     let hits = each_told {Is = IsHit nodes} hit (λ c i. omega (arith, i.1)) e.hits h.hits in
     let execs = each_told {Is = IsExec nodes e.key} exec (λ c i. (omega (arith, i.2), i.0.0)) e.execs h.execs in
-    let shifts = each_told {Is = IsShift nodes e.key} shift (λ c i. (omega (arith, i.4), (λ same. i.3 (sym same)), i.0.0)) e.shifts h.shifts in
-    (tt, both (map hit e.hits) (map exec e.execs ++ map shift e.shifts) hits (both (map exec e.execs) (map shift e.shifts) execs shifts))
+    let shifts = each_told {Is = IsShift nodes e.key} shift (λ c i. (omega (arith, i.4), i.0.0)) e.shifts h.shifts in
+    let grants = each_told {Is = IsExec nodes e.key} grant (λ c i. (omega (arith, i.2), i.0.0)) e.grants h.grants in (
+      tt,
+      both (map hit e.hits) (map exec e.execs ++ (map shift e.shifts ++ map grant e.grants)) hits
+          (both (map exec e.execs) (map shift e.shifts ++ map grant e.grants) execs (both (map shift e.shifts) (map grant e.grants) shifts grants)),
+    )
 
 pub entries_told : (nodes : ℕ) (es : List EntryValue) → AllByRecursion (IsEntry nodes) es → AllByRecursion IsWellFormed (flat_map operations_of es)
 entries_told nodes [] h = tt

@@ -5,13 +5,13 @@ use Rattle.std.proofs.lemmas.List.{map-append, append-nil}
 use Rattle.std.proofs.lemmas.List.Concat.{flat_map-cons}
 use Rattle.std.proofs.lemmas.Grind.{flat_map-append}
 use Rattle.std.proofs.Math.Seq.{take-suc}
-use Rattle.replica_state.specs.Operations.{Operation, Set, Count, Hits, Execs, Shifts, IsIn}
+use Rattle.replica_state.specs.Operations.{Operation, Set, IsIn}
 use Rattle.replica_state.specs.States.{State}
 use Rattle.replica_state.specs.Folds.{fold}
 use Rattle.replica_state.proofs.Sets.{IsIn-append_left, IsIn-append_right, IsIn-append_cases}
 use Rattle.replica_state.proofs.KnownSets.{same_members}
 use Rattle.delta_exchange.specs.declared.message.NameEntry.{NameEntry}
-use Rattle.delta_exchange.specs.Messages.{EntryValue, entry_value, operations_of}
+use Rattle.delta_exchange.specs.Messages.{EntryValue, entry_value, hits_in, execs_in, shifts_in, grants_in, operations_of}
 use Rattle.delta_exchange.specs.Told.{HasLearned}
 
 -- what was learned last may stand behind what was learned before
@@ -36,12 +36,15 @@ module _ {C : Type 0} (told : C → Operation) (cells : List C) where
       next = ap (λ n. map told (take n cells)) (add-one i) ∙ ap (map told) (take-suc cells i d below) ∙ map-append told (take i cells) (get_or cells i d ∷ [])
 
 -- all that an entry tells
-pub learned_entry : (e : EntryValue) (u v w x y : State) → ((ops : List Operation) → u ≡ fold ops → v ≡ fold (Set e.name e.key ∷ ops)) → HasLearned v w (map (λ c. Count (Hits e.name c.0) c.1) e.hits) → HasLearned w x (map (λ c. Count (Execs e.name e.key c.0 c.1) c.2) e.execs) → HasLearned x y (map (λ c. Count (Shifts e.name e.key c.0 c.1 c.2) c.3) e.shifts) → HasLearned u y (operations_of e)
-learned_entry e u v w x y set hits execs shifts =
-    let h : List Operation = map (λ c. Count (Hits e.name c.0) c.1) e.hits in
-    let k : List Operation = map (λ c. Count (Execs e.name e.key c.0 c.1) c.2) e.execs in
-    let m : List Operation = map (λ c. Count (Shifts e.name e.key c.0 c.1 c.2) c.3) e.shifts in
-    learned_both u v y (Set e.name e.key ∷ []) (h ++ (k ++ m)) set (learned_both v w y h (k ++ m) hits (learned_both w x y k m execs shifts))
+pub learned_entry : (e : EntryValue) (u v w x y z : State) → ((ops : List Operation) → u ≡ fold ops → v ≡ fold (Set e.name e.key ∷ ops)) → HasLearned v w (hits_in e.name e.hits) → HasLearned w x (execs_in e.name e.key e.execs)
+    → HasLearned x y (shifts_in e.name e.key e.shifts) → HasLearned y z (grants_in e.name e.key e.grants) → HasLearned u z (operations_of e)
+learned_entry e u v w x y z set hits execs shifts grants =
+    let h = hits_in e.name e.hits in
+    let k = execs_in e.name e.key e.execs in
+    let m = shifts_in e.name e.key e.shifts in
+    let g = grants_in e.name e.key e.grants in
+    learned_both u v z (Set e.name e.key ∷ []) (h ++ (k ++ (m ++ g))) set
+    (learned_both v w z h (k ++ (m ++ g)) hits (learned_both w x z k (m ++ g) execs (learned_both x y z m g shifts grants)))
 
 -- what one more entry tells
 pub next_entry : (entries : List NameEntry) (i : ℕ) (d : NameEntry) → i < length entries → flat_map operations_of (map entry_value (take (i + 1) entries)) ≡ flat_map operations_of (map entry_value (take i entries)) ++ operations_of (entry_value (get_or entries i d))

@@ -32,6 +32,9 @@ module _ (nodes more : ℕ) (le : nodes ≤ more) where
     few_shifts = h.few_shifts;
     shifts = each_widens (shift_widens e.key) e.shifts h.shifts;
     shifts_ascend = h.shifts_ascend;
+    few_grants = h.few_grants;
+    grants = each_widens (exec_widens e.key) e.grants h.grants;
+    grants_ascend = h.grants_ascend;
   }
 
   pub message_widens : (m : MessageValue) → more ≤ 2 ^ 8 → IsMessage nodes m → IsMessage more m

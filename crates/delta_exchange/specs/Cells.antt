@@ -4,7 +4,7 @@ use Rattle.std.specs.List.{AllByRecursion}
 use Rattle.actions.specs.Limits.{max_terms}
 use Rattle.stamp_register.specs.Keys.{KeyValue}
 use Rattle.replica_state.specs.Operations.{count_of}
-use Rattle.replica_state.specs.States.{State}
+use Rattle.replica_state.specs.States.{State, granted_in}
 use Rattle.delta_exchange.specs.Messages.{EntryValue, MessageValue}
 
 -- the lists of the numbers below one, one after the other
@@ -20,19 +20,25 @@ cell_of (suc n) c = c ∷ []
 abbrev pub hit_cells : State → List ℕ → ℕ → List (ℕ × ℕ)
 hit_cells v name nodes = each_below (λ node. cell_of (v.hits name node) (node, v.hits name node)) nodes
 
--- the executions of a term, node by node
-abbrev pub exec_row : State → List ℕ → ℕ → ℕ → List (ℕ × ℕ × ℕ)
-exec_row v name nodes term =
-    each_below (λ node. cell_of (v.execs name term node) (term, node, v.execs name term node)) nodes
+-- what is counted of a term, node by node
+abbrev pub term_row : (ℕ → ℕ → ℕ) → ℕ → ℕ → List (ℕ × ℕ × ℕ)
+term_row number nodes term = each_below (λ node. cell_of (number term node) (term, node, number term node)) nodes
 
 -- of a term that the key doesn't count there is nothing
-abbrev pub exec_row_of : State → List ℕ → KeyValue → ℕ → ℕ → List (ℕ × ℕ × ℕ)
-exec_row_of v name key nodes term = if is_some (count_of key term) then exec_row v name nodes term else []
+abbrev pub term_row_of : (ℕ → ℕ → ℕ) → KeyValue → ℕ → ℕ → List (ℕ × ℕ × ℕ)
+term_row_of number key nodes term = if is_some (count_of key term) then term_row number nodes term else []
 
+abbrev pub term_cells : (ℕ → ℕ → ℕ) → KeyValue → ℕ → List (ℕ × ℕ × ℕ)
+term_cells number key nodes = each_below (term_row_of number key nodes) max_terms
+
+-- executions, and what was granted
 abbrev pub exec_cells : State → List ℕ → KeyValue → ℕ → List (ℕ × ℕ × ℕ)
-exec_cells v name key nodes = each_below (exec_row_of v name key nodes) max_terms
+exec_cells v name key nodes = term_cells (v.execs name) key nodes
 
--- what one node moved to another; to itself it is nothing
+abbrev pub grant_cells : State → List ℕ → KeyValue → ℕ → List (ℕ × ℕ × ℕ)
+grant_cells v name key nodes = term_cells (granted_in v name) key nodes
+
+-- what one node moved to another; what it moved to itself is told as its grant
 abbrev pub shift_cell : State → List ℕ → ℕ → ℕ → ℕ → List (ℕ × ℕ × ℕ × ℕ)
 shift_cell v name term from to =
     if to == from then [] else cell_of (v.shifts name term from to) (term, from, to, v.shifts name term from to)
@@ -58,6 +64,7 @@ entry_of v nodes name key = record {
   hits = hit_cells v name nodes;
   execs = exec_cells v name key nodes;
   shifts = shift_cells v name key nodes;
+  grants = grant_cells v name key nodes;
 }
 
 -- a name that has no key has no entry
@@ -88,7 +95,7 @@ abbrev pub ShiftsFit : List (ℕ × ℕ × ℕ × ℕ) → Type 0
 ShiftsFit cells = AllByRecursion (λ c. c.3 < 2 ^ 64) cells
 
 abbrev pub EntryFits : EntryValue → Type 0
-EntryFits e = HitsFit e.hits × ExecsFit e.execs × ShiftsFit e.shifts
+EntryFits e = HitsFit e.hits × ExecsFit e.execs × ShiftsFit e.shifts × ExecsFit e.grants
 
 abbrev pub EntriesFit : List EntryValue → Type 0
 EntriesFit es = AllByRecursion EntryFits es

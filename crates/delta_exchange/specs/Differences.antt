@@ -2,7 +2,7 @@
 use Rattle.std.specs.Prelude.{ℕ, ◌==◌, ◌&&◌, ◌||◌, not, Bool, false, List, [], ◌∷◌, if◌then◌else◌, Option, Some, None}
 use Rattle.std.specs.List.{filter, flat_map}
 use Rattle.stamp_register.specs.Keys.{KeyValue, same_key}
-use Rattle.replica_state.specs.States.{State}
+use Rattle.replica_state.specs.States.{State, granted_in}
 use Rattle.delta_exchange.specs.Messages.{EntryValue, MessageValue}
 use Rattle.delta_exchange.specs.Cells.{entries_of}
 use Rattle.delta_exchange.specs.Since.{tells_cells}
@@ -11,7 +11,7 @@ abbrev pub is_key : Option KeyValue → KeyValue → Bool
 is_key None key = false
 is_key (Some held) key = same_key held key
 
--- whether a state tells this key of a name; these hits; or, under this key, these executions or shifts
+-- whether a state tells this key of a name; these hits; or, under this key, these executions, shifts or grants
 abbrev pub tells_key : State → List ℕ → KeyValue → Bool
 tells_key v name key = is_key (v.key name) key
 
@@ -24,6 +24,9 @@ tells_execs v name key c = tells_key v name key && (v.execs name c.0 c.1 == c.2)
 abbrev pub tells_shifts : State → List ℕ → KeyValue → ℕ × ℕ × ℕ × ℕ → Bool
 tells_shifts v name key c = tells_key v name key && (v.shifts name c.0 c.1 c.2 == c.3)
 
+abbrev pub tells_grants : State → List ℕ → KeyValue → ℕ × ℕ × ℕ → Bool
+tells_grants v name key c = tells_key v name key && (granted_in v name c.0 c.1 == c.2)
+
 -- an entry with just those of its cells that a state doesn't tell
 abbrev pub untold_cells : State → EntryValue → EntryValue
 untold_cells v e = record {
@@ -32,6 +35,7 @@ untold_cells v e = record {
   hits = filter (λ c. not (tells_hits v e.name c)) e.hits;
   execs = filter (λ c. not (tells_execs v e.name e.key c)) e.execs;
   shifts = filter (λ c. not (tells_shifts v e.name e.key c)) e.shifts;
+  grants = filter (λ c. not (tells_grants v e.name e.key c)) e.grants;
 }
 
 -- left out where the state tells its key and no cell is left

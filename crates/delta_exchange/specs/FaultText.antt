@@ -18,3 +18,4 @@ wire_fault_text (faults.ZeroCell i) = codes "W10 ZeroCell offset=" ++ decimal i
 wire_fault_text (faults.BadTerm i) = codes "W11 BadTerm offset=" ++ decimal i
 wire_fault_text (faults.TooBig i) = codes "W12 TooBig offset=" ++ decimal i
 wire_fault_text faults.OutOfMemory = codes "W13 OutOfMemory"
+wire_fault_text (faults.NoGrant i) = codes "W14 NoGrant offset=" ++ decimal i

@@ -1,6 +1,7 @@
 -- Reading a message from left to right, with the first fault. `all` is the number of its bytes, and
 -- `left` those that are left to be read.
 use Rattle.std.specs.Prelude.{◌≡◌, ℕ, zero, suc, ◌-◌, ◌==◌, ◌&&◌, not, Bool, true, false, nat_lt, nat_le, List, [], ◌∷◌, length, take, drop, bytes_eq, Option, Some, None, is_some, option_map, Result, Ok, Err, if◌then◌else◌}
+use Rattle.std.specs.List.{list_any}
 use Rattle.std.specs.Int.{Width, w16, w64, byte_len, from_be_bytes}
 use Rattle.std.specs.Str.{is_utf8}
 use Rattle.std.specs.Ordering.{nat_cmp, is_lt}
@@ -16,8 +17,10 @@ use Rattle.stamp_register.specs.Keys.{KeyValue}
 use Rattle.replica_state.specs.Operations.{count_of}
 use Rattle.delta_exchange.specs.declared.fault.WireFault.{WireFault}
 use Rattle.delta_exchange.specs.declared.fault.WireFault.TheVariants as faults
+use Rattle.delta_exchange.specs.declared.wire.Form.{Form}
+use Rattle.delta_exchange.specs.declared.wire.Form.TheVariants.{Plain, WithGrants}
 use Rattle.delta_exchange.specs.Messages.{EntryValue, MessageValue}
-use Rattle.delta_exchange.specs.Spelling.{max_message, magic, hit_place, exec_place, shift_place}
+use Rattle.delta_exchange.specs.Spelling.{max_message, magic, has_grants, hit_place, exec_place, shift_place}
 
 -- memory was refused
 abbrev pub is_want_of_memory : WireFault → Bool
@@ -144,6 +147,11 @@ shifts_at all nodes key left = do
   count ← number_at all w16 left
   each_at (shift_at all nodes key) count.0 None count.1
 
+-- the grants of a name, of which a plain message has none
+unfoldable pub grants_at : ℕ → ℕ → KeyValue → Form → List ℕ → Result (List (ℕ × ℕ × ℕ) × List ℕ) WireFault
+grants_at all nodes key Plain left = Ok ([], left)
+grants_at all nodes key WithGrants left = execs_at all nodes key left
+
 -- ---- names and keys
 
 unfoldable pub name_at : ℕ → Option (List ℕ) → List ℕ → Result (List ℕ × List ℕ) WireFault
@@ -186,27 +194,45 @@ key_at all nodes left = do
   Ok (record { clock = clock.0; node = node.0; body = body.0 }, body.1)
 
 -- the entry after another one
-unfoldable pub entry_at : ℕ → ℕ → Option EntryValue → List ℕ → Result (EntryValue × List ℕ) WireFault
-entry_at all nodes last left = do
+unfoldable pub entry_at : ℕ → ℕ → Form → Option EntryValue → List ℕ → Result (EntryValue × List ℕ) WireFault
+entry_at all nodes form last left = do
   name ← name_at all (option_map (λ e. e.name) last) left
   key ← key_at all nodes name.1
   hits ← hits_at all nodes key.1
   execs ← execs_at all nodes key.0 hits.1
   shifts ← shifts_at all nodes key.0 execs.1
-  Ok (record { name = name.0; key = key.0; hits = hits.0; execs = execs.0; shifts = shifts.0 }, shifts.1)
+  grants ← grants_at all nodes key.0 form shifts.1
+  Ok (
+    record {
+      name = name.0;
+      key = key.0;
+      hits = hits.0;
+      execs = execs.0;
+      shifts = shifts.0;
+      grants = grants.0;
+    },
+    grants.1,
+  )
 
-unfoldable pub entries_at : ℕ → ℕ → List ℕ → Result (List EntryValue × List ℕ) WireFault
-entries_at all nodes left = do
+unfoldable pub entries_at : ℕ → ℕ → Form → List ℕ → Result (List EntryValue × List ℕ) WireFault
+entries_at all nodes form left = do
   count ← number_at all w16 left
-  each_at (entry_at all nodes) count.0 None count.1
+  each_at (entry_at all nodes form) count.0 None count.1
 
 -- ---- the message
 
--- what is left after the first four bytes
-unfoldable pub magic_at : ℕ → List ℕ → Result (List ℕ) WireFault
+-- the form that the first four bytes say
+unfoldable pub magic_at : ℕ → List ℕ → Result (Form × List ℕ) WireFault
 magic_at all left = do
   first ← bytes_at all 4 left
-  wants (bytes_eq first.0 magic) (faults.Magic (offset all left)) first.1
+  (if bytes_eq first.0 (magic Plain) then Ok (Plain, first.1)
+      else if bytes_eq first.0 (magic WithGrants) then Ok (WithGrants, first.1)
+      else Err (faults.Magic (offset all left)))
+
+-- the form is that of a message of these entries: only one with grants can be another
+abbrev pub is_form_of : Form → List EntryValue → Bool
+is_form_of Plain es = true
+is_form_of WithGrants es = list_any has_grants es
 
 -- base, upto and ack
 unfoldable pub versions_at : ℕ → List ℕ → Result ((ℕ × ℕ × ℕ) × List ℕ) WireFault
@@ -219,21 +245,22 @@ versions_at all left = do
 -- the fields before the entries: from, to and the versions
 unfoldable pub header_at : ℕ → ℕ → List ℕ → Result ((ℕ × ℕ × (ℕ × ℕ × ℕ)) × List ℕ) WireFault
 header_at all nodes left = do
-  after ← magic_at all left
-  from ← node_at all nodes after
+  form ← magic_at all left
+  from ← node_at all nodes form.1
   to ← other_node_at all nodes from.0 from.1
   versions ← versions_at all to.1
   Ok ((from.0, to.0, versions.0), versions.1)
 
--- all fields, after which no bytes are left
+-- all fields, after which no bytes are left; where the form says so, some of them are grants
 unfoldable pub fields_at : ℕ → ℕ → List ℕ → Result MessageValue WireFault
 fields_at all nodes left = do
-  after ← magic_at all left
-  from ← node_at all nodes after
+  form ← magic_at all left
+  from ← node_at all nodes form.1
   to ← other_node_at all nodes from.0 from.1
   versions ← versions_at all to.1
-  entries ← entries_at all nodes versions.1
-  wants (length entries.1 == 0) (faults.Long (offset all entries.1)) (record {
+  read ← entries_at all nodes form.0 versions.1
+  entries ← wants (length read.1 == 0) (faults.Long (offset all read.1)) read
+  wants (is_form_of form.0 entries.0) (faults.NoGrant (offset all left)) (record {
     from = from.0;
     to = to.0;
     base = versions.0.0;

@@ -1,11 +1,11 @@
 -- What changed of a replica with versions after one of them: what a message tells of it, and which
 -- entries that makes, by the marks.
-use Rattle.std.specs.Prelude.{◌≡◌, ◌≢◌, ℕ, ◌<◌, ◌≤◌, ◌↔◌, ◌||◌, Bool, nat_lt, List, [], ◌∷◌, length, if◌then◌else◌, Option, Some, None, IsSome}
+use Rattle.std.specs.Prelude.{◌≡◌, ◌≢◌, ℕ, ◌<◌, ◌≤◌, ◌↔◌, ◌==◌, ◌||◌, Bool, nat_lt, List, [], ◌∷◌, length, if◌then◌else◌, Option, Some, None, IsSome}
 use Rattle.std.specs.List.{flat_map}
 use Rattle.std.specs.BTreeMap.{IsOrdered}
 use Rattle.stamp_register.specs.Keys.{KeyValue}
 use Rattle.replica_state.specs.Operations.{Operation, IsIn}
-use Rattle.replica_state.specs.States.{State}
+use Rattle.replica_state.specs.States.{State, granted_in}
 use Rattle.replica_state.specs.Folds.{fold}
 use Rattle.replica_state.specs.Points.{counted_cmp, is_hits}
 use Rattle.replica_state.specs.declared.point.Counted.{Counted}
@@ -57,7 +57,15 @@ exec_of v name (Shifts term from to) = []
 abbrev pub shift_of : State → List ℕ → Counted → List (ℕ × ℕ × ℕ × ℕ)
 shift_of v name (Hits node) = []
 shift_of v name (Execs term node) = []
-shift_of v name (Shifts term from to) = cell_of (v.shifts name term from to) (term, from, to, v.shifts name term from to)
+shift_of v name (Shifts term from to) =
+    if to == from then [] else cell_of (v.shifts name term from to) (term, from, to, v.shifts name term from to)
+
+-- what a node moved to itself, as its grant
+abbrev pub grant_of : State → List ℕ → Counted → List (ℕ × ℕ × ℕ)
+grant_of v name (Hits node) = []
+grant_of v name (Execs term node) = []
+grant_of v name (Shifts term from to) =
+    if to == from then cell_of (granted_in v name term from) (term, from, granted_in v name term from) else []
 
 -- what changed after a version, by its mark and the key's
 abbrev pub later : {C : Type 0} → ℕ → ℕ → (Counted → List C) → Counted × ℕ → List C
@@ -72,6 +80,9 @@ execs_since v name base marks = flat_map (later marks.key base (exec_of v name))
 abbrev pub shifts_since : State → List ℕ → ℕ → NameMarks → List (ℕ × ℕ × ℕ × ℕ)
 shifts_since v name base marks = flat_map (later marks.key base (shift_of v name)) marks.cells.entries
 
+abbrev pub grants_since : State → List ℕ → ℕ → NameMarks → List (ℕ × ℕ × ℕ)
+grants_since v name base marks = flat_map (later marks.key base (grant_of v name)) marks.cells.entries
+
 abbrev pub entry_since : State → List ℕ → KeyValue → ℕ → NameMarks → EntryValue
 entry_since v name key base marks = record {
   name = name;
@@ -79,11 +90,14 @@ entry_since v name key base marks = record {
   hits = hits_since v name base marks;
   execs = execs_since v name base marks;
   shifts = shifts_since v name base marks;
+  grants = grants_since v name base marks;
 }
 
 -- whether an entry tells a cell
 abbrev pub tells_cells : EntryValue → Bool
-tells_cells e = nat_lt 0 (length e.hits) || (nat_lt 0 (length e.execs) || nat_lt 0 (length e.shifts))
+tells_cells e =
+    nat_lt 0 (length e.hits) || (nat_lt 0 (length e.execs)
+    || (nat_lt 0 (length e.shifts) || nat_lt 0 (length e.grants)))
 
 -- an entry, where its key changed or it tells a cell
 abbrev pub entry_told : ℕ → NameMarks → EntryValue → List EntryValue

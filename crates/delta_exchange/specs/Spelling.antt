@@ -1,6 +1,6 @@
 -- The bytes of a message, field by field, and which messages have them. Numbers are big endian.
-use Rattle.std.specs.Prelude.{◌≡◌, ◌≢◌, ℕ, ◌<◌, ◌≤◌, ◌^◌, List, [], ◌∷◌, ◌++◌, length, map, Option, Some, None, is_some, IsTrue, codes}
-use Rattle.std.specs.List.{flat_map, AllByRecursion}
+use Rattle.std.specs.Prelude.{◌≡◌, ◌≢◌, ℕ, ◌<◌, ◌≤◌, ◌^◌, Bool, nat_lt, if◌then◌else◌, List, [], ◌∷◌, ◌++◌, length, map, Option, Some, None, is_some, IsTrue, codes}
+use Rattle.std.specs.List.{flat_map, list_any, AllByRecursion}
 use Rattle.std.specs.List.Sorted.{IsStrictlySortedBy}
 use Rattle.std.specs.Int.{w16, w64, to_be_bytes}
 use Rattle.std.specs.Str.{IsUtf8}
@@ -12,6 +12,8 @@ use Rattle.actions.specs.Canonical.{canonical}
 use Rattle.actions.specs.Names.{is_name}
 use Rattle.stamp_register.specs.Keys.{KeyValue}
 use Rattle.replica_state.specs.Operations.{count_of}
+use Rattle.delta_exchange.specs.declared.wire.Form.{Form}
+use Rattle.delta_exchange.specs.declared.wire.Form.TheVariants.{Plain, WithGrants}
 use Rattle.delta_exchange.specs.Messages.{EntryValue, MessageValue}
 
 -- the most bytes of a message
@@ -20,8 +22,17 @@ max_message = 67108864
 
 -- ---- the bytes
 
-abbrev pub magic : List ℕ
-magic = codes "FPG1"
+-- a message that tells no grant, and one that does: in that each name ends with its grants
+abbrev pub magic : Form → List ℕ
+magic Plain = codes "FPG1"
+magic WithGrants = codes "FPG2"
+
+-- whether an entry tells a grant, and the form of a message of these entries
+abbrev pub has_grants : EntryValue → Bool
+has_grants e = nat_lt 0 (length e.grants)
+
+abbrev pub form_of : List EntryValue → Form
+form_of es = if list_any has_grants es then WithGrants else Plain
 
 -- a node and its hits
 abbrev pub hit_bytes : ℕ × ℕ → List ℕ
@@ -53,21 +64,29 @@ execs_bytes cells = to_be_bytes w16 (length cells) ++ flat_map exec_bytes cells
 abbrev pub shifts_bytes : List (ℕ × ℕ × ℕ × ℕ) → List ℕ
 shifts_bytes cells = to_be_bytes w16 (length cells) ++ flat_map shift_bytes cells
 
+-- a term, a node and the rights that it granted, as of executions
+abbrev pub grants_bytes : Form → List (ℕ × ℕ × ℕ) → List ℕ
+grants_bytes Plain cells = []
+grants_bytes WithGrants cells = execs_bytes cells
+
 abbrev pub name_bytes : List ℕ → List ℕ
 name_bytes name = length name ∷ name
 
-abbrev pub entry_bytes : EntryValue → List ℕ
-entry_bytes e =
-    name_bytes e.name ++ (key_bytes e.key ++ (hits_bytes e.hits ++ (execs_bytes e.execs ++ shifts_bytes e.shifts)))
+abbrev pub entry_bytes : Form → EntryValue → List ℕ
+entry_bytes form e =
+    name_bytes e.name ++ (key_bytes e.key ++ (hits_bytes e.hits ++ (execs_bytes e.execs
+    ++ (shifts_bytes e.shifts ++ grants_bytes form e.grants))))
 
-abbrev pub entries_bytes : List EntryValue → List ℕ
-entries_bytes es = to_be_bytes w16 (length es) ++ flat_map entry_bytes es
+abbrev pub entries_bytes : Form → List EntryValue → List ℕ
+entries_bytes form es = to_be_bytes w16 (length es) ++ flat_map (entry_bytes form) es
 
 abbrev pub versions_bytes : MessageValue → List ℕ
 versions_bytes m = to_be_bytes w64 m.base ++ (to_be_bytes w64 m.upto ++ to_be_bytes w64 m.ack)
 
 abbrev pub message_bytes : MessageValue → List ℕ
-message_bytes m = magic ++ (m.from ∷ m.to ∷ (versions_bytes m ++ entries_bytes m.entries))
+message_bytes m =
+    let form = form_of m.entries in
+    magic form ++ (m.from ∷ m.to ∷ (versions_bytes m ++ entries_bytes form m.entries))
 
 -- ---- what has a spelling
 
@@ -102,6 +121,13 @@ IsExec nodes key c = IsCountedTerm key c.0 × (c.1 < nodes) × IsCount c.2
 abbrev pub IsShift : ℕ → KeyValue → ℕ × ℕ × ℕ × ℕ → Type 0
 IsShift nodes key c = IsCountedTerm key c.0 × (c.1 < nodes) × (c.2 < nodes) × (c.2 ≢ c.1) × IsCount c.3
 
+-- what a node granted, as what it executed
+abbrev pub IsGrant : ℕ → KeyValue → ℕ × ℕ × ℕ → Type 0
+IsGrant nodes key c = IsExec nodes key c
+
+abbrev pub grant_place : ℕ × ℕ × ℕ → List ℕ
+grant_place c = exec_place c
+
 -- the canonical text of some actions
 abbrev pub IsCanonicalText : List ℕ → Type 0
 IsCanonicalText text = IsUtf8 text × (terms : List TermValue) × SpellsActions text terms × (text ≡ canonical terms)
@@ -127,6 +153,9 @@ pub record IsEntry (nodes : ℕ) (e : EntryValue) : Type 0 where
   pub few_shifts : length e.shifts < 2 ^ 16
   pub shifts : AllByRecursion (IsShift nodes e.key) e.shifts
   pub shifts_ascend : Ascend (map shift_place e.shifts)
+  pub few_grants : length e.grants < 2 ^ 16
+  pub grants : AllByRecursion (IsGrant nodes e.key) e.grants
+  pub grants_ascend : Ascend (map grant_place e.grants)
 
 -- entries in the order of their names
 pub record AreEntries (nodes : ℕ) (es : List EntryValue) : Type 0 where

@@ -1,5 +1,5 @@
 -- All that a node knows, as a message: which operations a node may know, and what it then tells.
-use Rattle.std.specs.Prelude.{◌≡◌, ◌≢◌, ℕ, ◌<◌, ◌≤◌, List, length, IsTrue, is_some}
+use Rattle.std.specs.Prelude.{◌≡◌, ℕ, ◌<◌, ◌≤◌, List, length, IsTrue, is_some}
 use Rattle.actions.specs.Names.{is_name}
 use Rattle.replica_state.specs.Operations.{Operation, Set, Count, Hits, Execs, Shifts, IsIn}
 use Rattle.replica_state.specs.States.{State}
@@ -16,7 +16,7 @@ IsLawful nodes (Count (Execs name key term node) number) =
     IsTrue (is_name name) × IsKey nodes key × IsCountedTerm key term × (node < nodes) × (0 < number)
 IsLawful nodes (Count (Shifts name key term from to) number) =
     IsTrue (is_name name) × IsKey nodes key × IsCountedTerm key term
-    × (from < nodes) × (to < nodes) × (to ≢ from) × (0 < number)
+    × (from < nodes) × (to < nodes) × (0 < number)
 
 -- each operation can be told, and a point that was passed has a key
 pub record AreLawful (nodes : ℕ) (ops : List Operation) : Type 0 where

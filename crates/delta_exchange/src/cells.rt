@@ -3,10 +3,10 @@
 ghost use Rattle.std.specs.Prelude.{◌≡◌, is_some};
 ghost use Rattle.stamp_register.specs.Keys.{key_value};
 ghost use Rattle.replica_state.specs.Operations.{count_of};
-ghost use Rattle.delta_exchange.specs.Reading.{Gives, value_at, term_at, hit_at, exec_at, shift_at, hits_at, execs_at, shifts_at};
+ghost use Rattle.delta_exchange.specs.Reading.{Gives, value_at, term_at, hit_at, exec_at, shift_at, hits_at, execs_at, shifts_at, grants_at};
 
 use crate::fault::WireFault;
-use crate::wire::{Whole, read_byte, read_node, read_other_node, read_u16, read_u64};
+use crate::wire::{Form, Whole, read_byte, read_node, read_other_node, read_u16, read_u64};
 use stamp_register::Key;
 use std::alloc::Global;
 
@@ -176,4 +176,22 @@ pub(crate) fn read_shifts<'a>(
         rest = after;
     }
     Ok((shifts, rest))
+}
+
+/// The granted rights under a key, of which a plain message tells none.
+#[tactic(auto, unfolding(crate::specs::Reading::grants_at))]
+pub(crate) fn read_grants<'a>(
+    alloc: Global,
+    whole: Whole,
+    key: &Key,
+    form: Form,
+    bytes: &'a [u8],
+) -> Result<(Vec<(u8, u8, u64)>, &'a [u8]), WireFault>
+    ensures { Gives (λ x. (x.0.items, x.1.now)) result
+        (grants_at whole.len whole.nodes (key_value key.now) form bytes.now) }
+{
+    match form {
+        Form::Plain => Ok((Vec::new(alloc), bytes)),
+        Form::WithGrants => read_execs(alloc, whole, key, bytes),
+    }
 }

@@ -7,10 +7,12 @@ ghost use Rattle.stamp_register.specs.Keys.{key_value, body_value};
 ghost use Rattle.delta_exchange.specs.Messages.{entry_value};
 ghost use Rattle.delta_exchange.specs.Reading.{Gives, wants, is_above, is_canonical_text, name_at, text_at, body_at, key_at, entry_at};
 
-use crate::cells::{read_execs, read_hits, read_shifts};
+use crate::cells::{read_execs, read_grants, read_hits, read_shifts};
 use crate::fault::WireFault;
 use crate::message::NameEntry;
-use crate::wire::{REMOVED, SET, Whole, read_byte, read_bytes, read_node, read_u16, read_u64};
+use crate::wire::{
+    Form, REMOVED, SET, Whole, read_byte, read_bytes, read_node, read_u16, read_u64,
+};
 use actions::{ActionFault, Actions, Name, NameFault, parse_actions};
 use stamp_register::{Body, Key};
 use std::alloc::Global;
@@ -139,23 +141,27 @@ fn read_key(alloc: Global, whole: Whole, rest: &[u8]) -> Result<(Key, &[u8]), Wi
 pub(crate) fn read_entry<'a>(
     alloc: Global,
     whole: Whole,
+    form: Form,
     last: Option<&NameEntry>,
     rest: &'a [u8],
 ) -> Result<(NameEntry, &'a [u8]), WireFault>
     ensures { Gives (λ x. (entry_value x.0, x.1.now)) result
-        (entry_at whole.len whole.nodes (option_map (λ e. entry_value e.now) last.entry) rest.now) }
+        (entry_at whole.len whole.nodes form
+        (option_map (λ e. entry_value e.now) last.entry) rest.now) }
 {
     let (name, rest) = read_name(alloc, whole, last.map(|entry| &entry.name), rest)?;
     let (key, rest) = read_key(alloc, whole, rest)?;
     let (hits, rest) = read_hits(alloc, whole, rest)?;
     let (execs, rest) = read_execs(alloc, whole, &key, rest)?;
     let (shifts, rest) = read_shifts(alloc, whole, &key, rest)?;
+    let (grants, rest) = read_grants(alloc, whole, &key, form, rest)?;
     let entry = NameEntry {
         name,
         key,
         hits,
         execs,
         shifts,
+        grants,
     };
     Ok((entry, rest))
 }

@@ -11,13 +11,13 @@ use std::fmt;
 ///
 /// That they are too many is tested first. Then they are read field by field, and the first fault
 /// is the answer: a field is `Short` where its bytes aren't all there, before its value is looked
-/// at. `offset` is how many bytes stand before the field or, for `CellOrder`, before the cell. Want
-/// of memory may be answered in place of any other fault.
+/// at. `NoGrant` is tested last. `offset` is how many bytes stand before the field or, for
+/// `CellOrder`, before the cell. Want of memory may be answered in place of any other fault.
 ///
 /// `Display` shows a number, the variant's name and its field as `field=value`.
 #[derive(Clone, Copy, Debug, PartialEq, Eq)]
 pub enum WireFault {
-    /// The first four bytes aren't those that each message has.
+    /// The first four bytes aren't those of a message without grants, nor of one with some.
     Magic { offset: usize },
     /// The bytes end before the end of the field that begins here.
     Short { offset: usize },
@@ -43,6 +43,9 @@ pub enum WireFault {
     TooBig { offset: usize },
     /// Memory was refused.
     OutOfMemory,
+    /// The first four bytes, which stand at the offset, are those of a message with grants, and none
+    /// is told.
+    NoGrant { offset: usize },
 }
 
 impl From<AllocError> for WireFault {
@@ -82,6 +85,7 @@ impl fmt::Display for WireFault {
             WireFault::BadTerm { offset } => write!(f, "W11 BadTerm offset={offset}"),
             WireFault::TooBig { offset } => write!(f, "W12 TooBig offset={offset}"),
             WireFault::OutOfMemory => f.write_str("W13 OutOfMemory"),
+            WireFault::NoGrant { offset } => write!(f, "W14 NoGrant offset={offset}"),
         }
     }
 }

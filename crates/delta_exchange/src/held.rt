@@ -3,11 +3,12 @@
 ghost use Rattle.std.specs.Prelude.{◌≡◌, ◌≢◌, ◌<◌, ◌≤◌, ◌++◌, List, length, map, slice_get, IfOk, OnOk};
 ghost use Rattle.stamp_register.specs.Keys.{key_value};
 ghost use Rattle.replica_state.specs.Operations.{Operation};
+ghost use Rattle.replica_state.specs.States.{granted_in};
 ghost use Rattle.replica_state.specs.Folds.{fold};
 ghost use Rattle.delta_exchange.specs.Limits.{max_nodes, max_names};
 ghost use Rattle.delta_exchange.specs.Messages.{entry_value, message_value};
 ghost use Rattle.delta_exchange.specs.Wholes.{AreLawful, IsWhole};
-ghost use Rattle.delta_exchange.specs.Cells.{hit_cells, exec_row, exec_cells, shift_row, shift_rows, shift_cells, entry_of, entry_at, entries_of, whole_of, HitsFit, ExecsFit, ShiftsFit, EntryFits, EntriesFit};
+ghost use Rattle.delta_exchange.specs.Cells.{hit_cells, term_row, exec_cells, grant_cells, shift_row, shift_rows, shift_cells, entry_of, entry_at, entries_of, whole_of, HitsFit, ExecsFit, ShiftsFit, EntryFits, EntriesFit};
 
 use crate::cells::is_counted;
 use crate::message::{Message, NameEntry};
@@ -52,7 +53,7 @@ fn push_execs<R: Replica>(
 ) -> Result<(), AllocError>
     ensures fit { OnOk result (ExecsFit execs.old.items → ExecsFit execs.new.items) }
     ensures cells { OnOk result (execs.new.items
-        ≡ execs.old.items ++ exec_row (R.state replica.now) name.now nodes term) }
+        ≡ execs.old.items ++ term_row ((R.state replica.now).execs name.now) nodes term) }
 {
     for node in 0..nodes {
         let number = replica.exec(name, term, node);
@@ -149,6 +150,50 @@ fn shifts_of<R: Replica>(
     Ok(shifts)
 }
 
+/// Adds what was granted of the rights to a term, by node.
+#[tactic(auto, unfolding(crate::specs::Cells::each_below))]
+fn push_grants<R: Replica>(
+    grants: &mut Vec<(u8, u8, u64)>,
+    replica: &R,
+    nodes: u8,
+    name: &Name,
+    term: u8,
+) -> Result<(), AllocError>
+    ensures fit { OnOk result (ExecsFit grants.old.items → ExecsFit grants.new.items) }
+    ensures cells { OnOk result (grants.new.items
+        ≡ grants.old.items ++ term_row (granted_in (R.state replica.now) name.now) nodes term) }
+{
+    for node in 0..nodes {
+        let number = replica.granted(name, term, node);
+        if number != 0 {
+            grants.push((term, node, number))?;
+        }
+    }
+    Ok(())
+}
+
+/// What was granted of the rights to the counted terms of a key, by term and node.
+#[tactic(auto, unfolding(crate::specs::Cells::each_below))]
+fn grants_of<R: Replica>(
+    alloc: Global,
+    replica: &R,
+    nodes: u8,
+    name: &Name,
+    key: &Key,
+) -> Result<Vec<(u8, u8, u64)>, AllocError>
+    ensures fit { IfOk result (λ cells. ExecsFit cells.items) }
+    ensures cells { IfOk result (λ cells. cells.items
+        ≡ grant_cells (R.state replica.now) name.now (key_value key.now) nodes) }
+{
+    let mut grants = Vec::new(alloc);
+    for term in 0..MAX_TERMS {
+        if is_counted(key, term) {
+            push_grants(&mut grants, replica, nodes, name, term)?;
+        }
+    }
+    Ok(grants)
+}
+
 /// What a replica holds of a name under its key.
 fn held_entry<R: Replica>(
     alloc: Global,
@@ -167,6 +212,7 @@ fn held_entry<R: Replica>(
         hits: hits_of(alloc, replica, nodes, name)?,
         execs: execs_of(alloc, replica, nodes, name, key)?,
         shifts: shifts_of(alloc, replica, nodes, name, key)?,
+        grants: grants_of(alloc, replica, nodes, name, key)?,
     })
 }
 

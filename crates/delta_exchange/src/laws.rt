@@ -4,7 +4,7 @@ ghost use Rattle.std.specs.Prelude.{◌≡◌, ◌≤◌, ℕ, List, length, Ok}
 ghost use Rattle.std.specs.List.{AllByRecursion};
 ghost use Rattle.replica_state.specs.Operations.{Operation, IsWellFormed};
 ghost use Rattle.replica_state.specs.Folds.{fold};
-ghost use Rattle.delta_exchange.specs.Messages.{MessageValue, TellSame, operations_in};
+ghost use Rattle.delta_exchange.specs.Messages.{MessageValue, MovesToOthers, TellSame, operations_in};
 ghost use Rattle.delta_exchange.specs.Spelling.{IsMessage, SpellsMessage, message_bytes, max_message};
 ghost use Rattle.delta_exchange.specs.Reading.{message_at};
 ghost use Rattle.delta_exchange.specs.Wholes.{AreLawful, IsWhole};
@@ -15,10 +15,12 @@ pub fn bytes_spell_one_message()
         → SpellsMessage nodes bytes m → SpellsMessage others bytes n → m ≡ n }
 {}
 
-/// Messages with the same fields before their entries that tell the same operations are one, and so
-/// no two byte strings are read as such messages.
+/// Messages with the same fields before their entries that tell the same operations are one, where
+/// no shift goes from a node to itself, as in each message that is read. So no two byte strings are
+/// read as such messages.
 pub fn told_operations_fix_bytes(nodes: u8, a: &[u8], b: &[u8])
-    ensures message { (m n : MessageValue) → TellSame m n → m ≡ n }
+    ensures message { (m n : MessageValue) → MovesToOthers m → MovesToOthers n
+        → TellSame m n → m ≡ n }
     ensures bytes { (m n : MessageValue) → message_at nodes a.now ≡ Ok m
         → message_at nodes b.now ≡ Ok n → TellSame m n → a.now ≡ b.now }
 {}
@@ -29,8 +31,8 @@ pub fn decoded_again()
         → length (message_bytes m) ≤ max_message → message_at nodes (message_bytes m) ≡ Ok m }
 {}
 
-/// What a message tells is well formed: each number is from 1 on, and what is executed or shifted
-/// is counted.
+/// What a message tells is well formed: each number is from 1 on, and what is executed, shifted
+/// or granted is counted.
 pub fn told_operations_are_well_formed()
     ensures { (nodes : ℕ) (m : MessageValue) → IsMessage nodes m
         → AllByRecursion IsWellFormed (operations_in m) }

@@ -3,7 +3,7 @@
 ghost use Rattle.std.specs.Prelude.{◌≡◌, ℕ, Some, None, IfOk, OnOk};
 ghost use Rattle.stamp_register.specs.Keys.{key_value};
 ghost use Rattle.replica_state.specs.Folds.{fold};
-ghost use Rattle.delta_exchange.specs.Messages.{entry_value, message_value, operations_of, operations_in, hits_in, execs_in, shifts_in};
+ghost use Rattle.delta_exchange.specs.Messages.{entry_value, message_value, operations_of, operations_in, hits_in, execs_in, shifts_in, grants_in};
 ghost use Rattle.delta_exchange.specs.Spelling.{IsEntry, IsMessage};
 ghost use Rattle.delta_exchange.specs.Told.{HasKeyOf, HasLearned};
 
@@ -70,6 +70,27 @@ fn learn_shifts<R: Replica>(
     Ok(())
 }
 
+fn learn_grants<R: Replica>(
+    replica: &mut R,
+    alloc: Global,
+    entry: &NameEntry,
+) -> Result<(), AllocError>
+    requires entry { (nodes : ℕ) × IsEntry nodes (entry_value entry.now) }
+    requires keyed { HasKeyOf (R.state replica.old) entry.now.name (Some (key_value entry.now.key)) }
+    ensures { OnOk result (HasLearned (R.state replica.old) (R.state replica.new)
+        (grants_in entry.now.name (key_value entry.now.key) entry.now.grants.items)) }
+{
+    for (term, node, total) in &entry.grants {
+        let grants = Counted::Shifts {
+            term: *term,
+            from: *node,
+            to: *node,
+        };
+        replica.learn_count(alloc, &entry.name, grants.times(*total))?;
+    }
+    Ok(())
+}
+
 // Learns an entry of a name that has no key yet.
 fn learn_entry<R: Replica>(
     replica: &mut R,
@@ -84,7 +105,8 @@ fn learn_entry<R: Replica>(
     replica.learn(alloc, &entry.name, &entry.key, None)?;
     learn_hits(replica, alloc, entry)?;
     learn_execs(replica, alloc, entry)?;
-    learn_shifts(replica, alloc, entry)
+    learn_shifts(replica, alloc, entry)?;
+    learn_grants(replica, alloc, entry)
 }
 
 /// A replica that knows just what a message tells. The message's nodes are those of some cluster,

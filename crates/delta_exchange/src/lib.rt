@@ -4,7 +4,7 @@
 //!
 //! | Field | Bytes |
 //! |---|---|
-//! | `FPG1` | 4 |
+//! | `FPG1`, or `FPG2` where a grant is told | 4 |
 //! | the sender, the receiver | 1 each |
 //! | base, upto, ack | 8 each |
 //! | how many names there are | 2 |
@@ -14,6 +14,7 @@
 //! | how many nodes have hits; for each the node, and the hits | 1; 1, 8 |
 //! | how many executions there are; for each the term, the node, and how often | 2; 1, 1, 8 |
 //! | how many shifts there are; for each the term, both nodes, and the rights | 2; 1, 1, 1, 8 |
+//! | behind `FPG2` only: how many grants there are; for each the term, the node, and the rights | 2; 1, 1, 8 |
 //!
 //! Names ascend by their bytes, and none comes twice. So do the cells of each list, by their
 //! numbers but the last, which is never 0. So there is one way to write a message.

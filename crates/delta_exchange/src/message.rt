@@ -1,5 +1,10 @@
 //! Messages, read or still to be written.
 
+ghost use Rattle.std.specs.Prelude.{◌≡◌};
+ghost use Rattle.std.specs.List.{list_any};
+ghost use Rattle.delta_exchange.specs.Messages.{entry_value};
+ghost use Rattle.delta_exchange.specs.Spelling.{has_grants};
+
 use actions::Name;
 use stamp_register::Key;
 
@@ -24,6 +29,24 @@ pub struct NameEntry {
     /// A counted term of the key, two nodes, and how many rights to execute the term the first
     /// moved to the second.
     pub shifts: Vec<(u8, u8, u8, u64)>,
+    /// A counted term of the key, a node, and how many rights to execute the term the node granted
+    /// itself beyond the count.
+    pub grants: Vec<(u8, u8, u64)>,
+}
+
+impl NameEntry {
+    fn has_grants(&self) -> bool
+        ensures { result ≡ has_grants (entry_value self.now) }
+    {
+        !self.grants.is_empty()
+    }
+}
+
+/// Whether one of the entries tells a grant.
+pub(crate) fn have_grants(entries: &[NameEntry]) -> bool
+    ensures { result ≡ list_any (λ e. has_grants (entry_value e)) entries.now }
+{
+    entries.iter().any(|entry| entry.has_grants())
 }
 
 /// What one node tells another.

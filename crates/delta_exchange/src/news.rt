@@ -13,7 +13,7 @@ ghost use Rattle.replica_state.specs.Folds.{fold};
 ghost use Rattle.delta_exchange.specs.Marks.{marks_value};
 ghost use Rattle.delta_exchange.specs.Told.{HasLearned};
 ghost use Rattle.delta_exchange.specs.News.{counted_of, is_new, news_in, news_of, operation_of, with_news, HaveRoom, StandsIn};
-ghost use Rattle.delta_exchange.specs.Messages.{entry_value, message_value, hits_in, execs_in, shifts_in, operations_of, operations_in};
+ghost use Rattle.delta_exchange.specs.Messages.{entry_value, message_value, hits_in, execs_in, shifts_in, grants_in, operations_of, operations_in};
 
 use crate::marks::Marks;
 use crate::message::{Message, NameEntry};
@@ -221,6 +221,28 @@ impl<'a> Told<'a> {
         }
         Ok(())
     }
+
+    fn push_grants<R: Replica>(
+        self,
+        news: &mut Vec<Told<'a>>,
+        replica: &R,
+        grants: &[(u8, u8, u64)],
+    ) -> Result<(), AllocError>
+        requires { StandsIn (R.state replica.now) self }
+        ensures { OnOk result (map news_of news.new.items ≡ map news_of news.old.items
+            ++ news_in (R.state replica.now)
+            (grants_in self.entry.name.now (key_value self.entry.key.now) grants.now)) }
+    {
+        for (term, node, total) in grants {
+            let grants = Counted::Shifts {
+                term: *term,
+                from: *node,
+                to: *node,
+            };
+            self.push_count(news, replica, grants.times(*total))?;
+        }
+        Ok(())
+    }
 }
 
 fn push_entry<'a, R: Replica>(
@@ -235,7 +257,8 @@ fn push_entry<'a, R: Replica>(
     told.push_news(news, replica)?;
     told.push_hits(news, replica, &entry.hits)?;
     told.push_execs(news, replica, &entry.execs)?;
-    told.push_shifts(news, replica, &entry.shifts)
+    told.push_shifts(news, replica, &entry.shifts)?;
+    told.push_grants(news, replica, &entry.grants)
 }
 
 /// What a replica doesn't know of what a message tells.
@@ -296,6 +319,20 @@ fn push_op<'a, R: Replica>(
                 to: *to,
             };
             Told::new(replica, name, key).push_count(news, replica, shifts.times(*total))
+        }
+        Op::Grant {
+            name,
+            key,
+            term,
+            node,
+            total,
+        } => {
+            let grants = Counted::Shifts {
+                term: *term,
+                from: *node,
+                to: *node,
+            };
+            Told::new(replica, name, key).push_count(news, replica, grants.times(*total))
         }
     }
 }

@@ -3,29 +3,42 @@
 ghost use Rattle.std.specs.Prelude.{◌≡◌, map, IfOk, IfErr, Ok};
 ghost use Rattle.delta_exchange.specs.Messages.{MessageValue, entry_value, message_value};
 ghost use Rattle.delta_exchange.specs.Spelling.{SpellsMessage};
-ghost use Rattle.delta_exchange.specs.Reading.{Gives, GivesAlways, entries_at, magic_at, versions_at, header_at, header_of, fields_at, message_at};
+ghost use Rattle.delta_exchange.specs.Reading.{Gives, GivesAlways, entries_at, is_form_of, magic_at, versions_at, header_at, header_of, fields_at, message_at};
 
 use crate::entry::read_entry;
 use crate::fault::WireFault;
-use crate::message::{Message, NameEntry};
-use crate::wire::{MAGIC, Whole, read_bytes, read_node, read_other_node, read_u16, read_u64};
+use crate::message::{Message, NameEntry, have_grants};
+use crate::wire::{Form, Whole, read_bytes, read_node, read_other_node, read_u16, read_u64};
 use std::alloc::Global;
 
 /// The most bytes of a message.
 const MAX_MESSAGE: usize = 67_108_864;
 
-/// What is left after the first four bytes.
+/// The form that the first four bytes say.
 #[tactic(auto, unfolding(crate::specs::Reading::magic_at))]
-fn read_magic(whole: Whole, rest: &[u8]) -> Result<&[u8], WireFault>
-    ensures { GivesAlways (λ x. x.now) result (magic_at whole.len rest.now) }
+fn read_magic(whole: Whole, rest: &[u8]) -> Result<(Form, &[u8]), WireFault>
+    ensures { GivesAlways (λ x. (x.0, x.1.now)) result (magic_at whole.len rest.now) }
 {
-    let (first, after) = read_bytes(whole, MAGIC.len(), rest)?;
-    if first != MAGIC {
-        return Err(WireFault::Magic {
-            offset: whole.offset(rest),
-        });
+    let (first, after) = read_bytes(whole, 4, rest)?;
+    if first == Form::Plain.magic() {
+        return Ok((Form::Plain, after));
     }
-    Ok(after)
+    if first == Form::WithGrants.magic() {
+        return Ok((Form::WithGrants, after));
+    }
+    Err(WireFault::Magic {
+        offset: whole.offset(rest),
+    })
+}
+
+/// Whether a message of this form may tell these entries: one with grants tells some.
+fn is_form_of(form: Form, entries: &[NameEntry]) -> bool
+    ensures { result ≡ is_form_of form (map entry_value entries.now) }
+{
+    match form {
+        Form::Plain => true,
+        Form::WithGrants => have_grants(entries),
+    }
 }
 
 /// The sender's version that is known, its version, and the receiver's version that it has.
@@ -44,15 +57,16 @@ fn read_versions(whole: Whole, rest: &[u8]) -> Result<((u64, u64, u64), &[u8]), 
 fn read_entries(
     alloc: Global,
     whole: Whole,
+    form: Form,
     bytes: &[u8],
 ) -> Result<(Vec<NameEntry>, &[u8]), WireFault>
     ensures { Gives (λ x. (map entry_value x.0.items, x.1.now)) result
-        (entries_at whole.len whole.nodes bytes.now) }
+        (entries_at whole.len whole.nodes form bytes.now) }
 {
     let (count, mut rest) = read_u16(whole, bytes)?;
     let mut entries: Vec<NameEntry> = Vec::new(alloc);
     for _ in 0..count {
-        let (entry, after) = read_entry(alloc, whole, entries.last(), rest)?;
+        let (entry, after) = read_entry(alloc, whole, form, entries.last(), rest)?;
         entries.push(entry)?;
         rest = after;
     }
@@ -64,14 +78,19 @@ fn read_fields(alloc: Global, whole: Whole, bytes: &[u8]) -> Result<Message, Wir
     ensures exact { Gives message_value result (fields_at whole.len whole.nodes bytes.now) }
     ensures header { IfErr (header_at whole.len whole.nodes bytes.now) (λ fault. result ≡ Err fault) }
 {
-    let rest = read_magic(whole, bytes)?;
+    let (form, rest) = read_magic(whole, bytes)?;
     let (from, rest) = read_node(whole, rest)?;
     let (to, rest) = read_other_node(whole, from, rest)?;
     let ((base, upto, ack), rest) = read_versions(whole, rest)?;
-    let (entries, rest) = read_entries(alloc, whole, rest)?;
+    let (entries, rest) = read_entries(alloc, whole, form, rest)?;
     if !rest.is_empty() {
         return Err(WireFault::Long {
             offset: whole.offset(rest),
+        });
+    }
+    if !is_form_of(form, &entries) {
+        return Err(WireFault::NoGrant {
+            offset: whole.offset(bytes),
         });
     }
     Ok(Message {

@@ -10,7 +10,7 @@ ghost use Rattle.replica_state.specs.Points.{counted_cmp};
 ghost use Rattle.delta_exchange.specs.Messages.{entry_value, message_value};
 ghost use Rattle.delta_exchange.specs.Cells.{HitsFit, ExecsFit, ShiftsFit, EntryFits, EntriesFit};
 ghost use Rattle.delta_exchange.specs.Versions.{value_of};
-ghost use Rattle.delta_exchange.specs.Since.{CanBeTold, IsMessageSince, AreCellsOrdered, hits_since, execs_since, shifts_since, entry_since, entry_under, entries_since, tells_cells};
+ghost use Rattle.delta_exchange.specs.Since.{CanBeTold, IsMessageSince, AreCellsOrdered, hits_since, execs_since, shifts_since, grants_since, entry_since, entry_under, entries_since, tells_cells};
 
 use crate::marks::{Marks, NameMarks};
 use crate::message::{Message, NameEntry};
@@ -90,6 +90,7 @@ fn shifts_since<R: Replica>(
     for (counted, mark) in marks.cells() {
         if marks.change(*counted, *mark) > base
             && let Counted::Shifts { term, from, to } = *counted
+            && to != from
         {
             let number = replica.moved(name, term, from, to);
             if number != 0 {
@@ -98,6 +99,34 @@ fn shifts_since<R: Replica>(
         }
     }
     Ok(shifts)
+}
+
+/// What was granted of the rights to the terms of a name under its key and changed after a version,
+/// by term and node.
+fn grants_since<R: Replica>(
+    alloc: Global,
+    replica: &R,
+    name: &Name,
+    base: u64,
+    marks: &NameMarks,
+) -> Result<Vec<(u8, u8, u64)>, AllocError>
+    ensures fit { IfOk result (λ cells. ExecsFit cells.items) }
+    ensures cells { IfOk result (λ cells. cells.items
+        ≡ grants_since (R.state replica.now) name.now base marks.now) }
+{
+    let mut grants = Vec::new(alloc);
+    for (counted, mark) in marks.cells() {
+        if marks.change(*counted, *mark) > base
+            && let Counted::Shifts { term, from, to } = *counted
+            && to == from
+        {
+            let number = replica.granted(name, term, from);
+            if number != 0 {
+                grants.push((term, from, number))?;
+            }
+        }
+    }
+    Ok(grants)
 }
 
 /// What changed of a name under its key after a version.
@@ -120,6 +149,7 @@ fn entry_since<R: Replica>(
         hits: hits_since(alloc, replica, name, base, marks)?,
         execs: execs_since(alloc, replica, name, base, marks)?,
         shifts: shifts_since(alloc, replica, name, base, marks)?,
+        grants: grants_since(alloc, replica, name, base, marks)?,
     })
 }
 
@@ -127,7 +157,10 @@ fn entry_since<R: Replica>(
 fn tells_cells(entry: &NameEntry) -> bool
     ensures { result ≡ tells_cells (entry_value entry.now) }
 {
-    !entry.hits.is_empty() || !entry.execs.is_empty() || !entry.shifts.is_empty()
+    !entry.hits.is_empty()
+        || !entry.execs.is_empty()
+        || !entry.shifts.is_empty()
+        || !entry.grants.is_empty()
 }
 
 /// Adds what changed after a version of a name with these marks, if it has a key.

@@ -160,8 +160,8 @@ impl<R: Replica> Versioned<R> {
         Ok(())
     }
 
-    /// Counts the rights to a counted term of the point's key that one node moved to another, so
-    /// many in all and more than before. Where memory is refused, nothing has changed.
+    /// Counts the rights to a counted term of the point's key that one node moved to another, or
+    /// granted itself where both are one, so many in all and more than before. Where memory is refused, nothing has changed.
     pub fn count_shift(
         &mut self,
         alloc: Global,
@@ -174,7 +174,6 @@ impl<R: Replica> Versioned<R> {
         requires set { IsSome ((value_of R.state self.old).state.key name.now) }
         requires more { (value_of R.state self.old).state.shifts name.now term from to < total }
         requires counted { IsSome (budget_of (value_of R.state self.old).state name.now term) }
-        requires another { from ≢ to }
         requires version { (value_of R.state self.old).version + 1 < 2 ^ 64 }
         ensures ok { OnOk result (ChangesTo (value_of R.state self.old)
             (with_shifts name.now term from to total (value_of R.state self.old).state)

@@ -5,12 +5,29 @@
 
 ghost use Rattle.std.specs.Prelude.{◌≡◌};
 ghost use Rattle.std.specs.Int.{w16, w64};
+ghost use Rattle.delta_exchange.specs.Spelling.{magic};
 ghost use Rattle.delta_exchange.specs.Reading.{GivesAlways, offset, bytes_at, byte_at, number_at, node_at, other_node_at};
 
 use crate::fault::WireFault;
 
-/// With what each message begins.
-pub(crate) const MAGIC: &[u8] = b"FPG1";
+/// Whether grants are told: then each name of the message ends with its own.
+#[derive(Clone, Copy)]
+pub(crate) enum Form {
+    Plain,
+    WithGrants,
+}
+
+impl Form {
+    /// With what a message of this form begins.
+    pub fn magic(self) -> &'static [u8]
+        ensures { result.now ≡ magic self }
+    {
+        match self {
+            Form::Plain => b"FPG1",
+            Form::WithGrants => b"FPG2",
+        }
+    }
+}
 
 /// The tag of a key that removes its point.
 pub(crate) const REMOVED: u8 = 0;

@@ -4,10 +4,10 @@ ghost use Rattle.std.specs.Prelude.{◌≡◌, ℕ, ◌<◌, ◌^◌, ◌++◌, 
 ghost use Rattle.std.specs.Int.{w64, to_be_bytes};
 ghost use Rattle.stamp_register.specs.Keys.{key_value};
 ghost use Rattle.delta_exchange.specs.Messages.{entry_value, message_value};
-ghost use Rattle.delta_exchange.specs.Spelling.{name_bytes, key_bytes, hits_bytes, execs_bytes, shifts_bytes, entry_bytes, entries_bytes, message_bytes, IsEntry, AreEntries, HasSpelling};
+ghost use Rattle.delta_exchange.specs.Spelling.{name_bytes, key_bytes, hits_bytes, execs_bytes, shifts_bytes, grants_bytes, form_of, entry_bytes, entries_bytes, message_bytes, IsEntry, AreEntries, HasSpelling};
 
-use crate::message::{Message, NameEntry};
-use crate::wire::{MAGIC, REMOVED, SET};
+use crate::message::{Message, NameEntry, have_grants};
+use crate::wire::{Form, REMOVED, SET};
 use actions::Name;
 use stamp_register::{Body, Key};
 use std::alloc::{AllocError, Global};
@@ -81,25 +81,48 @@ fn put_shifts(out: &mut Vec<u8>, shifts: &[(u8, u8, u8, u64)]) -> Result<(), All
     Ok(())
 }
 
-fn put_entry(out: &mut Vec<u8>, entry: &NameEntry) -> Result<(), AllocError>
+fn put_grants(out: &mut Vec<u8>, form: Form, grants: &[(u8, u8, u64)]) -> Result<(), AllocError>
+    requires { length grants.now < 2 ^ 16 }
+    ensures { OnOk result (out.new.items ≡ out.old.items ++ grants_bytes form grants.now) }
+{
+    match form {
+        Form::Plain => Ok(()),
+        Form::WithGrants => put_execs(out, grants),
+    }
+}
+
+/// The form of a message of these entries.
+fn form_of(entries: &[NameEntry]) -> Form
+    ensures { result ≡ form_of (map entry_value entries.now) }
+{
+    if have_grants(entries) {
+        Form::WithGrants
+    } else {
+        Form::Plain
+    }
+}
+
+fn put_entry(out: &mut Vec<u8>, form: Form, entry: &NameEntry) -> Result<(), AllocError>
     requires { (nodes : ℕ) × IsEntry nodes (entry_value entry.now) }
-    ensures { OnOk result (out.new.items ≡ out.old.items ++ entry_bytes (entry_value entry.now)) }
+    ensures { OnOk result (out.new.items
+        ≡ out.old.items ++ entry_bytes form (entry_value entry.now)) }
 {
     put_name(out, &entry.name)?;
     put_key(out, &entry.key)?;
     put_hits(out, &entry.hits)?;
     put_execs(out, &entry.execs)?;
     put_shifts(out, &entry.shifts)?;
-    Ok(())
+    put_grants(out, form, &entry.grants)
 }
 
-fn put_entries(out: &mut Vec<u8>, entries: &[NameEntry]) -> Result<(), AllocError>
+fn put_entries(out: &mut Vec<u8>, form: Form, entries: &[NameEntry]) -> Result<(), AllocError>
     requires { (nodes : ℕ) × AreEntries nodes (map entry_value entries.now) }
-    ensures { OnOk result (out.new.items ≡ out.old.items ++ entries_bytes (map entry_value entries.now)) }
+    ensures { OnOk result (out.new.items
+        ≡ out.old.items ++ entries_bytes form (map entry_value entries.now)) }
 {
     out.extend_from_slice(&(entries.len() as u16).to_be_bytes())?;
     for entry in entries {
-        put_entry(out, entry)?;
+        put_entry(out, form, entry)?;
     }
     Ok(())
 }
@@ -113,11 +136,12 @@ pub fn encode(alloc: Global, message: &Message) -> Result<Vec<u8>, AllocError>
     ensures { IfOk result (λ b. b.items ≡ message_bytes (message_value message.now)) }
 {
     let mut out = Vec::new(alloc);
-    out.extend_from_slice(MAGIC)?;
+    let form = form_of(&message.entries);
+    out.extend_from_slice(form.magic())?;
     out.extend_from_slice(&[message.from, message.to])?;
     out.extend_from_slice(&message.base.to_be_bytes())?;
     out.extend_from_slice(&message.upto.to_be_bytes())?;
     out.extend_from_slice(&message.ack.to_be_bytes())?;
-    put_entries(&mut out, &message.entries)?;
+    put_entries(&mut out, form, &message.entries)?;
     Ok(out)
 }

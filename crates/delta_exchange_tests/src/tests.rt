@@ -41,6 +41,22 @@ const ONE_NAME: [u8; 75] = [
     0, 0, // no shift cell
 ];
 
+/// Of node 0 to node 1, after node 0 set a to `2*off` and granted itself 3 rights to it.
+const ONE_GRANT: [u8; 68] = [
+    0x46, 0x50, 0x47, 0x32, 0, 1, // magic, from, to
+    0, 0, 0, 0, 0, 0, 0, 0, // base
+    0, 0, 0, 0, 0, 0, 0, 2, // upto
+    0, 0, 0, 0, 0, 0, 0, 0, // ack
+    0, 1, // one name
+    1, 0x61, // a
+    0, 0, 0, 0, 0, 0, 0, 1, 0, // clock and node
+    1, 0, 5, 0x32, 0x2a, 0x6f, 0x66, 0x66, // set to five bytes
+    0, // no hit cell
+    0, 0, // no execution cell
+    0, 0, // no shift cell
+    0, 1, 0, 0, 0, 0, 0, 0, 0, 0, 0, 3, // one grant cell
+];
+
 /// The removed point b, up to its tag.
 const REMOVED_B: [u8; 12] = [1, b'b', 0, 0, 0, 0, 0, 0, 0, 1, 0, 0];
 

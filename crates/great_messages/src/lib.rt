@@ -9,15 +9,31 @@ pub const NODES: u8 = 32;
 
 const TERMS: u8 = 16;
 
+/// Which cells a great message has.
+#[derive(Clone, Copy, Debug, PartialEq, Eq)]
+pub enum Cells {
+    /// All but grants.
+    WithoutGrants,
+    /// All.
+    WithGrants,
+}
+
 /// The greatest number.
 const GREATEST: [u8; 8] = [0xff; 8];
 
 /// Ends a name of 128 bytes of which two are told.
 const REST_OF_NAME: [u8; 126] = [b'x'; 126];
 
+fn magic(cells: Cells) -> &'static [u8] {
+    match cells {
+        Cells::WithoutGrants => b"FPG1",
+        Cells::WithGrants => b"FPG2",
+    }
+}
+
 /// Of node 0 to node 31, with so many names.
-fn push_head(bytes: &mut Vec<u8>, names: u16) -> Result<(), AllocError> {
-    bytes.extend_from_slice(b"FPG1")?;
+fn push_head(bytes: &mut Vec<u8>, cells: Cells, names: u16) -> Result<(), AllocError> {
+    bytes.extend_from_slice(magic(cells))?;
     bytes.extend_from_slice(&[0, 31])?;
     for _ in 0..3 {
         bytes.extend_from_slice(&GREATEST)?;
@@ -53,8 +69,8 @@ fn push_hits(bytes: &mut Vec<u8>) -> Result<(), AllocError> {
     Ok(())
 }
 
-/// 512 of them.
-fn push_execs(bytes: &mut Vec<u8>) -> Result<(), AllocError> {
+/// 512 of them: of each term one of each node.
+fn push_cells_by_node(bytes: &mut Vec<u8>) -> Result<(), AllocError> {
     bytes.extend_from_slice(&[2, 0])?;
     for term in 0..TERMS {
         for node in 0..NODES {
@@ -88,21 +104,24 @@ fn push_shifts(bytes: &mut Vec<u8>) -> Result<(), AllocError> {
 }
 
 /// What every name has.
-fn after_name(alloc: Global) -> Result<Vec<u8>, AllocError> {
+fn after_name(alloc: Global, cells: Cells) -> Result<Vec<u8>, AllocError> {
     let mut bytes = Vec::new(alloc);
     push_key(&mut bytes)?;
     push_hits(&mut bytes)?;
-    push_execs(&mut bytes)?;
+    push_cells_by_node(&mut bytes)?;
     push_shifts(&mut bytes)?;
+    if cells == Cells::WithGrants {
+        push_cells_by_node(&mut bytes)?;
+    }
     Ok(bytes)
 }
 
 /// The greatest message of so many names, of at most 256: each name has 128 bytes, and is set to 16
-/// counted terms in 1024 bytes, with all of their cells.
-pub fn great_message(alloc: Global, names: u16) -> Result<Vec<u8>, AllocError> {
-    let after_name = after_name(alloc)?;
+/// counted terms in 1024 bytes, with all of these cells.
+pub fn great_message(alloc: Global, cells: Cells, names: u16) -> Result<Vec<u8>, AllocError> {
+    let after_name = after_name(alloc, cells)?;
     let mut bytes = Vec::new(alloc);
-    push_head(&mut bytes, names)?;
+    push_head(&mut bytes, cells, names)?;
     for number in 0..names {
         let letters = [b'a' + (number / 16 % 16) as u8, b'a' + (number % 16) as u8];
         bytes.push(128)?;

@@ -8,6 +8,11 @@ const FIELDS: [usize; 22] = [
     0, 4, 5, 6, 14, 22, 30, 32, 33, 34, 42, 43, 44, 46, 51, 52, 53, 61, 63, 64, 65, 73,
 ];
 
+/// Where those of `ONE_GRANT` begin.
+const FIELDS_OF_GRANT: [usize; 21] = [
+    0, 4, 5, 6, 14, 22, 30, 32, 33, 34, 42, 43, 44, 46, 51, 52, 54, 56, 58, 59, 60,
+];
+
 /// `ONE_NAME` with one byte set to another value.
 fn altered(index: usize, value: u8) -> [u8; 75] {
     let mut bytes = ONE_NAME;
@@ -27,8 +32,8 @@ fn with_byte(alloc: Global, bytes: &[u8], index: usize, value: u8) -> Result<Vec
 }
 
 /// Where the field begins that is cut off at this length.
-fn field_at(len: usize) -> usize {
-    FIELDS
+fn field_at(fields: &[usize], len: usize) -> usize {
+    fields
         .iter()
         .copied()
         .filter(|offset| *offset <= len)
@@ -52,33 +57,56 @@ fn a_byte_fewer_or_more(rt: HostRuntime) -> Result<(), Fail> {
 
 #[test]
 fn each_cut(rt: HostRuntime) {
-    for len in 0..75 {
-        let offset = field_at(len);
-        assert_eq!(rt;
-            fault(rt.alloc(), &ONE_NAME[..len]),
-            Some(WireFault::Short { offset }),
-            "{len} bytes"
-        );
+    for (bytes, fields) in [
+        (ONE_NAME.as_slice(), FIELDS.as_slice()),
+        (&ONE_GRANT, &FIELDS_OF_GRANT),
+    ] {
+        for len in 0..bytes.len() {
+            let offset = field_at(fields, len);
+            assert_eq!(rt;
+                fault(rt.alloc(), &bytes[..len]),
+                Some(WireFault::Short { offset }),
+                "{len} bytes"
+            );
+        }
     }
 }
 
 #[test]
 fn each_byte_at_each_value(rt: HostRuntime) -> Result<(), Fail> {
-    let mut read = 0u32;
-    for index in 0..75 {
-        for value in 0..=255 {
-            let bytes = altered(index, value);
-            match written_again(rt.alloc(), &bytes) {
-                Ok(again) => {
-                    assert!(rt; again.as_slice() == bytes.as_slice());
-                    read = read.wrapping_add(1);
+    for bytes in [ONE_NAME.as_slice(), &ONE_GRANT] {
+        let mut read = 0u32;
+        for index in 0..bytes.len() {
+            for value in 0..=255 {
+                let bytes = with_byte(rt.alloc(), bytes, index, value)?;
+                match written_again(rt.alloc(), &bytes) {
+                    Ok(again) => {
+                        assert!(rt; again.as_slice() == bytes.as_slice());
+                        read = read.wrapping_add(1);
+                    }
+                    Err(fault) => assert!(rt; fault != WireFault::OutOfMemory),
                 }
-                Err(fault) => assert!(rt; fault != WireFault::OutOfMemory),
             }
         }
+        // All values of the 24 bytes of versions and the 8 of the clock are read.
+        assert!(rt; read > 32 * 256);
     }
-    // All values of the 24 bytes of versions and the 8 of the clock are read.
-    assert!(rt; read > 32 * 256);
+    Ok(())
+}
+
+/// The magic of messages with grants on messages that tell none, and the other way round.
+#[test]
+fn other_magic(rt: HostRuntime) -> Result<(), Fail> {
+    for (bytes, digit, wanted) in [
+        (EMPTY.as_slice(), b'2', WireFault::NoGrant { offset: 0 }),
+        (&ONE_NAME, b'2', WireFault::Short { offset: 75 }),
+        (&ONE_GRANT, b'1', WireFault::Long { offset: 56 }),
+        (&ONE_GRANT, b'0', WireFault::Magic { offset: 0 }),
+        (&ONE_GRANT, b'3', WireFault::Magic { offset: 0 }),
+    ] {
+        let bytes = with_byte(rt.alloc(), bytes, 3, digit)?;
+        assert_eq!(rt; fault(rt.alloc(), &bytes), Some(wanted), "FPG{digit}");
+    }
     Ok(())
 }
 

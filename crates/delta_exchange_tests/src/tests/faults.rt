@@ -166,6 +166,62 @@ fn two_shifts(rt: HostRuntime) -> Result<(), Fail> {
 }
 
 #[test]
+fn one_grant(rt: HostRuntime) -> Result<(), Fail> {
+    for (term, node, value, wanted) in [
+        (0, 1, 1, None),
+        (1, 1, 1, Some(WireFault::BadTerm { offset: 58 })),
+        (0, 2, 1, Some(WireFault::BadNode { offset: 59 })),
+        (0, 0, 0, Some(WireFault::ZeroCell { offset: 60 })),
+    ] {
+        let cell = [term, node, 0, 0, 0, 0, 0, 0, 0, value];
+        let bytes = joined(rt.alloc(), &ONE_GRANT, 58, &[&cell])?;
+        assert_eq!(rt;
+            fault(rt.alloc(), &bytes),
+            wanted,
+            "term {term}, node {node}"
+        );
+    }
+    Ok(())
+}
+
+/// Of node 1 stands after of node 0.
+#[test]
+fn two_grants(rt: HostRuntime) -> Result<(), Fail> {
+    let one = [0, 0, 0, 0, 0, 0, 0, 0, 0, 9];
+    let another = [0, 1, 0, 0, 0, 0, 0, 0, 0, 1];
+    for (first, second, wanted) in [
+        (one, another, None),
+        (one, one, Some(WireFault::CellOrder { offset: 68 })),
+        (another, one, Some(WireFault::CellOrder { offset: 68 })),
+    ] {
+        let bytes = joined(rt.alloc(), &ONE_GRANT, 56, &[&[0, 2], &first, &second])?;
+        assert_eq!(rt; fault(rt.alloc(), &bytes), wanted);
+    }
+    Ok(())
+}
+
+/// A message with grants of which none is told, and bytes behind one.
+#[test]
+fn no_grant(rt: HostRuntime) -> Result<(), Fail> {
+    for (count, rest, wanted) in [
+        (56, [0, 0].as_slice(), WireFault::NoGrant { offset: 0 }),
+        // Bytes that are left come first.
+        (56, [0, 0, 0].as_slice(), WireFault::Long { offset: 58 }),
+        (68, [0].as_slice(), WireFault::Long { offset: 68 }),
+        // Without their number nothing tells that there are none.
+        (56, [].as_slice(), WireFault::Short { offset: 56 }),
+    ] {
+        let bytes = joined(rt.alloc(), &ONE_GRANT, count, &[rest])?;
+        assert_eq!(rt;
+            fault(rt.alloc(), &bytes),
+            Some(wanted),
+            "{count} bytes and {rest:?}"
+        );
+    }
+    Ok(())
+}
+
+#[test]
 fn what_faults_print(rt: HostRuntime) -> Result<(), Fail> {
     let offset = 67_108_864;
     for (fault, text) in [
@@ -191,6 +247,7 @@ fn what_faults_print(rt: HostRuntime) -> Result<(), Fail> {
         (WireFault::BadTerm { offset: 63 }, "W11 BadTerm offset=63"),
         (WireFault::TooBig { offset }, "W12 TooBig offset=67108864"),
         (WireFault::OutOfMemory, "W13 OutOfMemory"),
+        (WireFault::NoGrant { offset: 0 }, "W14 NoGrant offset=0"),
     ] {
         let printed = printed::shown(rt.alloc(), &fault)?;
         assert_eq!(rt; printed.as_str(), text);

@@ -66,7 +66,7 @@ fn told_text<R: Replica>(alloc: Global, bytes: &[u8]) -> Result<String, Fail> {
     }
 }
 
-/// An empty message, one name, and that name with a shift of two rights.
+/// An empty message, one name, that name with a shift of two rights, and one with a grant of three.
 #[test]
 fn message_is_known(rt: HostRuntime) -> Result<(), Fail> {
     let shift: [&[u8]; 1] = [&[0, 1, 0, 0, 1, 0, 0, 0, 0, 0, 0, 0, 2]];
@@ -75,6 +75,7 @@ fn message_is_known(rt: HostRuntime) -> Result<(), Fail> {
         (EMPTY.as_slice(), "unset (0, 0) (0, 0) (0, 0) (0, 0) 0"),
         (&ONE_NAME, "1.0 2*off (1, 0) (1, 0) (0, 0) (1, 0) 1"),
         (&shifted, "1.0 2*off (1, 0) (1, 0) (2, 0) (-1, 2) 1"),
+        (&ONE_GRANT, "1.0 2*off (0, 0) (0, 0) (0, 0) (5, 0) 1"),
     ] {
         assert_eq!(rt; told_text::<OpSet>(rt.alloc(), bytes)?.as_str(), wanted);
         assert_eq!(rt; told_text::<Matrix>(rt.alloc(), bytes)?.as_str(), wanted);

@@ -28,6 +28,10 @@ fn push_cells(alloc: Global, text: &mut String, entry: &NameEntry) -> Result<(),
         let shifted = format!(in alloc; "shifts {term} {from}>{to}={total}")?;
         push(alloc, text, &shifted)?;
     }
+    for (term, node, total) in &entry.grants {
+        let granted = format!(in alloc; "grants {term} {node}={total}")?;
+        push(alloc, text, &granted)?;
+    }
     Ok(())
 }
 
@@ -87,6 +91,29 @@ fn messages_in_print(rt: HostRuntime) -> Result<(), Fail> {
         ),
     ] {
         let bytes = joined(rt.alloc(), &ONE_NAME, count, rest)?;
+        assert_eq!(rt; reading(rt.alloc(), &bytes)?.as_str(), wanted);
+        assert!(rt; written_again(rt.alloc(), &bytes)?.as_slice() == bytes.as_slice());
+    }
+    Ok(())
+}
+
+/// One grant, and two of two nodes beside a shift.
+#[test]
+fn grants_in_print(rt: HostRuntime) -> Result<(), Fail> {
+    let more: [&[u8]; 3] = [
+        &[0, 1, 0, 1, 0, 0, 0, 0, 0, 0, 0, 1, 2],
+        &[0, 2, 0, 0, 0, 0, 0, 0, 0, 0, 0, 3],
+        &[0, 1, 0, 0, 0, 0, 0, 0, 1, 0],
+    ];
+    for (count, rest, wanted) in [
+        (68, [].as_slice(), "0>1 0 2 0; a 1.0 2*off grants 0 0=3;"),
+        (
+            54,
+            more.as_slice(),
+            "0>1 0 2 0; a 1.0 2*off shifts 0 1>0=258 grants 0 0=3 grants 0 1=256;",
+        ),
+    ] {
+        let bytes = joined(rt.alloc(), &ONE_GRANT, count, rest)?;
         assert_eq!(rt; reading(rt.alloc(), &bytes)?.as_str(), wanted);
         assert!(rt; written_again(rt.alloc(), &bytes)?.as_slice() == bytes.as_slice());
     }

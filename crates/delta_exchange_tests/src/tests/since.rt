@@ -1,6 +1,6 @@
 //! What changed of a replica with versions after each of them.
 
-use super::versions::{a_name, pass, set, shift, with_key};
+use super::versions::{a_name, grant, pass, set, shift, with_key};
 use super::*;
 use delta_exchange::Versioned;
 use replica_state::{Matrix, OpSet, Replica};
@@ -65,4 +65,34 @@ fn told<R: Replica>(rt: &impl Abort, alloc: Global) -> Result<(), Fail> {
 fn changes_since_a_version_are_told(rt: HostRuntime) -> Result<(), Fail> {
     told::<OpSet>(&rt, rt.alloc())?;
     told::<Matrix>(&rt, rt.alloc())
+}
+
+/// After a setting, a grant, and a shift.
+const GRANTED: [(u64, &str); 4] = [
+    (0, "0>1 0 3 0; a 1.0 5*off shifts 0 0>1=2 grants 0 0=3;"),
+    (1, "0>1 1 3 0; a 1.0 5*off shifts 0 0>1=2 grants 0 0=3;"),
+    (2, "0>1 2 3 0; a 1.0 5*off shifts 0 0>1=2;"),
+    (3, "0>1 3 3 0;"),
+];
+
+fn granted<R: Replica>(rt: &impl Abort, alloc: Global) -> Result<(), Fail> {
+    let name = a_name(alloc)?;
+    let mut versioned: Versioned<R> = with_key(alloc, &name)?;
+    grant(rt, alloc, &mut versioned, &name);
+    assert_eq!(rt;
+        since(alloc, &versioned, 1)?.as_str(),
+        "0>1 1 2 0; a 1.0 5*off grants 0 0=3;"
+    );
+    shift(rt, alloc, &mut versioned, &name);
+    for (base, wanted) in GRANTED {
+        assert_eq!(rt; since(alloc, &versioned, base)?.as_str(), wanted);
+    }
+    Ok(())
+}
+
+/// A grant is told where it changed, beside shifts.
+#[test]
+fn grants_since_a_version_are_told(rt: HostRuntime) -> Result<(), Fail> {
+    granted::<OpSet>(&rt, rt.alloc())?;
+    granted::<Matrix>(&rt, rt.alloc())
 }

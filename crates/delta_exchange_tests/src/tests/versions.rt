@@ -181,30 +181,59 @@ pub(super) fn pass<R: Replica>(
     }
 }
 
-fn move_two<R: Replica>(alloc: Global, versioned: &mut Versioned<R>, name: &Name) -> bool {
+fn count_moved<R: Replica>(
+    alloc: Global,
+    versioned: &mut Versioned<R>,
+    name: &Name,
+    to: u8,
+    total: u64,
+) -> bool {
     let has_key = versioned.state().key(name).is_some();
-    let is_more = versioned.state().moved(name, 0, 0, 1) < 2;
+    let is_more = versioned.state().moved(name, 0, 0, to) < total;
     let counts = versioned.state().is_counted(name, 0);
     has_key
         && is_more
         && counts
         && has_room(versioned)
-        && versioned.count_shift(alloc, name, 0, 0, 1, 2).is_ok()
+        && versioned.count_shift(alloc, name, 0, 0, to, total).is_ok()
 }
 
-/// Moves two rights from node 0 to node 1. If its memory is refused, nothing may have changed.
+/// Moves rights from node 0, or grants it some where it is the other node too. If its memory is
+/// refused, nothing may have changed.
+fn move_rights<R: Replica>(
+    rt: &impl Abort,
+    alloc: Global,
+    versioned: &mut Versioned<R>,
+    name: &Name,
+    to: u8,
+    total: u64,
+) {
+    let before = answers(versioned, name);
+    if !count_moved(alloc, versioned, name, to, total) {
+        let is_unchanged = answers(versioned, name) == before;
+        let again = count_moved(alloc, versioned, name, to, total);
+        assert!(rt; is_unchanged && again);
+    }
+}
+
+/// Moves two rights from node 0 to node 1.
 pub(super) fn shift<R: Replica>(
     rt: &impl Abort,
     alloc: Global,
     versioned: &mut Versioned<R>,
     name: &Name,
 ) {
-    let before = answers(versioned, name);
-    if !move_two(alloc, versioned, name) {
-        let is_unchanged = answers(versioned, name) == before;
-        let again = move_two(alloc, versioned, name);
-        assert!(rt; is_unchanged && again);
-    }
+    move_rights(rt, alloc, versioned, name, 1, 2);
+}
+
+/// Grants node 0 three rights.
+pub(super) fn grant<R: Replica>(
+    rt: &impl Abort,
+    alloc: Global,
+    versioned: &mut Versioned<R>,
+    name: &Name,
+) {
+    move_rights(rt, alloc, versioned, name, 0, 3);
 }
 
 /// Issues a setting. If its memory is refused, nothing may have changed.

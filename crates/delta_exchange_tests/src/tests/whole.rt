@@ -44,12 +44,18 @@ fn counts_of_all_nodes(rt: HostRuntime) -> Result<(), Fail> {
     Ok(())
 }
 
-/// Nothing, and one name, of which no version is told again.
+/// Nothing, one name, and one with a grant, of which no version is told again.
 #[test]
 fn versions_are_not_told(rt: HostRuntime) -> Result<(), Fail> {
     let mut one_name = ONE_NAME;
     one_name[21] = 0;
-    for (bytes, wanted) in [(EMPTY.as_slice(), EMPTY.as_slice()), (&ONE_NAME, &one_name)] {
+    let mut one_grant = ONE_GRANT;
+    one_grant[21] = 0;
+    for (bytes, wanted) in [
+        (EMPTY.as_slice(), EMPTY.as_slice()),
+        (&ONE_NAME, &one_name),
+        (&ONE_GRANT, &one_grant),
+    ] {
         let again = told_again(rt.alloc(), bytes)?;
         assert!(rt; again.as_slice() == wanted);
     }

@@ -52,6 +52,7 @@ fn try_written_setting(alloc: Global) -> Result<Vec<u8>, WireFault> {
         hits,
         execs: Vec::new(alloc),
         shifts: Vec::new(alloc),
+        grants: Vec::new(alloc),
     };
     let mut entries = Vec::new(alloc);
     entries.push(entry)?;

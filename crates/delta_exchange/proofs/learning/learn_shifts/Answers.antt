@@ -17,7 +17,7 @@ learn_count-requires g c =
     let h = c.requires.entry.1 in
     let i = c.loop-term.term-index in
     let keyed = has_still told e.name (key_value e.key) (λ x. by_its_key e.name (key_value e.key)) (state c.args.replica.now) (state c.loop-term.replica) (take i e.shifts.items) c.requires.keyed c.loop-term.invariant in
-    let formed = formed_at {Is = IsShift n (key_value e.key)} told (λ x i. (omega (arith, i.4), (λ same. i.3 (sym same)), i.0.0)) e.shifts.items h.shifts i (0, 0, 0, 0) (rw c.deref-term-items.ensures.value at c.loop-term-test.true) in
+    let formed = formed_at {Is = IsShift n (key_value e.key)} told (λ x i. (omega (arith, i.4), i.0.0)) e.shifts.items h.shifts i (0, 0, 0, 0) (rw c.deref-term-items.ensures.value at c.loop-term-test.true) in
     (key_value e.key, keyed.2, subst (λ (t : Counting). IsWellFormed (operation_told e.name (key_value e.key) (Some t))) (sym (rw c.deref-term-items.ensures.value at c.times.ensures)) formed)
 
 pub loop-term-preserved : goal.loop-term-preserved

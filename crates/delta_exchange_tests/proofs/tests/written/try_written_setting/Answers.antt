@@ -13,4 +13,4 @@ encode-requires c =
     let named : is_name name ≡ true = rw c.in-Ok.ensures.found.1 refl in
     let short : length name ≤ 128 = rw c.in-Ok.ensures.found.1 (lit≤ tt) in
     let text : IsCanonicalText (canonical actions) = (subst IsUtf8 c.text.ensures.value c.text.utf8, actions, c.text.ensures.spelled, refl) in
-    rw (c.in_ok-push-2.ensures.items, c.new-entries.ensures.items, c.in_ok-push.ensures.items, c.new-hits.ensures.items, c.new.ensures.items, c.new-2.ensures.items) (setting_has_spelling name (canonical actions) named short text)
+    rw (c.in_ok-push-2.ensures.items, c.new-entries.ensures.items, c.in_ok-push.ensures.items, c.new-hits.ensures.items, c.new.ensures.items, c.new-2.ensures.items, c.new-3.ensures.items) (setting_has_spelling name (canonical actions) named short text)
