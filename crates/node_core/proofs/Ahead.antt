@@ -10,13 +10,13 @@ use Rattle.std.specs.declared.cmp.Ordering.TheVariants.{Less, Equal, Greater}
 use Rattle.stamp_register.specs.Keys.{KeyValue, same_key}
 use Rattle.stamp_register.proofs.KeyLemmas.{same_key-true, true-same_key, same_key-cmp}
 use Rattle.replica_state.specs.Operations.{Operation, Set, Count, Hits, Execs, Shifts}
-use Rattle.replica_state.specs.States.{State}
+use Rattle.replica_state.specs.States.{State, granted_in}
 use Rattle.replica_state.specs.Knowledge.{knows_count}
 use Rattle.replica_state.specs.Points.{key_standing}
 use Rattle.delta_exchange.specs.declared.message.NameEntry.{NameEntry}
-use Rattle.delta_exchange.specs.Messages.{EntryValue, entry_value, operations_of}
+use Rattle.delta_exchange.specs.Messages.{EntryValue, entry_value, operations_of, hits_in, execs_in, shifts_in, grants_in}
 use Rattle.node_core.specs.Refusals.{is_ahead}
-use Rattle.node_core.specs.Deliveries.{ahead_by}
+use Rattle.node_core.specs.Deliveries.{ahead_by, are_hits_ahead, are_execs_ahead, are_shifts_ahead, are_grants_ahead}
 
 -- ---- tests of lists
 
@@ -86,40 +86,44 @@ module _ (i : ℕ) (v : State) (e : EntryValue) where
   order = key_standing e.key (v.key e.name)
 
   pub entry_ahead : list_any (is_ahead i v) (operations_of e) ≡
-      ((e.key.node == i && is_gt order) ||
-      (list_any (λ c. c.0 == i && nat_lt (v.hits e.name i) c.1) e.hits ||
-      (list_any (λ c. c.1 == i && ahead_by order (v.execs e.name c.0 i) c.2) e.execs ||
-      list_any (λ c. c.1 == i && ahead_by order (v.shifts e.name c.0 i c.2) c.3) e.shifts)))
+      ((e.key.node == i && is_gt order) || (are_hits_ahead i v e.name e.hits || (are_execs_ahead i v e.name order e.execs ||
+      (are_shifts_ahead i v e.name order e.shifts || are_grants_ahead i v e.name order e.grants))))
   entry_ahead = λ j. (key_ahead i v e.name e.key (v.key e.name) refl j) || (cells j)
     where
-      hits : list_any (is_ahead i v) (map (λ c. Count (Hits e.name c.0) c.1) e.hits) ≡ list_any (λ c. c.0 == i && nat_lt (v.hits e.name i) c.1) e.hits
+      hits : list_any (is_ahead i v) (hits_in e.name e.hits) ≡ are_hits_ahead i v e.name e.hits
       hits = any_map (is_ahead i v) (λ c. Count (Hits e.name c.0) c.1) e.hits
           ∙ any_same _ (λ c. c.0 == i && nat_lt (v.hits e.name i) c.1) e.hits (λ c. its_own i c.0 (λ j. not (nat_le c.1 (v.hits e.name j))) ∙ ap (λ b. c.0 == i && b) (over (v.hits e.name i) c.1))
 
-      execs : list_any (is_ahead i v) (map (λ c. Count (Execs e.name e.key c.0 c.1) c.2) e.execs) ≡ list_any (λ c. c.1 == i && ahead_by order (v.execs e.name c.0 i) c.2) e.execs
+      execs : list_any (is_ahead i v) (execs_in e.name e.key e.execs) ≡ are_execs_ahead i v e.name order e.execs
       execs = any_map (is_ahead i v) (λ c. Count (Execs e.name e.key c.0 c.1) c.2) e.execs
           ∙ any_same _ (λ c. c.1 == i && ahead_by order (v.execs e.name c.0 i) c.2) e.execs (λ c. its_own i c.1 (λ j. not (knows_count e.key c.2 (v.execs e.name c.0 j) (v.key e.name))) ∙ ap (λ b. c.1 == i && b) (count_ahead e.key (v.execs e.name c.0 i) c.2 (v.key e.name)))
 
-      shifts : list_any (is_ahead i v) (map (λ c. Count (Shifts e.name e.key c.0 c.1 c.2) c.3) e.shifts) ≡ list_any (λ c. c.1 == i && ahead_by order (v.shifts e.name c.0 i c.2) c.3) e.shifts
+      shifts : list_any (is_ahead i v) (shifts_in e.name e.key e.shifts) ≡ are_shifts_ahead i v e.name order e.shifts
       shifts = any_map (is_ahead i v) (λ c. Count (Shifts e.name e.key c.0 c.1 c.2) c.3) e.shifts
           ∙ any_same _ (λ c. c.1 == i && ahead_by order (v.shifts e.name c.0 i c.2) c.3) e.shifts (λ c. its_own i c.1 (λ j. not (knows_count e.key c.3 (v.shifts e.name c.0 j c.2) (v.key e.name))) ∙ ap (λ b. c.1 == i && b) (count_ahead e.key (v.shifts e.name c.0 i c.2) c.3 (v.key e.name)))
 
-      cells : list_any (is_ahead i v) (map (λ c. Count (Hits e.name c.0) c.1) e.hits ++ (map (λ c. Count (Execs e.name e.key c.0 c.1) c.2) e.execs ++ map (λ c. Count (Shifts e.name e.key c.0 c.1 c.2) c.3) e.shifts)) ≡
-          (list_any (λ c. c.0 == i && nat_lt (v.hits e.name i) c.1) e.hits ||
-          (list_any (λ c. c.1 == i && ahead_by order (v.execs e.name c.0 i) c.2) e.execs ||
-          list_any (λ c. c.1 == i && ahead_by order (v.shifts e.name c.0 i c.2) c.3) e.shifts))
+      grants : list_any (is_ahead i v) (grants_in e.name e.key e.grants) ≡ are_grants_ahead i v e.name order e.grants
+      grants = any_map (is_ahead i v) (λ c. Count (Shifts e.name e.key c.0 c.1 c.1) c.2) e.grants
+          ∙ any_same _ (λ c. c.1 == i && ahead_by order (granted_in v e.name c.0 i) c.2) e.grants
+          (λ c. its_own i c.1 (λ j. not (knows_count e.key c.2 (granted_in v e.name c.0 j) (v.key e.name))) ∙ ap (λ b. c.1 == i && b) (count_ahead e.key (granted_in v e.name c.0 i) c.2 (v.key e.name)))
+
+      -- the operations of one kind, and those that follow them
+      then_any : (ops rest : List Operation) (a b : Bool) → list_any (is_ahead i v) ops ≡ a → list_any (is_ahead i v) rest ≡ b → list_any (is_ahead i v) (ops ++ rest) ≡ (a || b)
+      then_any ops rest a b h k = list_any-append (is_ahead i v) ops rest ∙ (λ j. (h j) || (k j))
+
+      cells : list_any (is_ahead i v) (hits_in e.name e.hits ++ (execs_in e.name e.key e.execs ++ (shifts_in e.name e.key e.shifts ++ grants_in e.name e.key e.grants))) ≡
+          (are_hits_ahead i v e.name e.hits || (are_execs_ahead i v e.name order e.execs || (are_shifts_ahead i v e.name order e.shifts || are_grants_ahead i v e.name order e.grants)))
       cells =
-          list_any-append (is_ahead i v) (map (λ c. Count (Hits e.name c.0) c.1) e.hits) _
-          ∙ (λ j. (hits j) || ((list_any-append (is_ahead i v) (map (λ c. Count (Execs e.name e.key c.0 c.1) c.2) e.execs) (map (λ c. Count (Shifts e.name e.key c.0 c.1 c.2) c.3) e.shifts) ∙ (λ l. (execs l) || (shifts l))) j))
+          then_any (hits_in e.name e.hits) _ _ _ hits
+          (then_any (execs_in e.name e.key e.execs) _ _ _ execs
+          (then_any (shifts_in e.name e.key e.shifts) (grants_in e.name e.key e.grants) _ _ shifts grants))
 
   -- the same, test by test
-  pub ahead_is : (o : Ordering) → o ≡ order → (keys hits execs shifts : Bool) → keys ≡ (e.key.node == i && is_gt o) → hits ≡ list_any (λ c. c.0 == i && nat_lt (v.hits e.name i) c.1) e.hits →
-      execs ≡ list_any (λ c. c.1 == i && ahead_by o (v.execs e.name c.0 i) c.2) e.execs → shifts ≡ list_any (λ c. c.1 == i && ahead_by o (v.shifts e.name c.0 i c.2) c.3) e.shifts →
-      (keys || (hits || (execs || shifts))) ≡ list_any (is_ahead i v) (operations_of e)
-  ahead_is o at keys hits execs shifts k h x s =
-      (λ j. (k j) || ((h j) || ((x j) || (s j))))
-      ∙ (λ j. (e.key.node == i && is_gt (at j)) ||
-      (list_any (λ c. c.0 == i && nat_lt (v.hits e.name i) c.1) e.hits ||
-      (list_any (λ c. c.1 == i && ahead_by (at j) (v.execs e.name c.0 i) c.2) e.execs ||
-      list_any (λ c. c.1 == i && ahead_by (at j) (v.shifts e.name c.0 i c.2) c.3) e.shifts)))
+  pub ahead_is : (o : Ordering) → o ≡ order → (keys hits execs shifts grants : Bool) → keys ≡ (e.key.node == i && is_gt o) → hits ≡ are_hits_ahead i v e.name e.hits →
+      execs ≡ are_execs_ahead i v e.name o e.execs → shifts ≡ are_shifts_ahead i v e.name o e.shifts → grants ≡ are_grants_ahead i v e.name o e.grants →
+      (keys || (hits || (execs || (shifts || grants)))) ≡ list_any (is_ahead i v) (operations_of e)
+  ahead_is o at keys hits execs shifts grants k h x s g =
+      (λ j. (k j) || ((h j) || ((x j) || ((s j) || (g j)))))
+      ∙ (λ j. (e.key.node == i && is_gt (at j)) || (are_hits_ahead i v e.name e.hits || (are_execs_ahead i v e.name (at j) e.execs ||
+      (are_shifts_ahead i v e.name (at j) e.shifts || are_grants_ahead i v e.name (at j) e.grants))))
       ∙ sym entry_ahead

@@ -23,3 +23,4 @@ refused_so (wires.CellOrder offset) read h = inr (ap (λ r. bad_message (read_of
 refused_so (wires.ZeroCell offset) read h = inr (ap (λ r. bad_message (read_of r)) h)
 refused_so (wires.BadTerm offset) read h = inr (ap (λ r. bad_message (read_of r)) h)
 refused_so (wires.TooBig offset) read h = inr (ap (λ r. bad_message (read_of r)) h)
+refused_so (wires.NoGrant offset) read h = inr (ap (λ r. bad_message (read_of r)) h)

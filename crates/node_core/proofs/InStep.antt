@@ -1,5 +1,5 @@
 -- What a node holds stays in step with its trace, when a call is put at its end.
-use Rattle.std.proofs.Common.{◌≡◌, ◌≢◌, ℕ, ◌+◌, ◌<◌, ◌^◌, max, Bool, true, nat_lt, List, [], ◌∷◌, ◌++◌, length, map, Option, Some, Result, IsTrue, subst, sym, ◌∙◌, ap}
+use Rattle.std.proofs.Common.{◌≡◌, ℕ, ◌+◌, ◌<◌, ◌^◌, max, Bool, true, nat_lt, List, [], ◌∷◌, ◌++◌, length, map, Option, Some, Result, IsTrue, subst, sym, ◌∙◌, ap}
 use Rattle.std.proofs.lemmas.List.{map-append}
 use Rattle.std.specs.Int.{from_bool}
 use Rattle.std.specs.Prelude.{pos, ◌≤ℤ◌}
@@ -13,7 +13,7 @@ use Rattle.delta_exchange.specs.Spelling.{IsBody}
 use Rattle.delta_exchange.specs.Told.{HasLearned}
 use Rattle.node_core.specs.declared.config.Config.{Config}
 use Rattle.node_core.specs.declared.trace.Entry.{Entry}
-use Rattle.node_core.specs.Asks.{Call, Message, Load, Pass, Shift, Deliver, call, emit_of}
+use Rattle.node_core.specs.Asks.{Asked, Call, Message, Load, Pass, Deliver, call, emit_of}
 use Rattle.node_core.specs.Outcomes.{AreTellable, HasKey, ops_done, state_done, state_loaded}
 use Rattle.node_core.specs.Passes.{pass_ops}
 use Rattle.node_core.specs.Room.{HasRoom, HasClocks, HasPlace, HavePlaces}
@@ -21,8 +21,9 @@ use Rattle.node_core.specs.Steps.{message_in, new_key, points_in, settings}
 use Rattle.node_core.specs.Traces.{Kept, kept_of, node_of, state_known}
 use Rattle.node_core.specs.Holds.{IsInStep}
 use Rattle.node_core.specs.Deliveries.{IsDelivery}
-use Rattle.node_core.proofs.Kept.{issue_kept, load_kept, pass_kept, shift_kept, emit_kept, deliver_kept}
-use Rattle.node_core.proofs.KeptTelling.{issue_tell, load_tell, pass_tell, shift_tell, emit_tell, deliver_tell}
+use Rattle.node_core.proofs.Kept.{issue_kept, load_kept, pass_kept, moved_kept, emit_kept, deliver_kept}
+use Rattle.node_core.proofs.KeptTelling.{issue_tell, load_tell, pass_tell, moved_tell, emit_tell, deliver_tell}
+use Rattle.node_core.proofs.ShiftSteps.{MovesAs, MayMove}
 
 abbrev pub with_call : Kept → Call → Kept
 with_call k c = record { config = k.config; trace = k.trace ++ c ∷ [] }
@@ -66,12 +67,12 @@ module _ (k : Kept) (clock version : ℕ) (state next : State) (c : Call) (is : 
     pass_tell k.config clock version state k.trace c is.0 is.1 room name words is_set spent more asks with ops (λ b. (key b).1) (λ b. (key b).0) right counted,
   )
 
-  pub shift_in_step : (name : List ℕ) (term to amount total : ℕ) → c.ask ≡ Shift name term to amount → c.words ≡ [] → HasKey (state_known k) name →
-      (to ≢ k.config.node) × (pos amount ≤ℤ rights_of (state_known k) name term k.config.node) → (to < k.config.nodes) × (0 < amount) → term < 2 ^ 8 →
+  pub moved_in_step : (ask : Asked) (name : List ℕ) (term to amount total : ℕ) → c.ask ≡ ask → c.words ≡ [] → MovesAs k.config.node ask name term to amount → HasKey (state_known k) name →
+      MayMove k.config (state_known k) name term to amount → term < 2 ^ 8 →
       total ≡ (state_known k).shifts name term k.config.node to + amount → next ≡ with_shifts name term k.config.node to total state → IsInStepThen clock 1
-  shift_in_step name term to amount total asks with set enough there low sum s = (
-    shift_kept k.config clock state next k.trace c is.0 room name term to amount total asks with set enough sum s,
-    shift_tell k.config clock version state k.trace c is.0 is.1 room name term to amount asks with set enough there low,
+  moved_in_step ask name term to amount total asks with moves set may low sum s = (
+    moved_kept k.config clock state next k.trace c is.0 room ask name term to amount total asks with moves set may sum s,
+    moved_tell k.config clock version state k.trace c is.0 is.1 room ask name term to amount asks with moves set may low,
   )
 
   pub deliver_in_step : (read : Result Message WireFault) (later last : ℕ) (changed : Bool) (more : ℕ) → c.ask ≡ Deliver read → c.words ≡ [] →

@@ -1,5 +1,5 @@
 -- What a node holds stays in step with its trace, when an entry is put at its end.
-use Rattle.std.proofs.Common.{◌≡◌, ◌≢◌, ℕ, ◌+◌, ◌<◌, max, Bool, true, List, [], ◌∷◌, ◌++◌, length, Option, Some, None, Result, refl, subst, sym, ◌∙◌, ap}
+use Rattle.std.proofs.Common.{◌≡◌, ℕ, ◌+◌, ◌<◌, max, Bool, true, List, [], ◌∷◌, ◌++◌, length, Option, Some, None, Result, refl, subst, sym, ◌∙◌, ap}
 use Rattle.std.proofs.lemmas.List.{length-map}
 use Rattle.std.specs.Option.{IsSome}
 use Rattle.std.proofs.lemmas.Bool.{true≢false}
@@ -11,7 +11,7 @@ use Rattle.replica_state.specs.Folds.{fold}
 use Rattle.delta_exchange.specs.declared.fault.WireFault.{WireFault}
 use Rattle.delta_exchange.specs.Told.{HasLearned}
 use Rattle.node_core.specs.declared.config.Config.{Config}
-use Rattle.node_core.specs.Asks.{Asked, Call, Message, Load, Pass, Shift, Deliver, emit_of}
+use Rattle.node_core.specs.Asks.{Asked, Call, Message, Load, Pass, Deliver, emit_of}
 use Rattle.node_core.specs.Nodes.{Node, state_shown, setting_of}
 use Rattle.node_core.specs.Passes.{ops_of_pass}
 use Rattle.node_core.specs.Outcomes.{ops_done, state_done, state_set, IsHeld}
@@ -22,7 +22,7 @@ use Rattle.node_core.specs.Deliveries.{IsDelivery}
 use Rattle.node_core.proofs.TraceLemmas.{holds_grown, holds_pass}
 use Rattle.node_core.proofs.SettingSteps.{Issues, issues_some, issues_load, fold_alone, fold_merged, holds_set}
 use Rattle.node_core.proofs.DeliverySteps.{holds_emit, holds_delivered}
-use Rattle.node_core.proofs.ShiftSteps.{holds_shift}
+use Rattle.node_core.proofs.ShiftSteps.{MovesAs, MayMove, holds_moved}
 
 module _ (config : Config) (clock : ℕ) (state next : State) (trace : List Call) (c : Call)
     (h : Holds config clock state (length trace) (replay config.node trace)) (space : length trace < config.trace_cap) where
@@ -42,7 +42,7 @@ module _ (config : Config) (clock : ℕ) (state next : State) (trace : List Call
   set_kept : (ask : Asked) → c.ask ≡ ask → c.words ≡ [] → Issues ask → next ≡ state_set config.node clock (settings ask) state → HoldsThen (clock + length (settings ask))
   set_kept ask is with issues s = put (clock + length (settings ask)) ask [] is with (holds_set config clock state next (length trace) n ask issues h space s)
 
-  -- after one point got a key, after a load, after a pass, and after a shift
+  -- after one point got a key, after a load, after a pass, and after rights were moved
   pub issue_kept : (name : List ℕ) (body : Option (List ℕ)) → c.words ≡ [] → settings c.ask ≡ (name, body) ∷ [] → next ≡ with_key name (new_key config.node clock body) state → HoldsThen (clock + 1)
   issue_kept name body with setting s =
       subst (λ ss. HoldsThen (clock + length ss)) setting
@@ -61,17 +61,17 @@ module _ (config : Config) (clock : ℕ) (state next : State) (trace : List Call
   pub pass_kept : (name words : List ℕ) (is_set : Bool) (spent : Option ℕ) → c.ask ≡ Pass name → c.words ≡ words → ops_of_pass config.node state name words (setting_of state name) ≡ ops_done config.node state name is_set spent → (is_set ≡ true → IsHeld state name) → (is_set ≡ true → IsSome (state.key name)) → ((k : ℕ) → spent ≡ Some k → pos 1 ≤ℤ rights_of state name k config.node) → next ≡ state_done config.node state name is_set spent → HoldsThen clock
   pass_kept name words is_set spent is with ops held key right s = put clock (Pass name) words is with (holds_pass config clock state next (length trace) n name words is_set spent h space ops held key right s)
 
-  pub shift_kept : (name : List ℕ) (term to amount total : ℕ) → c.ask ≡ Shift name term to amount → c.words ≡ [] →
-      IsSome ((state_shown n).key name) × IsHeld (state_shown n) name → (to ≢ config.node) × (pos amount ≤ℤ rights_of (state_shown n) name term config.node) →
+  pub moved_kept : (ask : Asked) (name : List ℕ) (term to amount total : ℕ) → c.ask ≡ ask → c.words ≡ [] → MovesAs config.node ask name term to amount →
+      IsSome ((state_shown n).key name) × IsHeld (state_shown n) name → MayMove config (state_shown n) name term to amount →
       total ≡ (state_shown n).shifts name term config.node to + amount → next ≡ with_shifts name term config.node to total state → HoldsThen clock
-  shift_kept name term to amount total is with set enough more s = by_key (state.key name) refl (subst (λ (v : State). IsSome (v.key name)) h.state_is set.0)
+  moved_kept ask name term to amount total is with moves set may more s = by_key (state.key name) refl (subst (λ (v : State). IsSome (v.key name)) h.state_is set.0)
     where
       by_key : (found : Option KeyValue) → state.key name ≡ found → IsSome found → HoldsThen clock
       by_key None here some = absurd (true≢false (sym some))
       by_key (Some key) here some =
-          put clock (Shift name term to amount) [] is with
-          (holds_shift config clock state next (length trace) n name term to amount key h space here (subst (λ (v : State). IsHeld v name) h.state_is set.1) enough.0
-          (subst (λ (v : State). pos amount ≤ℤ rights_of v name term config.node) h.state_is enough.1)
+          put clock ask [] is with
+          (holds_moved config clock state next (length trace) n ask name term to amount key moves h space here (subst (λ (v : State). IsHeld v name) h.state_is set.1)
+          (subst (λ (v : State). MayMove config v name term to amount) h.state_is may)
           (s ∙ ap (λ t. with_shifts name term config.node to t state) (more ∙ ap (λ (v : State). v.shifts name term config.node to + amount) h.state_is)))
 
   pub deliver_kept : (read : Result Message WireFault) (later last : ℕ) → c.ask ≡ Deliver read → c.words ≡ [] → IsDelivery config n read later →

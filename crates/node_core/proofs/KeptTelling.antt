@@ -1,17 +1,14 @@
 -- A message can tell all that a node knows, when an entry is put at the end of its trace.
-use Rattle.std.proofs.Common.{◌≡◌, ◌≢◌, ℕ, ◌+◌, ◌<◌, ◌≤◌, ◌^◌, Bool, true, false, nat_lt, List, [], ◌∷◌, ◌++◌, length, map, Option, Some, None, Result, Ok, Err, inl, inr, IsTrue, refl, subst, sym, ◌∙◌, ap, arith}
+use Rattle.std.proofs.Common.{◌≡◌, ℕ, ◌+◌, ◌<◌, ◌≤◌, ◌^◌, Bool, true, false, nat_lt, List, [], ◌∷◌, ◌++◌, length, map, Option, Some, None, Result, Ok, Err, inl, inr, IsTrue, refl, subst, sym, ◌∙◌, ap, arith}
 use Rattle.std.proofs.lemmas.List.{length-map}
 use Rattle.std.proofs.lemmas.Bool.Decides.{nat_tests}
 use Rattle.std.specs.Option.{IsSome}
 use Rattle.std.proofs.lemmas.Bool.{true≢false}
-use Rattle.std.proofs.lemmas.Int.{ints}
-use Rattle.std.specs.Prelude.{pos, ◌≤ℤ◌, is_some, option_map, ℤ}
+use Rattle.std.specs.Prelude.{pos, ◌≤ℤ◌, is_some, option_map}
 use Rattle.std.specs.Int.{from_bool}
-use Rattle.std.specs.Option.{option_map_or}
 use Rattle.actions.specs.Names.{is_name}
-use Rattle.counters.specs.Budgets.{Budget, rights}
 use Rattle.stamp_register.specs.Keys.{KeyValue}
-use Rattle.replica_state.specs.States.{State, with_name, with_shifts, budget, budget_under, rights_of}
+use Rattle.replica_state.specs.States.{State, with_name, with_shifts, budget, budget_under, budget_of, rights_of}
 use Rattle.replica_state.specs.Operations.{count_of}
 use Rattle.replica_state.specs.Folds.{fold, clock_of}
 use Rattle.replica_state.specs.Knowledge.{changes}
@@ -21,7 +18,7 @@ use Rattle.delta_exchange.specs.Spelling.{IsBody}
 use Rattle.delta_exchange.specs.Wholes.{AreLawful}
 use Rattle.delta_exchange.proofs.LawfulLemmas.{lawful_together}
 use Rattle.node_core.specs.declared.config.Config.{Config}
-use Rattle.node_core.specs.Asks.{Asked, Call, Message, Load, Pass, Shift, Deliver, emit_of}
+use Rattle.node_core.specs.Asks.{Asked, Call, Message, Load, Pass, Deliver, emit_of}
 use Rattle.node_core.specs.Nodes.{Node, state_shown, setting_of}
 use Rattle.node_core.specs.Passes.{ops_of_pass}
 use Rattle.node_core.specs.Outcomes.{ops_done, state_done, state_set, AreTellable, IsHeld}
@@ -32,23 +29,17 @@ use Rattle.node_core.specs.Deliveries.{IsDelivery}
 use Rattle.node_core.specs.Refusals.{too_many}
 use Rattle.node_core.proofs.SettingSteps.{Issues, issues_some, issues_load, fold_issued, names_set, names_loaded}
 use Rattle.node_core.proofs.TraceLemmas.{holds_pass}
-use Rattle.node_core.proofs.ShiftSteps.{holds_shift}
+use Rattle.node_core.proofs.ShiftSteps.{MovesAs, MayMove, holds_moved}
 use Rattle.node_core.proofs.LawfulSteps.{set_lawful, pass_lawful, shift_lawful, set_changes, pass_changes, shift_changes}
 use Rattle.node_core.proofs.Telling.{tell_grown, tell_after, shown_after, done_names, shift_names}
 
--- a term of which there are rights is counted
-abbrev rights_left : State → List ℕ → ℕ → ℕ → KeyValue → Option ℕ → ℤ
-rights_left v name term i key found = option_map_or (λ (b : Budget). rights b i) (option_map (λ n. budget v name term key.node n) found) (pos 0)
-
-counts_some : (v : State) (name : List ℕ) (term i amount : ℕ) (key : KeyValue) → v.key name ≡ Some key → 0 < amount → pos amount ≤ℤ rights_of v name term i → IsTrue (is_some (count_of key term))
-counts_some v name term i amount key here more enough = by_count (count_of key term) refl
+-- the key of a term with a budget counts it
+counts_some : (v : State) (name : List ℕ) (term : ℕ) (key : KeyValue) → v.key name ≡ Some key → IsSome (budget_of v name term) → IsTrue (is_some (count_of key term))
+counts_some v name term key here counted = by_count (count_of key term) (subst (λ (o : Option KeyValue). IsSome (budget_under v name term o)) here counted)
   where
-    under : pos amount ≤ℤ rights_left v name term i key (count_of key term)
-    under = subst (λ (o : Option KeyValue). pos amount ≤ℤ option_map_or (λ (b : Budget). rights b i) (budget_under v name term o) (pos 0)) here enough
-
-    by_count : (found : Option ℕ) → count_of key term ≡ found → IsTrue (is_some found)
-    by_count None e = absurd (let none : pos amount ≤ℤ pos 0 = subst (λ (o : Option ℕ). pos amount ≤ℤ rights_left v name term i key o) e under in omega (arith, ints, none, more))
-    by_count (Some n) e = refl
+    by_count : (found : Option ℕ) → IsSome (option_map (λ n. budget v name term key.node n) found) → IsTrue (is_some found)
+    by_count None some = absurd (true≢false (sym some))
+    by_count (Some n) some = refl
 
 module _ (config : Config) (clock version : ℕ) (state : State) (trace : List Call) (c : Call)
     (h : Holds config clock state (length trace) (replay config.node trace)) (t : CanTell config version (length trace) (replay config.node trace)) (space : length trace < config.trace_cap) where
@@ -79,7 +70,7 @@ module _ (config : Config) (clock version : ℕ) (state : State) (trace : List C
       (subst (λ ops. AreLawful config.nodes (ops ++ n.ops)) (sym adds) (lawful_together config.nodes (operations_issued config.node n.marks.clock (settings ask)) n.ops (set_lawful config.nodes config.node n.marks.clock (settings ask) h.own fits each) t.lawful))
       (subst (λ ns. length ns ≤ 256) (sym (ap (λ ops. (fold (ops ++ n.ops)).names) adds ∙ ap (λ (v : State). v.names) (fold_issued config.node n.marks.clock (settings ask) n.ops clock_known) ∙ names_set config.node n.marks.clock (settings ask) (fold n.ops))) few))
 
-  -- after one point got a key, after a load, after a pass, after a shift, after a message was made, and after a delivery
+  -- after one point got a key, after a load, after a pass, after rights were moved, after a message was made, and after a delivery
   pub issue_tell : (name : List ℕ) (body : Option (List ℕ)) → c.words ≡ [] → settings c.ask ≡ (name, body) ∷ [] → n.marks.clock + 1 < 2 ^ 64 → IsTrue (is_name name) → IsBody body →
       too_many (with_name name (state_shown n).names) ≡ false → TellsThen (version + 1)
   issue_tell name body with setting fits named bodied few =
@@ -118,22 +109,22 @@ module _ (config : Config) (clock version : ℕ) (state : State) (trace : List C
       (λ b. subst (λ (v : State). IsSome (v.key name)) (sym same) (key b)) (λ k s. ((right k s).0, subst (λ (v : State). pos 1 ≤ℤ rights_of v name k config.node) (sym same) (right k s).1))))
       (subst (λ ns. length ns ≤ 256) (sym (sym (ap (λ (v : State). v.names) (shown_after config.node n (Pass name) words)) ∙ ap (λ (v : State). v.names) then ∙ done_names config.node state name is_set spent ∙ ap (λ (v : State). v.names) (sym same))) t.few_names)))
 
-  pub shift_tell : (name : List ℕ) (term to amount : ℕ) → c.ask ≡ Shift name term to amount → c.words ≡ [] → IsSome ((state_shown n).key name) × IsHeld (state_shown n) name → (to ≢ config.node) × (pos amount ≤ℤ rights_of (state_shown n) name term config.node) →
-      (to < config.nodes) × (0 < amount) → term < 2 ^ 8 → TellsThen (version + 1)
-  shift_tell name term to amount is with set enough there low = by_key ((state_shown n).key name) refl set.0
+  pub moved_tell : (ask : Asked) (name : List ℕ) (term to amount : ℕ) → c.ask ≡ ask → c.words ≡ [] → MovesAs config.node ask name term to amount → IsSome ((state_shown n).key name) × IsHeld (state_shown n) name →
+      MayMove config (state_shown n) name term to amount → term < 2 ^ 8 → TellsThen (version + 1)
+  moved_tell ask name term to amount is with moves set may low = by_key ((state_shown n).key name) refl set.0
     where
       by_key : (found : Option KeyValue) → (state_shown n).key name ≡ found → IsSome found → TellsThen (version + 1)
       by_key None here some = absurd (true≢false (sym some))
       by_key (Some key) here some =
           let same : fold n.ops ≡ state = h.state_is in
-          let adds : shift_under config.node (state_shown n) name term to amount ((state_shown n).key name) ≡ shift_under config.node (state_shown n) name term to amount (Some key) = ap (shift_under config.node (state_shown n) name term to amount) here in
-          let then = (holds_shift config clock state (with_shifts name term config.node to (state.shifts name term config.node to + amount) state) (length trace) n name term to amount key h space
-          (sym (ap (λ (v : State). v.key name) same) ∙ here) (subst (λ (v : State). IsHeld v name) same set.1) enough.0 (subst (λ (v : State). pos amount ≤ℤ rights_of v name term config.node) same enough.1) refl).state_is in
-          put (version + 1) (Shift name term to amount) [] is with
-          (tell_after config version (length trace) n (Shift name term to amount) [] true t
-          (ap (changes (state_shown n)) adds ∙ shift_changes config.node (state_shown n) name term to amount key there.1 here)
-          (subst (λ os. AreLawful config.nodes (os ++ n.ops)) (sym adds) (shift_lawful config.nodes config.node n.ops name term to amount h.own there.0 enough.0 there.1 low t.lawful key here (counts_some (state_shown n) name term config.node amount key here there.1 enough.1)))
-          (subst (λ ns. length ns ≤ 256) (sym (sym (ap (λ (v : State). v.names) (shown_after config.node n (Shift name term to amount) [])) ∙ ap (λ (v : State). v.names) then ∙ shift_names name term config.node to _ state ∙ ap (λ (v : State). v.names) (sym same))) t.few_names))
+          let adds : operations_added config.node n ask [] ≡ shift_under config.node (state_shown n) name term to amount (Some key) = moves.adds n ∙ ap (shift_under config.node (state_shown n) name term to amount) here in
+          let then = (holds_moved config clock state (with_shifts name term config.node to (state.shifts name term config.node to + amount) state) (length trace) n ask name term to amount key moves h space
+          (sym (ap (λ (v : State). v.key name) same) ∙ here) (subst (λ (v : State). IsHeld v name) same set.1) (subst (λ (v : State). MayMove config v name term to amount) same may) refl).state_is in
+          put (version + 1) ask [] is with
+          (tell_after config version (length trace) n ask [] true t
+          (ap (changes (state_shown n)) adds ∙ shift_changes config.node (state_shown n) name term to amount key may.some here)
+          (subst (λ os. AreLawful config.nodes (os ++ n.ops)) (sym adds) (shift_lawful config.nodes config.node n.ops name term to amount h.own may.there may.some low t.lawful key here (counts_some (state_shown n) name term key here may.counted)))
+          (subst (λ ns. length ns ≤ 256) (sym (sym (ap (λ (v : State). v.names) (shown_after config.node n ask [])) ∙ ap (λ (v : State). v.names) then ∙ shift_names name term config.node to _ state ∙ ap (λ (v : State). v.names) (sym same))) t.few_names))
 
   pub emit_tell : (to : ℕ) (read : Result Message WireFault) → c.ask ≡ emit_of to read → c.words ≡ [] → TellsThen version
   emit_tell to (Ok m) is with =

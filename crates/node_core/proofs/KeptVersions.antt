@@ -29,6 +29,7 @@ use Rattle.node_core.proofs.Changed.{changes_kept, nothing_changes, changes_star
 use Rattle.node_core.proofs.InStep.{with_call}
 use Rattle.node_core.proofs.LawfulSteps.{set_changes, pass_changes, shift_changes}
 use Rattle.node_core.proofs.Pasts.{HasHistory, has_history}
+use Rattle.node_core.proofs.ShiftSteps.{MovesAs}
 use Rattle.node_core.proofs.SettingSteps.{issues_some, fold_issued}
 use Rattle.node_core.proofs.TraceLemmas.{replay_more}
 
@@ -147,6 +148,7 @@ issues_leave n (asks.Remove name) s ss h = (refl, refl)
 issues_leave n (asks.Load text) s ss h = (refl, refl)
 issues_leave n (asks.Pass name) s ss h = (refl, refl)
 issues_leave n (asks.Shift name term to amount) s ss h = (refl, refl)
+issues_leave n (asks.Grant name term amount) s ss h = (refl, refl)
 issues_leave n (asks.Emit to versions chosen) s ss h = (refl, refl)
 issues_leave n (asks.Deliver read) s ss h = absurd (let impossible : ◌≡◌ {A = Settings} [] (s ∷ ss) = h in cc)
 
@@ -213,15 +215,15 @@ module _ (k : Kept) (c : Call) (value : VersionedValue) (is : KeepsVersions (nod
       (ap (λ (v : State). changes v (pass_ops i v name words)) is.state_is ∙ ap (changes value.state) ops)
       (refl, refl))
 
-  -- rights are shifted
-  pub shift_versions : (name : List ℕ) (term to amount total : ℕ) (next : VersionedValue) → c.ask ≡ asks.Shift name term to amount → c.words ≡ [] → IsSome (value.state.key name) → 0 < amount →
+  -- rights are moved
+  pub moved_versions : (ask : Asked) (name : List ℕ) (term to amount total : ℕ) (next : VersionedValue) → c.ask ≡ ask → c.words ≡ [] → MovesAs i ask name term to amount → IsSome (value.state.key name) → 0 < amount →
       state_known (with_call k c) ≡ with_shifts name term i to total value.state → ChangesTo value (with_shifts name term i to total value.state) next → KeepsThen next
-  shift_versions name term to amount total next asked with set more shown step =
-      put (asks.Shift name term to amount) [] next asked with
-      (versions_change i n (asks.Shift name term to amount) [] value has is (with_shifts name term i to total value.state) next
-      (ap (λ (v : State). changes v (shift_under i v name term to amount (v.key name))) is.state_is ∙ by_key (value.state.key name) refl set)
-      (refl, refl)
-      (sym shown ∙ shown_then (asks.Shift name term to amount) [] asked with)
+  moved_versions ask name term to amount total next asked with moves set more shown step =
+      put ask [] next asked with
+      (versions_change i n ask [] value has is (with_shifts name term i to total value.state) next
+      (ap (changes (state_shown n)) (moves.adds n) ∙ ap (λ (v : State). changes v (shift_under i v name term to amount (v.key name))) is.state_is ∙ by_key (value.state.key name) refl set)
+      (moves.known n, moves.acked n)
+      (sym shown ∙ shown_then ask [] asked with)
       step)
     where
       by_key : (found : Option KeyValue) → value.state.key name ≡ found → IsSome found → changes value.state (shift_under i value.state name term to amount found) ≡ true

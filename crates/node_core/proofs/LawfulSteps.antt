@@ -1,5 +1,5 @@
 -- What a node adds by its own calls can be told, and whether it changes the state.
-use Rattle.std.proofs.Common.{◌≡◌, ◌≢◌, ℕ, ◌+◌, ◌<◌, ◌≤◌, ◌^◌, Bool, true, false, cond, not, ◌||◌, nat_lt, nat_le, List, [], ◌∷◌, ◌++◌, length, inl, inr, ⊎_elim, Option, Some, None, refl, sym, ◌∙◌, ap, subst, arith}
+use Rattle.std.proofs.Common.{◌≡◌, ℕ, ◌+◌, ◌<◌, ◌≤◌, ◌^◌, Bool, true, false, cond, not, ◌||◌, nat_lt, nat_le, List, [], ◌∷◌, ◌++◌, length, inl, inr, ⊎_elim, Option, Some, None, refl, sym, ◌∙◌, ap, subst, arith}
 use Rattle.std.proofs.lemmas.Bool.{true≢false, lt-ltb}
 use Rattle.std.proofs.lemmas.Bool.Decides.{nat_tests}
 use Rattle.std.proofs.lemmas.Int.{ints}
@@ -139,13 +139,13 @@ pub pass_lawful : (nodes i : ℕ) (known : List Operation) (name : List ℕ) (is
 pass_lawful nodes i known name false spent node lawful key right = lawful
 pass_lawful nodes i known name true spent node lawful key right = done_lawful nodes i known name node lawful spent right ((fold known).key name) refl (key refl)
 
--- ---- a shift
+-- ---- a shift, or a grant
 
-pub shift_lawful : (nodes i : ℕ) (known : List Operation) (name : List ℕ) (term to amount : ℕ) → i < nodes → to < nodes → to ≢ i → 0 < amount → term < 2 ^ 8 → AreLawful nodes known →
+pub shift_lawful : (nodes i : ℕ) (known : List Operation) (name : List ℕ) (term to amount : ℕ) → i < nodes → to < nodes → 0 < amount → term < 2 ^ 8 → AreLawful nodes known →
     (key : KeyValue) → (fold known).key name ≡ Some key → IsTrue (is_some (count_of key term)) → AreLawful nodes (shift_under i (fold known) name term to amount (Some key) ++ known)
-shift_lawful nodes i known name term to amount node other apart some small lawful key e counts =
+shift_lawful nodes i known name term to amount node other some small lawful key e counts =
     let own = held_lawful nodes name key known lawful e in
-    let shift : IsLawful nodes (Count (Shifts name key term i to) ((fold known).shifts name term i to + amount)) = (own.0, own.1, (counts, small), node, other, apart, omega (arith, some)) in
+    let shift : IsLawful nodes (Count (Shifts name key term i to) ((fold known).shifts name term i to + amount)) = (own.0, own.1, (counts, small), node, other, omega (arith, some)) in
     lawful_more nodes (Count (Shifts name key term i to) ((fold known).shifts name term i to + amount) ∷ []) known lawful (each shift) keyed
   where
     each : IsLawful nodes (Count (Shifts name key term i to) ((fold known).shifts name term i to + amount)) → (op : Operation) → IsIn op (Count (Shifts name key term i to) ((fold known).shifts name term i to + amount) ∷ []) → IsLawful nodes op

@@ -1,10 +1,10 @@
 -- What a want of memory says of the bytes that were read.
-use Rattle.std.proofs.Common.{◌≡◌, ◌≢◌, ℕ, List, length, Bool, true, false, Result, Ok, Err, IsOk, IfErr, ◌∷◌, [], rules}
-use Rattle.std.specs.Prelude.{nat_le, nat_lt, bytes_eq, not, ◌==◌}
+use Rattle.std.proofs.Common.{◌≡◌, ◌≢◌, ℕ, List, length, Bool, true, false, cond, Result, Ok, Err, IsOk, IfErr, ◌∷◌, [], rules}
+use Rattle.std.specs.Prelude.{nat_le, nat_lt, not, ◌==◌}
 use Rattle.std.specs.Int.{w64, byte_len}
 use Rattle.delta_exchange.specs.declared.fault.WireFault.{WireFault}
 use Rattle.delta_exchange.specs.declared.fault.WireFault.TheVariants as wires
-use Rattle.delta_exchange.specs.Spelling.{max_message, magic}
+use Rattle.delta_exchange.specs.Spelling.{max_message}
 use Rattle.refusals.specs.Refusals.{◌>>=◌}
 use Rattle.delta_exchange.specs.Reading.{wants, offset, bytes_at, number_at, byte_at, node_at, other_node_at, magic_at, versions_at, header_at, header_of}
 use Rattle.node_core.specs.declared.fault.NodeFault.TheVariants as faults
@@ -49,17 +49,23 @@ versions_no_want all left =
     then_no_want _ _ (number_at all w64 base.1) _ (number_no_want all base.1) (λ upto.
     then_no_want _ _ (number_at all w64 upto.1) _ (number_no_want all upto.1) (λ ack. tt)))
 
+-- of bytes that are the first of one form, the first of another, or neither
+form_no_want : (F : Type 0) (is_one is_other : Bool) (one other : F) (at : ℕ) (left : List ℕ) → NoWant {A = F × List ℕ} (cond is_one (Ok (one, left)) (cond is_other (Ok (other, left)) (Err (wires.Magic at))))
+form_no_want F true is_other one other at left = tt
+form_no_want F false true one other at left = tt
+form_no_want F false false one other at left = λ e. cc
+
 magic_no_want : (all : ℕ) (left : List ℕ) → NoWant (magic_at all left)
 unfolding magic_at bytes_at
 magic_no_want all left =
     then_no_want _ _ (bytes_at all 4 left) _ (wants_no_want _ (nat_le 4 (length left)) (wires.Short (offset all left)) _ (λ e. cc))
-    (λ first. wants_no_want _ (bytes_eq first.0 magic) (wires.Magic (offset all left)) first.1 (λ e. cc))
+    (λ first. search (rules, form_no_want))
 
 header_no_want : (all nodes : ℕ) (left : List ℕ) → NoWant (header_at all nodes left)
 unfolding header_at
 header_no_want all nodes left =
-    then_no_want _ _ (magic_at all left) _ (magic_no_want all left) (λ after.
-    then_no_want _ _ (node_at all nodes after) _ (node_no_want all nodes after) (λ from.
+    then_no_want _ _ (magic_at all left) _ (magic_no_want all left) (λ form.
+    then_no_want _ _ (node_at all nodes form.1) _ (node_no_want all nodes form.1) (λ from.
     then_no_want _ _ (other_node_at all nodes from.0 from.1) _ (other_no_want all nodes from.0 from.1) (λ to.
     then_no_want _ _ (versions_at all to.1) _ (versions_no_want all to.1) (λ versions. tt))))
 

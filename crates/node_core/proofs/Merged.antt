@@ -7,19 +7,19 @@ use Rattle.std.specs.declared.cmp.Ordering.{Ordering}
 use Rattle.std.specs.declared.cmp.Ordering.TheVariants.{Less, Equal, Greater}
 use Rattle.counters.specs.Sums.{node_numbers, sum_below}
 use Rattle.stamp_register.specs.Keys.{KeyValue}
-use Rattle.replica_state.specs.Operations.{Operation, Set, Count, Hits, Execs, Shifts, count_at}
-use Rattle.replica_state.specs.States.{State}
+use Rattle.replica_state.specs.Operations.{Operation, Cell, Set, Count, Hits, Execs, Shifts, count_at}
+use Rattle.replica_state.specs.States.{State, granted_in}
 use Rattle.replica_state.specs.Folds.{fold, name_in, key_of, number_at, at_key}
 use Rattle.replica_state.specs.Unions.{key_order, number_both, with_names, union_of}
 use Rattle.replica_state.proofs.Sets.{number_at-least}
 use Rattle.replica_state.proofs.SetJoins.{fold-unites}
 use Rattle.replica_state.proofs.StateOrders.{stands_above, stands_equal, stands_below}
 use Rattle.delta_exchange.specs.declared.message.NameEntry.{NameEntry}
-use Rattle.delta_exchange.specs.Messages.{EntryValue, entry_value, operations_of}
-use Rattle.delta_exchange.specs.Wholes.{AreLawful}
+use Rattle.delta_exchange.specs.Messages.{EntryValue, entry_value, operations_of, hits_in, execs_in, shifts_in, grants_in}
+use Rattle.delta_exchange.specs.Wholes.{IsLawful, AreLawful}
 use Rattle.node_core.specs.Nodes.{setting_of, setting_in, terms_in}
-use Rattle.node_core.specs.Refusals.{any_below, is_above, is_overspent, overspends}
-use Rattle.node_core.specs.Deliveries.{terms_both, execs_both, is_overspent_below}
+use Rattle.node_core.specs.Refusals.{any_below, is_above, all_granted, is_overspent, overspends}
+use Rattle.node_core.specs.Deliveries.{terms_both, execs_both, granted_both, is_overspent_below}
 use Rattle.node_core.proofs.Ahead.{any_told}
 use Rattle.node_core.proofs.SettingSteps.{names_united, turned}
 
@@ -47,6 +47,10 @@ module _ (v t : State) (name : List ℕ) where
   unfolding union_of
   execs_united term node = refl
 
+  granted_united : (term node : ℕ) → granted_in (union_of v t) name term node ≡ number_both order (granted_in v name term node) (granted_in t name term node)
+  unfolding union_of
+  granted_united term node = refl
+
 sum_same : (n : ℕ) (f g : ℕ → ℕ) → ((i : ℕ) → f i ≡ g i) → sum_below n f ≡ sum_below n g
 sum_same zero f g h = refl
 sum_same (suc n) f g h = λ i. h n i + sum_same n f g h i
@@ -64,42 +68,52 @@ any_same : (n : ℕ) (f g : ℕ → Bool) → ((i : ℕ) → f i ≡ g i) → an
 any_same zero f g h = refl
 any_same (suc n) f g h = λ i. h n i || any_same n f g h i
 
--- no node outside of the cluster executed anything
-no_execs_in : (nodes : ℕ) (ops : List Operation) → AreLawful nodes ops → (name : List ℕ) (key : KeyValue) (term node : ℕ) → nodes ≤ node → number_at (Execs name key term node) ops ≡ 0
-no_execs_in nodes ops lawful name key term node high =
-    let none = number_at-least (Execs name key term node) 0 ops (λ n h. absurd (let low = (lawful.each (Count (Execs name key term node) n) h).3 in omega (arith, low, high))) in
-    omega (arith, none)
-
-no_execs : (nodes : ℕ) (ops : List Operation) → AreLawful nodes ops → (name : List ℕ) (term node : ℕ) → nodes ≤ node → (fold ops).execs name term node ≡ 0
-unfolding fold
-no_execs nodes ops lawful name term node high = by_key (key_of name ops)
-  where
-    by_key : (o : Option KeyValue) → at_key o (λ key. number_at (Execs name key term node) ops) ≡ 0
-    by_key None = refl
-    by_key (Some key) = no_execs_in nodes ops lawful name key term node high
-
 none_both : (o : Ordering) (a b : ℕ) → a ≡ 0 → b ≡ 0 → number_both o a b ≡ 0
 none_both Less a b h k = h
 none_both Equal a b h k = omega (arith, h, k)
 none_both Greater a b h k = k
 
-module _ (nodes : ℕ) (few : nodes ≤ node_numbers) (ops known : List Operation) (v t : State) (is_v : v ≡ fold known) (is_t : t ≡ fold ops) (lawful : AreLawful nodes known) (brought : AreLawful nodes ops) where
-  execs_none : (name : List ℕ) (term node : ℕ) → nodes ≤ node → number_both (key_order (t.key name) (v.key name)) (v.execs name term node) (t.execs name term node) ≡ 0
-  execs_none name term node high =
-      none_both (key_order (t.key name) (v.key name)) (v.execs name term node) (t.execs name term node)
-      (ap (λ (s : State). s.execs name term node) is_v ∙ no_execs nodes known lawful name term node high)
-      (ap (λ (s : State). s.execs name term node) is_t ∙ no_execs nodes ops brought name term node high)
+-- the sum over all node numbers of what nodes outside of a cluster have none of
+sum_both : (nodes : ℕ) → nodes ≤ node_numbers → (o : Ordering) (f g both : ℕ → ℕ) → ((node : ℕ) → both node ≡ number_both o (f node) (g node)) →
+    ((node : ℕ) → nodes ≤ node → f node ≡ 0) → ((node : ℕ) → nodes ≤ node → g node ≡ 0) → sum_below node_numbers both ≡ sum_below nodes (λ node. number_both o (f node) (g node))
+sum_both nodes few o f g both same low other =
+    sum_same node_numbers both (λ node. number_both o (f node) (g node)) same
+    ∙ sum_upto nodes node_numbers (λ node. number_both o (f node) (g node)) (λ node high. none_both o (f node) (g node) (low node high) (other node high)) few
 
+-- no node outside of the cluster executed or granted anything
+module _ (nodes : ℕ) (ops : List Operation) (lawful : AreLawful nodes ops) (node : ℕ) (high : nodes ≤ node) where
+  none_under : (cell : KeyValue → Cell) → ((key : KeyValue) (n : ℕ) → IsLawful nodes (Count (cell key) n) → node < nodes) → (held : Option KeyValue) → at_key held (λ key. number_at (cell key) ops) ≡ 0
+  none_under cell inside None = refl
+  none_under cell inside (Some key) =
+      let none = number_at-least (cell key) 0 ops (λ n h. absurd (let low = inside key n (lawful.each (Count (cell key) n) h) in omega (arith, low, high))) in
+      omega (arith, none)
+
+  no_execs : (name : List ℕ) (term : ℕ) → (fold ops).execs name term node ≡ 0
+  unfolding fold
+  no_execs name term = none_under (λ key. Execs name key term node) (λ key n h. h.3) (key_of name ops)
+
+  no_grants : (name : List ℕ) (term : ℕ) → granted_in (fold ops) name term node ≡ 0
+  unfolding fold
+  no_grants name term = none_under (λ key. Shifts name key term node node) (λ key n h. h.3) (key_of name ops)
+
+module _ (nodes : ℕ) (few : nodes ≤ node_numbers) (ops known : List Operation) (v t : State) (is_v : v ≡ fold known) (is_t : t ≡ fold ops) (lawful : AreLawful nodes known) (brought : AreLawful nodes ops) where
   all_execs : (name : List ℕ) (term : ℕ) → sum_below node_numbers ((union_of v t).execs name term) ≡ execs_both nodes (key_order (t.key name) (v.key name)) v t name term
   all_execs name term =
-      sum_same node_numbers ((union_of v t).execs name term) (λ node. number_both (key_order (t.key name) (v.key name)) (v.execs name term node) (t.execs name term node)) (execs_united v t name term)
-      ∙ sum_upto nodes node_numbers (λ node. number_both (key_order (t.key name) (v.key name)) (v.execs name term node) (t.execs name term node)) (execs_none name term) few
+      sum_both nodes few (key_order (t.key name) (v.key name)) (v.execs name term) (t.execs name term) ((union_of v t).execs name term) (execs_united v t name term)
+      (λ node high. ap (λ (s : State). s.execs name term node) is_v ∙ no_execs nodes known lawful node high name term)
+      (λ node high. ap (λ (s : State). s.execs name term node) is_t ∙ no_execs nodes ops brought node high name term)
+
+  all_grants : (name : List ℕ) (term : ℕ) → all_granted (union_of v t) name term ≡ granted_both nodes (key_order (t.key name) (v.key name)) v t name term
+  all_grants name term =
+      sum_both nodes few (key_order (t.key name) (v.key name)) (granted_in v name term) (granted_in t name term) (granted_in (union_of v t) name term) (granted_united v t name term)
+      (λ node high. ap (λ (s : State). granted_in s name term node) is_v ∙ no_grants nodes known lawful node high name term)
+      (λ node high. ap (λ (s : State). granted_in s name term node) is_t ∙ no_grants nodes ops brought node high name term)
 
   name_overspent : (name : List ℕ) → is_overspent (union_of v t) name (terms_in (setting_of (union_of v t) name)) ≡ is_overspent_below nodes v t name
   name_overspent name =
       ap (is_overspent (union_of v t) name) (terms_by v t name (key_order (t.key name) (v.key name)) refl)
       ∙ any_same (length (terms_both (key_order (t.key name) (v.key name)) v t name)) _ _
-      (λ term. ap (is_above (count_at (terms_both (key_order (t.key name) (v.key name)) v t name) term)) (all_execs name term))
+      (λ term i. is_above (count_at (terms_both (key_order (t.key name) (v.key name)) v t name) term) (all_grants name term i) (all_execs name term i))
 
   -- each operation of an entry is of its name
   abbrev here : List ℕ → Bool
@@ -121,12 +135,13 @@ module _ (nodes : ℕ) (few : nodes ≤ node_numbers) (ops known : List Operatio
 
   entry_overspent : (e : EntryValue) → list_any (overspends (fold (ops ++ known))) (operations_of e) ≡ here e.name
   entry_overspent e =
-      ap (λ b. b || list_any (overspends (fold (ops ++ known))) (map (λ c. Count (Hits e.name c.0) c.1) e.hits ++ (map (λ c. Count (Execs e.name e.key c.0 c.1) c.2) e.execs ++ map (λ c. Count (Shifts e.name e.key c.0 c.1 c.2) c.3) e.shifts)))
+      ap (λ b. b || list_any (overspends (fold (ops ++ known))) (hits_in e.name e.hits ++ (execs_in e.name e.key e.execs ++ (shifts_in e.name e.key e.shifts ++ grants_in e.name e.key e.grants))))
       (overspends_as (Set e.name e.key))
       ∙ all_here (λ c. Count (Hits e.name c.0) c.1) e.name (λ c. refl) e.hits _
       (all_here (λ c. Count (Execs e.name e.key c.0 c.1) c.2) e.name (λ c. refl) e.execs _
-      (subst (λ os. (here e.name || list_any (overspends (fold (ops ++ known))) os) ≡ here e.name) (append-nil (map (λ c. Count (Shifts e.name e.key c.0 c.1 c.2) c.3) e.shifts))
-      (all_here (λ c. Count (Shifts e.name e.key c.0 c.1 c.2) c.3) e.name (λ c. refl) e.shifts [] (or_none (here e.name)))))
+      (all_here (λ c. Count (Shifts e.name e.key c.0 c.1 c.2) c.3) e.name (λ c. refl) e.shifts _
+      (subst (λ os. (here e.name || list_any (overspends (fold (ops ++ known))) os) ≡ here e.name) (append-nil (grants_in e.name e.key e.grants))
+      (all_here (λ c. Count (Shifts e.name e.key c.0 c.1 c.1) c.2) e.name (λ c. refl) e.grants [] (or_none (here e.name))))))
     where
       or_none : (b : Bool) → (b || false) ≡ b
       or_none true = refl

@@ -7,7 +7,7 @@ use Rattle.std.proofs.lemmas.List.Concat.{flat_map-append}
 use Rattle.replica_state.specs.Operations.{Operation, Count, Hits, Execs, Shifts}
 use Rattle.replica_state.specs.Folds.{clock_in, clock_of}
 use Rattle.delta_exchange.specs.declared.message.NameEntry.{NameEntry}
-use Rattle.delta_exchange.specs.Messages.{EntryValue, entry_value, operations_of}
+use Rattle.delta_exchange.specs.Messages.{EntryValue, entry_value, operations_of, hits_in, execs_in, shifts_in, grants_in}
 use Rattle.node_core.specs.Refusals.{any_below}
 
 -- a test that is true below a number
@@ -46,9 +46,11 @@ entry_clock e =
     let hits = none_later (λ (c : ℕ × ℕ). Count (Hits e.name c.0) c.1) e.key.clock (λ c. omega arith) e.hits in
     let execs = none_later (λ (c : ℕ × ℕ × ℕ). Count (Execs e.name e.key c.0 c.1) c.2) e.key.clock (λ c. omega arith) e.execs in
     let shifts = none_later (λ (c : ℕ × ℕ × ℕ × ℕ). Count (Shifts e.name e.key c.0 c.1 c.2) c.3) e.key.clock (λ c. omega arith) e.shifts in
-    let first = clock-append (map (λ (c : ℕ × ℕ). Count (Hits e.name c.0) c.1) e.hits) (map (λ (c : ℕ × ℕ × ℕ). Count (Execs e.name e.key c.0 c.1) c.2) e.execs ++ map (λ (c : ℕ × ℕ × ℕ × ℕ). Count (Shifts e.name e.key c.0 c.1 c.2) c.3) e.shifts) in
-    let second = clock-append (map (λ (c : ℕ × ℕ × ℕ). Count (Execs e.name e.key c.0 c.1) c.2) e.execs) (map (λ (c : ℕ × ℕ × ℕ × ℕ). Count (Shifts e.name e.key c.0 c.1 c.2) c.3) e.shifts) in
-    omega (arith, hits, execs, shifts, first, second)
+    let grants = none_later (λ (c : ℕ × ℕ × ℕ). Count (Shifts e.name e.key c.0 c.1 c.1) c.2) e.key.clock (λ c. omega arith) e.grants in
+    let first = clock-append (hits_in e.name e.hits) (execs_in e.name e.key e.execs ++ (shifts_in e.name e.key e.shifts ++ grants_in e.name e.key e.grants)) in
+    let second = clock-append (execs_in e.name e.key e.execs) (shifts_in e.name e.key e.shifts ++ grants_in e.name e.key e.grants) in
+    let third = clock-append (shifts_in e.name e.key e.shifts) (grants_in e.name e.key e.grants) in
+    omega (arith, hits, execs, shifts, grants, first, second, third)
 
 -- the greatest clock of the first so many entries
 abbrev pub clock_upto : List NameEntry → ℕ → ℕ

@@ -145,7 +145,8 @@ module _ (i : ℕ) (ops known : List Operation) (mine : list_any (is_ahead i (fo
         let came : sum_others node_numbers i (λ j. v.shifts q k j i) ≤ sum_others node_numbers i (λ j. u.shifts q k j i) = sum_others-le node_numbers i (λ j. v.shifts q k j i) (λ j. u.shifts q k j i) (λ j. shifts_came k j key e same) in
         let went : sum_others node_numbers i (λ j. u.shifts q k i j) ≤ sum_others node_numbers i (λ j. v.shifts q k i j) = sum_others-le node_numbers i (λ j. u.shifts q k i j) (λ j. v.shifts q k i j) (λ j. shifts_at k j) in
         let spent : u.execs q k i ≤ v.execs q k i = execs_at k in
-        omega (arith, ints, had, came, went, spent)
+        let granted : v.shifts q k i i ≤ u.shifts q k i i = shifts_came k i key e same in
+        omega (arith, ints, had, came, went, spent, granted)
 
     -- under a greater one
     new_rights : (key : KeyValue) (n : ℕ) → u.key q ≡ Some key → (KeyUpto (Some key) (v.key q) → ⊥) → pos 0 ≤ℤ rights (budget u q k key.node n) i

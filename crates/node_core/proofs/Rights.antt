@@ -57,6 +57,14 @@ counted_by_rights v name term i n some enough = by_budget (budget_of v name term
     by_budget None more = absurd (omega (arith, ints, some, more))
     by_budget (Some b) more = refl
 
+-- a term that the setting counts has a budget
+pub counted_budget : (v : State) (name : List ℕ) (key : KeyValue) (terms : List TermValue) (term n : ℕ) → setting_of v name ≡ Some (key, terms) → count_at terms term ≡ Some n → IsSome (budget_of v name term)
+counted_budget v name key terms term n set counted =
+    let parts = setting_parts (v.key name) key terms set in
+    subst (λ (held : Option KeyValue). IsSome (budget_under v name term held)) (sym parts.is_key)
+    (subst (λ (found : Option (List TermValue)). IsSome (option_map (λ m. budget v name term key.node m) (count_under found term))) (sym parts.is_terms)
+    (subst (λ (found : Option ℕ). IsSome (option_map (λ m. budget v name term key.node m) found)) (sym counted) refl))
+
 -- the rights of a node of a counted term of the key that it holds
 pub counted_rights : (i : ℕ) (v : State) (name : List ℕ) (key : KeyValue) (terms : List TermValue) (term : ℕ) → setting_of v name ≡ Some (key, terms) → rights_of v name term i ≡ option_map_or (λ (b : Budget). rights b i) (option_map (λ n. budget v name term key.node n) (count_at terms term)) (pos 0)
 counted_rights i v name key terms term set =

@@ -130,6 +130,7 @@ issues_some (asks.Remove name) s ss h = record { adds = λ i n words. refl; coun
 issues_some (asks.Load text) s ss h = issues_load text
 issues_some (asks.Pass name) s ss h = absurd (let impossible : ◌≡◌ {A = Settings} [] (s ∷ ss) = h in cc)
 issues_some (asks.Shift name term to amount) s ss h = absurd (let impossible : ◌≡◌ {A = Settings} [] (s ∷ ss) = h in cc)
+issues_some (asks.Grant name term amount) s ss h = absurd (let impossible : ◌≡◌ {A = Settings} [] (s ∷ ss) = h in cc)
 issues_some (asks.Emit to versions chosen) s ss h = absurd (let impossible : ◌≡◌ {A = Settings} [] (s ∷ ss) = h in cc)
 issues_some (asks.Deliver read) s ss h = absurd (let impossible : ◌≡◌ {A = Settings} [] (s ∷ ss) = h in cc)
 

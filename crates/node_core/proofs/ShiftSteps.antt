@@ -1,26 +1,27 @@
--- What a node holds after it moved rights to another node.
+-- What a node holds after it moved rights to another node, or granted itself some.
 use Rattle.std.proofs.Common.{◌≡◌, ◌≢◌, ℕ, ◌+◌, ◌<◌, ◌≤◌, Bool, true, false, cond, ◌&&◌, ◌==◌, List, [], ◌∷◌, ◌++◌, Option, Some, None, refl, sym, ◌∙◌, ap, subst, arith}
-use Rattle.std.proofs.lemmas.Bool.{and_parts, eqb-true, ne_eqb}
+use Rattle.std.proofs.lemmas.Bool.{and_parts, eqb-true, eqb-false, ne_eqb}
 use Rattle.std.proofs.lemmas.Int.{ints}
 use Rattle.std.proofs.lemmas.Slice.Eq.{bytes_eq-Decides}
 use Rattle.std.specs.Str.{bytes_eq}
 use Rattle.std.specs.Prelude.{ℤ, pos, ◌≤ℤ◌, option_map}
-use Rattle.std.specs.Option.{option_map_or}
+use Rattle.std.specs.Option.{IsSome, option_map_or}
 use Rattle.counters.specs.Sums.{node_numbers, sum_others}
 use Rattle.counters.specs.Budgets.{Budget, rights}
-use Rattle.counters.proofs.SumLemmas.{sum_others-le, sum_others-add, sum_others-at_most, sum_others-same}
+use Rattle.counters.proofs.SumLemmas.{sum-same, sum_others-le, sum_others-add, sum_others-at_most, sum_others-same}
 use Rattle.stamp_register.specs.Keys.{KeyValue}
 use Rattle.replica_state.specs.Operations.{Operation, Count, Shifts, count_of}
-use Rattle.replica_state.specs.States.{State, with_name, with_shifts, budget, budget_under, rights_of}
+use Rattle.replica_state.specs.States.{State, with_name, with_shifts, budget, budget_under, budget_of, rights_of}
 use Rattle.replica_state.specs.Folds.{fold, clock_of, names_of, key_of, number_at, at_key}
 use Rattle.replica_state.proofs.FoldSteps.{fold_shifts}
 use Rattle.node_core.specs.declared.config.Config.{Config}
-use Rattle.node_core.specs.Asks.{Shift}
-use Rattle.node_core.specs.Nodes.{Node}
+use Rattle.node_core.specs.Asks.{Asked, Shift, Grant}
+use Rattle.node_core.specs.Nodes.{Node, state_shown}
 use Rattle.node_core.specs.Outcomes.{IsHeld}
-use Rattle.node_core.specs.Steps.{after, shift_under}
+use Rattle.node_core.specs.Steps.{after, operations_added, clock_after, known_after, acked_after, shift_under}
 use Rattle.node_core.specs.Holds.{Holds}
 use Rattle.node_core.proofs.OwnRights.{HasOwn}
+use Rattle.node_core.proofs.Rights.{counted_by_rights}
 use Rattle.node_core.proofs.TraceLemmas.{held_clock}
 
 -- ---- rights
@@ -86,14 +87,17 @@ module _ (v : State) (name : List ℕ) (k i to amount : ℕ) (own : HasOwn v i) 
       same_given : sum_others node_numbers i (λ j. then.shifts q t j i) ≡ sum_others node_numbers i (λ j. v.shifts q t j i)
       same_given = sum_others-same node_numbers i (λ j. then.shifts q t j i) (λ j. v.shifts q t j i) came
 
+      same_granted : then.shifts q t i i ≡ v.shifts q t i i
+      same_granted = came i
+
       by_test : (b : Bool) → test ≡ b → pos 0 ≤ℤ rights (budget then q t key.node n) i
       by_test true e =
           let amounts : pos amount ≤ℤ rights (budget v q t key.node n) i = more e in
           let most : sum_others node_numbers i (λ j. then.shifts q t i j) ≤ sum_others node_numbers i (λ j. v.shifts q t i j) + amount = subst (λ b. sum_others node_numbers i (λ j. then.shifts q t i j) ≤ sum_others node_numbers i (λ j. v.shifts q t i j) + cond b amount 0) e others_went in
-          omega (arith, ints, amounts, most, same_given)
+          omega (arith, ints, amounts, most, same_given, same_granted)
       by_test false e =
           let most : sum_others node_numbers i (λ j. then.shifts q t i j) ≤ sum_others node_numbers i (λ j. v.shifts q t i j) + 0 = subst (λ b. sum_others node_numbers i (λ j. then.shifts q t i j) ≤ sum_others node_numbers i (λ j. v.shifts q t i j) + cond b amount 0) e others_went in
-          omega (arith, ints, p, most, same_given)
+          omega (arith, ints, p, most, same_given, same_granted)
 
   abbrev old : Option KeyValue → ℤ
   old held = option_map_or (λ (b : Budget). rights b i) (budget_under v q t held) (pos 0)
@@ -119,6 +123,110 @@ module _ (v : State) (name : List ℕ) (k i to amount : ℕ) (own : HasOwn v i) 
 
 own_shift : (v : State) (name : List ℕ) (k i to amount : ℕ) → HasOwn v i → to ≢ i → pos amount ≤ℤ rights_of v name k i → HasOwn (with_shifts name k i to (v.shifts name k i to + amount) v) i
 own_shift v name k i to amount own apart enough q t = own_shift_at v name k i to amount own apart enough q t
+
+others_same : (n i : ℕ) (f g : ℕ → ℕ) → ((j : ℕ) → j ≢ i → f j ≡ g j) → sum_others n i f ≡ sum_others n i g
+others_same n i f g h = sum-same n _ _ (λ j low. at j (j == i) refl)
+  where
+    at : (j : ℕ) (b : Bool) → (j == i) ≡ b → cond b 0 (f j) ≡ cond b 0 (g j)
+    at j true e = refl
+    at j false e = h j (eqb-false j i e)
+
+raised : (b : Bool) (x y : ℕ) → (b ≡ true → y ≤ x) → y ≤ cond b x y
+raised true x y h = h refl
+raised false x y h = omega arith
+
+unraised : (a b c : Bool) (x y : ℕ) → c ≡ false → cond (a && (b && c)) x y ≡ y
+unraised true true true x y h = cc
+unraised true true false x y h = refl
+unraised true false c x y h = refl
+unraised false b c x y h = refl
+
+none_last : (a b : Bool) → b ≡ false → (a && b) ≡ false
+none_last true b h = h
+none_last false b h = refl
+
+-- a grant adds to the rights that are there
+module _ (v : State) (name : List ℕ) (k i amount : ℕ) (own : HasOwn v i) (q : List ℕ) (t : ℕ) where
+  abbrev granted_then : State
+  granted_then = with_shifts name k i i (v.shifts name k i i + amount) v
+
+  granted_more : v.shifts q t i i ≤ granted_then.shifts q t i i
+  unfolding with_shifts
+  granted_more = raised _ (v.shifts name k i i + amount) (v.shifts q t i i) more_here
+    where
+      more_here : (bytes_eq name q && ((k == t) && ((i == i) && (i == i)))) ≡ true → v.shifts q t i i ≤ v.shifts name k i i + amount
+      more_here h =
+          let p = and_parts (bytes_eq name q) _ h in
+          let r = and_parts (k == t) _ p.1 in
+          let same : v.shifts name k i i ≡ v.shifts q t i i = λ s. v.shifts ((bytes_eq-Decides name q).0 p.0 s) (eqb-true k t r.0 s) i i in
+          omega (arith, same)
+
+  none_came : sum_others node_numbers i (λ j. granted_then.shifts q t j i) ≡ sum_others node_numbers i (λ j. v.shifts q t j i)
+  unfolding with_shifts
+  none_came = others_same node_numbers i _ _ (λ j ne. unraised (bytes_eq name q) (k == t) _ (v.shifts name k i i + amount) (v.shifts q t j i) (ap (λ b. b && (i == i)) (ne_eqb i j (λ e. ne (sym e)))))
+
+  none_went : sum_others node_numbers i (λ j. granted_then.shifts q t i j) ≡ sum_others node_numbers i (λ j. v.shifts q t i j)
+  unfolding with_shifts
+  none_went = others_same node_numbers i _ _ (λ j ne. unraised (bytes_eq name q) (k == t) _ (v.shifts name k i i + amount) (v.shifts q t i j) (none_last (i == i) (i == j) (ne_eqb i j (λ e. ne (sym e)))))
+
+  granted_left : (n : ℕ) (key : KeyValue) → pos 0 ≤ℤ rights (budget v q t key.node n) i → pos 0 ≤ℤ rights (budget granted_then q t key.node n) i
+  unfolding with_shifts
+  granted_left n key p = omega (arith, ints, p, granted_more, none_came, none_went)
+
+  granted_held : (held : Option KeyValue) → pos 0 ≤ℤ option_map_or (λ (b : Budget). rights b i) (budget_under v q t held) (pos 0) → pos 0 ≤ℤ option_map_or (λ (b : Budget). rights b i) (budget_under granted_then q t held) (pos 0)
+  granted_held None p = p
+  granted_held (Some key) p = by_count (count_of key t) p
+    where
+      by_count : (found : Option ℕ) → pos 0 ≤ℤ option_map_or (λ (b : Budget). rights b i) (option_map (λ n. budget v q t key.node n) found) (pos 0) →
+          pos 0 ≤ℤ option_map_or (λ (b : Budget). rights b i) (option_map (λ n. budget granted_then q t key.node n) found) (pos 0)
+      by_count None p = p
+      by_count (Some n) p = granted_left n key p
+
+  own_grant_at : pos 0 ≤ℤ rights_of granted_then q t i
+  unfolding with_shifts
+  own_grant_at = granted_held (v.key q) (own q t)
+
+own_grant : (v : State) (name : List ℕ) (k i amount : ℕ) → HasOwn v i → HasOwn (with_shifts name k i i (v.shifts name k i i + amount) v) i
+own_grant v name k i amount own q t = own_grant_at v name k i amount own q t
+
+-- ---- the asks
+
+-- by this ask node i moves so many rights more of a term to a node, or grants itself so many more where
+-- both are one
+pub record MovesAs (i : ℕ) (ask : Asked) (name : List ℕ) (term to amount : ℕ) : Type 0 where
+  pub adds : (n : Node) → operations_added i n ask [] ≡ shift_under i (state_shown n) name term to amount ((state_shown n).key name)
+  pub clock : (n : Node) → clock_after n ask ≡ n.marks.clock
+  pub known : (n : Node) → known_after n ask ≡ n.marks.known
+  pub acked : (n : Node) → acked_after n ask ≡ n.marks.acked
+
+pub shift_moves : (i : ℕ) (name : List ℕ) (term to amount : ℕ) → MovesAs i (Shift name term to amount) name term to amount
+shift_moves i name term to amount = record { adds = λ n. refl; clock = λ n. refl; known = λ n. refl; acked = λ n. refl }
+
+pub grant_moves : (i : ℕ) (name : List ℕ) (term amount : ℕ) → MovesAs i (Grant name term amount) name term i amount
+grant_moves i name term amount = record { adds = λ n. refl; clock = λ n. refl; known = λ n. refl; acked = λ n. refl }
+
+-- it may: the term is counted, there is that node, and none of its own rights becomes negative
+pub record MayMove (config : Config) (v : State) (name : List ℕ) (term to amount : ℕ) : Type 0 where
+  pub counted : IsSome (budget_of v name term)
+  pub there : to < config.nodes
+  pub some : 0 < amount
+  pub own : HasOwn v config.node → HasOwn (with_shifts name term config.node to (v.shifts name term config.node to + amount) v) config.node
+
+pub may_shift : (config : Config) (v : State) (name : List ℕ) (term to amount : ℕ) → (to ≢ config.node) × (pos amount ≤ℤ rights_of v name term config.node) → (to < config.nodes) × (0 < amount) → MayMove config v name term to amount
+may_shift config v name term to amount enough there = record {
+  counted = counted_by_rights v name term config.node amount there.1 enough.1;
+  there = there.0;
+  some = there.1;
+  own = λ own. own_shift v name term config.node to amount own enough.0 enough.1;
+}
+
+pub may_grant : (config : Config) (v : State) (name : List ℕ) (term amount : ℕ) → IsSome (budget_of v name term) → config.node < config.nodes → 0 < amount → MayMove config v name term config.node amount
+may_grant config v name term amount counted there some = record {
+  counted = counted;
+  there = there;
+  some = some;
+  own = λ own. own_grant v name term config.node amount own;
+}
 
 -- ---- the node
 
@@ -146,29 +254,29 @@ shown_names : (ops : List Operation) (name : List ℕ) → IsHeld (fold ops) nam
 unfolding fold
 shown_names ops name h = h
 
-module _ (config : Config) (clock : ℕ) (state next : State) (len : ℕ) (n : Node) (name : List ℕ) (term to amount : ℕ) (key : KeyValue) where
-  -- after a shift
-  pub holds_shift : Holds config clock state len n → len < config.trace_cap → state.key name ≡ Some key → IsHeld state name → to ≢ config.node → pos amount ≤ℤ rights_of state name term config.node →
-      next ≡ with_shifts name term config.node to (state.shifts name term config.node to + amount) state → Holds config clock next (len + 1) (after config.node n (Shift name term to amount) [])
+module _ (config : Config) (clock : ℕ) (state next : State) (len : ℕ) (n : Node) (ask : Asked) (name : List ℕ) (term to amount : ℕ) (key : KeyValue) (moves : MovesAs config.node ask name term to amount) where
+  -- after rights were moved or granted
+  pub holds_moved : Holds config clock state len n → len < config.trace_cap → state.key name ≡ Some key → IsHeld state name → MayMove config state name term to amount →
+      next ≡ with_shifts name term config.node to (state.shifts name term config.node to + amount) state → Holds config clock next (len + 1) (after config.node n ask [])
   unfolding after
-  holds_shift h room set names apart enough e =
+  holds_moved h room set names may e =
       let same : fold n.ops ≡ state = h.state_is in
       let here : (fold n.ops).key name ≡ Some key = ap (λ (v : State). v.key name) same ∙ set in
       let op : Operation = Count (Shifts name key term config.node to) ((fold n.ops).shifts name term config.node to + amount) in
-      let adds : shift_under config.node (fold n.ops) name term to amount ((fold n.ops).key name) ≡ op ∷ [] = ap (shift_under config.node (fold n.ops) name term to amount) here in
+      let adds : operations_added config.node n ask [] ≡ op ∷ [] = moves.adds n ∙ ap (shift_under config.node (fold n.ops) name term to amount) here in
       let low : key.clock ≤ clock_of n.ops = held_clock name n.ops key (shown_key n.ops name key here) in
       let was : clock_of n.ops ≤ clock = h.carried in
-      let carried : clock_of (shift_under config.node (fold n.ops) name term to amount ((fold n.ops).key name) ++ n.ops) ≤ clock = subst (λ os. clock_of (os ++ n.ops) ≤ clock) (sym adds) (omega (arith, low, was)) in
+      let carried : clock_of (operations_added config.node n ask [] ++ n.ops) ≤ clock = subst (λ os. clock_of (os ++ n.ops) ≤ clock) (sym adds) (omega (arith, low, was)) in
       record {
         own = h.own;
         few = h.few;
         small = h.small;
         capped = omega arith;
-        clock_is = h.clock_is;
+        clock_is = moves.clock n ∙ h.clock_is;
         state_is = ap (λ os. fold (os ++ n.ops)) adds ∙ fold_shifted name key n.ops term config.node to amount (shown_key n.ops name key here) (shown_names n.ops name (subst (λ (v : State). IsHeld v name) (sym same) names))
             ∙ ap (λ (v : State). with_shifts name term config.node to (v.shifts name term config.node to + amount) v) same ∙ sym e;
         carried = carried;
         hits_few = λ q. let x = ap (λ (v : State). v.hits q config.node) e in let y = shift_leaves_hits name term config.node to (state.shifts name term config.node to + amount) state q config.node in let z = h.hits_few q in omega (arith, x, y, z);
         execs_few = λ q t. let x = ap (λ (v : State). v.execs q t config.node) e in let y = shift_leaves_execs name term config.node to (state.shifts name term config.node to + amount) state q t config.node in let z = h.execs_few q t in omega (arith, x, y, z);
-        own_rights = subst (λ (v : State). HasOwn v config.node) (sym e) (own_shift state name term config.node to amount h.own_rights apart enough);
+        own_rights = subst (λ (v : State). HasOwn v config.node) (sym e) (may.own h.own_rights);
       }

@@ -10,13 +10,13 @@ use Rattle.replica_state.specs.Unions.{with_names}
 use Rattle.delta_exchange.specs.declared.fault.WireFault.{WireFault}
 use Rattle.node_core.specs.declared.fault.NodeFault.{NodeFault}
 use Rattle.node_core.specs.declared.fault.NodeFault.TheVariants as faults
-use Rattle.node_core.specs.Asks.{Message, Versions, Set, Remove, Load, Shift, Emit, Deliver}
+use Rattle.node_core.specs.Asks.{Message, Versions, Set, Remove, Load, Shift, Grant, Emit, Deliver}
 use Rattle.node_core.specs.Nodes.{state_shown}
 use Rattle.node_core.specs.Steps.{points_in, message_in}
 use Rattle.refusals.specs.Refusals.{first_fault}
 use Rattle.counters.specs.Cells.{most}
 use Rattle.std.specs.Bool.{then_some}
-use Rattle.node_core.specs.Refusals.{is_full, is_bad_node, bad_actions, bad_setting, bad_message, too_many, faults_of_shift, faults_of_message, spare_words}
+use Rattle.node_core.specs.Refusals.{is_full, is_bad_node, bad_actions, bad_setting, bad_message, too_many, faults_of_shift, faults_of_grant, faults_of_message, spare_words}
 use Rattle.node_core.specs.Traces.{Kept, node_of, refusal}
 use Rattle.node_core.specs.Applied.{delivery_refused_with}
 
@@ -58,6 +58,11 @@ pub shift_spare : (k : Kept) (name : List ℕ) (term to amount w : ℕ) (ws : Li
 shift_spare k name term to amount w ws = spare_last
     (then_some (is_full k.config (length k.trace)) faults.TraceFull ∷ then_some (not (is_name name)) faults.BadName ∷
     first_fault (faults_of_shift k.config (state_shown (node_of k)) name term to amount) ∷ []) (w ∷ ws)
+
+pub grant_spare : (k : Kept) (name : List ℕ) (term amount w : ℕ) (ws : List ℕ) → refusal k (Grant name term amount) (w ∷ ws) ≡ or_else (refusal k (Grant name term amount) []) (Some (faults.BadWords 0))
+grant_spare k name term amount w ws = spare_last
+    (then_some (is_full k.config (length k.trace)) faults.TraceFull ∷ then_some (not (is_name name)) faults.BadName ∷
+    first_fault (faults_of_grant k.config (state_shown (node_of k)) name term amount) ∷ []) (w ∷ ws)
 
 pub emit_spare : (k : Kept) (to : ℕ) (versions : Versions) (w : ℕ) (ws : List ℕ) → refusal k (Emit to versions []) (w ∷ ws) ≡ or_else (refusal k (Emit to versions []) []) (Some (faults.BadWords 0))
 emit_spare k to versions w ws = spare_last

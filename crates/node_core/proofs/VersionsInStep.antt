@@ -18,7 +18,7 @@ use Rattle.delta_exchange.specs.Told.{HasLearned}
 use Rattle.delta_exchange.specs.Versions.{VersionedValue, nothing_known, ChangesTo, Issues, MayPass, Receives}
 use Rattle.node_core.specs.declared.config.Config.{Config}
 use Rattle.node_core.specs.declared.trace.Entry.{Entry}
-use Rattle.node_core.specs.Asks.{Call, Message, Load, Pass, Shift, Deliver, call, emit_of, message_of}
+use Rattle.node_core.specs.Asks.{Asked, Call, Message, Load, Pass, Deliver, call, emit_of, message_of}
 use Rattle.node_core.specs.Deliveries.{IsDelivery}
 use Rattle.node_core.specs.Holds.{IsInStep, CanTell}
 use Rattle.node_core.specs.KeptVersions.{KeepsVersions, IsInStepWith}
@@ -28,11 +28,12 @@ use Rattle.node_core.specs.Passes.{pass_ops}
 use Rattle.node_core.specs.Room.{HasRoom, HasClocks, HasPlace, HavePlaces}
 use Rattle.node_core.specs.Steps.{message_in, new_key, operations_issued, points_in, settings}
 use Rattle.node_core.specs.Traces.{Kept, kept_of, node_of, state_known}
-use Rattle.node_core.proofs.InStep.{with_call, issue_in_step, load_in_step, pass_in_step, shift_in_step, deliver_in_step, emit_in_step}
-use Rattle.node_core.proofs.KeptVersions.{versions_start, set_versions, load_versions, pass_versions, unset_versions, shift_versions, emit_versions, deliver_versions}
+use Rattle.node_core.proofs.InStep.{with_call, issue_in_step, load_in_step, pass_in_step, moved_in_step, deliver_in_step, emit_in_step}
+use Rattle.node_core.proofs.KeptVersions.{versions_start, set_versions, load_versions, pass_versions, unset_versions, moved_versions, emit_versions, deliver_versions}
 use Rattle.node_core.proofs.LawfulSteps.{unknown_key}
 use Rattle.node_core.proofs.Rights.{counted_by_rights}
 use Rattle.node_core.proofs.SettingSteps.{fold_alone, turned}
+use Rattle.node_core.proofs.ShiftSteps.{MovesAs, MayMove}
 
 -- a new node
 pub new_with : (config : Config) → IsInStep (kept_of config []) 0 0 (fold []) → IsInStepWith (kept_of config []) 0 nothing_known
@@ -144,16 +145,16 @@ module _ (k : Kept) (clock : ℕ) (value next : VersionedValue) (c : Call) (is :
       together clock (value.version + 0) grown
       (subst (λ (v : VersionedValue). KeepsVersions (node_of (with_call k c)) v) (sym (stays refl)) (unset_versions k c value is.1 name words asked with ops))
 
-  -- rights are shifted
-  pub shift_with : (name : List ℕ) (term to amount total : ℕ) → c.ask ≡ Shift name term to amount → c.words ≡ [] → HasKey (state_known k) name →
-      (to ≢ i) × (pos amount ≤ℤ rights_of (state_known k) name term i) → (to < k.config.nodes) × (0 < amount) → term < 2 ^ 8 →
+  -- rights are moved
+  pub moved_with : (ask : Asked) (name : List ℕ) (term to amount total : ℕ) → c.ask ≡ ask → c.words ≡ [] → MovesAs i ask name term to amount → HasKey (state_known k) name →
+      MayMove k.config (state_known k) name term to amount → term < 2 ^ 8 →
       total ≡ (state_known k).shifts name term i to + amount → ChangesTo value (with_shifts name term i to total value.state) next → InStepThen clock
-  shift_with name term to amount total asked with set enough there low sum step =
+  moved_with ask name term to amount total asked with moves set may low sum step =
       let grown : IsInStep (with_call k c) clock (value.version + 1) next.state =
-      shift_in_step k clock value.version value.state next.state c is.0 room name term to amount total asked with set enough there low sum step.state_is in
+      moved_in_step k clock value.version value.state next.state c is.0 room ask name term to amount total asked with moves set may low sum step.state_is in
       together clock (value.version + 1) grown
-      (shift_versions k c value is.1 name term to amount total next asked with
-      (subst (λ (v : State). IsSome (v.key name)) is.1.state_is set.0) there.1 (grown.0.state_is ∙ step.state_is) step)
+      (moved_versions k c value is.1 ask name term to amount total next asked with moves
+      (subst (λ (v : State). IsSome (v.key name)) is.1.state_is set.0) may.some (grown.0.state_is ∙ step.state_is) step)
 
   -- a message is delivered, which acknowledges no version that is still to come
   pub deliver_with : (read : Result Message WireFault) (m : MessageValue) (later last : ℕ) (changed : Bool) → read ≡ Ok (message_of m) → c.ask ≡ Deliver read → c.words ≡ [] →

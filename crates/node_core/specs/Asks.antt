@@ -41,6 +41,7 @@ pub data Asked : Type 0 where
   Load : (text : List ℕ) → Asked
   Pass : (name : List ℕ) → Asked
   Shift : (name : List ℕ) (term to amount : ℕ) → Asked
+  Grant : (name : List ℕ) (term amount : ℕ) → Asked
   Emit : (to : ℕ) (versions : Versions) (chosen : List Operation) → Asked
   Deliver : (read : Result Message WireFault) → Asked
 
@@ -56,6 +57,7 @@ pub data Answered : Type 0 where
   IsLoaded : (entries : ℕ) → Answered
   IsPassed : (passed : Passed) → Answered
   IsShifted : (total : ℕ) → Answered
+  IsGranted : (total : ℕ) → Answered
   IsEmitted : (read : Result Message WireFault) → Answered
   IsDelivered : (changed : Bool) → Answered
 
@@ -99,6 +101,7 @@ ask_value_with nodes emit (asks.Remove name) = Remove (string_bytes name)
 ask_value_with nodes emit (asks.Load text) = Load (string_bytes text)
 ask_value_with nodes emit (asks.Pass name) = Pass (string_bytes name)
 ask_value_with nodes emit (asks.Shift name term to amount) = Shift (string_bytes name) term to amount
+ask_value_with nodes emit (asks.Grant name term amount) = Grant (string_bytes name) term amount
 ask_value_with nodes emit (asks.Emit to) = emit to
 ask_value_with nodes emit (asks.Deliver bytes) = Deliver (message_read nodes bytes.items)
 
@@ -130,6 +133,7 @@ reply_value nodes (replies.Remove stamp) = IsRemoved stamp
 reply_value nodes (replies.Load entries) = IsLoaded entries
 reply_value nodes (replies.Pass reply) = IsPassed (passed reply)
 reply_value nodes (replies.Shift total) = IsShifted total
+reply_value nodes (replies.Grant total) = IsGranted total
 reply_value nodes (replies.Emit bytes) = IsEmitted (message_read nodes bytes.items)
 reply_value nodes (replies.Deliver changed) = IsDelivered changed
 

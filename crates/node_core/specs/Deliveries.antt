@@ -6,7 +6,7 @@ use Rattle.std.specs.declared.cmp.Ordering.{Ordering}
 use Rattle.counters.specs.Sums.{sum_below}
 use Rattle.actions.specs.Value.{TermValue}
 use Rattle.replica_state.specs.Operations.{count_at}
-use Rattle.replica_state.specs.States.{State}
+use Rattle.replica_state.specs.States.{State, granted_in}
 use Rattle.replica_state.specs.Unions.{key_order, number_both}
 use Rattle.replica_state.specs.Folds.{fold, clock_of}
 use Rattle.replica_state.specs.Deltas.{IsDelta}
@@ -29,8 +29,8 @@ use Rattle.node_core.specs.Traces.{Kept, node_of, state_known, versions_told}
 abbrev pub ahead_by : Ordering → ℕ → ℕ → Bool
 ahead_by order own other = match_ordering order false (nat_lt own other) true
 
--- hits, executions or shifts of a name that are told, under a key that stands so, are more of node i than
--- the state knows
+-- hits, executions, shifts or grants of a name that are told, under a key that stands so, are more of
+-- node i than the state knows
 abbrev pub are_hits_ahead : ℕ → State → List ℕ → List (ℕ × ℕ) → Bool
 are_hits_ahead i v name hits = list_any (λ c. c.0 == i && nat_lt (v.hits name i) c.1) hits
 
@@ -40,6 +40,10 @@ are_execs_ahead i v name order execs = list_any (λ c. c.1 == i && ahead_by orde
 abbrev pub are_shifts_ahead : ℕ → State → List ℕ → Ordering → List (ℕ × ℕ × ℕ × ℕ) → Bool
 are_shifts_ahead i v name order shifts =
     list_any (λ c. c.1 == i && ahead_by order (v.shifts name c.0 i c.2) c.3) shifts
+
+abbrev pub are_grants_ahead : ℕ → State → List ℕ → Ordering → List (ℕ × ℕ × ℕ) → Bool
+are_grants_ahead i v name order grants =
+    list_any (λ c. c.1 == i && ahead_by order (granted_in v name c.0 i) c.2) grants
 
 -- the terms that a name has after a state was told, where the key that is told stands so to the one that
 -- is held
@@ -52,10 +56,17 @@ abbrev pub execs_both : ℕ → Ordering → State → State → List ℕ → �
 execs_both nodes order v t name term =
     sum_below nodes (λ node. number_both order (v.execs name term node) (t.execs name term node))
 
--- of one of these terms more are executed than are counted
+-- what the nodes below a number granted of a term
+abbrev pub granted_both : ℕ → Ordering → State → State → List ℕ → ℕ → ℕ
+granted_both nodes order v t name term =
+    sum_below nodes
+    (λ node. number_both order (granted_in v name term node) (granted_in t name term node))
+
+-- of one of these terms more are executed than are counted and granted
 abbrev pub are_overspent : ℕ → Ordering → State → State → List ℕ → List TermValue → Bool
 are_overspent nodes order v t name terms =
-    any_below (length terms) (λ term. is_above (count_at terms term) (execs_both nodes order v t name term))
+    any_below (length terms) (λ term. is_above (count_at terms term)
+    (granted_both nodes order v t name term) (execs_both nodes order v t name term))
 
 abbrev pub is_overspent_below : ℕ → State → State → List ℕ → Bool
 is_overspent_below nodes v t name =

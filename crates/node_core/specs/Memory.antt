@@ -14,7 +14,7 @@ IsReadable text = (length text ≤ 1024) × (position is_bad_byte text ≡ None)
 abbrev pub SetNeedsMemory : Kept → List ℕ → List ℕ → Type 0
 SetNeedsMemory k name text = HasRoom k × (is_name name ≡ true) × IsReadable text
 
--- a removal, a pass or a shift
+-- a removal, a pass, a shift or a grant
 abbrev pub NameNeedsMemory : Kept → List ℕ → Type 0
 NameNeedsMemory k name = HasRoom k × (is_name name ≡ true)
 

@@ -16,7 +16,7 @@ use Rattle.counters.specs.Budgets.{given_to, gone_from}
 use Rattle.counters.specs.Cells.{is_too_great}
 use Rattle.stamp_register.specs.Keys.{KeyValue}
 use Rattle.replica_state.specs.Operations.{Operation, writer_of, count_at}
-use Rattle.replica_state.specs.States.{State, with_name, budget}
+use Rattle.replica_state.specs.States.{State, with_name, budget, granted_in}
 use Rattle.replica_state.specs.Folds.{fold, name_in}
 use Rattle.replica_state.specs.Knowledge.{knows}
 use Rattle.replica_state.specs.Unions.{with_names}
@@ -102,10 +102,14 @@ is_ahead i v op = writer_of op == i && not (knows v op)
 abbrev pub says_more : ℕ → State → List Operation → Bool
 says_more i v ops = list_any (is_ahead i v) ops
 
--- the executions of a term of the name add up to more than its count
-abbrev pub is_above : Option ℕ → ℕ → Bool
-is_above None total = false
-is_above (Some count) total = nat_lt count total
+-- the executions of a term of the name add up to more than its count and what was granted
+abbrev pub is_above : Option ℕ → ℕ → ℕ → Bool
+is_above None granted total = false
+is_above (Some count) granted total = nat_lt (count + granted) total
+
+-- what all nodes granted of a term
+abbrev pub all_granted : State → List ℕ → ℕ → ℕ
+all_granted v name term = sum_below node_numbers (granted_in v name term)
 
 abbrev pub any_below : ℕ → (ℕ → Bool) → Bool
 any_below zero test = false
@@ -113,7 +117,8 @@ any_below (suc n) test = test n || any_below n test
 
 abbrev pub is_overspent : State → List ℕ → List TermValue → Bool
 is_overspent v name terms =
-    any_below (length terms) (λ term. is_above (count_at terms term) (sum_below node_numbers (v.execs name term)))
+    any_below (length terms) (λ term. is_above (count_at terms term) (all_granted v name term)
+    (sum_below node_numbers (v.execs name term)))
 
 -- of a name that a message carries, in the state after it
 abbrev pub overspends : State → Operation → Bool
@@ -143,6 +148,24 @@ faults_of_shift config v name term to amount =
 
 abbrev pub shift_refusal : Config → State → List ℕ → ℕ → ℕ → ℕ → Option NodeFault
 shift_refusal config v name term to amount = first_fault (faults_of_shift config v name term to amount)
+
+-- the refusals of a grant but those of the trace and of the name, where the name has this setting or
+-- none
+abbrev pub faults_of_grant_under : Config → State → List ℕ → ℕ → ℕ →
+    Option (KeyValue × List TermValue) → List (Option NodeFault)
+faults_of_grant_under config v name term amount setting =
+    then_some (is_none setting) faults.NotSet ∷
+    then_some (nat_le (length (terms_in setting)) term) faults.NoSuchTerm ∷
+    then_some (is_none (count_at (terms_in setting) term)) faults.NotCounted ∷
+    then_some (amount == 0) faults.ZeroAmount ∷
+    then_some (is_too_great (granted_in v name term config.node + amount)) faults.CellFull ∷ []
+
+abbrev pub faults_of_grant : Config → State → List ℕ → ℕ → ℕ → List (Option NodeFault)
+faults_of_grant config v name term amount =
+    faults_of_grant_under config v name term amount (setting_of v name)
+
+abbrev pub grant_refusal : Config → State → List ℕ → ℕ → ℕ → Option NodeFault
+grant_refusal config v name term amount = first_fault (faults_of_grant config v name term amount)
 
 abbrev pub bad_message : Result Message WireFault → Option NodeFault
 bad_message (Ok message) = None
@@ -195,6 +218,9 @@ faults_of config entries n (asks.Pass name) words =
 faults_of config entries n (asks.Shift name term to amount) words =
     no_entry config entries ∷ no_name name ∷
     shift_refusal config (state_shown n) name term to amount ∷ spare_words words ∷ []
+faults_of config entries n (asks.Grant name term amount) words =
+    no_entry config entries ∷ no_name name ∷
+    grant_refusal config (state_shown n) name term amount ∷ spare_words words ∷ []
 faults_of config entries n (asks.Emit to versions chosen) words =
     no_entry config entries ∷ no_node config to ∷ spare_words words ∷ []
 faults_of config entries n (asks.Deliver read) words =

@@ -8,7 +8,7 @@ use Rattle.actions.specs.declared.fault.ActionFault.{ActionFault}
 use Rattle.actions.specs.declared.fault.SettingFault.{SettingFault}
 use Rattle.stamp_register.specs.Keys.{KeyValue}
 use Rattle.replica_state.specs.Operations.{Operation, Set, Count, Shifts}
-use Rattle.replica_state.specs.States.{State}
+use Rattle.replica_state.specs.States.{State, granted_in}
 use Rattle.replica_state.specs.Folds.{fold, clock_of}
 use Rattle.replica_state.specs.Knowledge.{changes}
 use Rattle.delta_exchange.specs.declared.fault.WireFault.{WireFault}
@@ -45,6 +45,7 @@ settings (asks.Remove name) = (name, None) ∷ []
 settings (asks.Load text) = settings_of (points_in text)
 settings (asks.Pass name) = []
 settings (asks.Shift name term to amount) = []
+settings (asks.Grant name term amount) = []
 settings (asks.Emit to versions chosen) = []
 settings (asks.Deliver read) = []
 
@@ -61,6 +62,7 @@ abbrev pub operations_issued : ℕ → ℕ → List (List ℕ × Option (List �
 operations_issued i clock [] = []
 operations_issued i clock (setting ∷ rest) = Set setting.0 (new_key i clock setting.1) ∷ operations_issued i (clock + 1) rest
 
+-- a node moves so many rights more to another, or grants itself so many more where both are one
 abbrev pub shift_under : ℕ → State → List ℕ → ℕ → ℕ → ℕ → Option KeyValue → List Operation
 shift_under i v name term to amount None = []
 shift_under i v name term to amount (Some key) =
@@ -73,6 +75,8 @@ operations_added i n (asks.Remove name) words = operations_issued i n.marks.cloc
 operations_added i n (asks.Load text) words = operations_issued i n.marks.clock (settings (asks.Load text))
 operations_added i n (asks.Pass name) words = pass_ops i (state_shown n) name words
 operations_added i n (asks.Shift name term to amount) words = shift_under i (state_shown n) name term to amount ((state_shown n).key name)
+operations_added i n (asks.Grant name term amount) words =
+    shift_under i (state_shown n) name term i amount ((state_shown n).key name)
 operations_added i n (asks.Emit to versions chosen) words = []
 operations_added i n (asks.Deliver read) words = (message_in read).ops
 
@@ -83,6 +87,7 @@ clock_after n (asks.Remove name) = n.marks.clock + 1
 clock_after n (asks.Load text) = n.marks.clock + length (points_in text)
 clock_after n (asks.Pass name) = n.marks.clock
 clock_after n (asks.Shift name term to amount) = n.marks.clock
+clock_after n (asks.Grant name term amount) = n.marks.clock
 clock_after n (asks.Emit to versions chosen) = n.marks.clock
 clock_after n (asks.Deliver read) = max n.marks.clock (clock_of (message_in read).ops)
 
@@ -139,5 +144,7 @@ reply i n (asks.Remove name) words = asks.IsRemoved (record { clock = n.marks.cl
 reply i n (asks.Load text) words = asks.IsLoaded (length (points_in text))
 reply i n (asks.Pass name) words = asks.IsPassed (pass_reply i (state_shown n) name words)
 reply i n (asks.Shift name term to amount) words = asks.IsShifted ((state_shown n).shifts name term i to + amount)
+reply i n (asks.Grant name term amount) words =
+    asks.IsGranted (granted_in (state_shown n) name term i + amount)
 reply i n (asks.Emit to versions chosen) words = asks.IsEmitted (Ok (message_to i to versions chosen))
 reply i n (asks.Deliver read) words = asks.IsDelivered (changes (state_shown n) (message_in read).ops)

@@ -33,6 +33,12 @@ pub enum Ask {
         to: u8,
         amount: u64,
     },
+    /// Grants this node rights to execute a counted term beyond its count.
+    Grant {
+        name: String,
+        term: u8,
+        amount: u64,
+    },
     /// Makes a message to another node.
     Emit {
         to: u8,
@@ -74,6 +80,11 @@ impl Ask {
                 name: String::from_str(alloc, name)?,
                 term: *term,
                 to: *to,
+                amount: *amount,
+            },
+            Ask::Grant { name, term, amount } => Ask::Grant {
+                name: String::from_str(alloc, name)?,
+                term: *term,
                 amount: *amount,
             },
             Ask::Emit { to } => Ask::Emit { to: *to },

@@ -1,6 +1,6 @@
 //! What a message says to the node that it is delivered to.
 
-ghost use Rattle.std.specs.Prelude.{◌≡◌, ◌⊎◌, ◌==◌, ◌&&◌, [], map, IfOk, IfErr, OnOk, IsOk, IsErrOf, Some, Ok, MatchOption};
+ghost use Rattle.std.specs.Prelude.{◌≡◌, ◌⊎◌, ◌≤◌, ◌*◌, ◌^◌, ◌==◌, ◌&&◌, [], map, IfOk, IfErr, OnOk, IsOk, IsErrOf, Some, Ok, MatchOption};
 ghost use Rattle.std.specs.List.{flat_map, list_any};
 ghost use Rattle.std.specs.Ordering.{is_gt};
 ghost use Rattle.stamp_register.specs.Keys.{key_value};
@@ -14,7 +14,7 @@ ghost use Rattle.delta_exchange.specs.Reading.{header_of};
 ghost use Rattle.delta_exchange.specs.Spelling.{IsMessage};
 ghost use Rattle.node_core.specs.Asks.{message_of, message_read};
 ghost use Rattle.node_core.specs.Refusals.{bad_message, wire_refusal, says_more};
-ghost use Rattle.node_core.specs.Deliveries.{ahead_by, are_hits_ahead, are_execs_ahead, are_shifts_ahead, are_overspent, execs_both, is_overspent_below, terms_both};
+ghost use Rattle.node_core.specs.Deliveries.{ahead_by, are_hits_ahead, are_execs_ahead, are_shifts_ahead, are_grants_ahead, are_overspent, execs_both, granted_both, is_overspent_below, terms_both};
 
 use crate::State;
 use crate::fault::NodeFault;
@@ -127,6 +127,21 @@ fn are_shifts_ahead(
         && is_number_ahead(order, state.moved(name, *term, me, *to), *number))
 }
 
+/// Whether it is told that a node granted itself more rights, under a key that stands so, than it
+/// knows itself.
+fn are_grants_ahead(
+    state: &State,
+    me: u8,
+    name: &Name,
+    order: Ordering,
+    grants: &[(u8, u8, u64)],
+) -> bool
+    ensures { result ≡ are_grants_ahead me (state_in state.now) name.now order grants.now }
+{
+    grants.iter().any(|(term, node, number)| *node == me
+        && is_number_ahead(order, state.granted(name, *term, me), *number))
+}
+
 /// Whether an entry says more of this node than it knows itself.
 fn is_entry_ahead(state: &State, me: u8, entry: &NameEntry) -> bool
     ensures { result ≡ says_more me (state_in state.now) (operations_of (entry_value entry.now)) }
@@ -141,7 +156,10 @@ fn is_entry_ahead(state: &State, me: u8, entry: &NameEntry) -> bool
     if are_execs_ahead(state, me, &entry.name, order, &entry.execs) {
         return true;
     }
-    are_shifts_ahead(state, me, &entry.name, order, &entry.shifts)
+    if are_shifts_ahead(state, me, &entry.name, order, &entry.shifts) {
+        return true;
+    }
+    are_grants_ahead(state, me, &entry.name, order, &entry.grants)
 }
 
 /// Whether one of the entries says more of this node than it knows itself.
@@ -183,15 +201,10 @@ fn standing_of(state: &State, brought: &State, name: &Name) -> Ordering
     }
 }
 
-/// The executions of a term at a node once both states are one, where the key that is told stands
-/// so.
-fn execs_at(order: Ordering, state: &State, brought: &State, name: &Name, term: u8, node: u8) -> u64
-    ensures { result ≡ number_both order
-        ((state_in state.now).execs name.now term node)
-        ((state_in brought.now).execs name.now term node) }
+/// A number once both states are one, where the key that is told stands so.
+fn number_both(order: Ordering, held: u64, other: u64) -> u64
+    ensures { result ≡ number_both order held other }
 {
-    let held = state.exec(name, term, node);
-    let other = brought.exec(name, term, node);
     match order {
         Ordering::Less => held,
         Ordering::Equal => held.max(other),
@@ -199,7 +212,8 @@ fn execs_at(order: Ordering, state: &State, brought: &State, name: &Name, term: 
     }
 }
 
-/// The same at all nodes.
+/// The executions of a term at all nodes once both states are one, where the key that is told
+/// stands so.
 fn execs_both(
     nodes: u8,
     order: Ordering,
@@ -212,12 +226,37 @@ fn execs_both(
 {
     let mut sum = 0u128;
     for node in 0..nodes {
-        sum += u128::from(execs_at(order, state, brought, name, term, node));
+        let held = state.exec(name, term, node);
+        let other = brought.exec(name, term, node);
+        sum += u128::from(number_both(order, held, other));
     }
     sum
 }
 
-/// Whether one of these terms would be executed more often than it is counted.
+/// What all nodes granted themselves of a term, likewise.
+fn granted_both(
+    nodes: u8,
+    order: Ordering,
+    state: &State,
+    brought: &State,
+    name: &Name,
+    term: u8,
+) -> u128
+    ensures value { result
+        ≡ granted_both nodes order (state_in state.now) (state_in brought.now) name.now term }
+    ensures small { result ≤ nodes * 2 ^ 64 }
+{
+    let mut sum = 0u128;
+    for node in 0..nodes {
+        let held = state.granted(name, term, node);
+        let other = brought.granted(name, term, node);
+        sum += u128::from(number_both(order, held, other));
+    }
+    sum
+}
+
+/// Whether one of these terms would be executed more often than it is counted and granted. What was
+/// granted is added up only where more is executed than counted.
 fn is_term_overspent(
     nodes: u8,
     order: Ordering,
@@ -231,7 +270,11 @@ fn is_term_overspent(
 {
     for term in 0..actions.len() {
         if let Some(count) = count_at(actions, term as u8) {
-            if execs_both(nodes, order, state, brought, name, term as u8) > u128::from(count) {
+            let spent = execs_both(nodes, order, state, brought, name, term as u8);
+            let count = u128::from(count);
+            if spent > count
+                && spent > count + granted_both(nodes, order, state, brought, name, term as u8)
+            {
                 return true;
             }
         }
@@ -258,7 +301,7 @@ fn actions_both<'a>(
     Some(actions)
 }
 
-/// Whether a name would have a term that is executed more often than it is counted.
+/// Whether a name would have a term that is executed more often than it is counted and granted.
 fn is_name_overspent(nodes: u8, state: &State, brought: &State, name: &Name) -> bool
     ensures { result ≡ is_overspent_below nodes (state_in state.now) (state_in brought.now) name.now }
 {
@@ -280,7 +323,7 @@ fn count_at(actions: &Actions, term: u8) -> Option<u64>
 }
 
 /// Whether one of the names that a message tells of would have a term that is executed more often
-/// than it is counted.
+/// than it is counted and granted.
 pub(crate) fn is_any_overspent(
     nodes: u8,
     state: &State,

@@ -74,7 +74,7 @@ pub enum NodeFault {
     OwnAhead,
     /// The message knows a version of this node that there isn't yet.
     AckAhead,
-    /// With the message a term would have more executions than its count.
+    /// With the message a term would have more executions than its count and what was granted.
     Overspent,
     /// The cluster hasn't 1 to 32 nodes, or the node isn't one of them.
     BadConfig,

@@ -16,6 +16,7 @@ ghost use Rattle.node_core.specs.Traces.{node_of, state_known};
 mod apply;
 mod deliver;
 mod emit;
+mod grant;
 mod load;
 mod pass;
 mod set;
@@ -151,7 +152,7 @@ impl NodeCore {
         self.replica.acked(to)
     }
 
-    /// All that the node knows of settings, hits, executions and moved rights.
+    /// All that the node knows of settings, hits, executions, and moved and granted rights.
     pub fn state(&self) -> &State
         ensures { state_in result.now ≡ state_known self.now }
     {

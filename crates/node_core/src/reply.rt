@@ -48,6 +48,8 @@ pub enum Reply {
     Pass(PassReply),
     /// How many rights were moved in all, from this node to that one.
     Shift(u64),
+    /// How many rights this node granted itself in all.
+    Grant(u64),
     /// The bytes of the message.
     Emit(Vec<u8>),
     /// Whether settings or cells changed.

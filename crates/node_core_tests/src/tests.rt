@@ -6,6 +6,7 @@
 
 mod asks;
 mod calls;
+mod grants;
 mod messages;
 mod nodes;
 mod orders;

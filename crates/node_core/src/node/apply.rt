@@ -85,6 +85,9 @@ impl NodeCore {
                 to,
                 amount,
             } => Reply::Shift(self.shift(alloc, name, *term, *to, *amount)?),
+            Ask::Grant { name, term, amount } => {
+                Reply::Grant(self.grant(alloc, name, *term, *amount)?)
+            }
             Ask::Emit { to } => Reply::Emit(self.emit(alloc, *to)?),
             Ask::Deliver { message } => Reply::Deliver(self.deliver(alloc, message)?),
         })
@@ -107,6 +110,9 @@ impl NodeCore {
                 to,
                 amount,
             } => with_words(self.shift_checked(alloc, name, *term, *to, *amount)),
+            Ask::Grant { name, term, amount } => {
+                with_words(self.grant_checked(alloc, name, *term, *amount))
+            }
             Ask::Emit { to } => with_words(self.emit_checked(*to)),
             Ask::Deliver { message } => delivery_with_words(self.deliver_checked(alloc, message)),
         }

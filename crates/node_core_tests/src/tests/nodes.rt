@@ -65,6 +65,16 @@ fn shift(
     Ok(Reply::Shift(node.shift(alloc, name, term, to, amount)?))
 }
 
+fn grant(
+    alloc: Global,
+    node: &mut NodeCore,
+    name: &str,
+    term: u8,
+    amount: u64,
+) -> Result<Reply, NodeFault> {
+    Ok(Reply::Grant(node.grant(alloc, name, term, amount)?))
+}
+
 fn emit(alloc: Global, node: &mut NodeCore, to: u8) -> Result<Reply, NodeFault> {
     Ok(Reply::Emit(node.emit(alloc, to)?))
 }
@@ -91,6 +101,7 @@ pub(super) fn by_call(
             to,
             amount,
         } => shift(alloc, node, name, *term, *to, *amount),
+        Ask::Grant { name, term, amount } => grant(alloc, node, name, *term, *amount),
         Ask::Emit { to } => emit(alloc, node, *to),
         Ask::Deliver { message } => deliver(alloc, node, message),
     }

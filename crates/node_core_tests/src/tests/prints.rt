@@ -57,6 +57,7 @@ fn reply_text(alloc: Global, reply: &Reply) -> Result<String, AllocError> {
         Reply::Load(entries) => format!(in alloc; "{entries}"),
         Reply::Pass(passed) => passed_text(alloc, passed),
         Reply::Shift(total) => format!(in alloc; "{total}"),
+        Reply::Grant(total) => format!(in alloc; "{total}"),
         Reply::Emit(_) => String::from_str(alloc, "message"),
         Reply::Deliver(true) => String::from_str(alloc, "changed"),
         Reply::Deliver(false) => String::from_str(alloc, "same"),

@@ -12,6 +12,7 @@ pub enum Step {
     Load(&'static str),
     Pass(&'static str, &'static [u32]),
     Shift(&'static str, u8, u8, u64),
+    Grant(&'static str, u8, u64),
     /// A message to a node. It is kept: the first one is number 0.
     Emit(u8),
     /// A kept message, by its number.
@@ -140,6 +141,11 @@ fn try_ask_of(alloc: Global, messages: &[Vec<u8>], step: &Step) -> Result<Option
             name: String::from_str(alloc, name)?,
             term: *term,
             to: *to,
+            amount: *amount,
+        },
+        Step::Grant(name, term, amount) => Ask::Grant {
+            name: String::from_str(alloc, name)?,
+            term: *term,
             amount: *amount,
         },
         Step::Emit(to) => Ask::Emit { to: *to },

@@ -2,7 +2,8 @@ use Rattle.std.proofs.Common.{subst}
 use Rattle.std.specs.Option.{IsSome}
 use Rattle.replica_state.specs.States.{State, budget_of}
 use Rattle.node_core.proofs.Rights.{counted_by_rights}
-use Rattle.node_core.proofs.VersionsInStep.{entries_with, shift_with}
+use Rattle.node_core.proofs.ShiftSteps.{shift_moves, may_shift}
+use Rattle.node_core.proofs.VersionsInStep.{entries_with, moved_with}
 use Rattle.node_core.specs.Asks.{Shift}
 use Rattle.node_core.specs.Traces.{kept_of, state_known}
 use Rattle.node_core.specs.Replicas.{value_in}
@@ -27,6 +28,7 @@ invariant_of-self-2 c =
     let there = rw (← c.self.view_is) at c.requires.there in
     let total = rw (← c.self.view_is) at c.requires.total in
     entries_with node.config _ _ node.trace.items _ c.push_reserved.new.self.items _ c.push_reserved.ensures.items c.in_ok-reserve.ensures.items
-    (shift_with k node.clock (value_in node.replica) _ _ c.self.invariant room
-    c.args.point c.args.term c.args.to c.args.amount c.args.total (λ i. Shift (c.into_text.ensures i) c.args.term c.args.to c.args.amount) c.new.ensures.items
-    set enough there c.ranges.term.fits total c.in_ok-count_shift.ensures.ok)
+    (moved_with k node.clock (value_in node.replica) _ _ c.self.invariant room
+    (Shift c.args.point c.args.term c.args.to c.args.amount) c.args.point c.args.term c.args.to c.args.amount c.args.total (λ i. Shift (c.into_text.ensures i) c.args.term c.args.to c.args.amount) c.new.ensures.items
+    (shift_moves node.config.node c.args.point c.args.term c.args.to c.args.amount)
+    set (may_shift node.config (state_known k) c.args.point c.args.term c.args.to c.args.amount enough there) c.ranges.term.fits total c.in_ok-count_shift.ensures.ok)

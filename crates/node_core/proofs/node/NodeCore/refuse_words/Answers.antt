@@ -1,7 +1,7 @@
 use Rattle.std.proofs.Common.{◌∙◌, ◌∷◌, sym}
-use Rattle.node_core.specs.Asks.{message_read, Set, Remove, Load, Shift}
+use Rattle.node_core.specs.Asks.{message_read, Set, Remove, Load, Shift, Grant}
 use Rattle.node_core.specs.Traces.{refusal}
-use Rattle.node_core.proofs.SpareWords.{set_spare, remove_spare, load_spare, shift_spare, spare_result, ok_first, ok_first_of_three, deliver_spare}
+use Rattle.node_core.proofs.SpareWords.{set_spare, remove_spare, load_spare, shift_spare, grant_spare, spare_result, ok_first, ok_first_of_three, deliver_spare}
 use Rattle.node_core.proofs.node.NodeCore.refuse_words.Goals as goal
 
 pub returns-in-Set : goal.returns-in-Set
@@ -27,6 +27,12 @@ returns-in-Shift c = λ w ws.
     let k = c.args.self.now in
     rw c.in-Shift.is (spare_result c.shift_checked.result c.with_words-in-Shift.result _ _ c.with_words-in-Shift.ensures.ok c.with_words-in-Shift.ensures.err (ok_first_of_three _ _ _ c.shift_checked.result c.shift_checked.ensures.ok) c.shift_checked.ensures.refused
     ((λ i. refusal k (Shift ((sym c.deref-in-Shift.ensures) i) c.in-Shift.term c.in-Shift.to c.in-Shift.amount) (w ∷ ws)) ∙ shift_spare k c.deref-in-Shift.result.now c.in-Shift.term c.in-Shift.to c.in-Shift.amount w ws))
+
+pub returns-in-Grant : goal.returns-in-Grant
+returns-in-Grant c = λ w ws.
+    let k = c.args.self.now in
+    rw c.in-Grant.is (spare_result c.grant_checked.result c.with_words-in-Grant.result _ _ c.with_words-in-Grant.ensures.ok c.with_words-in-Grant.ensures.err (ok_first_of_three _ _ _ c.grant_checked.result c.grant_checked.ensures.ok) c.grant_checked.ensures.refused
+    ((λ i. refusal k (Grant ((sym c.deref-in-Grant.ensures) i) c.in-Grant.term c.in-Grant.amount) (w ∷ ws)) ∙ grant_spare k c.deref-in-Grant.result.now c.in-Grant.term c.in-Grant.amount w ws))
 
 pub returns-in-Deliver : goal.returns-in-Deliver
 returns-in-Deliver c = λ w ws.

@@ -1,0 +1,29 @@
+use Rattle.std.proofs.Common.{subst}
+use Rattle.std.specs.Option.{IsSome}
+use Rattle.replica_state.specs.States.{State, budget_of}
+use Rattle.node_core.proofs.ShiftSteps.{grant_moves, may_grant}
+use Rattle.node_core.proofs.VersionsInStep.{entries_with, moved_with}
+use Rattle.node_core.specs.Asks.{Grant}
+use Rattle.node_core.specs.Traces.{kept_of, state_known}
+use Rattle.node_core.specs.Replicas.{value_in}
+use Rattle.node_core.proofs.node.NodeCore.add_rights.Goals as goal
+
+pub count_shift-requires-clause-counted : goal.count_shift-requires-clause-counted
+count_shift-requires-clause-counted c =
+    let counted = rw (← c.self.view_is) at c.requires.counted in
+    subst (λ (v : State). IsSome (budget_of v c.args.point c.args.term)) c.self.invariant.1.state_is counted
+
+pub invariant_of-self-2 : goal.invariant_of-self-2
+invariant_of-self-2 c =
+    let node = c.self.inside in
+    let k = kept_of node.config node.trace.items in
+    let room = rw (← c.self.view_is) at c.requires.room in
+    let set = rw (← c.self.view_is) at c.requires.set in
+    let counted = rw (← c.self.view_is) at c.requires.counted in
+    let some = c.requires.some in
+    let total = rw (← c.self.view_is) at c.requires.total in
+    entries_with node.config _ _ node.trace.items _ c.push_reserved.new.self.items _ c.push_reserved.ensures.items c.in_ok-reserve.ensures.items
+    (moved_with k node.clock (value_in node.replica) _ _ c.self.invariant room
+    (Grant c.args.point c.args.term c.args.amount) c.args.point c.args.term node.config.node c.args.amount c.args.total (λ i. Grant (c.into_text.ensures i) c.args.term c.args.amount) c.new.ensures.items
+    (grant_moves node.config.node c.args.point c.args.term c.args.amount)
+    set (may_grant node.config (state_known k) c.args.point c.args.term c.args.amount counted c.self.invariant.0.0.own some) c.ranges.term.fits total c.in_ok-count_shift.ensures.ok)
