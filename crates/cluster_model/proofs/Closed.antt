@@ -41,6 +41,7 @@ keys_in_ops i n (Some (asks.Remove name)) words op h = h
 keys_in_ops i n (Some (asks.Load text)) words op h = h
 keys_in_ops i n (Some (asks.Pass name)) words op h = absurd h
 keys_in_ops i n (Some (asks.Shift name term to amount)) words op h = absurd h
+keys_in_ops i n (Some (asks.Grant name term amount)) words op h = absurd h
 keys_in_ops i n (Some (asks.Emit to versions chosen)) words op h = absurd h
 keys_in_ops i n (Some (asks.Deliver read)) words op h = absurd h
 
@@ -61,6 +62,11 @@ hit_of_pass i v name n j k (Triggered key t (Some c) task) is (inl e) = absurd (
 hit_of_pass i v name n j k (Triggered key t (Some c) task) is (inr (inl e)) = (key, let same : n ≡ name = cc in subst (λ m. v.key m ≡ Some key) (sym same) is.under)
 hit_of_pass i v name n j k (Triggered key t (Some c) task) is (inr (inr h)) = absurd h
 
+no_hit_shifted : (i : ℕ) (v : State) (other : List ℕ) (term to amount : ℕ) (name : List ℕ) (j k : ℕ) (o : Option KeyValue) → IsIn (Count (Hits name j) k) (shift_under i v other term to amount o) → ⊥
+no_hit_shifted i v other term to amount name j k None h = h
+no_hit_shifted i v other term to amount name j k (Some key) (inl e) = cc
+no_hit_shifted i v other term to amount name j k (Some key) (inr h) = h
+
 own_hits : (i : ℕ) (n : Node) (a : Option Asked) (words name : List ℕ) (j k : ℕ) → IsIn (Count (Hits name j) k) (ops_issued i n a words) → (key : KeyValue) × ((state_shown n).key name ≡ Some key)
 own_hits i n None words name j k h = absurd h
 own_hits i n (Some (asks.Set other text)) words name j k h = absurd (no_count_issued i n.marks.clock (settings (asks.Set other text)) (Hits name j) k h)
@@ -69,12 +75,8 @@ own_hits i n (Some (asks.Load text)) words name j k h = absurd (no_count_issued 
 own_hits i n (Some (asks.Pass other)) words name j k h =
     let o = outcome_of i (state_shown n) other words in
     hit_of_pass i (state_shown n) other name j k o.outcome o.is (subst (λ os. IsIn (Count (Hits name j) k) os) o.ops h)
-own_hits i n (Some (asks.Shift other term to amount)) words name j k h = at ((state_shown n).key other) h
-  where
-    at : (o : Option KeyValue) → IsIn (Count (Hits name j) k) (shift_under i (state_shown n) other term to amount o) → (key : KeyValue) × ((state_shown n).key name ≡ Some key)
-    at None q = absurd q
-    at (Some key) (inl q) = absurd (cc)
-    at (Some key) (inr q) = absurd q
+own_hits i n (Some (asks.Shift other term to amount)) words name j k h = absurd (no_hit_shifted i (state_shown n) other term to amount name j k ((state_shown n).key other) h)
+own_hits i n (Some (asks.Grant other term amount)) words name j k h = absurd (no_hit_shifted i (state_shown n) other term i amount name j k ((state_shown n).key other) h)
 own_hits i n (Some (asks.Emit to versions chosen)) words name j k h = absurd h
 own_hits i n (Some (asks.Deliver read)) words name j k h = absurd h
 

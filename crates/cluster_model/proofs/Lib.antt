@@ -1,5 +1,6 @@
 pub mod Steps
 pub mod Passes
+pub mod Moved
 pub mod Stamps
 pub mod OwnCells
 pub mod Rights
@@ -19,8 +20,11 @@ pub mod Acks
 pub mod SeesWhole
 pub mod Budgets
 pub mod NotOverspent
+pub mod DeltaMessages
 pub mod Examples
 pub mod ExampleMovedRight
+pub mod ExampleGrantedRight
+pub mod ExampleUntoldGrant
 pub mod ExampleOvertakenKey
 pub mod ExampleThreeNodes
 pub mod ExampleSpendFirst

@@ -1,12 +1,11 @@
 -- A message that tells what differs never brings its receiver to a state that is overspent: of each node that state has
 -- what the node had at one of its versions, and at none of them had more gone from it than it was given.
-use Rattle.std.proofs.Common.{◌≡◌, ℕ, ◌≤◌, List, [], ◌∷◌, ◌++◌, false, sym, ◌∙◌, ap, subst, ⊎_elim, Option, Some, None}
-use Rattle.std.specs.List.{list_any}
+use Rattle.std.proofs.Common.{◌≡◌, ℕ, ◌+◌, ◌≤◌, List, [], ◌∷◌, ◌++◌, false, sym, ◌∙◌, ap, subst, ⊎_elim, Option, Some, None}
 use Rattle.counters.specs.Sums.{node_numbers, sum_below}
 use Rattle.counters.specs.Budgets.{Budget, given_to, gone_from}
 use Rattle.stamp_register.specs.Keys.{KeyValue}
 use Rattle.replica_state.specs.Operations.{Operation, IsIn, count_of}
-use Rattle.replica_state.specs.States.{State, budget}
+use Rattle.replica_state.specs.States.{State, budget, granted_in}
 use Rattle.replica_state.specs.Folds.{fold, name_in}
 use Rattle.replica_state.proofs.Changes.{false_any}
 use Rattle.node_core.specs.Asks.{Message}
@@ -15,6 +14,7 @@ use Rattle.cluster_model.specs.Worlds.{Cluster, Event, accepted, world}
 use Rattle.cluster_model.specs.Schedules.{IsSchedule, IsDeltaSchedule}
 use Rattle.cluster_model.specs.Histories.{state_of}
 use Rattle.cluster_model.specs.Views.{SeesWhole}
+use Rattle.cluster_model.specs.Laws.{merge_overspends}
 use Rattle.cluster_model.proofs.Stamps.{OneStamp, one_stamp, one_before}
 use Rattle.cluster_model.proofs.Rights.{under_cells, solvent}
 use Rattle.cluster_model.proofs.Honest.{none_overspent, merged_issued}
@@ -47,7 +47,7 @@ module _ (name : List ℕ) (key : KeyValue) (term count : ℕ) (counted : count_
   solvent_seen c es s one v j sees under =
       solvent_as_of v (((world c es).node j).past sees.version) j sees.as_of name key term count under (solvent_past c es s one j sees.version sees.reached)
 
-pub merge_not_overspent : (c : Cluster) (es : List Event) → IsDeltaSchedule c es → (i : ℕ) (m : Message) → IsIn m (world c es).messages → m.to ≡ i → list_any (overspends (fold (m.ops ++ ((world c es).node i).ops))) m.ops ≡ false
+pub merge_not_overspent : (c : Cluster) (es : List Event) → IsDeltaSchedule c es → (i : ℕ) (m : Message) → IsIn m (world c es).messages → m.to ≡ i → merge_overspends c es i m ≡ false
 merge_not_overspent c es delta i m sent_then mine = false_any (overspends (fold merged)) m.ops (λ op h. none_overspent (fold merged) at_most (name_in op))
   where
     merged : List Operation
@@ -56,7 +56,7 @@ merge_not_overspent c es delta i m sent_then mine = false_any (overspends (fold 
     s : IsSchedule c es
     s = deltas_are_schedules c es delta
 
-    at_most : (name : List ℕ) (key : KeyValue) (term count : ℕ) → (fold merged).key name ≡ Some key → count_of key term ≡ Some count → sum_below node_numbers ((fold merged).execs name term) ≤ count
+    at_most : (name : List ℕ) (key : KeyValue) (term count : ℕ) → (fold merged).key name ≡ Some key → count_of key term ≡ Some count → sum_below node_numbers ((fold merged).execs name term) ≤ count + sum_below node_numbers (granted_in (fold merged) name term)
     at_most name key term count under counted =
         spent_at_most (budget (fold merged) name term key.node count)
         (λ j. solvent_seen name key term count counted c es s (one_stamp c es name key (merged_issued c es s i m sent_then name key under)) (fold merged) j (merged_sees_whole c es delta i m sent_then mine j) under)

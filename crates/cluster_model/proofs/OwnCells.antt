@@ -1,5 +1,5 @@
 -- The cells that a node writes count what it did.
-use Rattle.std.proofs.Common.{◌≡◌, ℕ, ◌+◌, ◌≤◌, ◌==◌, ◌&&◌, max, Bool, true, false, cond, List, [], ◌∷◌, refl, sym, ◌∙◌, ap, subst, arith, Option, Some, None}
+use Rattle.std.proofs.Common.{◌≡◌, ◌≢◌, ℕ, ◌+◌, ◌≤◌, ◌==◌, ◌&&◌, max, Bool, true, false, cond, List, [], ◌∷◌, refl, sym, ◌∙◌, ap, subst, arith, Option, Some, None}
 use Rattle.std.proofs.lemmas.Bool.{true≢false, eq-eqb, eqb-true, and_parts, and_from}
 use Rattle.std.proofs.lemmas.List.Sums.{sum_by-cons, sum_by-append}
 use Rattle.std.specs.Prelude.{count_by}
@@ -18,9 +18,10 @@ use Rattle.node_core.specs.Passes.{ops_of_pass}
 use Rattle.node_core.specs.Steps.{after, reply, settings, operations_issued, shift_under, message_in}
 use Rattle.cluster_model.specs.Worlds.{Cluster, World, Event, accepted, node_after, trace_after, world}
 use Rattle.cluster_model.specs.Schedules.{Allows, IsSchedule}
-use Rattle.cluster_model.specs.Histories.{state_of, ops_delivered, is_act_of, acts, executions, is_key, amount_moved, moved}
+use Rattle.cluster_model.specs.Histories.{state_of, ops_delivered, is_act_of, acts, executions, is_key, amount_moved, moved, amount_granted, granted}
 use Rattle.cluster_model.proofs.Steps.{IsKnown, known, delivered_from}
 use Rattle.cluster_model.proofs.Passes.{Outcome, NotSet, Nothing, Triggered, IsOutcome, IsTriggered, ops_of, passed_as, outcome_of}
+use Rattle.cluster_model.proofs.Moved.{moved_to_self}
 use Rattle.cluster_model.proofs.Stamps.{carried, under_issued, OneStamp, one_before}
 
 -- ---- tests
@@ -92,36 +93,81 @@ shift_of name other key term i j t to amount ops (Some k) under = at (same_cell 
     at false true e f = absurd (true≢false (sym f))
     at false false e f = omega arith
 
--- the next shift from i to j in i's set
-pub shift_step : (i : ℕ) (n : Node) (a : Option Asked) (words name : List ℕ) (key : KeyValue) (term j : ℕ) →
+pub no_more : (a : ℕ) (t : Bool) → a + cond t 0 0 ≡ a
+no_more a true = omega arith
+no_more a false = omega arith
+
+-- what a node grants itself is its own
+granted_more : (a b d t : Bool) (amount : ℕ) → ◌≡◌ {A = ℕ} (cond (a && (b && (t && d))) amount 0) (0 + cond t (cond (a && (b && d)) amount 0) 0)
+granted_more true true true true amount = omega arith
+granted_more true true false true amount = refl
+granted_more true true d false amount = refl
+granted_more true false d true amount = refl
+granted_more true false d false amount = refl
+granted_more false b d true amount = refl
+granted_more false b d false amount = refl
+
+-- the next shift from i to j in i's set, or the next grant, where both are one
+cell_step : (i : ℕ) (n : Node) (a : Option Asked) (words name : List ℕ) (key : KeyValue) (term j : ℕ) →
     number_at (Shifts name key term i j) (ops_delivered a) ≤ number_at (Shifts name key term i j) n.ops →
-    number_at (Shifts name key term i j) (node_after i n a words).ops ≡ amount_moved n a name key term j + number_at (Shifts name key term i j) n.ops
+    number_at (Shifts name key term i j) (node_after i n a words).ops ≡ amount_moved n a name key term j + cond (i == j) (amount_granted n a name key term) 0 + number_at (Shifts name key term i j) n.ops
 unfolding after
-shift_step i n None words name key term j h = omega arith
-shift_step i n (Some (asks.Set other text)) words name key term j h =
+cell_step i n None words name key term j h =
+    let g = no_more 0 (i == j) in
+    omega (arith, g)
+cell_step i n (Some (asks.Set other text)) words name key term j h =
     let e = number_at-append (Shifts name key term i j) (operations_issued i n.marks.clock (settings (asks.Set other text))) n.ops in
     let z = no_counts (Shifts name key term i j) i n.marks.clock (settings (asks.Set other text)) in
-    omega (arith, e, z)
-shift_step i n (Some (asks.Remove other)) words name key term j h =
+    let g = no_more 0 (i == j) in
+    omega (arith, e, z, g)
+cell_step i n (Some (asks.Remove other)) words name key term j h =
     let e = number_at-append (Shifts name key term i j) (operations_issued i n.marks.clock (settings (asks.Remove other))) n.ops in
     let z = no_counts (Shifts name key term i j) i n.marks.clock (settings (asks.Remove other)) in
-    omega (arith, e, z)
-shift_step i n (Some (asks.Load text)) words name key term j h =
+    let g = no_more 0 (i == j) in
+    omega (arith, e, z, g)
+cell_step i n (Some (asks.Load text)) words name key term j h =
     let e = number_at-append (Shifts name key term i j) (operations_issued i n.marks.clock (settings (asks.Load text))) n.ops in
     let z = no_counts (Shifts name key term i j) i n.marks.clock (settings (asks.Load text)) in
-    omega (arith, e, z)
-shift_step i n (Some (asks.Pass other)) words name key term j h =
+    let g = no_more 0 (i == j) in
+    omega (arith, e, z, g)
+cell_step i n (Some (asks.Pass other)) words name key term j h =
     let o = outcome_of i (state_shown n) other words in
     let e = number_at-append (Shifts name key term i j) (ops_of_pass i (state_shown n) other words (setting_of (state_shown n) other)) n.ops in
     let z : number_at (Shifts name key term i j) (ops_of_pass i (state_shown n) other words (setting_of (state_shown n) other)) ≡ 0 = ap (number_at (Shifts name key term i j)) o.ops ∙ no_shift (state_shown n) name other key term i j o.outcome in
-    omega (arith, e, z)
-shift_step i n (Some (asks.Shift other t to amount)) words name key term j h =
+    let g = no_more 0 (i == j) in
+    omega (arith, e, z, g)
+cell_step i n (Some (asks.Shift other t to amount)) words name key term j h =
     number_at-append (Shifts name key term i j) (shift_under i (state_shown n) other t to amount ((state_shown n).key other)) n.ops
     ∙ shift_of name other key term i j t to amount n.ops ((state_shown n).key other) refl
-shift_step i n (Some (asks.Emit to versions chosen)) words name key term j h = omega arith
-shift_step i n (Some (asks.Deliver read)) words name key term j h =
+    ∙ ap (λ x. x + number_at (Shifts name key term i j) n.ops) (sym (no_more _ (i == j)))
+cell_step i n (Some (asks.Grant other t amount)) words name key term j h =
+    number_at-append (Shifts name key term i j) (shift_under i (state_shown n) other t i amount ((state_shown n).key other)) n.ops
+    ∙ shift_of name other key term i j t i amount n.ops ((state_shown n).key other) refl
+    ∙ ap (λ x. x + number_at (Shifts name key term i j) n.ops) (granted_more (bytes_eq other name) (t == term) (is_key key ((state_shown n).key other)) (i == j) amount)
+cell_step i n (Some (asks.Emit to versions chosen)) words name key term j h =
+    let g = no_more 0 (i == j) in
+    omega (arith, g)
+cell_step i n (Some (asks.Deliver read)) words name key term j h =
     let e = number_at-append (Shifts name key term i j) (message_in read).ops n.ops in
-    omega (arith, e, h)
+    let g = no_more 0 (i == j) in
+    omega (arith, e, h, g)
+
+pub is_false : (t : Bool) → (t ≡ true → ⊥) → t ≡ false
+is_false true h = absurd (h refl)
+is_false false h = refl
+
+-- of two numbers that are not the same
+pub not_same : (i j : ℕ) → j ≢ i → (i == j) ≡ false
+not_same i j ne = is_false (i == j) (λ h. ne (sym (eqb-true i j h)))
+
+-- the next shift to another
+pub shift_step : (i : ℕ) (n : Node) (a : Option Asked) (words name : List ℕ) (key : KeyValue) (term j : ℕ) → j ≢ i →
+    number_at (Shifts name key term i j) (ops_delivered a) ≤ number_at (Shifts name key term i j) n.ops →
+    number_at (Shifts name key term i j) (node_after i n a words).ops ≡ amount_moved n a name key term j + number_at (Shifts name key term i j) n.ops
+shift_step i n a words name key term j ne h =
+    let step = cell_step i n a words name key term j h in
+    let none : cond (i == j) (amount_granted n a name key term) 0 ≡ 0 = ap (λ t. cond t (amount_granted n a name key term) 0) (not_same i j ne) in
+    omega (arith, step, none)
 
 -- the key of a name in the node's state that has the key's stamp is that key, and the name is its name
 abbrev pub OneHere : State → List ℕ → KeyValue → Type 0
@@ -213,6 +259,10 @@ exec_step i n (Some (asks.Shift other t to amount)) words name key term count co
     let e = number_at-append (Execs name key term i) (shift_under i (state_shown n) other t to amount ((state_shown n).key other)) n.ops in
     let z = no_exec (state_shown n) name other key term i t to amount ((state_shown n).key other) in
     omega (arith, e, z)
+exec_step i n (Some (asks.Grant other t amount)) words name key term count counted one h =
+    let e = number_at-append (Execs name key term i) (shift_under i (state_shown n) other t i amount ((state_shown n).key other)) n.ops in
+    let z = no_exec (state_shown n) name other key term i t i amount ((state_shown n).key other) in
+    omega (arith, e, z)
 exec_step i n (Some (asks.Emit to versions chosen)) words name key term count counted one h = omega arith
 exec_step i n (Some (asks.Deliver read)) words name key term count counted one h =
     let e = number_at-append (Execs name key term i) (message_in read).ops n.ops in
@@ -234,12 +284,33 @@ executed_more stamp term i n trace (Some ask) words =
 pub delivered_own : (c : Cluster) (w : World) (e : Event) (i : ℕ) (cell : Cell) → IsKnown w → Allows w e.node (accepted c w e e.node) → writer_of (Count cell 0) ≡ i → number_at cell (ops_delivered (accepted c w e i)) ≤ number_at cell (w.node i).ops
 delivered_own c w e i cell k allowed own = number_at-mono cell _ _ (λ m h. subst (λ j. IsIn (Count cell m) (w.node j).ops) own (delivered_from c w e i (λ o. IsIn o (w.node (writer_of o)).ops) allowed k.sent (Count cell m) h))
 
-pub own_shifts : (c : Cluster) (es : List Event) → IsSchedule c es → (name : List ℕ) (key : KeyValue) (term i j : ℕ) → number_at (Shifts name key term i j) ((world c es).node i).ops ≡ moved c es name key term i j
-own_shifts c [] s name key term i j = refl
-own_shifts c (e ∷ es) s name key term i j =
-    let step = shift_step i ((world c es).node i) (accepted c (world c es) e i) e.words name key term j (delivered_own c (world c es) e i (Shifts name key term i j) (known c es s.1) s.0 refl) in
-    let before = own_shifts c es s.1 name key term i j in
-    omega (arith, step, before)
+split_more : (t : Bool) (a b : ℕ) → cond t (a + b) 0 ≡ cond t a 0 + cond t b 0
+split_more true a b = refl
+split_more false a b = refl
+
+own_cells : (c : Cluster) (es : List Event) → IsSchedule c es → (name : List ℕ) (key : KeyValue) (term i j : ℕ) →
+    number_at (Shifts name key term i j) ((world c es).node i).ops ≡ moved c es name key term i j + cond (i == j) (granted c es name key term i) 0
+own_cells c [] s name key term i j = sym (no_more 0 (i == j))
+own_cells c (e ∷ es) s name key term i j =
+    let step = cell_step i ((world c es).node i) (accepted c (world c es) e i) e.words name key term j (delivered_own c (world c es) e i (Shifts name key term i j) (known c es s.1) s.0 refl) in
+    let before = own_cells c es s.1 name key term i j in
+    let more = split_more (i == j) (amount_granted ((world c es).node i) (accepted c (world c es) e i) name key term) (granted c es name key term i) in
+    omega (arith, step, before, more)
+
+pub own_shifts : (c : Cluster) (es : List Event) → IsSchedule c es → (name : List ℕ) (key : KeyValue) (term i j : ℕ) → j ≢ i →
+    number_at (Shifts name key term i j) ((world c es).node i).ops ≡ moved c es name key term i j
+own_shifts c es s name key term i j ne =
+    let own = own_cells c es s name key term i j in
+    let none : cond (i == j) (granted c es name key term i) 0 ≡ 0 = ap (λ t. cond t (granted c es name key term i) 0) (not_same i j ne) in
+    omega (arith, own, none)
+
+pub own_grants : (c : Cluster) (es : List Event) → IsSchedule c es → (name : List ℕ) (key : KeyValue) (term i : ℕ) →
+    number_at (Shifts name key term i i) ((world c es).node i).ops ≡ granted c es name key term i
+own_grants c es s name key term i =
+    let own = own_cells c es s name key term i i in
+    let here : cond (i == i) (granted c es name key term i) 0 ≡ granted c es name key term i = ap (λ t. cond t (granted c es name key term i) 0) (eq-eqb i i refl) in
+    let none = moved_to_self c es name key term i in
+    omega (arith, own, here, none)
 
 pub one_here : (c : Cluster) (es : List Event) (name : List ℕ) (key : KeyValue) (i : ℕ) → IsSchedule c es → OneStamp c es name key → OneHere (state_of c es i) name key
 one_here c es name key i s one other k u p q = one other k (under_issued c es (carried c es s) i other k u) p q

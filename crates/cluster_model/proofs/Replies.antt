@@ -51,6 +51,7 @@ told_is_sent i n (asks.Remove name) words m e = absurd (cc)
 told_is_sent i n (asks.Load text) words m e = absurd (cc)
 told_is_sent i n (asks.Pass name) words m e = absurd (cc)
 told_is_sent i n (asks.Shift name term to amount) words m e = absurd (cc)
+told_is_sent i n (asks.Grant name term amount) words m e = absurd (cc)
 told_is_sent i n (asks.Emit to versions chosen) words m e =
     let same : message_to i to versions chosen ≡ m = cc in
     (inl (sym same), sym (ap (λ (l : Message). l.from) same))
@@ -62,6 +63,7 @@ sent_is_told i n (asks.Remove name) words m h = absurd h
 sent_is_told i n (asks.Load text) words m h = absurd h
 sent_is_told i n (asks.Pass name) words m h = absurd h
 sent_is_told i n (asks.Shift name term to amount) words m h = absurd h
+sent_is_told i n (asks.Grant name term amount) words m h = absurd h
 sent_is_told i n (asks.Emit to versions chosen) words m (inl e) = (ap (λ (l : Message). asks.IsEmitted (Ok l)) (sym e), ap (λ (l : Message). l.from) e)
 sent_is_told i n (asks.Emit to versions chosen) words m (inr h) = absurd h
 sent_is_told i n (asks.Deliver read) words m h = absurd h
@@ -183,6 +185,7 @@ told_pass i n (asks.Pass name) words stamp term task e =
     let same : reply_of_pass i (state_shown n) name words (setting_of (state_shown n) name) ≡ Act stamp term task = cc in
     record { name = name; asked = refl; is = passed_term i (state_shown n) name words stamp term task same }
 told_pass i n (asks.Shift name k to amount) words stamp term task e = absurd (cc)
+told_pass i n (asks.Grant name k amount) words stamp term task e = absurd (cc)
 told_pass i n (asks.Emit to versions chosen) words stamp term task e = absurd (cc)
 told_pass i n (asks.Deliver read) words stamp term task e = absurd (cc)
 

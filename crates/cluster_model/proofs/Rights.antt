@@ -5,7 +5,7 @@ use Rattle.std.proofs.lemmas.Int.{ints}
 use Rattle.std.specs.Prelude.{pos, ◌-ℤ◌}
 use Rattle.std.specs.Str.{bytes_eq}
 use Rattle.counters.specs.Sums.{node_numbers, sum_others}
-use Rattle.counters.specs.Budgets.{Budget, given_to, gone_from}
+use Rattle.counters.specs.Budgets.{Budget, granted_by, given_to, gone_from}
 use Rattle.counters.proofs.SumLemmas.{sum_others-le, sum_others-add, sum_others-same, sum_others-at_most, sum_others-zero}
 use Rattle.stamp_register.specs.Keys.{KeyValue, stamp_of, same_key}
 use Rattle.replica_state.specs.Operations.{Execs, Shifts, Operation, Count, IsIn, count_of}
@@ -20,11 +20,12 @@ use Rattle.node_core.specs.Passes.{has_rights_of}
 use Rattle.node_core.specs.Steps.{after}
 use Rattle.cluster_model.specs.Worlds.{Cluster, World, Event, accepted, node_after, world}
 use Rattle.cluster_model.specs.Schedules.{IsSchedule}
-use Rattle.cluster_model.specs.Histories.{state_of, ops_issued, keys_by, is_act_of, executions, is_key, is_under, amount_moved, moved, state_under, rights_under, held, shifts_under, seen}
+use Rattle.cluster_model.specs.Histories.{state_of, ops_issued, keys_by, is_act_of, executions, is_key, is_under, amount_moved, moved, amount_granted, granted, state_under, rights_under, held, shifts_under, seen}
 use Rattle.cluster_model.proofs.Steps.{keeps, known, IsAgreed, agreed}
 use Rattle.cluster_model.proofs.Passes.{Outcome, NotSet, Nothing, Triggered, IsOutcome, passed_as, outcome_of, shifted_is}
+use Rattle.cluster_model.proofs.Moved.{sum_others-but}
 use Rattle.cluster_model.proofs.Stamps.{own_carries, OneStamp, one_before}
-use Rattle.cluster_model.proofs.OwnCells.{and_false, acted, shift_step, exec_step, executed_more, OneHere, same_call, delivered_own, own_shifts, one_here, own_execs}
+use Rattle.cluster_model.proofs.OwnCells.{and_false, no_more, not_same, acted, shift_step, exec_step, executed_more, OneHere, same_call, delivered_own, own_shifts, own_grants, one_here, own_execs}
 
 -- the cells of the key in a set, whether or not the set is under it
 abbrev pub cells : List ℕ → KeyValue → ℕ → ℕ → List Operation → Budget
@@ -150,16 +151,17 @@ solvent c (e ∷ es) s name key term count counted one i =
     let before = solvent c es s.1 name key term count counted one_then i in
     let enough = step_taken c (world c es) e i a (agreed c (world c es) e i) name key term count counted here before in
     let spent = exec_step i n a e.words name key term count counted here (delivered_own c (world c es) e i (Execs name key term i) (known c es s.1) s.0 refl) in
-    let out = sum_others-same node_numbers i
+    let out = sum_others-but node_numbers i
     (λ j. number_at (Shifts name key term i j) (node_after i n a e.words).ops)
     (λ j. amount_moved n a name key term j + number_at (Shifts name key term i j) n.ops)
-    (λ j. shift_step i n a e.words name key term j (delivered_own c (world c es) e i (Shifts name key term i j) (known c es s.1) s.0 refl)) in
+    (λ j ne. shift_step i n a e.words name key term j ne (delivered_own c (world c es) e i (Shifts name key term i j) (known c es s.1) s.0 refl)) in
     let split = sum_others-add node_numbers i (amount_moved n a name key term) (λ j. number_at (Shifts name key term i j) n.ops) in
     let more = sum_others-le node_numbers i (λ j. number_at (Shifts name key term j i) n.ops) (λ j. number_at (Shifts name key term j i) (node_after i n a e.words).ops)
     (λ j. number_at-mono (Shifts name key term j i) n.ops (node_after i n a e.words).ops (λ m. keeps i n a e.words (Count (Shifts name key term j i) m))) in
-    omega (arith, enough, spent, out, split, more)
+    let grants = number_at-mono (Shifts name key term i i) n.ops (node_after i n a e.words).ops (λ m. keeps i n a e.words (Count (Shifts name key term i i) m)) in
+    omega (arith, enough, spent, out, split, more, grants)
 
--- ---- a step that is not under the key takes nothing of it
+-- ---- a step that is not under the key takes nothing of it, and adds nothing
 
 pub is_key-of : (key : KeyValue) (o : Option KeyValue) → is_key key o ≡ true → o ≡ Some key
 is_key-of key None h = absurd (true≢false (sym h))
@@ -185,6 +187,7 @@ kept_key i n a words name no_keys from = KeyUpto-antisym _ _
 
 pub record TakesNothing (i : ℕ) (n : Node) (a : Option Asked) (words name : List ℕ) (key : KeyValue) (term : ℕ) : Type 0 where
   pub moves : (j : ℕ) → amount_moved n a name key term j ≡ 0
+  pub grants : amount_granted n a name key term ≡ 0
   pub spends : acted (stamp_of key) term i n a words ≡ 0
 
 pass_spends : (i : ℕ) (v : State) (name other : List ℕ) (key : KeyValue) (term : ℕ) → OneHere v name key → (v.key name ≡ Some key → ⊥) → (o : Outcome) → IsOutcome i v other o → ◌≡◌ {A = ℕ} (cond (is_act_of (stamp_of key) term (passed_as o)) 1 0) 0
@@ -210,23 +213,43 @@ shift_moves v name other key term t to amount j not k e = at (bytes_eq other nam
         let r = and_parts (to == j) _ q.1 in
         absurd (not (subst (λ m. v.key m ≡ Some key) (bytes_eq-true other name p.0) (e ∙ is_key-of key k r.1)))
 
+nothing_granted : (v : State) (name other : List ℕ) (key : KeyValue) (term t amount : ℕ) → (v.key name ≡ Some key → ⊥) → (k : Option KeyValue) → v.key other ≡ k →
+    ◌≡◌ {A = ℕ} (cond (bytes_eq other name && (t == term && is_key key k)) amount 0) 0
+nothing_granted v name other key term t amount not k e = at (bytes_eq other name && (t == term && is_key key k)) refl
+  where
+    at : (b : Bool) → (bytes_eq other name && (t == term && is_key key k)) ≡ b → ◌≡◌ {A = ℕ} (cond b amount 0) 0
+    at false f = refl
+    at true f =
+        let p = and_parts (bytes_eq other name) _ f in
+        let q = and_parts (t == term) _ p.1 in
+        absurd (not (subst (λ m. v.key m ≡ Some key) (bytes_eq-true other name p.0) (e ∙ is_key-of key k q.1)))
+
 takes_nothing : (i : ℕ) (n : Node) (a : Option Asked) (words name : List ℕ) (key : KeyValue) (term : ℕ) → OneHere (state_shown n) name key → ((state_shown (node_after i n a words)).key name ≡ Some key → ⊥) → TakesNothing i n a words name key term
 unfolding after
-takes_nothing i n None words name key term one not = record { moves = λ j. refl; spends = refl }
+takes_nothing i n None words name key term one not = record { moves = λ j. refl; grants = refl; spends = refl }
 takes_nothing i n (Some (asks.Pass other)) words name key term one not =
     let kept = kept_key i n (Some (asks.Pass other)) words name (λ op h. h) (λ op h. IsIn-append_cases op _ _ h) in
     let o = outcome_of i (state_shown n) other words in
     record {
       moves = λ j. refl;
+      grants = refl;
       spends = ap (λ (p : Passed). cond (is_act_of (stamp_of key) term p) 1 0) o.reply ∙ pass_spends i (state_shown n) name other key term one (λ u. not (kept ∙ u)) o.outcome o.is;
     }
 takes_nothing i n (Some (asks.Shift other t to amount)) words name key term one not =
     let kept = kept_key i n (Some (asks.Shift other t to amount)) words name (λ op h. h) (λ op h. IsIn-append_cases op _ _ h) in
     record {
       moves = λ j. shift_moves (state_shown n) name other key term t to amount j (λ u. not (kept ∙ u)) ((state_shown n).key other) refl;
+      grants = refl;
       spends = refl;
     }
-takes_nothing i n (Some ask) words name key term one not = record { moves = λ j. refl; spends = refl }
+takes_nothing i n (Some (asks.Grant other t amount)) words name key term one not =
+    let kept = kept_key i n (Some (asks.Grant other t amount)) words name (λ op h. h) (λ op h. IsIn-append_cases op _ _ h) in
+    record {
+      moves = λ j. refl;
+      grants = nothing_granted (state_shown n) name other key term t amount (λ u. not (kept ∙ u)) ((state_shown n).key other) refl;
+      spends = refl;
+    }
+takes_nothing i n (Some ask) words name key term one not = record { moves = λ j. refl; grants = refl; spends = refl }
 
 -- ---- what is held, node by node
 
@@ -234,7 +257,7 @@ pub record Balance (c : Cluster) (es : List Event) (name : List ℕ) (key : KeyV
   pub rights : ℕ
   pub is : held c es name key term count i ≡ pos rights
   pub adds_up : rights + (sum_others node_numbers i (λ j. moved c es name key term i j) + executions c es (stamp_of key) term i)
-      ≡ cond (i == key.node) count 0 + sum_others node_numbers i (λ j. seen c es name key term j i)
+      ≡ cond (i == key.node) count 0 + granted c es name key term i + sum_others node_numbers i (λ j. seen c es name key term j i)
 
 pub int_less : (a b : ℕ) → b ≤ a → pos a -ℤ pos b ≡ pos (a - b)
 int_less a b h = omega (arith, ints)
@@ -248,7 +271,8 @@ plain a = omega arith
 pub balance : (c : Cluster) (es : List Event) → IsSchedule c es → (name : List ℕ) (key : KeyValue) (term count : ℕ) → count_of key term ≡ Some count → OneStamp c es name key → (i : ℕ) → Balance c es name key term count i
 balance c [] s name key term count counted one i =
     let none = sum_others-zero node_numbers i (λ j. 0) (λ j. refl) in
-    record { rights = cond (i == key.node) count 0; is = refl; adds_up = omega (arith, none) }
+    let none_seen = sum_others-zero node_numbers i (λ j. cond (j == i) 0 0) (λ j. sym (plain _) ∙ no_more 0 (j == i)) in
+    record { rights = cond (i == key.node) count 0; is = refl; adds_up = omega (arith, none, none_seen) }
 balance c (e ∷ es) s name key term count counted one i = at (is_under c (e ∷ es) name key i) refl (balance c es s.1 name key term count counted (one_before c e es name key one) i)
   where
     ops : List Operation
@@ -267,12 +291,14 @@ balance c (e ∷ es) s name key term count counted one i = at (is_under c (e ∷
         let solv : gone_from b i ≤ given_to b i = subst (λ (d : Budget). gone_from d i ≤ given_to d i) (sym under) (solvent c (e ∷ es) s name key term count counted one i) in
         let gone_is : gone_from b i ≡ gone_from (cells name key term count ops) i = ap (λ (d : Budget). gone_from d i) under in
         let out : sum_others node_numbers i (λ j. number_at (Shifts name key term i j) ops) ≡ sum_others node_numbers i (λ j. moved c (e ∷ es) name key term i j) =
-        sum_others-same node_numbers i _ _ (λ j. own_shifts c (e ∷ es) s name key term i j) in
+        sum_others-but node_numbers i _ _ (λ j ne. own_shifts c (e ∷ es) s name key term i j ne) in
+        let grants : v.shifts name term i i ≡ granted c (e ∷ es) name key term i = ap (λ (d : Budget). granted_by d i) under ∙ own_grants c (e ∷ es) s name key term i in
         let spent : number_at (Execs name key term i) ops ≡ executions c (e ∷ es) (stamp_of key) term i = own_execs c (e ∷ es) s name key term count counted one i in
         let came : sum_others node_numbers i (λ j. seen c (e ∷ es) name key term j i) ≡ sum_others node_numbers i (λ j. v.shifts name term j i) =
-        sum_others-same node_numbers i _ _ (λ j. ap (λ t. shifts_under (last_state t) name term j i) u) in
+        sum_others-but node_numbers i _ _ (λ j ne r. cond (not_same j i (λ e. ne (sym e)) r) 0 (shifts_under (last_state (u r)) name term j i)) in
         let gone_now : gone_from b i ≡ sum_others node_numbers i (λ j. moved c (e ∷ es) name key term i j) + executions c (e ∷ es) (stamp_of key) term i = gone_is ∙ (λ r. out r + spent r) in
-        let given_now : given_to b i ≡ cond (i == key.node) count 0 + sum_others node_numbers i (λ j. seen c (e ∷ es) name key term j i) = ap (λ x. cond (i == key.node) count 0 + x) (sym came) in
+        let given_now : given_to b i ≡ cond (i == key.node) count 0 + granted c (e ∷ es) name key term i + sum_others node_numbers i (λ j. seen c (e ∷ es) name key term j i) =
+        (λ r. cond (i == key.node) count 0 + grants r + sym came r) in
         record {
           rights = given_to b i - gone_from b i;
           is = ap (λ t. rights_under (last_state t) name key term count i) u ∙ int_less _ _ solv;
@@ -286,10 +312,11 @@ balance c (e ∷ es) s name key term count counted one i = at (is_under c (e ∷
         let out : sum_others node_numbers i (λ j. moved c (e ∷ es) name key term i j) ≡ sum_others node_numbers i (λ j. moved c es name key term i j) =
         sum_others-same node_numbers i _ _ (λ j. ap (λ x. x + moved c es name key term i j) (none.moves j) ∙ plain _) in
         let spent : executions c (e ∷ es) (stamp_of key) term i ≡ executions c es (stamp_of key) term i = more ∙ ap (λ x. x + executions c es (stamp_of key) term i) none.spends ∙ plain _ in
+        let grants : granted c (e ∷ es) name key term i ≡ granted c es name key term i = ap (λ x. x + granted c es name key term i) none.grants ∙ plain _ in
         let came : sum_others node_numbers i (λ j. seen c (e ∷ es) name key term j i) ≡ sum_others node_numbers i (λ j. seen c es name key term j i) =
-        sum_others-same node_numbers i _ _ (λ j. ap (λ t. shifts_under (last_state t) name term j i) u) in
+        sum_others-same node_numbers i _ _ (λ j. ap (λ t. cond (j == i) 0 (shifts_under (last_state t) name term j i)) u) in
         record {
           rights = before.rights;
           is = ap (λ t. rights_under (last_state t) name key term count i) u ∙ before.is;
-          adds_up = (λ r. before.rights + (out r + spent r)) ∙ before.adds_up ∙ ap (λ x. cond (i == key.node) count 0 + x) (sym came);
+          adds_up = (λ r. before.rights + (out r + spent r)) ∙ before.adds_up ∙ (λ r. cond (i == key.node) count 0 + sym grants r + sym came r);
         }

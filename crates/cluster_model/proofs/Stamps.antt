@@ -42,7 +42,7 @@ issued_carries name key i clock (setting ∷ rest) op (inl e) c =
     inl (λ r. Set (sym parts.0 r) (sym parts.1 r))
 issued_carries name key i clock (setting ∷ rest) op (inr h) c = inr (issued_carries name key i (clock + 1) rest op h c)
 
--- what a pass and a shift issue carries no key but the node's own
+-- what a pass, a shift and a grant issue carries no key but the node's own
 under_name : (name n : List ℕ) (key k : KeyValue) (v : State) → v.key n ≡ Some k → cond (bytes_eq n name) (Some k) None ≡ Some key → v.key name ≡ Some key
 under_name name n key k v u h =
     let parts = carried_name name n key k h in
@@ -73,6 +73,7 @@ own_carries i n (Some (asks.Pass other)) words name key op h c =
     let o = outcome_of i (state_shown n) other words in
     inr (pass_carries i (state_shown n) other name key o.outcome o.is op (subst (λ os. IsIn op os) o.ops h) c)
 own_carries i n (Some (asks.Shift other term to amount)) words name key op h c = inr (shift_carries i (state_shown n) other name term to amount key ((state_shown n).key other) refl op h c)
+own_carries i n (Some (asks.Grant other term amount)) words name key op h c = inr (shift_carries i (state_shown n) other name term i amount key ((state_shown n).key other) refl op h c)
 own_carries i n (Some (asks.Set other text)) words name key op h c = inl (issued_carries name key i n.marks.clock (settings (asks.Set other text)) op h c)
 own_carries i n (Some (asks.Remove other)) words name key op h c = inl (issued_carries name key i n.marks.clock (settings (asks.Remove other)) op h c)
 own_carries i n (Some (asks.Load text)) words name key op h c = inl (issued_carries name key i n.marks.clock (settings (asks.Load text)) op h c)
@@ -152,6 +153,7 @@ clock_grows i n (Some (asks.Remove name)) words = omega arith
 clock_grows i n (Some (asks.Load text)) words = omega arith
 clock_grows i n (Some (asks.Pass name)) words = omega arith
 clock_grows i n (Some (asks.Shift name term to amount)) words = omega arith
+clock_grows i n (Some (asks.Grant name term amount)) words = omega arith
 clock_grows i n (Some (asks.Emit to versions chosen)) words = omega arith
 clock_grows i n (Some (asks.Deliver read)) words = omega arith
 
@@ -167,6 +169,7 @@ keys_new i n (Some (asks.Load text)) words name key h =
     record { above = new.above; upto = omega arith; node = new.node }
 keys_new i n (Some (asks.Pass other)) words name key h = absurd h
 keys_new i n (Some (asks.Shift other term to amount)) words name key h = absurd h
+keys_new i n (Some (asks.Grant other term amount)) words name key h = absurd h
 keys_new i n (Some (asks.Emit to versions chosen)) words name key h = absurd h
 keys_new i n (Some (asks.Deliver read)) words name key h = absurd h
 

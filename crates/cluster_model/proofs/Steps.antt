@@ -165,6 +165,7 @@ own_ops i n (Some (asks.Deliver read)) words op h = absurd h
 own_ops i n (Some (asks.Emit to versions chosen)) words op h = absurd h
 own_ops i n (Some (asks.Pass name)) words op h = pass_by i (state_shown n) name words (setting_of (state_shown n) name) op h
 own_ops i n (Some (asks.Shift name term to amount)) words op h = shift_by i (state_shown n) name term to amount ((state_shown n).key name) op h
+own_ops i n (Some (asks.Grant name term amount)) words op h = shift_by i (state_shown n) name term i amount ((state_shown n).key name) op h
 own_ops i n (Some (asks.Set name text)) words op h = issued_by i n.marks.clock (settings (asks.Set name text)) op h
 own_ops i n (Some (asks.Remove name)) words op h = issued_by i n.marks.clock (settings (asks.Remove name)) op h
 own_ops i n (Some (asks.Load text)) words op h = issued_by i n.marks.clock (settings (asks.Load text)) op h

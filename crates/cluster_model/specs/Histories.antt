@@ -85,6 +85,19 @@ moved c (e ∷ es) name key term i j =
     amount_moved ((world c es).node i) (accepted c (world c es) e i) name key term j
     + moved c es name key term i j
 
+-- the rights of a term that node i granted itself under the key: what its accepted grants add up to
+abbrev pub amount_granted : Node → Option Asked → List ℕ → KeyValue → ℕ → ℕ
+amount_granted n (Some (asks.Grant other k amount)) name key term =
+    if bytes_eq other name && (k == term && is_key key ((state_shown n).key other))
+    then amount else 0
+amount_granted n _ name key term = 0
+
+abbrev pub granted : Cluster → List Event → List ℕ → KeyValue → ℕ → ℕ → ℕ
+granted c [] name key term i = 0
+granted c (e ∷ es) name key term i =
+    amount_granted ((world c es).node i) (accepted c (world c es) e i) name key term
+    + granted c es name key term i
+
 -- the key is node i's key of the name
 abbrev pub is_under : Cluster → List Event → List ℕ → KeyValue → ℕ → Bool
 is_under c es name key i = is_key key ((state_of c es i).key name)
@@ -105,16 +118,18 @@ rights_under (Some v) name key term count i = rights (budget v name term key.nod
 abbrev pub held : Cluster → List Event → List ℕ → KeyValue → ℕ → ℕ → ℕ → ℤ
 held c es name key term count i = rights_under (state_under c es name key i) name key term count i
 
--- what node j has seen of the rights that node i shifted to it: what that state of node j has of them;
--- before that, none
+-- what node j has seen of the rights that another node i shifted to it: what that state of node j
+-- has of them; before that, none
 abbrev pub shifts_under : Option State → List ℕ → ℕ → ℕ → ℕ → ℕ
 shifts_under None name term i j = 0
 shifts_under (Some v) name term i j = v.shifts name term i j
 
 abbrev pub seen : Cluster → List Event → List ℕ → KeyValue → ℕ → ℕ → ℕ → ℕ
-seen c es name key term i j = shifts_under (state_under c es name key j) name term i j
+seen c es name key term i j =
+    if i == j then 0 else shifts_under (state_under c es name key j) name term i j
 
--- over all nodes: the rights that are held, those on their way from one node to another, and the executions
+-- over all nodes: the rights that are held, those on their way from one node to another, those that
+-- were granted, and the executions
 abbrev pub all_held : Cluster → List Event → List ℕ → KeyValue → ℕ → ℕ → ℤ
 all_held c es name key term count = int_sum_below c.nodes (held c es name key term count)
 
@@ -125,6 +140,9 @@ in_transit c es name key term i j =
 abbrev pub all_in_transit : Cluster → List Event → List ℕ → KeyValue → ℕ → ℤ
 all_in_transit c es name key term =
     int_sum_below c.nodes (λ i. int_sum_below c.nodes (in_transit c es name key term i))
+
+abbrev pub all_granted : Cluster → List Event → List ℕ → KeyValue → ℕ → ℕ
+all_granted c es name key term = sum_below c.nodes (granted c es name key term)
 
 abbrev pub all_executions : Cluster → List Event → Stamp → ℕ → ℕ
 all_executions c es stamp term = sum_below c.nodes (executions c es stamp term)

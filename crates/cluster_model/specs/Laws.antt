@@ -1,13 +1,13 @@
 -- What holds of every schedule of a cluster.
-use Rattle.std.specs.Prelude.{◌≡◌, ◌≢◌, ℕ, ◌≤◌, ◌<◌, ◌==◌, ◌&&◌, Bool, false, pos, ◌+ℤ◌, ◌≤ℤ◌, List, [], ◌∷◌, ◌++◌, ◌↔◌, Option, Some, None, Ok, count_by, slice_get}
+use Rattle.std.specs.Prelude.{◌≡◌, ◌≢◌, ◌⊎◌, ℕ, ◌+◌, ◌≤◌, ◌<◌, ◌==◌, ◌&&◌, Bool, true, false, pos, ◌+ℤ◌, ◌≤ℤ◌, List, [], ◌∷◌, ◌++◌, ◌↔◌, Option, Some, None, Ok, count_by, slice_get}
 use Rattle.std.specs.List.{list_any}
 use Rattle.actions.specs.Value.{TermValue, TaskValue}
-use Rattle.counters.specs.Sums.{node_numbers}
+use Rattle.counters.specs.Sums.{node_numbers, sum_below}
 use Rattle.stamp_register.specs.declared.key.Stamp.{Stamp}
 use Rattle.stamp_register.specs.Keys.{KeyValue, stamp_of, terms_set}
 use Rattle.replica_state.specs.Operations.{Operation, Set, Count, IsIn, count_of}
-use Rattle.replica_state.specs.States.{State}
-use Rattle.replica_state.specs.Folds.{fold}
+use Rattle.replica_state.specs.States.{State, granted_in}
+use Rattle.replica_state.specs.Folds.{fold, name_in}
 use Rattle.replica_state.specs.Deltas.{IsDelta}
 use Rattle.replica_state.specs.StateOrder.{IsBelow}
 use Rattle.replica_state.specs.Knowledge.{KnowsAll}
@@ -23,7 +23,7 @@ use Rattle.node_core.specs.Refusals.{is_ahead, overspends}
 use Rattle.cluster_model.specs.Worlds.{Cluster, Event, config_of, accepted, world}
 use Rattle.cluster_model.specs.Schedules.{MaySend, Allows, IsSchedule, AllowsDelta, IsDeltaSchedule}
 use Rattle.cluster_model.specs.Views.{SeesWhole}
-use Rattle.cluster_model.specs.Histories.{state_of, all_learnt, keys_issued, IsIssued, held, in_transit, all_held, all_in_transit, all_executions}
+use Rattle.cluster_model.specs.Histories.{state_of, all_learnt, keys_issued, IsIssued, held, in_transit, all_held, all_in_transit, all_granted, all_executions}
 
 -- each node is what its trace comes to
 abbrev pub NodeIsReplay : Type 0
@@ -103,15 +103,17 @@ StampIsOneKey = (c : Cluster) (es : List Event) (name other : List ℕ) (key ano
     IsIssued c es name key → IsIssued c es other another → stamp_of key ≡ stamp_of another →
     (name ≡ other) × (key ≡ another)
 
--- of a term counted so: no node holds less than nothing, no less than nothing is on its way, what is held, what is on
--- its way and what was executed add up to the count, and so no more was executed
+-- of a term counted so: no node holds less than nothing, no less than nothing is on its way, what is
+-- held, what is on its way and what was executed add up to the count and what was granted, and so no
+-- more was executed
 pub record IsConserved (c : Cluster) (es : List Event) (name : List ℕ) (key : KeyValue)
     (term count : ℕ) : Type 0 where
   pub none_owed : (i : ℕ) → pos 0 ≤ℤ held c es name key term count i
   pub none_ahead : (i j : ℕ) → pos 0 ≤ℤ in_transit c es name key term i j
   pub total : all_held c es name key term count +ℤ all_in_transit c es name key term
-      +ℤ pos (all_executions c es (stamp_of key) term) ≡ pos count
-  pub at_most : all_executions c es (stamp_of key) term ≤ count
+      +ℤ pos (all_executions c es (stamp_of key) term)
+      ≡ pos (count + all_granted c es name key term)
+  pub at_most : all_executions c es (stamp_of key) term ≤ count + all_granted c es name key term
 
 -- a node number is below 256
 abbrev pub Escrow : Type 0
@@ -140,12 +142,30 @@ ToldExecutionsAreIssued = (c : Cluster) (es : List Event) → IsSchedule c es �
     (stamp : Stamp) (term : ℕ) (task : TaskValue) → IsIn call ((world c es).trace i) →
     call.reply ≡ asks.IsPassed (asks.Act stamp term task) → IsExecution c es call.ask stamp term task
 
--- what a message of the cluster says of a node is not ahead of what that node wrote, it tells the node nothing
--- of a version that it hasn't, and what it carries, merged, overspends no term
+-- what a node knows with what a message tells
+abbrev pub merged : Cluster → List Event → ℕ → Message → State
+merged c es i message = fold (message.ops ++ ((world c es).node i).ops)
+
+-- there a term of a name that the message carries is overspent
+abbrev pub merge_overspends : Cluster → List Event → ℕ → Message → Bool
+merge_overspends c es i message = list_any (overspends (merged c es i message)) message.ops
+
+-- of a term of the key that a state has of the name, it knows fewer grants than there were
+pub record LacksGrant (c : Cluster) (es : List Event) (v : State) (name : List ℕ) : Type 0 where
+  pub key : KeyValue
+  pub term : ℕ
+  pub under : v.key name ≡ Some key
+  pub fewer : sum_below node_numbers (granted_in v name term) < all_granted c es name key term
+
+-- what a message of the cluster says of a node is not ahead of what that node wrote, it tells the node
+-- nothing of a version that it hasn't, and what it carries, merged, overspends no term, but where a
+-- grant is not known
 pub record IsHonest (c : Cluster) (es : List Event) (i : ℕ) (message : Message) : Type 0 where
   pub not_ahead : list_any (is_ahead i (state_of c es i)) message.ops ≡ false
   pub acked : message.to ≡ i → message.ack ≤ ((world c es).node i).marks.version
-  pub not_overspent : list_any (overspends (fold (message.ops ++ ((world c es).node i).ops))) message.ops ≡ false
+  pub not_overspent : (op : Operation) → IsIn op message.ops →
+      overspends (merged c es i message) op ≡ true →
+      LacksGrant c es (merged c es i message) (name_in op)
 
 -- a refusal that has another reason than what the message says
 abbrev pub IsOwnReason : Option NodeFault → Type 0
@@ -155,11 +175,24 @@ IsOwnReason (Some faults.NotForMe) = Unit {0}
 IsOwnReason (Some faults.TooManyPoints) = Unit {0}
 IsOwnReason (Some _) = ⊥
 
--- so whichever node a message comes to, and however late, none refuses it for what it says
+-- or that it tells executions of a name, and not the grant that paid for one
+pub record IsGrantUntold (c : Cluster) (es : List Event) (i : ℕ) (message : Message)
+    (fault : Option NodeFault) : Type 0 where
+  pub refused : fault ≡ Some faults.Overspent
+  pub op : Operation
+  pub carried : IsIn op message.ops
+  pub lacks : LacksGrant c es (merged c es i message) (name_in op)
+
+abbrev pub IsHonestReason : Cluster → List Event → ℕ → Message → Option NodeFault → Type 0
+IsHonestReason c es i message fault = IsOwnReason fault ⊎ IsGrantUntold c es i message fault
+
+-- so whichever node a message comes to, and however late, none refuses it for what it says, but for
+-- a grant that it doesn't tell
 abbrev pub HonestMessages : Type 0
 HonestMessages = (c : Cluster) (es : List Event) → c.nodes ≤ node_numbers → IsSchedule c es →
     (i : ℕ) (message : Message) → IsIn message (world c es).messages →
-    IsHonest c es i message × IsOwnReason (refusal (kept c es i) (asks.Deliver (Ok message)) [])
+    IsHonest c es i message
+    × IsHonestReason c es i message (refusal (kept c es i) (asks.Deliver (Ok message)) [])
 
 -- so it is with the bytes of such a message, and a schedule allows to deliver them
 abbrev pub HonestBytes : Type 0
@@ -167,6 +200,22 @@ HonestBytes = (c : Cluster) (es : List Event) → c.nodes ≤ node_numbers → I
     (i : ℕ) (message : Message) (bytes : List ℕ) → IsIn message (world c es).messages →
     message_read c.nodes bytes ≡ Ok message →
     Allows (world c es) i (Some (delivery_of (kept c es i) bytes))
+    × IsHonestReason c es i message (refusal (kept c es i) (delivery_of (kept c es i) bytes) [])
+
+-- where each node sends what differs, no message leaves out such a grant: it overspends no term at the
+-- node that it is for, whatever was granted, and none refuses it for what it says
+abbrev pub DeltaMessages : Type 0
+DeltaMessages = (c : Cluster) (es : List Event) → IsDeltaSchedule c es →
+    (i : ℕ) (message : Message) → IsIn message (world c es).messages →
+    (message.to ≡ i → merge_overspends c es i message ≡ false)
+    × IsOwnReason (refusal (kept c es i) (asks.Deliver (Ok message)) [])
+
+-- nor the bytes that spell it
+abbrev pub DeltaMessageBytes : Type 0
+DeltaMessageBytes = (c : Cluster) (es : List Event) → IsDeltaSchedule c es →
+    (i : ℕ) (message : Message) (bytes : List ℕ) → IsIn message (world c es).messages →
+    message_read c.nodes bytes ≡ Ok message →
+    AllowsDelta (world c es) i (Some (delivery_of (kept c es i) bytes))
     × IsOwnReason (refusal (kept c es i) (delivery_of (kept c es i) bytes) [])
 
 -- what differs between any earlier state and a node's own may be sent

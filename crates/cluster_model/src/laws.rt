@@ -6,7 +6,7 @@
 ghost use Rattle.std.specs.Prelude.{◌≡◌, ℕ};
 ghost use Rattle.replica_state.specs.Laws.{UnionIsLeast};
 ghost use Rattle.node_core.specs.Traces.{Kept};
-ghost use Rattle.cluster_model.specs.Laws.{NodeIsReplay, EventIsCall, StateIsFold, AnyOrderSameState, MutualKnowledgeSameState, DeliveryIsLeast, Escrow, StampIsIssuedOnce, StampIsOneKey, HonestMessages, HonestBytes, MessagesAreReplies, ToldExecutionsAreIssued, DeltaMaySend, DeltasAreSchedules, TracesAreLegal, DeltaIsEmission, DeltaIsOne, IsLegalEmit, PastBegins, PastIsPresent, PastStays, PastIsState, KnownVersionIsBelow, KnownVersionsSameState, EachVersionSeesWhole};
+ghost use Rattle.cluster_model.specs.Laws.{NodeIsReplay, EventIsCall, StateIsFold, AnyOrderSameState, MutualKnowledgeSameState, DeliveryIsLeast, Escrow, StampIsIssuedOnce, StampIsOneKey, HonestMessages, HonestBytes, DeltaMessages, DeltaMessageBytes, MessagesAreReplies, ToldExecutionsAreIssued, DeltaMaySend, DeltasAreSchedules, TracesAreLegal, DeltaIsEmission, DeltaIsOne, IsLegalEmit, PastBegins, PastIsPresent, PastStays, PastIsState, KnownVersionIsBelow, KnownVersionsSameState, EachVersionSeesWhole};
 
 /// Each event of a schedule is a call of one node: it is refused, and changes nothing, or it changes
 /// that node by the step that the contracts of `NodeCore` cite, and its trace tells all of it. The
@@ -27,10 +27,10 @@ pub fn same()
     ensures delivery { DeliveryIsLeast }
 {}
 
-/// The count of a term is the greatest number of its executions in the whole cluster: of each
-/// term counted n under one stamp, the rights that the nodes hold, the rights in transit between
-/// them and the executions add up to n, and none of these is negative. Each execution that a caller
-/// was told of is of a term under such a stamp.
+/// The count of a term, and what was granted of it, is the greatest number of its executions in the
+/// whole cluster: of each term counted n and granted g in all under one stamp, the rights that the
+/// nodes hold, the rights in transit between them and the executions add up to n + g, and none of
+/// these is negative. Each execution that a caller was told of is of a term under such a stamp.
 pub fn escrow()
     ensures stamp { StampIsIssuedOnce }
     ensures key { StampIsOneKey }
@@ -38,10 +38,14 @@ pub fn escrow()
     ensures told { ToldExecutionsAreIssued }
 {}
 
-/// No message of the cluster is refused for what it says, and so none of the bytes that spell one.
+/// No message of the cluster is refused for what it says, and so none of the bytes that spell one,
+/// but a message that tells executions and not the grant that paid for one. Where each node sends
+/// what differs there is none of these.
 pub fn honest()
     ensures messages { HonestMessages }
     ensures bytes { HonestBytes }
+    ensures deltas { DeltaMessages }
+    ensures delta_bytes { DeltaMessageBytes }
 {}
 
 /// A node that sends what differs between its state at the version that the receiver is known to

@@ -1,3 +1,4 @@
+use Rattle.cluster_model.proofs.DeltaMessages.{delta_messages, delta_message_bytes}
 use Rattle.cluster_model.proofs.HonestBytes.{honest_messages, honest_bytes}
 use Rattle.cluster_model.proofs.laws.honest.Goals as goal
 
@@ -6,3 +7,9 @@ returns-clause-messages r = honest_messages
 
 pub returns-clause-bytes : goal.returns-clause-bytes
 returns-clause-bytes r = honest_bytes
+
+pub returns-clause-deltas : goal.returns-clause-deltas
+returns-clause-deltas r = delta_messages
+
+pub returns-clause-delta_bytes : goal.returns-clause-delta_bytes
+returns-clause-delta_bytes r = delta_message_bytes
