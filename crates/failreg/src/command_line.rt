@@ -34,9 +34,15 @@ Each line of the script, and what it prints where it is accepted:
                                       shifted <total>: moves rights to node
                                       <to>; total is what <node> has moved
                                       there under the point's stamp
+  grant <node> <name> <term> <amount>
+                                      granted <total>: adds rights beyond the
+                                      count, which <node> has; total is what
+                                      <node> has granted itself under the
+                                      point's stamp
   emit <node> <to>                    message <number>: makes a message to
-                                      node <to> of all that <node> knows;
-                                      numbers count from 0 over the script
+                                      node <to> of what that node isn't known
+                                      to have; numbers count from 0 over the
+                                      script
   deliver <node> <message>            changed, or same where <node> learnt
                                       nothing of it
   list <node>                         the points that are set, perhaps none

@@ -1,7 +1,7 @@
 -- What a line asks for.
 use Rattle.std.specs.Prelude.{ℕ, List, [], ◌∷◌, if◌then◌else◌, Option, Some, None, option_and_then, codes}
 use Rattle.std.specs.Str.{bytes_eq}
-use Rattle.node_core.specs.Asks.{Asked, Set, Remove, Load, Pass, Shift}
+use Rattle.node_core.specs.Asks.{Asked, Set, Remove, Load, Pass, Shift, Grant}
 use Rattle.scripts.specs.Fields.{fields_of, cut_of, field_of, byte_of, word_of, amount_of}
 use Rattle.scripts.specs.declared.command.Request.{Request}
 use Rattle.scripts.specs.declared.command.Request.TheVariants as requests
@@ -31,6 +31,7 @@ request_value (requests.Remove name) = call (Remove (name.now)) []
 request_value (requests.Load text) = call (Load (text.now)) []
 request_value (requests.Pass name words) = call (Pass (name.now)) (words.items)
 request_value (requests.Shift name term to amount) = call (Shift (name.now) term to amount) []
+request_value (requests.Grant name term amount) = call (Grant (name.now) term amount) []
 request_value requests.List = list
 request_value (requests.Rights name term node) = rights (name.now) term node
 request_value (requests.Spent name term) = spent (name.now) term
@@ -106,6 +107,16 @@ shift_in rest = do
   amount ← amount_of (others.1)
   Some (call (Shift name term to amount) [])
 
+-- `grant <node> <name> <term> <amount>`
+abbrev pub grant_in : List ℕ → Option RequestValue
+grant_in rest = do
+  parts ← cut_of rest
+  name ← field_of (parts.0)
+  numbers ← cut_of (parts.1)
+  term ← byte_of (numbers.0)
+  amount ← amount_of (numbers.1)
+  Some (call (Grant name term amount) [])
+
 -- `rights <node> <name> <term> <of>`
 abbrev pub rights_in : List ℕ → Option RequestValue
 rights_in rest = do
@@ -138,9 +149,10 @@ request_in word rest =
     (if bytes_eq word (codes "remove") then remove_in rest else
     (if bytes_eq word (codes "load") then load_in rest else
     (if bytes_eq word (codes "shift") then shift_in rest else
+    (if bytes_eq word (codes "grant") then grant_in rest else
     (if bytes_eq word (codes "rights") then rights_in rest else
     (if bytes_eq word (codes "spent") then spent_in rest else
-    (if bytes_eq word (codes "hits") then hits_in rest else None)))))))
+    (if bytes_eq word (codes "hits") then hits_in rest else None))))))))
 
 abbrev pub ask_in : List ℕ → List ℕ → Option CommandValue
 ask_in word rest = do

@@ -4,7 +4,7 @@ use Rattle.std.specs.declared.alloc.Global.{Global}
 use Rattle.actions.specs.Canonical.{task_text}
 use Rattle.stamp_register.specs.declared.key.Stamp.{Stamp}
 use Rattle.stamp_register.specs.Keys.{stamp_text}
-use Rattle.node_core.specs.Asks.{Passed, Unset, NoTerm, Act, Answered, IsSet, IsRemoved, IsLoaded, IsPassed, IsShifted, IsEmitted, IsDelivered}
+use Rattle.node_core.specs.Asks.{Passed, Unset, NoTerm, Act, Answered, IsSet, IsRemoved, IsLoaded, IsPassed, IsShifted, IsGranted, IsEmitted, IsDelivered}
 use Rattle.scripts.specs.Fields.{newline}
 
 abbrev pub set_text : Stamp → List ℕ
@@ -28,6 +28,10 @@ pass_text (Act stamp term task) =
 abbrev pub shifted_text : ℕ → List ℕ
 shifted_text total = codes "shifted " ++ decimal total
 
+-- with all that the node granted itself under the point's stamp
+abbrev pub granted_text : ℕ → List ℕ
+granted_text total = codes "granted " ++ decimal total
+
 -- with the number of the message
 abbrev pub message_text : ℕ → List ℕ
 message_text message = codes "message " ++ decimal message
@@ -43,6 +47,7 @@ answer_text (IsRemoved stamp) = removed_text stamp
 answer_text (IsLoaded entries) = loaded_text entries
 answer_text (IsPassed reply) = pass_text reply
 answer_text (IsShifted total) = shifted_text total
+answer_text (IsGranted total) = granted_text total
 answer_text (IsDelivered changed) = delivered_text changed
 answer_text (IsEmitted read) = []
 

@@ -122,6 +122,25 @@ fn shift_rights(
     }
 }
 
+fn grant_rights(
+    alloc: Global,
+    node: &mut NodeCore,
+    name: &str,
+    term: u8,
+    amount: u64,
+    out: &mut String,
+) -> Result<(), AllocError>
+    ensures reply { PrintsLine result out.old out.new
+        (call_text node.old (asks.Grant name.now term amount) []) }
+    ensures after { OnOk result (
+        node.new ≡ node_after_call node.old (asks.Grant name.now term amount) []) }
+{
+    match node.grant(alloc, name, term, amount) {
+        Ok(total) => writeln!(out, "granted {total}"),
+        Err(fault) => print_refusal(out, fault),
+    }
+}
+
 fn name_in(alloc: Global, text: &str) -> Result<Option<Name>, AllocError>
     ensures name { IfOk result (λ name. name ≡ (if is_name text.now then Some text.now else None)) }
     // What is no name takes no memory.
@@ -211,6 +230,9 @@ fn ask_node(
             to,
             amount,
         } => shift_rights(alloc, node, name, term, to, amount, out),
+        Request::Grant { name, term, amount } => {
+            grant_rights(alloc, node, name, term, amount, out)
+        }
         Request::List => print_list(alloc, node, out),
         Request::Rights { name, term, of } => print_rights(alloc, node, name, term, of, out),
         Request::Spent { name, term } => print_spent(alloc, node, name, term, out),

@@ -3,7 +3,7 @@
 ghost use Rattle.std.specs.Prelude.{◌≡◌, false, option_map, IfOk};
 ghost use Rattle.std.specs.Vec.{vec_items};
 ghost use Rattle.scripts.specs.Fields.{has_space, field_of, fields_of};
-ghost use Rattle.scripts.specs.Commands.{request_value, command_value, words_of, nodes_in, set_in, remove_in, load_in, pass_with, pass_in, shift_in, rights_in, spent_in, hits_in, request_in, ask_in, list_in, emit_in, deliver_in, command_of};
+ghost use Rattle.scripts.specs.Commands.{request_value, command_value, words_of, nodes_in, set_in, remove_in, load_in, pass_with, pass_in, shift_in, grant_in, rights_in, spent_in, hits_in, request_in, ask_in, list_in, emit_in, deliver_in, command_of};
 
 use crate::fields::{amount, byte, cut, field, word};
 use std::alloc::{AllocError, Global};
@@ -29,6 +29,11 @@ pub enum Request<'a> {
         name: &'a str,
         term: u8,
         to: u8,
+        amount: u64,
+    },
+    Grant {
+        name: &'a str,
+        term: u8,
         amount: u64,
     },
     List,
@@ -142,6 +147,17 @@ fn shift_request(rest: &str) -> Option<Request<'_>>
     })
 }
 
+fn grant_request(rest: &str) -> Option<Request<'_>>
+    ensures { option_map request_value result ≡ grant_in rest.now }
+{
+    let (name, numbers) = cut(rest)?;
+    let name = field(name)?;
+    let (term, amount_text) = cut(numbers)?;
+    let term = byte(term)?;
+    let amount = amount(amount_text)?;
+    Some(Request::Grant { name, term, amount })
+}
+
 fn rights_request(rest: &str) -> Option<Request<'_>>
     ensures { option_map request_value result ≡ rights_in rest.now }
 {
@@ -186,6 +202,7 @@ fn read_request<'a>(
         "remove" => Ok(remove_request(rest)),
         "load" => Ok(load_request(rest)),
         "shift" => Ok(shift_request(rest)),
+        "grant" => Ok(grant_request(rest)),
         "rights" => Ok(rights_request(rest)),
         "spent" => Ok(spent_request(rest)),
         "hits" => Ok(hits_request(rest)),
