@@ -1,5 +1,5 @@
 #!/usr/bin/env python3
-"""Times scripts of passes, loads, shifts and exchanges, work on maps, and messages. See README.md beside this file."""
+"""Times scripts of passes, loads, shifts, grants and exchanges, work on maps, and messages. See README.md beside this file."""
 
 import os
 import subprocess
@@ -11,10 +11,12 @@ PASSES = (100_000, 200_000)
 POINTS = (1, 256)
 LOADS = (500, 1_000)
 SHIFTS = (100_000, 200_000)
+GRANTS = (100_000, 200_000)
 CLUSTERS = (2, 4, 16)
 EXCHANGES = (2_000, 4_000)
 KEYS = (100_000, 200_000)
 ROUNDS = 11
+ROUNDS_BESIDE = 31
 
 # Points that 16 nodes know before they take turns: as many turns as take a second, or so many.
 KNOWN_POINTS = (16, 64, 256)
@@ -40,7 +42,8 @@ SETTINGS = {
 # two maps joined; a map of one key joined in, for each key.
 WORKS = ("build", "raise", "join", "take")
 
-# Messages of so many names, each of them read and written so often.
+# Messages of so many names, without grants and with all, each of them read and written so often.
+FORMS = ("plain", "grants")
 NAMES = (64, 128, 256)
 TIMES = 100
 
@@ -71,6 +74,14 @@ def shift_script(shifts):
     lines = ["nodes 16 4294967295"]
     lines += [f"set 0 p{point} 1000000*off" for point in range(256)]
     lines += [f"shift 0 p{number % 256} 0 {number % 15 + 1} 1" for number in range(shifts)]
+    return "\n".join(lines).encode()
+
+
+def grant_script(grants):
+    """Each grant is of one right of 256 points in turn."""
+    lines = ["nodes 16 4294967295"]
+    lines += [f"set 0 p{point} 1*off" for point in range(256)]
+    lines += [f"grant 0 p{number % 256} 0 1" for number in range(grants)]
     return "\n".join(lines).encode()
 
 
@@ -159,11 +170,24 @@ def time_passes(program):
             print(f"{setting:<12}{points:>7}{first / few * 1e9:>20.0f}{second / many * 1e9:>8.0f}{second / first:>7.2f}{memory:>10.1f}")
 
 
+def compare_passes(before, now):
+    """Two programs in turn, 200,000 passes each, and how many times the first one's time the second takes."""
+    many = PASSES[-1]
+    print(f"{'setting':<12}{'points':>7}{'ns a pass, before':>20}{'now':>8}{'ratio':>7}")
+    for setting in SETTINGS:
+        for points in POINTS:
+            text = script(setting, points, many)
+            rounds = [[run(program, text, b"act ", many)[0] for program in (before, now)] for _ in range(ROUNDS_BESIDE)]
+            first, second = (min(times) for times in zip(*rounds))
+            print(f"{setting:<12}{points:>7}{first / many * 1e9:>20.0f}{second / many * 1e9:>8.0f}{second / first:>7.3f}")
+
+
 def time_calls(program):
     print(f"\n{'call':<24}{'us a call, n':>14}{'2n':>8}{'ratio':>7}{'most MiB':>10}")
     for name, make, answer, counts in (
         ("load of 256 points", load_script, b"loaded 256", LOADS),
         ("shift", shift_script, b"shifted ", SHIFTS),
+        ("grant", grant_script, b"granted ", GRANTS),
     ):
         (first, second), memory = timed(program, [make(count) for count in counts], answer, counts)
         few, many = counts
@@ -235,24 +259,24 @@ def time_maps(program):
         print(f"{work:<12}{first:>20.0f}{second:>8.0f}{second / first:>7.2f}")
 
 
-def message_bytes(program, names):
-    words = subprocess.run([program, "encode", str(names), "0"], check=True, capture_output=True).stdout.split()
+def message_bytes(program, form, names):
+    words = subprocess.run([program, "encode", form, str(names), "0"], check=True, capture_output=True).stdout.split()
     return int(words[0])
 
 
-def time_messages(program):
+def time_messages(program, form):
     """What is spent without reading or writing is left out of the times."""
     few, many, most = NAMES
-    lengths = [message_bytes(program, names) for names in NAMES]
-    print(f"\n{'message':<9}{f'MB/s, {few} names':>16}{many:>7}{most:>7}{'ratio':>7}{f'ms, {lengths[-1]} bytes':>20}{'most MiB':>10}")
+    lengths = [message_bytes(program, form, names) for names in NAMES]
+    print(f"\n{form:<9}{f'MB/s, {few} names':>16}{many:>7}{most:>7}{'ratio':>7}{f'ms, {lengths[-1]} bytes':>20}{'most MiB':>10}")
     for work in ("decode", "encode"):
         rounds = [
-            [spent(program, work, names, times)[0] for names in NAMES for times in (0, TIMES)] for _ in range(ROUNDS)
+            [spent(program, work, form, names, times)[0] for names in NAMES for times in (0, TIMES)] for _ in range(ROUNDS)
         ]
         best = [min(times) for times in zip(*rounds)]
         seconds = [(after - before) / TIMES for before, after in zip(best[::2], best[1::2])]
         speeds = [length / time / 1e6 for length, time in zip(lengths, seconds)]
-        _, memory = spent(program, work, most, 1)
+        _, memory = spent(program, work, form, most, 1)
         print(
             f"{work:<9}{speeds[0]:>16.0f}{speeds[1]:>7.0f}{speeds[2]:>7.0f}{seconds[1] / seconds[0]:>7.2f}"
             f"{seconds[2] * 1e3:>20.1f}{memory:>10.1f}"
@@ -261,12 +285,17 @@ def time_messages(program):
 
 def main():
     failreg = build("failreg", "--help")
+    if len(sys.argv) > 1:
+        compare_passes(os.path.abspath(sys.argv[1]), failreg)
+        return
     time_passes(failreg)
     time_calls(failreg)
     time_exchanges(failreg)
     time_turns(failreg)
     time_maps(build("map_times", "build", "1"))
-    time_messages(build("message_times", "encode", "1", "1"))
+    messages = build("message_times", "encode", "plain", "1", "1")
+    for form in FORMS:
+        time_messages(messages, form)
 
 
 if __name__ == "__main__":
