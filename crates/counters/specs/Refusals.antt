@@ -1,6 +1,6 @@
 -- When a counter refuses. The refusals stand in their order, and the first that applies is the
 -- answer.
-use Rattle.std.specs.Prelude.{◌≡◌, ℕ, ◌+◌, ◌==◌, ◌⊎◌, not, List, [], ◌∷◌, ◌++◌, Option, Some, None, codes}
+use Rattle.std.specs.Prelude.{◌≡◌, ℕ, ◌+◌, ◌==◌, ◌⊎◌, not, List, [], ◌∷◌, ◌++◌, if◌then◌else◌, Option, Some, None, codes}
 use Rattle.std.specs.Bool.{then_some}
 use Rattle.std.specs.Fmt.{signed_decimal}
 use Rattle.refusals.specs.Refusals.{first_fault}
@@ -25,11 +25,12 @@ hit_refusal cells node = too_great (cell cells node + 1)
 abbrev pub spend_refusal : Budget → ℕ → Option CounterFault
 spend_refusal b node = first_fault (too_few b node 1 ∷ too_great (b.spent node + 1) ∷ [])
 
--- a shift of an amount from one node to another
+-- a shift of an amount from one node to another. Nothing is ever moved from a node to itself: what
+-- stands at that place is what it granted, and doesn't count here
 abbrev pub shift_refusal : Budget → ℕ → ℕ → ℕ → Option CounterFault
 shift_refusal b from to amount = first_fault (
     too_few b from amount
-    ∷ too_great (b.shifted from to + amount)
+    ∷ too_great ((if from == to then 0 else b.shifted from to) + amount)
     ∷ then_some (amount == 0) ZeroAmount
     ∷ then_some (from == to) SameNode
     ∷ [])

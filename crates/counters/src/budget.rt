@@ -248,7 +248,8 @@ impl Budget {
         if have < i128::from(amount) {
             return Err(CounterFault::TooFewRights { have });
         }
-        let Some(moved) = self.moved(from, to).checked_add(amount) else {
+        let before = if from == to { 0 } else { self.moved(from, to) };
+        let Some(moved) = before.checked_add(amount) else {
             return Err(CounterFault::CellFull);
         };
         if amount == 0 {

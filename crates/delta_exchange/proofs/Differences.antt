@@ -17,7 +17,7 @@ use Rattle.delta_exchange.specs.Messages.{EntryValue, MessageValue, operations_o
 use Rattle.delta_exchange.specs.Spelling.{hit_place, exec_place, shift_place, IsHit, IsExec, IsShift, IsGrant, IsEntry, AreEntries, IsMessage}
 use Rattle.delta_exchange.specs.Cells.{hit_cells, exec_cells, shift_cells, grant_cells, entry_of, entries_of}
 use Rattle.delta_exchange.specs.Since.{tells_cells}
-use Rattle.delta_exchange.specs.Differences.{is_key, tells_key, tells_hits, tells_execs, tells_shifts, tells_grants, untold_cells, untold_entry, untold_entries, difference_of}
+use Rattle.delta_exchange.specs.Differences.{holds_key, tells_key, tells_hits, tells_execs, tells_shifts, tells_grants, untold_cells, untold_entry, untold_entries, difference_of}
 use Rattle.delta_exchange.proofs.Members.{flat_in, in_flat, mapped_from, mapped_in, one_of}
 use Rattle.delta_exchange.proofs.LawfulLemmas.{hit_told, exec_told, shift_told, grant_told}
 use Rattle.delta_exchange.proofs.BelowLemmas.{ascends}
@@ -33,12 +33,12 @@ module _ (v : State) (name : List ℕ) where
   key_is_told : (key : KeyValue) → IsTrue (tells_key v name key) → v.key name ≡ Some key
   key_is_told key t = by_key (v.key name) t
     where
-      by_key : (o : Option KeyValue) → IsTrue (is_key o key) → o ≡ Some key
+      by_key : (o : Option KeyValue) → IsTrue (holds_key o key) → o ≡ Some key
       by_key None u = absurd cc
       by_key (Some k) u = ap Some (same_key-true k key u)
 
   pub tells_its_key : (key : KeyValue) → v.key name ≡ Some key → IsTrue (tells_key v name key)
-  tells_its_key key e = subst (λ o. IsTrue (is_key o key)) (sym e) (same_key-refl key)
+  tells_its_key key e = subst (λ o. IsTrue (holds_key o key)) (sym e) (same_key-refl key)
 
   hits_are_told : (c : ℕ × ℕ) → c.1 ≢ 0 → IsTrue (tells_hits v name c) → IsTold v (Count (Hits name c.0) c.1)
   hits_are_told c some t = (eqb-true (v.hits name c.0) c.1 t, some)

@@ -7,13 +7,14 @@ use Rattle.delta_exchange.specs.Messages.{EntryValue, MessageValue}
 use Rattle.delta_exchange.specs.Cells.{entries_of}
 use Rattle.delta_exchange.specs.Since.{tells_cells}
 
-abbrev pub is_key : Option KeyValue → KeyValue → Bool
-is_key None key = false
-is_key (Some held) key = same_key held key
+-- the key that is held, if any is, is this one
+abbrev pub holds_key : Option KeyValue → KeyValue → Bool
+holds_key None key = false
+holds_key (Some held) key = same_key held key
 
 -- whether a state tells this key of a name; these hits; or, under this key, these executions, shifts or grants
 abbrev pub tells_key : State → List ℕ → KeyValue → Bool
-tells_key v name key = is_key (v.key name) key
+tells_key v name key = holds_key (v.key name) key
 
 abbrev pub tells_hits : State → List ℕ → ℕ × ℕ → Bool
 tells_hits v name c = v.hits name c.0 == c.1

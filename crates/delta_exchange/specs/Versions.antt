@@ -59,12 +59,12 @@ abbrev pub acked_raised : ℕ → ℕ → (ℕ → ℕ) → ℕ → ℕ
 acked_raised from ack acked j = if j == from then max (acked j) ack else acked j
 
 -- a pass may be counted: the point has a key, which counts the term that is spent, and there is room
--- for one hit, one execution and one change more
+-- for one hit, one execution of that term and one change more
 pub record MayPass (v : VersionedValue) (name : List ℕ) (node : ℕ) (spent : Option ℕ) : Type 0 where
   pub set : IsSome (v.state.key name)
   pub counted : IfSome spent (λ term. IsSome (budget_of v.state name term))
   pub hits : v.state.hits name node + 1 < 2 ^ 64
-  pub execs : (term : ℕ) → v.state.execs name term node + 1 < 2 ^ 64
+  pub execs : IfSome spent (λ term. v.state.execs name term node + 1 < 2 ^ 64)
   pub version : v.version + 1 < 2 ^ 64
 
 -- one change, after which the state is this one

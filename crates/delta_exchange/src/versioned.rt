@@ -5,7 +5,7 @@ ghost use Rattle.std.specs.Prelude.{◌≡◌, ◌≢◌, ◌+◌, ◌<◌, ◌^
 ghost use Rattle.stamp_register.specs.Keys.{key_value};
 ghost use Rattle.replica_state.specs.States.{budget_of, with_key, with_pass, with_shifts};
 ghost use Rattle.std.specs.List.{AllByRecursion};
-ghost use Rattle.replica_state.specs.Operations.{Operation, IsWellFormed, operation};
+ghost use Rattle.replica_state.specs.Operations.{Operation, IsWellFormed, ShiftsToAnother, operation};
 ghost use Rattle.replica_state.specs.Folds.{fold};
 ghost use Rattle.replica_state.specs.Knowledge.{is_upto, changes};
 ghost use Rattle.replica_state.specs.declared.point.Counted.TheVariants.{Execs};
@@ -193,6 +193,7 @@ impl<R: Replica> Versioned<R> {
     /// the state, and then the version is one higher. Where memory is refused, nothing has changed.
     pub fn issue(&mut self, alloc: Global, ops: &[Op]) -> Result<bool, AllocError>
         requires formed { AllByRecursion IsWellFormed (map operation ops.now) }
+        requires others { AllByRecursion ShiftsToAnother ops.now }
         requires version { (value_of R.state self.old).version + 1 < 2 ^ 64 }
         ensures changed { IfOk result (λ changed. changed
             ≡ changes (value_of R.state self.old).state (map operation ops.now)) }

@@ -38,8 +38,8 @@ past_below i trace = past_below-from i start trace (λ version. below-refl (fold
 
 -- ---- the message of an emit
 
-pub delta_bytes_are : (k : Kept) (to : ℕ) (bytes : List ℕ) → TellsDelta k to bytes → bytes ≡ message_bytes (message_emitted k to)
-delta_bytes_are k to bytes tells = tells.spelled.1 ∙ ap message_bytes (same ∙ parts)
+pub delta_message_is : (k : Kept) (to : ℕ) (bytes : List ℕ) (tells : TellsDelta k to bytes) → tells.message ≡ message_emitted k to
+delta_message_is k to bytes tells = same ∙ parts
   where
     -- by the versions and the nodes that the message tells
     difference : ℕ → ℕ → Versions → MessageValue
@@ -50,3 +50,6 @@ delta_bytes_are k to bytes tells = tells.spelled.1 ∙ ap message_bytes (same �
 
     parts : difference tells.message.from tells.message.to (versions_in tells.message) ≡ message_emitted k to
     parts = λ i. difference (tells.sender i) (tells.receiver i) (tells.versions i)
+
+pub delta_bytes_are : (k : Kept) (to : ℕ) (bytes : List ℕ) → TellsDelta k to bytes → bytes ≡ message_bytes (message_emitted k to)
+delta_bytes_are k to bytes tells = tells.spelled.1 ∙ ap message_bytes (delta_message_is k to bytes tells)

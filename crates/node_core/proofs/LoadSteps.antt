@@ -3,8 +3,10 @@ use Rattle.std.proofs.Common.{◌≡◌, ℕ, ◌+◌, ◌<◌, List, [], ◌∷
 use Rattle.std.specs.List.{AllByRecursion}
 use Rattle.std.proofs.lemmas.List.{map-append, take_more}
 use Rattle.actions.specs.Value.{TermValue}
-use Rattle.stamp_register.specs.Keys.{KeyValue}
-use Rattle.replica_state.specs.Operations.{Operation, Set, IsWellFormed}
+use Rattle.stamp_register.specs.Keys.{KeyValue, key_value}
+use Rattle.replica_state.specs.declared.op.Op.{Op}
+use Rattle.replica_state.specs.declared.op.Op.TheVariants as kinds
+use Rattle.replica_state.specs.Operations.{Operation, Shifts, Set, Count, IsWellFormed, ShiftsToAnother, operation}
 use Rattle.replica_state.specs.States.{State, with_name}
 use Rattle.replica_state.specs.Folds.{fold, Learns}
 use Rattle.replica_state.specs.Unions.{with_names}
@@ -22,6 +24,26 @@ issued-more i clock last (r ∷ ss) s at = ap (λ (rest : List Operation). Set r
 pub issued_formed : (i clock : ℕ) (ss : Settings) → AllByRecursion IsWellFormed (operations_issued i clock ss)
 issued_formed i clock [] = tt
 issued_formed i clock (s ∷ ss) = (tt, issued_formed i (clock + 1) ss)
+
+-- what tells a setting is no shift
+setting_stays : (op : Op) (name : List ℕ) (key : KeyValue) → operation op ≡ Set name key → ShiftsToAnother op
+setting_stays (kinds.Set n k) name key e = tt
+setting_stays (kinds.Hit n node number) name key e = tt
+setting_stays (kinds.Exec n k term node number) name key e = tt
+setting_stays (kinds.Grant n k term node total) name key e = tt
+setting_stays (kinds.Shift n k term from to total) name key e =
+    absurd (let impossible : Count (Shifts n (key_value k) term from to) total ≡ Set name key = e in cc)
+
+-- so settings shift nothing
+pub issued_stay : (i clock : ℕ) (ss : Settings) (told : List Op) → map operation told ≡ operations_issued i clock ss → AllByRecursion ShiftsToAnother told
+issued_stay i clock ss [] e = tt
+issued_stay i clock [] (op ∷ told) e =
+    absurd (let impossible : ◌≡◌ {A = List Operation} (operation op ∷ map operation told) [] = e in cc)
+issued_stay i clock (s ∷ ss) (op ∷ told) e =
+    let same : ◌≡◌ {A = List Operation} (operation op ∷ map operation told) (Set s.0 (new_key i clock s.1) ∷ operations_issued i (clock + 1) ss) = e in
+    let first : operation op ≡ Set s.0 (new_key i clock s.1) = cc in
+    let rest : map operation told ≡ operations_issued i (clock + 1) ss = cc in
+    (setting_stays op s.0 (new_key i clock s.1) first, issued_stay i (clock + 1) ss told rest)
 
 -- ---- names
 

@@ -18,7 +18,7 @@ use Rattle.delta_exchange.specs.declared.message.NameEntry.{NameEntry}
 use Rattle.delta_exchange.specs.Messages.{EntryValue, entry_value, operations_of, hits_in, execs_in, shifts_in, grants_in}
 use Rattle.delta_exchange.specs.Wholes.{IsLawful, AreLawful}
 use Rattle.node_core.specs.Nodes.{setting_of, setting_in, terms_in}
-use Rattle.node_core.specs.Refusals.{any_below, is_above, all_granted, is_overspent, overspends}
+use Rattle.node_core.specs.Refusals.{any_below, exceeds_count, granted_known, is_overspent, overspends}
 use Rattle.node_core.specs.Deliveries.{terms_both, execs_both, granted_both, is_overspent_below}
 use Rattle.node_core.proofs.Ahead.{any_told}
 use Rattle.node_core.proofs.SettingSteps.{names_united, turned}
@@ -103,7 +103,7 @@ module _ (nodes : ℕ) (few : nodes ≤ node_numbers) (ops known : List Operatio
       (λ node high. ap (λ (s : State). s.execs name term node) is_v ∙ no_execs nodes known lawful node high name term)
       (λ node high. ap (λ (s : State). s.execs name term node) is_t ∙ no_execs nodes ops brought node high name term)
 
-  all_grants : (name : List ℕ) (term : ℕ) → all_granted (union_of v t) name term ≡ granted_both nodes (key_order (t.key name) (v.key name)) v t name term
+  all_grants : (name : List ℕ) (term : ℕ) → granted_known (union_of v t) name term ≡ granted_both nodes (key_order (t.key name) (v.key name)) v t name term
   all_grants name term =
       sum_both nodes few (key_order (t.key name) (v.key name)) (granted_in v name term) (granted_in t name term) (granted_in (union_of v t) name term) (granted_united v t name term)
       (λ node high. ap (λ (s : State). granted_in s name term node) is_v ∙ no_grants nodes known lawful node high name term)
@@ -113,7 +113,7 @@ module _ (nodes : ℕ) (few : nodes ≤ node_numbers) (ops known : List Operatio
   name_overspent name =
       ap (is_overspent (union_of v t) name) (terms_by v t name (key_order (t.key name) (v.key name)) refl)
       ∙ any_same (length (terms_both (key_order (t.key name) (v.key name)) v t name)) _ _
-      (λ term i. is_above (count_at (terms_both (key_order (t.key name) (v.key name)) v t name) term) (all_grants name term i) (all_execs name term i))
+      (λ term i. exceeds_count (count_at (terms_both (key_order (t.key name) (v.key name)) v t name) term) (all_grants name term i) (all_execs name term i))
 
   -- each operation of an entry is of its name
   abbrev here : List ℕ → Bool

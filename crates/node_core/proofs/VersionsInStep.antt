@@ -65,13 +65,17 @@ may_pass k clock value is room name is_set spent key right set =
       set = (key set).0;
       counted = by_spent spent right;
       hits = (let few = is.0.0.hits_few name in omega (arith, room, small, few));
-      execs = λ term. (let few = is.0.0.execs_few name term in omega (arith, room, small, few));
+      execs = room_for spent;
       version = (let few = is.0.1.few_versions in omega (arith, room, small, few));
     }
   where
     by_spent : (o : Option ℕ) → ((t : ℕ) → o ≡ Some t → pos 1 ≤ℤ rights_of value.state name t k.config.node) → IfSome o (λ term. IsSome (budget_of value.state name term))
     by_spent None rights = tt
     by_spent (Some t) rights = counted_by_rights value.state name t k.config.node 1 (omega arith) (rights t refl)
+
+    room_for : (o : Option ℕ) → IfSome o (λ term. value.state.execs name term k.config.node + 1 < 2 ^ 64)
+    room_for None = tt
+    room_for (Some t) = let few = is.0.0.execs_few name t in let small = is.0.0.small in omega (arith, room, small, few)
 
 -- the entries of a trace that grew by one
 pub entries_with : (config : Config) (clock : ℕ) (value : VersionedValue) (old mid new : List Entry) (e : Entry) → new ≡ mid ++ e ∷ [] → mid ≡ old →

@@ -20,7 +20,7 @@ use Rattle.node_core.specs.declared.delivery.Delivery.{Delivery}
 use Rattle.node_core.specs.Replicas.{state_in}
 use Rattle.node_core.specs.Asks.{Message, Versions, message_of, message_read}
 use Rattle.node_core.specs.Nodes.{Node, state_shown, setting_of, terms_in}
-use Rattle.node_core.specs.Refusals.{any_below, is_above, says_more}
+use Rattle.node_core.specs.Refusals.{any_below, exceeds_count, says_more}
 use Rattle.node_core.specs.Steps.{message_in}
 use Rattle.node_core.specs.Traces.{Kept, node_of, state_known, versions_told}
 
@@ -65,7 +65,7 @@ granted_both nodes order v t name term =
 -- of one of these terms more are executed than are counted and granted
 abbrev pub are_overspent : ℕ → Ordering → State → State → List ℕ → List TermValue → Bool
 are_overspent nodes order v t name terms =
-    any_below (length terms) (λ term. is_above (count_at terms term)
+    any_below (length terms) (λ term. exceeds_count (count_at terms term)
     (granted_both nodes order v t name term) (execs_both nodes order v t name term))
 
 abbrev pub is_overspent_below : ℕ → State → State → List ℕ → Bool

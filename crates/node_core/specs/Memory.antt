@@ -1,5 +1,6 @@
 -- Which calls need memory: those that no refusal stops before the first of it is taken. No other call
--- is refused for want of it.
+-- that is made by its own name is refused for want of it. One that is given as a value may be: its ask
+-- and its words are copied first.
 use Rattle.std.specs.Prelude.{◌≡◌, ◌≢◌, ℕ, ◌≤◌, ◌<◌, List, length, position, true, IsOk, None}
 use Rattle.actions.specs.Names.{is_name}
 use Rattle.actions.specs.Reading.{is_bad_byte}

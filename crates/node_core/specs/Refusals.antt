@@ -103,13 +103,13 @@ abbrev pub says_more : ℕ → State → List Operation → Bool
 says_more i v ops = list_any (is_ahead i v) ops
 
 -- the executions of a term of the name add up to more than its count and what was granted
-abbrev pub is_above : Option ℕ → ℕ → ℕ → Bool
-is_above None granted total = false
-is_above (Some count) granted total = nat_lt (count + granted) total
+abbrev pub exceeds_count : Option ℕ → ℕ → ℕ → Bool
+exceeds_count None granted total = false
+exceeds_count (Some count) granted total = nat_lt (count + granted) total
 
--- what all nodes granted of a term
-abbrev pub all_granted : State → List ℕ → ℕ → ℕ
-all_granted v name term = sum_below node_numbers (granted_in v name term)
+-- what all nodes granted of a term, as far as the state knows
+abbrev pub granted_known : State → List ℕ → ℕ → ℕ
+granted_known v name term = sum_below node_numbers (granted_in v name term)
 
 abbrev pub any_below : ℕ → (ℕ → Bool) → Bool
 any_below zero test = false
@@ -117,7 +117,7 @@ any_below (suc n) test = test n || any_below n test
 
 abbrev pub is_overspent : State → List ℕ → List TermValue → Bool
 is_overspent v name terms =
-    any_below (length terms) (λ term. is_above (count_at terms term) (all_granted v name term)
+    any_below (length terms) (λ term. exceeds_count (count_at terms term) (granted_known v name term)
     (sum_below node_numbers (v.execs name term)))
 
 -- of a name that a message carries, in the state after it

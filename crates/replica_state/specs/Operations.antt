@@ -1,6 +1,6 @@
 -- What can be known of the points of a cluster: settings, hits, executions, and shifts and grants of
 -- rights.
-use Rattle.std.specs.Prelude.{◌≡◌, ℕ, ◌≤◌, Bool, false, ◌==◌, ◌&&◌, List, [], ◌∷◌, ◌⊎◌, Option, Some, None, is_some, slice_get, IsTrue}
+use Rattle.std.specs.Prelude.{◌≡◌, ◌≢◌, ℕ, ◌≤◌, Bool, false, ◌==◌, ◌&&◌, List, [], ◌∷◌, ◌⊎◌, Option, Some, None, is_some, slice_get, IsTrue}
 use Rattle.std.specs.Str.{bytes_eq}
 use Rattle.actions.specs.Value.{TermValue}
 use Rattle.stamp_register.specs.Keys.{KeyValue, key_value, same_key, terms_set}
@@ -71,3 +71,8 @@ IsWellFormed (Count (Hits name node) number) = 1 ≤ number
 IsWellFormed (Count (Execs name key term node) number) = (1 ≤ number) × IsTrue (is_some (count_of key term))
 IsWellFormed (Count (Shifts name key term from to) total) =
     (1 ≤ total) × IsTrue (is_some (count_of key term))
+
+-- the code's shift goes to another node: what a node granted itself is a grant
+abbrev pub ShiftsToAnother : Op → Type 0
+ShiftsToAnother (ops.Shift name key term from to total) = from ≢ to
+ShiftsToAnother _ = Unit {0}

@@ -35,7 +35,7 @@ pub enum Op {
         number: u64,
     },
     /// The total of rights to execute a counted term that one node moved to another so far,
-    /// under a key; where both are one, what it granted.
+    /// under a key.
     Shift {
         name: Name,
         key: Key,
@@ -45,7 +45,8 @@ pub enum Op {
         total: u64,
     },
     /// The total of rights to execute a counted term that a node granted itself beyond the count
-    /// so far, under a key. It counts where the node would move rights to itself.
+    /// so far, under a key. It counts where the node would move rights to itself, which no shift
+    /// does.
     Grant {
         name: Name,
         key: Key,

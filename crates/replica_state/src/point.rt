@@ -1,6 +1,6 @@
 //! What the plain replica holds of one name.
 
-ghost use Rattle.std.specs.Prelude.{◌≡◌, ◌+◌, ◌-◌, ◌<◌, ◌≤◌, ◌^◌, ◌*◌, ◌↔◌, ◌||◌, ℕ, List, max, nat_le, not, filter, vec_len, vec_capacity, position, option_map, Some, None, OnOk, OnErr, IsSome, IsTrue};
+ghost use Rattle.std.specs.Prelude.{◌≡◌, ◌+◌, ◌-◌, ◌<◌, ◌≤◌, ◌^◌, ◌*◌, ◌↔◌, ◌||◌, ℕ, List, max, nat_le, not, filter, vec_len, vec_capacity, position, option_map, Some, None, OnOk, OnErr, IfSome, IsSome, IsTrue};
 ghost use Rattle.std.specs.List.{list_all};
 ghost use Rattle.std.specs.Option.{option_copied};
 ghost use Rattle.counters.specs.Sums.{node_numbers, sum_below};
@@ -341,8 +341,8 @@ impl Point {
     #[tactic(auto, unfolding(crate::specs::Points::held_of))]
     pub(crate) fn pass(&mut self, node: u8, spent: Option<u8>) -> Result<(), AllocError>
         requires hits { number_of self.old.counts.items (Hits node) + 1 < 2 ^ 64 }
-        requires execs { (term : ℕ)
-            → number_of self.old.counts.items (Execs term node) + 1 < 2 ^ 64 }
+        requires execs { IfSome spent
+            (λ term. number_of self.old.counts.items (Execs term node) + 1 < 2 ^ 64) }
         ensures ok { OnOk result (held_of self.new ≡ held_after_pass node spent (held_of self.old)) }
         ensures err { OnErr result (held_of self.new ≡ held_of self.old) }
     {

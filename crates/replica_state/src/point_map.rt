@@ -1,7 +1,7 @@
 //! What a plain replica keeps of all names.
 #![tactic(auto, unfolding(crate::specs::OpSets::shown))]
 
-ghost use Rattle.std.specs.Prelude.{◌≡◌, ◌+◌, ◌<◌, ◌≤◌, ◌^◌, ℕ, [], length, slice_get, IfOk, IsSome, OnOk, OnErr};
+ghost use Rattle.std.specs.Prelude.{◌≡◌, ◌+◌, ◌<◌, ◌≤◌, ◌^◌, ℕ, [], length, slice_get, IfOk, IfSome, IsSome, OnOk, OnErr};
 ghost use Rattle.std.specs.Map.{keys_of};
 ghost use Rattle.std.specs.List.Sorted.{IsStrictlySortedBy};
 ghost use Rattle.std.specs.Option.{option_copied};
@@ -124,8 +124,8 @@ impl Points {
     ) -> Result<(), AllocError>
         requires set { IsSome ((shown self.old).key name.now) }
         requires hits { (shown self.old).hits name.now node + 1 < 2 ^ 64 }
-        requires execs { (term : ℕ)
-            → (shown self.old).execs name.now term node + 1 < 2 ^ 64 }
+        requires execs { IfSome spent
+            (λ term. (shown self.old).execs name.now term node + 1 < 2 ^ 64) }
         ensures ok { OnOk result (shown self.new
             ≡ with_pass name.now node spent (shown self.old)) }
         ensures err { OnErr result (shown self.new ≡ shown self.old) }

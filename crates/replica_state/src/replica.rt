@@ -1,9 +1,9 @@
 //! What a node needs of the thing that holds its state.
 
-ghost use Rattle.std.specs.Prelude.{◌≡◌, ◌+◌, ◌<◌, ◌≤◌, ◌^◌, ℕ, [], ◌↔◌, length, slice_get, false, option_map, Some, IfSome, IsSome, IsTrue, OnOk, OnErr};
+ghost use Rattle.std.specs.Prelude.{◌≡◌, ◌+◌, ◌<◌, ◌≤◌, ◌^◌, [], ◌↔◌, length, slice_get, false, option_map, Some, IfSome, IsSome, IsTrue, OnOk, OnErr};
 ghost use Rattle.std.specs.Option.{option_copied};
 ghost use Rattle.stamp_register.specs.Keys.{key_value};
-ghost use Rattle.replica_state.specs.Operations.{operation, IsWellFormed};
+ghost use Rattle.replica_state.specs.Operations.{operation, IsWellFormed, ShiftsToAnother};
 ghost use Rattle.replica_state.specs.States.{State, with_name, with_key, with_pass, with_shifts, total_hits, granted_in, budget_of, rights_of, spent_of, MarksRights};
 ghost use Rattle.replica_state.specs.Folds.{fold, Learns, IsUnion};
 ghost use Rattle.replica_state.specs.Reached.{IsReached};
@@ -34,7 +34,8 @@ pub trait Replica: Join {
     /// Learns an operation: where the state was that of some set, it is then that of the set with
     /// the operation. On want of memory the state is as it was.
     fn add(&mut self, alloc: Global, op: &Op) -> Result<(), AllocError>
-        requires { IsWellFormed (operation op.now) }
+        requires formed { IsWellFormed (operation op.now) }
+        requires other { ShiftsToAnother op.now }
         ensures ok { OnOk result (Learns (state self.old) (state self.new) (operation op.now)) }
         ensures err { OnErr result (state self.new ≡ state self.old) };
 
@@ -85,7 +86,8 @@ pub trait Replica: Join {
     ) -> Result<(), AllocError>
         requires set { IsSome ((state self.old).key name.now) }
         requires hits { (state self.old).hits name.now node + 1 < 2 ^ 64 }
-        requires execs { (term : ℕ) → (state self.old).execs name.now term node + 1 < 2 ^ 64 }
+        requires execs { IfSome spent
+            (λ term. (state self.old).execs name.now term node + 1 < 2 ^ 64) }
         requires counted { IfSome spent
             (λ term. IsSome (budget_of (state self.old) name.now term)) }
         ensures ok { OnOk result (state self.new ≡ with_pass name.now node spent (state self.old)) }

@@ -1,6 +1,6 @@
 //! What a matrix stores of one name.
 
-ghost use Rattle.std.specs.Prelude.{◌≡◌, ◌+◌, ◌<◌, ◌^◌, ℕ, option_map, is_none, Some, None, OnOk, OnErr, IfOk, IfNone, IfSome, IsSome, false};
+ghost use Rattle.std.specs.Prelude.{◌≡◌, ◌+◌, ◌<◌, ◌^◌, option_map, is_none, Some, None, OnOk, OnErr, IfOk, IfNone, IfSome, IsSome, false};
 ghost use Rattle.counters.specs.Sums.{node_numbers, sum_below};
 ghost use Rattle.counters.specs.Budgets.{total_spent};
 ghost use Rattle.counters.specs.Cells.{spent_cell, WritesSpent};
@@ -329,7 +329,8 @@ pub(crate) fn pass(
 ) -> Result<(), AllocError>
     requires set { IsSome (slot_key slot.old) }
     requires hits { slot_number slot.old (Hits node) + 1 < 2 ^ 64 }
-    requires execs { (term : ℕ) → slot_number slot.old (Execs term node) + 1 < 2 ^ 64 }
+    requires execs { IfSome spent
+        (λ term. slot_number slot.old (Execs term node) + 1 < 2 ^ 64) }
     ensures ok { OnOk result (slot_held slot.new ≡ held_after_pass node spent (slot_held slot.old)) }
     ensures err { OnErr result (slot_held slot.new ≡ slot_held slot.old) }
 {

@@ -1,7 +1,7 @@
 //! What a matrix stores of all names, changed in place.
 #![tactic(auto, unfolding(crate::specs::Slots::shown_slots))]
 
-ghost use Rattle.std.specs.Prelude.{◌≡◌, ◌≢◌, ◌+◌, ◌<◌, ◌≤◌, ◌^◌, ℕ, is_none, IfNone, IfSome, IsSome, OnOk, OnErr};
+ghost use Rattle.std.specs.Prelude.{◌≡◌, ◌≢◌, ◌+◌, ◌<◌, ◌≤◌, ◌^◌, is_none, IfNone, IfSome, IsSome, OnOk, OnErr};
 ghost use Rattle.std.specs.Borrow.{MutBor};
 ghost use Rattle.std.specs.Fn.{FnOnceReturnsAtMut};
 ghost use Rattle.stamp_register.specs.Keys.{key_value};
@@ -136,7 +136,8 @@ pub(crate) fn count_pass(
 ) -> Result<(), AllocError>
     requires set { IsSome ((shown_slots slots.old).key name.now) }
     requires hits { (shown_slots slots.old).hits name.now node + 1 < 2 ^ 64 }
-    requires execs { (term : ℕ) → (shown_slots slots.old).execs name.now term node + 1 < 2 ^ 64 }
+    requires execs { IfSome spent
+        (λ term. (shown_slots slots.old).execs name.now term node + 1 < 2 ^ 64) }
     ensures ok { OnOk result (shown_slots slots.new
         ≡ with_pass name.now node spent (shown_slots slots.old)) }
     ensures err { OnErr result (shown_slots slots.new ≡ shown_slots slots.old) }
@@ -144,7 +145,8 @@ pub(crate) fn count_pass(
     let pass = |held: &mut Slot|
         requires set { IsSome (slot_key held.old) }
         requires hits { slot_number held.old (Hits node) + 1 < 2 ^ 64 }
-        requires execs { (term : ℕ) → slot_number held.old (Execs term node) + 1 < 2 ^ 64 }
+        requires execs { IfSome spent
+            (λ term. slot_number held.old (Execs term node) + 1 < 2 ^ 64) }
         ensures ok { OnOk result (slot_held held.new
             ≡ held_after_pass node spent (slot_held held.old)) }
         ensures err { OnErr result (slot_held held.new ≡ slot_held held.old) }

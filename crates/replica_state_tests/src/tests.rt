@@ -1,6 +1,6 @@
 ghost use Rattle.std.specs.Prelude.{◌≡◌, ◌+◌, ◌<◌, ◌≤◌, ◌^◌, ℕ, true, false, Some, IfSome, IsSome, IfOk};
 ghost use Rattle.stamp_register.specs.Keys.{key_value};
-ghost use Rattle.replica_state.specs.Operations.{operation, count_of, IsWellFormed};
+ghost use Rattle.replica_state.specs.Operations.{operation, count_of, IsWellFormed, ShiftsToAnother};
 ghost use Rattle.replica_state.specs.Knowledge.{is_upto};
 ghost use Rattle.replica_state.specs.SetOrder.{state_of};
 ghost use Rattle.replica_state.specs.States.{budget_of};
@@ -111,7 +111,8 @@ fn count_of(key: &Key, term: u8) -> Option<u64>
 }
 
 fn is_well_formed(op: &Op) -> bool
-    ensures { result ≡ true → IsWellFormed (operation op.now) }
+    ensures formed { result ≡ true → IsWellFormed (operation op.now) }
+    ensures other { result ≡ true → ShiftsToAnother op.now }
 {
     match op {
         Op::Set { .. } => true,
@@ -125,9 +126,11 @@ fn is_well_formed(op: &Op) -> bool
         Op::Shift {
             key,
             term,
+            from,
+            to,
             total,
             ..
-        } => *total >= 1 && count_of(key, *term).is_some(),
+        } => *total >= 1 && from != to && count_of(key, *term).is_some(),
         Op::Grant {
             key,
             term,

@@ -130,6 +130,40 @@ fn one_byte_altered(rt: HostRuntime) -> Result<(), Fail> {
     Ok(())
 }
 
+/// Of node 0 to node 1: a is set to `2*off`, and five rights of it were moved to node 1. Node 0 never
+/// had so many.
+const FORGED_SHIFT: [u8; 67] = [
+    0x46, 0x50, 0x47, 0x31, 0, 1, // magic, from, to
+    0, 0, 0, 0, 0, 0, 0, 0, // base
+    0, 0, 0, 0, 0, 0, 0, 0, // upto
+    0, 0, 0, 0, 0, 0, 0, 0, // ack
+    0, 1, // one name
+    1, 0x61, // a
+    0, 0, 0, 0, 0, 0, 0, 1, 0, // clock and node
+    1, 0, 5, 0x32, 0x2a, 0x6f, 0x66, 0x66, // set to five bytes
+    0, 0, 0, // no hit or execution cell
+    0, 1, 0, 0, 1, 0, 0, 0, 0, 0, 0, 0, 5, // one shift cell
+];
+
+// A term that is overspent stops messages of its name alone.
+const OVERSPENT_BEFORE: &[Line] = &[
+    (0, Step::DeliverBytes(&FORGED_SHIFT), "changed"),
+    (0, Step::Pass("a", &[]), "act 1.0 0 off"),
+    (0, Step::Pass("a", &[]), "act 1.0 0 off"),
+    (0, Step::DeliverBytes(&FORGED_SHIFT), "same"),
+    (0, Step::Pass("a", &[]), "act 1.0 0 off"),
+    (0, Step::Spent("a", 0), "3"),
+    (0, Step::DeliverBytes(&FORGED_SHIFT), "N20 Overspent"),
+    (0, Step::DeliverBytes(&EMPTY), "same"),
+];
+
+#[test]
+fn overspent_before(rt: HostRuntime) -> Result<(), Fail> {
+    let other = difference(rt.alloc(), &[SECOND_OF_TWO], &[OVERSPENT_BEFORE])?;
+    assert_eq!(rt; other.as_str(), "");
+    Ok(())
+}
+
 const LAST_CLOCK: &[Line] = &[
     (0, Step::DeliverAltered(&ONE_NAME, 34, 42, 0xff), "changed"),
     (0, Step::Set("b", "off"), "N5 ClockFull"),

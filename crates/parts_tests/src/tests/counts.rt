@@ -304,6 +304,25 @@ fn grants(rt: HostRuntime) -> Result<(), Fail> {
     Ok(())
 }
 
+/// Nothing is ever moved to oneself, however much was granted, so such a shift finds no full cell.
+#[test]
+fn shifts_to_itself(rt: HostRuntime) -> Result<(), Fail> {
+    let alloc = rt.alloc();
+    let mut budget = Budget::new(alloc);
+    let max = u64::MAX;
+    let full = granted((max, 0), (0, 0), (i128::from(max) + 2, 0));
+    let none = CounterFault::TooFewRights { have: 0 };
+    let steps = [
+        (Step::Grant(0, max), Ok(Some(max)), full),
+        (Step::Shift(0, 0, 1), Err(CounterFault::SameNode), full),
+        (Step::Shift(0, 0, max), Err(CounterFault::SameNode), full),
+        (Step::Shift(0, 0, 0), Err(CounterFault::ZeroAmount), full),
+        (Step::Shift(1, 1, 1), Err(none), full),
+    ];
+    follow(&rt, alloc, &mut budget, &steps);
+    Ok(())
+}
+
 /// Joins two values both ways, by their type's bound. If the memory of a join in place is refused,
 /// nothing may have changed, and it is asked again.
 fn joined<J: Join>(rt: &impl Abort, alloc: Global, one: &J, other: &J) -> Result<J, AllocError> {

@@ -46,8 +46,7 @@ fn spend_before_shift(rt: HostRuntime) -> Result<(), Fail> {
     follow_both(&rt, rt.alloc(), &steps)
 }
 
-/// A node has what it granted itself, once, also where that is told as a shift to itself. A new key
-/// has no grants.
+/// A node has what it granted itself, once. A new key has no grants.
 #[test]
 fn grants(rt: HostRuntime) -> Result<(), Fail> {
     let granted = wanted(1, (0, 0), (0, 0), (0, 0), (2, 3));
@@ -56,7 +55,7 @@ fn grants(rt: HostRuntime) -> Result<(), Fail> {
         (Step::Grant(1, 0, "2*off", 1, 2), granted),
         (Step::Grant(1, 0, "2*off", 1, 3), granted),
         (
-            Step::Shift(1, 0, "2*off", 1, 1, 4),
+            Step::Grant(1, 0, "2*off", 1, 4),
             wanted(1, (0, 0), (0, 0), (0, 0), (2, 4)),
         ),
         (

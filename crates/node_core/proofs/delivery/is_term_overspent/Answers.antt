@@ -2,7 +2,7 @@ use Rattle.std.proofs.Common.{◌≡◌, ℕ, ◌+◌, Bool, true, nat_lt, sym, 
 use Rattle.std.proofs.lemmas.Bool.Decides.{nat_tests}
 use Rattle.replica_state.specs.Operations.{count_at}
 use Rattle.node_core.specs.Replicas.{state_in}
-use Rattle.node_core.specs.Refusals.{is_above}
+use Rattle.node_core.specs.Refusals.{exceeds_count}
 use Rattle.node_core.specs.Deliveries.{execs_both, granted_both}
 use Rattle.node_core.proofs.Overspent.{any_true}
 use Rattle.node_core.proofs.delivery.is_term_overspent.Goals as goal
@@ -11,7 +11,7 @@ pub returns-then-spent-count-2 : goal.returns-then-spent-count-2
 returns-then-spent-count-2 c =
     let granted : ℕ → ℕ = granted_both c.args.nodes c.args.order (state_in c.args.state.now) (state_in c.args.brought.now) c.args.name.now in
     let sum : ℕ → ℕ = execs_both c.args.nodes c.args.order (state_in c.args.state.now) (state_in c.args.brought.now) c.args.name.now in
-    let test : ℕ → Bool = λ term. is_above (count_at c.args.actions.now term) (granted term) (sum term) in
+    let test : ℕ → Bool = λ term. exceeds_count (count_at c.args.actions.now term) (granted term) (sum term) in
     let low = c.if-spent-count-2.true in
     let same = c.from-count.ensures in
     let all = c.execs_both-spent.ensures in
@@ -19,4 +19,4 @@ returns-then-spent-count-2 c =
     let above : nat_lt (c.in-Some.count + granted c.loop-term.term) (sum c.loop-term.term) ≡ true = grind (arith, nat_tests, low, same, all, more) in
     let upto = c.len-term-end.ensures.value in
     let before = c.loop-term-test.true in
-    sym (any_true _ c.loop-term.term test (omega (arith, upto, before)) (ap (λ o. is_above o (granted c.loop-term.term) (sum c.loop-term.term)) (sym c.count_at.ensures ∙ c.in-Some.is) ∙ above))
+    sym (any_true _ c.loop-term.term test (omega (arith, upto, before)) (ap (λ o. exceeds_count o (granted c.loop-term.term) (sum c.loop-term.term)) (sym c.count_at.ensures ∙ c.in-Some.is) ∙ above))

@@ -1,6 +1,7 @@
 use Rattle.std.specs.Prelude.{OnOk}
 use Rattle.std.proofs.Common.{◌≡◌, ◌+◌, ◌<◌, ◌^◌, subst, sym, ◌∙◌, rules}
 use Rattle.std.specs.Option.{IsSome}
+use Rattle.std.proofs.lemmas.Option.{IfSome_then}
 use Rattle.replica_state.specs.declared.point.Counted.TheVariants.{Hits, Execs}
 use Rattle.replica_state.specs.Points.{held_after_pass}
 use Rattle.replica_state.specs.Slots.{shown_slots, slot_held}
@@ -14,7 +15,7 @@ change-requires c = λ slot is. (
   subst (λ o. IsSome o) (sym is.key) c.requires.set,
   (
     subst (λ n. n + 1 < 2 ^ 64) (sym (is.number (Hits c.args.node))) c.requires.hits,
-    λ term. subst (λ n. n + 1 < 2 ^ 64) (sym (is.number (Execs term c.args.node))) (c.requires.execs term),
+    IfSome_then c.args.spent c.requires.execs (λ term. subst (λ n. n + 1 < 2 ^ 64) (sym (is.number (Execs term c.args.node)))),
   ),
 )
 

@@ -1,7 +1,7 @@
 use Rattle.std.proofs.Common.{refl, sym, subst, string_bytes, ◌∙◌, ap, map, List}
 use Rattle.std.specs.List.{AllByRecursion}
 use Rattle.replica_state.specs.Operations.{Operation, IsWellFormed, operation}
-use Rattle.node_core.proofs.LoadSteps.{issued_formed}
+use Rattle.node_core.proofs.LoadSteps.{issued_formed, issued_stay}
 use Rattle.node_core.proofs.VersionsInStep.{entries_with, load_with}
 use Rattle.node_core.specs.Asks.{Load}
 use Rattle.node_core.specs.Outcomes.{state_loaded}
@@ -14,6 +14,10 @@ pub issue-requires-clause-formed : goal.issue-requires-clause-formed
 issue-requires-clause-formed c =
     subst (λ (ops : List Operation). AllByRecursion IsWellFormed ops) (sym c.requires.ops)
     (issued_formed c.args.self.now.config.node (last_clock c.args.self.now) (settings (Load (string_bytes c.args.text))))
+
+pub issue-requires-clause-others : goal.issue-requires-clause-others
+issue-requires-clause-others c =
+    issued_stay c.args.self.now.config.node (last_clock c.args.self.now) (settings (Load (string_bytes c.args.text))) c.args.ops.now c.requires.ops
 
 pub invariant_of-self-2 : goal.invariant_of-self-2
 invariant_of-self-2 c =

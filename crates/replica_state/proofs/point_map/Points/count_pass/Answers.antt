@@ -1,4 +1,4 @@
-use Rattle.std.proofs.Common.{◌+◌, ◌<◌, ◌^◌, Option, subst, ◌∙◌, sym}
+use Rattle.std.proofs.Common.{◌+◌, ◌<◌, ◌^◌, Option, IfSome, subst, ◌∙◌, sym}
 use Rattle.replica_state.specs.declared.point.Point.{Point}
 use Rattle.replica_state.specs.Points.{held_after_pass}
 use Rattle.replica_state.specs.OpSets.{shown, number_at}
@@ -9,7 +9,8 @@ use Rattle.replica_state.proofs.point_map.Points.count_pass.Goals as goal
 
 pub pass-requires-clause-execs : goal.pass-requires-clause-execs
 unfolding shown
-pass-requires-clause-execs c = λ term. subst (λ (o : Option Point). number_at o (Execs term c.args.node) + 1 < 2 ^ 64) (sym c.in-Some.ensures.value) (rw c.self.view_is (c.requires.execs term))
+pass-requires-clause-execs c =
+    subst (λ (o : Option Point). IfSome c.args.spent (λ term. number_at o (Execs term c.args.node) + 1 < 2 ^ 64)) (sym c.in-Some.ensures.value) (rw c.self.view_is c.requires.execs)
 
 pub returns-in-Some-clause-ok : goal.returns-in-Some-clause-ok
 unfolding shown
