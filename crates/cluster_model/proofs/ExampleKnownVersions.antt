@@ -15,7 +15,7 @@ use Rattle.replica_state.specs.Folds.{fold, clock_of}
 use Rattle.replica_state.specs.Deltas.{TellSameOf, IsInDelta, IsDelta}
 use Rattle.replica_state.proofs.FoldSteps.{fold_key}
 use Rattle.replica_state.proofs.Orders.{bytes_eq-refl, bytes_eq-true}
-use Rattle.node_core.specs.Asks.{Message, Versions}
+use Rattle.node_core.specs.Asks.{Message}
 use Rattle.node_core.specs.Asks as asks
 use Rattle.node_core.specs.Nodes.{Node, start}
 use Rattle.node_core.specs.Steps.{after}
@@ -23,7 +23,7 @@ use Rattle.node_core.specs.Refusals.{refusal_at}
 use Rattle.cluster_model.specs.Worlds.{Event, config_of, world}
 use Rattle.cluster_model.specs.Schedules.{IsDeltaSchedule}
 use Rattle.cluster_model.specs.Histories.{state_of}
-use Rattle.cluster_model.proofs.Examples.{nodes, event, stamp, key_at, answers}
+use Rattle.cluster_model.proofs.Examples.{nodes, event, stamp, key_at, versions, answers}
 use Rattle.cluster_model.proofs.KnownVersions.{known_is_same}
 
 -- ---- a setting is all that differs after it
@@ -129,9 +129,6 @@ key_a = key_at 1 0 (codes "off")
 
 abbrev key_b : KeyValue
 key_b = key_at 2 0 (codes "panic")
-
-abbrev versions : ℕ → ℕ → ℕ → Versions
-versions base upto ack = record { base = base; upto = upto; ack = ack }
 
 abbrev first : Message
 first = record { from = 0; to = 1; base = 0; upto = 1; ack = 0; ops = Set a key_a ∷ [] }

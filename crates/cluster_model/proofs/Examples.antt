@@ -6,14 +6,18 @@ use Rattle.std.specs.Str.{bytes_eq}
 use Rattle.stamp_register.specs.declared.key.Stamp.{Stamp}
 use Rattle.stamp_register.specs.Keys.{KeyValue, same_key}
 use Rattle.replica_state.specs.Operations.{Cell, Hits, Execs, Shifts, Operation, Set, Count, IsIn, same_cell}
-use Rattle.replica_state.specs.Folds.{key_in}
+use Rattle.replica_state.specs.Folds.{fold, key_in}
+use Rattle.replica_state.specs.Deltas.{IsTold, IsDelta}
 use Rattle.replica_state.proofs.Orders.{bytes_eq-true, same_key-true, same_cell-refl}
+use Rattle.replica_state.proofs.Sets.{key_of-found}
+use Rattle.replica_state.proofs.Telling.{all_differs}
 use Rattle.node_core.specs.Asks.{Asked, Answered, Message, Versions}
 use Rattle.node_core.specs.Nodes.{Marks}
 use Rattle.node_core.specs.Steps.{reply}
 use Rattle.cluster_model.specs.Worlds.{Cluster, World, Event, accepted, world}
 use Rattle.cluster_model.specs.Schedules.{MaySend, MayTell}
 use Rattle.cluster_model.proofs.Stamps.{carried_name}
+use Rattle.cluster_model.proofs.Closed.{held_number, told_number}
 
 abbrev pub nodes : ℕ → Cluster
 nodes n = record { nodes = n; trace_cap = 100 }
@@ -26,6 +30,10 @@ stamp clock node = record { clock = clock; node = node }
 
 abbrev pub key_at : ℕ → ℕ → List ℕ → KeyValue
 key_at clock node text = record { clock = clock; node = node; body = Some text }
+
+-- the versions that a node tells
+abbrev pub versions : ℕ → ℕ → ℕ → Versions
+versions base upto ack = record { base = base; upto = upto; ack = ack }
 
 -- what a node tells that knew no version of the other, and its message
 abbrev pub first_told : ℕ → Versions
@@ -123,3 +131,20 @@ may_send_one name key known chosen held of once setting =
       with_hits = λ other node number m. (key, subst (λ n. IsIn (Set n key) chosen) (sym (bytes_eq-true other name (each_of name key chosen of (Count (Hits other node) number) m))) setting);
       once = each_once chosen once;
     }
+
+-- ---- what may be sent where each node sends what differs, of one name, to a node that is known to have nothing
+
+-- what a set of one name and key tells, with its setting, it holds
+told_held : (name : List ℕ) (key : KeyValue) (known : List Operation) → are_of name key known ≡ true → IsIn (Set name key) known → (op : Operation) → IsTold (fold known) op → IsIn op known
+unfolding fold
+told_held name key known of setting (Set n k) t =
+    let found = key_of-found n k known t in
+    let parts = of_one name n key k found.op (each_of name key known of found.op found.held) found.carries in
+    subst (λ (o : Operation). IsIn o known) (λ i. Set (parts.0 i) (parts.1 i)) setting
+told_held name key known of setting (Count cell number) t = held_number cell known number (told_number known cell number t) t.1
+
+-- so it is enough to look at what it holds
+pub all_of_one : (name : List ℕ) (key : KeyValue) (known chosen : List Operation) → are_of name key known ≡ true → IsIn (Set name key) known →
+    ((op : Operation) → IsIn op chosen → IsTold (fold known) op) → ((op : Operation) → IsIn op known → IsTold (fold known) op → IsIn op chosen) → IsDelta (fold []) (fold known) chosen
+all_of_one name key known chosen of setting told rest =
+    all_differs (fold known) chosen (λ op. (told op, λ t. rest op (told_held name key known of setting op t) t))

@@ -1,4 +1,5 @@
--- No message of the cluster is refused for what it says, but where a grant is left out that paid for what it tells.
+-- No message of the cluster is refused for what it says, but where executions are known and not yet the grant that paid
+-- for them.
 use Rattle.std.proofs.Common.{◌≡◌, ℕ, ◌+◌, ◌<◌, ◌≤◌, ◌==◌, ◌&&◌, ◌||◌, zero, suc, Bool, true, false, not, List, [], ◌∷◌, ◌++◌, length, ◌⊎◌, inl, inr, refl, sym, ◌∙◌, ap, subst, arith, nat_lt, ⊎_elim, Option, Some, None, Ok}
 use Rattle.std.proofs.lemmas.Bool.{true≢false, eqb-true, eq-eqb, le-ltb, ltb-true}
 use Rattle.std.specs.Prelude.{is_none}
@@ -23,7 +24,7 @@ use Rattle.node_core.specs.Asks as asks
 use Rattle.node_core.specs.Nodes.{setting_of, terms_in}
 use Rattle.refusals.specs.Refusals.{first_fault}
 use Rattle.std.specs.Bool.{then_some}
-use Rattle.node_core.specs.Refusals.{is_full, is_ahead, is_above, any_below, is_overspent, overspends, too_many, faults_of_message, refusal_at}
+use Rattle.node_core.specs.Refusals.{is_full, is_ahead, exceeds_count, any_below, is_overspent, overspends, too_many, faults_of_message, refusal_at}
 use Rattle.node_core.proofs.Rights.{setting_parts}
 use Rattle.cluster_model.specs.Worlds.{Cluster, Event, config_of, accepted, world}
 use Rattle.cluster_model.specs.Schedules.{IsSchedule}
@@ -113,7 +114,7 @@ overspent_term v name = at (setting_of v name) refl
         let found = some_below (length setting.1) _ h in
         of found.0 (count_at setting.1 found.0) refl found.1
       where
-        of : (term : ℕ) (o : Option ℕ) → count_at setting.1 term ≡ o → is_above o (sum_below node_numbers (granted_in v name term)) (sum_below node_numbers (v.execs name term)) ≡ true → IsOverspent v name
+        of : (term : ℕ) (o : Option ℕ) → count_at setting.1 term ≡ o → exceeds_count o (sum_below node_numbers (granted_in v name term)) (sum_below node_numbers (v.execs name term)) ≡ true → IsOverspent v name
         of term None q above = absurd (true≢false (sym above))
         of term (Some count) q above =
             let is = setting_parts (v.key name) setting.0 setting.1 p in
@@ -189,9 +190,15 @@ module _ (c : Cluster) (es : List Event) (s : IsSchedule c es) (i : ℕ) (m : Me
   lacks : c.nodes ≤ node_numbers → (op : Operation) → overspends (merged c es i m) op ≡ true → LacksGrant c es (merged c es i m) (name_in op)
   lacks few op h =
       let is = overspent_term (merged c es i m) (name_in op) h in
-      let above = is.above in
-      let most = at_most few (name_in op) is.key is.term is.count is.under is.counted in
-      record { key = is.key; term = is.term; under = is.under; fewer = omega (arith, above, most) }
+      record {
+        key = is.key;
+        term = is.term;
+        count = is.count;
+        under = is.under;
+        counted = is.counted;
+        overspent = is.above;
+        paid = at_most few (name_in op) is.key is.term is.count is.under is.counted;
+      }
 
   pub honest_message : c.nodes ≤ node_numbers → IsHonest c es i m
   honest_message few =
@@ -215,7 +222,7 @@ module _ (c : Cluster) (es : List Event) (s : IsSchedule c es) (i : ℕ) (m : Me
       (λ e. le-ltb _ _ (subst (λ j. m.ack ≤ ((world c es).node j).marks.version) (for_me e) ((marked c es s).ack m sent_then)))
       (false_any _ m.ops (not_ahead c es s i m sent_then))
 
-  -- so it is refused for what it says only where it leaves out a grant
+  -- so it is refused for what it says only where a grant isn't known yet
   pub honest_reason : c.nodes ≤ node_numbers → IsHonestReason c es i m fault
   honest_reason few = ⊎_elim inl (λ is. inr (
       let some = some_in (overspends (merged c es i m)) m.ops is.over_is in

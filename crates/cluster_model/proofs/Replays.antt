@@ -69,7 +69,7 @@ no_node c w e high i = at (accepted c w e i) refl
         let here = is.here in
         absurd (omega (arith, low, here, high))
 
-is_agreed : (c : Cluster) (w : World) (e : Event) → e.node < c.nodes → refusal_at (config_of c e.node) (length (w.trace e.node)) (w.node e.node) e.ask e.words ≡ None → accepted c w e e.node ≡ Some e.ask
+pub is_agreed : (c : Cluster) (w : World) (e : Event) → e.node < c.nodes → refusal_at (config_of c e.node) (length (w.trace e.node)) (w.node e.node) e.ask e.words ≡ None → accepted c w e e.node ≡ Some e.ask
 is_agreed c w e low h = ap (λ b. cond b (Some e.ask) None) (and_from _ _ (lt-ltb e.node c.nodes low) (and_from _ _ (eq-eqb e.node e.node refl) (ap is_none h)))
 
 abbrev kept_with : Config → List Call → Kept

@@ -128,11 +128,11 @@ abbrev pub seen : Cluster → List Event → List ℕ → KeyValue → ℕ → �
 seen c es name key term i j =
     if i == j then 0 else shifts_under (state_under c es name key j) name term i j
 
--- over all nodes: the rights that are held, those on their way from one node to another, those that
--- were granted, and the executions
+-- the rights that all nodes hold
 abbrev pub all_held : Cluster → List Event → List ℕ → KeyValue → ℕ → ℕ → ℤ
 all_held c es name key term count = int_sum_below c.nodes (held c es name key term count)
 
+-- the rights on their way from node i to node j, and those between all nodes
 abbrev pub in_transit : Cluster → List Event → List ℕ → KeyValue → ℕ → ℕ → ℕ → ℤ
 in_transit c es name key term i j =
     pos (moved c es name key term i j) -ℤ pos (seen c es name key term i j)
@@ -141,6 +141,7 @@ abbrev pub all_in_transit : Cluster → List Event → List ℕ → KeyValue →
 all_in_transit c es name key term =
     int_sum_below c.nodes (λ i. int_sum_below c.nodes (in_transit c es name key term i))
 
+-- what all nodes granted themselves, and the executions on all nodes
 abbrev pub all_granted : Cluster → List Event → List ℕ → KeyValue → ℕ → ℕ
 all_granted c es name key term = sum_below c.nodes (granted c es name key term)
 

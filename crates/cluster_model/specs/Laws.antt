@@ -6,7 +6,7 @@ use Rattle.counters.specs.Sums.{node_numbers, sum_below}
 use Rattle.stamp_register.specs.declared.key.Stamp.{Stamp}
 use Rattle.stamp_register.specs.Keys.{KeyValue, stamp_of, terms_set}
 use Rattle.replica_state.specs.Operations.{Operation, Set, Count, IsIn, count_of}
-use Rattle.replica_state.specs.States.{State, granted_in}
+use Rattle.replica_state.specs.States.{State}
 use Rattle.replica_state.specs.Folds.{fold, name_in}
 use Rattle.replica_state.specs.Deltas.{IsDelta}
 use Rattle.replica_state.specs.StateOrder.{IsBelow}
@@ -19,7 +19,7 @@ use Rattle.node_core.specs.Nodes.{state_shown}
 use Rattle.node_core.specs.Steps.{message_to}
 use Rattle.node_core.specs.Traces.{Kept, replay, refusal, after_call, delivery_of, emission_of, versions_told, IsLegal}
 use Rattle.node_core.specs.Deliveries.{TellsDelta}
-use Rattle.node_core.specs.Refusals.{is_ahead, overspends}
+use Rattle.node_core.specs.Refusals.{is_ahead, granted_known, overspends}
 use Rattle.cluster_model.specs.Worlds.{Cluster, Event, config_of, accepted, world}
 use Rattle.cluster_model.specs.Schedules.{MaySend, Allows, IsSchedule, AllowsDelta, IsDeltaSchedule}
 use Rattle.cluster_model.specs.Views.{SeesWhole}
@@ -115,11 +115,14 @@ pub record IsConserved (c : Cluster) (es : List Event) (name : List ℕ) (key : 
       ≡ pos (count + all_granted c es name key term)
   pub at_most : all_executions c es (stamp_of key) term ≤ count + all_granted c es name key term
 
+-- so it is with each term of each key that was issued
+abbrev pub EscrowHolds : Cluster → List Event → Type 0
+EscrowHolds c es = (name : List ℕ) (key : KeyValue) (term count : ℕ) →
+    IsIssued c es name key → count_of key term ≡ Some count → IsConserved c es name key term count
+
 -- a node number is below 256
 abbrev pub Escrow : Type 0
-Escrow = (c : Cluster) (es : List Event) → c.nodes ≤ node_numbers → IsSchedule c es →
-    (name : List ℕ) (key : KeyValue) (term count : ℕ) →
-    IsIssued c es name key → count_of key term ≡ Some count → IsConserved c es name key term count
+Escrow = (c : Cluster) (es : List Event) → c.nodes ≤ node_numbers → IsSchedule c es → EscrowHolds c es
 
 -- what was asked is a pass of a point, and what was answered is a term, counted or not, of the text of a
 -- key that was issued for that point, under the stamp of that key
@@ -150,16 +153,21 @@ merged c es i message = fold (message.ops ++ ((world c es).node i).ops)
 abbrev pub merge_overspends : Cluster → List Event → ℕ → Message → Bool
 merge_overspends c es i message = list_any (overspends (merged c es i message)) message.ops
 
--- of a term of the key that a state has of the name, it knows fewer grants than there were
+-- of a term of the key that it has of the name, a state knows more executions than the count and the
+-- grants that it knows, and no more than the count and all that was granted: so it doesn't know the
+-- grant that paid for them
 pub record LacksGrant (c : Cluster) (es : List Event) (v : State) (name : List ℕ) : Type 0 where
   pub key : KeyValue
   pub term : ℕ
+  pub count : ℕ
   pub under : v.key name ≡ Some key
-  pub fewer : sum_below node_numbers (granted_in v name term) < all_granted c es name key term
+  pub counted : count_of key term ≡ Some count
+  pub overspent : count + granted_known v name term < sum_below node_numbers (v.execs name term)
+  pub paid : sum_below node_numbers (v.execs name term) ≤ count + all_granted c es name key term
 
 -- what a message of the cluster says of a node is not ahead of what that node wrote, it tells the node
--- nothing of a version that it hasn't, and what it carries, merged, overspends no term, but where a
--- grant is not known
+-- nothing of a version that it hasn't, and what it carries, merged, overspends no term, but where
+-- executions are known, the node's own or told, and not yet the grant that paid for them
 pub record IsHonest (c : Cluster) (es : List Event) (i : ℕ) (message : Message) : Type 0 where
   pub not_ahead : list_any (is_ahead i (state_of c es i)) message.ops ≡ false
   pub acked : message.to ≡ i → message.ack ≤ ((world c es).node i).marks.version
@@ -175,7 +183,8 @@ IsOwnReason (Some faults.NotForMe) = Unit {0}
 IsOwnReason (Some faults.TooManyPoints) = Unit {0}
 IsOwnReason (Some _) = ⊥
 
--- or that it tells executions of a name, and not the grant that paid for one
+-- or that, of a name that it carries, executions are known there, the node's own or told, and not yet
+-- the grant that paid for them
 pub record IsGrantUntold (c : Cluster) (es : List Event) (i : ℕ) (message : Message)
     (fault : Option NodeFault) : Type 0 where
   pub refused : fault ≡ Some faults.Overspent
@@ -186,8 +195,8 @@ pub record IsGrantUntold (c : Cluster) (es : List Event) (i : ℕ) (message : Me
 abbrev pub IsHonestReason : Cluster → List Event → ℕ → Message → Option NodeFault → Type 0
 IsHonestReason c es i message fault = IsOwnReason fault ⊎ IsGrantUntold c es i message fault
 
--- so whichever node a message comes to, and however late, none refuses it for what it says, but for
--- a grant that it doesn't tell
+-- so whichever node a message comes to, and however late, none refuses it for what it says, but where
+-- executions are known and not yet the grant that paid for them
 abbrev pub HonestMessages : Type 0
 HonestMessages = (c : Cluster) (es : List Event) → c.nodes ≤ node_numbers → IsSchedule c es →
     (i : ℕ) (message : Message) → IsIn message (world c es).messages →
@@ -202,7 +211,7 @@ HonestBytes = (c : Cluster) (es : List Event) → c.nodes ≤ node_numbers → I
     Allows (world c es) i (Some (delivery_of (kept c es i) bytes))
     × IsHonestReason c es i message (refusal (kept c es i) (delivery_of (kept c es i) bytes) [])
 
--- where each node sends what differs, no message leaves out such a grant: it overspends no term at the
+-- where each node sends what differs, no such grant is left out: a message overspends no term at the
 -- node that it is for, whatever was granted, and none refuses it for what it says
 abbrev pub DeltaMessages : Type 0
 DeltaMessages = (c : Cluster) (es : List Event) → IsDeltaSchedule c es →
@@ -287,6 +296,11 @@ PastStays = (i : ℕ) (trace later : List Call) (version : ℕ) →
 abbrev pub PastIsState : Type 0
 PastIsState = (c : Cluster) (later es : List Event) (i : ℕ) →
     ((world c (later ++ es)).node i).past ((world c es).node i).marks.version ≡ state_of c es i
+
+-- a version of a node that another knows is one that the node has reached
+abbrev pub KnownVersionIsReached : Type 0
+KnownVersionIsReached = (c : Cluster) (es : List Event) → IsSchedule c es → (i j : ℕ) →
+    ((world c es).node j).marks.known i ≤ ((world c es).node i).marks.version
 
 -- where each node sends what differs, a node that knows a version of another holds all that the other
 -- held at it

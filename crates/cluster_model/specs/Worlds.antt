@@ -1,5 +1,6 @@
 -- A cluster of nodes: what each of them holds, what was sent, and what an event changes.
-use Rattle.std.specs.Prelude.{ℕ, ◌==◌, ◌&&◌, Bool, nat_lt, List, [], ◌∷◌, ◌++◌, length, if◌then◌else◌, Option, Some, None, is_none}
+use Rattle.std.specs.Prelude.{ℕ, ◌==◌, ◌&&◌, Bool, nat_lt, nat_le, List, [], ◌∷◌, ◌++◌, length, if◌then◌else◌, Option, Some, None, is_none}
+use Rattle.delta_exchange.specs.Limits.{max_nodes}
 use Rattle.node_core.specs.declared.config.Config.{Config}
 use Rattle.node_core.specs.Asks.{Asked, Call, Message}
 use Rattle.node_core.specs.Asks as asks
@@ -11,6 +12,13 @@ use Rattle.node_core.specs.Refusals.{refusal_at}
 pub record Cluster : Type 0 where
   pub nodes : ℕ
   pub trace_cap : ℕ
+
+abbrev pub cluster_of : ℕ → ℕ → Cluster
+cluster_of nodes trace_cap = record { nodes = nodes; trace_cap = trace_cap }
+
+-- a cluster has 1 to 32 nodes
+abbrev pub is_cluster_size : ℕ → Bool
+is_cluster_size count = nat_le 1 count && nat_le count max_nodes
 
 abbrev pub config_of : Cluster → ℕ → Config
 config_of c i = record { node = i; nodes = c.nodes; trace_cap = c.trace_cap }

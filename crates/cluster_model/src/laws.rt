@@ -6,7 +6,7 @@
 ghost use Rattle.std.specs.Prelude.{◌≡◌, ℕ};
 ghost use Rattle.replica_state.specs.Laws.{UnionIsLeast};
 ghost use Rattle.node_core.specs.Traces.{Kept};
-ghost use Rattle.cluster_model.specs.Laws.{NodeIsReplay, EventIsCall, StateIsFold, AnyOrderSameState, MutualKnowledgeSameState, DeliveryIsLeast, Escrow, StampIsIssuedOnce, StampIsOneKey, HonestMessages, HonestBytes, DeltaMessages, DeltaMessageBytes, MessagesAreReplies, ToldExecutionsAreIssued, DeltaMaySend, DeltasAreSchedules, TracesAreLegal, DeltaIsEmission, DeltaIsOne, IsLegalEmit, PastBegins, PastIsPresent, PastStays, PastIsState, KnownVersionIsBelow, KnownVersionsSameState, EachVersionSeesWhole};
+ghost use Rattle.cluster_model.specs.Laws.{NodeIsReplay, EventIsCall, StateIsFold, AnyOrderSameState, MutualKnowledgeSameState, DeliveryIsLeast, Escrow, StampIsIssuedOnce, StampIsOneKey, HonestMessages, HonestBytes, DeltaMessages, DeltaMessageBytes, MessagesAreReplies, ToldExecutionsAreIssued, DeltaMaySend, DeltasAreSchedules, TracesAreLegal, DeltaIsEmission, DeltaIsOne, IsLegalEmit, PastBegins, PastIsPresent, PastStays, PastIsState, KnownVersionIsReached, KnownVersionIsBelow, KnownVersionsSameState, EachVersionSeesWhole};
 
 /// Each event of a schedule is a call of one node: it is refused, and changes nothing, or it changes
 /// that node by the step that the contracts of `NodeCore` cite, and its trace tells all of it. The
@@ -39,8 +39,9 @@ pub fn escrow()
 {}
 
 /// No message of the cluster is refused for what it says, and so none of the bytes that spell one,
-/// but a message that tells executions and not the grant that paid for one. Where each node sends
-/// what differs there is none of these.
+/// but where a node knows of executions, its own or told, and not yet of the grant that paid for
+/// them: an emit that chooses freely may leave a grant out. Where each node sends what differs there
+/// is no such refusal.
 pub fn honest()
     ensures messages { HonestMessages }
     ensures bytes { HonestBytes }
@@ -81,11 +82,13 @@ pub fn past()
     ensures world { PastIsState }
 {}
 
-/// Where each node sends what differs, a node that knows a version of another holds all that the
-/// other held at that version, and two nodes that know each other's present version hold the same
-/// state. And each node sees each other whole: of what the other wrote it holds all that the other
-/// held at one of its versions, and nothing later.
+/// A version of a node that another knows is one that the node has reached. Where each node sends
+/// what differs, a node that knows a version of another holds all that the other held at that
+/// version, and two nodes that know each other's present version hold the same state. And each node
+/// sees each other whole: of what the other wrote it holds all that the other held at one of its
+/// versions, and nothing later.
 pub fn known_versions()
+    ensures reached { KnownVersionIsReached }
     ensures below { KnownVersionIsBelow }
     ensures same { KnownVersionsSameState }
     ensures whole { EachVersionSeesWhole }

@@ -1,6 +1,10 @@
 use Rattle.cluster_model.proofs.KnownVersions.{known_is_below, known_is_same}
 use Rattle.cluster_model.proofs.SeesWhole.{sees_whole}
+use Rattle.cluster_model.proofs.Versions.{marked}
 use Rattle.cluster_model.proofs.laws.known_versions.Goals as goal
+
+pub returns-clause-reached : goal.returns-clause-reached
+returns-clause-reached r c es s i j = (marked c es s).known j i
 
 pub returns-clause-below : goal.returns-clause-below
 returns-clause-below r = known_is_below

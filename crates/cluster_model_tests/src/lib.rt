@@ -1,0 +1,5 @@
+//! What is tested of worlds.
+#![tactic(auto)]
+
+#[cfg(test)]
+mod tests;
