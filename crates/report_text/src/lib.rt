@@ -1,0 +1,11 @@
+//! Reports of what a replica knows of the points of a cluster, as lines for people and as JSON for
+//! programs.
+#![tactic(auto)]
+
+mod json_report;
+pub mod laws;
+mod lines_report;
+mod rows;
+
+pub use json_report::report_json;
+pub use lines_report::report_lines;

@@ -1,0 +1,46 @@
+//! What both reports read of a replica, point by point and term by term.
+
+ghost use Rattle.std.specs.Prelude.{◌≡◌, ℕ, option_map, option_and_then, slice_get};
+ghost use Rattle.stamp_register.specs.Keys.{key_value};
+ghost use Rattle.replica_state.specs.Operations.{count_of};
+ghost use Rattle.report_text.specs.Report.{granted_of, keyed_row, point_row};
+
+use actions::Name;
+use replica_state::Replica;
+use stamp_register::Key;
+
+/// How many terms an action text has at most.
+pub(crate) const MAX_TERMS: u8 = 16;
+
+/// How many node numbers there are.
+const NODE_NUMBERS: u16 = 256;
+
+/// The point at a place of the names, in byte order, if it has a key.
+pub(crate) fn point_at<R: Replica>(replica: &R, index: usize) -> Option<(&Name, &Key)>
+    ensures { (nodes : ℕ) →
+        option_map (λ p. keyed_row (R.state replica.now) nodes p.0.now (key_value p.1.now)) result
+        ≡ option_and_then (point_row (R.state replica.now) nodes)
+        (slice_get (R.state replica.now).names index) }
+{
+    let name = replica.name_at(index)?;
+    let key = replica.key(name)?;
+    Some((name, key))
+}
+
+/// The count of a term, if the key has it and it is counted.
+pub(crate) fn count_of(key: &Key, term: u8) -> Option<u64>
+    ensures { result ≡ count_of (key_value key.now) term }
+{
+    key.actions()?.term(term)?.count
+}
+
+/// What all nodes granted themselves beyond the count of a term.
+pub(crate) fn granted_of<R: Replica>(replica: &R, name: &Name, term: u8) -> u128
+    ensures { result ≡ granted_of (R.state replica.now) name.now term }
+{
+    let mut total = 0u128;
+    for node in 0..NODE_NUMBERS {
+        total += u128::from(replica.granted(name, term, node as u8));
+    }
+    total
+}

@@ -1,0 +1,5 @@
+//! What is tested of reports.
+#![tactic(auto)]
+
+#[cfg(test)]
+mod tests;
