@@ -1,7 +1,9 @@
 //! The command line.
 
-use clap::{Arg, Command, Error};
+use clap::{Arg, ArgAction, Command, Error};
 use std::alloc::{AllocError, Global};
+
+const VERSION: &str = "0.1.0";
 
 const EXAMPLE: &str = "\
 Example:
@@ -46,6 +48,12 @@ Each line of the script, and what it prints where it is accepted:
   deliver <node> <message>            changed, or same where <node> learnt
                                       nothing of it
   list <node>                         the points that are set, perhaps none
+  report <node>                       what <node> knows: of each point a line
+                                      with its stamp and actions, one with its
+                                      hits, and one for each counted term, with
+                                      its count, grants, how often it ran and
+                                      the rights of each node. Where nothing is
+                                      known, nothing
   rights <node> <name> <term> <of>    the rights that node <of> has left, as
                                       <node> sees it
   spent <node> <name> <term>          how often the term ran, as <node> sees it
@@ -66,6 +74,9 @@ with a node that is, `refused NoMessage`. The script goes on, and the status is
 0. It is 1 where the script can't be read, is longer than 16777216 bytes, or
 can't be answered, and the reason stands on standard error.
 
+With --echo each line but the skipped ones stands behind `> ` before what it
+prints: a transcript that reads by itself. No answer begins with `>`.
+
 Example:
   $ printf 'nodes 1 9\\nset 0 a 1*panic->off\\npass 0 a\\npass 0 a\\nhits 0 a\\n' | failreg sim
   set 1.0
@@ -76,8 +87,10 @@ Example:
 /// What the program is asked to do.
 #[derive(Clone, Copy, Debug, PartialEq, Eq)]
 pub enum Invocation<'a> {
+    /// To print the canonical spelling of an action text.
     Parse(&'a str),
-    Sim,
+    /// To run the script on standard input, and perhaps to echo its lines.
+    Sim { echo: bool },
 }
 
 // The words of a command line live as long as the texts of its command.
@@ -90,10 +103,16 @@ fn whole_command<'a>(alloc: Global) -> Result<Command<'a>, AllocError> {
         .about("Prints the canonical spelling of an action text")
         .after_help(PARSE_HELP)
         .arg(text)?;
+    let echo = Arg::new(alloc, "echo")
+        .long("echo")
+        .help("Writes each line of the script before what it prints")
+        .action(ArgAction::SetTrue);
     let sim = Command::new(alloc, "sim")
         .about("Runs the script on standard input, and prints what its lines answer")
-        .after_help(SIM_HELP);
+        .after_help(SIM_HELP)
+        .arg(echo)?;
     Command::new(alloc, "failreg")
+        .version(VERSION)
         .about("Failpoints of a cluster, with shared budgets")
         .after_help(EXAMPLE)
         .subcommand_required(true)
@@ -107,6 +126,9 @@ pub fn read_command_line<'a>(alloc: Global, words: &'a [String]) -> Result<Invoc
     let matches = command.try_get_matches_from(words)?;
     match matches.subcommand() {
         Some(("parse", matches)) => Ok(Invocation::Parse(matches.get_str("text").unwrap_or(""))),
-        _ => Ok(Invocation::Sim),
+        Some((_, matches)) => Ok(Invocation::Sim {
+            echo: matches.get_flag("echo"),
+        }),
+        None => Ok(Invocation::Sim { echo: false }),
     }
 }

@@ -1,10 +1,10 @@
 //! Action texts, and scripts that drive a cluster of failpoint registries.
 #![tactic(auto)]
 
-ghost use Rattle.std.specs.Prelude.{◌≡◌, ◌<◌, ◌⊎◌, true, false, length, IsOk, IfOk};
+ghost use Rattle.std.specs.Prelude.{◌≡◌, ◌<◌, ◌⊎◌, true, false, length, if◌then◌else◌, IsOk, IfOk};
 ghost use Rattle.std.specs.Process.{exit_status};
 ghost use Rattle.actions.specs.Reading.{reading};
-ghost use Rattle.scripts.specs.Script.{script_text};
+ghost use Rattle.scripts.specs.Script.{echoed_text, script_text};
 ghost use Rattle.scripts.specs.Streams.{IfInput, Writes};
 ghost use Rattle.scripts.specs.Watched.{has_failed, has_unflushed};
 ghost use Rattle.failreg.specs.Statuses.{HasStatus, OnStatus};
@@ -15,7 +15,7 @@ mod finish;
 use actions::parse_actions;
 use command_line::{Invocation, read_command_line};
 use finish::{finish_parse, finish_script, finish_unread};
-use scripts::{MOST_BYTES, Watched, run_script};
+use scripts::{MOST_BYTES, Watched, run_script, run_script_echoing};
 use std::io;
 use std::io::{Read, Write};
 use std::process::ExitCode;
@@ -25,10 +25,10 @@ fn main(rt: HostRuntime) -> anyhow::Result<ExitCode> {
     let words: Vec<String> = std::env::args(&rt)?.collect(alloc)?;
     match read_command_line(alloc, words.as_slice()) {
         Ok(Invocation::Parse(text)) => parse(&rt, text),
-        Ok(Invocation::Sim) => {
+        Ok(Invocation::Sim { echo }) => {
             let mut reader = Watched::new(rt.reader());
             let mut writer = Watched::new(io::writer(&rt));
-            sim(&rt, &mut reader, &mut writer)
+            sim(&rt, echo, &mut reader, &mut writer)
         }
         Err(error) => finish_unread(&rt, &error),
     }
@@ -44,9 +44,10 @@ fn parse<R: Print + Eprint + AllocGlobal>(rt: &R, text: &str) -> anyhow::Result<
     finish_parse(rt, actions)
 }
 
-// Runs the script that a reader gives.
+// Runs the script that a reader gives, and may echo its lines.
 fn sim<R: Eprint + AllocGlobal, I: Read, O: Write>(
     rt: &R,
+    echo: bool,
     reader: &mut Watched<I>,
     writer: &mut Watched<O>,
 ) -> anyhow::Result<ExitCode>
@@ -54,7 +55,8 @@ fn sim<R: Eprint + AllocGlobal, I: Read, O: Write>(
     requires writer { has_failed writer.old ≡ false }
     // With status 0 the whole text of what was read is written and flushed.
     ensures done { OnStatus result 0 (IfInput I.remaining reader.old (λ input.
-        Writes O.contents writer.old writer.new (script_text input))) }
+        Writes O.contents writer.old writer.new
+        (if echo then echoed_text input else script_text input))) }
     ensures flushed { OnStatus result 0 (has_unflushed writer.new ≡ false) }
     // A script that is too long, or that can't be read or answered, has status 1.
     ensures read_failed { has_failed reader.new ≡ true → HasStatus result 1 }
@@ -63,6 +65,10 @@ fn sim<R: Eprint + AllocGlobal, I: Read, O: Write>(
         MOST_BYTES < length input → HasStatus result 1) }
     ensures status { IfOk result (λ code. (exit_status code ≡ 0) ⊎ (exit_status code ≡ 1)) }
 {
-    let run = run_script(rt.alloc(), reader, writer);
+    let run = if echo {
+        run_script_echoing(rt.alloc(), reader, writer)
+    } else {
+        run_script(rt.alloc(), reader, writer)
+    };
     finish_script(rt, run)
 }

@@ -4,4 +4,3 @@ pub mod Words
 pub mod Spaces
 pub mod Texts
 pub mod Outputs
-pub mod Emits

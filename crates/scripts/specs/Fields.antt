@@ -1,5 +1,5 @@
 -- Lines, their fields, and the numbers in them, as bytes.
-use Rattle.std.specs.Prelude.{ℕ, Bool, ◌&&◌, ◌==◌, List, length, if◌then◌else◌, nat_lt, nat_le, Option, Some, None}
+use Rattle.std.specs.Prelude.{ℕ, Bool, ◌&&◌, ◌==◌, List, length, if◌then◌else◌, nat_lt, nat_le, Option, Some, None, option_and_then}
 use Rattle.std.specs.List.{slice_split, position_or_len, before_first, after_first, list_all}
 use Rattle.std.specs.Char.{is_ascii_digit}
 use Rattle.std.specs.Str.Parse.{digits_value}
@@ -58,3 +58,21 @@ word_of text = number_of 4294967295 text
 -- an amount of rights
 abbrev pub amount_of : List ℕ → Option ℕ
 amount_of text = number_of 18446744073709551615 text
+
+infixl 10 ◌>>=◌
+abbrev pub ◌>>=◌ : {A B : Type 0} → Option A → (A → Option B) → Option B
+o >>= f = option_and_then f o
+
+-- a field before the first space, and what stands after it
+abbrev pub field_cut_of : List ℕ → Option (List ℕ × List ℕ)
+field_cut_of text = do
+  parts ← cut_of text
+  field ← field_of (parts.0)
+  Some (field, parts.1)
+
+-- the same of a number of a node or a term
+abbrev pub byte_cut_of : List ℕ → Option (ℕ × List ℕ)
+byte_cut_of text = do
+  parts ← cut_of text
+  number ← byte_of (parts.0)
+  Some (number, parts.1)

@@ -3,6 +3,6 @@ pub mod Streams
 pub mod Fields
 pub mod Commands
 pub mod Replies
-pub mod Clusters
+pub mod Questions
 pub mod Script
 pub mod FaultText

@@ -1,10 +1,13 @@
--- The texts of what a cluster answers.
-use Rattle.std.specs.Prelude.{◌≡◌, ℕ, Bool, Result, OnOk, List, [], ◌∷◌, ◌++◌, if◌then◌else◌, codes, decimal, String, string_bytes}
+-- The texts of what the events of a cluster are answered.
+use Rattle.std.specs.Prelude.{◌≡◌, ℕ, Bool, Result, Ok, Err, OnOk, List, [], ◌∷◌, ◌++◌, if◌then◌else◌, codes, decimal, String, string_bytes}
 use Rattle.std.specs.declared.alloc.Global.{Global}
 use Rattle.actions.specs.Canonical.{task_text}
 use Rattle.stamp_register.specs.declared.key.Stamp.{Stamp}
 use Rattle.stamp_register.specs.Keys.{stamp_text}
 use Rattle.node_core.specs.Asks.{Passed, Unset, NoTerm, Act, Answered, IsSet, IsRemoved, IsLoaded, IsPassed, IsShifted, IsGranted, IsEmitted, IsDelivered}
+use Rattle.cluster_model.specs.declared.fault.WorldFault.{WorldFault}
+use Rattle.cluster_model.specs.Events.{Answer}
+use Rattle.cluster_model.specs.FaultText.{world_fault_text}
 use Rattle.scripts.specs.Fields.{newline}
 
 abbrev pub set_text : Stamp → List ℕ
@@ -40,27 +43,24 @@ message_text message = codes "message " ++ decimal message
 abbrev pub delivered_text : Bool → List ℕ
 delivered_text changed = if changed then codes "changed" else codes "same"
 
--- what an accepted call answers, but an emit, whose message the cluster numbers
-abbrev pub answer_text : Answered → List ℕ
-answer_text (IsSet stamp) = set_text stamp
-answer_text (IsRemoved stamp) = removed_text stamp
-answer_text (IsLoaded entries) = loaded_text entries
-answer_text (IsPassed reply) = pass_text reply
-answer_text (IsShifted total) = shifted_text total
-answer_text (IsGranted total) = granted_text total
-answer_text (IsDelivered changed) = delivered_text changed
-answer_text (IsEmitted read) = []
+-- the text of a reply, where so many messages were made before
+abbrev pub reply_text : ℕ → Answered → List ℕ
+reply_text messages (IsSet stamp) = set_text stamp
+reply_text messages (IsRemoved stamp) = removed_text stamp
+reply_text messages (IsLoaded entries) = loaded_text entries
+reply_text messages (IsPassed reply) = pass_text reply
+reply_text messages (IsShifted total) = shifted_text total
+reply_text messages (IsGranted total) = granted_text total
+reply_text messages (IsEmitted read) = message_text messages
+reply_text messages (IsDelivered changed) = delivered_text changed
 
-abbrev pub refused_text : List ℕ → List ℕ
-refused_text fault = codes "refused " ++ fault
+abbrev pub refused_text : WorldFault → List ℕ
+refused_text fault = codes "refused " ++ world_fault_text fault
 
--- of a call of a node that there isn't
-abbrev pub no_node_text : List ℕ
-no_node_text = refused_text (codes "NoNode")
-
--- of a delivery of a message that there isn't
-abbrev pub no_message_text : List ℕ
-no_message_text = refused_text (codes "NoMessage")
+-- of a reply or a refusal
+abbrev pub answer_text : ℕ → Answer → List ℕ
+answer_text messages (Ok reply) = reply_text messages reply
+answer_text messages (Err fault) = refused_text fault
 
 -- of a line that asks for nothing
 abbrev pub bad_line_text : List ℕ

@@ -1,13 +1,16 @@
 -- What a script prints: its lines are answered one after the other, each by the cluster that those
 -- before it left.
-use Rattle.std.specs.Prelude.{ℕ, Bool, ◌==◌, ◌||◌, List, [], ◌∷◌, ◌++◌, length, slice_index, if◌then◌else◌, Option, Some, None}
+use Rattle.std.specs.Prelude.{ℕ, Bool, ◌==◌, ◌||◌, List, [], ◌∷◌, ◌++◌, length, slice_index, if◌then◌else◌, Option, Some, None, codes}
 use Rattle.std.specs.Str.{is_utf8}
 use Rattle.node_core.specs.declared.fault.NodeFault.TheVariants.{BadConfig}
-use Rattle.node_core.specs.Texts.{node_fault_text}
-use Rattle.scripts.specs.Fields.{lines_of}
-use Rattle.scripts.specs.Commands.{CommandValue, nodes, ask, emit, deliver, command_of, ◌>>=◌}
-use Rattle.scripts.specs.Replies.{refused_text, bad_line_text, output_line}
-use Rattle.scripts.specs.Clusters.{is_cluster_size, ClusterValue, new_cluster, ask_text, cluster_after_ask, emit_text, cluster_after_emit, delivery_text, cluster_after_deliver}
+use Rattle.cluster_model.specs.declared.fault.WorldFault.TheVariants.{Refused}
+use Rattle.cluster_model.specs.Worlds.{is_cluster_size}
+use Rattle.cluster_model.specs.Events.{WorldValue, EventValue, new_world, answer}
+use Rattle.cluster_model.specs.Runs.{after_answer}
+use Rattle.scripts.specs.Fields.{◌>>=◌, lines_of}
+use Rattle.scripts.specs.Commands.{CommandValue, nodes, event, question, command_of}
+use Rattle.scripts.specs.Replies.{answer_text, refused_text, bad_line_text, output_line}
+use Rattle.scripts.specs.Questions.{asked_output}
 
 abbrev pub hash_sign : ℕ
 hash_sign = 35
@@ -23,58 +26,67 @@ text_in line = if is_utf8 line then Some line else None
 abbrev pub command_in : List ℕ → Option CommandValue
 command_in line = text_in line >>= command_of
 
--- of a cluster that can't have so many nodes
-abbrev pub bad_size_text : List ℕ
-bad_size_text = refused_text (node_fault_text BadConfig)
+-- an event has the answer of the cluster that it comes to; and what is refused changes nothing
+abbrev pub event_text : WorldValue → EventValue → List ℕ
+event_text w e = answer_text (length w.messages) (answer w e)
+
+abbrev pub after_event : WorldValue → EventValue → WorldValue
+after_event w e = after_answer w e (answer w e)
 
 -- what a command prints, and the cluster after it; a cluster is made once, and before that nothing
 -- else is answered
-abbrev pub command_output : Option ClusterValue → CommandValue → List ℕ
+abbrev pub command_output : Option WorldValue → CommandValue → List ℕ
 command_output None (nodes count cap) =
-    if is_cluster_size count then [] else output_line bad_size_text
-command_output None (ask node request) = output_line bad_line_text
-command_output None (emit node to) = output_line bad_line_text
-command_output None (deliver node message) = output_line bad_line_text
-command_output (Some cluster) (nodes count cap) = output_line bad_line_text
-command_output (Some cluster) (ask node request) = output_line (ask_text cluster node request)
-command_output (Some cluster) (emit node to) = output_line (emit_text cluster node to)
-command_output (Some cluster) (deliver node message) =
-    output_line (delivery_text cluster node message)
+    if is_cluster_size count then [] else output_line (refused_text (Refused BadConfig))
+command_output None (event e) = output_line bad_line_text
+command_output None (question node asked) = output_line bad_line_text
+command_output (Some w) (nodes count cap) = output_line bad_line_text
+command_output (Some w) (event e) = output_line (event_text w e)
+command_output (Some w) (question node asked) = asked_output w node asked
 
-abbrev pub cluster_after : Option ClusterValue → CommandValue → Option ClusterValue
-cluster_after None (nodes count cap) =
-    if is_cluster_size count then Some (new_cluster count cap) else None
-cluster_after None (ask node request) = None
-cluster_after None (emit node to) = None
-cluster_after None (deliver node message) = None
-cluster_after (Some cluster) (nodes count cap) = Some cluster
-cluster_after (Some cluster) (ask node request) = Some (cluster_after_ask cluster node request)
-cluster_after (Some cluster) (emit node to) = Some (cluster_after_emit cluster node to)
-cluster_after (Some cluster) (deliver node message) =
-    Some (cluster_after_deliver cluster node message)
+abbrev pub after_command : Option WorldValue → CommandValue → Option WorldValue
+after_command None (nodes count cap) =
+    if is_cluster_size count then Some (new_world (record { nodes = count; trace_cap = cap })) else None
+after_command None (event e) = None
+after_command None (question node asked) = None
+after_command (Some w) (nodes count cap) = Some w
+after_command (Some w) (event e) = Some (after_event w e)
+after_command (Some w) (question node asked) = Some w
 
 -- the same of a line that isn't skipped
-abbrev pub asked_output : Option ClusterValue → Option CommandValue → List ℕ
-asked_output cluster None = output_line bad_line_text
-asked_output cluster (Some command) = command_output cluster command
+abbrev pub read_output : Option WorldValue → Option CommandValue → List ℕ
+read_output w None = output_line bad_line_text
+read_output w (Some command) = command_output w command
 
-abbrev pub cluster_after_asked : Option ClusterValue → Option CommandValue → Option ClusterValue
-cluster_after_asked cluster None = cluster
-cluster_after_asked cluster (Some command) = cluster_after cluster command
+abbrev pub after_read : Option WorldValue → Option CommandValue → Option WorldValue
+after_read w None = w
+after_read w (Some command) = after_command w command
 
 -- the same of any line
-abbrev pub line_output : Option ClusterValue → List ℕ → List ℕ
-line_output cluster line = if is_skipped line then [] else asked_output cluster (command_in line)
+abbrev pub line_output : Option WorldValue → List ℕ → List ℕ
+line_output w line = if is_skipped line then [] else read_output w (command_in line)
 
-abbrev pub cluster_after_line : Option ClusterValue → List ℕ → Option ClusterValue
-cluster_after_line cluster line =
-    if is_skipped line then cluster else cluster_after_asked cluster (command_in line)
+abbrev pub after_line : Option WorldValue → List ℕ → Option WorldValue
+after_line w line = if is_skipped line then w else after_read w (command_in line)
 
-abbrev pub text_from : Option ClusterValue → List (List ℕ) → List ℕ
-text_from cluster [] = []
-text_from cluster (line ∷ lines) =
-    line_output cluster line ++ text_from (cluster_after_line cluster line) lines
+-- a line as it is echoed, unless it is skipped
+abbrev pub echo_of : List ℕ → List ℕ
+echo_of line = if is_skipped line then [] else codes "> " ++ output_line line
+
+-- the line, and what it prints
+abbrev pub echoed_output : Option WorldValue → List ℕ → List ℕ
+echoed_output w line = echo_of line ++ line_output w line
+
+-- what lines give so, each by the cluster that those before it left
+abbrev pub text_from :
+    (Option WorldValue → List ℕ → List ℕ) → Option WorldValue → List (List ℕ) → List ℕ
+text_from output w [] = []
+text_from output w (line ∷ lines) = output w line ++ text_from output (after_line w line) lines
 
 -- a script begins without a cluster
 unfoldable pub script_text : List ℕ → List ℕ
-script_text script = text_from None (lines_of script)
+script_text script = text_from line_output None (lines_of script)
+
+-- with each line before what it prints
+unfoldable pub echoed_text : List ℕ → List ℕ
+echoed_text script = text_from echoed_output None (lines_of script)

@@ -3,7 +3,7 @@
 ghost use Rattle.std.specs.Prelude.{◌≡◌, ◌≤◌, option_map, IfSome};
 ghost use Rattle.std.specs.List.{list_all, position};
 ghost use Rattle.std.specs.Char.{is_ascii_digit};
-ghost use Rattle.scripts.specs.Fields.{is_space, cut_of, field_of, number_of, byte_of, word_of, amount_of};
+ghost use Rattle.scripts.specs.Fields.{is_space, cut_of, field_of, number_of, byte_of, word_of, amount_of, field_cut_of, byte_cut_of};
 
 // Out of line, so that the searches of a line share one short loop.
 #[inline(never)]
@@ -74,4 +74,22 @@ pub fn amount(text: &str) -> Option<u64>
     ensures { result ≡ amount_of text.now }
 {
     number(text, u64::MAX)
+}
+
+/// A field before the first space, and what stands after it.
+pub fn cut_field(text: &str) -> Option<(&str, &str)>
+    ensures { option_map (λ parts. (parts.0.now, parts.1.now)) result ≡ field_cut_of text.now }
+{
+    let (front, rest) = cut(text)?;
+    let front = field(front)?;
+    Some((front, rest))
+}
+
+/// The number of a node or a term before the first space, and what stands after it.
+pub fn cut_byte(text: &str) -> Option<(u8, &str)>
+    ensures { option_map (λ parts. (parts.0, parts.1.now)) result ≡ byte_cut_of text.now }
+{
+    let (front, rest) = cut(text)?;
+    let number = byte(front)?;
+    Some((number, rest))
 }

@@ -2,10 +2,10 @@
 //! answered, and a run from a reader to a writer.
 #![tactic(auto)]
 
-mod cluster;
 mod command;
 mod fault;
 mod fields;
+mod question;
 mod reply;
 mod run;
 mod script;
@@ -13,6 +13,6 @@ mod streams;
 mod watched;
 
 pub use fault::ScriptFault;
-pub use run::run_script;
+pub use run::{run_script, run_script_echoing};
 pub use streams::MOST_BYTES;
 pub use watched::Watched;

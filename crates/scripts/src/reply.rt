@@ -1,17 +1,17 @@
-//! What a line is answered, as a line of the output.
+//! What an event is answered, as a line of the output.
 
-ghost use Rattle.std.specs.Prelude.{◌≡◌, ◌≢◌, IfOk, IsOk, OnOk};
-ghost use Rattle.node_core.specs.Asks.{passed};
-ghost use Rattle.node_core.specs.Texts.{node_fault_text};
+ghost use Rattle.std.specs.Prelude.{◌≡◌, ◌≢◌, ℕ, IfOk, IsOk, OnOk};
+ghost use Rattle.node_core.specs.Asks.{passed, reply_value};
 ghost use Rattle.node_core.specs.declared.fault.NodeFault.TheVariants.{OutOfMemory};
-ghost use Rattle.scripts.specs.Replies.{PrintsLine, bad_line_text, no_node_text, pass_text, refused_text};
+ghost use Rattle.cluster_model.specs.declared.fault.WorldFault.TheVariants.{Refused};
+ghost use Rattle.scripts.specs.Replies.{PrintsLine, bad_line_text, pass_text, refused_text, reply_text};
 
-use node_core::{NodeFault, PassReply};
+use cluster_model::WorldFault;
+use node_core::{NodeFault, PassReply, Reply};
 use std::alloc::AllocError;
 use std::fmt::Write;
 
-/// Prints what a pass is answered.
-pub fn print_pass(out: &mut String, reply: &PassReply) -> Result<(), AllocError>
+fn print_pass(out: &mut String, reply: &PassReply) -> Result<(), AllocError>
     ensures { PrintsLine result out.old out.new (pass_text (passed reply.now)) }
 {
     match reply {
@@ -30,31 +30,42 @@ pub fn print_pass(out: &mut String, reply: &PassReply) -> Result<(), AllocError>
     }
 }
 
-/// Why a call is refused; want of memory is no reply.
-fn refusal_of(fault: NodeFault) -> Result<NodeFault, AllocError>
-    ensures reply { IfOk result (λ refusal. (refusal ≡ fault) × (fault ≢ OutOfMemory)) }
-    ensures any { fault ≢ OutOfMemory → IsOk result }
+/// Prints a reply. A message has the number of those that were made before it.
+pub fn print_reply(out: &mut String, reply: &Reply, messages: usize) -> Result<(), AllocError>
+    ensures { (nodes : ℕ) → PrintsLine result out.old out.new
+        (reply_text messages (reply_value nodes reply.now)) }
+{
+    match reply {
+        Reply::Pass(reply) => print_pass(out, reply),
+        Reply::Set(stamp) => writeln!(out, "set {stamp}"),
+        Reply::Remove(stamp) => writeln!(out, "removed {stamp}"),
+        Reply::Load(entries) => writeln!(out, "loaded {entries}"),
+        Reply::Shift(total) => writeln!(out, "shifted {total}"),
+        Reply::Grant(total) => writeln!(out, "granted {total}"),
+        Reply::Emit(_) => writeln!(out, "message {messages}"),
+        Reply::Deliver(true) => writeln!(out, "changed"),
+        Reply::Deliver(false) => writeln!(out, "same"),
+    }
+}
+
+/// Why something is refused; want of memory is no reply.
+fn refusal_of(fault: WorldFault) -> Result<WorldFault, AllocError>
+    ensures reply { IfOk result (λ refusal. (refusal ≡ fault) × (fault ≢ Refused OutOfMemory)) }
+    ensures any { fault ≢ Refused OutOfMemory → IsOk result }
 {
     match fault {
-        NodeFault::OutOfMemory => Err(AllocError),
+        WorldFault::Refused(NodeFault::OutOfMemory) => Err(AllocError),
         fault => Ok(fault),
     }
 }
 
-/// Prints what a refused call is answered.
-pub fn print_refusal(out: &mut String, fault: NodeFault) -> Result<(), AllocError>
-    ensures line { PrintsLine result out.old out.new (refused_text (node_fault_text fault)) }
-    ensures memory { OnOk result (fault ≢ OutOfMemory) }
+/// Prints why something is refused.
+pub fn print_refusal(out: &mut String, fault: WorldFault) -> Result<(), AllocError>
+    ensures line { PrintsLine result out.old out.new (refused_text fault) }
+    ensures memory { OnOk result (fault ≢ Refused OutOfMemory) }
 {
     let refusal = refusal_of(fault)?;
     writeln!(out, "refused {refusal}")
-}
-
-/// Prints what a call of a node that there isn't is answered.
-pub fn print_no_node(out: &mut String) -> Result<(), AllocError>
-    ensures { PrintsLine result out.old out.new no_node_text }
-{
-    writeln!(out, "refused NoNode")
 }
 
 /// Prints what a line that asks for nothing is answered.

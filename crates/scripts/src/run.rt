@@ -3,11 +3,11 @@
 ghost use Rattle.std.specs.Prelude.{◌≡◌, ◌≢◌, ◌+◌, ◌<◌, ◌↔◌, ◌⊎◌, true, false, length, IfErr, OnOk};
 ghost use Rattle.scripts.specs.declared.fault.ScriptFault.TheVariants.{OutOfMemory, ReadFailed, TooLong, WriteFailed};
 ghost use Rattle.scripts.specs.Watched.{has_failed, has_unflushed};
-ghost use Rattle.scripts.specs.Script.{script_text};
+ghost use Rattle.scripts.specs.Script.{echoed_text, script_text};
 ghost use Rattle.scripts.specs.Streams.{IfInput, ReadsUpTo, Writes, WritesPrefix};
 
 use crate::fault::ScriptFault;
-use crate::script::output_of;
+use crate::script::{echoed_output_of, output_of};
 use crate::streams::{MOST_BYTES, read_script, write_text};
 use crate::watched::Watched;
 use std::alloc::Global;
@@ -48,4 +48,43 @@ pub fn run_script<R: Read, W: Write>(
     let script = read_script(alloc, reader)?;
     let text = output_of(alloc, script.as_slice())?;
     write_text(writer, text.as_bytes())
+}
+
+/// Runs the script that a reader gives, and writes what it prints as a transcript for people:
+/// before what a line prints stands the line itself, behind `> `. Lines that are skipped are left
+/// out.
+///
+/// The whole text is known before the first byte is written, so that want of memory writes none.
+pub fn run_script_echoing<R: Read, W: Write>(
+    alloc: Global,
+    reader: &mut Watched<R>,
+    writer: &mut Watched<W>,
+) -> Result<(), ScriptFault>
+    requires reader { has_failed reader.old ≡ false }
+    requires writer { has_failed writer.old ≡ false }
+
+    // The transcript of what was read is written, and nothing else.
+    ensures ok { OnOk result (IfInput R.remaining reader.old (λ input.
+        Writes W.contents writer.old writer.new (echoed_text input))) }
+    // All that was written is flushed.
+    ensures flushed { OnOk result (has_unflushed writer.new ≡ false) }
+    // Where a write failed, a prefix of it.
+    ensures prefix { result ≡ Err WriteFailed → IfInput R.remaining reader.old (λ input.
+        WritesPrefix W.contents writer.old writer.new (echoed_text input)) }
+    // After any other fault the writer is as it was.
+    ensures unwritten { IfErr result (λ fault. fault ≢ WriteFailed → writer.new ≡ writer.old) }
+
+    ensures read_failed { (result ≡ Err ReadFailed) ↔ (has_failed reader.new ≡ true) }
+    ensures write_failed { (result ≡ Err WriteFailed) ↔ (has_failed writer.new ≡ true) }
+    // A longer script is too long, but where a read failed or memory was refused before; no other
+    // is.
+    ensures long { IfInput R.remaining reader.old (λ input. MOST_BYTES < length input →
+        (result ≡ Err TooLong) ⊎ (has_failed reader.new ≡ true) ⊎ (result ≡ Err OutOfMemory)) }
+    ensures too_long { result ≡ Err TooLong →
+        IfInput R.remaining reader.old (λ input. MOST_BYTES < length input) }
+    ensures taken { ReadsUpTo (MOST_BYTES + 1) R.remaining reader.old reader.new }
+{
+    let script = read_script(alloc, reader)?;
+    let text = echoed_output_of(alloc, script.as_slice())?;
+    write_text(writer, text.as_slice())
 }

@@ -1,74 +1,91 @@
 //! The text that a script prints.
 
-ghost use Rattle.std.specs.Prelude.{◌≡◌, Some, None, Ok, IfOk, OnOk, option_map, string_bytes};
+ghost use Rattle.std.specs.Prelude.{◌≡◌, ◌++◌, Some, None, Ok, IfOk, OnOk, option_map, string_bytes};
+ghost use Rattle.cluster_model.specs.Events.{event_value};
 ghost use Rattle.scripts.specs.Commands.{command_value, nodes};
-ghost use Rattle.scripts.specs.Replies.{Prints};
-ghost use Rattle.scripts.specs.Script.{text_in, command_in, command_output, cluster_after, line_output, cluster_after_line, script_text};
+ghost use Rattle.scripts.specs.Replies.{Prints, PrintsLine};
+ghost use Rattle.scripts.specs.Script.{is_skipped, text_in, command_in, event_text, after_event, command_output, after_command, line_output, after_line, script_text, echo_of, echoed_output, echoed_text};
 
-use crate::cluster::Cluster;
 use crate::command::{Command, read_command};
-use crate::reply::{print_bad_line, print_refusal};
+use crate::question::ask;
+use crate::reply::{print_bad_line, print_refusal, print_reply};
+use cluster_model::{Event, World};
 use std::alloc::{AllocError, Global};
 
-fn start_cluster(
+fn start_world(
     alloc: Global,
-    cluster: &mut Option<Cluster>,
+    world: &mut Option<World>,
     count: u8,
     trace_cap: u32,
     out: &mut String,
 ) -> Result<(), AllocError>
-    requires { cluster.old ≡ None }
+    requires { world.old ≡ None }
     ensures output { Prints result out.old out.new (command_output None (nodes count trace_cap)) }
-    ensures cluster { OnOk result (cluster.new ≡ cluster_after None (nodes count trace_cap)) }
+    ensures world { OnOk result (world.new ≡ after_command None (nodes count trace_cap)) }
 {
-    match Cluster::new(alloc, count, trace_cap) {
+    match World::new(alloc, count, trace_cap) {
         Ok(made) => {
-            *cluster = Some(made);
+            *world = Some(made);
             Ok(())
         }
+        Err(fault) => print_refusal(out, fault.into()),
+    }
+}
+
+fn run_event(
+    alloc: Global,
+    world: &mut World,
+    event: &Event<'_>,
+    out: &mut String,
+) -> Result<(), AllocError>
+    ensures output { PrintsLine result out.old out.new
+        (event_text world.old (event_value event.now)) }
+    ensures world { OnOk result (world.new ≡ after_event world.old (event_value event.now)) }
+{
+    let messages = world.messages();
+    match world.record(alloc, event) {
+        Ok(()) => match world.last_reply(event.node()) {
+            Some(reply) => print_reply(out, reply, messages),
+            None => unreachable!(),
+        },
         Err(fault) => print_refusal(out, fault),
     }
 }
 
-fn run_command_on(
+fn run_command_in(
     alloc: Global,
-    cluster: &mut Cluster,
+    world: &mut World,
     command: Command<'_>,
     out: &mut String,
 ) -> Result<(), AllocError>
     ensures output { Prints result out.old out.new
-        (command_output (Some cluster.old) (command_value command.entry)) }
-    ensures cluster { OnOk result (
-        Some cluster.new ≡ cluster_after (Some cluster.old) (command_value command.entry)) }
+        (command_output (Some world.old) (command_value command.entry)) }
+    ensures world { OnOk result (
+        Some world.new ≡ after_command (Some world.old) (command_value command.entry)) }
 {
     match command {
         Command::Nodes { .. } => print_bad_line(out),
-        Command::Ask { node, request } => cluster.ask(alloc, node, request, out),
-        Command::Emit { node, to } => cluster.emit(alloc, node, to, out),
-        Command::Deliver { node, message } => cluster.deliver(alloc, node, message, out),
+        Command::Event(event) => run_event(alloc, world, &event, out),
+        Command::Question { node, question } => ask(alloc, world, node, question, out),
     }
 }
 
 fn run_command(
     alloc: Global,
-    cluster: &mut Option<Cluster>,
+    world: &mut Option<World>,
     command: Command<'_>,
     out: &mut String,
 ) -> Result<(), AllocError>
     ensures output { Prints result out.old out.new
-        (command_output cluster.old (command_value command.entry)) }
-    ensures cluster { OnOk result (
-        cluster.new ≡ cluster_after cluster.old (command_value command.entry)) }
+        (command_output world.old (command_value command.entry)) }
+    ensures world { OnOk result (
+        world.new ≡ after_command world.old (command_value command.entry)) }
 {
-    match cluster {
-        Some(cluster) => run_command_on(alloc, cluster, command, out),
+    match world {
+        Some(world) => run_command_in(alloc, world, command, out),
         None => match command {
-            Command::Nodes { count, trace_cap } => {
-                start_cluster(alloc, cluster, count, trace_cap, out)
-            }
-            Command::Ask { .. } | Command::Emit { .. } | Command::Deliver { .. } => {
-                print_bad_line(out)
-            }
+            Command::Nodes { count, trace_cap } => start_world(alloc, world, count, trace_cap, out),
+            Command::Event(_) | Command::Question { .. } => print_bad_line(out),
         },
     }
 }
@@ -91,20 +108,27 @@ fn line_command(alloc: Global, line: &[u8]) -> Result<Option<Command<'_>>, Alloc
     read_command(alloc, text)
 }
 
+// Whether a line is empty or a comment, whatever its bytes.
+fn is_skipped(line: &[u8]) -> bool
+    ensures { result ≡ is_skipped line.now }
+{
+    line.is_empty() || line[0] == b'#'
+}
+
 fn run_line(
     alloc: Global,
-    cluster: &mut Option<Cluster>,
+    world: &mut Option<World>,
     line: &[u8],
     out: &mut String,
 ) -> Result<(), AllocError>
-    ensures output { Prints result out.old out.new (line_output cluster.old line.now) }
-    ensures cluster { OnOk result (cluster.new ≡ cluster_after_line cluster.old line.now) }
+    ensures output { Prints result out.old out.new (line_output world.old line.now) }
+    ensures world { OnOk result (world.new ≡ after_line world.old line.now) }
 {
-    if line.is_empty() || line[0] == b'#' {
+    if is_skipped(line) {
         return Ok(());
     }
     match line_command(alloc, line)? {
-        Some(command) => run_command(alloc, cluster, command, out),
+        Some(command) => run_command(alloc, world, command, out),
         None => print_bad_line(out),
     }
 }
@@ -113,10 +137,52 @@ fn run_line(
 pub fn output_of(alloc: Global, script: &[u8]) -> Result<String, AllocError>
     ensures { IfOk result (λ text. string_bytes text ≡ script_text script.now) }
 {
-    let mut cluster = None;
+    let mut world = None;
     let mut out = String::new(alloc);
     for line in script.split(|byte| *byte == b'\n') {
-        run_line(alloc, &mut cluster, line, &mut out)?;
+        run_line(alloc, &mut world, line, &mut out)?;
+    }
+    Ok(out)
+}
+
+// Puts a line behind `> `, unless it is skipped.
+fn push_echo(out: &mut Vec<u8>, line: &[u8]) -> Result<(), AllocError>
+    ensures { OnOk result (out.new.items ≡ out.old.items ++ echo_of line.now) }
+{
+    if is_skipped(line) {
+        return Ok(());
+    }
+    out.extend_from_slice(b"> ")?;
+    out.extend_from_slice(line)?;
+    out.push(b'\n')?;
+    Ok(())
+}
+
+// Puts what a line prints, behind the line.
+fn echo_line(
+    alloc: Global,
+    world: &mut Option<World>,
+    line: &[u8],
+    out: &mut Vec<u8>,
+) -> Result<(), AllocError>
+    ensures output { OnOk result (
+        out.new.items ≡ out.old.items ++ echoed_output world.old line.now) }
+    ensures world { OnOk result (world.new ≡ after_line world.old line.now) }
+{
+    push_echo(out, line)?;
+    let mut text = String::new(alloc);
+    run_line(alloc, world, line, &mut text)?;
+    out.extend_from_slice(text.as_bytes())
+}
+
+/// What a script prints, with each line before its answer. The bytes of a line may be no text.
+pub fn echoed_output_of(alloc: Global, script: &[u8]) -> Result<Vec<u8>, AllocError>
+    ensures { IfOk result (λ text. text.items ≡ echoed_text script.now) }
+{
+    let mut world = None;
+    let mut out = Vec::new(alloc);
+    for line in script.split(|byte| *byte == b'\n') {
+        echo_line(alloc, &mut world, line, &mut out)?;
     }
     Ok(out)
 }

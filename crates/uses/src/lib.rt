@@ -2,19 +2,23 @@
 #![tactic(auto)]
 
 mod actions_caller;
+mod cluster_model_caller;
 mod counters_caller;
 mod delta_exchange_caller;
 mod lattice_laws_caller;
 mod node_core_caller;
 mod replica_state_caller;
+mod report_text_caller;
 mod scripts_caller;
 mod stamp_register_caller;
 
 pub use crate::actions_caller::shortest;
+pub use crate::cluster_model_caller::drill;
 pub use crate::counters_caller::take_in;
 pub use crate::delta_exchange_caller::written_again;
 pub use crate::lattice_laws_caller::learn;
 pub use crate::node_core_caller::pass_and_count;
 pub use crate::replica_state_caller::{hits_under, spend};
+pub use crate::report_text_caller::{report_alike, report_to_read};
 pub use crate::scripts_caller::run_text;
 pub use crate::stamp_register_caller::removal_of;

@@ -1,6 +1,6 @@
 //! A caller of `replica_state`.
 
-ghost use Rattle.std.specs.Prelude.{◌≡◌, ◌+◌, ◌<◌, ◌^◌, ℕ, Some, true, false, IfOk, OnOk};
+ghost use Rattle.std.specs.Prelude.{◌≡◌, ◌+◌, ◌<◌, ◌^◌, Some, true, false, IfOk, OnOk};
 ghost use Rattle.replica_state.specs.Knowledge.{is_upto};
 ghost use Rattle.replica_state.specs.States.{total_hits, with_key, with_pass};
 ghost use Rattle.stamp_register.specs.Keys.{key_value};
@@ -38,7 +38,7 @@ pub fn spend<R: Replica>(
     term: u8,
 ) -> Result<bool, AllocError>
     requires hits { (R.state replica.old).hits name.now node + 1 < 2 ^ 64 }
-    requires execs { (k : ℕ) → (R.state replica.old).execs name.now k node + 1 < 2 ^ 64 }
+    requires execs { (R.state replica.old).execs name.now term node + 1 < 2 ^ 64 }
     ensures { IfOk result (λ counted. counted ≡ true
         → R.state replica.new ≡ with_pass name.now node (Some term) (R.state replica.old)) }
 {

@@ -1,6 +1,6 @@
 //! Scripts of great length, and readers and writers that fail in mid-stream.
 
-use scripts::{ScriptFault, Watched, run_script};
+use scripts::{ScriptFault, Watched, run_script, run_script_echoing};
 use std::alloc::Global;
 use std::io;
 use std::io::{ErrorKind, Read, Write};
@@ -32,6 +32,31 @@ act 1.0 1 panic
 3
 4
 refused N14 BadWords need=1
+p=20%3*print(still alive!)->panic
+";
+
+// The same with its lines.
+const STORED_TRANSCRIPT: &str = "\
+> nodes 1 100
+> set 0 p 20%3*print(still alive!)->panic
+set 1.0
+> pass 0 p 0
+act 1.0 0 print(still alive!)
+> pass 0 p 0
+act 1.0 0 print(still alive!)
+> pass 0 p 0
+act 1.0 0 print(still alive!)
+> pass 0 p 0
+act 1.0 1 panic
+> rights 0 p 0 0
+0
+> spent 0 p 0
+3
+> hits 0 p
+4
+> pass 0 p
+refused N14 BadWords need=1
+> list 0
 p=20%3*print(still alive!)->panic
 ";
 
@@ -89,16 +114,21 @@ impl Write for Narrow {
     }
 }
 
-// Runs a script over a writer: what it answers, whether the writer failed, and whether it has
-// bytes that aren't flushed.
+// Runs a script over a writer, and may echo its lines: what it answers, whether the writer failed,
+// and whether it has bytes that aren't flushed.
 fn run_into(
     alloc: Global,
     script: &str,
+    echo: bool,
     narrow: &mut Narrow,
 ) -> (Result<(), ScriptFault>, bool, bool) {
     let mut reader = Watched::new(script.as_bytes());
     let mut writer = Watched::new(narrow);
-    let result = run_script(alloc, &mut reader, &mut writer);
+    let result = if echo {
+        run_script_echoing(alloc, &mut reader, &mut writer)
+    } else {
+        run_script(alloc, &mut reader, &mut writer)
+    };
     (result, writer.failed(), writer.unflushed())
 }
 
@@ -142,8 +172,12 @@ fn a_read_fails(rt: HostRuntime) -> Result<(), Fail> {
 
 #[test]
 fn a_write_stops(rt: HostRuntime) -> Result<(), Fail> {
-    for fails in [false, true] {
-        for room in 0..STORED_OUTPUT.len() + 1 {
+    for (fails, echo, output) in [
+        (false, false, STORED_OUTPUT),
+        (true, false, STORED_OUTPUT),
+        (true, true, STORED_TRANSCRIPT),
+    ] {
+        for room in 0..output.len() + 1 {
             let mut narrow = Narrow {
                 taken: Vec::new(rt.alloc()),
                 room,
@@ -151,14 +185,14 @@ fn a_write_stops(rt: HostRuntime) -> Result<(), Fail> {
                 flushes: 0,
                 flush_fails: false,
             };
-            let ended = run_into(rt.alloc(), STORED, &mut narrow);
-            let want = if room < STORED_OUTPUT.len() {
+            let ended = run_into(rt.alloc(), STORED, echo, &mut narrow);
+            let want = if room < output.len() {
                 (Err(ScriptFault::WriteFailed), true, room > 0)
             } else {
                 (Ok(()), false, false)
             };
             assert_eq!(rt; ended, want);
-            assert_eq!(rt; narrow.taken.as_slice(), &STORED_OUTPUT.as_bytes()[..room]);
+            assert_eq!(rt; narrow.taken.as_slice(), &output.as_bytes()[..room]);
         }
     }
     Ok(())
@@ -168,11 +202,20 @@ fn a_write_stops(rt: HostRuntime) -> Result<(), Fail> {
 #[test]
 fn a_run_ends_with_a_flush(rt: HostRuntime) -> Result<(), Fail> {
     let refused = Err(ScriptFault::WriteFailed);
-    for (script, output, flush_fails, want) in [
-        (STORED, STORED_OUTPUT, false, (Ok(()), false, false)),
-        (STORED, STORED_OUTPUT, true, (refused, true, true)),
-        ("", "", false, (Ok(()), false, false)),
-        ("", "", true, (refused, true, false)),
+    for (script, echo, output, flush_fails, want) in [
+        (STORED, false, STORED_OUTPUT, false, (Ok(()), false, false)),
+        (STORED, false, STORED_OUTPUT, true, (refused, true, true)),
+        (
+            STORED,
+            true,
+            STORED_TRANSCRIPT,
+            false,
+            (Ok(()), false, false),
+        ),
+        (STORED, true, STORED_TRANSCRIPT, true, (refused, true, true)),
+        ("", false, "", false, (Ok(()), false, false)),
+        ("", false, "", true, (refused, true, false)),
+        ("", true, "", false, (Ok(()), false, false)),
     ] {
         let mut narrow = Narrow {
             taken: Vec::new(rt.alloc()),
@@ -181,7 +224,7 @@ fn a_run_ends_with_a_flush(rt: HostRuntime) -> Result<(), Fail> {
             flushes: 0,
             flush_fails,
         };
-        let ended = run_into(rt.alloc(), script, &mut narrow);
+        let ended = run_into(rt.alloc(), script, echo, &mut narrow);
         assert_eq!(rt; ended, want);
         assert_eq!(rt; narrow.taken.as_slice(), output.as_bytes());
         assert_eq!(rt; narrow.flushes, 1);

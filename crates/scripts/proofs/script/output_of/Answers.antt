@@ -4,7 +4,7 @@ use Rattle.std.proofs.lemmas.List.{length_push}
 use Rattle.std.proofs.lemmas.Iterator.Consumers.{YieldsList-turn, YieldsList-end}
 use Rattle.std.proofs.lemmas.Iterator.Splits.{YieldsList-from_slice_split}
 use Rattle.scripts.specs.Fields.{lines_of}
-use Rattle.scripts.specs.Script.{script_text}
+use Rattle.scripts.specs.Script.{line_output, script_text}
 use Rattle.scripts.proofs.Outputs.{one_more, none_left}
 use Rattle.scripts.proofs.script.output_of.Goals as goal
 
@@ -13,7 +13,7 @@ loop-line-preserved c =
     let turn = YieldsList-turn (YieldsList-from_slice_split _ (λ byte. byte == 10) c.args.script.now
     (search rules) (search rules) (search rules) (λ x r q k. search (rules, tests)))
     c.loop-line.yielded _ c.loop-line.yielded_by _ _ c.in-Some.line c.in-Some.is c.next.ensures.steps in
-    one_more c.loop-line.cluster c.run_line.new.cluster (lines_of c.args.script.now) (length c.loop-line.yielded) _ c.in-Some.line.now
+    one_more line_output (lines_of c.args.script.now) (length c.loop-line.yielded) c.loop-line.world c.run_line.new.world _ c.in-Some.line.now
     (string_bytes c.loop-line.out) (string_bytes c.run_line.new.out) _ turn.0 turn.1
     (length_push c.loop-line.yielded c.in-Some.line) c.loop-line.invariant (search rules) (search rules)
 
@@ -23,4 +23,4 @@ returns c =
     let end = YieldsList-end (YieldsList-from_slice_split _ (λ byte. byte == 10) c.args.script.now
     (search rules) (search rules) (search rules) (λ x r q k. search (rules, tests)))
     c.loop-line.yielded _ c.loop-line.yielded_by _ _ c.in-None.is c.next.ensures.steps in
-    none_left c.loop-line.cluster (lines_of c.args.script.now) (length c.loop-line.yielded) (string_bytes c.loop-line.out) _ end.1 c.loop-line.invariant
+    none_left line_output (lines_of c.args.script.now) (length c.loop-line.yielded) c.loop-line.world (string_bytes c.loop-line.out) _ end.1 c.loop-line.invariant

@@ -1,0 +1,125 @@
+//! What a node is asked of what it knows, and what it prints.
+
+ghost use Rattle.std.specs.Prelude.{◌≡◌, false, IsOk, IfOk, Some, None, if◌then◌else◌};
+ghost use Rattle.actions.specs.Names.{is_name};
+ghost use Rattle.scripts.specs.Commands.{question_value, list, report, rights, spent, hits};
+ghost use Rattle.scripts.specs.Replies.{Prints};
+ghost use Rattle.scripts.specs.Questions.{question_output, asked_output};
+
+use crate::command::Question;
+use crate::reply::print_refusal;
+use actions::{Name, NameFault};
+use cluster_model::{World, WorldFault};
+use node_core::NodeCore;
+use report_text::report_lines;
+use std::alloc::{AllocError, Global};
+use std::fmt::Write;
+
+fn print_list(alloc: Global, node: &NodeCore, out: &mut String) -> Result<(), AllocError>
+    ensures { Prints result out.old out.new (question_output node.now list) }
+{
+    let list = node.list(alloc)?;
+    writeln!(out, "{list}")
+}
+
+fn print_report(alloc: Global, node: &NodeCore, out: &mut String) -> Result<(), AllocError>
+    ensures { Prints result out.old out.new (question_output node.now report) }
+{
+    let lines = report_lines(alloc, node.state(), node.config().nodes)?;
+    out.push_str(&lines)
+}
+
+fn name_in(alloc: Global, text: &str) -> Result<Option<Name>, AllocError>
+    ensures name { IfOk result (λ name. name ≡ (if is_name text.now then Some text.now else None)) }
+    // What is no name takes no memory.
+    ensures no_name { is_name text.now ≡ false → IsOk result }
+{
+    match Name::parse(alloc, text) {
+        Ok(name) => Ok(Some(name)),
+        Err(NameFault::BadName) => Ok(None),
+        Err(NameFault::OutOfMemory) => Err(AllocError),
+    }
+}
+
+fn print_rights(
+    alloc: Global,
+    node: &NodeCore,
+    name: &str,
+    term: u8,
+    of: u8,
+    out: &mut String,
+) -> Result<(), AllocError>
+    ensures { Prints result out.old out.new (question_output node.now (rights name.now term of)) }
+{
+    let rights = match name_in(alloc, name)? {
+        Some(name) => node.rights(&name, term, of),
+        None => 0,
+    };
+    writeln!(out, "{rights}")
+}
+
+fn print_spent(
+    alloc: Global,
+    node: &NodeCore,
+    name: &str,
+    term: u8,
+    out: &mut String,
+) -> Result<(), AllocError>
+    ensures { Prints result out.old out.new (question_output node.now (spent name.now term)) }
+{
+    let spent = match name_in(alloc, name)? {
+        Some(name) => node.spent(&name, term),
+        None => 0,
+    };
+    writeln!(out, "{spent}")
+}
+
+fn print_hits(
+    alloc: Global,
+    node: &NodeCore,
+    name: &str,
+    out: &mut String,
+) -> Result<(), AllocError>
+    ensures { Prints result out.old out.new (question_output node.now (hits name.now)) }
+{
+    let hits = match name_in(alloc, name)? {
+        Some(name) => node.hits(&name),
+        None => 0,
+    };
+    writeln!(out, "{hits}")
+}
+
+fn ask_node(
+    alloc: Global,
+    node: &NodeCore,
+    question: Question<'_>,
+    out: &mut String,
+) -> Result<(), AllocError>
+    ensures { Prints result out.old out.new
+        (question_output node.now (question_value question.entry)) }
+{
+    match question {
+        Question::List => print_list(alloc, node, out),
+        Question::Report => print_report(alloc, node, out),
+        Question::Rights { name, term, of } => print_rights(alloc, node, name, term, of, out),
+        Question::Spent { name, term } => print_spent(alloc, node, name, term, out),
+        Question::Hits { name } => print_hits(alloc, node, name, out),
+    }
+}
+
+/// Asks a node, by its number, and prints what it answers.
+pub fn ask(
+    alloc: Global,
+    world: &World,
+    node: u8,
+    question: Question<'_>,
+    out: &mut String,
+) -> Result<(), AllocError>
+    ensures { Prints result out.old out.new
+        (asked_output world.now node (question_value question.entry)) }
+{
+    match world.node(node) {
+        Some(core) => ask_node(alloc, core, question, out),
+        None => print_refusal(out, WorldFault::NoNode),
+    }
+}
