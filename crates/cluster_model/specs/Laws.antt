@@ -6,7 +6,7 @@ use Rattle.counters.specs.Sums.{node_numbers, sum_below}
 use Rattle.stamp_register.specs.declared.key.Stamp.{Stamp}
 use Rattle.stamp_register.specs.Keys.{KeyValue, stamp_of, terms_set}
 use Rattle.replica_state.specs.Operations.{Operation, Set, Count, IsIn, count_of}
-use Rattle.replica_state.specs.States.{State}
+use Rattle.replica_state.specs.States.{State, granted_of}
 use Rattle.replica_state.specs.Folds.{fold, name_in}
 use Rattle.replica_state.specs.Deltas.{IsDelta}
 use Rattle.replica_state.specs.StateOrder.{IsBelow}
@@ -19,7 +19,7 @@ use Rattle.node_core.specs.Nodes.{state_shown}
 use Rattle.node_core.specs.Steps.{message_to}
 use Rattle.node_core.specs.Traces.{Kept, replay, refusal, after_call, delivery_of, emission_of, versions_told, IsLegal}
 use Rattle.node_core.specs.Deliveries.{TellsDelta}
-use Rattle.node_core.specs.Refusals.{is_ahead, granted_known, overspends}
+use Rattle.node_core.specs.Refusals.{is_ahead, overspends}
 use Rattle.cluster_model.specs.Worlds.{Cluster, Event, config_of, accepted, world}
 use Rattle.cluster_model.specs.Schedules.{MaySend, Allows, IsSchedule, AllowsDelta, IsDeltaSchedule}
 use Rattle.cluster_model.specs.Views.{SeesWhole}
@@ -162,7 +162,7 @@ pub record LacksGrant (c : Cluster) (es : List Event) (v : State) (name : List �
   pub count : ℕ
   pub under : v.key name ≡ Some key
   pub counted : count_of key term ≡ Some count
-  pub overspent : count + granted_known v name term < sum_below node_numbers (v.execs name term)
+  pub overspent : count + granted_of v name term < sum_below node_numbers (v.execs name term)
   pub paid : sum_below node_numbers (v.execs name term) ≤ count + all_granted c es name key term
 
 -- what a message of the cluster says of a node is not ahead of what that node wrote, it tells the node

@@ -69,6 +69,13 @@ total_from_others-entry node k v rest below apart =
     sum-entry [] node_numbers (λ q (held : Cells). cond (q == node) 0 (cell held node))
     (λ q. zero-either (q == node)) k v rest (below-numbers k below) apart
 
+-- and a row more its number at its own node
+pub total_of_own-entry : (k : ℕ) (v : Cells) (rest : Rows) → k < 256 → AreApart ((k, v) ∷ rest)
+    → sum_below node_numbers (λ node. row_cell ((k, v) ∷ rest) node node)
+    ≡ cell v k + sum_below node_numbers (λ node. row_cell rest node node)
+unfolding cell row_cell
+total_of_own-entry k v rest below apart = sum-entry [] node_numbers (λ q (held : Cells). cell held q) (λ q. refl) k v rest (below-numbers k below) apart
+
 -- what a test for one node chooses
 pub chosen-same : (i k n m : ℕ) → i ≡ k → cond (i == k) n m ≡ n
 chosen-same i k n m same = at (i == k) refl
@@ -142,6 +149,9 @@ total_of_others-bound node cells h = bound-others node (cell cells) (cell-bound 
 pub total_from_others-bound : (node : ℕ) (rows : Rows) → AreRows rows → sum_others node_numbers node (λ from. row_cell rows from node) ≤ 256 * 2 ^ 64
 total_from_others-bound node rows h = bound-others node (λ from. row_cell rows from node) (λ from. row_cell-bound rows h from node)
 
+pub total_of_own-bound : (rows : Rows) → AreRows rows → sum_below node_numbers (λ node. row_cell rows node node) ≤ 256 * 2 ^ 64
+total_of_own-bound rows h = bound (λ node. row_cell rows node node) (λ node. row_cell-bound rows h node node)
+
 -- nothing is left where no entries are
 pub total-empty : sum_below node_numbers (cell []) ≡ 0
 unfolding cell
@@ -154,3 +164,7 @@ total_of_others-empty node = sum_others-zero node_numbers node (λ q. 0) (λ q. 
 pub total_from_others-empty : (node : ℕ) → sum_others node_numbers node (λ from. row_cell [] from node) ≡ 0
 unfolding cell row_cell
 total_from_others-empty node = sum_others-zero node_numbers node (λ q. 0) (λ q. refl)
+
+pub total_of_own-empty : sum_below node_numbers (λ node. row_cell [] node node) ≡ 0
+unfolding cell row_cell
+total_of_own-empty = sum-zero node_numbers (λ q. 0) (λ q. refl)

@@ -8,7 +8,7 @@ ghost use Rattle.counters.specs.Refusals.{spend_refusal, shift_refusal, grant_re
 
 use crate::cells::{
     Cells, Rows, count, number_in_row, number_of, raise, raise_row, total, total_from_others,
-    total_to_others,
+    total_of_own, total_to_others,
 };
 use crate::fault::CounterFault;
 use lattice_laws::{Join, MapOf, PairOf};
@@ -89,6 +89,13 @@ impl Budget {
         ensures { result ≡ sum_below node_numbers (spent_cell self.now) }
     {
         total(&self.shares.first)
+    }
+
+    /// What all nodes granted themselves beyond the count.
+    pub fn total_granted(&self) -> u128
+        ensures { result ≡ sum_below node_numbers (granted_cell self.now) }
+    {
+        total_of_own(&self.shares.second)
     }
 
     /// Spends one right of a node, and answers how many it has now spent. It is refused where the

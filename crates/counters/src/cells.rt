@@ -89,6 +89,17 @@ pub(crate) fn total_from_others(rows: &Rows, node: u8) -> u128
     sum
 }
 
+/// What each row has at its own node, together.
+pub(crate) fn total_of_own(rows: &Rows) -> u128
+    ensures { result ≡ sum_below node_numbers (λ node. row_cell rows.now node node) }
+{
+    let mut sum = 0u128;
+    for (node, row) in rows.iter() {
+        sum += u128::from(number_of(row, *node));
+    }
+    sum
+}
+
 /// Raises a node's number to at least this one, in place where there is one. Memory is asked for
 /// only where there is none.
 pub(crate) fn raise(

@@ -8,7 +8,7 @@ use Rattle.std.specs.declared.cmp.Ordering.TheVariants.{Less, Equal, Greater}
 use Rattle.counters.specs.Sums.{node_numbers, sum_below}
 use Rattle.stamp_register.specs.Keys.{KeyValue}
 use Rattle.replica_state.specs.Operations.{Operation, Cell, Set, Count, Hits, Execs, Shifts, count_at}
-use Rattle.replica_state.specs.States.{State, granted_in}
+use Rattle.replica_state.specs.States.{State, granted_in, granted_of}
 use Rattle.replica_state.specs.Folds.{fold, name_in, key_of, number_at, at_key}
 use Rattle.replica_state.specs.Unions.{key_order, number_both, with_names, union_of}
 use Rattle.replica_state.proofs.Sets.{number_at-least}
@@ -18,7 +18,7 @@ use Rattle.delta_exchange.specs.declared.message.NameEntry.{NameEntry}
 use Rattle.delta_exchange.specs.Messages.{EntryValue, entry_value, operations_of, hits_in, execs_in, shifts_in, grants_in}
 use Rattle.delta_exchange.specs.Wholes.{IsLawful, AreLawful}
 use Rattle.node_core.specs.Nodes.{setting_of, setting_in, terms_in}
-use Rattle.node_core.specs.Refusals.{any_below, exceeds_count, granted_known, is_overspent, overspends}
+use Rattle.node_core.specs.Refusals.{any_below, exceeds_count, is_overspent, overspends}
 use Rattle.node_core.specs.Deliveries.{terms_both, execs_both, granted_both, is_overspent_below}
 use Rattle.node_core.proofs.Ahead.{any_told}
 use Rattle.node_core.proofs.SettingSteps.{names_united, turned}
@@ -103,7 +103,7 @@ module _ (nodes : ℕ) (few : nodes ≤ node_numbers) (ops known : List Operatio
       (λ node high. ap (λ (s : State). s.execs name term node) is_v ∙ no_execs nodes known lawful node high name term)
       (λ node high. ap (λ (s : State). s.execs name term node) is_t ∙ no_execs nodes ops brought node high name term)
 
-  all_grants : (name : List ℕ) (term : ℕ) → granted_known (union_of v t) name term ≡ granted_both nodes (key_order (t.key name) (v.key name)) v t name term
+  all_grants : (name : List ℕ) (term : ℕ) → granted_of (union_of v t) name term ≡ granted_both nodes (key_order (t.key name) (v.key name)) v t name term
   all_grants name term =
       sum_both nodes few (key_order (t.key name) (v.key name)) (granted_in v name term) (granted_in t name term) (granted_in (union_of v t) name term) (granted_united v t name term)
       (λ node high. ap (λ (s : State). granted_in s name term node) is_v ∙ no_grants nodes known lawful node high name term)

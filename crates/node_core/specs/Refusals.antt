@@ -16,7 +16,7 @@ use Rattle.counters.specs.Budgets.{given_to, gone_from}
 use Rattle.counters.specs.Cells.{is_too_great}
 use Rattle.stamp_register.specs.Keys.{KeyValue}
 use Rattle.replica_state.specs.Operations.{Operation, writer_of, count_at}
-use Rattle.replica_state.specs.States.{State, with_name, budget, granted_in}
+use Rattle.replica_state.specs.States.{State, with_name, budget, granted_in, granted_of}
 use Rattle.replica_state.specs.Folds.{fold, name_in}
 use Rattle.replica_state.specs.Knowledge.{knows}
 use Rattle.replica_state.specs.Unions.{with_names}
@@ -107,17 +107,13 @@ abbrev pub exceeds_count : Option ℕ → ℕ → ℕ → Bool
 exceeds_count None granted total = false
 exceeds_count (Some count) granted total = nat_lt (count + granted) total
 
--- what all nodes granted of a term, as far as the state knows
-abbrev pub granted_known : State → List ℕ → ℕ → ℕ
-granted_known v name term = sum_below node_numbers (granted_in v name term)
-
 abbrev pub any_below : ℕ → (ℕ → Bool) → Bool
 any_below zero test = false
 any_below (suc n) test = test n || any_below n test
 
 abbrev pub is_overspent : State → List ℕ → List TermValue → Bool
 is_overspent v name terms =
-    any_below (length terms) (λ term. exceeds_count (count_at terms term) (granted_known v name term)
+    any_below (length terms) (λ term. exceeds_count (count_at terms term) (granted_of v name term)
     (sum_below node_numbers (v.execs name term)))
 
 -- of a name that a message carries, in the state after it

@@ -226,6 +226,14 @@ no_hits es name none (suc n) =
     let here : 0 ≡ number_at (point_at es name) (Hits n) = ap (λ (o : Option Point). number_at o (Hits n)) none in
     omega arith
 
+pub no_grants : (es : List (List ℕ × Point)) (name : List ℕ) (term : ℕ) → None ≡ point_at es name → (n : ℕ)
+    → 0 ≡ sum_below n (λ i. number_at (point_at es name) (Shifts term i i))
+no_grants es name term none zero = refl
+no_grants es name term none (suc n) =
+    let rest = no_grants es name term none n in
+    let here : 0 ≡ number_at (point_at es name) (Shifts term n n) = ap (λ (o : Option Point). number_at o (Shifts term n n)) none in
+    omega arith
+
 pub shown_none : shown [] ≡ fold []
 unfolding shown fold
 shown_none = refl

@@ -16,7 +16,7 @@ use Rattle.replica_state.specs.declared.point.Count.{Count}
 use Rattle.replica_state.specs.declared.point.Counted.{Counted}
 use Rattle.replica_state.specs.declared.point.Counted.TheVariants.{Hits, Execs, Shifts}
 use Rattle.replica_state.specs.States as states
-use Rattle.replica_state.specs.States.{State, with_name, total_hits, budget_of, rights_of, spent_of}
+use Rattle.replica_state.specs.States.{State, with_name, total_hits, granted_of, budget_of, rights_of, spent_of}
 use Rattle.replica_state.specs.Points.{Held, empty_held, held_after_key, held_after_pass, held_after_count, budget_under}
 use Rattle.replica_state.specs.OpSets.{cell_of, held_at, with_held}
 use Rattle.replica_state.specs.Slots.{Budgets, Slot, IsSlotOf, HasNoSlot, ChangesSlot, no_slot, under_key, slot_key, slot_number, slot_held, slot_rights, shown_slots}
@@ -97,6 +97,10 @@ no_budget v name not term = ap (λ (o : Option KeyValue). states.budget_under v 
 pub hits_are : (v : State) (name : List ℕ) (slot : Slot) → IsSlotOf v name slot → sum_below node_numbers (λ node. slot_number slot (Hits node)) ≡ total_hits v name
 hits_are v name slot is = ap (λ (f : ℕ → ℕ). sum_below node_numbers f) (λ i node. is.number (Hits node) i)
 
+pub grants_are : (v : State) (name : List ℕ) (slot : Slot) → IsSlotOf v name slot → (term : ℕ)
+    → sum_below node_numbers (λ node. slot_number slot (Shifts term node node)) ≡ granted_of v name term
+grants_are v name slot is term = ap (λ (f : ℕ → ℕ). sum_below node_numbers f) (λ i node. is.number (Shifts term node node) i)
+
 -- ---- what a change writes
 
 -- what means nothing holds nothing
@@ -146,6 +150,9 @@ writes call v w name answer changed f e some =
 
 pub no_hits : (v : State) (name : List ℕ) → HasNoSlot v name → total_hits v name ≡ 0
 no_hits v name not = sum-zero node_numbers (v.hits name) (λ node. not.number (Hits node))
+
+pub no_grants : (v : State) (name : List ℕ) → HasNoSlot v name → (term : ℕ) → granted_of v name term ≡ 0
+no_grants v name not term = sum-zero node_numbers (λ node. v.shifts name term node node) (λ node. not.number (Shifts term node node))
 
 -- ---- what a key, a pass or a shift leaves is something
 

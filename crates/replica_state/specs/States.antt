@@ -67,6 +67,10 @@ total_hits v name = sum_below node_numbers (v.hits name)
 abbrev pub granted_in : State → List ℕ → ℕ → ℕ → ℕ
 granted_in v name term node = v.shifts name term node node
 
+-- what all nodes granted themselves beyond it
+abbrev pub granted_of : State → List ℕ → ℕ → ℕ
+granted_of v name term = sum_below node_numbers (granted_in v name term)
+
 -- the budget of a term in a key of the name
 abbrev pub budget : State → List ℕ → ℕ → ℕ → ℕ → Budget
 budget v name term setter count =

@@ -51,6 +51,22 @@ pub(crate) fn sum_execs(counts: &[Count], term: u8) -> u128
     sum
 }
 
+/// What all nodes granted themselves of a term.
+pub(crate) fn sum_grants(counts: &[Count], term: u8) -> u128
+    ensures { result ≡ sum_below node_numbers (λ node. number_of counts.now (Shifts term node node)) }
+{
+    let mut sum = 0u128;
+    for node in 0..nodes_counted(counts) {
+        let counted = Counted::Shifts {
+            term,
+            from: node as u8,
+            to: node as u8,
+        };
+        sum += u128::from(number_of(counts, counted));
+    }
+    sum
+}
+
 // What others moved to a node.
 fn sum_to(counts: &[Count], term: u8, to: u8) -> u128
     ensures value { result ≡ sum_others node_numbers to

@@ -209,6 +209,13 @@ impl Replica for Matrix {
         }
     }
 
+    fn total_granted(&self, name: &Name, term: u8) -> u128 {
+        match self.slot_of(name) {
+            Some(held) => slot::total_granted(held, term),
+            None => 0,
+        }
+    }
+
     fn names(&self) -> usize {
         self.slots.len()
     }

@@ -203,6 +203,13 @@ impl Replica for OpSet {
         }
     }
 
+    fn total_granted(&self, name: &Name, term: u8) -> u128 {
+        match self.points.get(name) {
+            Some(point) => point.total_granted(term),
+            None => 0,
+        }
+    }
+
     fn names(&self) -> usize {
         self.points.len()
     }

@@ -10,9 +10,9 @@ ghost use Rattle.replica_state.specs.Points.{same_counted, is_hits, node_bound, 
 ghost use Rattle.replica_state.specs.Unions.{both_held, if_counts, IsHeldBelow};
 ghost use Rattle.replica_state.specs.OpSets.{key_told, operation_told};
 ghost use Rattle.replica_state.specs.declared.point.Counted.{Counted};
-ghost use Rattle.replica_state.specs.declared.point.Counted.TheVariants.{Hits, Execs};
+ghost use Rattle.replica_state.specs.declared.point.Counted.TheVariants.{Hits, Execs, Shifts};
 
-use crate::budget::{count_of, rights_in, sum_execs, sum_hits};
+use crate::budget::{count_of, rights_in, sum_execs, sum_grants, sum_hits};
 use stamp_register::Key;
 use std::alloc::{AllocError, Global};
 use std::cmp::Ordering;
@@ -255,6 +255,14 @@ impl Point {
             },
             None => 0,
         }
+    }
+
+    /// What all nodes granted themselves of a term.
+    pub(crate) fn total_granted(&self, term: u8) -> u128
+        ensures { result ≡ sum_below node_numbers
+            (λ node. number_of self.now.counts.items (Shifts term node node)) }
+    {
+        sum_grants(&self.counts, term)
     }
 
     /// Takes a key, of which nothing is counted yet; hits go on.

@@ -4,7 +4,7 @@ ghost use Rattle.std.specs.Prelude.{◌≡◌, ◌+◌, ◌<◌, ◌≤◌, ◌^
 ghost use Rattle.std.specs.Option.{option_copied};
 ghost use Rattle.stamp_register.specs.Keys.{key_value};
 ghost use Rattle.replica_state.specs.Operations.{operation, IsWellFormed, ShiftsToAnother};
-ghost use Rattle.replica_state.specs.States.{State, with_name, with_key, with_pass, with_shifts, total_hits, granted_in, budget_of, rights_of, spent_of, MarksRights};
+ghost use Rattle.replica_state.specs.States.{State, with_name, with_key, with_pass, with_shifts, total_hits, granted_in, granted_of, budget_of, rights_of, spent_of, MarksRights};
 ghost use Rattle.replica_state.specs.Folds.{fold, Learns, IsUnion};
 ghost use Rattle.replica_state.specs.Reached.{IsReached};
 ghost use Rattle.replica_state.specs.Knowledge.{is_upto};
@@ -147,6 +147,10 @@ pub trait Replica: Join {
     {
         self.moved(name, term, node, node)
     }
+
+    /// What all nodes granted themselves beyond the count of a term, under the point's key.
+    fn total_granted(&self, name: &Name, term: u8) -> u128
+        ensures { result ≡ granted_of (state self.now) name.now term };
 
     /// The rights of a node to execute a counted term. They can be below 0 in the view of another
     /// node, where it knows of a spend before the shift that paid for it.

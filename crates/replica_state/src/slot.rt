@@ -9,7 +9,7 @@ ghost use Rattle.replica_state.specs.Points.{is_hits, term_of, empty_held, key_s
 ghost use Rattle.replica_state.specs.Slots.{IsShareRaised, slot_held, slot_key, slot_number, slot_rights, share_number, budgets_number};
 ghost use Rattle.replica_state.specs.States.{MarksRights};
 ghost use Rattle.replica_state.specs.declared.point.Counted.{Counted};
-ghost use Rattle.replica_state.specs.declared.point.Counted.TheVariants.{Hits, Execs};
+ghost use Rattle.replica_state.specs.declared.point.Counted.TheVariants.{Hits, Execs, Shifts};
 
 use crate::budget::{count_of, terms_of};
 use crate::point::{Count, Counted};
@@ -120,6 +120,17 @@ pub(crate) fn spent(slot: &Slot, term: u8) -> u128
     };
     match budgets.get(&term) {
         Some(budget) => budget.total_spent(),
+        None => 0,
+    }
+}
+
+/// What all nodes granted themselves of a term.
+pub(crate) fn total_granted(slot: &Slot, term: u8) -> u128
+    ensures { result ≡ sum_below node_numbers
+        (λ node. slot_number slot.now (Shifts term node node)) }
+{
+    match budget(slot, term) {
+        Some(budget) => budget.total_granted(),
         None => 0,
     }
 }

@@ -2,11 +2,10 @@
 use Rattle.std.specs.Prelude.{ℕ, ℤ, List, Option, map, option_map}
 use Rattle.std.specs.List.{filter_map, range_with_len}
 use Rattle.actions.specs.Limits.{max_terms}
-use Rattle.counters.specs.Sums.{node_numbers, sum_below}
 use Rattle.stamp_register.specs.Keys.{KeyValue, stamp_of}
 use Rattle.stamp_register.specs.declared.key.Stamp.{Stamp}
 use Rattle.replica_state.specs.Operations.{count_of}
-use Rattle.replica_state.specs.States.{State, total_hits, granted_in, rights_of, spent_of}
+use Rattle.replica_state.specs.States.{State, total_hits, granted_of, rights_of, spent_of}
 
 -- a counted term: its number, its count, what all nodes granted themselves beyond it, how often it
 -- ran at all nodes, and the rights that each node has left
@@ -30,10 +29,6 @@ pub record PointRow : Type 0 where
 -- each of the first nodes, from 0, with what it has
 abbrev pub by_node : {A : Type 0} → ℕ → (ℕ → A) → List (ℕ × A)
 by_node nodes has = map (λ node. (node, has node)) (range_with_len 0 nodes)
-
--- what all nodes granted themselves beyond the count of a term
-abbrev pub granted_of : State → List ℕ → ℕ → ℕ
-granted_of v name term = sum_below node_numbers (granted_in v name term)
 
 abbrev pub counted_row : State → ℕ → List ℕ → ℕ → ℕ → TermRow
 counted_row v nodes name term count =

@@ -9,7 +9,7 @@ ghost use Rattle.replica_state.specs.States.{rights_of};
 ghost use Rattle.report_text.specs.Report.{by_node, counted_row, keyed_row, term_rows};
 ghost use Rattle.report_text.specs.Json.{actions_data, hits_data, list_data, point_data, report_data, report_json_text, rights_data, term_data};
 
-use crate::rows::{MAX_TERMS, count_of, granted_of, point_at};
+use crate::rows::{MAX_TERMS, count_of, point_at};
 use actions::Name;
 use replica_state::Replica;
 use serde_json::{Value, json};
@@ -106,7 +106,7 @@ fn term_value<R: Replica>(
     ensures { IfOk result (λ value. view value
         ≡ term_data (counted_row (R.state replica.now) nodes name.now term count)) }
 {
-    let granted = granted_of(replica, name, term);
+    let granted = replica.total_granted(name, term);
     let rights = rights_value(alloc, replica, nodes, name, term)?;
     let spent = format!(in alloc; "{}", replica.spent(name, term))?;
     let count = format!(in alloc; "{count}")?;

@@ -7,7 +7,7 @@ ghost use Rattle.replica_state.specs.States.{rights_of, total_hits};
 ghost use Rattle.report_text.specs.Report.{by_node, counted_row, keyed_row, term_rows};
 ghost use Rattle.report_text.specs.Lines.{granted_text, hits_line, node_text, point_line, point_lines, report_lines_text, rights_text, term_line};
 
-use crate::rows::{MAX_TERMS, count_of, granted_of, point_at};
+use crate::rows::{MAX_TERMS, count_of, point_at};
 use actions::Name;
 use replica_state::Replica;
 use stamp_register::{Body, Key};
@@ -113,7 +113,7 @@ fn push_term<R: Replica>(
         ++ term_line (counted_row (R.state replica.now) nodes name.now term count)) }
 {
     write!(text, "term {term} count={count}")?;
-    push_granted(text, granted_of(replica, name, term))?;
+    push_granted(text, replica.total_granted(name, term))?;
     write!(text, " spent={} rights", replica.spent(name, term))?;
     push_rights(text, replica, nodes, name, term)?;
     text.push_str("\n")

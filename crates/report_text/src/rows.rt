@@ -3,7 +3,7 @@
 ghost use Rattle.std.specs.Prelude.{◌≡◌, ℕ, option_map, option_and_then, slice_get};
 ghost use Rattle.stamp_register.specs.Keys.{key_value};
 ghost use Rattle.replica_state.specs.Operations.{count_of};
-ghost use Rattle.report_text.specs.Report.{granted_of, keyed_row, point_row};
+ghost use Rattle.report_text.specs.Report.{keyed_row, point_row};
 
 use actions::Name;
 use replica_state::Replica;
@@ -11,9 +11,6 @@ use stamp_register::Key;
 
 /// How many terms an action text has at most.
 pub(crate) const MAX_TERMS: u8 = 16;
-
-/// How many node numbers there are.
-const NODE_NUMBERS: u16 = 256;
 
 /// The point at a place of the names, in byte order, if it has a key.
 pub(crate) fn point_at<R: Replica>(replica: &R, index: usize) -> Option<(&Name, &Key)>
@@ -32,15 +29,4 @@ pub(crate) fn count_of(key: &Key, term: u8) -> Option<u64>
     ensures { result ≡ count_of (key_value key.now) term }
 {
     key.actions()?.term(term)?.count
-}
-
-/// What all nodes granted themselves beyond the count of a term.
-pub(crate) fn granted_of<R: Replica>(replica: &R, name: &Name, term: u8) -> u128
-    ensures { result ≡ granted_of (R.state replica.now) name.now term }
-{
-    let mut total = 0u128;
-    for node in 0..NODE_NUMBERS {
-        total += u128::from(replica.granted(name, term, node as u8));
-    }
-    total
 }
