@@ -16,12 +16,23 @@ use Rattle.cluster_model.specs.declared.world.Place.{Place}
 use Rattle.cluster_model.specs.declared.fault.WorldFault.TheVariants.{NoNode, NoMessage, Refused}
 use Rattle.cluster_model.specs.Worlds.{Cluster, Event}
 use Rattle.cluster_model.specs.Events.{WorldValue, EventValue, Answer, last_reply, emits, delivers, message_made, node_asked, words_given, own_ask, asked_by, answer, world_after, scheduled}
-use Rattle.cluster_model.specs.Places.{IsEmit, IsEmitOf, IsPlace, IsWorld, AreSizes, AcceptsAt, RefusesAt, message_at, world_of}
+use Rattle.cluster_model.specs.Places.{IsEmit, IsEmitOf, IsPlace, IsWorld, AreSizes, message_at, world_of}
 use Rattle.cluster_model.specs.Runs.{Continues, HasHistory, IsAnswer, happened}
 use Rattle.cluster_model.proofs.Lists.{get_below, get_there, get_set_same, get_last}
 use Rattle.cluster_model.proofs.Placed.{message_is, world_stays, world_pushed}
 use Rattle.cluster_model.proofs.WorldSteps.{IsAccepted, accepts, accepted_answer, accepted_after, goes_on}
 use Rattle.cluster_model.proofs.WorldCalls.{no_node_answer, no_message_answer, refused_answer, own_asked, own_sends, own_after, own_answer, silent_after, emission_is, emission_sends, place_made, emitted_after, emitted_answer}
+
+-- ---- a call of one of the nodes
+
+abbrev pub AcceptsAt : List Kept → List Kept → ℕ → Asked → List ℕ → Answered → Type 0
+AcceptsAt nodes new i ask words reply = (k : Kept) → slice_get nodes i ≡ Some k →
+    (refusal k ask words ≡ None) × (reply_to k ask words ≡ reply)
+    × (new ≡ slice_set nodes i (after_call k ask words))
+
+abbrev pub RefusesAt : List Kept → ℕ → Asked → List ℕ → NodeFault → Type 0
+RefusesAt nodes i ask words fault =
+    (k : Kept) → slice_get nodes i ≡ Some k → IsRefusalOf k ask words fault
 
 -- ---- an event is accepted with this reply, and these are the nodes and messages after it
 

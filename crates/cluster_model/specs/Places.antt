@@ -1,9 +1,8 @@
 -- Where the messages of a world stand: each is the reply of a call in the trace of the node that made it.
-use Rattle.std.specs.Prelude.{◌≡◌, ℕ, List, length, map, Option, Some, None, option_and_then, Ok, slice_get, slice_set}
-use Rattle.node_core.specs.declared.fault.NodeFault.{NodeFault}
-use Rattle.node_core.specs.Asks.{Asked, Answered, Message, Call, IsEmitted}
+use Rattle.std.specs.Prelude.{◌≡◌, ℕ, List, length, map, Option, Some, None, option_and_then, Ok, slice_get}
+use Rattle.node_core.specs.Asks.{Answered, Message, Call, IsEmitted}
 use Rattle.node_core.specs.Steps.{message_in, nothing_told}
-use Rattle.node_core.specs.Traces.{Kept, IsRefusalOf, after_call, refusal, reply_to}
+use Rattle.node_core.specs.Traces.{Kept}
 use Rattle.cluster_model.specs.declared.world.Place.{Place}
 use Rattle.cluster_model.specs.Events.{WorldValue}
 
@@ -49,14 +48,3 @@ pub record IsWorld (nodes : List Kept) (places : List Place) : Type 0 where
   pub sizes : AreSizes nodes
   pub numbers : (i : ℕ) (k : Kept) → slice_get nodes i ≡ Some k → k.config.node ≡ i
   pub placed : (number : ℕ) (place : Place) → slice_get places number ≡ Some place → IsPlace nodes place
-
--- ---- a call of one of the nodes
-
-abbrev pub AcceptsAt : List Kept → List Kept → ℕ → Asked → List ℕ → Answered → Type 0
-AcceptsAt nodes new i ask words reply = (k : Kept) → slice_get nodes i ≡ Some k →
-    (refusal k ask words ≡ None) × (reply_to k ask words ≡ reply)
-    × (new ≡ slice_set nodes i (after_call k ask words))
-
-abbrev pub RefusesAt : List Kept → ℕ → Asked → List ℕ → NodeFault → Type 0
-RefusesAt nodes i ask words fault =
-    (k : Kept) → slice_get nodes i ≡ Some k → IsRefusalOf k ask words fault

@@ -2,17 +2,24 @@
 
 use super::*;
 
-// A node that hasn't heard of a newer setting goes on under the old one.
+// A node that hasn't heard of a newer setting goes on under the old one. Under 1.0 there are 2
+// executions, node 0 last holds 1 right and node 1 none, and of the 1 that was moved all was seen.
 const OVERTAKEN_KEY: &[Line] = &[
     (Step::Set(0, "p", "3*panic"), "set 1.0"),
     (Step::Shift(0, "p", 0, 1, 1), "shifted 1"),
     (Step::Emit(0, 1), "message"),
     (Step::Deliver(1, 0), "changed"),
     (Step::Pass(0, "p", &[]), "act 1.0 0 panic"),
+    (Step::Held(0, "p", 0), "1"),
+    (Step::Moved(0, "p", 0, 0, 1), "1"),
     (Step::Set(0, "p", "off"), "set 2.0"),
     (Step::Pass(0, "p", &[]), "act 2.0 0 off"),
     (Step::Pass(1, "p", &[]), "act 1.0 0 panic"),
     (Step::Pass(1, "p", &[]), "none 1.0"),
+    (Step::Held(1, "p", 0), "0"),
+    (Step::Moved(1, "p", 0, 0, 1), "1"),
+    (Step::Executed(1, 0, 0), "2"),
+    (Step::Executed(2, 0, 0), "1"),
 ];
 
 #[test]

@@ -2,7 +2,7 @@
 
 use super::*;
 
-/// What a node is asked. The node comes first.
+/// An event or a question. The node that is asked comes first.
 pub enum Step {
     Set(u8, &'static str, &'static str),
     Remove(u8, &'static str),
@@ -12,6 +12,12 @@ pub enum Step {
     Grant(u8, &'static str, u8, u64),
     Emit(u8, u8),
     Deliver(u8, u32),
+    /// The rights to a term that a node holds itself.
+    Held(u8, &'static str, u8),
+    /// What one node moved to another of a term, as far as the first of the three knows.
+    Moved(u8, &'static str, u8, u8, u8),
+    /// How often a term ran under the stamp of a clock and a node, as callers at all nodes were told.
+    Executed(u64, u8, u8),
 }
 
 /// What is asked, and the answer in print.
@@ -25,8 +31,9 @@ enum How {
     Run,
 }
 
-fn event_of(alloc: Global, step: &Step) -> Result<Event<'static>, AllocError> {
-    Ok(match step {
+/// The event, where a step is one.
+fn event_of(alloc: Global, step: &Step) -> Result<Option<Event<'static>>, AllocError> {
+    Ok(Some(match step {
         Step::Set(node, name, text) => Event::Set {
             node: *node,
             name: *name,
@@ -66,14 +73,16 @@ fn event_of(alloc: Global, step: &Step) -> Result<Event<'static>, AllocError> {
             node: *node,
             message: *message,
         },
-    })
+        Step::Held(..) | Step::Moved(..) | Step::Executed(..) => return Ok(None),
+    }))
 }
 
 fn events_of(alloc: Global, row: &[Line]) -> Result<Vec<Event<'static>>, AllocError> {
     let mut events = Vec::new(alloc);
     for (step, _) in row {
-        let event = event_of(alloc, step)?;
-        events.push(event)?;
+        if let Some(event) = event_of(alloc, step)? {
+            events.push(event)?;
+        }
     }
     Ok(events)
 }
@@ -109,29 +118,43 @@ fn stepped_text(
     answer_text(alloc, &answer)
 }
 
+fn event_text(
+    alloc: Global,
+    how: How,
+    world: &mut World,
+    event: &Event<'static>,
+) -> Result<String, AllocError> {
+    match how {
+        How::Records => recorded_text(alloc, world, event),
+        _ => stepped_text(alloc, world, event),
+    }
+}
+
 fn answers_one_by_one(
     alloc: Global,
     how: How,
     world: &mut World,
-    events: &[Event<'static>],
+    row: &[Line],
 ) -> Result<Vec<String>, AllocError> {
     let mut answers = Vec::new(alloc);
-    for event in events {
-        let answer = match how {
-            How::Records => recorded_text(alloc, world, event)?,
-            _ => stepped_text(alloc, world, event)?,
+    for (step, _) in row {
+        let answer = match event_of(alloc, step)? {
+            Some(event) => event_text(alloc, how, world, &event)?,
+            None => shown_text(alloc, world, step)?,
         };
         answers.push(answer)?;
     }
     Ok(answers)
 }
 
+/// A run asks for all events at once, so what lies between them isn't asked.
 fn answers_of_run(
     alloc: Global,
     world: &mut World,
-    events: &[Event<'static>],
+    row: &[Line],
 ) -> Result<Vec<String>, AllocError> {
-    let report = world.run(alloc, events)?;
+    let events = events_of(alloc, row)?;
+    let report = world.run(alloc, &events)?;
     let mut answers = Vec::new(alloc);
     for answer in &report.answers {
         let text = answer_text(alloc, answer)?;
@@ -142,11 +165,21 @@ fn answers_of_run(
 
 fn answers_so(alloc: Global, how: How, nodes: u8, row: &[Line]) -> Result<Vec<String>, AllocError> {
     let mut world = new_world(alloc, nodes)?;
-    let events = events_of(alloc, row)?;
     match how {
-        How::Run => answers_of_run(alloc, &mut world, &events),
-        _ => answers_one_by_one(alloc, how, &mut world, &events),
+        How::Run => answers_of_run(alloc, &mut world, row),
+        _ => answers_one_by_one(alloc, how, &mut world, row),
     }
+}
+
+/// What the lines of a row want that are answered so.
+fn wanted_so(alloc: Global, how: How, row: &[Line]) -> Result<Vec<&'static str>, AllocError> {
+    let mut wanted = Vec::new(alloc);
+    for (step, answer) in row {
+        if !(matches!(how, How::Run) && is_question(step)) {
+            wanted.push(*answer)?;
+        }
+    }
+    Ok(wanted)
 }
 
 fn other_text(alloc: Global, line: usize, answer: &str) -> Result<String, AllocError> {
@@ -154,12 +187,12 @@ fn other_text(alloc: Global, line: usize, answer: &str) -> Result<String, AllocE
 }
 
 /// The first line that is answered otherwise, and how; nothing where there is none.
-fn first_other(alloc: Global, answers: &[String], row: &[Line]) -> Result<String, AllocError> {
-    if answers.len() != row.len() {
+fn first_other(alloc: Global, answers: &[String], wanted: &[&str]) -> Result<String, AllocError> {
+    if answers.len() != wanted.len() {
         return String::from_str(alloc, "not as many answers as lines");
     }
-    for (line, (_, wanted)) in row.iter().enumerate() {
-        if answers[line].as_str() != *wanted {
+    for (line, text) in wanted.iter().enumerate() {
+        if answers[line].as_str() != *text {
             return other_text(alloc, line, answers[line].as_str());
         }
     }
@@ -171,7 +204,8 @@ fn first_other(alloc: Global, answers: &[String], row: &[Line]) -> Result<String
 pub(super) fn difference(alloc: Global, nodes: u8, row: &[Line]) -> Result<String, Fail> {
     for how in [How::Steps, How::Records, How::Run] {
         let answers = answers_so(alloc, how, nodes, row)?;
-        let other = first_other(alloc, &answers, row)?;
+        let wanted = wanted_so(alloc, how, row)?;
+        let other = first_other(alloc, &answers, &wanted)?;
         if !other.is_empty() {
             return Ok(other);
         }
