@@ -86,6 +86,7 @@ pub fn cut_field(text: &str) -> Option<(&str, &str)>
 }
 
 /// The number of a node or a term before the first space, and what stands after it.
+#[inline(always)]
 pub fn cut_byte(text: &str) -> Option<(u8, &str)>
     ensures { option_map (λ parts. (parts.0, parts.1.now)) result ≡ byte_cut_of text.now }
 {

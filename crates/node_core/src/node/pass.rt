@@ -82,6 +82,7 @@ impl NodeCore {
     }
 
     // Passes a point whose name was read, and answers the reply where one is wanted.
+    #[inline(always)]
     fn pass(
         &mut self,
         alloc: Global,
