@@ -1,11 +1,12 @@
 //! Operations.
 
-ghost use Rattle.std.specs.Prelude.{◌≡◌};
-ghost use Rattle.replica_state.specs.Operations.{operation};
+ghost use Rattle.std.specs.Prelude.{◌≡◌, ◌↔◌, IsTrue};
+ghost use Rattle.replica_state.specs.Operations.{operation, IsWellFormed, ShiftsToAnother};
 ghost use Rattle.replica_state.specs.Folds.{name_in};
 ghost use Rattle.replica_state.specs.OpSets.{key_told, count_told};
 ghost use Rattle.replica_state.specs.Points.{given_key};
 
+use crate::budget::count_of;
 use crate::point::{Count, Counted};
 use actions::Name;
 use stamp_register::Key;
@@ -57,6 +58,37 @@ pub enum Op {
 }
 
 impl Op {
+    /// Whether a replica may learn it: its number is at least 1, what is executed, shifted or granted
+    /// is a counted term of its key, and what is shifted goes to another node.
+    pub fn is_well_formed(&self) -> bool
+        ensures { IsTrue result ↔ IsWellFormed (operation self.now) × ShiftsToAnother self.now }
+    {
+        match self {
+            Op::Set { .. } => true,
+            Op::Hit { number, .. } => *number >= 1,
+            Op::Exec {
+                key,
+                term,
+                number,
+                ..
+            } => *number >= 1 && count_of(key, *term).is_some(),
+            Op::Shift {
+                key,
+                term,
+                from,
+                to,
+                total,
+                ..
+            } => *total >= 1 && from != to && count_of(key, *term).is_some(),
+            Op::Grant {
+                key,
+                term,
+                total,
+                ..
+            } => *total >= 1 && count_of(key, *term).is_some(),
+        }
+    }
+
     /// The name that it tells of.
     pub(crate) fn name(&self) -> &Name
         ensures { result.now ≡ name_in (operation self.now) }

@@ -1,6 +1,6 @@
 ghost use Rattle.std.specs.Prelude.{◌≡◌, ◌+◌, ◌<◌, ◌≤◌, ◌^◌, ℕ, true, false, Some, IfSome, IsSome, IfOk};
 ghost use Rattle.stamp_register.specs.Keys.{key_value};
-ghost use Rattle.replica_state.specs.Operations.{operation, count_of, IsWellFormed, ShiftsToAnother};
+ghost use Rattle.replica_state.specs.Operations.{count_of};
 ghost use Rattle.replica_state.specs.Knowledge.{is_upto};
 ghost use Rattle.replica_state.specs.SetOrder.{state_of};
 ghost use Rattle.replica_state.specs.States.{budget_of};
@@ -110,36 +110,6 @@ fn count_of(key: &Key, term: u8) -> Option<u64>
     }
 }
 
-fn is_well_formed(op: &Op) -> bool
-    ensures formed { result ≡ true → IsWellFormed (operation op.now) }
-    ensures other { result ≡ true → ShiftsToAnother op.now }
-{
-    match op {
-        Op::Set { .. } => true,
-        Op::Hit { number, .. } => *number >= 1,
-        Op::Exec {
-            key,
-            term,
-            number,
-            ..
-        } => *number >= 1 && count_of(key, *term).is_some(),
-        Op::Shift {
-            key,
-            term,
-            from,
-            to,
-            total,
-            ..
-        } => *total >= 1 && from != to && count_of(key, *term).is_some(),
-        Op::Grant {
-            key,
-            term,
-            total,
-            ..
-        } => *total >= 1 && count_of(key, *term).is_some(),
-    }
-}
-
 /// Whether a key is above the one that a point has.
 fn is_above<R: Replica>(replica: &R, name: &Name, key: &Key) -> bool
     ensures { result ≡ true
@@ -164,7 +134,7 @@ fn may_spend<R: Replica>(replica: &R, name: &Name, spent: Option<u8>) -> bool
 
 /// Learns an operation. If its memory is refused, nothing may have changed, and it is asked again.
 fn add<R: Replica>(rt: &impl Abort, alloc: Global, replica: &mut R, name: &Name, op: &Op) {
-    let fits = is_well_formed(op);
+    let fits = op.is_well_formed();
     assert!(rt; fits);
     let before = answers(replica, name);
     if replica.add(alloc, op).is_err() {

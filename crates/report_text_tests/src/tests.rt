@@ -1,10 +1,6 @@
 //! Reports of worked states. Both replicas learn the operations of each state forwards and
 //! backwards, and all four have the reports that the table says.
 
-ghost use Rattle.std.specs.Prelude.{◌≡◌, true, IsSome};
-ghost use Rattle.stamp_register.specs.Keys.{key_value};
-ghost use Rattle.replica_state.specs.Operations.{operation, count_of, IsWellFormed, ShiftsToAnother};
-
 use actions::{Name, parse_actions};
 use replica_state::{Matrix, Op, OpSet, Replica};
 use report_text::{report_json, report_lines};
@@ -64,48 +60,6 @@ fn op_of(alloc: Global, told: Told) -> Result<Op, Fail> {
     })
 }
 
-fn is_counted(key: &Key, term: u8) -> bool
-    ensures { result ≡ true → IsSome (count_of (key_value key.now) term) }
-{
-    match key.actions() {
-        Some(actions) => match actions.term(term) {
-            Some(term) => term.count.is_some(),
-            None => false,
-        },
-        None => false,
-    }
-}
-
-fn is_well_formed(op: &Op) -> bool
-    ensures formed { result ≡ true → IsWellFormed (operation op.now) }
-    ensures other { result ≡ true → ShiftsToAnother op.now }
-{
-    match op {
-        Op::Set { .. } => true,
-        Op::Hit { number, .. } => *number >= 1,
-        Op::Exec {
-            key,
-            term,
-            number,
-            ..
-        } => *number >= 1 && is_counted(key, *term),
-        Op::Shift {
-            key,
-            term,
-            from,
-            to,
-            total,
-            ..
-        } => *total >= 1 && from != to && is_counted(key, *term),
-        Op::Grant {
-            key,
-            term,
-            total,
-            ..
-        } => *total >= 1 && is_counted(key, *term),
-    }
-}
-
 fn learn<R: Replica>(
     rt: &impl Abort,
     alloc: Global,
@@ -113,7 +67,7 @@ fn learn<R: Replica>(
     told: Told,
 ) -> Result<(), Fail> {
     let op = op_of(alloc, told)?;
-    let fits = is_well_formed(&op);
+    let fits = op.is_well_formed();
     assert!(rt; fits);
     replica.add(alloc, &op)?;
     Ok(())
