@@ -15,7 +15,7 @@ use Rattle.node_core.specs.Traces.{Kept, node_of, state_known, replay_from, refu
 use Rattle.node_core.specs.Deliveries.{TellsDelta}
 use Rattle.node_core.proofs.RepliedDelta.{delta_replied, delta_sends}
 use Rattle.cluster_model.specs.Laws.{emit_call}
-use Rattle.cluster_model.proofs.Replays.{legal_more}
+use Rattle.node_core.proofs.LegalTraces.{legal_more}
 
 -- what is said of the last call of a legal trace
 record IsLegalCall (config : Config) (entries : ℕ) (n : Node) (c : Call) : Type 0 where

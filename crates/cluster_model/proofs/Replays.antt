@@ -16,6 +16,7 @@ use Rattle.node_core.specs.Nodes.{Node, start}
 use Rattle.node_core.specs.Steps.{after, reply}
 use Rattle.node_core.specs.Traces.{Kept, replay, replay_from, SendsDelta, IsLegalFrom, IsLegal}
 use Rattle.node_core.proofs.TraceLemmas.{replay_more}
+use Rattle.node_core.proofs.LegalTraces.{legal_more, nothing_legal}
 use Rattle.node_core.specs.Refusals.{refusal_at}
 use Rattle.cluster_model.specs.Worlds.{Cluster, World, Event, config_of, accepted, node_after, trace_after, sent, world}
 use Rattle.cluster_model.specs.Schedules.{AllowsDelta, IsDeltaSchedule}
@@ -114,20 +115,6 @@ event_is_call c es e =
 
 -- ---- legal traces
 
-pub legal_more : (config : Config) (entries : ℕ) (n : Node) (trace : List Call) (ask : Asked) (words : List ℕ) → IsLegalFrom config entries n trace →
-    refusal_at config (entries + length trace) (replay_from config.node n trace) ask words ≡ None → SendsDelta (replay_from config.node n trace) ask →
-    IsLegalFrom config entries n (trace ++ record { ask = ask; words = words; reply = reply config.node (replay_from config.node n trace) ask words } ∷ [])
-unfolding IsLegalFrom replay_from
-legal_more config entries n [] ask words legal agreed sends = (subst (λ k. refusal_at config k n ask words ≡ None) (let none : entries + 0 ≡ entries = omega arith in none) agreed, sends, refl, tt)
-legal_more config entries n (call ∷ trace) ask words legal agreed sends =
-    let places : entries + length (call ∷ trace) ≡ entries + 1 + length trace = omega arith in (
-      legal.0,
-      legal.1,
-      legal.2,
-      legal_more config (entries + 1) (after config.node n call.ask call.words) trace ask words legal.3
-          (subst (λ k. refusal_at config k (replay_from config.node (after config.node n call.ask call.words) trace) ask words ≡ None) places agreed) sends,
-    )
-
 pub sends_delta : (c : Cluster) (w : World) (e : Event) (i : ℕ) (ask : Asked) → AllowsDelta w e.node (accepted c w e e.node) → accepted c w e i ≡ Some ask → SendsDelta (w.node i) ask
 sends_delta c w e i ask allowed h =
     let here = (asked_is c w e i ask h).here in
@@ -136,10 +123,6 @@ sends_delta c w e i ask allowed h =
     of : (a : Asked) → AllowsDelta w i (Some a) → SendsDelta (w.node i) a
     of (asks.Emit to versions chosen) k = k
     of a k = tt
-
-nothing_legal : (config : Config) → IsLegal config []
-unfolding IsLegalFrom
-nothing_legal config = tt
 
 pub traces_are_legal : (c : Cluster) (es : List Event) → IsDeltaSchedule c es → (i : ℕ) → IsLegal (config_of c i) ((world c es).trace i)
 traces_are_legal c [] s i = nothing_legal (config_of c i)

@@ -1,5 +1,6 @@
 pub mod OwnRights
 pub mod TraceLemmas
+pub mod LegalTraces
 pub mod Rights
 pub mod Listing
 pub mod ListedAgain

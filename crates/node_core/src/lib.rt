@@ -9,6 +9,7 @@ mod fault;
 pub mod laws;
 mod list;
 mod node;
+mod receipt;
 mod reply;
 mod setting;
 mod trace;
@@ -17,6 +18,7 @@ pub use ask::Ask;
 pub use config::Config;
 pub use fault::{NodeFault, TextFault};
 pub use node::NodeCore;
+pub use receipt::Receipt;
 pub use reply::{PassReply, Reply};
 pub use trace::{Entry, Trace};
 

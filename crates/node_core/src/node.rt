@@ -166,6 +166,19 @@ impl NodeCore {
         &self.trace
     }
 
+    /// The accepted calls, without the node.
+    pub fn into_trace(self) -> Trace
+        ensures { map (call self.config.nodes) result.items ≡ self.trace }
+    {
+        let NodeCore {
+            config: _,
+            clock: _,
+            replica: _,
+            trace,
+        } = self;
+        trace
+    }
+
     // What the node knows is lawful: messages can tell each operation of it.
     pub(crate) fn is_lawful(&self)
         ensures { AreLawful self.now.config.nodes (node_of self.now).ops }

@@ -1,0 +1,5 @@
+pub mod StreamWords
+pub mod LawfulCells
+pub mod EnteredCells
+pub mod GivenReceipts
+pub mod WorkersLemmas

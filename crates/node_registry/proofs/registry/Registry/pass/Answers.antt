@@ -1,0 +1,7 @@
+use Rattle.node_core.specs.Asks.{Pass}
+use Rattle.node_registry.proofs.GivenReceipts.{memory_refused}
+use Rattle.node_registry.proofs.registry.Registry.pass.Goals as goal
+
+pub returns-in_err-name-clause-refused : goal.returns-in_err-name-clause-refused
+returns-in_err-name-clause-refused g c =
+    memory_refused g.L.Label.config (Pass c.args.name.now) c.from_residual.result c.from_residual.ensures.1

@@ -1,0 +1,13 @@
+use Rattle.std.proofs.Common.{◌≡◌, ◌+◌, ◌≤◌, ◌++◌, vec_len, vec_capacity}
+use Rattle.std.specs.Prelude.{MatchResult}
+use Rattle.std.specs.List.{AllZip}
+use Rattle.std.specs.Vec.Iter.{into_iter_items, into_iter_len}
+use Rattle.node_registry.specs.Workers.{IsDone}
+use Rattle.node_registry.proofs.workers.join_all.Given as goal
+
+abbrev pub invariant-loop-worker : goal.invariant-loop-worker
+invariant-loop-worker g l = record {
+  room : vec_len l.dones + into_iter_len l.worker-iterator ≤ vec_capacity l.dones;
+  each : (rest : _) → AllZip (λ w d. MatchResult w (λ h. IsDone g.L.Label.config.node h.promise.was d.seat d.receipts.items) (λ e. d ≡ e)) (into_iter_items l.worker-iterator) rest
+      → AllZip (λ w d. MatchResult w (λ h. IsDone g.L.Label.config.node h.promise.was d.seat d.receipts.items) (λ e. d ≡ e)) l.fn.workers.items (l.dones.items ++ rest);
+}

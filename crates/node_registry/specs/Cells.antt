@@ -1,0 +1,54 @@
+-- A node with its generator, as callers see it.
+use Rattle.std.specs.Prelude.{◌≡◌, ℕ, ◌+◌, ◌*◌, ◌≤◌, ◌<◌, ◌^◌, List, [], length}
+use Rattle.rand_chacha.specs.ChaCha.{ChaCha, key_of}
+use Rattle.node_core.specs.declared.config.Config.{Config}
+use Rattle.node_core.specs.declared.fault.NodeFault.{NodeFault}
+use Rattle.node_core.specs.declared.trace.Entry.{Entry}
+use Rattle.node_core.specs.Applied.{TellsIfEmit}
+use Rattle.node_core.specs.Asks.{Asked}
+use Rattle.node_core.specs.Traces.{Kept, IsLegal, IsRefusalOf, Records, call_of}
+use Rattle.node_registry.specs.Words.{words_from, words_of, words_taken}
+
+-- the node; the key of its generator, whose stream is that of the node's number; and the place of the
+-- generator's next word
+pub record Cell : Type 0 where
+  pub node : Kept
+  pub key : List ℕ
+  pub place : ℕ
+
+abbrev pub cell_of : Kept → ChaCha → Cell
+cell_of k g = record { node = k; key = g.key; place = g.word_pos }
+
+-- a node that has accepted no call, at the start of its stream
+abbrev pub new_cell : Config → List ℕ → Cell
+new_cell config seed = record { node = record { config = config; trace = [] }; key = key_of seed; place = 0 }
+
+-- the words that a call takes
+abbrev pub next_words : Cell → Asked → List ℕ
+next_words c ask = words_from c.key c.node.config.node c.place (words_taken c.node ask)
+
+-- the call of this entry is accepted with the next words, and the cell is then the second one
+pub record Enters (c d : Cell) (e : Entry) : Type 0 where
+  pub records : Records c.node d.node (call_of c.node e) (next_words c (call_of c.node e).ask)
+  pub tells : TellsIfEmit c.node e.ask e.reply
+  pub key : d.key ≡ c.key
+  pub place : d.place ≡ c.place + words_taken c.node (call_of c.node e).ask
+
+-- an ask is refused so with the next words
+abbrev pub IsRefusedBy : Cell → Asked → NodeFault → Type 0
+IsRefusedBy c ask = IsRefusalOf c.node ask (next_words c ask)
+
+-- the trace is legal, and its words are those of the stream from its start on, as many as the place says
+pub record IsLawful (c : Cell) : Type 0 where
+  pub legal : IsLegal c.node.config c.node.trace
+  pub drawn : words_of c.node.trace ≡ words_from c.key c.node.config.node 0 c.place
+
+-- a lawful cell of a node of this configuration
+abbrev pub IsLawfulAt : Config → Cell → Type 0
+IsLawfulAt config c = IsLawful c × (c.node.config ≡ config)
+
+-- there are few calls, and so few words that the stream has more
+pub record IsWithinBounds (c : Cell) : Type 0 where
+  pub few_words : c.place ≤ 2 ^ 8 * length c.node.trace
+  pub few_calls : length c.node.trace ≤ c.node.config.trace_cap
+  pub small_cap : c.node.config.trace_cap < 2 ^ 32

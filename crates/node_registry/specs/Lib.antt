@@ -1,0 +1,4 @@
+pub mod Words
+pub mod Cells
+pub mod Receipts
+pub mod Workers

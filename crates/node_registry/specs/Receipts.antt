@@ -1,0 +1,31 @@
+-- What a caller is told.
+use Rattle.std.specs.Prelude.{◌≡◌, ℕ, length}
+use Rattle.node_core.specs.declared.ask.Ask.{Ask}
+use Rattle.node_core.specs.declared.config.Config.{Config}
+use Rattle.node_core.specs.declared.fault.NodeFault.{NodeFault}
+use Rattle.node_core.specs.declared.receipt.Receipt.{Receipt}
+use Rattle.node_core.specs.declared.trace.Entry.{Entry}
+use Rattle.node_core.specs.Asks.{Asked, ask_value, bytes_of}
+use Rattle.node_registry.specs.Cells.{Cell, Enters, IsLawfulAt, IsRefusedBy}
+
+-- an entry is of this ask, to the byte, in a cluster of so many nodes
+pub record IsEntryFor (nodes : ℕ) (ask : Ask) (e : Entry) : Type 0 where
+  pub asked : ask_value nodes e.ask e.reply ≡ ask_value nodes ask e.reply
+  pub bytes : bytes_of e.ask ≡ bytes_of ask
+
+-- the receipt of an entry: its node's number, and how many entries the trace had before it
+abbrev pub receipt_of : Cell → Entry → Receipt
+receipt_of c e = record { node = c.node.config.node; index = length c.node.trace; entry = e }
+
+-- a receipt is of this node and this ask
+abbrev pub IsReceiptOf : Config → Asked → Receipt → Type 0
+IsReceiptOf config ask r = (r.node ≡ config.node) × (ask_value config.nodes r.entry.ask r.entry.reply ≡ ask)
+
+-- some lawful cell of the node accepts the call of the entry, and this is the receipt
+abbrev pub IsGiven : Config → Receipt → Type 0
+IsGiven config r =
+    (c : Cell) × (d : Cell) × IsLawfulAt config c × Enters c d r.entry × (r ≡ receipt_of c r.entry)
+
+-- some lawful cell of the node refuses the ask so
+abbrev pub IsRefused : Config → Asked → NodeFault → Type 0
+IsRefused config ask fault = (c : Cell) × IsLawfulAt config c × IsRefusedBy c ask fault

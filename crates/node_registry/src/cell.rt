@@ -1,0 +1,99 @@
+//! A node with the generator of its words.
+
+ghost use Rattle.std.specs.Prelude.{◌≡◌, map, IfOk, IfErr, OnErr, OnOk, IsTrue, false};
+ghost use Rattle.node_core.specs.Asks.{ask_value_first, call};
+ghost use Rattle.node_core.specs.Refusals.{is_bad_config};
+ghost use Rattle.node_registry.specs.Cells.{Cell, Enters, IsLawful, IsRefusedBy, IsWithinBounds};
+ghost use Rattle.node_registry.specs.Cells.{cell_of, new_cell};
+ghost use Rattle.node_registry.specs.Receipts.{IsEntryFor};
+
+use crate::words::call_with_words;
+use node_core::{Ask, Config, Entry, NodeCore, NodeFault, Trace};
+use rand_chacha::ChaCha8Rng;
+use rand_core::SeedableRng;
+use std::alloc::Global;
+use std::marker::Model;
+
+/// A node with the generator of the words that its passes are given: ChaCha8 of a seed, on the
+/// stream of the node's number. Contracts see the node, the generator's key, and the place of its
+/// next word, counted from 0.
+#[derive(Drop)]
+pub struct NodeCell {
+    core: NodeCore,
+    generator: ChaCha8Rng,
+}
+
+impl Model for NodeCell {
+    ghost Value = { Cell };
+
+    ghost view = { λ c. cell_of c.core c.generator };
+
+    ghost invariant = { λ c. (c.generator.stream ≡ c.core.config.node)
+        × IsLawful (cell_of c.core c.generator) × IsWithinBounds (cell_of c.core c.generator) };
+}
+
+impl NodeCell {
+    /// A node that has accepted no call, at the start of its stream.
+    pub fn new(alloc: Global, config: Config, seed: [u8; 32]) -> Result<NodeCell, NodeFault>
+        ensures ok { IfOk result (λ c. c ≡ new_cell config seed) }
+        ensures good { OnOk result (is_bad_config config ≡ false) }
+        ensures err { IfErr result (λ f.
+            (f ≡ NodeFault.BadConfig) × IsTrue (is_bad_config config)) }
+    {
+        let core = NodeCore::new(alloc, config)?;
+        let mut generator = ChaCha8Rng::from_seed(seed);
+        generator.set_stream(u64::from(config.node));
+        Ok(NodeCell { core, generator })
+    }
+
+    /// The node. Its trace is legal, and its passes were given the words of the stream in order.
+    pub fn core(&self) -> &NodeCore
+        ensures core { result.now ≡ self.now.node }
+        ensures lawful { IsLawful self.now }
+        ensures bounds { IsWithinBounds self.now }
+    {
+        &self.core
+    }
+
+    /// The place of the next word.
+    pub fn place(&self) -> u128
+        ensures { result ≡ self.now.place }
+    {
+        self.generator.get_word_pos()
+    }
+
+    /// Makes a call, a pass with the next words of the stream, as many as its point needs, and
+    /// answers a copy of the entry that the trace has for it. A refused call draws no word.
+    pub fn enter(&mut self, alloc: Global, ask: &Ask) -> Result<Entry, NodeFault>
+        ensures asked { IfOk result (IsEntryFor self.old.node.config.nodes ask.now) }
+        ensures ok { IfOk result (Enters self.old self.new) }
+        ensures refused { IfErr result
+            (IsRefusedBy self.old (ask_value_first self.old.node.config.nodes ask.now)) }
+        ensures err { OnErr result (self.new ≡ self.old) }
+    {
+        let copy = ask.copied(alloc)?;
+        self.enter_owned(alloc, copy)
+    }
+
+    /// The same of an ask that goes into the entry.
+    pub(crate) fn enter_owned(&mut self, alloc: Global, ask: Ask) -> Result<Entry, NodeFault>
+        ensures asked { IfOk result (λ e. e.ask ≡ ask) }
+        ensures ok { IfOk result (Enters self.old self.new) }
+        ensures refused { IfErr result
+            (IsRefusedBy self.old (ask_value_first self.old.node.config.nodes ask)) }
+        ensures err { OnErr result (self.new ≡ self.old) }
+    {
+        let NodeCell { core, generator } = self;
+        let (words, reply) = call_with_words(core, generator, alloc, &ask)?;
+        Ok(Entry { ask, words, reply })
+    }
+
+    /// The trace.
+    pub(crate) fn into_trace(self) -> Trace
+        ensures trace { map (call self.node.config.nodes) result.items ≡ self.node.trace }
+        ensures lawful { IsLawful self }
+    {
+        let NodeCell { core, generator: _ } = self;
+        core.into_trace()
+    }
+}

@@ -1,0 +1,15 @@
+//! One lock per node: threads call a node in turn, and are given a receipt of each accepted call.
+#![tactic(auto)]
+
+mod cell;
+mod guarded;
+mod label;
+mod registry;
+mod words;
+mod workers;
+
+pub use cell::NodeCell;
+pub use guarded::{Closed, Guarded, Seat};
+pub use label::Label;
+pub use registry::Registry;
+pub use workers::{Done, Gate, Job, run_workers};

@@ -1,0 +1,309 @@
+//! One node behind one lock.
+
+ghost use Rattle.std.specs.Prelude.{◌≡◌, ℕ, ◌+◌, ◌≤◌, ◌<◌, ◌⊎◌, length, map, sum, vec_len, All, IfOk, IfErr, OnErr, OnOk, IsTrue, false};
+ghost use Rattle.std.specs.Fn.{FnOnceReturnsAt};
+ghost use Rattle.node_core.specs.Asks as asks;
+ghost use Rattle.node_core.specs.Asks.{ask_value_first, bare_emit, bytes_of, call};
+ghost use Rattle.node_core.specs.Asks.{emit_asked, message_read};
+ghost use Rattle.node_core.specs.Refusals.{is_bad_config};
+ghost use Rattle.node_core.specs.Traces.{IsLegal};
+ghost use Rattle.node_registry.specs.Cells.{Cell, IsLawfulAt};
+ghost use Rattle.node_registry.specs.Receipts.{IsEntryFor, IsGiven, IsReceiptOf, IsRefused};
+
+use crate::guarded::{Closed, Guarded, Seat};
+use crate::label::Label;
+use node_core::{Ask, Config, NodeCore, NodeFault, Receipt};
+use std::alloc::Global;
+use std::hint;
+use std::sync::ledger::Blank;
+use std::sync::{Mutex, MutexGuard, Wait};
+
+/// How long a thread pauses each time that it finds a lock taken, before it sleeps until it gets it.
+const PAUSES: [u32; 9] = [64, 128, 256, 512, 1024, 2048, 4096, 8192, 16384];
+
+/// One node behind one lock. Each accepted call is one step of the node, made while the lock is
+/// held, and its caller is given a receipt.
+#[derive(Drop)]
+pub struct Registry<L: Label> {
+    lock: Mutex<Guarded<L>>,
+}
+
+impl<L: Label> Registry<L> {
+    /// A node that has accepted no call, with its seats. A refusal spends the blank.
+    pub fn start<R>(
+        _rt: &R,
+        alloc: Global,
+        blank: Blank,
+        config: Config,
+        seed: [u8; 32],
+        seats: u8,
+    ) -> Result<(Registry<L>, Vec<Seat<L>>), NodeFault>
+        requires name { blank.name ≡ L.name }
+        requires parts { (blank.parts ≡ L.parts) × (L.parts ≡ seats) × (0 < seats) }
+        requires config { config ≡ L.config }
+        ensures seats { IfOk result (λ r.
+            (vec_len r.1 ≡ seats) × All (λ calls. calls ≡ 0) r.1.items) }
+        ensures good { OnOk result (is_bad_config config ≡ false) }
+        ensures err { IfErr result (λ f. (f ≡ NodeFault.OutOfMemory)
+            ⊎ ((f ≡ NodeFault.BadConfig) × IsTrue (is_bad_config config))) }
+    {
+        let (guarded, seats) = Guarded::start(alloc, blank, config, seed, seats)?;
+        let lock = Mutex::new(guarded);
+        Ok((Registry { lock }, seats))
+    }
+
+    // Takes the lock. A call holds it for less time than a thread takes to fall asleep and be woken, and
+    // each look at a taken lock slows the thread that has it: so who finds it taken looks again later
+    // and later.
+    fn held<R: Wait>(&self, rt: &R) -> MutexGuard<'_, Guarded<L>> {
+        for pauses in PAUSES {
+            if let Some(guard) = self.lock.try_lock() {
+                return guard;
+            }
+            for _ in 0..pauses {
+                hint::spin_loop();
+            }
+        }
+        self.lock.lock(rt)
+    }
+
+    /// Makes a call under the lock, as `Guarded::enter` does, and counts it to the seat. The copy of
+    /// the ask that the receipt has is made before.
+    pub fn enter<R: Wait>(
+        &self,
+        rt: &R,
+        alloc: Global,
+        seat: &mut Seat<L>,
+        ask: &Ask,
+    ) -> Result<Receipt, NodeFault>
+        ensures receipt { IfOk result (λ r. (r.node ≡ L.config.node)
+            × IsEntryFor L.config.nodes ask.now r.entry) }
+        ensures given { IfOk result (IsGiven L.config) }
+        ensures since { IfOk result (λ r. seat.old ≤ r.index) }
+        ensures counted { OnOk result (seat.new ≡ seat.old + 1) }
+        ensures refused { IfErr result
+            (IsRefused L.config (ask_value_first L.config.nodes ask.now)) }
+        ensures err { OnErr result (seat.new ≡ seat.old) }
+    {
+        let copy = ask.copied(alloc)?;
+        self.enter_owned(rt, alloc, seat, copy)
+    }
+
+    /// The same of an ask that goes into the receipt.
+    pub(crate) fn enter_owned<R: Wait>(
+        &self,
+        rt: &R,
+        alloc: Global,
+        seat: &mut Seat<L>,
+        ask: Ask,
+    ) -> Result<Receipt, NodeFault>
+        ensures node { IfOk result (λ r. r.node ≡ L.config.node) }
+        ensures asked { IfOk result (λ r. r.entry.ask ≡ ask) }
+        ensures given { IfOk result (IsGiven L.config) }
+        ensures since { IfOk result (λ r. seat.old ≤ r.index) }
+        ensures counted { OnOk result (seat.new ≡ seat.old + 1) }
+        ensures refused { IfErr result
+            (IsRefused L.config (ask_value_first L.config.nodes ask)) }
+        ensures err { OnErr result (seat.new ≡ seat.old) }
+    {
+        let mut guarded = self.held(rt);
+        guarded.enter_owned(alloc, seat, ask)
+    }
+
+    /// Sets a point to an action text.
+    pub fn set<R: Wait>(
+        &self,
+        rt: &R,
+        alloc: Global,
+        seat: &mut Seat<L>,
+        name: &str,
+        text: &str,
+    ) -> Result<Receipt, NodeFault>
+        ensures receipt { IfOk result (IsReceiptOf L.config (asks.Set name.now text.now)) }
+        ensures given { IfOk result (IsGiven L.config) }
+        ensures since { IfOk result (λ r. seat.old ≤ r.index) }
+        ensures counted { OnOk result (seat.new ≡ seat.old + 1) }
+        ensures refused { IfErr result (IsRefused L.config (asks.Set name.now text.now)) }
+        ensures err { OnErr result (seat.new ≡ seat.old) }
+    {
+        let name = String::from_str(alloc, name)?;
+        let text = String::from_str(alloc, text)?;
+        let ask = Ask::Set { name, text };
+        self.enter_owned(rt, alloc, seat, ask)
+    }
+
+    /// Removes a point.
+    pub fn remove<R: Wait>(
+        &self,
+        rt: &R,
+        alloc: Global,
+        seat: &mut Seat<L>,
+        name: &str,
+    ) -> Result<Receipt, NodeFault>
+        ensures receipt { IfOk result (IsReceiptOf L.config (asks.Remove name.now)) }
+        ensures given { IfOk result (IsGiven L.config) }
+        ensures since { IfOk result (λ r. seat.old ≤ r.index) }
+        ensures counted { OnOk result (seat.new ≡ seat.old + 1) }
+        ensures refused { IfErr result (IsRefused L.config (asks.Remove name.now)) }
+        ensures err { OnErr result (seat.new ≡ seat.old) }
+    {
+        let name = String::from_str(alloc, name)?;
+        let ask = Ask::Remove { name };
+        self.enter_owned(rt, alloc, seat, ask)
+    }
+
+    /// Sets the points of a setting text.
+    pub fn load<R: Wait>(
+        &self,
+        rt: &R,
+        alloc: Global,
+        seat: &mut Seat<L>,
+        text: &str,
+    ) -> Result<Receipt, NodeFault>
+        ensures receipt { IfOk result (IsReceiptOf L.config (asks.Load text.now)) }
+        ensures given { IfOk result (IsGiven L.config) }
+        ensures since { IfOk result (λ r. seat.old ≤ r.index) }
+        ensures counted { OnOk result (seat.new ≡ seat.old + 1) }
+        ensures refused { IfErr result (IsRefused L.config (asks.Load text.now)) }
+        ensures err { OnErr result (seat.new ≡ seat.old) }
+    {
+        let text = String::from_str(alloc, text)?;
+        let ask = Ask::Load { text };
+        self.enter_owned(rt, alloc, seat, ask)
+    }
+
+    /// Passes a point, with the next words of the node's stream, as many as the point needs.
+    pub fn pass<R: Wait>(
+        &self,
+        rt: &R,
+        alloc: Global,
+        seat: &mut Seat<L>,
+        name: &str,
+    ) -> Result<Receipt, NodeFault>
+        ensures receipt { IfOk result (IsReceiptOf L.config (asks.Pass name.now)) }
+        ensures given { IfOk result (IsGiven L.config) }
+        ensures since { IfOk result (λ r. seat.old ≤ r.index) }
+        ensures counted { OnOk result (seat.new ≡ seat.old + 1) }
+        ensures refused { IfErr result (IsRefused L.config (asks.Pass name.now)) }
+        ensures err { OnErr result (seat.new ≡ seat.old) }
+    {
+        let name = String::from_str(alloc, name)?;
+        let ask = Ask::Pass { name };
+        self.enter_owned(rt, alloc, seat, ask)
+    }
+
+    /// Moves rights to execute a counted term to another node.
+    pub fn shift<R: Wait>(
+        &self,
+        rt: &R,
+        alloc: Global,
+        seat: &mut Seat<L>,
+        name: &str,
+        term: u8,
+        to: u8,
+        amount: u64,
+    ) -> Result<Receipt, NodeFault>
+        ensures receipt { IfOk result (IsReceiptOf L.config (asks.Shift name.now term to amount)) }
+        ensures given { IfOk result (IsGiven L.config) }
+        ensures since { IfOk result (λ r. seat.old ≤ r.index) }
+        ensures counted { OnOk result (seat.new ≡ seat.old + 1) }
+        ensures refused { IfErr result (IsRefused L.config (asks.Shift name.now term to amount)) }
+        ensures err { OnErr result (seat.new ≡ seat.old) }
+    {
+        let name = String::from_str(alloc, name)?;
+        let ask = Ask::Shift {
+            name,
+            term,
+            to,
+            amount,
+        };
+        self.enter_owned(rt, alloc, seat, ask)
+    }
+
+    /// Grants the node rights to execute a counted term beyond its count.
+    pub fn grant<R: Wait>(
+        &self,
+        rt: &R,
+        alloc: Global,
+        seat: &mut Seat<L>,
+        name: &str,
+        term: u8,
+        amount: u64,
+    ) -> Result<Receipt, NodeFault>
+        ensures receipt { IfOk result (IsReceiptOf L.config (asks.Grant name.now term amount)) }
+        ensures given { IfOk result (IsGiven L.config) }
+        ensures since { IfOk result (λ r. seat.old ≤ r.index) }
+        ensures counted { OnOk result (seat.new ≡ seat.old + 1) }
+        ensures refused { IfErr result (IsRefused L.config (asks.Grant name.now term amount)) }
+        ensures err { OnErr result (seat.new ≡ seat.old) }
+    {
+        let name = String::from_str(alloc, name)?;
+        let ask = Ask::Grant { name, term, amount };
+        self.enter_owned(rt, alloc, seat, ask)
+    }
+
+    /// Makes a message to another node. The receipt's reply has its bytes.
+    pub fn emit<R: Wait>(
+        &self,
+        rt: &R,
+        alloc: Global,
+        seat: &mut Seat<L>,
+        to: u8,
+    ) -> Result<Receipt, NodeFault>
+        ensures receipt { IfOk result (λ r.
+            IsReceiptOf L.config (emit_asked L.config.nodes to r.entry.reply) r) }
+        ensures given { IfOk result (IsGiven L.config) }
+        ensures since { IfOk result (λ r. seat.old ≤ r.index) }
+        ensures counted { OnOk result (seat.new ≡ seat.old + 1) }
+        ensures refused { IfErr result (IsRefused L.config (bare_emit to)) }
+        ensures err { OnErr result (seat.new ≡ seat.old) }
+    {
+        let ask = Ask::Emit { to };
+        self.enter_owned(rt, alloc, seat, ask)
+    }
+
+    /// Takes in a message of another node, as bytes.
+    pub fn deliver<R: Wait>(
+        &self,
+        rt: &R,
+        alloc: Global,
+        seat: &mut Seat<L>,
+        message: &[u8],
+    ) -> Result<Receipt, NodeFault>
+        ensures receipt { IfOk result
+            (IsReceiptOf L.config (asks.Deliver (message_read L.config.nodes message.now))) }
+        ensures bytes { IfOk result (λ r. bytes_of r.entry.ask ≡ message.now) }
+        ensures given { IfOk result (IsGiven L.config) }
+        ensures since { IfOk result (λ r. seat.old ≤ r.index) }
+        ensures counted { OnOk result (seat.new ≡ seat.old + 1) }
+        ensures refused { IfErr result
+            (IsRefused L.config (asks.Deliver (message_read L.config.nodes message.now))) }
+        ensures err { OnErr result (seat.new ≡ seat.old) }
+    {
+        let message = Vec::from_slice(alloc, message)?;
+        let ask = Ask::Deliver { message };
+        self.enter_owned(rt, alloc, seat, ask)
+    }
+
+    /// Lends the node under the lock, and answers what is answered there. The node is the label's,
+    /// its trace is legal, and its passes were given the words of the stream in order.
+    pub fn with<R: Wait, T, F: FnOnce(&NodeCore) -> T>(&self, rt: &R, f: F) -> T
+        requires { F.IsAlwaysCallable f }
+        ensures { (c : Cell) × IsLawfulAt L.config c × FnOnceReturnsAt F.FnOnce f c.node result }
+    {
+        let guarded = self.held(rt);
+        f(guarded.core())
+    }
+
+    /// Takes all seats back. The trace is legal, and has as many entries as the seats made calls.
+    pub fn close(self, seats: Vec<Seat<L>>) -> Closed
+        requires all { vec_len seats ≡ L.parts }
+        requires some { 0 < L.parts }
+        ensures legal { IsLegal L.config (map (call L.config.nodes) result.trace.items) }
+        ensures entries { length result.trace.items ≡ result.calls }
+        ensures calls { result.calls ≡ sum seats.items }
+    {
+        let Registry { lock } = self;
+        lock.into_inner().close(seats)
+    }
+}

@@ -1,0 +1,5 @@
+//! What is tested of registries.
+#![tactic(auto)]
+
+#[cfg(test)]
+mod tests;
