@@ -1,5 +1,6 @@
 #!/usr/bin/env python3
-"""Times scripts of passes, loads, shifts, grants and exchanges, work on maps, and messages. See README.md beside this file."""
+"""Times scripts of passes, loads, shifts, grants and exchanges, work on maps, messages, and passes under locks. See README.md
+beside this file."""
 
 import os
 import subprocess
@@ -46,6 +47,12 @@ WORKS = ("build", "raise", "join", "take")
 FORMS = ("plain", "grants")
 NAMES = (64, 128, 256)
 TIMES = 100
+
+# Passes of one point by calls: of a node that has no lock, through a registry by one thread and by four, and through four
+# registries by a thread each; of an uncounted term, a counted one, and one with a chance.
+WAYS = ("core", "registry", "threads", "nodes")
+TERMS = ("uncounted", "counted", "chance")
+CALLS = (400_000, 800_000)
 
 
 def build(crate, *arguments):
@@ -283,6 +290,38 @@ def time_messages(program, form):
         )
 
 
+def spent_on_calls(program, *words):
+    """Nanoseconds by the clock, of the passes alone, seconds of a processor, and the most memory in bytes."""
+    child = subprocess.Popen([program, *map(str, words)], stdout=subprocess.DEVNULL, stderr=subprocess.PIPE)
+    said = child.stderr.read()
+    _, status, usage = os.wait4(child.pid, 0)
+    child.returncode = os.waitstatus_to_exitcode(status)
+    if child.returncode != 0:
+        sys.exit(f"{program} {words}: status {child.returncode}")
+    return int(said.split()[0]), usage.ru_utime + usage.ru_stime, usage.ru_maxrss * 1024
+
+
+def time_locks(program):
+    """The sizes go in turn, and the ways too. `to one` is to the time through a registry by one thread."""
+    few, many = CALLS
+    print(
+        f"\n{'way':<10}{'term':<11}{f'ns a pass, {few}':>20}{many:>8}{'ratio':>7}{'to one':>8}"
+        f"{'ns of processors':>18}{'bytes kept':>12}{'with answers':>14}"
+    )
+    for term in TERMS:
+        rounds = [
+            [[spent_on_calls(program, way, term, calls, "drop") for calls in CALLS] for way in WAYS] for _ in range(ROUNDS)
+        ]
+        best = [[[min(parts) for parts in zip(*runs)] for runs in zip(*sizes)] for sizes in zip(*rounds)]
+        one_thread = best[WAYS.index("registry")][1][0]
+        for way, ((first, _, memory), (second, processor, twice)) in zip(WAYS, best):
+            kept, kept_twice = (spent_on_calls(program, way, term, calls, "keep")[2] for calls in CALLS)
+            print(
+                f"{way:<10}{term:<11}{first / few:>20.0f}{second / many:>8.0f}{second / first:>7.2f}{second / one_thread:>8.2f}"
+                f"{processor / many * 1e9:>18.0f}{(twice - memory) / few:>12.0f}{(kept_twice - kept) / few:>14.0f}"
+            )
+
+
 def main():
     failreg = build("failreg", "--help")
     if len(sys.argv) > 1:
@@ -296,6 +335,7 @@ def main():
     messages = build("message_times", "encode", "plain", "1", "1")
     for form in FORMS:
         time_messages(messages, form)
+    time_locks(build("pass_times", "core", "uncounted", "1", "drop"))
 
 
 if __name__ == "__main__":
