@@ -84,6 +84,53 @@ Example:
   act 1.0 1 off
   2";
 
+const THREADS_HELP: &str = "\
+The script is read to its end before anything is called. Its lines, in this
+order:
+  nodes <n> <cap>                     makes nodes 0 to n-1, 32 at most, of
+                                      which each accepts cap calls
+  seed <digits>                       64 hexadecimal digits: the seed of the
+                                      words that passes take at random
+  start <line>                        makes a call before the workers start,
+                                      in the order of these lines; <line> is
+                                      set <node> <name> <actions>,
+                                      remove <node> <name>,
+                                      load <node> <entries>,
+                                      shift <node> <name> <term> <to> <amount>
+                                      or grant <node> <name> <term> <amount>,
+                                      as in a script of `failreg sim`
+  worker <node>                       the lines up to the next `worker` are
+                                      calls of one worker of the node, made in
+                                      their order in a thread of its own:
+    set <name> <actions>              sets a point
+    remove <name>                     removes it
+    load <entries>                    sets the points of its entries
+    shift <name> <term> <to> <amount> moves rights to node <to>
+    grant <name> <term> <amount>      adds rights beyond the count
+    pass <name> <times>               passes the point so often, 65535 times
+                                      at most
+Any number of `start` lines and of workers may stand there, up to 250 workers a
+node. All workers run beside each other, and those of one node take turns at
+it. The nodes tell each other nothing. Fields are separated by one space. Empty
+lines and lines that begin with `#` are skipped.
+
+In the end two lines are printed: `workers` with the number of workers, and
+`calls` with the number of calls that the nodes accepted, those of the `start`
+lines too. A call that a node refuses changes nothing and isn't counted. A
+thread that can't be started makes no calls.
+
+The status is 0. It is 1 where the script can't be read, is longer than
+16777216 bytes, or can't be answered, where memory is refused, and where a line
+can't be read or stands out of its place, as `P5 BadLine line=6`: then nothing
+is called. The line is the first that is bad, counted from 1 with the skipped
+ones; where the seed is missing, it is the one behind the last. The reason
+stands on standard error.
+
+Example:
+  $ printf 'nodes 1 9\\nseed %064d\\nworker 0\\nset a off\\nworker 0\\npass b 4\\n' 0 | failreg threads
+  workers 2
+  calls 5";
+
 /// What the program is asked to do.
 #[derive(Clone, Copy, Debug, PartialEq, Eq)]
 pub enum Invocation<'a> {
@@ -91,6 +138,8 @@ pub enum Invocation<'a> {
     Parse(&'a str),
     /// To run the script on standard input, and perhaps to echo its lines.
     Sim { echo: bool },
+    /// To run the script of threads on standard input.
+    Threads,
 }
 
 // The words of a command line live as long as the texts of its command.
@@ -111,13 +160,17 @@ fn whole_command<'a>(alloc: Global) -> Result<Command<'a>, AllocError> {
         .about("Runs the script on standard input, and prints what its lines answer")
         .after_help(SIM_HELP)
         .arg(echo)?;
+    let threads = Command::new(alloc, "threads")
+        .about("Runs the script on standard input with workers in threads, and counts their calls")
+        .after_help(THREADS_HELP);
     Command::new(alloc, "failreg")
         .version(VERSION)
         .about("Failpoints of a cluster, with shared budgets")
         .after_help(EXAMPLE)
         .subcommand_required(true)
         .subcommand(parse)?
-        .subcommand(sim)
+        .subcommand(sim)?
+        .subcommand(threads)
 }
 
 /// What a command line asks for, whose first word is the program's name.
@@ -126,6 +179,7 @@ pub fn read_command_line<'a>(alloc: Global, words: &'a [String]) -> Result<Invoc
     let matches = command.try_get_matches_from(words)?;
     match matches.subcommand() {
         Some(("parse", matches)) => Ok(Invocation::Parse(matches.get_str("text").unwrap_or(""))),
+        Some(("threads", _)) => Ok(Invocation::Threads),
         Some((_, matches)) => Ok(Invocation::Sim {
             echo: matches.get_flag("echo"),
         }),

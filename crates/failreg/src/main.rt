@@ -1,12 +1,14 @@
 //! Action texts, and scripts that drive a cluster of failpoint registries.
 #![tactic(auto)]
 
-ghost use Rattle.std.specs.Prelude.{◌≡◌, ◌<◌, ◌⊎◌, true, false, length, if◌then◌else◌, IsOk, IfOk};
+ghost use Rattle.std.specs.Prelude.{◌≡◌, ℕ, ◌<◌, ◌⊎◌, true, false, length, if◌then◌else◌, IsOk, IfOk, Ok};
 ghost use Rattle.std.specs.Process.{exit_status};
 ghost use Rattle.actions.specs.Reading.{reading};
 ghost use Rattle.scripts.specs.Script.{echoed_text, script_text};
 ghost use Rattle.scripts.specs.Streams.{IfInput, Writes};
 ghost use Rattle.scripts.specs.Watched.{has_failed, has_unflushed};
+ghost use Rattle.thread_scripts.specs.Outputs.{output_text};
+ghost use Rattle.thread_scripts.specs.Plans.{PlanValue, plan_in};
 ghost use Rattle.failreg.specs.Statuses.{HasStatus, OnStatus};
 
 mod command_line;
@@ -19,6 +21,9 @@ use scripts::{MOST_BYTES, Watched, run_script, run_script_echoing};
 use std::io;
 use std::io::{Read, Write};
 use std::process::ExitCode;
+use std::sync::Wait;
+use std::thread::Threads;
+use thread_scripts::run_threads;
 
 fn main(rt: HostRuntime) -> anyhow::Result<ExitCode> {
     let alloc = rt.alloc();
@@ -29,6 +34,11 @@ fn main(rt: HostRuntime) -> anyhow::Result<ExitCode> {
             let mut reader = Watched::new(rt.reader());
             let mut writer = Watched::new(io::writer(&rt));
             sim(&rt, echo, &mut reader, &mut writer)
+        }
+        Ok(Invocation::Threads) => {
+            let mut reader = Watched::new(rt.reader());
+            let mut writer = Watched::new(io::writer(&rt));
+            threads(&rt, &mut reader, &mut writer)
         }
         Err(error) => finish_unread(&rt, &error),
     }
@@ -71,4 +81,28 @@ fn sim<R: Eprint + AllocGlobal, I: Read, O: Write>(
         run_script(rt.alloc(), reader, writer)
     };
     finish_script(rt, run)
+}
+
+// Runs the script of threads that a reader gives.
+fn threads<R: Threads + Wait + Sync + Eprint + AllocGlobal, I: Read, O: Write>(
+    rt: &R,
+    reader: &mut Watched<I>,
+    writer: &mut Watched<O>,
+) -> anyhow::Result<ExitCode>
+    requires reader { has_failed reader.old ≡ false }
+    requires writer { has_failed writer.old ≡ false }
+    // With status 0 the script has a plan, and what is written and flushed is how many workers the
+    // plan has, and some number of calls.
+    ensures done { OnStatus result 0 (IfInput I.remaining reader.old (λ input.
+        (plan : PlanValue) × (calls : ℕ) × (plan_in input ≡ Ok plan)
+        × Writes O.contents writer.old writer.new (output_text (length plan.blocks) calls))) }
+    ensures flushed { OnStatus result 0 (has_unflushed writer.new ≡ false) }
+    // A script that is too long, or that can't be read or answered, has status 1.
+    ensures read_failed { has_failed reader.new ≡ true → HasStatus result 1 }
+    ensures write_failed { has_failed writer.new ≡ true → HasStatus result 1 }
+    ensures long { IfInput I.remaining reader.old (λ input.
+        MOST_BYTES < length input → HasStatus result 1) }
+    ensures status { IfOk result (λ code. (exit_status code ≡ 0) ⊎ (exit_status code ≡ 1)) }
+{
+    finish_script(rt, run_threads(rt, rt.alloc(), reader, writer))
 }

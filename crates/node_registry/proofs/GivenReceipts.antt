@@ -1,5 +1,5 @@
 -- What a call under a lock says once the lock is let go.
-use Rattle.std.proofs.Common.{◌≡◌, ℕ, ◌≤◌, length, [], Result, Ok, Err, inl, refl, ap, ◌∙◌, subst, sym, arith}
+use Rattle.std.proofs.Common.{◌≡◌, ℕ, ◌≤◌, List, length, [], Result, Ok, Err, inl, refl, ap, ◌∙◌, subst, sym, arith}
 use Rattle.std.specs.Prelude.{IfOk, IfErr, OnOk}
 use Rattle.std.specs.Result.{IsErrAnd}
 use Rattle.std.proofs.lemmas.Result.{err_from_is_err_and}
@@ -8,9 +8,10 @@ use Rattle.node_core.specs.declared.config.Config.{Config}
 use Rattle.node_core.specs.declared.fault.NodeFault.{NodeFault}
 use Rattle.node_core.specs.declared.fault.NodeFault.TheVariants.{OutOfMemory}
 use Rattle.node_core.specs.declared.receipt.Receipt.{Receipt}
-use Rattle.node_core.specs.Asks.{Asked, ask_value_first}
+use Rattle.node_core.specs.declared.reply.Reply.{Reply}
+use Rattle.node_core.specs.Asks.{Asked, ask_value, ask_value_first, bytes_of}
 use Rattle.node_registry.specs.Cells.{Cell, Enters, IsLawfulAt, IsRefusedBy, new_cell}
-use Rattle.node_registry.specs.Receipts.{receipt_of, IsGiven, IsRefused}
+use Rattle.node_registry.specs.Receipts.{receipt_of, IsGiven, IsReceiptOf, IsRefused}
 use Rattle.node_registry.proofs.LawfulCells.{new_lawful}
 
 module _ (config : Config) (c : Cell) (lawful : IsLawfulAt config c) where
@@ -36,3 +37,20 @@ pub memory_refused : {T : Type 0} (config : Config) (ask : Asked) (r : Result T 
 memory_refused config ask r h =
     let e = err_from_is_err_and r h in
     rw e.1 (new_cell config [], (new_lawful config [], refl), inl e.2)
+
+-- what the receipt of a call says that was asked, by its reply
+pub receipt_is_by : (config : Config) (ask : Ask) (asked : Reply → Asked) → ((reply : Reply) → ask_value config.nodes ask reply ≡ asked reply) → (r : Result Receipt NodeFault) → IfOk r (λ x. x.node ≡ config.node) → IfOk r (λ x. x.entry.ask ≡ ask) → IfOk r (λ x. IsReceiptOf config (asked x.entry.reply) x)
+receipt_is_by config ask asked same (Ok x) node is =
+    (node, (λ i. ask_value config.nodes (is i) x.entry.reply) ∙ same x.entry.reply)
+receipt_is_by config ask asked same (Err f) node is = tt
+
+pub receipt_is_of : (config : Config) (ask : Ask) (asked : Asked) → ((reply : Reply) → ask_value config.nodes ask reply ≡ asked) → (r : Result Receipt NodeFault) → IfOk r (λ x. x.node ≡ config.node) → IfOk r (λ x. x.entry.ask ≡ ask) → IfOk r (IsReceiptOf config asked)
+receipt_is_of config ask asked same r node is = receipt_is_by config ask (λ reply. asked) same r node is
+
+pub receipt_has_bytes : (ask : Ask) (bytes : List ℕ) → bytes_of ask ≡ bytes → (r : Result Receipt NodeFault) → IfOk r (λ x. x.entry.ask ≡ ask) → IfOk r (λ x. bytes_of x.entry.ask ≡ bytes)
+receipt_has_bytes ask bytes same (Ok x) is = (λ i. bytes_of (is i)) ∙ same
+receipt_has_bytes ask bytes same (Err f) is = tt
+
+-- and what its refusal says
+pub refused_as : (config : Config) (ask asked : Asked) → ask ≡ asked → (r : Result Receipt NodeFault) → IfErr r (IsRefused config ask) → IfErr r (IsRefused config asked)
+refused_as config ask asked same r h = subst (λ a. IfErr r (IsRefused config a)) same h

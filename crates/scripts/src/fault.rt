@@ -7,7 +7,8 @@ use std::alloc::AllocError;
 use std::error::Error;
 use std::fmt;
 
-/// Why a script is refused. `Display` shows the number and the variant's name.
+/// Why a script is refused. `Display` shows the number, the variant's name and the field as
+/// `field=value`.
 #[derive(Clone, Copy, Debug, PartialEq, Eq)]
 pub enum ScriptFault {
     /// The script is longer than 16777216 bytes.
@@ -18,6 +19,9 @@ pub enum ScriptFault {
     WriteFailed,
     /// Memory was refused.
     OutOfMemory,
+    /// A line of a script of threads has another form, or stands out of its place. Lines are counted
+    /// from 1. A script of calls answers such a line, and isn't refused for it.
+    BadLine { line: u32 },
 }
 
 impl fmt::Display for ScriptFault {
@@ -27,12 +31,13 @@ impl fmt::Display for ScriptFault {
     ghost output = { λ fault. Some (script_fault_text fault) };
 
     fn fmt<W: fmt::Write>(&self, f: &mut fmt::Formatter<W>) -> fmt::Result {
-        f.write_str(match self {
-            ScriptFault::TooLong => "P1 TooLong",
-            ScriptFault::ReadFailed => "P2 ReadFailed",
-            ScriptFault::WriteFailed => "P3 WriteFailed",
-            ScriptFault::OutOfMemory => "P4 OutOfMemory",
-        })
+        match self {
+            ScriptFault::TooLong => f.write_str("P1 TooLong"),
+            ScriptFault::ReadFailed => f.write_str("P2 ReadFailed"),
+            ScriptFault::WriteFailed => f.write_str("P3 WriteFailed"),
+            ScriptFault::OutOfMemory => f.write_str("P4 OutOfMemory"),
+            ScriptFault::BadLine { line } => write!(f, "P5 BadLine line={line}"),
+        }
     }
 }
 

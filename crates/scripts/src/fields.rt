@@ -39,7 +39,7 @@ fn is_digits(text: &str) -> bool
 }
 
 /// One or more digits, with a value up to `most`.
-fn number(text: &str, most: u64) -> Option<u64>
+pub fn number(text: &str, most: u64) -> Option<u64>
     ensures value { result ≡ number_of most text.now }
     ensures fits { IfSome result (λ value. value ≤ most) }
 {

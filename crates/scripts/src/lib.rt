@@ -12,7 +12,10 @@ mod script;
 mod streams;
 mod watched;
 
+pub use command::{Command, Question, read_command};
 pub use fault::ScriptFault;
+pub use fields::{amount, byte, cut, cut_byte, cut_field, field, number, word};
 pub use run::{run_script, run_script_echoing};
-pub use streams::MOST_BYTES;
+pub use script::{is_skipped, text_of};
+pub use streams::{MOST_BYTES, read_script, write_text};
 pub use watched::Watched;

@@ -1,7 +1,7 @@
 //! A script from a reader, and its text to a writer.
 
-ghost use Rattle.std.specs.Prelude.{◌≡◌, ◌≢◌, ◌+◌, ◌<◌, ◌↔◌, ◌⊎◌, true, false, length, IfErr, OnOk};
-ghost use Rattle.scripts.specs.declared.fault.ScriptFault.TheVariants.{OutOfMemory, ReadFailed, TooLong, WriteFailed};
+ghost use Rattle.std.specs.Prelude.{◌≡◌, ◌≢◌, ℕ, ◌+◌, ◌<◌, ◌↔◌, ◌⊎◌, true, false, length, IfErr, OnOk};
+ghost use Rattle.scripts.specs.declared.fault.ScriptFault.TheVariants.{BadLine, OutOfMemory, ReadFailed, TooLong, WriteFailed};
 ghost use Rattle.scripts.specs.Watched.{has_failed, has_unflushed};
 ghost use Rattle.scripts.specs.Script.{echoed_text, script_text};
 ghost use Rattle.scripts.specs.Streams.{IfInput, ReadsUpTo, Writes, WritesPrefix};
@@ -37,6 +37,8 @@ pub fn run_script<R: Read, W: Write>(
 
     ensures read_failed { (result ≡ Err ReadFailed) ↔ (has_failed reader.new ≡ true) }
     ensures write_failed { (result ≡ Err WriteFailed) ↔ (has_failed writer.new ≡ true) }
+    // No line of a script of calls is refused.
+    ensures no_line { (line : ℕ) → result ≢ Err (BadLine line) }
     // A longer script is too long, but where a read failed or memory was refused before; no other
     // is.
     ensures long { IfInput R.remaining reader.old (λ input. MOST_BYTES < length input →
@@ -76,6 +78,8 @@ pub fn run_script_echoing<R: Read, W: Write>(
 
     ensures read_failed { (result ≡ Err ReadFailed) ↔ (has_failed reader.new ≡ true) }
     ensures write_failed { (result ≡ Err WriteFailed) ↔ (has_failed writer.new ≡ true) }
+    // No line of a script of calls is refused.
+    ensures no_line { (line : ℕ) → result ≢ Err (BadLine line) }
     // A longer script is too long, but where a read failed or memory was refused before; no other
     // is.
     ensures long { IfInput R.remaining reader.old (λ input. MOST_BYTES < length input →

@@ -90,7 +90,8 @@ fn run_command(
     }
 }
 
-fn text_of(line: &[u8]) -> Option<&str>
+/// The text of a line, where its bytes are UTF-8.
+pub fn text_of(line: &[u8]) -> Option<&str>
     ensures { option_map (λ text. text.now) result ≡ text_in line.now }
 {
     str::from_utf8(line).ok()
@@ -108,8 +109,8 @@ fn line_command(alloc: Global, line: &[u8]) -> Result<Option<Command<'_>>, Alloc
     read_command(alloc, text)
 }
 
-// Whether a line is empty or a comment, whatever its bytes.
-fn is_skipped(line: &[u8]) -> bool
+/// Whether a line is empty or a comment, whatever its bytes.
+pub fn is_skipped(line: &[u8]) -> bool
     ensures { result ≡ is_skipped line.now }
 {
     line.is_empty() || line[0] == b'#'

@@ -1,7 +1,7 @@
 //! Reading a whole script, and writing a whole text.
 
-ghost use Rattle.std.specs.Prelude.{◌≡◌, ◌≢◌, ◌+◌, ◌<◌, ◌≤◌, ◌↔◌, true, false, length, IfOk, IfErr, OnOk};
-ghost use Rattle.scripts.specs.declared.fault.ScriptFault.TheVariants.{ReadFailed, TooLong, WriteFailed};
+ghost use Rattle.std.specs.Prelude.{◌≡◌, ◌≢◌, ℕ, ◌+◌, ◌<◌, ◌≤◌, ◌↔◌, true, false, length, IfOk, IfErr, OnOk};
+ghost use Rattle.scripts.specs.declared.fault.ScriptFault.TheVariants.{BadLine, ReadFailed, TooLong, WriteFailed};
 ghost use Rattle.scripts.specs.Watched.{has_failed, has_unflushed};
 ghost use Rattle.scripts.specs.Streams.{IfInput, ReadsUpTo, Writes, WritesPrefix};
 
@@ -23,6 +23,7 @@ pub fn read_script<R: Read>(alloc: Global, reader: &mut Watched<R>) -> Result<Ve
     ensures too_long { result ≡ Err TooLong →
         IfInput R.remaining reader.old (λ input. MOST_BYTES < length input) }
     ensures no_write { result ≢ Err WriteFailed }
+    ensures no_line { (line : ℕ) → result ≢ Err (BadLine line) }
     ensures taken { ReadsUpTo (MOST_BYTES + 1) R.remaining reader.old reader.new }
 {
     let mut script = Vec::new(alloc);

@@ -1,7 +1,22 @@
-use Rattle.node_core.specs.Asks.{Pass}
-use Rattle.node_registry.proofs.GivenReceipts.{memory_refused}
+use Rattle.node_core.specs.declared.ask.Ask.TheVariants as calls
+use Rattle.node_core.specs.Asks as asks
+use Rattle.node_core.specs.Asks.{ask_value_first}
+use Rattle.node_registry.proofs.GivenReceipts.{memory_refused, receipt_is_of, refused_as}
 use Rattle.node_registry.proofs.registry.Registry.pass.Goals as goal
 
 pub returns-in_err-name-clause-refused : goal.returns-in_err-name-clause-refused
 returns-in_err-name-clause-refused g c =
-    memory_refused g.L.Label.config (Pass c.args.name.now) c.from_residual.result c.from_residual.ensures.1
+    memory_refused g.L.Label.config (asks.Pass c.args.name.now) c.from_residual.result c.from_residual.ensures.1
+
+pub returns-clause-receipt : goal.returns-clause-receipt
+returns-clause-receipt g c =
+    let ask = calls.Pass c.in_ok-name.name in
+    receipt_is_of g.L.Label.config ask (asks.Pass c.args.name.now) (λ reply. λ i. asks.Pass (c.in_ok-name.ensures.ok i))
+    c.enter_owned.result c.enter_owned.ensures.node c.enter_owned.ensures.asked
+
+pub returns-clause-refused : goal.returns-clause-refused
+returns-clause-refused g c =
+    let config = g.L.Label.config in
+    let ask = calls.Pass c.in_ok-name.name in
+    refused_as config (ask_value_first config.nodes ask) (asks.Pass c.args.name.now) (λ i. asks.Pass (c.in_ok-name.ensures.ok i))
+    c.enter_owned.result c.enter_owned.ensures.refused

@@ -1,0 +1,95 @@
+-- What each line of a script of threads says.
+use Rattle.std.specs.Prelude.{ℕ, List, Option, Some, None, option_map, Result, Ok, Err, if◌then◌else◌, codes}
+use Rattle.std.specs.Str.{bytes_eq}
+use Rattle.hex.specs.Hex.{decode_sized}
+use Rattle.hex.specs.declared.error.FromHexError.{FromHexError}
+use Rattle.node_core.specs.Asks.{Asked, Pass}
+use Rattle.scripts.specs.Fields.{◌>>=◌, cut_of, byte_of, word_of, number_of, field_cut_of, byte_cut_of}
+use Rattle.scripts.specs.Commands.{command_of}
+use Rattle.scripts.specs.Script.{text_in}
+use Rattle.thread_scripts.specs.declared.line.Line.{Line}
+use Rattle.thread_scripts.specs.declared.line.Line.TheVariants as lines
+use Rattle.thread_scripts.specs.Calls.{call_value, start_of, set_in, remove_in, load_in, shift_in, grant_in}
+
+-- so many nodes, each of which accepts so many calls; the seed of their words; a call of a node before the workers
+-- start; a block of calls of one worker at a node; or a call of the worker, so many times
+pub data LineValue : Type 0 where
+  nodes_line : (count cap : ℕ) → LineValue
+  seed_line : (bytes : List ℕ) → LineValue
+  start_line : (node : ℕ) (call : Asked) → LineValue
+  worker_line : (node : ℕ) → LineValue
+  calls_line : (call : Asked) (times : ℕ) → LineValue
+
+-- a line of the code, without where its texts lie in memory
+abbrev pub line_value : Line → LineValue
+line_value (lines.Nodes count cap) = nodes_line count cap
+line_value (lines.Seed bytes) = seed_line bytes
+line_value (lines.Start node call) = start_line node (call_value call)
+line_value (lines.Worker node) = worker_line node
+line_value (lines.Calls call times) = calls_line (call_value call) times
+
+-- `nodes <n> <cap>`
+abbrev pub nodes_in : List ℕ → Option LineValue
+nodes_in rest = do
+  count ← byte_cut_of rest
+  cap ← word_of (count.1)
+  Some (nodes_line (count.0) cap)
+
+abbrev pub seed_read : Result (List ℕ) FromHexError → Option LineValue
+seed_read (Ok bytes) = Some (seed_line bytes)
+seed_read (Err fault) = None
+
+-- `seed <64 hexadecimal digits>`, which are 32 bytes
+abbrev pub seed_in : List ℕ → Option LineValue
+seed_in rest = seed_read (decode_sized rest 32)
+
+-- `start ` before a line of a script of calls
+abbrev pub start_in : List ℕ → Option LineValue
+start_in rest = do
+  command ← command_of rest
+  call ← start_of command
+  Some (start_line (call.0) (call.1))
+
+-- `worker <node>`
+abbrev pub worker_in : List ℕ → Option LineValue
+worker_in rest = do
+  node ← byte_of rest
+  Some (worker_line node)
+
+abbrev pub once : Asked → LineValue
+once call = calls_line call 1
+
+-- up to 65535, also 0
+abbrev pub times_of : List ℕ → Option ℕ
+times_of text = number_of 65535 text
+
+-- `pass <name> <times>`
+abbrev pub pass_in : List ℕ → Option LineValue
+pass_in rest = do
+  name ← field_cut_of rest
+  times ← times_of (name.1)
+  Some (calls_line (Pass (name.0)) times)
+
+-- by the line's first word, what follows it
+abbrev pub line_after : List ℕ → List ℕ → Option LineValue
+line_after word rest =
+    if bytes_eq word (codes "nodes") then nodes_in rest else
+    (if bytes_eq word (codes "seed") then seed_in rest else
+    (if bytes_eq word (codes "start") then start_in rest else
+    (if bytes_eq word (codes "worker") then worker_in rest else
+    (if bytes_eq word (codes "set") then option_map once (set_in rest) else
+    (if bytes_eq word (codes "remove") then option_map once (remove_in rest) else
+    (if bytes_eq word (codes "load") then Some (once (load_in rest)) else
+    (if bytes_eq word (codes "shift") then option_map once (shift_in rest) else
+    (if bytes_eq word (codes "grant") then option_map once (grant_in rest) else
+    (if bytes_eq word (codes "pass") then pass_in rest else None)))))))))
+
+-- what a line says, where it has one of the forms
+abbrev pub line_of : List ℕ → Option LineValue
+line_of line = do
+  parts ← cut_of line
+  line_after (parts.0) (parts.1)
+
+-- the same of bytes, which have to be text
+abbrev pub line_in : List ℕ → Option LineValue
+line_in line = text_in line >>= line_of

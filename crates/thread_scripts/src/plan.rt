@@ -1,0 +1,57 @@
+//! The plan of a run.
+
+ghost use Rattle.std.specs.Prelude.{◌≡◌, ℕ, ◌<◌, ◌≤◌, ◌==◌, count_by, true};
+ghost use Rattle.std.specs.List.{sum_by};
+ghost use Rattle.cluster_model.specs.Worlds.{is_cluster_size};
+
+use crate::call::Call;
+
+/// How many nodes there are, 1 to 32, and how many calls each of them accepts.
+#[derive(Clone, Copy)]
+pub struct Size {
+    pub nodes: u8,
+    pub trace_cap: u32,
+    ghost some_nodes: { is_cluster_size nodes ≡ true },
+}
+
+/// A call that is made so many times.
+#[derive(Clone, Copy)]
+pub struct CallLine<'a> {
+    pub call: Call<'a>,
+    pub times: u16,
+}
+
+/// The calls of one worker at a node, in their order, and how many they are.
+#[derive(Drop)]
+pub struct Block<'a> {
+    pub node: u8,
+    pub lines: Vec<CallLine<'a>>,
+    pub calls: u32,
+    ghost all: { calls ≡ sum_by (λ l. l.times) lines.items },
+}
+
+/// A call of a node before the workers start.
+#[derive(Clone, Copy)]
+pub struct StartLine<'a> {
+    pub node: u8,
+    pub call: Call<'a>,
+}
+
+/// The plan of a run: its nodes, the seed of the words that their passes are given, the calls before
+/// the workers start, and the workers' blocks, of which a node has 250 at most.
+#[derive(Drop)]
+pub struct ThreadPlan<'a> {
+    pub size: Size,
+    pub seed: [u8; 32],
+    pub starts: Vec<StartLine<'a>>,
+    pub blocks: Vec<Block<'a>>,
+    ghost few_blocks: { (node : ℕ) → count_by (λ b. b.node == node) blocks.items ≤ 250 },
+}
+
+/// A plan without its last block, to which calls are still added.
+#[derive(Drop)]
+pub struct Working<'a> {
+    pub plan: ThreadPlan<'a>,
+    pub last: Block<'a>,
+    ghost room: { count_by (λ b. b.node == last.node) plan.blocks.items < 250 },
+}

@@ -1,0 +1,197 @@
+//! How far a script of threads was read.
+
+ghost use Rattle.std.specs.Prelude.{◌≡◌, ◌<◌, ◌≤◌, ◌==◌, ◌++◌, ◌∷◌, [], count_by, option_map, true, IfOk};
+ghost use Rattle.cluster_model.specs.Worlds.{is_cluster_size};
+ghost use Rattle.thread_scripts.specs.Calls.{call_value};
+ghost use Rattle.thread_scripts.specs.Lines.{line_value};
+ghost use Rattle.thread_scripts.specs.Plans.{add_calls, after_empty, after_line, after_sized, after_started, after_text, after_working, begin_block, block_value, plan_value, stage_value, whole_plan, with_block};
+
+use crate::call::Call;
+use crate::line::{Line, read_line};
+use crate::plan::{Block, CallLine, Size, StartLine, ThreadPlan, Working};
+use scripts::is_skipped;
+use std::alloc::{AllocError, Global};
+
+/// The most blocks of a node.
+const MOST_BLOCKS: usize = 250;
+
+/// How far a script was read.
+#[derive(Drop)]
+pub enum Stage<'a> {
+    /// Nothing was said yet.
+    Empty,
+    /// The nodes are known.
+    Sized(Size),
+    /// The seed is known too, and there is no block yet.
+    Started(ThreadPlan<'a>),
+    /// There is a block.
+    Working(Working<'a>),
+}
+
+/// The blocks of a node.
+pub fn blocks_at(blocks: &[Block<'_>], node: u8) -> usize
+    ensures { result ≡ count_by (λ b. b.node == node) blocks.now }
+{
+    blocks.iter().filter(|block| block.node == node).count()
+}
+
+// A new block, where the node is there and has room for one.
+fn begin_block<'a>(alloc: Global, plan: ThreadPlan<'a>, node: u8) -> Option<Stage<'a>>
+    ensures { option_map stage_value result ≡ begin_block (plan_value plan.entry) node }
+{
+    if node >= plan.size.nodes || blocks_at(&plan.blocks, node) >= MOST_BLOCKS {
+        return None;
+    }
+    let last = Block {
+        node,
+        lines: Vec::new(alloc),
+        calls: 0,
+    };
+    Some(Stage::Working(Working { plan, last }))
+}
+
+// The plan with its last block.
+fn with_block(working: Working<'_>) -> Result<ThreadPlan<'_>, AllocError>
+    ensures { IfOk result (λ plan.
+        plan_value plan ≡ with_block (plan_value working.entry.plan) (block_value working.entry.last)) }
+{
+    let Working { mut plan, last } = working;
+    plan.blocks.push(last)?;
+    Ok(plan)
+}
+
+// The calls behind those of the last block, where these aren't too many.
+fn add_calls<'a>(
+    working: Working<'a>,
+    call: Call<'a>,
+    times: u16,
+) -> Result<Option<Stage<'a>>, AllocError>
+    ensures { IfOk result (λ stage. option_map stage_value stage
+        ≡ add_calls (plan_value working.entry.plan) (block_value working.entry.last) (call_value call.entry) times) }
+{
+    let Working { plan, last } = working;
+    let Block {
+        node,
+        mut lines,
+        calls,
+    } = last;
+    let Some(calls) = calls.checked_add(u32::from(times)) else {
+        return Ok(None);
+    };
+    lines.push(CallLine { call, times })?;
+    let last = Block { node, lines, calls };
+    Ok(Some(Stage::Working(Working { plan, last })))
+}
+
+fn after_empty(line: Line<'_>) -> Option<Stage<'_>>
+    ensures { option_map stage_value result ≡ after_empty (line_value line.entry) }
+{
+    match line {
+        Line::Nodes { count, trace_cap } if 1 <= count && count <= 32 => Some(Stage::Sized(Size {
+            nodes: count,
+            trace_cap,
+        })),
+        Line::Nodes { .. }
+        | Line::Seed(_)
+        | Line::Start { .. }
+        | Line::Worker { .. }
+        | Line::Calls { .. } => None,
+    }
+}
+
+fn after_sized(alloc: Global, size: Size, line: Line<'_>) -> Option<Stage<'_>>
+    ensures { option_map stage_value result
+        ≡ after_sized size.nodes size.trace_cap (line_value line.entry) }
+{
+    match line {
+        Line::Seed(seed) => Some(Stage::Started(ThreadPlan {
+            size,
+            seed,
+            starts: Vec::new(alloc),
+            blocks: Vec::new(alloc),
+        })),
+        Line::Nodes { .. } | Line::Start { .. } | Line::Worker { .. } | Line::Calls { .. } => None,
+    }
+}
+
+fn after_started<'a>(
+    alloc: Global,
+    mut plan: ThreadPlan<'a>,
+    line: Line<'a>,
+) -> Result<Option<Stage<'a>>, AllocError>
+    ensures { IfOk result (λ stage. option_map stage_value stage
+        ≡ after_started (plan_value plan.entry) (line_value line.entry)) }
+{
+    match line {
+        Line::Start { node, call } => {
+            if node >= plan.size.nodes {
+                return Ok(None);
+            }
+            plan.starts.push(StartLine { node, call })?;
+            Ok(Some(Stage::Started(plan)))
+        }
+        Line::Worker { node } => Ok(begin_block(alloc, plan, node)),
+        Line::Nodes { .. } | Line::Seed(_) | Line::Calls { .. } => Ok(None),
+    }
+}
+
+fn after_working<'a>(
+    alloc: Global,
+    working: Working<'a>,
+    line: Line<'a>,
+) -> Result<Option<Stage<'a>>, AllocError>
+    ensures { IfOk result (λ stage. option_map stage_value stage
+        ≡ after_working (plan_value working.entry.plan) (block_value working.entry.last) (line_value line.entry)) }
+{
+    match line {
+        Line::Worker { node } => Ok(begin_block(alloc, with_block(working)?, node)),
+        Line::Calls { call, times } => add_calls(working, call, times),
+        Line::Nodes { .. } | Line::Seed(_) | Line::Start { .. } => Ok(None),
+    }
+}
+
+fn after_line<'a>(
+    alloc: Global,
+    stage: Stage<'a>,
+    line: Line<'a>,
+) -> Result<Option<Stage<'a>>, AllocError>
+    ensures { IfOk result (λ next. option_map stage_value next
+        ≡ after_line (stage_value stage.entry) (line_value line.entry)) }
+{
+    match stage {
+        Stage::Empty => Ok(after_empty(line)),
+        Stage::Sized(size) => Ok(after_sized(alloc, size, line)),
+        Stage::Started(plan) => after_started(alloc, plan, line),
+        Stage::Working(working) => after_working(alloc, working, line),
+    }
+}
+
+/// How far the script was read with a line more, where the line is one of a script and stands in its
+/// place.
+pub fn after_text<'a>(
+    alloc: Global,
+    stage: Stage<'a>,
+    line: &'a [u8],
+) -> Result<Option<Stage<'a>>, AllocError>
+    ensures { IfOk result (λ next. option_map stage_value next
+        ≡ after_text (stage_value stage.entry) line.now) }
+{
+    if is_skipped(line) {
+        return Ok(Some(stage));
+    }
+    match read_line(alloc, line)? {
+        Some(line) => after_line(alloc, stage, line),
+        None => Ok(None),
+    }
+}
+
+/// The plan, where the seed was read.
+pub fn whole_plan(stage: Stage<'_>) -> Result<Option<ThreadPlan<'_>>, AllocError>
+    ensures { IfOk result (λ plan. option_map plan_value plan ≡ whole_plan (stage_value stage.entry)) }
+{
+    match stage {
+        Stage::Empty | Stage::Sized(_) => Ok(None),
+        Stage::Started(plan) => Ok(Some(plan)),
+        Stage::Working(working) => Ok(Some(with_block(working)?)),
+    }
+}
