@@ -13,6 +13,7 @@ mod receipt;
 mod reply;
 mod setting;
 mod trace;
+mod words;
 
 pub use ask::Ask;
 pub use config::Config;
@@ -21,6 +22,7 @@ pub use node::NodeCore;
 pub use receipt::Receipt;
 pub use reply::{PassReply, Reply};
 pub use trace::{Entry, Trace};
+pub use words::WordSource;
 
 /// What holds a node's state.
 pub type State = replica_state::Matrix;

@@ -1,6 +1,6 @@
 -- From a call of a node and of its generator to a call of the cell.
 use Rattle.std.proofs.Common.{◌≡◌, ℕ, ◌+◌, ◌<◌, ◌^◌, Bool, true, false, List, [], None, refl, sym, ap, ◌∙◌, subst, arith}
-use Rattle.rand_chacha.specs.ChaCha.{ChaCha, key_of, of_seed}
+use Rattle.rand_chacha.specs.ChaCha.{ChaCha, key_of}
 use Rattle.node_core.specs.declared.ask.Ask.{Ask}
 use Rattle.node_core.specs.declared.ask.Ask.TheVariants as asked
 use Rattle.node_core.specs.declared.config.Config.{Config}
@@ -90,9 +90,9 @@ pub refused_cell : (k : Kept) (g : ChaCha) (ask : Asked) (f : NodeFault) → g.s
 refused_cell k g ask f stream h = subst (λ s. IsRefusalOf k ask (words_from g.key s g.word_pos (words_taken k ask)) f) stream h
 
 -- a new cell
-pub new_kept : (config : Config) (seed : List ℕ) (k : Kept) (g h : ChaCha) (stream : ℕ) → config.trace_cap < 2 ^ 32 → k ≡ record { config = config; trace = [] } → g ≡ of_seed seed → stream ≡ config.node → h ≡ record g { stream = stream } → IsKept k h
-new_kept config seed k g h stream small new first here moved =
-    let is : h ≡ record { key = key_of seed; stream = config.node; word_pos = 0 } = moved ∙ (λ i. record { key = (first i).key; stream = here i; word_pos = (first i).word_pos }) in
+pub new_kept : (config : Config) (seed : List ℕ) (k : Kept) (h : ChaCha) (stream : ℕ) → config.trace_cap < 2 ^ 32 → k ≡ record { config = config; trace = [] } → stream ≡ config.node → h ≡ record { key = key_of seed; stream = stream; word_pos = 0 } → IsKept k h
+new_kept config seed k h stream small new here made =
+    let is : h ≡ record { key = key_of seed; stream = config.node; word_pos = 0 } = made ∙ (λ i. record { key = key_of seed; stream = here i; word_pos = 0 }) in
     subst (λ n. IsKept n h) (sym new)
     (subst (λ a. IsKept (record { config = config; trace = [] }) a) (sym is) (refl, new_lawful config seed, record { few_words = omega arith; few_calls = omega arith; small_cap = small }))
 

@@ -7,10 +7,8 @@ ghost use Rattle.node_registry.specs.Cells.{Cell, Enters, IsLawful, IsRefusedBy,
 ghost use Rattle.node_registry.specs.Cells.{cell_of, new_cell};
 ghost use Rattle.node_registry.specs.Receipts.{IsEntryFor};
 
-use crate::words::call_with_words;
+use crate::words::{Generator, call_with_words};
 use node_core::{Ask, Config, Entry, NodeCore, NodeFault, Trace};
-use rand_chacha::ChaCha8Rng;
-use rand_core::SeedableRng;
 use std::alloc::Global;
 use std::marker::Model;
 
@@ -20,7 +18,7 @@ use std::marker::Model;
 #[derive(Drop)]
 pub struct NodeCell {
     core: NodeCore,
-    generator: ChaCha8Rng,
+    generator: Generator,
 }
 
 impl Model for NodeCell {
@@ -41,8 +39,7 @@ impl NodeCell {
             (f ≡ NodeFault.BadConfig) × IsTrue (is_bad_config config)) }
     {
         let core = NodeCore::new(alloc, config)?;
-        let mut generator = ChaCha8Rng::from_seed(seed);
-        generator.set_stream(u64::from(config.node));
+        let generator = Generator::new(seed, u64::from(config.node));
         Ok(NodeCell { core, generator })
     }
 
@@ -59,7 +56,7 @@ impl NodeCell {
     pub fn place(&self) -> u128
         ensures { result ≡ self.now.place }
     {
-        self.generator.get_word_pos()
+        self.generator.place()
     }
 
     /// Makes a call, a pass with the next words of the stream, as many as its point needs, and

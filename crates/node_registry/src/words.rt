@@ -1,6 +1,7 @@
-//! The words of a generator, and passes with them.
+//! The generator of a node's words, and passes with them.
 
-ghost use Rattle.std.specs.Prelude.{◌≡◌, ◌+◌, ◌<◌, ◌^◌, [], IfOk, IfErr, OnErr, OnOk, Some, false};
+ghost use Rattle.std.specs.Prelude.{◌≡◌, ◌+◌, ◌<◌, ◌^◌, ◌%◌, [], vec_len, IfOk, IfErr, OnErr, OnOk, false};
+ghost use Rattle.rand_chacha.specs.ChaCha.{ChaCha, key_of};
 ghost use Rattle.node_core.specs.Applied.{TellsIfEmit};
 ghost use Rattle.node_core.specs.Asks as asks;
 ghost use Rattle.node_core.specs.Asks.{ask_value, ask_value_first, is_pass, passed, reply_value};
@@ -8,15 +9,72 @@ ghost use Rattle.node_core.specs.Passes.{words_for};
 ghost use Rattle.node_core.specs.Traces.{Accepts, IsRefusalOf, refusal, state_known};
 ghost use Rattle.node_registry.specs.Words.{words_next, place_after, words_taken};
 
-use node_core::{Ask, Entry, NodeCore, NodeFault, PassReply, Reply};
+use node_core::{Ask, Entry, NodeCore, NodeFault, PassReply, Reply, WordSource};
 use rand_chacha::ChaCha8Rng;
+use rand_core::SeedableRng;
 use rand_core::utils::NextWord;
 use std::alloc::{AllocError, Global};
+use std::marker::Model;
+
+/// The generator of a node's words: ChaCha8. Contracts see its key, its stream, and the place of its
+/// next word, counted from 0.
+#[derive(Drop)]
+pub(crate) struct Generator {
+    stream: ChaCha8Rng,
+}
+
+impl Model for Generator {
+    ghost Value = { ChaCha };
+
+    ghost view = { λ g. g.stream };
+}
+
+impl Generator {
+    // At the start of a stream of the seed.
+    pub(crate) fn new(seed: [u8; 32], stream: u64) -> Generator
+        ensures { result ≡ record { key = key_of seed; stream = stream; word_pos = 0 } }
+    {
+        let mut words = ChaCha8Rng::from_seed(seed);
+        words.set_stream(stream);
+        Generator { stream: words }
+    }
+
+    // The place of the next word.
+    pub(crate) fn place(&self) -> u128
+        ensures place { result ≡ self.now.word_pos }
+        ensures bound { result < 2 ^ 68 }
+    {
+        self.stream.get_word_pos()
+    }
+
+    // Goes to a place.
+    fn set_place(&mut self, place: u128)
+        ensures { self.new ≡ record self.old { word_pos = place % 2 ^ 68 } }
+    {
+        self.stream.set_word_pos(place);
+    }
+}
+
+impl WordSource for Generator {
+    ghost use Rattle.std.specs.Prelude.{◌+◌, ◌<◌, ◌^◌};
+    ghost use Rattle.node_registry.specs.Words.{words_next, place_after};
+
+    ghost can_draw = { λ g. g.word_pos + 2 ^ 8 < 2 ^ 68 };
+
+    ghost next_words = { words_next };
+
+    ghost after_words = { place_after };
+
+    fn draw(&mut self, alloc: Global, count: u8) -> Result<Vec<u32>, NodeFault> {
+        Ok(draw(alloc, &mut self.stream, count)?)
+    }
+}
 
 // The next words of the generator, so many.
 fn draw(alloc: Global, generator: &mut ChaCha8Rng, count: u8) -> Result<Vec<u32>, AllocError>
     requires { generator.old.word_pos + count < 2 ^ 68 }
     ensures words { IfOk result (λ words. words.items ≡ words_next generator.old count) }
+    ensures many { IfOk result (λ words. vec_len words ≡ count) }
     ensures place { OnOk result (generator.new ≡ place_after generator.old count) }
     ensures err { OnErr result (generator.new ≡ generator.old) }
 {
@@ -27,41 +85,11 @@ fn draw(alloc: Global, generator: &mut ChaCha8Rng, count: u8) -> Result<Vec<u32>
     Ok(words)
 }
 
-// Passes a point that needs so many words with the generator's next ones, and answers these beside
-// the reply.
-fn pass_drawing(
-    core: &mut NodeCore,
-    generator: &mut ChaCha8Rng,
-    alloc: Global,
-    name: &str,
-    need: u8,
-) -> Result<(Vec<u32>, PassReply), NodeFault>
-    requires { generator.old.word_pos + 2 ^ 8 < 2 ^ 68 }
-    ensures ok { IfOk result (λ r. Accepts core.old core.new
-        (asks.Pass name.now) r.0.items (asks.IsPassed (passed r.1))) }
-    ensures words { IfOk result (λ r. r.0.items ≡ words_next generator.old need) }
-    ensures place { OnOk result (generator.new ≡ place_after generator.old need) }
-    ensures refused { IfErr result
-        (IsRefusalOf core.old (asks.Pass name.now) (words_next generator.old need)) }
-    ensures err { OnErr result ((core.new ≡ core.old) × (generator.new ≡ generator.old)) }
-{
-    let place = generator.get_word_pos();
-    let words = draw(alloc, generator, need)?;
-    match core.pass_with(alloc, name, &words) {
-        Ok(reply) => Ok((words, reply)),
-        Err(fault) => {
-            generator.set_word_pos(place);
-            Err(fault)
-        }
-    }
-}
-
 // Passes a point with the generator's next words, as many as it needs, and answers these beside the
-// reply. How many that is, a pass without words is refused with: so a point that needs none is looked
-// up once for all.
+// reply. The words of a refused pass are put back.
 fn pass(
     core: &mut NodeCore,
-    generator: &mut ChaCha8Rng,
+    generator: &mut Generator,
     alloc: Global,
     name: &str,
 ) -> Result<(Vec<u32>, PassReply), NodeFault>
@@ -77,11 +105,12 @@ fn pass(
         (words_next generator.old (words_for (state_known core.old) name.now))) }
     ensures err { OnErr result ((core.new ≡ core.old) × (generator.new ≡ generator.old)) }
 {
-    match core.pass_with(alloc, name, &[]) {
-        Ok(reply) => Ok((Vec::new(alloc), reply)),
-        Err(NodeFault::BadWords { need }) => pass_drawing(core, generator, alloc, name, need),
-        Err(fault) => Err(fault),
+    let place = generator.place();
+    let passed = core.pass_drawing(alloc, name, generator);
+    if passed.is_err() {
+        generator.set_place(place);
     }
+    passed
 }
 
 // Makes a call that is no pass, which takes no words.
@@ -107,7 +136,7 @@ fn call(core: &mut NodeCore, alloc: Global, ask: &Ask) -> Result<(Vec<u32>, Repl
 /// reply.
 pub(crate) fn call_with_words(
     core: &mut NodeCore,
-    generator: &mut ChaCha8Rng,
+    generator: &mut Generator,
     alloc: Global,
     ask: &Ask,
 ) -> Result<(Vec<u32>, Reply), NodeFault>

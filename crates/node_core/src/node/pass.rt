@@ -1,6 +1,6 @@
 //! Passing a point.
 
-ghost use Rattle.std.specs.Prelude.{◌≡◌, ℕ, length, ◌^◌, ◌<◌, ◌≤ℤ◌, pos, IfOk, IfErr, OnOk, OnErr, IsErrOf, IsSome, IfSome, IsTrue, MatchOption, true, Some, None, is_some, option_map, slice_get};
+ghost use Rattle.std.specs.Prelude.{◌≡◌, ◌⊎◌, ℕ, vec_len, ◌^◌, ◌<◌, ◌≤ℤ◌, pos, IfOk, IfErr, OnOk, OnErr, IsErrOf, IsSome, IfSome, IsTrue, MatchOption, true, Some, None, is_some, option_map, slice_get};
 ghost use Rattle.std.specs.Bool.{then_some};
 ghost use Rattle.actions.specs.Names.{is_name};
 ghost use Rattle.actions.specs.Value.{task_value};
@@ -18,7 +18,7 @@ ghost use Rattle.node_core.specs.Outcomes.{task_or_off, outcome_reply, spent_by,
 ghost use Rattle.node_core.specs.Passes.{words_for, triggered_term, task_in, pass_reply, pass_ops};
 ghost use Rattle.node_core.specs.Refusals.{bad_words};
 ghost use Rattle.node_core.specs.Room.{HasRoom};
-ghost use Rattle.node_core.specs.Traces.{Accepts, IsRefusalOf, reply_to};
+ghost use Rattle.node_core.specs.Traces.{Accepts, IsRefusalOf, reply_to, state_known};
 
 use super::{NodeCore, read_name};
 use crate::State;
@@ -26,6 +26,7 @@ use crate::ask::Ask;
 use crate::fault::NodeFault;
 use crate::reply::{PassReply, Reply};
 use crate::trace::Entry;
+use crate::words::{GivenWords, WordSource};
 use actions::{Actions, Name, Task, decide};
 use delta_exchange::Versioned;
 use replica_state::Replica;
@@ -48,8 +49,50 @@ impl NodeCore {
     {
         self.check_trace()?;
         let point = read_name(alloc, name)?;
-        match self.pass(alloc, point, words, true)? {
+        let mut given = GivenWords::new(words);
+        let wanted = Wanted {
+            words: false,
+            reply: true,
+        };
+        let (_, answer) = self.pass(alloc, point, &mut given, wanted)?;
+        match answer {
             Some(reply) => Ok(reply),
+            None => unreachable!(),
+        }
+    }
+
+    /// Passes a point with the next words of a source, as many as it needs, and answers these beside
+    /// the reply. A pass that is refused may have drawn them.
+    pub fn pass_drawing<S: WordSource>(
+        &mut self,
+        alloc: Global,
+        name: &str,
+        source: &mut S,
+    ) -> Result<(Vec<u32>, PassReply), NodeFault>
+        requires { S.can_draw source.old }
+        ensures ok { IfOk result (λ r. Accepts self.old self.new
+            (asks.Pass name.now) r.0.items (asks.IsPassed (passed r.1))) }
+        ensures words { IfOk result (λ r. r.0.items
+            ≡ S.next_words source.old (words_for (state_known self.old) name.now)) }
+        ensures drawn { OnOk result (source.new
+            ≡ S.after_words source.old (words_for (state_known self.old) name.now)) }
+        ensures few { OnOk result (words_for (state_known self.old) name.now < 2 ^ 8) }
+        ensures refused { IfErr result (IsRefusalOf self.old (asks.Pass name.now)
+            (S.next_words source.old (words_for (state_known self.old) name.now))) }
+        ensures vain { OnErr result ((source.new ≡ source.old) ⊎ (source.new
+            ≡ S.after_words source.old (words_for (state_known self.old) name.now))) }
+        ensures err { OnErr result (self.new ≡ self.old) }
+    {
+        self.check_trace()?;
+        let point = read_name(alloc, name)?;
+        let wanted = Wanted {
+            words: true,
+            reply: true,
+        };
+        let (drawn, answer) = self.pass(alloc, point, source, wanted)?;
+        let Some(words) = drawn else { unreachable!() };
+        match answer {
+            Some(reply) => Ok((words, reply)),
             None => unreachable!(),
         }
     }
@@ -67,7 +110,12 @@ impl NodeCore {
     {
         self.check_trace()?;
         let point = read_name(alloc, name)?;
-        self.pass(alloc, point, words, false)?;
+        let mut given = GivenWords::new(words);
+        let wanted = Wanted {
+            words: false,
+            reply: false,
+        };
+        self.pass(alloc, point, &mut given, wanted)?;
         Ok(())
     }
 
@@ -81,31 +129,42 @@ impl NodeCore {
         }
     }
 
-    // Passes a point whose name was read, and answers the reply where one is wanted.
+    // Passes a point whose name was read, with the next words of a source, and answers what is wanted.
     #[inline(always)]
-    fn pass(
+    fn pass<S: WordSource>(
         &mut self,
         alloc: Global,
         point: Name,
-        words: &[u32],
-        is_answered: bool,
-    ) -> Result<Option<PassReply>, NodeFault>
+        source: &mut S,
+        wanted: Wanted,
+    ) -> Result<(Option<Vec<u32>>, Option<PassReply>), NodeFault>
         requires room { HasRoom self.old }
         requires named { IsTrue (is_name point) }
-        ensures ok { OnOk result (Accepts self.old self.new
-            (asks.Pass point) words.now (reply_to self.old (asks.Pass point) words.now)) }
-        ensures answer { IfOk result (λ reply. option_map (λ r. asks.IsPassed (passed r)) reply
-            ≡ then_some is_answered (reply_to self.old (asks.Pass point) words.now)) }
-        ensures refused { IfErr result (IsRefusalOf self.old (asks.Pass point) words.now) }
+        requires can { S.can_draw source.old }
+        ensures ok { let words = S.next_words source.old (words_for (state_known self.old) point) in
+            OnOk result (Accepts self.old self.new
+            (asks.Pass point) words (reply_to self.old (asks.Pass point) words)) }
+        ensures words { IfOk result (λ r. option_map (λ v. v.items) r.0 ≡ then_some wanted.words
+            (S.next_words source.old (words_for (state_known self.old) point))) }
+        ensures reply { let words = S.next_words source.old (words_for (state_known self.old) point)
+            in IfOk result (λ r. option_map (λ p. asks.IsPassed (passed p)) r.1
+            ≡ then_some wanted.reply (reply_to self.old (asks.Pass point) words)) }
+        ensures few { OnOk result (words_for (state_known self.old) point < 2 ^ 8) }
+        ensures drawn { OnOk result (source.new
+            ≡ S.after_words source.old (words_for (state_known self.old) point)) }
+        ensures refused { IfErr result (IsRefusalOf self.old (asks.Pass point)
+            (S.next_words source.old (words_for (state_known self.old) point))) }
+        ensures vain { OnErr result ((source.new ≡ source.old) ⊎ (source.new
+            ≡ S.after_words source.old (words_for (state_known self.old) point))) }
         ensures err { OnErr result (self.new ≡ self.old) }
     {
         let me = self.config.node;
-        let outcome = outcome_of(self.replica.state(), me, &point, words)?;
-        let reply = outcome.answer(alloc, is_answered)?;
+        let (words, outcome) = outcome_of(alloc, self.replica.state(), me, &point, source)?;
+        let copy = copied_if(alloc, &words, wanted.words)?;
+        let reply = outcome.answer(alloc, wanted.reply)?;
         let recorded = outcome.reply(alloc)?;
         let is_set = outcome.stamp.is_some();
         let spent = outcome.spent;
-        let words = Vec::from_slice(alloc, words)?;
         self.trace.reserve(1)?;
         count(&mut self.replica, alloc, me, &point, is_set, spent)?;
         let entry = Entry {
@@ -116,49 +175,65 @@ impl NodeCore {
             reply: Reply::Pass(recorded),
         };
         self.trace.push_reserved(entry);
-        Ok(reply)
+        Ok((copy, reply))
     }
 }
 
-/// What a point is set to, with the term that a pass of it by node `me` triggers, or why its words
-/// are refused. It takes no memory.
-fn choice_at<'a>(
+/// What a pass answers of what it puts into the trace.
+#[derive(Clone, Copy)]
+struct Wanted {
+    words: bool,
+    reply: bool,
+}
+
+/// A copy of the words where it is wanted.
+fn copied_if(alloc: Global, words: &[u32], is_wanted: bool) -> Result<Option<Vec<u32>>, AllocError>
+    ensures { IfOk result (λ copy. option_map (λ v. v.items) copy ≡ then_some is_wanted words.now) }
+{
+    if is_wanted {
+        Ok(Some(Vec::from_slice(alloc, words)?))
+    } else {
+        Ok(None)
+    }
+}
+
+/// What a point is set to, with the term that a pass of it by node `me` triggers with the next words
+/// of a source, beside these; or why they are refused.
+fn choice_at<'a, S: WordSource>(
+    alloc: Global,
     state: &'a State,
     me: u8,
     name: &Name,
-    words: &[u32],
-) -> Result<Option<(&'a Key, &'a Actions, Option<u8>)>, NodeFault>
-    ensures setting { IfOk result (λ found. MatchOption found
+    source: &mut S,
+) -> Result<(Vec<u32>, Option<(&'a Key, &'a Actions, Option<u8>)>), NodeFault>
+    requires { S.can_draw source.old }
+    ensures setting { IfOk result (λ r. MatchOption r.1
         (setting_of (state_in state.now) name.now ≡ None)
         (λ s. setting_of (state_in state.now) name.now ≡ Some (key_value s.0.now, s.1.now))) }
-    ensures term { IfOk result (λ found. IfSome found (λ s. s.2
-        ≡ triggered_term me (state_in state.now) name.now words.now (key_value s.0.now, s.1.now))) }
-    ensures key { IfOk result (λ found. IsSome found → HasKey (state_in state.now) name.now) }
-    ensures refused { IfErr result (λ f.
-        bad_words (words_for (state_in state.now) name.now) words.now ≡ Some f) }
-    ensures words { OnOk result (length words.now ≡ words_for (state_in state.now) name.now) }
+    ensures term { IfOk result (λ r. IfSome r.1 (λ s. s.2
+        ≡ triggered_term me (state_in state.now) name.now r.0.items (key_value s.0.now, s.1.now))) }
+    ensures key { IfOk result (λ r. IsSome r.1 → HasKey (state_in state.now) name.now) }
+    ensures words { IfOk result (λ r. r.0.items
+        ≡ S.next_words source.old (words_for (state_in state.now) name.now)) }
+    ensures many { IfOk result (λ r. vec_len r.0 ≡ words_for (state_in state.now) name.now) }
+    ensures few { OnOk result (words_for (state_in state.now) name.now < 2 ^ 8) }
+    ensures drawn { OnOk result (source.new
+        ≡ S.after_words source.old (words_for (state_in state.now) name.now)) }
+    ensures refused { let need = words_for (state_in state.now) name.now in IfErr result (λ f.
+        (f ≡ NodeFault.OutOfMemory) ⊎ (bad_words need (S.next_words source.old need) ≡ Some f)) }
+    ensures err { OnErr result (source.new ≡ source.old) }
 {
     if let Some(found) = state.key_and_rights(name, me) {
         let key = found.0;
         let may = found.1;
         if let Some(actions) = key.actions() {
-            check_words(words, actions.words_needed())?;
-            return Ok(Some((key, actions, decide(actions, words, may))));
+            let words = source.draw(alloc, actions.words_needed())?;
+            let term = decide(actions, &words, may);
+            return Ok((words, Some((key, actions, term))));
         }
     }
-    check_words(words, 0)?;
-    Ok(None)
-}
-
-/// Whether there are as many words as a pass needs.
-fn check_words(words: &[u32], need: u8) -> Result<(), NodeFault>
-    ensures ok { OnOk result (length words.now ≡ need) }
-    ensures refused { IfErr result (λ f. bad_words need words.now ≡ Some f) }
-{
-    if words.len() != need as usize {
-        return Err(NodeFault::BadWords { need });
-    }
-    Ok(())
+    let words = source.draw(alloc, 0)?;
+    Ok((words, None))
 }
 
 /// The task of the triggered term.
@@ -249,38 +324,50 @@ fn count(
     Ok(())
 }
 
-/// What a pass of a point by node `me` comes to, or why its words are refused. It takes no memory.
-fn outcome_of<'a>(
+/// What a pass of a point by node `me` comes to with the next words of a source, beside these; or why
+/// they are refused.
+fn outcome_of<'a, S: WordSource>(
+    alloc: Global,
     state: &'a State,
     me: u8,
     name: &Name,
-    words: &[u32],
-) -> Result<Outcome<'a>, NodeFault>
-    ensures reply { IfOk result (λ o. outcome_reply o.stamp o.term
-        (option_map (λ task. task_value task.now) o.task)
-        ≡ pass_reply me (state_in state.now) name.now words.now) }
-    ensures ops { IfOk result (λ o. pass_ops me (state_in state.now) name.now words.now
-        ≡ ops_done me (state_in state.now) name.now (is_some o.stamp) o.spent) }
-    ensures key { IfOk result (λ o. IsSome o.stamp → HasKey (state_in state.now) name.now) }
-    ensures low { IfOk result (λ o. IfSome o.spent (λ term. term < 2 ^ 8)) }
-    ensures rights { IfOk result (λ o. (term : ℕ) → o.spent ≡ Some term
+    source: &mut S,
+) -> Result<(Vec<u32>, Outcome<'a>), NodeFault>
+    requires { S.can_draw source.old }
+    ensures reply { IfOk result (λ r. outcome_reply r.1.stamp r.1.term
+        (option_map (λ task. task_value task.now) r.1.task)
+        ≡ pass_reply me (state_in state.now) name.now r.0.items) }
+    ensures ops { IfOk result (λ r. pass_ops me (state_in state.now) name.now r.0.items
+        ≡ ops_done me (state_in state.now) name.now (is_some r.1.stamp) r.1.spent) }
+    ensures key { IfOk result (λ r. IsSome r.1.stamp → HasKey (state_in state.now) name.now) }
+    ensures low { IfOk result (λ r. IfSome r.1.spent (λ term. term < 2 ^ 8)) }
+    ensures rights { IfOk result (λ r. (term : ℕ) → r.1.spent ≡ Some term
         → pos 1 ≤ℤ rights_of (state_in state.now) name.now term me) }
-    ensures words { OnOk result (length words.now ≡ words_for (state_in state.now) name.now) }
-    ensures refused { IfErr result (λ f.
-        bad_words (words_for (state_in state.now) name.now) words.now ≡ Some f) }
+    ensures words { IfOk result (λ r. r.0.items
+        ≡ S.next_words source.old (words_for (state_in state.now) name.now)) }
+    ensures many { IfOk result (λ r. vec_len r.0 ≡ words_for (state_in state.now) name.now) }
+    ensures few { OnOk result (words_for (state_in state.now) name.now < 2 ^ 8) }
+    ensures drawn { OnOk result (source.new
+        ≡ S.after_words source.old (words_for (state_in state.now) name.now)) }
+    ensures refused { let need = words_for (state_in state.now) name.now in IfErr result (λ f.
+        (f ≡ NodeFault.OutOfMemory) ⊎ (bad_words need (S.next_words source.old need) ≡ Some f)) }
+    ensures err { OnErr result (source.new ≡ source.old) }
 {
-    let Some((key, actions, term)) = choice_at(state, me, name, words)? else {
-        return Ok(Outcome {
+    let (words, found) = choice_at(alloc, state, me, name, source)?;
+    let Some((key, actions, term)) = found else {
+        let unset = Outcome {
             stamp: None,
             term: None,
             task: None,
             spent: None,
-        });
+        };
+        return Ok((words, unset));
     };
-    Ok(Outcome {
+    let outcome = Outcome {
         stamp: Some(key.stamp()),
         term,
         task: task_at(actions, term),
         spent: spent_term(actions, term),
-    })
+    };
+    Ok((words, outcome))
 }

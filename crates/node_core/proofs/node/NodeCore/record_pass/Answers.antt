@@ -25,5 +25,7 @@ pub returns-clause-last : goal.returns-clause-last
 returns-clause-last c =
     let accepted = c.in_ok-pass.ensures.ok in
     let named = c.in_ok-point.ensures.ok in
-    ap (λ o. option_map (λ p. IsPassed p) (passed_at o)) (last_after c.args.self.now c.pass.new.self (Pass c.in_ok-point.point) c.args.words.now accepted.2)
+    let given = c.new-given.ensures in
+    ap (λ o. option_map (λ p. IsPassed p) (passed_at o)) (last_after c.args.self.now c.pass.new.self (Pass c.in_ok-point.point) c.new-given.result.words.now accepted.2)
+    ∙ ap (λ words. Some (IsPassed (pass_reply c.args.self.now.config.node (state_known c.args.self.now) c.in_ok-point.point words))) given
     ∙ ap (λ name. Some (IsPassed (pass_reply c.args.self.now.config.node (state_known c.args.self.now) name c.args.words.now))) named.1

@@ -5,7 +5,7 @@ use Rattle.node_core.proofs.Rights.{spent_right}
 use Rattle.node_core.proofs.node.pass.outcome_of.Goals as goal
 
 pub returns-clause-rights : goal.returns-clause-rights
-returns-clause-rights c = λ term spends.
-    let setting = rw c.in-Some.is at c.in_ok-key.ensures.setting in
-    let chosen = rw c.in-Some.is at c.in_ok-key.ensures.term in
-    spent_right c.args.me (state_in c.args.state.now) c.args.name.now c.args.words.now (key_value c.in-Some.key.now) c.in-Some.actions.now c.in-Some.term term setting chosen (sym c.spent_term.ensures.value ∙ spends)
+returns-clause-rights g c = λ term spends.
+    let setting = rw c.in-Some.is at c.in_ok-words.ensures.setting in
+    let chosen = rw c.in-Some.is at c.in_ok-words.ensures.term in
+    spent_right c.args.me (state_in c.args.state.now) c.args.name.now c.in_ok-words.words.items (key_value c.in-Some.key.now) c.in-Some.actions.now c.in-Some.term term setting chosen (sym c.spent_term.ensures.value ∙ spends)
