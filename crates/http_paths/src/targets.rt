@@ -1,0 +1,50 @@
+//! What a path can name.
+
+/// Which route a path has.
+#[derive(Clone, Copy, Debug, PartialEq, Eq)]
+pub enum Place {
+    /// All points.
+    Points,
+    /// One point.
+    Point,
+    /// Points that a setting text names.
+    Load,
+    /// Rights that go to another node.
+    Shift,
+    /// Rights that a node grants itself.
+    Grant,
+    /// Messages of other nodes.
+    Gossip,
+    /// The report.
+    Report,
+}
+
+/// Where a path leads, with the parts that its route leaves open, as they stand.
+#[derive(Clone, Copy, Debug, PartialEq, Eq)]
+pub enum Target<'p> {
+    /// All points.
+    Points,
+    /// One point.
+    Point {
+        name: &'p str,
+    },
+    /// Points that a setting text names.
+    Load,
+    /// Rights that go to another node.
+    Shift {
+        name: &'p str,
+        term: &'p str,
+        to: &'p str,
+        amount: &'p str,
+    },
+    /// Rights that a node grants itself.
+    Grant {
+        name: &'p str,
+        term: &'p str,
+        amount: &'p str,
+    },
+    /// Messages of other nodes.
+    Gossip,
+    /// The report.
+    Report,
+}

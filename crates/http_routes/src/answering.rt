@@ -1,0 +1,65 @@
+//! Requests at a node.
+
+ghost use Rattle.std.specs.Prelude.{◌≡◌, [], IfOk, IfErr, IfSome, OnErr};
+ghost use Rattle.node_core.specs.Asks.{ask_value_first};
+ghost use Rattle.node_core.specs.Asks as nodes;
+ghost use Rattle.node_core.specs.Traces.{Accepts, IsRefusalOf};
+ghost use Rattle.http_routes.specs.Replies.{http_value};
+ghost use Rattle.http_routes.specs.Requests.{ask_value, call, wanted};
+ghost use Rattle.http_routes.specs.Answers.{Answers};
+
+use crate::reply::{HttpReply, ReplyRoom};
+use crate::wanted::{Wanted, route};
+use http_paths::Routes;
+use node_core::{Ask, NodeCore, NodeFault, Reply};
+use report_text::report_json;
+use std::alloc::Global;
+
+// Makes a call, and gives its reply alone.
+fn enter(core: &mut NodeCore, alloc: Global, ask: &Ask) -> Result<Reply, NodeFault>
+    ensures ok { IfOk result (λ r. Accepts core.old core.new
+        (nodes.ask_value core.old.config.nodes ask.now r) []
+        (nodes.reply_value core.old.config.nodes r)) }
+    ensures refused { IfErr result
+        (IsRefusalOf core.old (ask_value_first core.old.config.nodes ask.now) []) }
+    ensures err { OnErr result (core.new ≡ core.old) }
+{
+    let entry = core.apply(alloc, ask, &[])?;
+    Ok(entry.reply)
+}
+
+// Makes a call once there is room for its reply.
+fn call(core: &mut NodeCore, alloc: Global, ask: &Ask) -> HttpReply
+    ensures { IfSome (ask_value ask.now) (λ a.
+        Answers core.old (call a) core.new (http_value result)) }
+{
+    let Ok(room) = ReplyRoom::new(alloc) else {
+        return HttpReply::no_memory(alloc);
+    };
+    let outcome = enter(core, alloc, ask);
+    room.reply(&outcome)
+}
+
+/// Answers a request at a node: what it wants is done, or refused without a change, and the reply
+/// says which. Room for the reply is made before the node is called, so that an accepted call is
+/// always answered as such, and never by want of memory.
+pub fn answer(
+    core: &mut NodeCore,
+    alloc: Global,
+    routes: &Routes,
+    method: &str,
+    path: &str,
+    body: &[u8],
+) -> HttpReply
+    ensures { Answers core.old (wanted method.now path.now body.now) core.new (http_value result) }
+{
+    match route(alloc, routes, method, path, body) {
+        Wanted::Do(ask) => call(core, alloc, &ask),
+        Wanted::List => HttpReply::written(alloc, 200, core.list(alloc)),
+        Wanted::Report => {
+            let nodes = core.config().nodes;
+            HttpReply::written(alloc, 200, report_json(alloc, core.state(), nodes))
+        }
+        Wanted::Answered(reply) => reply,
+    }
+}

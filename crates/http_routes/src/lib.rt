@@ -1,0 +1,33 @@
+//! What a request of HTTP asks of a node, and the reply to it.
+//!
+//! | Path | Method | Call | Body of a 200 |
+//! |---|---|---|---|
+//! | `/fail`, `/fail/` | GET | the list | the list |
+//! | `/fail/<name>` | PUT | set; the body is the action text | the stamp |
+//! | `/fail/<name>` | DELETE | remove | the stamp |
+//! | `/load` | POST | load; the body is the setting text | how many entries were set |
+//! | `/shift/<name>/<term>/<to>/<amount>` | POST | shift | how many rights were moved in all |
+//! | `/grant/<name>/<term>/<amount>` | POST | grant | how many rights were granted in all |
+//! | `/gossip` | POST | deliver; the body is the message | `changed` or `same` |
+//! | `/report` | GET | the report as JSON | the report |
+//!
+//! The paths have the shape of the `/fail` routes of TiKV's status server. Of several refusals the
+//! first is the answer: 404 `not found`, 405 `bad method`, 413 `too long` of a body of more than
+//! 67108864 bytes, 400 `bad text` of a body that isn't UTF-8 where it should be a text, 400
+//! `bad number`, and then what the node refuses, with the fault's text. A reply whose memory is
+//! refused is 503 without a body. No body ends with a newline.
+//!
+//! ```rust
+//! let routes = Routes::new(alloc)?;
+//! let reply = answer(&mut node, alloc, &routes, "PUT", "/fail/a", b"20%3*print(hi)->off");
+//! ```
+#![tactic(auto)]
+
+mod answering;
+mod fields;
+mod reply;
+mod wanted;
+
+pub use answering::answer;
+pub use reply::{HttpReply, ReplyRoom, reply_of};
+pub use wanted::{MAX_BODY, Wanted, route, too_long};

@@ -1,0 +1,197 @@
+//! Replies.
+
+ghost use Rattle.std.specs.Prelude.{◌≡◌, ◌≤◌, ◌+◌, ◌++◌, ℕ, [], length, decimal};
+ghost use Rattle.std.specs.Prelude.{IfOk, IfErr, string_bytes, string_len, string_capacity};
+ghost use Rattle.stamp_register.specs.Keys.{stamp_text};
+ghost use Rattle.node_core.specs.Asks.{reply_value};
+ghost use Rattle.http_routes.specs.Replies.{acceptance_value, answered_text, http_value, no_memory};
+ghost use Rattle.http_routes.specs.Replies.{outcome_value, refusal_value, status_of, text_reply, IsReply};
+
+use itoa::Buffer;
+use node_core::{Ask, NodeFault, Reply};
+use stamp_register::Stamp;
+use std::alloc::{AllocError, Global};
+use std::fmt::Write;
+
+/// Room for the reply to any call, in bytes: that of an accepted one always fits.
+const ROOM: usize = 128;
+
+/// The status and the body of a reply.
+#[derive(Debug, Drop)]
+pub struct HttpReply {
+    pub status: u16,
+    pub body: Vec<u8>,
+}
+
+impl HttpReply {
+    /// The reply where its own memory is refused: 503 without a body.
+    pub fn no_memory(alloc: Global) -> HttpReply
+        ensures { http_value result ≡ no_memory }
+    {
+        HttpReply {
+            status: 503,
+            body: Vec::new(alloc),
+        }
+    }
+
+    /// A reply of a text.
+    pub fn text(alloc: Global, status: u16, text: &str) -> HttpReply
+        ensures { IsReply (text_reply status text.now) (http_value result) }
+    {
+        match Vec::from_slice(alloc, text.as_bytes()) {
+            Ok(body) => HttpReply { status, body },
+            Err(_) => HttpReply::no_memory(alloc),
+        }
+    }
+
+    /// A reply of a text that was written, if there was the memory for it.
+    pub fn written(alloc: Global, status: u16, text: Result<String, AllocError>) -> HttpReply
+        ensures ok { IfOk text (λ t. http_value result ≡ text_reply status (string_bytes t)) }
+        ensures err { IfErr text (λ _. http_value result ≡ no_memory) }
+    {
+        match text {
+            Ok(text) => HttpReply {
+                status,
+                body: text.into_bytes(),
+            },
+            Err(_) => HttpReply::no_memory(alloc),
+        }
+    }
+}
+
+/// Room for the reply to a call, which is made before the call: so an accepted call is never
+/// answered by want of memory.
+#[derive(Drop)]
+pub struct ReplyRoom {
+    text: String,
+    ghost empty: { string_len text ≡ 0 },
+    ghost wide: { 128 ≤ string_capacity text },
+}
+
+impl ReplyRoom {
+    /// Room for a reply. The only error is want of memory.
+    pub fn new(alloc: Global) -> Result<ReplyRoom, AllocError> {
+        Ok(ReplyRoom {
+            text: String::with_capacity(alloc, ROOM)?,
+        })
+    }
+
+    /// The reply to a call that came to this. Of an accepted call it takes no memory.
+    pub fn reply(self, outcome: &Result<Reply, NodeFault>) -> HttpReply
+        ensures accepted { IfOk outcome.now (λ r. (nodes : ℕ)
+            → http_value result ≡ acceptance_value (reply_value nodes r)) }
+        ensures refused { IfErr outcome.now (λ f. IsReply (refusal_value f) (http_value result)) }
+    {
+        match outcome {
+            Ok(reply) => HttpReply {
+                status: 200,
+                body: answered(self.text, reply).into_bytes(),
+            },
+            Err(fault) => refused(self.text, *fault),
+        }
+    }
+}
+
+// Adds a text for which there is room.
+fn append(text: &mut String, more: &str)
+    requires { string_len text.old + length more.now ≤ string_capacity text.old }
+    ensures bytes { string_bytes text.new ≡ string_bytes text.old ++ more.now }
+    ensures len { string_len text.new ≡ string_len text.old + length more.now }
+    ensures capacity { string_capacity text.old ≤ string_capacity text.new }
+{
+    // It fails only where room is missing.
+    let _ = text.push_str(more);
+}
+
+// Adds a number for which there is room.
+fn append_number(text: &mut String, number: u64)
+    requires { string_len text.old + 40 ≤ string_capacity text.old }
+    ensures bytes { string_bytes text.new ≡ string_bytes text.old ++ decimal number }
+    ensures len { string_len text.new ≤ string_len text.old + 40 }
+    ensures capacity { string_capacity text.old ≤ string_capacity text.new }
+{
+    append(text, Buffer::new().format(number));
+}
+
+// Adds a stamp for which there is room.
+fn append_stamp(text: &mut String, stamp: Stamp)
+    requires { string_len text.old + 81 ≤ string_capacity text.old }
+    ensures { string_bytes text.new ≡ string_bytes text.old ++ stamp_text stamp }
+{
+    append_number(text, stamp.clock);
+    append(text, ".");
+    append_number(text, u64::from(stamp.node));
+}
+
+// What an accepted call is answered, in room for it.
+fn answered(room: String, reply: &Reply) -> String
+    requires empty { string_len room ≡ 0 }
+    requires wide { 128 ≤ string_capacity room }
+    ensures { (nodes : ℕ)
+        → string_bytes result ≡ answered_text (reply_value nodes reply.now) }
+{
+    let mut text = room;
+    match reply {
+        Reply::Set(stamp) | Reply::Remove(stamp) => append_stamp(&mut text, *stamp),
+        Reply::Load(entries) => append_number(&mut text, u64::from(*entries)),
+        Reply::Shift(total) | Reply::Grant(total) => append_number(&mut text, *total),
+        Reply::Deliver(true) => append(&mut text, "changed"),
+        Reply::Deliver(false) => append(&mut text, "same"),
+        // No request asks for either.
+        Reply::Pass(_) | Reply::Emit(_) => {}
+    }
+    text
+}
+
+// The reply to a refused call, written to an empty text.
+fn refused(room: String, fault: NodeFault) -> HttpReply
+    requires { string_len room ≡ 0 }
+    ensures { IsReply (refusal_value fault) (http_value result) }
+{
+    let mut text = room;
+    let status = match write!(text, "{fault}") {
+        Ok(()) => status_of(fault),
+        Err(_) => {
+            text.clear();
+            503
+        }
+    };
+    HttpReply {
+        status,
+        body: text.into_bytes(),
+    }
+}
+
+fn status_of(fault: NodeFault) -> u16
+    ensures { result ≡ status_of fault }
+{
+    match fault {
+        NodeFault::BadName
+        | NodeFault::BadActions(_)
+        | NodeFault::BadNode
+        | NodeFault::ZeroAmount
+        | NodeFault::BadMessage(_)
+        | NodeFault::NotForMe
+        | NodeFault::OwnAhead
+        | NodeFault::AckAhead
+        | NodeFault::Overspent => 400,
+        NodeFault::TooManyPoints
+        | NodeFault::NotSet
+        | NodeFault::NoSuchTerm
+        | NodeFault::NotCounted
+        | NodeFault::TooFewRights { .. } => 409,
+        _ => 503,
+    }
+}
+
+/// The reply to a request whose ask came to this: 200 and what is answered, without a body for a
+/// pass or an emit, which no request asks; or the refusal's status and its text. What is answered
+/// says of what kind its ask was, so nothing is read from the ask.
+pub fn reply_of(alloc: Global, _ask: &Ask, outcome: &Result<Reply, NodeFault>) -> HttpReply
+    ensures { (nodes : ℕ) → IsReply (outcome_value nodes outcome.now) (http_value result) }
+{
+    match ReplyRoom::new(alloc) {
+        Ok(room) => room.reply(outcome),
+        Err(_) => HttpReply::no_memory(alloc),
+    }
+}
