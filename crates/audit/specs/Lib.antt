@@ -1,0 +1,11 @@
+pub mod Told
+pub mod Traces
+pub mod Schedules
+pub mod Places
+pub mod Receipts
+pub mod Checked
+pub mod Answers
+pub mod Replays
+pub mod Laws
+pub mod Boards
+pub mod FaultText

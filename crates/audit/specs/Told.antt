@@ -1,0 +1,74 @@
+-- What an entry of a trace tells, to the byte, without where it lies in memory.
+use Rattle.std.specs.Prelude.{ℕ, Bool, List, string_bytes, Option, Some, None}
+use Rattle.stamp_register.specs.declared.key.Stamp.{Stamp}
+use Rattle.node_core.specs.declared.ask.Ask.{Ask}
+use Rattle.node_core.specs.declared.ask.Ask.TheVariants as asks
+use Rattle.node_core.specs.declared.reply.Reply.{Reply}
+use Rattle.node_core.specs.declared.reply.Reply.TheVariants as replies
+use Rattle.node_core.specs.declared.trace.Entry.{Entry}
+use Rattle.node_core.specs.Asks.{Passed, passed}
+
+-- what was asked
+pub data AskTold : Type 0 where
+  sets : (name text : List ℕ) → AskTold
+  removes : (name : List ℕ) → AskTold
+  loads : (text : List ℕ) → AskTold
+  passes : (name : List ℕ) → AskTold
+  shifts : (name : List ℕ) (term to amount : ℕ) → AskTold
+  grants : (name : List ℕ) (term amount : ℕ) → AskTold
+  emits : (to : ℕ) → AskTold
+  delivers : (bytes : List ℕ) → AskTold
+
+abbrev pub ask_told : Ask → AskTold
+ask_told (asks.Set name text) = sets (string_bytes name) (string_bytes text)
+ask_told (asks.Remove name) = removes (string_bytes name)
+ask_told (asks.Load text) = loads (string_bytes text)
+ask_told (asks.Pass name) = passes (string_bytes name)
+ask_told (asks.Shift name term to amount) = shifts (string_bytes name) term to amount
+ask_told (asks.Grant name term amount) = grants (string_bytes name) term amount
+ask_told (asks.Emit to) = emits to
+ask_told (asks.Deliver bytes) = delivers bytes.items
+
+-- what was answered
+pub data ReplyTold : Type 0 where
+  was_set : (stamp : Stamp) → ReplyTold
+  was_removed : (stamp : Stamp) → ReplyTold
+  was_loaded : (entries : ℕ) → ReplyTold
+  was_passed : (outcome : Passed) → ReplyTold
+  was_shifted : (total : ℕ) → ReplyTold
+  was_granted : (total : ℕ) → ReplyTold
+  was_emitted : (bytes : List ℕ) → ReplyTold
+  was_delivered : (changed : Bool) → ReplyTold
+
+abbrev pub reply_told : Reply → ReplyTold
+reply_told (replies.Set stamp) = was_set stamp
+reply_told (replies.Remove stamp) = was_removed stamp
+reply_told (replies.Load entries) = was_loaded entries
+reply_told (replies.Pass reply) = was_passed (passed reply)
+reply_told (replies.Shift total) = was_shifted total
+reply_told (replies.Grant total) = was_granted total
+reply_told (replies.Emit bytes) = was_emitted bytes.items
+reply_told (replies.Deliver changed) = was_delivered changed
+
+pub record Told : Type 0 where
+  pub ask : AskTold
+  pub words : List ℕ
+  pub reply : ReplyTold
+
+abbrev pub told : Entry → Told
+told e = record { ask = ask_told e.ask; words = e.words.items; reply = reply_told e.reply }
+
+-- the bytes that it emitted, and those that it delivered, if it is of that kind
+abbrev pub emitted_in : Reply → Option (List ℕ)
+emitted_in (replies.Emit bytes) = Some bytes.items
+emitted_in _ = None
+
+abbrev pub delivered_in : Ask → Option (List ℕ)
+delivered_in (asks.Deliver bytes) = Some bytes.items
+delivered_in _ = None
+
+abbrev pub bytes_emitted : Entry → Option (List ℕ)
+bytes_emitted e = emitted_in e.reply
+
+abbrev pub bytes_delivered : Entry → Option (List ℕ)
+bytes_delivered e = delivered_in e.ask

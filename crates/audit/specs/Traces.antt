@@ -1,0 +1,55 @@
+-- The traces of a cluster, and which of them are legal.
+use Rattle.std.specs.Prelude.{◌≡◌, ℕ, zero, suc, ◌+◌, ◌-◌, ◌^◌, ◌<◌, ◌≤◌, List, [], ◌∷◌, length, map, take, slice_get, Option, Some, Vec}
+use Rattle.std.specs.declared.alloc.Global.{Global}
+use Rattle.delta_exchange.specs.Limits.{max_nodes}
+use Rattle.node_core.specs.declared.config.Config.{Config}
+use Rattle.node_core.specs.declared.trace.Entry.{Entry}
+use Rattle.node_core.specs.Asks.{call}
+use Rattle.node_core.specs.Traces.{IsLegal}
+use Rattle.cluster_model.specs.Worlds.{Cluster, config_of, cluster_of}
+
+-- they stand in the order of their nodes; a node without one did nothing
+abbrev pub Traces : Type 0
+Traces = List (Vec Entry Global)
+
+abbrev pub trace_of : Traces → ℕ → List Entry
+trace_of [] node = []
+trace_of (trace ∷ traces) zero = trace.items
+trace_of (trace ∷ traces) (suc node) = trace_of traces node
+
+-- the entry at a place: a node, and an index of its trace
+unfoldable pub entry_at : Traces → ℕ → ℕ → Option Entry
+entry_at traces node index = slice_get (trace_of traces node) index
+
+-- 1 to 32 nodes, and a trace for each
+pub record IsSized (nodes : ℕ) (traces : Traces) : Type 0 where
+  pub some : 1 ≤ nodes
+  pub few : nodes ≤ max_nodes
+  pub each : length traces ≡ nodes
+
+-- how many calls a node accepts in its life isn't judged: of all nodes this cluster's accept the most
+abbrev pub audited : ℕ → Cluster
+audited nodes = cluster_of nodes (2 ^ 32 - 1)
+
+-- a replay of the entries at that node alone gives them
+abbrev pub IsLegalAlone : Config → List Entry → Type 0
+IsLegalAlone config entries = IsLegal config (map (call config.nodes) entries)
+
+abbrev pub AllLegal : ℕ → Traces → Type 0
+AllLegal nodes traces = (node : ℕ) → IsLegalAlone (config_of (audited nodes) node) (trace_of traces node)
+
+-- the entry at this index is the first that a replay doesn't give
+pub record IsFirstWrong (config : Config) (entries : List Entry) (index : ℕ) : Type 0 where
+  pub entry : Entry
+  pub there : slice_get entries index ≡ Some entry
+  pub legal : IsLegalAlone config (take index entries)
+  pub wrong : IsLegalAlone config (take (index + 1) entries) → ⊥
+
+-- it is that of the least node whose trace isn't legal
+pub record IsLeastWrong (nodes : ℕ) (traces : Traces) (node index : ℕ) : Type 0 where
+  pub first : IsFirstWrong (config_of (audited nodes) node) (trace_of traces node) index
+  pub least : (n : ℕ) → n < node → IsLegalAlone (config_of (audited nodes) n) (trace_of traces n)
+
+-- what a number of 32 bits can count
+abbrev pub AreShort : Traces → Type 0
+AreShort traces = (node : ℕ) → length (trace_of traces node) < 2 ^ 32

@@ -1,0 +1,63 @@
+//! The audit.
+
+ghost use Rattle.std.specs.Prelude.{◌≡◌, ◌<◌, length, IfOk, Err};
+ghost use Rattle.cluster_model.specs.Laws.{EscrowHolds};
+ghost use Rattle.audit.specs.Answers.{IsAudited, events_in};
+ghost use Rattle.audit.specs.Traces.{IsSized, audited};
+
+use crate::fault::AuditFault;
+use crate::placing::{Placing, place_all};
+use crate::receipts::{ReceiptFault, check_receipts};
+use crate::replay::least_wrong;
+use delta_exchange::MAX_NODES;
+use node_core::{Receipt, Trace};
+use std::alloc::Global;
+
+/// What an audit says where a schedule explains the traces.
+#[derive(Debug, Drop)]
+pub struct AuditYes {
+    /// Such a schedule: each entry as its node and its index in that node's trace.
+    pub order: Vec<(u8, u32)>,
+}
+
+/// Looks for a schedule of the cluster that gives these traces, which stand in the order of their
+/// nodes, and whether the receipts are their entries: each once and none missing, in each list those
+/// of one node in their order. A list holds what one caller was given, in the order of its calls.
+///
+/// It says yes exactly where there is such a schedule and these are the receipts, want of memory
+/// aside (`laws::yes_when`), and answers one.
+pub fn audit(
+    alloc: Global,
+    nodes: u8,
+    traces: &[Trace],
+    lists: &[Vec<Receipt>],
+) -> Result<AuditYes, AuditFault>
+    ensures answer { IsAudited nodes traces.now lists.now result }
+    // In that schedule no term was executed more often than it was counted and granted.
+    ensures escrow { IfOk result (λ found.
+        EscrowHolds (audited nodes) (events_in nodes traces.now found.order.items)) }
+{
+    if nodes == 0 || nodes > MAX_NODES || traces.len() != nodes as usize {
+        return Err(AuditFault::BadConfig);
+    }
+    match least_wrong(alloc, nodes, traces) {
+        Ok(None) => {}
+        Ok(Some((node, index))) => return Err(AuditFault::WrongReply { node, index }),
+        Err(_) => return Err(AuditFault::OutOfMemory),
+    }
+    let order = match place_all(alloc, traces) {
+        Ok(Placing::All(order)) => order,
+        Ok(Placing::Stuck { node, index }) => return Err(AuditFault::Stuck { node, index }),
+        Err(_) => return Err(AuditFault::OutOfMemory),
+    };
+    match check_receipts(alloc, traces, lists) {
+        Ok(()) => Ok(AuditYes { order }),
+        Err(ReceiptFault::Differs) => Err(AuditFault::ReceiptDiffers),
+        Err(ReceiptFault::Twice) => Err(AuditFault::ReceiptTwice),
+        Err(ReceiptFault::Missing) => Err(AuditFault::ReceiptMissing),
+        Err(ReceiptFault::OutOfMemory) => Err(AuditFault::OutOfMemory),
+        Err(ReceiptFault::OutOfOrder { list, place }) => {
+            Err(AuditFault::OutOfOrder { list, place })
+        }
+    }
+}

@@ -1,0 +1,20 @@
+//! What holds of traces and of every audit. Nothing here looks at one.
+
+ghost use Rattle.audit.specs.Laws.{OrdersAreSchedules, StuckPlaceIsOne};
+ghost use Rattle.audit.specs.Answers.{YesWhen};
+
+/// A schedule fits traces exactly where each trace is legal alone and there is an order of their
+/// entries in which what is delivered was emitted before.
+pub fn orders()
+    ensures { OrdersAreSchedules }
+{}
+
+/// Whatever is placed first, the entry at which no order goes on is one.
+pub fn stuck_place()
+    ensures { StuckPlaceIsOne }
+{}
+
+/// Wherever an audit may say yes, it does, want of memory aside.
+pub fn yes_when()
+    ensures { YesWhen }
+{}

@@ -1,0 +1,15 @@
+//! The audit of a drill: whether a schedule of the cluster explains what its callers were told. It
+//! looks at the traces and the receipts alone.
+#![tactic(auto)]
+
+mod auditing;
+mod fault;
+pub mod laws;
+mod placing;
+mod receipts;
+mod replay;
+mod sent;
+mod told;
+
+pub use auditing::{AuditYes, audit};
+pub use fault::AuditFault;

@@ -1,0 +1,103 @@
+//! Whether a node alone gives what its trace tells.
+
+ghost use Rattle.std.specs.Prelude.{◌≡◌, ℕ, ◌+◌, ◌-◌, ◌^◌, ◌<◌, ◌≤◌, ◌++◌, ◌∷◌, [], List, length, map, IfOk, IfErr, IfSome, IfNone, IsTrue, ◌↔◌};
+ghost use Rattle.std.specs.Bool.{OnTrue, OnFalse};
+ghost use Rattle.delta_exchange.specs.Limits.{max_nodes};
+ghost use Rattle.node_core.specs.Asks.{call};
+ghost use Rattle.node_core.specs.Traces.{Kept, IsLegal, call_of};
+ghost use Rattle.cluster_model.specs.Laws.{IsLegalEmit};
+ghost use Rattle.cluster_model.specs.Worlds.{config_of};
+ghost use Rattle.audit.specs.Told.{reply_told, was_emitted};
+ghost use Rattle.audit.specs.Traces.{IsLegalAlone, IsFirstWrong, IsLeastWrong, AllLegal, audited};
+ghost use Rattle.audit.specs.Replays.{IsLegalKept, with_call};
+
+use crate::told::same_reply;
+use cluster_model::laws::legal_emits;
+use node_core::{Config, Entry, NodeCore, NodeFault, Reply, Trace};
+use std::alloc::Global;
+
+// An emit of these bytes is legal exactly where the bytes tell what differs.
+fn is_emit_told(nodes: u8, reply: &Reply)
+    ensures { (k : Kept) (to : ℕ) (bytes : List ℕ) → reply_told reply.now ≡ was_emitted bytes
+        → k.config.nodes ≡ nodes → IsLegalEmit k to bytes }
+{
+    if let Reply::Emit(message) = reply {
+        legal_emits(nodes, message);
+    }
+}
+
+fn is_want_of_memory(fault: NodeFault) -> bool
+    ensures { IsTrue result ↔ (fault ≡ NodeFault.OutOfMemory) }
+{
+    matches!(fault, NodeFault::OutOfMemory)
+}
+
+// Whether a node gives an entry as its next one. It has made the call then. The only error is want of
+// memory.
+fn gives(alloc: Global, core: &mut NodeCore, entry: &Entry) -> Result<bool, NodeFault>
+    requires legal { IsLegalKept core.old }
+    ensures legal { IfOk result (λ given. OnTrue given (IsLegalKept core.new)) }
+    ensures made { IfOk result (λ given. OnTrue given
+        (core.new ≡ with_call core.old (call_of core.old entry.now))) }
+    ensures wrong { IfOk result (λ given. OnFalse given
+        (IsLegalKept (with_call core.old (call_of core.old entry.now)) → ⊥)) }
+    ensures err { IfErr result (λ fault. fault ≡ NodeFault.OutOfMemory) }
+{
+    is_emit_told(core.config().nodes, &entry.reply);
+    match core.apply(alloc, &entry.ask, &entry.words) {
+        Ok(made) => Ok(same_reply(&made.reply, &entry.reply)),
+        Err(fault) => {
+            if is_want_of_memory(fault) {
+                Err(fault)
+            } else {
+                Ok(false)
+            }
+        }
+    }
+}
+
+// The index of the first entry of a trace that a node doesn't give, if there is one. A node accepts
+// fewer than 2^32 calls.
+fn first_wrong(alloc: Global, config: Config, trace: &Trace) -> Result<Option<u32>, NodeFault>
+    requires size { (1 ≤ config.nodes) × (config.nodes ≤ max_nodes) }
+    requires node { config.node < config.nodes }
+    requires cap { config.trace_cap < 2 ^ 32 }
+    ensures wrong { IfOk result (λ wrong. IfSome wrong (IsFirstWrong config trace.now.items)) }
+    ensures legal { IfOk result (λ wrong. IfNone wrong (IsLegalAlone config trace.now.items)) }
+    ensures err { IfErr result (λ fault. fault ≡ NodeFault.OutOfMemory) }
+{
+    let mut core = NodeCore::new(alloc, config)?;
+    for (index, entry) in trace.iter().enumerate() {
+        if !gives(alloc, &mut core, entry)? {
+            return Ok(Some(index as u32));
+        }
+    }
+    Ok(None)
+}
+
+/// The least node that doesn't give its trace, if there is one, and the first entry that it doesn't
+/// give. The only error is want of memory.
+pub(crate) fn least_wrong(
+    alloc: Global,
+    nodes: u8,
+    traces: &[Trace],
+) -> Result<Option<(u8, u32)>, NodeFault>
+    requires few { nodes ≤ max_nodes }
+    requires each { length traces.now ≡ nodes }
+    ensures wrong { IfOk result (λ wrong. IfSome wrong
+        (λ at. IsLeastWrong nodes traces.now at.0 at.1)) }
+    ensures legal { IfOk result (λ wrong. IfNone wrong (AllLegal nodes traces.now)) }
+    ensures err { IfErr result (λ fault. fault ≡ NodeFault.OutOfMemory) }
+{
+    for node in 0..nodes {
+        let config = Config {
+            node,
+            nodes,
+            trace_cap: u32::MAX,
+        };
+        if let Some(index) = first_wrong(alloc, config, &traces[node as usize])? {
+            return Ok(Some((node, index)));
+        }
+    }
+    Ok(None)
+}

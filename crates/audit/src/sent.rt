@@ -1,0 +1,52 @@
+//! The messages that were emitted.
+
+ghost use Rattle.std.specs.Prelude.{◌≡◌, ℕ, List, OnOk, IsTrue, ◌↔◌, ◌⊎◌, Some, if◌then◌else◌, true, false};
+ghost use Rattle.std.specs.Str.{bytes_eq};
+ghost use Rattle.audit.specs.Boards.{has_sent};
+ghost use Rattle.audit.specs.Told.{bytes_emitted};
+
+use crate::told::emitted;
+use node_core::Entry;
+use std::alloc::{AllocError, Global};
+use std::collections::HashSet;
+
+/// The bytes that were emitted so far.
+#[derive(Drop)]
+pub(crate) struct Sent<'a> {
+    set: HashSet<&'a [u8]>,
+}
+
+impl<'a> Sent<'a> {
+    pub(crate) fn new(alloc: Global) -> Sent<'a>
+        ensures { (b : List ℕ) → has_sent result b ≡ false }
+    {
+        Sent {
+            set: HashSet::new(alloc),
+        }
+    }
+
+    pub(crate) fn has(&self, bytes: &[u8]) -> bool
+        ensures { result ≡ has_sent self.now bytes.now }
+    {
+        self.set.contains(bytes)
+    }
+
+    fn add(&mut self, bytes: &'a [u8]) -> Result<(), AllocError>
+        ensures { OnOk result ((b : List ℕ)
+            → has_sent self.new b ≡ (if bytes_eq bytes.now b then true else has_sent self.old b)) }
+    {
+        self.set.insert(bytes)?;
+        Ok(())
+    }
+
+    /// Adds what an entry emits, if it does.
+    pub(crate) fn add_reply(&mut self, entry: &'a Entry) -> Result<(), AllocError>
+        ensures { OnOk result ((b : List ℕ) → IsTrue (has_sent self.new b)
+            ↔ ((bytes_emitted entry.now ≡ Some b) ⊎ IsTrue (has_sent self.old b))) }
+    {
+        if let Some(bytes) = emitted(entry) {
+            self.add(bytes)?;
+        }
+        Ok(())
+    }
+}
