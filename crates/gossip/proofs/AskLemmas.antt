@@ -1,0 +1,78 @@
+-- What receipts ask.
+use Rattle.std.proofs.Common.{◌≡◌, ℕ, List, Bool, true, false, Ok, Err, Result, refl, ap, ◌∙◌, sym, true≢false}
+use Rattle.delta_exchange.specs.declared.fault.WireFault.{WireFault}
+use Rattle.node_core.specs.declared.ask.Ask.{Ask}
+use Rattle.node_core.specs.declared.ask.Ask.TheVariants as asks
+use Rattle.node_core.specs.declared.reply.Reply.{Reply}
+use Rattle.node_core.specs.declared.reply.Reply.TheVariants as replies
+use Rattle.node_core.specs.Asks as asked
+use Rattle.node_core.specs.Asks.{Asked, Message, ask_value, ask_value_first, bare_emit, emit_asked, emit_of, message_read}
+use Rattle.node_core.specs.Applied.{TellsIfEmit}
+use Rattle.node_core.specs.Traces.{Kept}
+use Rattle.gossip.specs.Reports.{is_emit}
+
+bare : Asked → Asked
+bare (asked.Emit to versions chosen) = bare_emit to
+bare ask = ask
+
+bare_of_emit : (to : ℕ) (read : Result Message WireFault) → bare (emit_of to read) ≡ bare_emit to
+unfolding bare
+bare_of_emit to (Ok m) = refl
+bare_of_emit to (Err fault) = refl
+
+bare_of_reply : (nodes to : ℕ) (reply : Reply) → bare (emit_asked nodes to reply) ≡ bare_emit to
+unfolding bare
+bare_of_reply nodes to (replies.Emit bytes) = bare_of_emit to (message_read nodes bytes.items)
+bare_of_reply nodes to (replies.Set s) = refl
+bare_of_reply nodes to (replies.Remove s) = refl
+bare_of_reply nodes to (replies.Load n) = refl
+bare_of_reply nodes to (replies.Pass p) = refl
+bare_of_reply nodes to (replies.Shift n) = refl
+bare_of_reply nodes to (replies.Grant n) = refl
+bare_of_reply nodes to (replies.Deliver b) = refl
+
+first_is_bare : (nodes : ℕ) (ask : Ask) (reply : Reply) → ask_value_first nodes ask ≡ bare (ask_value nodes ask reply)
+unfolding bare
+first_is_bare nodes (asks.Emit to) reply = sym (bare_of_reply nodes to reply)
+first_is_bare nodes (asks.Set name text) reply = refl
+first_is_bare nodes (asks.Remove name) reply = refl
+first_is_bare nodes (asks.Load text) reply = refl
+first_is_bare nodes (asks.Pass name) reply = refl
+first_is_bare nodes (asks.Shift name term to amount) reply = refl
+first_is_bare nodes (asks.Grant name term amount) reply = refl
+first_is_bare nodes (asks.Deliver message) reply = refl
+
+-- what was asked first, of an emit, a delivery and a shift
+pub first_of_emit : (nodes to : ℕ) (ask : Ask) (reply : Reply) → ask_value nodes ask reply ≡ emit_asked nodes to reply → ask_value_first nodes ask ≡ bare_emit to
+first_of_emit nodes to ask reply e = first_is_bare nodes ask reply ∙ ap bare e ∙ bare_of_reply nodes to reply
+
+pub first_of_delivery : (nodes : ℕ) (read : Result Message WireFault) (ask : Ask) (reply : Reply) → ask_value nodes ask reply ≡ asked.Deliver read → ask_value_first nodes ask ≡ asked.Deliver read
+unfolding bare
+first_of_delivery nodes read ask reply e = first_is_bare nodes ask reply ∙ ap bare e
+
+pub first_of_shift : (nodes : ℕ) (name : List ℕ) (term to amount : ℕ) (ask : Ask) (reply : Reply) → ask_value nodes ask reply ≡ asked.Shift name term to amount → ask_value_first nodes ask ≡ asked.Shift name term to amount
+unfolding bare
+first_of_shift nodes name term to amount ask reply e = first_is_bare nodes ask reply ∙ ap bare e
+
+pub is_message : Reply → Bool
+is_message (replies.Emit bytes) = true
+is_message _ = false
+
+-- the reply to an emit is a message
+pub emit_has_message : (nodes : ℕ) (k : Kept) (ask : Ask) (reply : Reply) → is_emit (ask_value_first nodes ask) ≡ true → TellsIfEmit k ask reply → is_message reply ≡ true
+unfolding is_message
+emit_has_message nodes k (asks.Emit to) (replies.Emit bytes) e tells = refl
+emit_has_message nodes k (asks.Emit to) (replies.Set s) e tells = absurd tells
+emit_has_message nodes k (asks.Emit to) (replies.Remove s) e tells = absurd tells
+emit_has_message nodes k (asks.Emit to) (replies.Load n) e tells = absurd tells
+emit_has_message nodes k (asks.Emit to) (replies.Pass p) e tells = absurd tells
+emit_has_message nodes k (asks.Emit to) (replies.Shift n) e tells = absurd tells
+emit_has_message nodes k (asks.Emit to) (replies.Grant n) e tells = absurd tells
+emit_has_message nodes k (asks.Emit to) (replies.Deliver b) e tells = absurd tells
+emit_has_message nodes k (asks.Set name text) reply e tells = absurd (true≢false (sym e))
+emit_has_message nodes k (asks.Remove name) reply e tells = absurd (true≢false (sym e))
+emit_has_message nodes k (asks.Load text) reply e tells = absurd (true≢false (sym e))
+emit_has_message nodes k (asks.Pass name) reply e tells = absurd (true≢false (sym e))
+emit_has_message nodes k (asks.Shift name term to amount) reply e tells = absurd (true≢false (sym e))
+emit_has_message nodes k (asks.Grant name term amount) reply e tells = absurd (true≢false (sym e))
+emit_has_message nodes k (asks.Deliver message) reply e tells = absurd (true≢false (sym e))

@@ -1,0 +1,4 @@
+pub mod AskLemmas
+pub mod PartLemmas
+pub mod RangeLemmas
+pub mod StepLemmas

@@ -1,0 +1,23 @@
+use Rattle.std.proofs.Common.{refl, arith}
+use Rattle.gossip.proofs.StepLemmas.{adds_none, adds_then}
+use Rattle.gossip.proofs.rounds.hear.Goals as goal
+
+pub loop-taken-init : goal.loop-taken-init
+loop-taken-init g c = record {
+  adds = adds_none _ _ _ _ _ _ refl refl refl refl refl;
+  tried = omega arith;
+  few = omega arith;
+}
+
+pub returns-in_err-hear_one-clause-adds : goal.returns-in_err-hear_one-clause-adds
+returns-in_err-hear_one-clause-adds g c = adds_then c.loop-taken.invariant.adds c.hear_one.ensures.adds
+
+pub loop-taken-preserved : goal.loop-taken-preserved
+loop-taken-preserved g c = record {
+  adds = adds_then c.loop-taken.invariant.adds c.hear_one.ensures.adds;
+  tried = omega (arith, c.loop-taken.invariant.tried, c.hear_one.ensures.tried);
+  few = omega (arith, c.loop-taken.invariant.few, c.hear_one.ensures.few);
+}
+
+pub returns-then-not-branch-clause-adds : goal.returns-then-not-branch-clause-adds
+returns-then-not-branch-clause-adds g c = adds_then c.loop-taken.invariant.adds c.hear_one.ensures.adds

@@ -1,0 +1,6 @@
+pub mod FaultText
+pub mod Mailboxes
+pub mod Parts
+pub mod Reports
+pub mod Spreads
+pub mod Steps

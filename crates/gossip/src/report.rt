@@ -1,0 +1,103 @@
+//! What gossip came to.
+
+ghost use Rattle.std.specs.Prelude.{◌≡◌, ◌+◌, ◌<◌, ◌≤◌, ◌^◌, ◌++◌, ◌∷◌, [], cond, vec_len, vec_capacity, OnOk, OnErr};
+
+use node_core::{NodeFault, Receipt};
+use std::alloc::{AllocError, Global};
+
+/// How a call ended.
+#[derive(Clone, Copy, Debug, PartialEq, Eq)]
+pub enum Ended {
+    /// All was done.
+    Done,
+    /// Memory was refused. What was done until then is in the report.
+    OutOfMemory,
+}
+
+/// What rounds of gossip, or a spread, came to.
+#[derive(Drop)]
+pub struct GossipReport {
+    /// How many messages were made.
+    pub emitted: u64,
+    /// How many of them couldn't be sent.
+    pub lost: u64,
+    /// How many messages were taken in.
+    pub delivered: u64,
+    /// How many calls the node refused, otherwise than for want of memory.
+    pub refused: u64,
+    /// The receipts of the accepted calls, in the order of the calls.
+    pub receipts: Vec<Receipt>,
+    pub ended: Ended,
+    ghost few_lost: { lost ≤ emitted },
+}
+
+impl GossipReport {
+    /// Of no call.
+    pub(crate) fn new(alloc: Global) -> GossipReport
+        ensures emitted { result.emitted ≡ 0 }
+        ensures delivered { result.delivered ≡ 0 }
+        ensures refused { result.refused ≡ 0 }
+        ensures receipts { result.receipts.items ≡ [] }
+        ensures ended { result.ended ≡ Ended.Done }
+    {
+        GossipReport {
+            emitted: 0,
+            lost: 0,
+            delivered: 0,
+            refused: 0,
+            receipts: Vec::new(alloc),
+            ended: Ended::Done,
+        }
+    }
+
+    /// Records a message that was made, and perhaps couldn't be sent.
+    pub(crate) fn record_emit(&mut self, receipt: Receipt, is_lost: bool)
+        requires room { vec_len self.old.receipts < vec_capacity self.old.receipts }
+        requires few { self.old.emitted + 1 < 2 ^ 64 }
+        ensures receipts { self.new.receipts.items ≡ self.old.receipts.items ++ receipt ∷ [] }
+        ensures emitted { self.new.emitted ≡ self.old.emitted + 1 }
+        ensures lost { self.new.lost ≡ self.old.lost + cond is_lost 1 0 }
+        ensures delivered { self.new.delivered ≡ self.old.delivered }
+        ensures refused { self.new.refused ≡ self.old.refused }
+        ensures ended { self.new.ended ≡ self.old.ended }
+    {
+        self.emitted += 1;
+        if is_lost {
+            self.lost += 1;
+        }
+        self.receipts.push_reserved(receipt);
+    }
+
+    /// Records a message that was taken in.
+    pub(crate) fn record_delivery(&mut self, receipt: Receipt)
+        requires room { vec_len self.old.receipts < vec_capacity self.old.receipts }
+        requires few { self.old.delivered + 1 < 2 ^ 64 }
+        ensures receipts { self.new.receipts.items ≡ self.old.receipts.items ++ receipt ∷ [] }
+        ensures emitted { self.new.emitted ≡ self.old.emitted }
+        ensures lost { self.new.lost ≡ self.old.lost }
+        ensures delivered { self.new.delivered ≡ self.old.delivered + 1 }
+        ensures refused { self.new.refused ≡ self.old.refused }
+        ensures ended { self.new.ended ≡ self.old.ended }
+    {
+        self.delivered += 1;
+        self.receipts.push_reserved(receipt);
+    }
+
+    /// Counts a refusal; the only error is want of memory, which isn't counted.
+    pub(crate) fn refuse(&mut self, fault: NodeFault) -> Result<(), AllocError>
+        requires { self.old.refused + 1 < 2 ^ 64 }
+        ensures receipts { self.new.receipts.items ≡ self.old.receipts.items }
+        ensures emitted { self.new.emitted ≡ self.old.emitted }
+        ensures lost { self.new.lost ≡ self.old.lost }
+        ensures delivered { self.new.delivered ≡ self.old.delivered }
+        ensures ok { OnOk result (self.new.refused ≡ self.old.refused + 1) }
+        ensures err { OnErr result (self.new.refused ≡ self.old.refused) }
+        ensures ended { self.new.ended ≡ self.old.ended }
+    {
+        if fault == NodeFault::OutOfMemory {
+            return Err(AllocError);
+        }
+        self.refused += 1;
+        Ok(())
+    }
+}

@@ -1,0 +1,239 @@
+//! Rounds of gossip.
+
+ghost use Rattle.std.specs.Prelude.{◌≡◌, ◌+◌, ◌*◌, ◌≤◌, ◌<◌, ◌-◌, ◌^◌, [], ◌∷◌, length, vec_len, vec_capacity, OnOk, true};
+ghost use Rattle.node_core.specs.Asks.{bare_emit};
+ghost use Rattle.node_registry.specs.Receipts.{IsGiven};
+ghost use Rattle.gossip.specs.Parts.{IsPartOf};
+ghost use Rattle.gossip.specs.Reports.{IsTold, asked_in, calls_of, emits_below, emits_of_rounds, is_emit, own_asks_in, tried_of};
+ghost use Rattle.gossip.specs.Steps.{Adds};
+
+use crate::caller::Caller;
+use crate::report::{Ended, GossipReport};
+use crate::wire::{Wire, WireError};
+use node_core::{Config, Receipt, Reply};
+use node_registry::{Label, Registry, Seat};
+use std::alloc::{AllocError, Global};
+use std::sync::Wait;
+
+/// The most messages that a round takes in.
+pub const MOST_TAKEN: u8 = 64;
+
+/// Does so many rounds of gossip, without a pause. Each round makes a message to every other node, in
+/// the order of their numbers, and sends it; then it takes in what the wire brings, at most 64
+/// messages. A message that couldn't be sent is counted, and the round goes on; where none could be
+/// taken, the round ends; a call that the node refuses is counted. Want of memory, also of the wire,
+/// ends the rounds. Room for a receipt is made before its call.
+pub fn gossip_rounds<L: Label, W: Wire, R: Wait>(
+    rt: &R,
+    alloc: Global,
+    registry: &Registry<L>,
+    seat: &mut Seat<L>,
+    wire: &mut W,
+    rounds: u32,
+) -> GossipReport
+    ensures told { IsTold L.config seat.old seat.new result }
+    // What the node was asked beside taking messages in.
+    ensures emits { IsPartOf (own_asks_in L.config result.receipts.items)
+        (emits_of_rounds L.config rounds) }
+    // Each round made a message to every other node, or was refused it.
+    ensures all { result.ended ≡ Ended.Done →
+        length (emits_of_rounds L.config rounds) ≤ tried_of result }
+    ensures few { calls_of result ≤ length (emits_of_rounds L.config rounds) + rounds * MOST_TAKEN }
+{
+    let caller = Caller {
+        rt,
+        alloc,
+        registry,
+    };
+    let Config { node, nodes, .. } = registry.with(rt, |core| core.config());
+    let mut report = GossipReport::new(alloc);
+    if do_rounds(&caller, seat, wire, node, nodes, rounds, &mut report).is_err() {
+        report.ended = Ended::OutOfMemory;
+    }
+    report
+}
+
+// The rounds, until memory is refused.
+fn do_rounds<L: Label, W: Wire, R: Wait>(
+    caller: &Caller<'_, L, R>,
+    seat: &mut Seat<L>,
+    wire: &mut W,
+    node: u8,
+    nodes: u8,
+    rounds: u32,
+    report: &mut GossipReport,
+) -> Result<(), AllocError>
+    requires place { (node ≡ L.config.node) × (nodes ≡ L.config.nodes) }
+    requires room { calls_of report.old ≡ 0 }
+    ensures adds { Adds L.config seat.old seat.new report.old report.new
+        (emits_of_rounds L.config rounds) }
+    ensures tried { OnOk result (tried_of report.old + length (emits_of_rounds L.config rounds)
+        ≤ tried_of report.new) }
+    ensures few { calls_of report.new
+        ≤ length (emits_of_rounds L.config rounds) + rounds * MOST_TAKEN }
+{
+    for _round in 0..rounds {
+        round(caller, seat, wire, node, nodes, report)?;
+    }
+    Ok(())
+}
+
+// One round.
+fn round<L: Label, W: Wire, R: Wait>(
+    caller: &Caller<'_, L, R>,
+    seat: &mut Seat<L>,
+    wire: &mut W,
+    node: u8,
+    nodes: u8,
+    report: &mut GossipReport,
+) -> Result<(), AllocError>
+    requires place { (node ≡ L.config.node) × (nodes ≡ L.config.nodes) }
+    requires room { calls_of report.old < 2 ^ 62 }
+    ensures adds { Adds L.config seat.old seat.new report.old report.new
+        (emits_below L.config L.config.nodes) }
+    ensures tried { OnOk result (tried_of report.old + length (emits_below L.config L.config.nodes)
+        ≤ tried_of report.new) }
+    ensures few { calls_of report.new
+        ≤ calls_of report.old + length (emits_below L.config L.config.nodes) + MOST_TAKEN }
+{
+    tell(caller, seat, wire, node, nodes, report)?;
+    hear(caller, seat, wire, report)
+}
+
+// Makes a message to each other node, and sends it.
+fn tell<L: Label, W: Wire, R: Wait>(
+    caller: &Caller<'_, L, R>,
+    seat: &mut Seat<L>,
+    wire: &mut W,
+    node: u8,
+    nodes: u8,
+    report: &mut GossipReport,
+) -> Result<(), AllocError>
+    requires place { (node ≡ L.config.node) × (nodes ≡ L.config.nodes) }
+    requires room { calls_of report.old < 2 ^ 62 }
+    ensures adds { Adds L.config seat.old seat.new report.old report.new
+        (emits_below L.config L.config.nodes) }
+    ensures tried { OnOk result (tried_of report.old + length (emits_below L.config L.config.nodes)
+        ≤ tried_of report.new) }
+    ensures few { calls_of report.new
+        ≤ calls_of report.old + length (emits_below L.config L.config.nodes) }
+{
+    for to in 0..nodes {
+        if to != node {
+            tell_one(caller, seat, wire, to, report)?;
+        }
+    }
+    Ok(())
+}
+
+// Makes a message to a node, and sends it.
+fn tell_one<L: Label, W: Wire, R: Wait>(
+    caller: &Caller<'_, L, R>,
+    seat: &mut Seat<L>,
+    wire: &mut W,
+    to: u8,
+    report: &mut GossipReport,
+) -> Result<(), AllocError>
+    requires { calls_of report.old < 2 ^ 63 }
+    ensures adds { Adds L.config seat.old seat.new report.old report.new (bare_emit to ∷ []) }
+    ensures tried { OnOk result (tried_of report.old + 1 ≤ tried_of report.new) }
+    ensures few { calls_of report.new ≤ calls_of report.old + 1 }
+{
+    report.receipts.reserve(1)?;
+    match caller.registry.emit(caller.rt, caller.alloc, seat, to) {
+        Ok(receipt) => {
+            let sent = send(caller, wire, to, &receipt);
+            report.record_emit(receipt, sent.is_err());
+            match sent {
+                Err(WireError::OutOfMemory) => Err(AllocError),
+                _ => Ok(()),
+            }
+        }
+        Err(fault) => report.refuse(fault),
+    }
+}
+
+// Sends the message of a receipt.
+fn send<L: Label, W: Wire, R: Wait>(
+    caller: &Caller<'_, L, R>,
+    wire: &mut W,
+    to: u8,
+    receipt: &Receipt,
+) -> Result<(), WireError>
+    requires given { IsGiven L.config receipt.now }
+    requires emit { is_emit (asked_in L.config receipt.now) ≡ true }
+{
+    match &receipt.entry.reply {
+        Reply::Emit(message) => wire.send(caller.rt, caller.alloc, to, message),
+        _ => unreachable!(),
+    }
+}
+
+// Takes in what the wire brings, as far as a round does.
+fn hear<L: Label, W: Wire, R: Wait>(
+    caller: &Caller<'_, L, R>,
+    seat: &mut Seat<L>,
+    wire: &mut W,
+    report: &mut GossipReport,
+) -> Result<(), AllocError>
+    requires { calls_of report.old < 2 ^ 63 }
+    ensures adds { Adds L.config seat.old seat.new report.old report.new [] }
+    ensures tried { tried_of report.old ≤ tried_of report.new }
+    ensures few { calls_of report.new ≤ calls_of report.old + MOST_TAKEN }
+{
+    for _taken in 0..MOST_TAKEN {
+        if !hear_one(caller, seat, wire, report)? {
+            break;
+        }
+    }
+    Ok(())
+}
+
+// Takes in a message, and says whether there was one. Room for its receipt is made before it is taken
+// from the wire.
+fn hear_one<L: Label, W: Wire, R: Wait>(
+    caller: &Caller<'_, L, R>,
+    seat: &mut Seat<L>,
+    wire: &mut W,
+    report: &mut GossipReport,
+) -> Result<bool, AllocError>
+    requires { calls_of report.old < 2 ^ 64 - 1 }
+    ensures adds { Adds L.config seat.old seat.new report.old report.new [] }
+    ensures tried { tried_of report.old ≤ tried_of report.new }
+    ensures few { calls_of report.new ≤ calls_of report.old + 1 }
+{
+    report.receipts.reserve(1)?;
+    match wire.take(caller.rt, caller.alloc) {
+        Ok(Some(message)) => {
+            take_in(caller, seat, &message, report)?;
+            Ok(true)
+        }
+        Err(WireError::OutOfMemory) => Err(AllocError),
+        Ok(None) | Err(_) => Ok(false),
+    }
+}
+
+// Takes in a message for whose receipt there is room.
+fn take_in<L: Label, R: Wait>(
+    caller: &Caller<'_, L, R>,
+    seat: &mut Seat<L>,
+    message: &[u8],
+    report: &mut GossipReport,
+) -> Result<(), AllocError>
+    requires room { vec_len report.old.receipts < vec_capacity report.old.receipts }
+    requires few { calls_of report.old < 2 ^ 64 - 1 }
+    ensures adds { Adds L.config seat.old seat.new report.old report.new [] }
+    ensures tried { tried_of report.old ≤ tried_of report.new }
+    ensures few { calls_of report.new ≤ calls_of report.old + 1 }
+{
+    match caller
+        .registry
+        .deliver(caller.rt, caller.alloc, seat, message)
+    {
+        Ok(receipt) => {
+            report.record_delivery(receipt);
+            Ok(())
+        }
+        Err(fault) => report.refuse(fault),
+    }
+}

@@ -1,0 +1,76 @@
+//! What carries messages between nodes.
+
+use std::alloc::{AllocError, AllocFailed, Global};
+use std::error::Error;
+use std::fmt;
+use std::sync::Wait;
+
+/// Why a message couldn't be sent or taken. `Display` shows the variant's name.
+#[derive(Clone, Copy, Debug, PartialEq, Eq)]
+pub enum WireError {
+    /// The other node's mailbox is full.
+    Full,
+    /// It isn't known where the other node is.
+    NoPeer,
+    /// The call failed otherwise.
+    Failed,
+    /// Memory was refused.
+    OutOfMemory,
+}
+
+impl fmt::Display for WireError {
+    ghost use Rattle.std.specs.Prelude.{Some};
+    ghost use Rattle.gossip.specs.FaultText.{wire_error_text};
+
+    ghost output = { λ e. Some (wire_error_text e) };
+
+    fn fmt<W: fmt::Write>(&self, f: &mut fmt::Formatter<W>) -> fmt::Result {
+        f.write_str(match self {
+            WireError::Full => "Full",
+            WireError::NoPeer => "NoPeer",
+            WireError::Failed => "Failed",
+            WireError::OutOfMemory => "OutOfMemory",
+        })
+    }
+}
+
+impl Error for WireError {}
+
+impl From<AllocError> for WireError {
+    ghost use Rattle.std.specs.Prelude.{◌≡◌};
+    ghost use Rattle.gossip.specs.declared.wire.WireError.TheVariants.{OutOfMemory};
+
+    ghost from_gives = { λ _ e. e ≡ OutOfMemory };
+
+    fn from(_e: AllocError) -> WireError {
+        WireError::OutOfMemory
+    }
+}
+
+impl<T: Drop> From<AllocFailed<T>> for WireError {
+    ghost use Rattle.std.specs.Prelude.{◌≡◌};
+    ghost use Rattle.gossip.specs.declared.wire.WireError.TheVariants.{OutOfMemory};
+
+    ghost from_gives = { λ _ e. e ≡ OutOfMemory };
+
+    fn from(_e: AllocFailed<T>) -> WireError {
+        WireError::OutOfMemory
+    }
+}
+
+/// Carries messages from one node to the others, and brings theirs. It may lose messages, bring them
+/// late, in another order or several times, or bring other bytes: what a node counts stays true, since
+/// the node refuses what is no message for it.
+pub trait Wire {
+    /// Sends a message to a node.
+    fn send<R: Wait>(
+        &mut self,
+        rt: &R,
+        alloc: Global,
+        to: u8,
+        message: &[u8],
+    ) -> Result<(), WireError>;
+
+    /// Takes a message that came, if there is one.
+    fn take<R: Wait>(&mut self, rt: &R, alloc: Global) -> Result<Option<Vec<u8>>, WireError>;
+}
