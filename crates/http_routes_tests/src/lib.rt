@@ -1,0 +1,5 @@
+//! What is tested of requests and their replies.
+#![tactic(auto)]
+
+#[cfg(test)]
+mod tests;
