@@ -1,0 +1,5 @@
+//! What is tested of audits.
+#![tactic(auto)]
+
+#[cfg(test)]
+mod tests;
