@@ -97,7 +97,9 @@ fn call(
     node: u8,
     ask: &Ask,
 ) -> Result<Option<Vec<u8>>, Fail> {
-    let index = u32::try_from(core.trace().len()).ok().ok_or("too many calls")?;
+    let index = u32::try_from(core.trace().len())
+        .ok()
+        .ok_or("too many calls")?;
     let entry = core.apply(alloc, ask, &[])?;
     let message = match &entry.reply {
         Reply::Emit(message) => Some(Vec::from_slice(alloc, message)?),
