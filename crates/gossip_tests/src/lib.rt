@@ -1,0 +1,5 @@
+//! What is tested of gossip.
+#![tactic(auto)]
+
+#[cfg(test)]
+mod tests;
