@@ -7,11 +7,15 @@ mod rounds;
 mod stage;
 
 use failing::{Failing, Fails, no_memory};
-use gossip::{Ended, GossipReport, MOST_MESSAGES, MailWire, Wire, WireError, gossip_rounds, spread};
+use gossip::{
+    Ended, GossipReport, MOST_MESSAGES, MailWire, Wire, WireError, gossip_rounds, spread,
+};
 use node_core::{Ask, Config, Receipt, Reply};
 use node_registry::{Label, Registry, Seat};
-use stage::{Counts, EMPTY, FIRST_OF_THREE, FIRST_OF_TWO, NOTHING, SECOND_OF_TWO};
-use stage::{asks_of, counted, filled, list, opened, opened_with, two_wires};
+use stage::{
+    Counts, EMPTY, FIRST_OF_THREE, FIRST_OF_TWO, NOTHING, SECOND_OF_TWO, asks_of, counted, filled,
+    list, opened, opened_with, two_wires,
+};
 use std::alloc::Global;
 use std::marker::Brand;
 use std::sync::Wait;

@@ -43,7 +43,10 @@ fn a_mailbox_that_was_emptied_takes_more(rt: HostRuntime) -> Result<(), Fail> {
 #[test]
 fn nobody_has_no_mailbox(rt: HostRuntime) -> Result<(), Fail> {
     let (mut first, mut second) = two_wires(rt.alloc())?;
-    assert_eq!(rt; first.send(&rt, rt.alloc(), 2, &[0]), Err(WireError::NoPeer));
+    assert_eq!(rt;
+        first.send(&rt, rt.alloc(), 2, &[0]),
+        Err(WireError::NoPeer)
+    );
     // What is sent to oneself comes to oneself.
     first.send(&rt, rt.alloc(), 0, &[7])?;
     assert!(rt; taken(&rt, rt.alloc(), &mut second)?.is_empty());

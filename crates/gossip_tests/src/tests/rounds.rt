@@ -219,8 +219,14 @@ fn a_send_that_fails_is_lost(rt: HostRuntime) -> Result<(), Fail> {
 
 // After so many takes that went well, and in so many rounds: how many messages are taken in. A round
 // takes three times, the last time in vain.
-const WHERE_TAKES_FAIL: [(u32, u32, u64); 6] =
-    [(0, 1, 0), (1, 1, 1), (2, 1, 2), (0, 2, 2), (1, 2, 2), (3, 2, 2)];
+const WHERE_TAKES_FAIL: [(u32, u32, u64); 6] = [
+    (0, 1, 0),
+    (1, 1, 1),
+    (2, 1, 2),
+    (0, 2, 2),
+    (1, 2, 2),
+    (3, 2, 2),
+];
 
 #[test]
 fn a_take_that_fails_ends_the_taking(rt: HostRuntime) -> Result<(), Fail> {

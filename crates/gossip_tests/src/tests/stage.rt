@@ -24,8 +24,8 @@ pub const FIRST_OF_THREE: Config = Config {
 
 /// What the second of three nodes, which knows nothing, tells the first.
 pub const EMPTY: [u8; 32] = [
-    b'F', b'P', b'G', b'1', 1, 0, 0, 0, 0, 0, 0, 0, 0, 0, 0, 0, 0, 0, 0, 0, 0, 0, 0, 0, 0, 0, 0, 0, 0,
-    0, 0, 0,
+    b'F', b'P', b'G', b'1', 1, 0, 0, 0, 0, 0, 0, 0, 0, 0, 0, 0, 0, 0, 0, 0, 0, 0, 0, 0, 0, 0, 0, 0,
+    0, 0, 0, 0,
 ];
 
 /// A registry with one seat.
@@ -70,11 +70,7 @@ pub(super) fn two_wires(alloc: Global) -> Result<(MailWire, MailWire), Fail> {
 }
 
 /// The wire of the first of three nodes, for which these messages wait.
-pub(super) fn filled<R: Wait>(
-    rt: &R,
-    alloc: Global,
-    messages: &[&[u8]],
-) -> Result<MailWire, Fail> {
+pub(super) fn filled<R: Wait>(rt: &R, alloc: Global, messages: &[&[u8]]) -> Result<MailWire, Fail> {
     let mut wires = MailWire::all(alloc, 3)?;
     wires.truncate(1);
     let mut wire = wires.pop().ok_or("a wire")?;
