@@ -9,3 +9,4 @@ pub mod Replays
 pub mod Laws
 pub mod Boards
 pub mod FaultText
+pub mod VerdictText

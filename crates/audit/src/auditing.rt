@@ -9,6 +9,8 @@ use crate::fault::AuditFault;
 use crate::placing::{Placing, place_all};
 use crate::receipts::{ReceiptFault, check_receipts};
 use crate::replay::least_wrong;
+use crate::tally::Tally;
+use crate::total::Total;
 use delta_exchange::MAX_NODES;
 use node_core::{Receipt, Trace};
 use std::alloc::Global;
@@ -18,6 +20,9 @@ use std::alloc::Global;
 pub struct AuditYes {
     /// Such a schedule: each entry as its node and its index in that node's trace.
     pub order: Vec<(u8, u32)>,
+    /// Of each counted term of each key that the traces set how often it was executed, in the order
+    /// of their names, stamps and numbers.
+    pub totals: Vec<Total>,
 }
 
 /// Looks for a schedule of the cluster that gives these traces, which stand in the order of their
@@ -40,7 +45,8 @@ pub fn audit(
     if nodes == 0 || nodes > MAX_NODES || traces.len() != nodes as usize {
         return Err(AuditFault::BadConfig);
     }
-    match least_wrong(alloc, nodes, traces) {
+    let mut tally = Tally::new(alloc);
+    match least_wrong(alloc, nodes, traces, &mut tally) {
         Ok(None) => {}
         Ok(Some((node, index))) => return Err(AuditFault::WrongReply { node, index }),
         Err(_) => return Err(AuditFault::OutOfMemory),
@@ -51,7 +57,10 @@ pub fn audit(
         Err(_) => return Err(AuditFault::OutOfMemory),
     };
     match check_receipts(alloc, traces, lists) {
-        Ok(()) => Ok(AuditYes { order }),
+        Ok(()) => match tally.into_totals(alloc) {
+            Ok(totals) => Ok(AuditYes { order, totals }),
+            Err(_) => Err(AuditFault::OutOfMemory),
+        },
         Err(ReceiptFault::Differs) => Err(AuditFault::ReceiptDiffers),
         Err(ReceiptFault::Twice) => Err(AuditFault::ReceiptTwice),
         Err(ReceiptFault::Missing) => Err(AuditFault::ReceiptMissing),

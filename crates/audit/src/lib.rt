@@ -9,7 +9,12 @@ mod placing;
 mod receipts;
 mod replay;
 mod sent;
+mod tally;
 mod told;
+mod total;
+mod verdict;
 
 pub use auditing::{AuditYes, audit};
 pub use fault::AuditFault;
+pub use total::Total;
+pub use verdict::verdict_text;

@@ -11,6 +11,7 @@ ghost use Rattle.audit.specs.Told.{reply_told, was_emitted};
 ghost use Rattle.audit.specs.Traces.{IsLegalAlone, IsFirstWrong, IsLeastWrong, AllLegal, audited};
 ghost use Rattle.audit.specs.Replays.{IsLegalKept, with_call};
 
+use crate::tally::Tally;
 use crate::told::same_reply;
 use cluster_model::laws::legal_emits;
 use node_core::{Config, Entry, NodeCore, NodeFault, Reply, Trace};
@@ -58,7 +59,12 @@ fn gives(alloc: Global, core: &mut NodeCore, entry: &Entry) -> Result<bool, Node
 
 // The index of the first entry of a trace that a node doesn't give, if there is one. A node accepts
 // fewer than 2^32 calls.
-fn first_wrong(alloc: Global, config: Config, trace: &Trace) -> Result<Option<u32>, NodeFault>
+fn first_wrong(
+    alloc: Global,
+    config: Config,
+    trace: &Trace,
+    tally: &mut Tally,
+) -> Result<Option<u32>, NodeFault>
     requires size { (1 ≤ config.nodes) × (config.nodes ≤ max_nodes) }
     requires node { config.node < config.nodes }
     requires cap { config.trace_cap < 2 ^ 32 }
@@ -71,6 +77,7 @@ fn first_wrong(alloc: Global, config: Config, trace: &Trace) -> Result<Option<u3
         if !gives(alloc, &mut core, entry)? {
             return Ok(Some(index as u32));
         }
+        tally.note(alloc, &core, entry)?;
     }
     Ok(None)
 }
@@ -81,6 +88,7 @@ pub(crate) fn least_wrong(
     alloc: Global,
     nodes: u8,
     traces: &[Trace],
+    tally: &mut Tally,
 ) -> Result<Option<(u8, u32)>, NodeFault>
     requires few { nodes ≤ max_nodes }
     requires each { length traces.now ≡ nodes }
@@ -95,7 +103,7 @@ pub(crate) fn least_wrong(
             nodes,
             trace_cap: u32::MAX,
         };
-        if let Some(index) = first_wrong(alloc, config, &traces[node as usize])? {
+        if let Some(index) = first_wrong(alloc, config, &traces[node as usize], tally)? {
             return Ok(Some((node, index)));
         }
     }
