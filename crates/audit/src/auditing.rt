@@ -3,6 +3,7 @@
 ghost use Rattle.std.specs.Prelude.{◌≡◌, ◌<◌, length, IfOk, Err};
 ghost use Rattle.cluster_model.specs.Laws.{EscrowHolds};
 ghost use Rattle.audit.specs.Answers.{IsAudited, events_in};
+ghost use Rattle.audit.specs.Totals.{AreTotals};
 ghost use Rattle.audit.specs.Traces.{IsSized, audited};
 
 use crate::fault::AuditFault;
@@ -38,6 +39,9 @@ pub fn audit(
     lists: &[Vec<Receipt>],
 ) -> Result<AuditYes, AuditFault>
     ensures answer { IsAudited nodes traces.now lists.now result }
+    // The totals are those of that schedule: one for each counted term of each key that was set in it.
+    ensures totals { IfOk result (λ found. AreTotals (audited nodes)
+        (events_in nodes traces.now found.order.items) found.totals.items) }
     // In that schedule no term was executed more often than it was counted and granted.
     ensures escrow { IfOk result (λ found.
         EscrowHolds (audited nodes) (events_in nodes traces.now found.order.items)) }
