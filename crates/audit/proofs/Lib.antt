@@ -11,3 +11,6 @@ pub mod CountsKept
 pub mod TotalsMade
 pub mod Tallied
 pub mod ClockKept
+pub mod Noted
+pub mod NotedAll
+pub mod Answered

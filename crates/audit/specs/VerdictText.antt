@@ -23,6 +23,12 @@ abbrev pub total_line : Total → List ℕ
 total_line t = total_text t ++ codes "\n"
 
 -- a yes with a line of each total, or the fault
-unfoldable pub verdict_text : Result AuditYes AuditFault → List ℕ
-verdict_text (Ok found) = codes "audit yes\n" ++ flat_map total_line found.totals.items
-verdict_text (Err fault) = codes "audit no " ++ audit_fault_text fault ++ codes "\n"
+abbrev pub yes_text : List Total → List ℕ
+yes_text totals = codes "audit yes\n" ++ flat_map total_line totals
+
+abbrev pub no_text : AuditFault → List ℕ
+no_text fault = codes "audit no " ++ audit_fault_text fault ++ codes "\n"
+
+abbrev pub verdict_text : Result AuditYes AuditFault → List ℕ
+verdict_text (Ok found) = yes_text found.totals.items
+verdict_text (Err fault) = no_text fault

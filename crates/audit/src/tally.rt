@@ -1,9 +1,10 @@
 //! What replays tell of budgets.
 
-ghost use Rattle.std.specs.Prelude.{◌≡◌, ℕ, ◌+◌, ◌≤◌, ◌^◌, [], ◌∷◌, IfOk, OnOk, Some, if◌then◌else◌};
+ghost use Rattle.std.specs.Prelude.{◌≡◌, ℕ, ◌+◌, ◌-◌, ◌≤◌, ◌^◌, [], ◌∷◌, length, slice_get, option_map, option_and_then, IfOk, OnOk, Some, if◌then◌else◌};
 ghost use Rattle.stamp_register.specs.declared.key.Stamp.{Stamp};
 ghost use Rattle.node_core.specs.Asks.{reply_value};
-ghost use Rattle.node_core.specs.Traces.{Kept, call_of, node_of};
+ghost use Rattle.stamp_register.specs.Keys.{stamp_of};
+ghost use Rattle.node_core.specs.Traces.{Kept, call_of, node_of, state_known};
 ghost use Rattle.cluster_model.specs.Histories.{acts, keys_by};
 ghost use Rattle.audit.specs.Counts.{AddsKeys};
 ghost use Rattle.audit.specs.Sums.{sum_of};
@@ -15,6 +16,7 @@ use crate::counts::Counts;
 use crate::points::{name_of, points_set};
 use crate::sums::Sums;
 use crate::total::Total;
+use actions::{Actions, Name};
 use node_core::{Ask, Entry, NodeCore, PassReply, Reply};
 use replica_state::Replica;
 use stamp_register::Stamp;
@@ -95,13 +97,26 @@ fn note_points(
         (keys_by k.config.node (node_of k) (Some (call_of k entry.now).ask))) }
 {
     let points = points_set(alloc, &entry.ask)?;
-    let Some((name, _)) = points.last() else {
+    let Some(stamp) = last_stamp(core, &points) else {
         return Ok(());
     };
-    let Some(key) = core.state().key(name) else {
-        return Ok(());
-    };
-    counts.add_points(alloc, &points, key.stamp())
+    counts.add_points(alloc, &points, stamp)
+}
+
+// The stamp of a point, if it has a key.
+fn stamp_at(core: &NodeCore, name: &Name) -> Option<Stamp>
+    ensures { result ≡ option_map stamp_of ((state_known core.now).key name.now) }
+{
+    Some(core.state().key(name)?.stamp())
+}
+
+// The stamp of the last of some points, if it has a key.
+fn last_stamp(core: &NodeCore, points: &[(Name, Actions)]) -> Option<Stamp>
+    ensures { result ≡ option_and_then (λ p. option_map stamp_of ((state_known core.now).key p.0))
+        (slice_get points.now (length points.now - 1)) }
+{
+    let (name, _) = points.last()?;
+    stamp_at(core, name)
 }
 
 // Adds the rights that the last call of a node granted.
@@ -125,10 +140,10 @@ fn note_grant(
     let Some(name) = name_of(alloc, name)? else {
         return Ok(());
     };
-    let Some(key) = core.state().key(&name) else {
+    let Some(stamp) = stamp_at(core, &name) else {
         return Ok(());
     };
-    granted.add(key.stamp(), *term, *amount)
+    granted.add(stamp, *term, *amount)
 }
 
 // Adds the execution that a call was answered with, if it was.
