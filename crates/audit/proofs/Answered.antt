@@ -1,5 +1,5 @@
 -- What a yes comes to.
-use Rattle.std.proofs.Common.{◌≡◌, ℕ, ◌≤◌, List, map, sym, ◌∙◌, ap, subst, IfOk, IfErr, Result, Ok, Err, Vec}
+use Rattle.std.proofs.Common.{◌≡◌, ℕ, map, sym, ◌∙◌, ap, subst, IfOk, IfErr, Result, Ok, Err, Vec}
 use Rattle.std.specs.declared.alloc.Global.{Global}
 use Rattle.node_core.specs.Asks.{call}
 use Rattle.cluster_model.specs.Laws.{EscrowHolds}

@@ -1,19 +1,18 @@
 -- What a node knows is no later than its clock, and so the last point of a load has the greatest clock.
-use Rattle.std.proofs.Common.{◌≡◌, ℕ, ◌+◌, ◌-◌, ◌<◌, ◌≤◌, max, cond, Bool, true, false, List, [], ◌∷◌, ◌++◌, length, map, Option, Some, None, refl, sym, ◌∙◌, ap, subst, arith}
+use Rattle.std.proofs.Common.{◌≡◌, ℕ, ◌+◌, ◌≤◌, max, cond, List, [], ◌∷◌, ◌++◌, length, Option, Some, None, refl, sym, ◌∙◌, ap, subst, arith}
 use Rattle.std.proofs.lemmas.Slice.Eq.{bytes_eq-Decides}
-use Rattle.std.specs.Str.{bytes_eq}
 use Rattle.stamp_register.specs.Keys.{KeyValue}
 use Rattle.replica_state.specs.Operations.{Operation}
 use Rattle.replica_state.specs.States.{State, with_key}
-use Rattle.replica_state.specs.Folds.{fold, clock_of, key_of}
+use Rattle.replica_state.specs.Folds.{fold, clock_of}
 use Rattle.node_core.specs.Asks.{Asked, Call}
 use Rattle.node_core.specs.Asks as asks
 use Rattle.node_core.specs.Nodes.{Node, start, state_shown}
 use Rattle.node_core.specs.Outcomes.{state_set}
-use Rattle.node_core.specs.Steps.{after, operations_issued, operations_added, settings, new_key, shift_under, message_in}
+use Rattle.node_core.specs.Steps.{after, operations_added, settings, new_key, shift_under, message_in}
 use Rattle.node_core.specs.Traces.{replay_from, replay}
 use Rattle.node_core.proofs.Overspent.{clock-append}
-use Rattle.node_core.proofs.SettingSteps.{fold_issued, issued_clock, Issues, issues_load}
+use Rattle.node_core.proofs.SettingSteps.{issued_clock, Issues, issues_load}
 use Rattle.node_core.proofs.TraceLemmas.{held_clock}
 use Rattle.cluster_model.proofs.Passes.{Outcome, NotSet, Nothing, Triggered, IsOutcome, ops_of, outcome_of}
 

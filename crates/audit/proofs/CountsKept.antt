@@ -1,5 +1,5 @@
 -- Counts of terms, as keys are added one after the other.
-use Rattle.std.proofs.Common.{◌≡◌, ℕ, ◌==◌, ◌&&◌, ◌+◌, ◌<◌, ◌≤◌, cond, Bool, true, false, List, [], ◌∷◌, ◌++◌, length, map, take, Option, Some, None, Ok, IsSome, refl, sym, ◌∙◌, ap, subst, arith, inl, inr, ◌⊎◌, ⊎_elim, slice_get, get_or}
+use Rattle.std.proofs.Common.{◌≡◌, ℕ, ◌==◌, ◌&&◌, ◌+◌, ◌<◌, ◌≤◌, cond, Bool, true, false, List, [], ◌∷◌, ◌++◌, length, map, take, Option, Some, None, Ok, IsSome, refl, sym, ◌∙◌, ap, subst, arith, inl, inr, ⊎_elim, slice_get, get_or}
 use Rattle.std.proofs.lemmas.Bool.{eqb-true, and_parts}
 use Rattle.std.proofs.lemmas.Bool.Decides.{leb_tells, nat_tests}
 use Rattle.std.proofs.lemmas.Slice.Eq.{bytes_eq-Decides}
@@ -20,7 +20,6 @@ use Rattle.node_core.specs.Steps.{new_key, operations_issued, settings_of}
 use Rattle.replica_state.proofs.Sets.{IsIn-append_left, IsIn-append_right, IsIn-append_cases}
 use Rattle.node_core.proofs.LoadSteps.{issued-more}
 use Rattle.audit.specs.declared.counts.Counts.{Counts}
-use Rattle.audit.specs.Sums.{is_term}
 use Rattle.audit.specs.Counts.{count_kept, is_counted_at, IsCounted, AreCountsOf, AddsKeys}
 use Rattle.audit.proofs.SumsKept.{same_number}
 

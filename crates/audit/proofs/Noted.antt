@@ -1,5 +1,5 @@
 -- What is noted of the last call of a node.
-use Rattle.std.proofs.Common.{◌≡◌, ℕ, zero, suc, ◌+◌, ◌-◌, ◌*◌, ◌^◌, ◌<◌, ◌≤◌, not, cond, Bool, true, false, List, [], ◌∷◌, ◌++◌, length, map, take, get_or, Option, Some, None, Result, Ok, Err, IsSome, refl, sym, ◌∙◌, ap, subst, arith, inl, inr, ◌⊎◌, ⊎_elim, slice_get, string_bytes}
+use Rattle.std.proofs.Common.{◌≡◌, ℕ, ◌+◌, ◌-◌, ◌<◌, not, cond, Bool, true, false, List, [], ◌∷◌, ◌++◌, length, map, take, Option, Some, None, Result, Ok, Err, refl, sym, ◌∙◌, ap, subst, arith, inr, ⊎_elim, slice_get, string_bytes}
 use Rattle.std.specs.Prelude.{option_map, option_and_then}
 use Rattle.std.proofs.lemmas.List.{length-map, length-take-le, map-append, take_more}
 use Rattle.std.proofs.lemmas.Option.{slice_get_within, slice_get-get_or, get_or_from_slice_get}
@@ -16,9 +16,9 @@ use Rattle.std.specs.declared.alloc.Global.{Global}
 use Rattle.std.specs.Prelude.{String}
 use Rattle.stamp_register.specs.declared.key.Stamp.{Stamp}
 use Rattle.stamp_register.specs.Keys.{KeyValue, stamp_of, key_le, terms_set}
-use Rattle.replica_state.specs.Operations.{Operation, Set, IsIn, count_of, count_under}
+use Rattle.replica_state.specs.Operations.{Operation, Set, count_of, count_under}
 use Rattle.replica_state.specs.States.{State, with_name}
-use Rattle.replica_state.specs.Folds.{fold, clock_of, key_of, greater}
+use Rattle.replica_state.specs.Folds.{fold, greater}
 use Rattle.node_core.specs.declared.ask.Ask.TheVariants as code
 use Rattle.node_core.specs.declared.config.Config.{Config}
 use Rattle.node_core.specs.declared.fault.NodeFault.TheVariants as faults
@@ -28,15 +28,15 @@ use Rattle.node_core.specs.Asks as asks
 use Rattle.node_core.specs.Nodes.{Node, start, state_shown}
 use Rattle.node_core.specs.Outcomes.{state_set}
 use Rattle.node_core.specs.Refusals.{refusal_at, no_entry, no_name, no_place, no_clock, bad_actions, grant_refusal, spare_words}
-use Rattle.node_core.specs.Steps.{after, operations_issued, operations_added, settings, settings_of, body_read, new_key, shift_under}
-use Rattle.node_core.specs.Traces.{Kept, node_of, call_of, state_known, replay}
+use Rattle.node_core.specs.Steps.{after, operations_issued, settings, settings_of, body_read, new_key, shift_under}
+use Rattle.node_core.specs.Traces.{Kept, node_of, call_of, state_known}
 use Rattle.node_core.proofs.SettingSteps.{fold_issued, Issues, issues_load}
 use Rattle.node_core.proofs.TraceLemmas.{replay_more}
 use Rattle.cluster_model.specs.Histories.{keys_by}
-use Rattle.audit.specs.Counts.{IsCounted, AreCountsOf, AddsKeys}
+use Rattle.audit.specs.Counts.{AreCountsOf, AddsKeys}
 use Rattle.audit.specs.declared.counts.Counts.{Counts}
-use Rattle.audit.specs.Points.{Points, point_read, point_in, points_set}
-use Rattle.audit.specs.Replays.{IsLegalKept, with_call}
+use Rattle.audit.specs.Points.{Points, point_read, points_set}
+use Rattle.audit.specs.Replays.{IsLegalKept}
 use Rattle.audit.specs.Tallies.{IsAfter, granted_by, amount_under}
 use Rattle.audit.specs.Sums.{is_term}
 use Rattle.audit.proofs.ClockKept.{replay_clock, last_set}
@@ -158,10 +158,10 @@ module _ (k new : Kept) (e : Entry) (is : IsAfter k new e) where
       let shape : settings (call_of k e).ask ≡ map f front ++ f p ∷ [] = sets.same ∙ ap (λ qs. map f qs) (ends_with ps p h) ∙ map-append f front (p ∷ []) in
       let many : length (map f front) ≡ length ps - 1 = length-map front f ∙ length-take-le (length ps - 1) ps (omega (arith, below)) in
       let state : state_known new ≡ state_set i n.marks.clock (map f front ++ f p ∷ []) (fold n.ops) =
-          ap state_shown node_after
-          ∙ ap (λ ops. fold (ops ++ n.ops)) (sets.issues.adds i n (call_of k e).words)
-          ∙ fold_issued i n.marks.clock (settings (call_of k e).ask) n.ops (replay_clock i k.trace)
-          ∙ ap (λ ss. state_set i n.marks.clock ss (fold n.ops)) shape in
+      ap state_shown node_after
+      ∙ ap (λ ops. fold (ops ++ n.ops)) (sets.issues.adds i n (call_of k e).words)
+      ∙ fold_issued i n.marks.clock (settings (call_of k e).ask) n.ops (replay_clock i k.trace)
+      ∙ ap (λ ss. state_set i n.marks.clock ss (fold n.ops)) shape in
       ap (λ (v : State). v.key p.0) state ∙ last_set i n.marks.clock (map f front) (f p) (fold n.ops)
       ∙ ap (λ m. Some (new_key i (n.marks.clock + m) (Some (canonical p.1)))) many
 
@@ -245,7 +245,7 @@ module _ (k new : Kept) (e : Entry) (is : IsAfter k new e) (name : String Global
   pub grant_named : is_name (string_bytes name) ≡ false → ⊥
   grant_named bad =
       let agreed : refusal_at k.config (length k.trace) (node_of k) (asks.Grant (string_bytes name) term amount) (call_of k e).words ≡ None =
-          subst (λ a. refusal_at k.config (length k.trace) (node_of k) a (call_of k e).words ≡ None) asked_so (legal_call k new e is).agreed in
+      subst (λ a. refusal_at k.config (length k.trace) (node_of k) a (call_of k e).words ≡ None) asked_so (legal_call k new e is).agreed in
       let rest = grant_refusal k.config (state_shown (node_of k)) (string_bytes name) term amount ∷ spare_words (call_of k e).words ∷ [] in
       let first = first_none (no_entry k.config (length k.trace)) (no_name (string_bytes name) ∷ rest) agreed in
       let second = first_none (no_name (string_bytes name)) rest first.1 in

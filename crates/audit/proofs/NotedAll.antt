@@ -1,16 +1,13 @@
 -- What is noted of a trace, and of all traces.
-use Rattle.std.proofs.Common.{◌≡◌, ℕ, zero, suc, ◌+◌, ◌*◌, ◌-◌, ◌^◌, ◌<◌, ◌≤◌, cond, Bool, true, false, List, [], ◌∷◌, ◌++◌, length, map, take, Option, Some, None, refl, sym, ◌∙◌, ap, subst, arith, slice_get, append_assoc}
+use Rattle.std.proofs.Common.{◌≡◌, ℕ, zero, suc, ◌+◌, ◌-◌, ◌^◌, ◌<◌, ◌≤◌, cond, Bool, true, false, List, [], ◌∷◌, ◌++◌, length, map, take, Some, refl, sym, ◌∙◌, ap, subst, arith, slice_get}
 use Rattle.std.proofs.lemmas.List.{length-map, length-take-le, length-append, map-append, append-nil}
 use Rattle.std.proofs.lemmas.List.Sums.{sum_by-cons}
 use Rattle.std.specs.Map.{lookup}
 use Rattle.stamp_register.specs.declared.key.Stamp.{Stamp}
-use Rattle.replica_state.specs.Operations.{Operation, IsIn}
-use Rattle.replica_state.proofs.Sets.{IsIn-append_left, IsIn-append_right, IsIn-append_cases}
 use Rattle.node_core.specs.declared.config.Config.{Config}
 use Rattle.node_core.specs.declared.trace.Entry.{Entry}
 use Rattle.node_core.specs.Asks.{Call, call}
 use Rattle.node_core.specs.Nodes.{Node, start}
-use Rattle.node_core.specs.Steps.{after}
 use Rattle.node_core.specs.Traces.{Kept, node_of, call_of, replay_from}
 use Rattle.cluster_model.specs.Histories.{keys_by, acts}
 use Rattle.cluster_model.specs.Worlds.{config_of}
@@ -18,7 +15,7 @@ use Rattle.audit.specs.declared.counts.Counts.{Counts}
 use Rattle.audit.specs.declared.tally.Tally.{Tally}
 use Rattle.audit.specs.Sums.{sum_of}
 use Rattle.audit.specs.Counts.{count_kept, AreCountsOf, AddsKeys}
-use Rattle.audit.specs.Tallies.{keys_from, granted_by, granted_from, executed_in, calls_of, Notes, IsTallied}
+use Rattle.audit.specs.Tallies.{keys_from, granted_by, executed_in, calls_of, Notes, IsTallied}
 use Rattle.audit.specs.Traces.{Traces, trace_of, audited, IsLegalAlone}
 use Rattle.audit.proofs.CountsKept.{adds_behind, adds_none}
 use Rattle.std.proofs.lemmas.Option.{slice_get_within}

@@ -1,21 +1,20 @@
 -- What is noted of calls, call after call and node after node, is what a schedule of them tells.
-use Rattle.std.proofs.Common.{◌≡◌, ℕ, zero, suc, ◌+◌, ◌*◌, ◌^◌, ◌<◌, ◌≤◌, ◌==◌, ◌&&◌, cond, Bool, true, false, List, [], ◌∷◌, ◌++◌, length, map, take, Option, Some, None, IsSome, refl, sym, ◌∙◌, ap, subst, arith, inl, inr, ◌⊎◌, ⊎_elim, slice_get, append_assoc}
-use Rattle.std.specs.Prelude.{count_by}
-use Rattle.std.proofs.lemmas.List.{length-map, length-append, map-append, append-nil}
+use Rattle.std.proofs.Common.{◌≡◌, ℕ, zero, suc, ◌+◌, ◌<◌, ◌==◌, ◌&&◌, cond, Bool, true, false, List, [], ◌∷◌, ◌++◌, Option, Some, None, IsSome, refl, sym, ◌∙◌, ap, subst, arith, inl, inr, ⊎_elim, append_assoc}
+use Rattle.std.proofs.lemmas.List.{append-nil}
 use Rattle.std.proofs.lemmas.List.Sums.{sum_by-cons, sum_by-append}
 use Rattle.std.proofs.lemmas.Bool.{eqb-true, eq-eqb, and_parts, and_from}
 use Rattle.std.proofs.lemmas.Bool.Decides.{eqb_tells, leb_tells}
 use Rattle.counters.specs.Sums.{sum_below}
 use Rattle.stamp_register.specs.declared.key.Stamp.{Stamp}
 use Rattle.stamp_register.specs.Keys.{KeyValue, stamp_of}
-use Rattle.replica_state.specs.Operations.{Operation, Set, IsIn, count_of}
+use Rattle.replica_state.specs.Operations.{Operation, Set, IsIn}
 use Rattle.replica_state.proofs.Sets.{IsIn-append_left, IsIn-append_right, IsIn-append_cases}
 use Rattle.node_core.specs.Asks.{Asked, Call, call}
 use Rattle.node_core.specs.Asks as asks
 use Rattle.node_core.specs.Nodes.{Node, start, state_shown}
 use Rattle.node_core.specs.Steps.{after, reply}
-use Rattle.node_core.specs.Traces.{replay_from, replay}
-use Rattle.cluster_model.specs.Worlds.{Cluster, Event, World, accepted, world, node_after, trace_after}
+use Rattle.node_core.specs.Traces.{replay_from}
+use Rattle.cluster_model.specs.Worlds.{Cluster, Event, accepted, world, trace_after}
 use Rattle.cluster_model.specs.Histories.{keys_by, keys_issued, IsIssued, acts, is_key, amount_granted, granted, all_granted, all_executions}
 use Rattle.cluster_model.proofs.Replays.{node_is_replay}
 use Rattle.cluster_model.specs.Schedules.{IsSchedule}
@@ -181,7 +180,7 @@ module _ (c : Cluster) (full : List Event) (name : List ℕ) (key : KeyValue) (t
   granted_trace (e ∷ es) s sub i =
       let before = granted_trace es (s.1) (λ other held h. sub other held (IsIn-append_right (Set other held) (keys_by e.node ((world c es).node e.node) (accepted c (world c es) e e.node)) (keys_issued c es) h)) i in
       let now = same_amount ((world c es).node i) i (accepted c (world c es) e i)
-          (λ other held h. sub other held (IsIn-append_right (Set other held) (keys_by e.node ((world c es).node e.node) (accepted c (world c es) e e.node)) (keys_issued c es) (under_issued c es (carried c es s.1) i other held h))) in
+      (λ other held h. sub other held (IsIn-append_right (Set other held) (keys_by e.node ((world c es).node e.node) (accepted c (world c es) e e.node)) (keys_issued c es) (under_issued c es (carried c es s.1) i other held h))) in
       let whole = trace_granted c es e i (stamp_of key) term in
       omega (arith, before, now, whole)
 

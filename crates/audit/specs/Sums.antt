@@ -1,5 +1,5 @@
 -- Sums by terms under stamps.
-use Rattle.std.specs.Prelude.{ℕ, ◌<◌, ◌^◌, ◌==◌, ◌&&◌, Bool}
+use Rattle.std.specs.Prelude.{ℕ, ◌==◌, ◌&&◌, Bool}
 use Rattle.std.specs.Option.{unwrap_or}
 use Rattle.std.specs.Map.{lookup}
 use Rattle.std.specs.BTreeMap.{is_at}

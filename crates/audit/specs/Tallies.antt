@@ -9,7 +9,7 @@ use Rattle.node_core.specs.Asks.{Asked, Call, call}
 use Rattle.node_core.specs.Asks as asks
 use Rattle.node_core.specs.Nodes.{Node, start, state_shown}
 use Rattle.node_core.specs.Steps.{after}
-use Rattle.node_core.specs.Traces.{Kept, node_of, call_of}
+use Rattle.node_core.specs.Traces.{Kept, call_of}
 use Rattle.cluster_model.specs.Histories.{keys_by, acts}
 use Rattle.audit.specs.declared.sums.Sums.{Sums}
 use Rattle.audit.specs.declared.tally.Tally.{Tally}

@@ -7,9 +7,7 @@ ghost use Rattle.node_core.specs.declared.reply.Reply.{Reply};
 ghost use Rattle.node_core.specs.Steps.{points_in};
 ghost use Rattle.audit.specs.Points.{point_in, points_set};
 
-use actions::{
-    ActionFault, Actions, Name, NameFault, SettingFault, parse_actions, parse_setting,
-};
+use actions::{ActionFault, Actions, Name, NameFault, SettingFault, parse_actions, parse_setting};
 use node_core::Ask;
 use std::alloc::{AllocError, Global};
 

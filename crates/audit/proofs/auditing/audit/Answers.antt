@@ -2,11 +2,10 @@ use Rattle.std.proofs.Common.{◌≡◌, ◌≤◌, length, sym, subst, arith, I
 use Rattle.delta_exchange.specs.Limits.{max_nodes}
 use Rattle.audit.specs.Answers.{IsAudited}
 use Rattle.audit.specs.Boards.{IsPlacing}
-use Rattle.audit.specs.Checked.{IsChecked}
 use Rattle.audit.specs.Places.{Fits}
 use Rattle.audit.specs.Schedules.{SomeFits}
 use Rattle.audit.specs.Traces.{IsSized, AllLegal, IsLeastWrong}
-use Rattle.audit.proofs.Scheduled.{order_fits, some_fits, order_of_fits, all_short, escrow_of}
+use Rattle.audit.proofs.Scheduled.{order_fits, some_fits, order_of_fits, all_short}
 use Rattle.audit.specs.Tallies.{IsTallied}
 use Rattle.audit.proofs.Answered.{answer_is, fault_is, totals_are, escrow_is}
 use Rattle.audit.proofs.auditing.audit.Goals as goal

@@ -1,4 +1,4 @@
-use Rattle.std.proofs.Common.{◌≡◌, ◌+◌, ◌≤◌, sym, ap, subst, arith}
+use Rattle.std.proofs.Common.{◌≡◌, ◌+◌, ◌≤◌, ap, arith}
 use Rattle.cluster_model.specs.Histories.{all_granted, all_executions}
 use Rattle.stamp_register.specs.Keys.{stamp_of}
 use Rattle.audit.proofs.laws.totals_are_kept.Goals as goal

@@ -1,4 +1,4 @@
-use Rattle.std.proofs.Common.{◌≡◌, ◌+◌, sym, ◌∙◌, ap, subst, arith, Some, None, Option, IfSome, IfNone, true, false, string_bytes}
+use Rattle.std.proofs.Common.{◌≡◌, ◌+◌, sym, ◌∙◌, ap, subst, arith, Some, None, IfSome, IfNone, true, false}
 use Rattle.std.proofs.lemmas.Result.{on_ok_weaker}
 use Rattle.std.specs.Prelude.{option_map}
 use Rattle.actions.specs.Names.{is_name}
@@ -19,7 +19,7 @@ returns-in_default-stamp_at-clause-value c = λ k is stamp term.
     let named = subst (λ o. IfSome o (λ n. (n ≡ c.deref.result.now) × (is_name c.deref.result.now ≡ true))) c.in-Some.is c.in_ok-name.ensures.name in
     let none = sym c.stamp_at.ensures ∙ c.in_default-stamp_at.is in
     let zero = grant_none k c.args.core.now c.args.entry.now is c.in-Grant.name c.in-Grant.term c.in-Grant.amount c.in-Grant.is
-        (subst (λ n. option_map stamp_of ((state_known c.args.core.now).key n) ≡ None) (named.0 ∙ c.deref.ensures) none) stamp term in
+    (subst (λ n. option_map stamp_of ((state_known c.args.core.now).key n) ≡ None) (named.0 ∙ c.deref.ensures) none) stamp term in
     omega (arith, zero)
 
 pub returns-clause-value : goal.returns-clause-value

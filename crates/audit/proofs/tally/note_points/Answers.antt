@@ -1,10 +1,8 @@
-use Rattle.std.proofs.Common.{◌≡◌, ◌≤◌, ◌-◌, List, length, sym, ◌∙◌, ap, subst, arith, Some, None, Option}
+use Rattle.std.proofs.Common.{◌≡◌, ◌-◌, length, sym, ◌∙◌, ap, subst, arith, Some, None}
 use Rattle.std.proofs.lemmas.Result.{on_ok_weaker}
-use Rattle.stamp_register.specs.declared.key.Stamp.{Stamp}
 use Rattle.node_core.specs.Steps.{operations_issued, settings_of}
-use Rattle.node_core.specs.Traces.{call_of}
 use Rattle.audit.specs.Counts.{AddsKeys}
-use Rattle.audit.specs.Points.{Points, points_set}
+use Rattle.audit.specs.Points.{Points}
 use Rattle.audit.proofs.Noted.{found_stamp, is_last, points_added, none_added}
 use Rattle.audit.proofs.tally.note_points.Goals as goal
 

@@ -1,4 +1,4 @@
-use Rattle.std.proofs.Common.{◌≡◌, ◌+◌, ◌-◌, ◌≤◌, ◌<◌, ◌++◌, ◌∷◌, [], length, take, get_or, sym, ◌∙◌, ap, subst, arith, Some, List, ℕ}
+use Rattle.std.proofs.Common.{◌≡◌, ◌+◌, ◌-◌, ◌++◌, ◌∷◌, [], length, take, sym, ◌∙◌, ap, subst, arith, Some, List, ℕ}
 use Rattle.actions.specs.Value.{TermValue}
 use Rattle.actions.specs.Canonical.{canonical}
 use Rattle.stamp_register.specs.Keys.{KeyValue}
@@ -18,8 +18,8 @@ loop-name-preserved c =
     let key : KeyValue = new_key c.args.last.node (before + c.loop-name.name-index) (Some (canonical point.1)) in
     let first : List Operation = operations_issued c.args.last.node before (settings_of (take c.loop-name.name-index c.args.points.now)) in
     let more : operations_issued c.args.last.node before (settings_of (take (c.loop-name.name-index + 1) c.args.points.now)) ≡ first ++ Set point.0 key ∷ [] =
-        issued_one_more c.args.last.node before c.args.points.now c.loop-name.name-index point c.loop-name-test.true
-        ∙ ap (λ (p : List ℕ × List TermValue). first ++ Set p.0 (new_key c.args.last.node (before + c.loop-name.name-index) (Some (canonical p.1))) ∷ []) (sym c.loop-name-item.is) in
+    issued_one_more c.args.last.node before c.args.points.now c.loop-name.name-index point c.loop-name-test.true
+    ∙ ap (λ (p : List ℕ × List TermValue). first ++ Set p.0 (new_key c.args.last.node (before + c.loop-name.name-index) (Some (canonical p.1))) ∷ []) (sym c.loop-name-item.is) in
     record {
       clock = omega (arith, was);
       node = node;

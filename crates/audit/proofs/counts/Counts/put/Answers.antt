@@ -1,4 +1,4 @@
-use Rattle.std.proofs.Common.{◌≡◌, ℕ, ap, sym, ◌∙◌, cond, Some}
+use Rattle.std.proofs.Common.{ap, sym, ◌∙◌, cond, Some}
 use Rattle.audit.specs.Counts.{count_kept}
 use Rattle.audit.proofs.CountsKept.{same_places}
 use Rattle.audit.proofs.counts.Counts.put.Goals as goal
