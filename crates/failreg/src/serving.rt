@@ -41,9 +41,9 @@ where
         + Eprint,
     ensures status { IfOk result (λ code. (exit_status code ≡ 0) ⊎ (exit_status code ≡ 1)) }
     ensures bad { IsTrue (is_bad_config (record {
-      node = options.node;
-      nodes = options.nodes;
-      trace_cap = options.cap;
+      node = options.entry.node;
+      nodes = options.entry.nodes;
+      trace_cap = options.entry.cap;
     })) → HasStatus result 1 }
 {
     let config = Config {
