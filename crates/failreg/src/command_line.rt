@@ -1,135 +1,10 @@
 //! The command line.
 
-use clap::{Arg, ArgAction, Command, Error};
+use crate::help::{EXAMPLE, PARSE_HELP, SERVE_HELP, SIM_HELP, THREADS_HELP};
+use clap::{Arg, ArgAction, ArgMatches, Command, Error, value_parser};
 use std::alloc::{AllocError, Global};
 
 const VERSION: &str = "0.1.0";
-
-const EXAMPLE: &str = "\
-Example:
-  $ printf 'nodes 1 9\\nset 0 a 2*off\\npass 0 a\\n' | failreg sim
-  set 1.0
-  act 1.0 0 off";
-
-const PARSE_HELP: &str = "\
-An action text is one or more terms joined by `->`, each of the form
-[<percent>%][<count>*]<task>[(<argument>)]. The tasks are off, return, sleep,
-panic, print, pause, yield and delay. A text that is refused has status 1, and
-the reason stands on standard error. After `--` any text is taken, also -h.
-
-Example:
-  $ failreg parse '020.50%3*print(hi) -> panic'
-  20.5%3*print(hi)->panic";
-
-const SIM_HELP: &str = "\
-Each line of the script, and what it prints where it is accepted:
-  nodes <n> <cap>                     nothing: makes nodes 0 to n-1, of which
-                                      each accepts cap calls
-  set <node> <name> <actions>         set <stamp>
-  remove <node> <name>                removed <stamp>
-  load <node> <entries>               loaded <n>: sets the points of n entries
-                                      `<name>=<actions>`, joined by `;`, or
-                                      none where one is refused
-  pass <node> <name>[ <word>]...      unset, none <stamp>, or
-                                      act <stamp> <term> <task>
-  shift <node> <name> <term> <to> <amount>
-                                      shifted <total>: moves rights to node
-                                      <to>; total is what <node> has moved
-                                      there under the point's stamp
-  grant <node> <name> <term> <amount>
-                                      granted <total>: adds rights beyond the
-                                      count, which <node> has; total is what
-                                      <node> has granted itself under the
-                                      point's stamp
-  emit <node> <to>                    message <number>: makes a message to
-                                      node <to> of what that node isn't known
-                                      to have; numbers count from 0 over the
-                                      script
-  deliver <node> <message>            changed, or same where <node> learnt
-                                      nothing of it
-  list <node>                         the points that are set, perhaps none
-  report <node>                       what <node> knows: of each point a line
-                                      with its stamp and actions, one with its
-                                      hits, and one for each counted term, with
-                                      its count, grants, how often it ran and
-                                      the rights of each node. Where nothing is
-                                      known, nothing
-  rights <node> <name> <term> <of>    the rights that node <of> has left, as
-                                      <node> sees it
-  spent <node> <name> <term>          how often the term ran, as <node> sees it
-  hits <node> <name>                  how often the point was passed, as <node>
-                                      sees it
-A pass takes one word, a number below 2^32, for each term whose chance is below
-100%. An amount is a number below 2^64. A stamp is <clock>.<node>. A node knows
-of another only what a message told it, and a message may be delivered late,
-again or never. Fields are separated by one space. Empty lines and lines that
-begin with `#` are skipped.
-
-A line that can't be read prints `bad line`, as does a call before the nodes
-are made, and a second `nodes`. A byte order mark or a `\\r` belongs to the field
-that it touches, and spoils the line. A call that the node refuses prints
-`refused` and a code, as `refused N8 NotCounted` (docs/refusals.md has all).
-Where the node or the message isn't there, the line prints `refused NoNode` or,
-with a node that is, `refused NoMessage`. The script goes on, and the status is
-0. It is 1 where the script can't be read, is longer than 16777216 bytes, or
-can't be answered, and the reason stands on standard error.
-
-With --echo each line but the skipped ones stands behind `> ` before what it
-prints: a transcript that reads by itself. No answer begins with `>`.
-
-Example:
-  $ printf 'nodes 1 9\\nset 0 a 1*panic->off\\npass 0 a\\npass 0 a\\nhits 0 a\\n' | failreg sim
-  set 1.0
-  act 1.0 0 panic
-  act 1.0 1 off
-  2";
-
-const THREADS_HELP: &str = "\
-The script is read to its end before anything is called. Its lines, in this
-order:
-  nodes <n> <cap>                     makes nodes 0 to n-1, 32 at most, of
-                                      which each accepts cap calls
-  seed <digits>                       64 hexadecimal digits: the seed of the
-                                      words that passes take at random
-  start <line>                        makes a call before the workers start,
-                                      in the order of these lines; <line> is
-                                      set <node> <name> <actions>,
-                                      remove <node> <name>,
-                                      load <node> <entries>,
-                                      shift <node> <name> <term> <to> <amount>
-                                      or grant <node> <name> <term> <amount>,
-                                      as in a script of `failreg sim`
-  worker <node>                       the lines up to the next `worker` are
-                                      calls of one worker of the node, made in
-                                      their order in a thread of its own:
-    set <name> <actions>              sets a point
-    remove <name>                     removes it
-    load <entries>                    sets the points of its entries
-    shift <name> <term> <to> <amount> moves rights to node <to>
-    grant <name> <term> <amount>      adds rights beyond the count
-    pass <name> <times>               passes the point so often, 65535 times
-                                      at most
-Any number of `start` lines and of workers may stand there, up to 250 workers a
-node. All workers run beside each other, and those of one node take turns at
-it. The nodes tell each other nothing. Fields are separated by one space. Empty
-lines and lines that begin with `#` are skipped.
-
-In the end two lines are printed: `workers` with the number of workers, and
-`calls` with the number of calls that the nodes accepted, those of the `start`
-lines too. A call that a node refuses changes nothing and isn't counted. A
-thread that can't be started makes no calls.
-
-The status is 0. It is 1 where the script can't be read, is longer than
-16777216 bytes, or can't be answered, where memory is refused, and where a line
-can't be read or stands out of its place, as `P5 BadLine line=6`: then nothing
-is called. The line is the first that is bad, counted from 1 with the skipped
-ones; where the seed is missing, it is the one behind the last. The reason
-stands on standard error.
-
-Example:
-  $ printf 'nodes 1 9\\nseed %064d\\nworker 0\\nset a off\\nworker 0\\npass b 4\\n' 0 | failreg threads
-  workers 2
-  calls 5";
 
 /// What the program is asked to do.
 #[derive(Clone, Copy, Debug, PartialEq, Eq)]
@@ -140,6 +15,85 @@ pub enum Invocation<'a> {
     Sim { echo: bool },
     /// To run the script of threads on standard input.
     Threads,
+    /// To serve a node over HTTP.
+    Serve(ServeOptions<'a>),
+}
+
+/// The node that is served, and where.
+#[derive(Clone, Copy, Debug, PartialEq, Eq)]
+pub struct ServeOptions<'a> {
+    pub node: u8,
+    pub nodes: u8,
+    /// The port, or 0 for one that the system picks.
+    pub port: u16,
+    /// How many calls the node accepts.
+    pub cap: u32,
+    /// How many connections are served.
+    pub requests: u32,
+    /// The points that are set before the first request.
+    pub failpoints: Option<&'a str>,
+}
+
+// An option with a value, which has to be given.
+fn needed<'a>(alloc: Global, name: &'a str, value: &'a str, help: &'a str) -> Arg<'a> {
+    Arg::new(alloc, name)
+        .long(name)
+        .value_name(value)
+        .help(help)
+        .required(true)
+}
+
+// An option with a value, and what it is where it isn't given.
+fn offered<'a>(
+    alloc: Global,
+    name: &'a str,
+    value: &'a str,
+    help: &'a str,
+    otherwise: &'a str,
+) -> Arg<'a> {
+    Arg::new(alloc, name)
+        .long(name)
+        .value_name(value)
+        .help(help)
+        .default_value(otherwise)
+}
+
+fn serve_command<'a>(alloc: Global) -> Result<Command<'a>, AllocError> {
+    let node = needed(alloc, "node", "n", "The number of the node, from 0");
+    let nodes = needed(
+        alloc,
+        "nodes",
+        "m",
+        "How many nodes the cluster has, 32 at most",
+    );
+    let port = needed(alloc, "port", "p", "The port to listen on, or 0 for any");
+    let cap = offered(
+        alloc,
+        "cap",
+        "c",
+        "How many calls the node accepts",
+        "1000000",
+    );
+    let requests = offered(
+        alloc,
+        "requests",
+        "r",
+        "How many clients are served",
+        "1000000",
+    );
+    let failpoints = Arg::new(alloc, "failpoints")
+        .long("failpoints")
+        .value_name("text")
+        .help("Points that are set first, as `a=off;b=panic`");
+    Command::new(alloc, "serve")
+        .about("Serves a node over HTTP on 127.0.0.1")
+        .after_help(SERVE_HELP)
+        .arg(node.value_parser(value_parser!(u8)))?
+        .arg(nodes.value_parser(value_parser!(u8)))?
+        .arg(port.value_parser(value_parser!(u16)))?
+        .arg(cap.value_parser(value_parser!(u32)))?
+        .arg(requests.value_parser(value_parser!(u32)))?
+        .arg(failpoints)
 }
 
 // The words of a command line live as long as the texts of its command.
@@ -170,7 +124,20 @@ fn whole_command<'a>(alloc: Global) -> Result<Command<'a>, AllocError> {
         .subcommand_required(true)
         .subcommand(parse)?
         .subcommand(sim)?
-        .subcommand(threads)
+        .subcommand(threads)?
+        .subcommand(serve_command(alloc)?)
+}
+
+// What is given where the values of a serve command have passed their parsers.
+fn serve_options<'a>(matches: &ArgMatches<'a>) -> ServeOptions<'a> {
+    ServeOptions {
+        node: matches.get_one::<u8>("node").unwrap_or(0),
+        nodes: matches.get_one::<u8>("nodes").unwrap_or(0),
+        port: matches.get_one::<u16>("port").unwrap_or(0),
+        cap: matches.get_one::<u32>("cap").unwrap_or(0),
+        requests: matches.get_one::<u32>("requests").unwrap_or(0),
+        failpoints: matches.get_str("failpoints"),
+    }
 }
 
 /// What a command line asks for, whose first word is the program's name.
@@ -180,6 +147,7 @@ pub fn read_command_line<'a>(alloc: Global, words: &'a [String]) -> Result<Invoc
     match matches.subcommand() {
         Some(("parse", matches)) => Ok(Invocation::Parse(matches.get_str("text").unwrap_or(""))),
         Some(("threads", _)) => Ok(Invocation::Threads),
+        Some(("serve", matches)) => Ok(Invocation::Serve(serve_options(matches))),
         Some((_, matches)) => Ok(Invocation::Sim {
             echo: matches.get_flag("echo"),
         }),

@@ -6,12 +6,13 @@ ghost use Rattle.clap.specs.Values.{kind_of};
 ghost use Rattle.failreg.specs.Statuses.{HasStatus, unread_status};
 
 use actions::{ActionFault, Actions};
+use http_serve::ServeFault;
 use scripts::ScriptFault;
 use std::fmt::Display;
 use std::process::ExitCode;
 
-// Says why something was refused.
-fn refuse<R: Eprint, E: Display + Drop>(rt: &R, fault: E) -> anyhow::Result<ExitCode>
+/// Says why something was refused.
+pub fn refuse<R: Eprint, E: Display + Drop>(rt: &R, fault: E) -> anyhow::Result<ExitCode>
     ensures { HasStatus result 1 }
 {
     eprintln!(rt; "refused {fault}")?;
@@ -44,6 +45,22 @@ pub fn finish_script<R: Eprint>(rt: &R, run: Result<(), ScriptFault>) -> anyhow:
         Ok(()) => Ok(ExitCode::SUCCESS),
         Err(fault) => refuse(rt, fault),
     }
+}
+
+/// After a node was served: prints how many clients were, or why no more are.
+pub fn finish_serve<R: Print + Eprint>(
+    rt: &R,
+    served: Result<u32, ServeFault>,
+) -> anyhow::Result<ExitCode>
+    ensures done { IfOk result (λ code. exit_status code ≡ 0 ↔ IsOk served) }
+    ensures refused { IfOk result (λ code. exit_status code ≡ 1 ↔ IsErr served) }
+{
+    let served = match served {
+        Ok(served) => served,
+        Err(fault) => return refuse(rt, fault),
+    };
+    println!(rt; "served {served}")?;
+    Ok(ExitCode::SUCCESS)
 }
 
 /// Where a command line asks for no run: prints the help that it asks for, or what is wrong with

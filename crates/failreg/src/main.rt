@@ -13,11 +13,14 @@ ghost use Rattle.failreg.specs.Statuses.{HasStatus, OnStatus};
 
 mod command_line;
 mod finish;
+mod help;
+mod serving;
 
 use actions::parse_actions;
 use command_line::{Invocation, read_command_line};
 use finish::{finish_parse, finish_script, finish_unread};
 use scripts::{MOST_BYTES, Watched, run_script, run_script_echoing};
+use serving::serve_node;
 use std::io;
 use std::io::{Read, Write};
 use std::process::ExitCode;
@@ -40,6 +43,7 @@ fn main(rt: HostRuntime) -> anyhow::Result<ExitCode> {
             let mut writer = Watched::new(io::writer(&rt));
             threads(&rt, &mut reader, &mut writer)
         }
+        Ok(Invocation::Serve(options)) => serve_node(&rt, options),
         Err(error) => finish_unread(&rt, &error),
     }
 }

@@ -1,0 +1,176 @@
+//! The longer texts of the help.
+
+/// Behind the help of the program.
+pub const EXAMPLE: &str = "\
+Example:
+  $ printf 'nodes 1 9\\nset 0 a 2*off\\npass 0 a\\n' | failreg sim
+  set 1.0
+  act 1.0 0 off";
+
+/// Behind the help of `parse`.
+pub const PARSE_HELP: &str = "\
+An action text is one or more terms joined by `->`, each of the form
+[<percent>%][<count>*]<task>[(<argument>)]. The tasks are off, return, sleep,
+panic, print, pause, yield and delay. A text that is refused has status 1, and
+the reason stands on standard error. After `--` any text is taken, also -h.
+
+Example:
+  $ failreg parse '020.50%3*print(hi) -> panic'
+  20.5%3*print(hi)->panic";
+
+/// Behind the help of `sim`.
+pub const SIM_HELP: &str = "\
+Each line of the script, and what it prints where it is accepted:
+  nodes <n> <cap>                     nothing: makes nodes 0 to n-1, of which
+                                      each accepts cap calls
+  set <node> <name> <actions>         set <stamp>
+  remove <node> <name>                removed <stamp>
+  load <node> <entries>               loaded <n>: sets the points of n entries
+                                      `<name>=<actions>`, joined by `;`, or
+                                      none where one is refused
+  pass <node> <name>[ <word>]...      unset, none <stamp>, or
+                                      act <stamp> <term> <task>
+  shift <node> <name> <term> <to> <amount>
+                                      shifted <total>: moves rights to node
+                                      <to>; total is what <node> has moved
+                                      there under the point's stamp
+  grant <node> <name> <term> <amount>
+                                      granted <total>: adds rights beyond the
+                                      count, which <node> has; total is what
+                                      <node> has granted itself under the
+                                      point's stamp
+  emit <node> <to>                    message <number>: makes a message to
+                                      node <to> of what that node isn't known
+                                      to have; numbers count from 0 over the
+                                      script
+  deliver <node> <message>            changed, or same where <node> learnt
+                                      nothing of it
+  list <node>                         the points that are set, perhaps none
+  report <node>                       what <node> knows: of each point a line
+                                      with its stamp and actions, one with its
+                                      hits, and one for each counted term, with
+                                      its count, grants, how often it ran and
+                                      the rights of each node. Where nothing is
+                                      known, nothing
+  rights <node> <name> <term> <of>    the rights that node <of> has left, as
+                                      <node> sees it
+  spent <node> <name> <term>          how often the term ran, as <node> sees it
+  hits <node> <name>                  how often the point was passed, as <node>
+                                      sees it
+A pass takes one word, a number below 2^32, for each term whose chance is below
+100%. An amount is a number below 2^64. A stamp is <clock>.<node>. A node knows
+of another only what a message told it, and a message may be delivered late,
+again or never. Fields are separated by one space. Empty lines and lines that
+begin with `#` are skipped.
+
+A line that can't be read prints `bad line`, as does a call before the nodes
+are made, and a second `nodes`. A byte order mark or a `\\r` belongs to the field
+that it touches, and spoils the line. A call that the node refuses prints
+`refused` and a code, as `refused N8 NotCounted` (docs/refusals.md has all).
+Where the node or the message isn't there, the line prints `refused NoNode` or,
+with a node that is, `refused NoMessage`. The script goes on, and the status is
+0. It is 1 where the script can't be read, is longer than 16777216 bytes, or
+can't be answered, and the reason stands on standard error.
+
+With --echo each line but the skipped ones stands behind `> ` before what it
+prints: a transcript that reads by itself. No answer begins with `>`.
+
+Example:
+  $ printf 'nodes 1 9\\nset 0 a 1*panic->off\\npass 0 a\\npass 0 a\\nhits 0 a\\n' | failreg sim
+  set 1.0
+  act 1.0 0 panic
+  act 1.0 1 off
+  2";
+
+/// Behind the help of `threads`.
+pub const THREADS_HELP: &str = "\
+The script is read to its end before anything is called. Its lines, in this
+order:
+  nodes <n> <cap>                     makes nodes 0 to n-1, 32 at most, of
+                                      which each accepts cap calls
+  seed <digits>                       64 hexadecimal digits: the seed of the
+                                      words that passes take at random
+  start <line>                        makes a call before the workers start,
+                                      in the order of these lines; <line> is
+                                      set <node> <name> <actions>,
+                                      remove <node> <name>,
+                                      load <node> <entries>,
+                                      shift <node> <name> <term> <to> <amount>
+                                      or grant <node> <name> <term> <amount>,
+                                      as in a script of `failreg sim`
+  worker <node>                       the lines up to the next `worker` are
+                                      calls of one worker of the node, made in
+                                      their order in a thread of its own:
+    set <name> <actions>              sets a point
+    remove <name>                     removes it
+    load <entries>                    sets the points of its entries
+    shift <name> <term> <to> <amount> moves rights to node <to>
+    grant <name> <term> <amount>      adds rights beyond the count
+    pass <name> <times>               passes the point so often, 65535 times
+                                      at most
+Any number of `start` lines and of workers may stand there, up to 250 workers a
+node. All workers run beside each other, and those of one node take turns at
+it. The nodes tell each other nothing. Fields are separated by one space. Empty
+lines and lines that begin with `#` are skipped.
+
+In the end two lines are printed: `workers` with the number of workers, and
+`calls` with the number of calls that the nodes accepted, those of the `start`
+lines too. A call that a node refuses changes nothing and isn't counted. A
+thread that can't be started makes no calls.
+
+The status is 0. It is 1 where the script can't be read, is longer than
+16777216 bytes, or can't be answered, where memory is refused, and where a line
+can't be read or stands out of its place, as `P5 BadLine line=6`: then nothing
+is called. The line is the first that is bad, counted from 1 with the skipped
+ones; where the seed is missing, it is the one behind the last. The reason
+stands on standard error.
+
+Example:
+  $ printf 'nodes 1 9\\nseed %064d\\nworker 0\\nset a off\\nworker 0\\npass b 4\\n' 0 | failreg threads
+  workers 2
+  calls 5";
+
+/// Behind the help of `serve`.
+pub const SERVE_HELP: &str = "\
+The node listens on 127.0.0.1 alone, asks for no password, and knows of other
+nodes only what messages tell it. It prints `listening <port>` once clients can
+connect, and `served <r>` when r of them have been served, each with one
+request. With port 0 the system picks one.
+
+What to try first, where <port> is the one that it prints:
+  curl -X PUT --data '2*panic->off' localhost:<port>/fail/a
+                                      sets a point, and prints the stamp
+  curl localhost:<port>/fail          the points that are set, as one text
+  curl localhost:<port>/report        what the node knows, as JSON
+  curl -X POST localhost:<port>/grant/a/0/3
+                                      adds 3 rights beyond the count of the
+                                      point's first term
+  curl -X POST localhost:<port>/shift/a/0/1/2
+                                      moves 2 rights to node 1
+  curl -X DELETE localhost:<port>/fail/a
+                                      removes the point
+  curl --data 'a=off;b=2*print(hi)->off' localhost:<port>/load
+                                      sets the points of all entries, or none
+  curl --data-binary @message localhost:<port>/gossip
+                                      delivers a message of another node, and
+                                      prints `changed` or `same`
+An answer has status 200. It is 404 where there is no such route, 405 where the
+route has another method, 413 where the body is longer than 67108864 bytes, 400
+where what was sent is wrong, 409 where it doesn't go with what the node holds,
+and 503 where the node can't now; the body then says why, as `N6 NotSet`. No
+answer ends with a newline, so let curl write one: curl -w '\\n' ..
+
+A client has 2 seconds for the head of its request and 10 in all, and then its
+connection is ended, which counts as served. 64 are served at once, and 4 of
+them while they send a body of more than 65536 bytes.
+
+The status is 0 once all were served. It is 1 where the node can't be made
+(`refused N21 BadConfig`: n isn't below m, or m isn't 1 to 32), where the port
+can't be listened on (`refused V1 BindFailed`), where the node refuses the
+FAILPOINTS text, and where no more clients can be let in; the reason stands on
+standard error.
+
+Example:
+  $ failreg serve --node 0 --nodes 2 --port 17070 --requests 0
+  listening 17070
+  served 0";

@@ -1,0 +1,133 @@
+//! A node that is served over HTTP.
+
+ghost use Rattle.std.specs.Prelude.{◌≡◌, ◌⊎◌, IfOk, IsTrue, OnOk, true, false};
+ghost use Rattle.std.specs.Process.{exit_status};
+ghost use Rattle.node_core.specs.Refusals.{is_bad_config};
+ghost use Rattle.failreg.specs.Statuses.{HasStatus};
+
+use crate::command_line::ServeOptions;
+use crate::finish::{finish_serve, refuse};
+use http_serve::{ServeFault, serve};
+use node_core::{Config, NodeFault};
+use node_registry::{Label, Registry, Seat};
+use std::alloc::{AllocGlobal, Global};
+use std::io;
+use std::io::Write;
+use std::marker::Brand;
+use std::net::{Ipv4Addr, Net, SocketAddr};
+use std::process::ExitCode;
+use std::random::RandomSource;
+use std::sync::ledger::Blank;
+use std::sync::{Arc, Wait};
+use std::thread::Threads;
+use std::time::Clock;
+use tokio::net::TcpListener;
+use tokio::runtime::{Builder, Runtime};
+
+/// Serves a node over HTTP, as it is told to: first the node is made, then its port is listened on,
+/// then its first points are set, and then clients are let in.
+pub fn serve_node<R>(rt: &R, options: ServeOptions<'_>) -> anyhow::Result<ExitCode>
+where
+    R: Wait
+        + Threads
+        + Clock
+        + RandomSource
+        + AllocGlobal
+        + Net
+        + Send
+        + Sync
+        + Copy
+        + Print
+        + Eprint,
+    ensures status { IfOk result (λ code. (exit_status code ≡ 0) ⊎ (exit_status code ≡ 1)) }
+    ensures bad { IsTrue (is_bad_config (record {
+      node = options.entry.node;
+      nodes = options.entry.nodes;
+      trace_cap = options.entry.cap;
+    })) → HasStatus result 1 }
+{
+    let config = Config {
+        node: options.node,
+        nodes: options.nodes,
+        trace_cap: options.cap,
+    };
+    serve_registry::<Brand, R>(rt, Blank::new(1), config, options)
+}
+
+// The same of the registry that `L` names: what that is, the call above picks.
+fn serve_registry<L, R>(
+    rt: &R,
+    blank: Blank,
+    config: Config,
+    options: ServeOptions<'_>,
+) -> anyhow::Result<ExitCode>
+where
+    L: Label + Send + Sync,
+    R: Wait
+        + Threads
+        + Clock
+        + RandomSource
+        + AllocGlobal
+        + Net
+        + Send
+        + Sync
+        + Copy
+        + Print
+        + Eprint,
+    requires name { blank.name ≡ L.name }
+    requires parts { (blank.parts ≡ L.parts) × (L.parts ≡ 1) }
+    requires config { config ≡ L.config }
+    ensures status { IfOk result (λ code. (exit_status code ≡ 0) ⊎ (exit_status code ≡ 1)) }
+    ensures bad { IsTrue (is_bad_config config) → HasStatus result 1 }
+{
+    let (registry, mut seat) = match opened::<L, R>(rt, rt.alloc(), blank, config) {
+        Ok(opened) => opened,
+        Err(fault) => return refuse(rt, fault),
+    };
+    let Ok((mut runtime, listener, port)) = listen(rt, options.port) else {
+        return refuse(rt, ServeFault::BindFailed);
+    };
+    println!(rt; "listening {port}")?;
+    io::writer(rt).flush()?;
+    if let Some(text) = options.failpoints
+        && let Err(fault) = registry.load(rt, rt.alloc(), &mut seat, text)
+    {
+        return refuse(rt, fault);
+    }
+    let (alloc, requests) = (rt.alloc(), options.requests);
+    finish_serve(
+        rt,
+        serve(rt, alloc, &mut runtime, &registry, seat, listener, requests),
+    )
+}
+
+// The registry of a node, with the seat from which it is called.
+fn opened<L: Label, R: Wait>(
+    rt: &R,
+    alloc: Global,
+    blank: Blank,
+    config: Config,
+) -> Result<(Arc<Registry<L>>, Seat<L>), NodeFault>
+    requires name { blank.name ≡ L.name }
+    requires parts { (blank.parts ≡ L.parts) × (L.parts ≡ 1) }
+    requires config { config ≡ L.config }
+    ensures { OnOk result (is_bad_config config ≡ false) }
+{
+    let (registry, mut seats) = Registry::<L>::start(rt, alloc, blank, config, [0; 32], 1)?;
+    match (Arc::new(alloc, registry), seats.pop()) {
+        (Ok(registry), Some(seat)) => Ok((registry, seat)),
+        _ => Err(NodeFault::OutOfMemory),
+    }
+}
+
+// Listens on a port of this machine, and answers which.
+fn listen<R>(rt: &R, port: u16) -> io::Result<(Runtime, TcpListener, u16)>
+where
+    R: Wait + Threads + Clock + RandomSource + AllocGlobal + Net + Sync,
+{
+    let runtime = Builder::new_current_thread().build(rt)?;
+    let address = SocketAddr::from((Ipv4Addr::LOCALHOST, port));
+    let listener = TcpListener::bind(rt, address, runtime.handle().reactor())?;
+    let port = listener.local_addr()?.port();
+    Ok((runtime, listener, port))
+}

@@ -1,0 +1,154 @@
+//! Who answers the requests of all connections.
+
+ghost use Rattle.std.specs.Prelude.{◌≡◌, ◌<◌, ℕ, List, length, Some, IfOk, IfErr, IfSome};
+ghost use Rattle.delta_exchange.specs.Spelling.{max_message};
+ghost use Rattle.node_core.specs.Asks.{ask_value_first};
+ghost use Rattle.node_registry.specs.Receipts.{IsEntryFor, IsGiven};
+ghost use Rattle.node_registry.specs.Receipts as receipts;
+ghost use Rattle.http_routes.specs.Replies.{http_value};
+ghost use Rattle.http_routes.specs.Requests.{IsWanted, ask_value, wanted};
+ghost use Rattle.http_routes.specs.Requests as requests;
+ghost use Rattle.http_serve.specs.Served.{IsServed};
+
+use http_paths::Routes;
+use http_routes::{HttpReply, ReplyRoom, Wanted, route, too_long};
+use node_core::{Ask, NodeFault, Receipt};
+use node_registry::{Label, Registry, Seat};
+use report_text::report_json;
+use std::alloc::{AllocError, Global};
+use std::sync::{Arc, Mutex, Wait};
+
+/// Whoever answers requests.
+pub trait Answers: Drop {
+    /// The reply to a request whose body came whole.
+    fn reply<R: Wait>(
+        &self,
+        rt: &R,
+        alloc: Global,
+        method: &str,
+        path: &str,
+        body: &[u8],
+    ) -> HttpReply;
+
+    /// The reply to a request whose body is longer than the longest.
+    fn reply_too_long(&self, alloc: Global, method: &str, path: &str) -> HttpReply;
+}
+
+/// A node with the seat from which requests call it.
+#[derive(Drop)]
+pub struct Desk<L: Label> {
+    registry: Arc<Registry<L>>,
+    seat: Mutex<Seat<L>>,
+}
+
+impl<L: Label> Desk<L> {
+    /// The only error is want of memory.
+    pub fn new(
+        alloc: Global,
+        registry: &Arc<Registry<L>>,
+        seat: Seat<L>,
+    ) -> Result<Arc<Desk<L>>, AllocError> {
+        let desk = Desk {
+            registry: Arc::try_clone(registry)?,
+            seat: Mutex::new(seat),
+        };
+        Ok(Arc::new(alloc, desk)?)
+    }
+
+    /// The reply to a request whose body came whole. A call is made once there is room for its
+    /// reply, so that an accepted one is always answered as such.
+    pub fn answer<R: Wait>(
+        &self,
+        rt: &R,
+        alloc: Global,
+        method: &str,
+        path: &str,
+        body: &[u8],
+    ) -> HttpReply
+        ensures { IsServed L.config (wanted method.now path.now body.now) (http_value result) }
+    {
+        let Ok(routes) = Routes::new(alloc) else {
+            return HttpReply::no_memory(alloc);
+        };
+        match route(alloc, &routes, method, path, body) {
+            Wanted::Do(ask) => self.call(rt, alloc, &ask),
+            Wanted::List => self.list(rt, alloc),
+            Wanted::Report => self.report(rt, alloc),
+            Wanted::Answered(reply) => reply,
+        }
+    }
+
+    fn call<R: Wait>(&self, rt: &R, alloc: Global, ask: &Ask) -> HttpReply
+        ensures { IfSome (ask_value ask.now) (λ a.
+            IsServed L.config (requests.call a) (http_value result)) }
+    {
+        let Ok(room) = ReplyRoom::new(alloc) else {
+            return HttpReply::no_memory(alloc);
+        };
+        match self.enter(rt, alloc, ask) {
+            Ok(receipt) => {
+                let entry = receipt.entry;
+                room.reply(&Ok(entry.reply))
+            }
+            Err(fault) => room.reply(&Err(fault)),
+        }
+    }
+
+    // Makes a call from the seat, which one connection has at a time.
+    fn enter<R: Wait>(&self, rt: &R, alloc: Global, ask: &Ask) -> Result<Receipt, NodeFault>
+        ensures receipt { IfOk result (λ r.
+            (r.node ≡ L.config.node) × IsEntryFor L.config.nodes ask.now r.entry) }
+        ensures given { IfOk result (IsGiven L.config) }
+        ensures refused { IfErr result
+            (receipts.IsRefused L.config (ask_value_first L.config.nodes ask.now)) }
+    {
+        let mut seat = self.seat.lock(rt);
+        self.registry.enter(rt, alloc, &mut seat, ask)
+    }
+
+    fn list<R: Wait>(&self, rt: &R, alloc: Global) -> HttpReply
+        ensures { IsServed L.config requests.list (http_value result) }
+    {
+        let list = self.registry.with(rt, |core| core.list(alloc));
+        HttpReply::written(alloc, 200, list)
+    }
+
+    fn report<R: Wait>(&self, rt: &R, alloc: Global) -> HttpReply
+        ensures { IsServed L.config requests.report (http_value result) }
+    {
+        let report = self.registry.with(
+            rt,
+            |core| report_json(alloc, core.state(), core.config().nodes),
+        );
+        HttpReply::written(alloc, 200, report)
+    }
+
+    /// The reply to a request whose body is longer than the longest, however it goes on.
+    pub fn answer_too_long(&self, alloc: Global, method: &str, path: &str) -> HttpReply
+        ensures { (body : List ℕ) → max_message < length body
+            → IsWanted (wanted method.now path.now body)
+            (Some (requests.answered (http_value result))) }
+    {
+        match Routes::new(alloc) {
+            Ok(routes) => too_long(alloc, &routes, method, path),
+            Err(_) => HttpReply::no_memory(alloc),
+        }
+    }
+}
+
+impl<L: Label> Answers for Desk<L> {
+    fn reply<R: Wait>(
+        &self,
+        rt: &R,
+        alloc: Global,
+        method: &str,
+        path: &str,
+        body: &[u8],
+    ) -> HttpReply {
+        self.answer(rt, alloc, method, path, body)
+    }
+
+    fn reply_too_long(&self, alloc: Global, method: &str, path: &str) -> HttpReply {
+        self.answer_too_long(alloc, method, path)
+    }
+}

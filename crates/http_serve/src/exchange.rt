@@ -1,0 +1,198 @@
+//! One request and its reply.
+
+ghost use Rattle.std.specs.Prelude.{IfSome};
+ghost use Rattle.futures.specs.Poll.{OnPending};
+ghost use Rattle.futures.specs.Task.{IsArmed, Keeps};
+ghost use Rattle.tokio.specs.Locks.{CanAcquire};
+
+use crate::desk::Answers;
+use crate::seats::Seats;
+use bytes::Bytes;
+use futures::task::{Context, Poll};
+use futures::{Future, Stream, ready};
+use http_body::Body;
+use http_body_util::{Full, Limited, LimitedError};
+use http_routes::{HttpReply, MAX_BODY};
+use hyper::body::Incoming;
+use hyper::service::Service;
+use hyper::{Method, Request, Response, StatusCode, Uri};
+use std::alloc::Global;
+use std::sync::{Arc, Wait};
+use tokio::sync::OwnedSemaphorePermit;
+
+/// The longest body that is taken in without one of the places of long ones, in bytes.
+const SHORT_BODY: u64 = 65_536;
+
+/// How many pieces of a body one poll takes in before it lets other tasks run.
+const BUDGET: u32 = 128;
+
+/// The service of one connection. It owns what it holds.
+#[derive(Drop)]
+pub struct Front<A, R> {
+    pub alloc: Global,
+    pub rt: R,
+    pub desk: Option<Arc<A>>,
+    /// The places of long bodies.
+    pub long: Option<Seats>,
+}
+
+/// A request whose body is being read.
+#[derive(Drop)]
+pub struct Exchange<I, A, R> {
+    alloc: Global,
+    rt: R,
+    // There is none where memory was refused.
+    desk: Option<Arc<A>>,
+    method: Method,
+    uri: Uri,
+    body: Limited<Incoming<I>>,
+    read: Vec<u8>,
+    // Where the body is long: the places of such, and then the body's own.
+    places: Option<Seats>,
+    place: Option<OwnedSemaphorePermit>,
+}
+
+/// How the reading of a body ended.
+#[derive(Drop)]
+enum Reading {
+    Whole,
+    TooLong,
+    NoMemory,
+    Broken(hyper::Error),
+}
+
+impl<I: Drop, A: Answers, R: Wait + Copy> Service<Request<Incoming<I>>> for Front<A, R> {
+    type Response = Response<Full<Bytes>>;
+
+    type Error = hyper::Error;
+
+    type Future = Exchange<I, A, R>;
+
+    fn call(&self, req: Request<Incoming<I>>) -> Exchange<I, A, R> {
+        let (head, body) = req.into_parts();
+        let is_short = match body.size_hint().upper() {
+            Some(most) => most <= SHORT_BODY,
+            None => false,
+        };
+        let long = if is_short { None } else { again(&self.long) };
+        let desk = if is_short || long.is_some() {
+            shared(&self.desk)
+        } else {
+            None
+        };
+        Exchange {
+            alloc: self.alloc,
+            rt: self.rt,
+            desk,
+            method: head.method,
+            uri: head.uri,
+            body: Limited::new(body, MAX_BODY),
+            read: Vec::new(self.alloc),
+            places: long,
+            place: None,
+        }
+    }
+}
+
+impl<I: Drop, A: Answers, R: Wait + Copy> Exchange<I, A, R> {
+    // The reply, once the body was read so far.
+    fn reply(&self, reading: Reading) -> hyper::Result<HttpReply> {
+        let (method, path) = (self.method.as_str(), self.uri.path());
+        match (&self.desk, reading) {
+            (Some(desk), Reading::Whole) => {
+                Ok(desk.reply(&self.rt, self.alloc, method, path, self.read.as_slice()))
+            }
+            (Some(desk), Reading::TooLong) => Ok(desk.reply_too_long(self.alloc, method, path)),
+            (_, Reading::Broken(error)) => Err(error),
+            _ => Ok(HttpReply::no_memory(self.alloc)),
+        }
+    }
+
+    // Reads the body, a long one once there is a place for it.
+    fn poll_reading(&mut self, cx: &mut Context<'_>) -> Poll<Reading>
+        requires { IfSome self.old.places (λ places. IfSome places.waiting CanAcquire) }
+        ensures places { OnPending result
+            (IfSome self.new.places (λ places. IfSome places.waiting CanAcquire)) }
+        ensures armed { OnPending result (IsArmed cx.new) }
+        ensures kept { Keeps cx.old cx.new }
+    {
+        if self.desk.is_none() {
+            return Poll::Ready(Reading::NoMemory);
+        }
+        if self.place.is_none()
+            && let Some(places) = &mut self.places
+        {
+            match ready!(places.poll_next(cx)) {
+                Some(place) => self.place = Some(place),
+                None => return Poll::Ready(Reading::NoMemory),
+            }
+        }
+        poll_body(&mut self.body, &mut self.read, cx)
+    }
+}
+
+impl<I: Drop, A: Answers, R: Wait + Copy> Future for Exchange<I, A, R> {
+    type Output = hyper::Result<Response<Full<Bytes>>>;
+
+    ghost can_poll = { λ e. IfSome e.places (λ places. IfSome places.waiting CanAcquire) };
+
+    fn poll(&mut self, cx: &mut Context<'_>) -> Poll<hyper::Result<Response<Full<Bytes>>>> {
+        let reading = ready!(self.poll_reading(cx));
+        match self.reply(reading) {
+            Ok(reply) => Poll::Ready(Ok(response(self.alloc, reply))),
+            Err(error) => Poll::Ready(Err(error)),
+        }
+    }
+}
+
+// Takes in pieces of a body, up to its end, or as many as one poll may.
+fn poll_body<I: Drop>(
+    body: &mut Limited<Incoming<I>>,
+    read: &mut Vec<u8>,
+    cx: &mut Context<'_>,
+) -> Poll<Reading>
+    ensures armed { OnPending result (IsArmed cx.new) }
+    ensures kept { Keeps cx.old cx.new }
+{
+    for _ in 0..BUDGET {
+        match ready!(body.poll_frame(cx)) {
+            Some(Ok(frame)) => {
+                if let Ok(data) = frame.into_data()
+                    && read.extend_from_slice(data.as_slice()).is_err()
+                {
+                    return Poll::Ready(Reading::NoMemory);
+                }
+            }
+            Some(Err(LimitedError::LengthLimit)) => return Poll::Ready(Reading::TooLong),
+            Some(Err(LimitedError::Body(e))) => return Poll::Ready(Reading::Broken(e)),
+            None => return Poll::Ready(Reading::Whole),
+        }
+    }
+    cx.yield_now()
+}
+
+// Another owner of the desk, if there is the memory.
+fn shared<A>(desk: &Option<Arc<A>>) -> Option<Arc<A>> {
+    Arc::try_clone(desk.as_ref()?).ok()
+}
+
+// The same places, for another body.
+fn again(long: &Option<Seats>) -> Option<Seats>
+    ensures { IfSome result (λ places. IfSome places.waiting CanAcquire) }
+{
+    long.as_ref()?.again()
+}
+
+/// The reply as a response.
+fn response(alloc: Global, reply: HttpReply) -> Response<Full<Bytes>> {
+    let (status, body) = match (
+        StatusCode::from_u16(reply.status),
+        Bytes::from_vec(reply.body),
+    ) {
+        (Ok(status), Ok(body)) => (status, body),
+        _ => (StatusCode::SERVICE_UNAVAILABLE, Bytes::new()),
+    };
+    let mut response = Response::new(alloc, Full::new(body));
+    *response.status_mut() = status;
+    response
+}

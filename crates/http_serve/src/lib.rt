@@ -1,0 +1,18 @@
+//! Serves a node over HTTP: many connections at once, with one request each.
+//!
+//! No client can hold the others up. A connection has two seconds for the head of its request and
+//! ten in all, then it is ended; so a place is free again after ten seconds at most. At most 64 are
+//! served at once. Of bodies that are longer than 64 KiB, or that don't say how long they are, at
+//! most four are taken in at once, the others wait; so bodies hold at most four times the longest
+//! one and 64 times 64 KiB, twice over while a buffer grows.
+#![tactic(auto)]
+
+mod desk;
+mod exchange;
+mod fault;
+mod seats;
+mod serving;
+mod visit;
+
+pub use fault::ServeFault;
+pub use serving::serve;

@@ -1,0 +1,64 @@
+//! Places of which there are only so many at once.
+
+ghost use Rattle.std.specs.Prelude.{◌≡◌, IfOk, IfSome, None};
+ghost use Rattle.tokio.specs.Locks.{CanAcquire};
+
+use futures::task::{Context, Poll};
+use futures::{Future, Stream};
+use std::alloc::{AllocError, Global};
+use std::sync::Arc;
+use tokio::sync::{AcquireOwned, OwnedSemaphorePermit, Semaphore};
+
+/// Gives each place that is free, and ends where there is no memory.
+#[derive(Drop)]
+pub struct Seats {
+    free: Arc<Semaphore>,
+    waiting: Option<AcquireOwned>,
+}
+
+impl Seats {
+    /// So many places, but at least one.
+    pub fn new(alloc: Global, at_once: u32) -> Result<Seats, AllocError>
+        ensures { IfOk result (λ seats. seats.waiting ≡ None) }
+    {
+        let free = Arc::new(alloc, Semaphore::new(alloc, at_once.max(1) as usize)?)?;
+        Ok(Seats {
+            free,
+            waiting: None,
+        })
+    }
+
+    /// The same places, for another who waits. `None` where there is no memory.
+    pub fn again(&self) -> Option<Seats>
+        ensures { IfSome result (λ seats. seats.waiting ≡ None) }
+    {
+        let free = Arc::try_clone(&self.free).ok()?;
+        Some(Seats {
+            free,
+            waiting: None,
+        })
+    }
+}
+
+impl Stream for Seats {
+    type Item = OwnedSemaphorePermit;
+
+    ghost can_poll = { λ seats. IfSome seats.waiting CanAcquire };
+
+    fn poll_next(&mut self, cx: &mut Context<'_>) -> Poll<Option<OwnedSemaphorePermit>> {
+        let mut waiting = match self.waiting.take() {
+            Some(waiting) => waiting,
+            None => match Arc::try_clone(&self.free) {
+                Ok(free) => Semaphore::acquire_owned(free),
+                Err(_) => return Poll::Ready(None),
+            },
+        };
+        match waiting.poll(cx) {
+            Poll::Ready(seat) => Poll::Ready(seat.ok()),
+            Poll::Pending => {
+                self.waiting = Some(waiting);
+                Poll::Pending
+            }
+        }
+    }
+}

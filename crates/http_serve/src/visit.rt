@@ -1,0 +1,133 @@
+//! Connections beside each other, each in a task of its own.
+
+ghost use Rattle.std.specs.Prelude.{◌≡◌, ◌⊎◌, IfErr, IfSome};
+ghost use Rattle.http_serve.specs.declared.fault.ServeFault.TheVariants.{AcceptFailed, OutOfMemory};
+ghost use Rattle.tokio.specs.Timers.{timeout_future};
+ghost use Rattle.tokio.specs.Locks.{CanAcquire};
+
+use crate::fault::ServeFault;
+use crate::seats::Seats;
+use futures::executor::TaskSet;
+use futures::task::{Context, Poll};
+use futures::{Future, Stream, ready};
+use std::time::{Clock, Duration};
+use tokio::net::{TcpListener, TcpStream};
+use tokio::sync::OwnedSemaphorePermit;
+use tokio::time::{Handle, Timeout};
+
+// Connections that one poll accepts before it lets tasks run.
+const BUDGET: u32 = 128;
+
+/// Makes the task of a connection.
+pub trait Opens: Drop {
+    type Visit: Future<Output = ()> + Send;
+
+    /// `None` where there is no memory.
+    fn open(&self, socket: TcpStream, seat: OwnedSemaphorePermit) -> Option<Self::Visit>
+        ensures { IfSome result Self.Visit.can_poll };
+}
+
+/// A connection under way, which has so long to end, whatever it ends with.
+#[derive(Drop)]
+pub struct Visit<C> {
+    timed: Timeout<C>,
+    // It is dropped after the connection.
+    seat: OwnedSemaphorePermit,
+}
+
+impl<C: Future> Visit<C> {
+    /// `None` where there is no memory, or the clock can't be read.
+    pub fn new(
+        clock: &impl Clock,
+        timers: &Handle,
+        whole: Duration,
+        connection: C,
+        seat: OwnedSemaphorePermit,
+    ) -> Option<Visit<C>>
+        requires { C.can_poll connection }
+        ensures { IfSome result (λ visit. C.can_poll (timeout_future visit.timed)) }
+    {
+        let timed = timers.timeout(clock, whole, connection).ok()?;
+        Some(Visit { timed, seat })
+    }
+}
+
+impl<C: Future> Future for Visit<C>
+where
+    C::Output: Drop,
+{
+    type Output = ();
+
+    ghost can_poll = { λ visit. C.can_poll (timeout_future visit.timed) };
+
+    fn poll(&mut self, cx: &mut Context<'_>) -> Poll<()> {
+        let _ = ready!(self.timed.poll(cx));
+        Poll::Ready(())
+    }
+}
+
+/// Accepts so many connections, and starts the task of each.
+#[derive(Drop)]
+pub struct Accepting<'a, D: Opens> {
+    pub tasks: &'a TaskSet<D::Visit>,
+    pub listener: TcpListener,
+    pub door: D,
+    pub seats: Seats,
+    /// How many seats there are.
+    pub at_once: u32,
+    /// The seat of the next connection.
+    pub seat: Option<OwnedSemaphorePermit>,
+    pub left: u32,
+}
+
+// Where a connection can't be accepted, as for want of descriptors: there is a seat fewer, so the
+// next is accepted once one under way has ended. The fault comes once no seat is left, and then
+// none is under way.
+fn give_up_seat(seat: Option<OwnedSemaphorePermit>, at_once: &mut u32) -> Result<(), ServeFault>
+    ensures { IfErr result (λ f. f ≡ AcceptFailed) }
+{
+    if let Some(seat) = seat {
+        seat.forget();
+    }
+    *at_once = at_once.saturating_sub(1);
+    if *at_once == 0 {
+        return Err(ServeFault::AcceptFailed);
+    }
+    Ok(())
+}
+
+impl<D: Opens> Future for Accepting<'_, D> {
+    type Output = Result<(), ServeFault>;
+
+    ghost can_poll = { λ accepting. IfSome accepting.seats.waiting CanAcquire };
+
+    ghost gives = { λ _ ended. IfErr ended (λ f. (f ≡ AcceptFailed) ⊎ (f ≡ OutOfMemory)) };
+
+    fn poll(&mut self, cx: &mut Context<'_>) -> Poll<Result<(), ServeFault>> {
+        for _ in 0..BUDGET {
+            if self.left == 0 {
+                return Poll::Ready(Ok(()));
+            }
+            if self.seat.is_none() {
+                let Some(seat) = ready!(self.seats.poll_next(cx)) else {
+                    return Poll::Ready(Err(ServeFault::OutOfMemory));
+                };
+                self.seat = Some(seat);
+            }
+            let Ok((socket, _peer)) = ready!(self.listener.poll_accept(cx)) else {
+                if let Err(fault) = give_up_seat(self.seat.take(), &mut self.at_once) {
+                    return Poll::Ready(Err(fault));
+                }
+                continue;
+            };
+            self.left -= 1;
+            // Without memory for its task the connection is closed, and counts as served.
+            if let Some(seat) = self.seat.take()
+                && let Some(visit) = self.door.open(socket, seat)
+            {
+                let _ = self.tasks.spawn(visit);
+            }
+        }
+        cx.yield_now()
+    }
+}
