@@ -6,3 +6,11 @@ pub mod Replayed
 pub mod Steps
 pub mod Scheduled
 pub mod Exact
+pub mod SumsKept
+pub mod CountsKept
+pub mod TotalsMade
+pub mod Tallied
+pub mod ClockKept
+pub mod Noted
+pub mod NotedAll
+pub mod Answered

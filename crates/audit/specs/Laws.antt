@@ -1,5 +1,9 @@
 -- What holds of all traces.
-use Rattle.std.specs.Prelude.{◌≡◌, ℕ, List, ◌↔◌}
+use Rattle.std.specs.Prelude.{◌≡◌, ℕ, ◌+◌, ◌≤◌, List, ◌↔◌, Some, slice_get}
+use Rattle.cluster_model.specs.Worlds.{Cluster, Event}
+use Rattle.cluster_model.specs.Laws.{EscrowHolds}
+use Rattle.audit.specs.declared.total.Total.{Total}
+use Rattle.audit.specs.Totals.{AreTotals}
 use Rattle.audit.specs.Traces.{Traces, IsSized, AllLegal}
 use Rattle.audit.specs.Schedules.{SomeFits}
 use Rattle.audit.specs.Places.{Fits, IsStuckWith}
@@ -13,3 +17,8 @@ OrdersAreSchedules = (nodes : ℕ) (traces : Traces) → IsSized nodes traces �
 abbrev pub StuckPlaceIsOne : Type 0
 StuckPlaceIsOne = (traces : Traces) (n i m j : ℕ) →
     IsStuckWith traces n i → IsStuckWith traces m j → (n ≡ m) × (i ≡ j)
+
+-- where the escrow law holds no total has more executions than its count and what was granted
+abbrev pub TotalsAreKept : Type 0
+TotalsAreKept = (c : Cluster) (es : List Event) (totals : List Total) → EscrowHolds c es → AreTotals c es totals →
+    (place : ℕ) (t : Total) → slice_get totals place ≡ Some t → t.executed ≤ t.count + t.granted

@@ -10,3 +10,8 @@ pub mod Laws
 pub mod Boards
 pub mod FaultText
 pub mod VerdictText
+pub mod Sums
+pub mod Counts
+pub mod Points
+pub mod Tallies
+pub mod Totals

@@ -1,8 +1,10 @@
 //! The audit.
 
-ghost use Rattle.std.specs.Prelude.{◌≡◌, ◌<◌, length, IfOk, Err};
+ghost use Rattle.std.specs.Prelude.{◌≡◌, ◌<◌, length, IfOk, IfErr, Err};
 ghost use Rattle.cluster_model.specs.Laws.{EscrowHolds};
 ghost use Rattle.audit.specs.Answers.{IsAudited, events_in};
+ghost use Rattle.audit.specs.Checked.{fault_told};
+ghost use Rattle.audit.specs.Totals.{AreTotals, AreTotalsIn};
 ghost use Rattle.audit.specs.Traces.{IsSized, audited};
 
 use crate::fault::AuditFault;
@@ -38,6 +40,9 @@ pub fn audit(
     lists: &[Vec<Receipt>],
 ) -> Result<AuditYes, AuditFault>
     ensures answer { IsAudited nodes traces.now lists.now result }
+    // The totals are those of that schedule: one for each counted term of each key that was set in it.
+    ensures totals { IfOk result (λ found. AreTotals (audited nodes)
+        (events_in nodes traces.now found.order.items) found.totals.items) }
     // In that schedule no term was executed more often than it was counted and granted.
     ensures escrow { IfOk result (λ found.
         EscrowHolds (audited nodes) (events_in nodes traces.now found.order.items)) }
@@ -57,16 +62,32 @@ pub fn audit(
         Err(_) => return Err(AuditFault::OutOfMemory),
     };
     match check_receipts(alloc, traces, lists) {
-        Ok(()) => match tally.into_totals(alloc) {
-            Ok(totals) => Ok(AuditYes { order, totals }),
-            Err(_) => Err(AuditFault::OutOfMemory),
-        },
-        Err(ReceiptFault::Differs) => Err(AuditFault::ReceiptDiffers),
-        Err(ReceiptFault::Twice) => Err(AuditFault::ReceiptTwice),
-        Err(ReceiptFault::Missing) => Err(AuditFault::ReceiptMissing),
-        Err(ReceiptFault::OutOfMemory) => Err(AuditFault::OutOfMemory),
-        Err(ReceiptFault::OutOfOrder { list, place }) => {
-            Err(AuditFault::OutOfOrder { list, place })
-        }
+        Ok(()) => answer(alloc, order, tally),
+        Err(fault) => Err(receipts_fault(fault)),
+    }
+}
+
+// A yes with the totals of a tally. The only error is want of memory.
+fn answer(alloc: Global, order: Vec<(u8, u32)>, tally: Tally) -> Result<AuditYes, AuditFault>
+    ensures order { IfOk result (λ found. found.order ≡ order) }
+    ensures totals { IfOk result (λ found. AreTotalsIn tally found.totals.items) }
+    ensures err { IfErr result (λ fault. fault ≡ AuditFault.OutOfMemory) }
+{
+    match tally.into_totals(alloc) {
+        Ok(totals) => Ok(AuditYes { order, totals }),
+        Err(_) => Err(AuditFault::OutOfMemory),
+    }
+}
+
+// What is wrong with the receipts, as an audit's fault.
+fn receipts_fault(fault: ReceiptFault) -> AuditFault
+    ensures { result ≡ fault_told fault }
+{
+    match fault {
+        ReceiptFault::Differs => AuditFault::ReceiptDiffers,
+        ReceiptFault::Twice => AuditFault::ReceiptTwice,
+        ReceiptFault::Missing => AuditFault::ReceiptMissing,
+        ReceiptFault::OutOfMemory => AuditFault::OutOfMemory,
+        ReceiptFault::OutOfOrder { list, place } => AuditFault::OutOfOrder { list, place },
     }
 }

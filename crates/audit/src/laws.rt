@@ -1,6 +1,6 @@
 //! What holds of traces and of every audit. Nothing here looks at one.
 
-ghost use Rattle.audit.specs.Laws.{OrdersAreSchedules, StuckPlaceIsOne};
+ghost use Rattle.audit.specs.Laws.{OrdersAreSchedules, StuckPlaceIsOne, TotalsAreKept};
 ghost use Rattle.audit.specs.Answers.{YesWhen};
 
 /// A schedule fits traces exactly where each trace is legal alone and there is an order of their
@@ -17,4 +17,10 @@ pub fn stuck_place()
 /// Wherever an audit may say yes, it does, want of memory aside.
 pub fn yes_when()
     ensures { YesWhen }
+{}
+
+/// After a yes no total has more executions than its count and what was granted together: both of
+/// what this asks is promised of every yes.
+pub fn totals_are_kept()
+    ensures { TotalsAreKept }
 {}

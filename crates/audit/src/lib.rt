@@ -3,12 +3,15 @@
 #![tactic(auto)]
 
 mod auditing;
+mod counts;
 mod fault;
 pub mod laws;
 mod placing;
+mod points;
 mod receipts;
 mod replay;
 mod sent;
+mod sums;
 mod tally;
 mod told;
 mod total;

@@ -10,6 +10,11 @@ ghost use Rattle.cluster_model.specs.Worlds.{config_of};
 ghost use Rattle.audit.specs.Told.{reply_told, was_emitted};
 ghost use Rattle.audit.specs.Traces.{IsLegalAlone, IsFirstWrong, IsLeastWrong, AllLegal, audited};
 ghost use Rattle.audit.specs.Replays.{IsLegalKept, with_call};
+ghost use Rattle.node_core.specs.Nodes.{start};
+ghost use Rattle.audit.specs.declared.tally.Tally.{Tally};
+ghost use Rattle.audit.specs.Sums.{sum_of};
+ghost use Rattle.audit.specs.Tallies.{IsTallied, Notes};
+ghost use Rattle.stamp_register.specs.declared.key.Stamp.{Stamp};
 
 use crate::tally::Tally;
 use crate::told::same_reply;
@@ -57,8 +62,8 @@ fn gives(alloc: Global, core: &mut NodeCore, entry: &Entry) -> Result<bool, Node
     }
 }
 
-// The index of the first entry of a trace that a node doesn't give, if there is one. A node accepts
-// fewer than 2^32 calls.
+// The index of the first entry of a trace that a node doesn't give, if there is one; the tally notes
+// those that it gives. A node accepts fewer than 2^32 calls.
 fn first_wrong(
     alloc: Global,
     config: Config,
@@ -68,6 +73,12 @@ fn first_wrong(
     requires size { (1 ≤ config.nodes) × (config.nodes ≤ max_nodes) }
     requires node { config.node < config.nodes }
     requires cap { config.trace_cap < 2 ^ 32 }
+    requires granted { (stamp : Stamp) (term : ℕ)
+        → sum_of tally.old.granted stamp term ≤ 2 ^ 101 }
+    requires executed { (stamp : Stamp) (term : ℕ)
+        → sum_of tally.old.executed stamp term ≤ 2 ^ 101 }
+    ensures noted { IfOk result (λ wrong. IfNone wrong
+        (Notes tally.old tally.new config.node start (map (call config.nodes) trace.now.items))) }
     ensures wrong { IfOk result (λ wrong. IfSome wrong (IsFirstWrong config trace.now.items)) }
     ensures legal { IfOk result (λ wrong. IfNone wrong (IsLegalAlone config trace.now.items)) }
     ensures err { IfErr result (λ fault. fault ≡ NodeFault.OutOfMemory) }
@@ -83,7 +94,7 @@ fn first_wrong(
 }
 
 /// The least node that doesn't give its trace, if there is one, and the first entry that it doesn't
-/// give. The only error is want of memory.
+/// give; else the tally is that of all traces. The only error is want of memory.
 pub(crate) fn least_wrong(
     alloc: Global,
     nodes: u8,
@@ -92,6 +103,9 @@ pub(crate) fn least_wrong(
 ) -> Result<Option<(u8, u32)>, NodeFault>
     requires few { nodes ≤ max_nodes }
     requires each { length traces.now ≡ nodes }
+    requires none { IsTallied tally.old nodes traces.now 0 }
+    ensures tallied { IfOk result (λ wrong. IfNone wrong
+        (IsTallied tally.new nodes traces.now nodes)) }
     ensures wrong { IfOk result (λ wrong. IfSome wrong
         (λ at. IsLeastWrong nodes traces.now at.0 at.1)) }
     ensures legal { IfOk result (λ wrong. IfNone wrong (AllLegal nodes traces.now)) }

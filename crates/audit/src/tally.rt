@@ -1,130 +1,26 @@
 //! What replays tell of budgets.
 
+ghost use Rattle.std.specs.Prelude.{◌≡◌, ℕ, ◌+◌, ◌-◌, ◌≤◌, ◌^◌, [], ◌∷◌, length, slice_get, option_map, option_and_then, IfOk, OnOk, Some, if◌then◌else◌};
+ghost use Rattle.stamp_register.specs.declared.key.Stamp.{Stamp};
+ghost use Rattle.node_core.specs.Asks.{reply_value};
+ghost use Rattle.stamp_register.specs.Keys.{stamp_of};
+ghost use Rattle.node_core.specs.Traces.{Kept, call_of, node_of, state_known};
+ghost use Rattle.cluster_model.specs.Histories.{acts, keys_by};
+ghost use Rattle.audit.specs.Counts.{AddsKeys};
+ghost use Rattle.audit.specs.Sums.{sum_of};
+ghost use Rattle.audit.specs.Tallies.{HaveRoom, IsAfter, IsAfterSome, IsTallied, Notes, granted_by};
+ghost use Rattle.audit.specs.Totals.{AreTotalsIn};
+ghost use Rattle.audit.specs.Traces.{Traces};
+
+use crate::counts::Counts;
+use crate::points::{name_of, points_set};
+use crate::sums::Sums;
 use crate::total::Total;
-use actions::{ActionFault, Actions, Name, NameFault, SettingFault, parse_actions, parse_setting};
+use actions::{Actions, Name};
 use node_core::{Ask, Entry, NodeCore, PassReply, Reply};
 use replica_state::Replica;
 use stamp_register::Stamp;
 use std::alloc::{AllocError, Global};
-use std::collections::BTreeMap;
-
-/// A sum for each term of each key, by the key's stamp.
-#[derive(Drop)]
-pub(crate) struct Sums {
-    sums: BTreeMap<(u64, u8, u8), u128>,
-}
-
-impl Sums {
-    fn new(alloc: Global) -> Sums {
-        Sums {
-            sums: BTreeMap::new(alloc),
-        }
-    }
-
-    /// The sum of a term, 0 where nothing was added.
-    fn of(&self, stamp: Stamp, term: u8) -> u128 {
-        match self.sums.get(&(stamp.clock, stamp.node, term)) {
-            Some(sum) => *sum,
-            None => 0,
-        }
-    }
-
-    /// Adds to the sum of a term.
-    fn add(&mut self, stamp: Stamp, term: u8, amount: u64) -> Result<(), AllocError> {
-        let sum = self.of(stamp, term) + u128::from(amount);
-        self.sums.insert((stamp.clock, stamp.node, term), sum)?;
-        Ok(())
-    }
-}
-
-/// The counted terms of the keys that were set, by name, stamp and number.
-#[derive(Drop)]
-pub(crate) struct Counts {
-    counts: BTreeMap<(Name, u64, u8, u8), u64>,
-}
-
-impl Counts {
-    fn new(alloc: Global) -> Counts {
-        Counts {
-            counts: BTreeMap::new(alloc),
-        }
-    }
-
-    /// Adds the counted terms of a key.
-    fn add_key(
-        &mut self,
-        alloc: Global,
-        name: &Name,
-        stamp: Stamp,
-        actions: &Actions,
-    ) -> Result<(), AllocError> {
-        for term in 0..actions.len() as u8 {
-            if let Some(count) = count_of(actions, term) {
-                let place = (name.copied(alloc)?, stamp.clock, stamp.node, term);
-                self.counts.insert(place, count)?;
-            }
-        }
-        Ok(())
-    }
-
-    /// Adds the counted terms of points that were set one after the other, the last of them under
-    /// this stamp.
-    fn add_points(
-        &mut self,
-        alloc: Global,
-        points: &[(Name, Actions)],
-        last: Stamp,
-    ) -> Result<(), AllocError> {
-        let mut stamp = Stamp {
-            clock: last.clock - points.len() as u64,
-            node: last.node,
-        };
-        for (name, actions) in points {
-            stamp.clock += 1;
-            self.add_key(alloc, name, stamp, actions)?;
-        }
-        Ok(())
-    }
-}
-
-// The count of a term, if there is such a term and it is counted.
-fn count_of(actions: &Actions, term: u8) -> Option<u64> {
-    actions.term(term)?.count
-}
-
-// The points that an accepted ask sets, with what they do; none of one that isn't accepted.
-fn points_set(alloc: Global, ask: &Ask) -> Result<Vec<(Name, Actions)>, AllocError> {
-    match ask {
-        Ask::Set { name, text } => point_set(alloc, name, text),
-        Ask::Load { text } => match parse_setting(alloc, text) {
-            Ok(points) => Ok(points),
-            Err(SettingFault::OutOfMemory) => Err(AllocError),
-            Err(_) => Ok(Vec::new(alloc)),
-        },
-        _ => Ok(Vec::new(alloc)),
-    }
-}
-
-fn point_set(alloc: Global, name: &str, text: &str) -> Result<Vec<(Name, Actions)>, AllocError> {
-    let mut points = Vec::new(alloc);
-    let Some(name) = name_of(alloc, name)? else {
-        return Ok(points);
-    };
-    match parse_actions(alloc, text) {
-        Ok(actions) => points.push((name, actions))?,
-        Err(ActionFault::OutOfMemory) => return Err(AllocError),
-        Err(_) => {}
-    }
-    Ok(points)
-}
-
-fn name_of(alloc: Global, text: &str) -> Result<Option<Name>, AllocError> {
-    match Name::parse(alloc, text) {
-        Ok(name) => Ok(Some(name)),
-        Err(NameFault::OutOfMemory) => Err(AllocError),
-        Err(NameFault::BadName) => Ok(None),
-    }
-}
 
 /// What the calls that were replayed tell of budgets.
 #[derive(Drop)]
@@ -135,7 +31,9 @@ pub(crate) struct Tally {
 }
 
 impl Tally {
-    pub(crate) fn new(alloc: Global) -> Tally {
+    pub(crate) fn new(alloc: Global) -> Tally
+        ensures { (nodes : ℕ) (traces : Traces) → IsTallied result nodes traces 0 }
+    {
         Tally {
             counts: Counts::new(alloc),
             granted: Sums::new(alloc),
@@ -149,45 +47,22 @@ impl Tally {
         alloc: Global,
         core: &NodeCore,
         entry: &Entry,
-    ) -> Result<(), AllocError> {
-        self.note_points(alloc, core, &entry.ask)?;
-        self.note_grant(alloc, core, &entry.ask)?;
-        self.note_act(&entry.reply)
-    }
-
-    fn note_points(&mut self, alloc: Global, core: &NodeCore, ask: &Ask) -> Result<(), AllocError> {
-        let points = points_set(alloc, ask)?;
-        let Some((name, _)) = points.last() else {
-            return Ok(());
-        };
-        let Some(key) = core.state().key(name) else {
-            return Ok(());
-        };
-        self.counts.add_points(alloc, &points, key.stamp())
-    }
-
-    fn note_grant(&mut self, alloc: Global, core: &NodeCore, ask: &Ask) -> Result<(), AllocError> {
-        let Ask::Grant { name, term, amount } = ask else {
-            return Ok(());
-        };
-        let Some(name) = name_of(alloc, name)? else {
-            return Ok(());
-        };
-        let Some(key) = core.state().key(&name) else {
-            return Ok(());
-        };
-        self.granted.add(key.stamp(), *term, *amount)
-    }
-
-    fn note_act(&mut self, reply: &Reply) -> Result<(), AllocError> {
-        if let Reply::Pass(PassReply::Act { term, stamp, .. }) = reply {
-            self.executed.add(*stamp, *term, 1)?;
-        }
-        Ok(())
+    ) -> Result<(), AllocError>
+        requires after { IsAfterSome core.now entry.now }
+        requires granted { HaveRoom self.old.granted }
+        requires executed { HaveRoom self.old.executed }
+        ensures { OnOk result ((k : Kept) → IsAfter k core.now entry.now
+            → Notes self.old self.new k.config.node (node_of k) (call_of k entry.now ∷ [])) }
+    {
+        note_points(&mut self.counts, alloc, core, entry)?;
+        note_grant(&mut self.granted, alloc, core, entry)?;
+        note_act(&mut self.executed, &entry.reply)
     }
 
     /// A total for each counted term, in the order of their names, stamps and numbers.
-    pub(crate) fn into_totals(self, alloc: Global) -> Result<Vec<Total>, AllocError> {
+    pub(crate) fn into_totals(self, alloc: Global) -> Result<Vec<Total>, AllocError>
+        ensures { IfOk result (λ totals. AreTotalsIn self totals.items) }
+    {
         let Tally {
             counts,
             granted,
@@ -207,4 +82,79 @@ impl Tally {
         }
         Ok(totals)
     }
+}
+
+// Adds the counted terms of the keys that the last call of a node set.
+fn note_points(
+    counts: &mut Counts,
+    alloc: Global,
+    core: &NodeCore,
+    entry: &Entry,
+) -> Result<(), AllocError>
+    requires { IsAfterSome core.now entry.now }
+    ensures { OnOk result ((k : Kept) → IsAfter k core.now entry.now
+        → AddsKeys counts.old counts.new
+        (keys_by k.config.node (node_of k) (Some (call_of k entry.now).ask))) }
+{
+    let points = points_set(alloc, &entry.ask)?;
+    let Some(stamp) = last_stamp(core, &points) else {
+        return Ok(());
+    };
+    counts.add_points(alloc, &points, stamp)
+}
+
+// The stamp of a point, if it has a key.
+fn stamp_at(core: &NodeCore, name: &Name) -> Option<Stamp>
+    ensures { result ≡ option_map stamp_of ((state_known core.now).key name.now) }
+{
+    Some(core.state().key(name)?.stamp())
+}
+
+// The stamp of the last of some points, if it has a key.
+fn last_stamp(core: &NodeCore, points: &[(Name, Actions)]) -> Option<Stamp>
+    ensures { result ≡ option_and_then (λ p. option_map stamp_of ((state_known core.now).key p.0))
+        (slice_get points.now (length points.now - 1)) }
+{
+    let (name, _) = points.last()?;
+    stamp_at(core, name)
+}
+
+// Adds the rights that the last call of a node granted.
+fn note_grant(
+    granted: &mut Sums,
+    alloc: Global,
+    core: &NodeCore,
+    entry: &Entry,
+) -> Result<(), AllocError>
+    requires room { HaveRoom granted.old }
+    ensures value { OnOk result ((k : Kept) → IsAfter k core.now entry.now
+        → (stamp : Stamp) (term : ℕ) → sum_of granted.new stamp term
+        ≡ sum_of granted.old stamp term
+        + granted_by (node_of k) (call_of k entry.now).ask stamp term) }
+    ensures few { OnOk result ((stamp : Stamp) (term : ℕ)
+        → sum_of granted.new stamp term ≤ sum_of granted.old stamp term + 2 ^ 64) }
+{
+    let Ask::Grant { name, term, amount } = &entry.ask else {
+        return Ok(());
+    };
+    let Some(name) = name_of(alloc, name)? else {
+        return Ok(());
+    };
+    let Some(stamp) = stamp_at(core, &name) else {
+        return Ok(());
+    };
+    granted.add(stamp, *term, *amount)
+}
+
+// Adds the execution that a call was answered with, if it was.
+fn note_act(executed: &mut Sums, reply: &Reply) -> Result<(), AllocError>
+    requires { HaveRoom executed.old }
+    ensures { OnOk result ((nodes : ℕ) (stamp : Stamp) (term : ℕ) → sum_of executed.new stamp term
+        ≡ sum_of executed.old stamp term
+        + (if acts stamp term (reply_value nodes reply.now) then 1 else 0)) }
+{
+    if let Reply::Pass(PassReply::Act { term, stamp, .. }) = reply {
+        executed.add(*stamp, *term, 1)?;
+    }
+    Ok(())
 }

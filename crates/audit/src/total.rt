@@ -31,17 +31,31 @@ impl fmt::Display for Total {
     ghost output = { λ t. Some (total_text t) };
 
     fn fmt<W: fmt::Write>(&self, f: &mut fmt::Formatter<W>) -> fmt::Result {
+        f.write_str("budget ")?;
+        f.write_str(self.name.text())?;
+        let granted = Granted(self.granted);
         write!(
             f,
-            "budget {} {} {} count={}",
-            self.name.text(),
-            self.stamp,
-            self.term,
-            self.count
-        )?;
-        if self.granted != 0 {
-            write!(f, " granted={}", self.granted)?;
+            " {} {} count={}{granted} executed={}",
+            self.stamp, self.term, self.count, self.executed
+        )
+    }
+}
+
+/// What was granted, as it stands behind a count: nothing where nothing was.
+#[derive(Clone, Copy)]
+struct Granted(u128);
+
+impl fmt::Display for Granted {
+    ghost use Rattle.std.specs.Prelude.{Some};
+    ghost use Rattle.audit.specs.VerdictText.{granted_text};
+
+    ghost output = { λ g. Some (granted_text g.0) };
+
+    fn fmt<W: fmt::Write>(&self, f: &mut fmt::Formatter<W>) -> fmt::Result {
+        if self.0 == 0 {
+            return f.write_str("");
         }
-        write!(f, " executed={}", self.executed)
+        write!(f, " granted={}", self.0)
     }
 }

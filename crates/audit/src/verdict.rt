@@ -1,7 +1,7 @@
 //! An audit's answer as lines.
 
 ghost use Rattle.std.specs.Prelude.{◌≡◌, ◌++◌, IfOk, OnOk, flat_map, string_bytes};
-ghost use Rattle.audit.specs.VerdictText.{total_line, verdict_text};
+ghost use Rattle.audit.specs.VerdictText.{no_text, total_line, verdict_text, yes_text};
 
 use crate::auditing::AuditYes;
 use crate::fault::AuditFault;
@@ -16,14 +16,25 @@ pub fn verdict_text(
 ) -> Result<String, AllocError>
     ensures { IfOk result (λ text. string_bytes text ≡ verdict_text verdict.now) }
 {
-    let mut text = String::new(alloc);
     match verdict {
-        Ok(yes) => {
-            text.push_str("audit yes\n")?;
-            push_totals(&mut text, &yes.totals)?;
-        }
-        Err(fault) => writeln!(text, "audit no {fault}")?,
+        Ok(found) => yes_text(alloc, found.totals.as_slice()),
+        Err(fault) => no_text(alloc, *fault),
     }
+}
+
+fn yes_text(alloc: Global, totals: &[Total]) -> Result<String, AllocError>
+    ensures { IfOk result (λ text. string_bytes text ≡ yes_text totals.now) }
+{
+    let mut text = String::from_str(alloc, "audit yes\n")?;
+    push_totals(&mut text, totals)?;
+    Ok(text)
+}
+
+fn no_text(alloc: Global, fault: AuditFault) -> Result<String, AllocError>
+    ensures { IfOk result (λ text. string_bytes text ≡ no_text fault) }
+{
+    let mut text = String::new(alloc);
+    writeln!(text, "audit no {fault}")?;
     Ok(text)
 }
 

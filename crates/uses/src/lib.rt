@@ -2,6 +2,7 @@
 #![tactic(auto)]
 
 mod actions_caller;
+mod audit_caller;
 mod cluster_model_caller;
 mod counters_caller;
 mod delta_exchange_caller;
@@ -19,6 +20,7 @@ mod stamp_register_caller;
 mod thread_scripts_caller;
 
 pub use crate::actions_caller::shortest;
+pub use crate::audit_caller::explained;
 pub use crate::cluster_model_caller::drill;
 pub use crate::counters_caller::take_in;
 pub use crate::delta_exchange_caller::written_again;

@@ -5,6 +5,9 @@ use super::*;
 // A call of a node of the drill.
 pub enum Step {
     Set(&'static str, &'static str),
+    Remove(&'static str),
+    Load(&'static str),
+    Grant(&'static str, u8, u64),
     Pass(&'static str),
     Emit(u8),
     // A delivery of a message, by its number among those that were made.
@@ -79,6 +82,17 @@ fn ask_of(alloc: Global, messages: &[Vec<u8>], step: &Step) -> Result<Ask, Fail>
         Step::Set(name, text) => Ask::Set {
             name: text_of(alloc, name)?,
             text: text_of(alloc, text)?,
+        },
+        Step::Remove(name) => Ask::Remove {
+            name: text_of(alloc, name)?,
+        },
+        Step::Load(text) => Ask::Load {
+            text: text_of(alloc, text)?,
+        },
+        Step::Grant(name, term, amount) => Ask::Grant {
+            name: text_of(alloc, name)?,
+            term: *term,
+            amount: *amount,
         },
         Step::Pass(name) => Ask::Pass {
             name: text_of(alloc, name)?,
@@ -240,9 +254,9 @@ fn traces_of(alloc: Global, nodes: Vec<NodeCore>) -> Result<Vec<Trace>, Fail> {
     Ok(traces)
 }
 
-// What the audit of a drill of two nodes answers, after a change. Messages 0 and 1 are those that
-// fresh nodes make, of the first to the second and back.
-pub fn answer_after(alloc: Global, steps: &[(u8, Step)], change: &Change) -> Result<String, Fail> {
+// The traces and the receipts of a drill of two nodes. Messages 0 and 1 are those that fresh nodes
+// make, of the first to the second and back.
+fn played(alloc: Global, steps: &[(u8, Step)]) -> Result<(Vec<Trace>, Vec<Vec<Receipt>>), Fail> {
     let mut drill = new_drill(alloc, 2)?;
     for (node, step) in steps {
         play(alloc, &mut drill, *node, step)?;
@@ -250,9 +264,14 @@ pub fn answer_after(alloc: Global, steps: &[(u8, Step)], change: &Change) -> Res
     let Drill {
         nodes,
         messages: _,
-        mut lists,
+        lists,
     } = drill;
-    let mut traces = traces_of(alloc, nodes)?;
+    Ok((traces_of(alloc, nodes)?, lists))
+}
+
+// What the audit of a drill answers, after a change.
+pub fn answer_after(alloc: Global, steps: &[(u8, Step)], change: &Change) -> Result<String, Fail> {
+    let (mut traces, mut lists) = played(alloc, steps)?;
     let mut second = lists.pop().ok_or("no list")?;
     let mut first = lists.pop().ok_or("no list")?;
     change_receipts(alloc, &mut first, &mut second, change)?;
@@ -260,4 +279,11 @@ pub fn answer_after(alloc: Global, steps: &[(u8, Step)], change: &Change) -> Res
     lists.push(first)?;
     lists.push(second)?;
     answer_text(alloc, audited(alloc, 2, &traces, &lists))
+}
+
+// The lines of a drill's audit.
+pub fn verdict_after(alloc: Global, steps: &[(u8, Step)]) -> Result<String, Fail> {
+    let (traces, lists) = played(alloc, steps)?;
+    let verdict = audited(alloc, 2, &traces, &lists);
+    Ok(verdict_text(alloc, &verdict)?)
 }

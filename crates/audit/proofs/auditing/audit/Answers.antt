@@ -1,11 +1,13 @@
-use Rattle.std.proofs.Common.{◌≡◌, ◌≤◌, length, subst, arith, IfSome, IfNone, Err}
+use Rattle.std.proofs.Common.{◌≡◌, ◌≤◌, length, sym, subst, arith, IfSome, IfNone, Err}
 use Rattle.delta_exchange.specs.Limits.{max_nodes}
+use Rattle.audit.specs.Answers.{IsAudited}
 use Rattle.audit.specs.Boards.{IsPlacing}
-use Rattle.audit.specs.Checked.{IsChecked}
 use Rattle.audit.specs.Places.{Fits}
 use Rattle.audit.specs.Schedules.{SomeFits}
 use Rattle.audit.specs.Traces.{IsSized, AllLegal, IsLeastWrong}
-use Rattle.audit.proofs.Scheduled.{order_fits, some_fits, order_of_fits, all_short, escrow_of}
+use Rattle.audit.proofs.Scheduled.{order_fits, some_fits, order_of_fits, all_short}
+use Rattle.audit.specs.Tallies.{IsTallied}
+use Rattle.audit.proofs.Answered.{answer_is, fault_is, totals_are, escrow_is}
 use Rattle.audit.proofs.auditing.audit.Goals as goal
 use Rattle.audit.proofs.auditing.audit.Goals.{then-nodes-eq0-via-then-nodes-eq0, then-nodes-eq0-via-else-nodes-eq0+then-nodes-gt-MAX_NODES, then-nodes-eq0-via-else-nodes-eq0+else-nodes-gt-MAX_NODES+then-traces-nodes}
 
@@ -49,61 +51,41 @@ check_receipts-requires-clause-short c =
     let legal : AllLegal c.args.nodes c.args.traces.now = subst (λ o. IfNone o (AllLegal c.args.nodes c.args.traces.now)) c.in-Ok-None.field-0-is c.in-Ok-None.ensures.legal in
     all_short c.args.nodes c.args.traces.now legal
 
+pub least_wrong-requires-clause-none : goal.least_wrong-requires-clause-none
+least_wrong-requires-clause-none c = c.new-tally.ensures c.args.nodes c.args.traces.now
+
 pub returns-in-Ok-clause-answer : goal.returns-in-Ok-clause-answer
 returns-in-Ok-clause-answer c =
     let sized : IsSized c.args.nodes c.args.traces.now = record { some = omega (arith, c.if-nodes-eq0.false); few = omega (arith, c.if-nodes-gt-MAX_NODES.false); each = omega (arith, c.if-traces-nodes.false) } in
     let legal : AllLegal c.args.nodes c.args.traces.now = subst (λ o. IfNone o (AllLegal c.args.nodes c.args.traces.now)) c.in-Ok-None.field-0-is c.in-Ok-None.ensures.legal in
     let fits : Fits c.args.traces.now c.in-Ok-All.order.items = subst (λ p. IsPlacing c.args.traces.now p) c.in-Ok-All.field-0-is c.in-Ok-All.ensures in
-    let checked = c.in-Ok.ensures in (
-      sized,
-      order_fits c.args.nodes c.args.traces.now sized legal c.in-Ok-All.order.items fits,
-      record { match_ = checked.0; once = checked.1; all = checked.2; ascend = checked.3 },
-    )
+    let is = order_fits c.args.nodes c.args.traces.now sized legal c.in-Ok-All.order.items fits in
+    let checked = c.in-Ok.ensures in
+    answer_is c.args.nodes c.args.traces.now sized c.in-Ok-All.order is c.args.lists.now
+    (record { match_ = checked.0; once = checked.1; all = checked.2; ascend = checked.3 }) c.answer.result c.answer.ensures.order c.answer.ensures.err
+
+pub returns-in-Ok-clause-totals : goal.returns-in-Ok-clause-totals
+returns-in-Ok-clause-totals c =
+    let sized : IsSized c.args.nodes c.args.traces.now = record { some = omega (arith, c.if-nodes-eq0.false); few = omega (arith, c.if-nodes-gt-MAX_NODES.false); each = omega (arith, c.if-traces-nodes.false) } in
+    let legal : AllLegal c.args.nodes c.args.traces.now = subst (λ o. IfNone o (AllLegal c.args.nodes c.args.traces.now)) c.in-Ok-None.field-0-is c.in-Ok-None.ensures.legal in
+    let fits : Fits c.args.traces.now c.in-Ok-All.order.items = subst (λ p. IsPlacing c.args.traces.now p) c.in-Ok-All.field-0-is c.in-Ok-All.ensures in
+    let is = order_fits c.args.nodes c.args.traces.now sized legal c.in-Ok-All.order.items fits in
+    let tallied = subst (λ o. IfNone o (IsTallied c.least_wrong.new.tally c.args.nodes c.args.traces.now c.args.nodes)) c.in-Ok-None.field-0-is c.in-Ok-None.ensures.tallied in
+    totals_are c.args.nodes c.args.traces.now sized c.in-Ok-All.order is c.least_wrong.new.tally tallied c.answer.result c.answer.ensures.order c.answer.ensures.totals
 
 pub returns-in-Ok-clause-escrow : goal.returns-in-Ok-clause-escrow
 returns-in-Ok-clause-escrow c =
     let sized : IsSized c.args.nodes c.args.traces.now = record { some = omega (arith, c.if-nodes-eq0.false); few = omega (arith, c.if-nodes-gt-MAX_NODES.false); each = omega (arith, c.if-traces-nodes.false) } in
     let legal : AllLegal c.args.nodes c.args.traces.now = subst (λ o. IfNone o (AllLegal c.args.nodes c.args.traces.now)) c.in-Ok-None.field-0-is c.in-Ok-None.ensures.legal in
     let fits : Fits c.args.traces.now c.in-Ok-All.order.items = subst (λ p. IsPlacing c.args.traces.now p) c.in-Ok-All.field-0-is c.in-Ok-All.ensures in
-    escrow_of c.args.nodes c.args.traces.now sized c.in-Ok-All.order.items (order_fits c.args.nodes c.args.traces.now sized legal c.in-Ok-All.order.items fits)
+    let is = order_fits c.args.nodes c.args.traces.now sized legal c.in-Ok-All.order.items fits in
+    escrow_is c.args.nodes c.args.traces.now sized c.in-Ok-All.order is c.answer.result c.answer.ensures.order
 
-pub returns-in-Err-Differs-clause-answer : goal.returns-in-Err-Differs-clause-answer
-returns-in-Err-Differs-clause-answer c =
+pub returns-in-Err-check_receipts-clause-answer : goal.returns-in-Err-check_receipts-clause-answer
+returns-in-Err-check_receipts-clause-answer c =
     let sized : IsSized c.args.nodes c.args.traces.now = record { some = omega (arith, c.if-nodes-eq0.false); few = omega (arith, c.if-nodes-gt-MAX_NODES.false); each = omega (arith, c.if-traces-nodes.false) } in
     let legal : AllLegal c.args.nodes c.args.traces.now = subst (λ o. IfNone o (AllLegal c.args.nodes c.args.traces.now)) c.in-Ok-None.field-0-is c.in-Ok-None.ensures.legal in
     let fits : Fits c.args.traces.now c.in-Ok-All.order.items = subst (λ p. IsPlacing c.args.traces.now p) c.in-Ok-All.field-0-is c.in-Ok-All.ensures in
     let some : SomeFits c.args.nodes c.args.traces.now = some_fits c.args.nodes c.args.traces.now sized legal c.in-Ok-All.order.items fits in
-    let checked = subst (λ f. IsChecked c.args.traces.now c.args.lists.now (Err f)) c.in-Err-Differs.field-0-is c.in-Err-Differs.ensures in
-    (sized, some, checked)
-
-pub returns-in-Err-Twice-clause-answer : goal.returns-in-Err-Twice-clause-answer
-returns-in-Err-Twice-clause-answer c =
-    let sized : IsSized c.args.nodes c.args.traces.now = record { some = omega (arith, c.if-nodes-eq0.false); few = omega (arith, c.if-nodes-gt-MAX_NODES.false); each = omega (arith, c.if-traces-nodes.false) } in
-    let legal : AllLegal c.args.nodes c.args.traces.now = subst (λ o. IfNone o (AllLegal c.args.nodes c.args.traces.now)) c.in-Ok-None.field-0-is c.in-Ok-None.ensures.legal in
-    let fits : Fits c.args.traces.now c.in-Ok-All.order.items = subst (λ p. IsPlacing c.args.traces.now p) c.in-Ok-All.field-0-is c.in-Ok-All.ensures in
-    let some : SomeFits c.args.nodes c.args.traces.now = some_fits c.args.nodes c.args.traces.now sized legal c.in-Ok-All.order.items fits in
-    let checked = subst (λ f. IsChecked c.args.traces.now c.args.lists.now (Err f)) c.in-Err-Twice.field-0-is c.in-Err-Twice.ensures in
-    (sized, some, checked.0, checked.1)
-
-pub returns-in-Err-Missing-clause-answer : goal.returns-in-Err-Missing-clause-answer
-returns-in-Err-Missing-clause-answer c =
-    let sized : IsSized c.args.nodes c.args.traces.now = record { some = omega (arith, c.if-nodes-eq0.false); few = omega (arith, c.if-nodes-gt-MAX_NODES.false); each = omega (arith, c.if-traces-nodes.false) } in
-    let legal : AllLegal c.args.nodes c.args.traces.now = subst (λ o. IfNone o (AllLegal c.args.nodes c.args.traces.now)) c.in-Ok-None.field-0-is c.in-Ok-None.ensures.legal in
-    let fits : Fits c.args.traces.now c.in-Ok-All.order.items = subst (λ p. IsPlacing c.args.traces.now p) c.in-Ok-All.field-0-is c.in-Ok-All.ensures in
-    let some : SomeFits c.args.nodes c.args.traces.now = some_fits c.args.nodes c.args.traces.now sized legal c.in-Ok-All.order.items fits in
-    let checked = subst (λ f. IsChecked c.args.traces.now c.args.lists.now (Err f)) c.in-Err-Missing.field-0-is c.in-Err-Missing.ensures in
-    (sized, some, checked.0, checked.1, checked.2)
-
-pub returns-in-Err-OutOfMemory-clause-answer : goal.returns-in-Err-OutOfMemory-clause-answer
-returns-in-Err-OutOfMemory-clause-answer c =
-    let sized : IsSized c.args.nodes c.args.traces.now = record { some = omega (arith, c.if-nodes-eq0.false); few = omega (arith, c.if-nodes-gt-MAX_NODES.false); each = omega (arith, c.if-traces-nodes.false) } in
-    sized
-
-pub returns-clause-answer : goal.returns-clause-answer
-returns-clause-answer c =
-    let sized : IsSized c.args.nodes c.args.traces.now = record { some = omega (arith, c.if-nodes-eq0.false); few = omega (arith, c.if-nodes-gt-MAX_NODES.false); each = omega (arith, c.if-traces-nodes.false) } in
-    let legal : AllLegal c.args.nodes c.args.traces.now = subst (λ o. IfNone o (AllLegal c.args.nodes c.args.traces.now)) c.in-Ok-None.field-0-is c.in-Ok-None.ensures.legal in
-    let fits : Fits c.args.traces.now c.in-Ok-All.order.items = subst (λ p. IsPlacing c.args.traces.now p) c.in-Ok-All.field-0-is c.in-Ok-All.ensures in
-    let some : SomeFits c.args.nodes c.args.traces.now = some_fits c.args.nodes c.args.traces.now sized legal c.in-Ok-All.order.items fits in
-    let checked = subst (λ f. IsChecked c.args.traces.now c.args.lists.now (Err f)) c.in-Err-OutOfOrder.field-0-is c.in-Err-OutOfOrder.ensures in
-    (sized, some, checked.0, checked.1, checked.2, checked.3)
+    subst (λ f. IsAudited c.args.nodes c.args.traces.now c.args.lists.now (Err f)) (sym c.receipts_fault.ensures)
+    (fault_is c.args.nodes c.args.traces.now sized some c.args.lists.now c.in-Err-check_receipts.fault c.in-Err-check_receipts.ensures)
