@@ -90,8 +90,14 @@ where
         .time()
         .timeout_at(deadline, join(reply, connection))?;
     match runtime.block_on(rt, both).map_err(failed)? {
-        Ok((Ok(reply), _)) => Ok(reply.status()),
-        _ => Err(WireError::Failed),
+        Ok(ended) => {
+            let (reply, _connection) = ended;
+            match reply {
+                Ok(reply) => Ok(reply.status()),
+                Err(_) => Err(WireError::Failed),
+            }
+        }
+        Err(_elapsed) => Err(WireError::Failed),
     }
 }
 
