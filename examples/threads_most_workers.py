@@ -8,4 +8,4 @@ def script():
 
 
 def output():
-    return b'workers 500\ncalls 1250\n'
+    return b'workers 500\ncalls 1250\naudit yes\n'

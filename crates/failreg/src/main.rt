@@ -1,14 +1,13 @@
 //! Action texts, and scripts that drive a cluster of failpoint registries.
 #![tactic(auto)]
 
-ghost use Rattle.std.specs.Prelude.{◌≡◌, ℕ, ◌<◌, ◌⊎◌, true, false, length, if◌then◌else◌, IsOk, IfOk, Ok};
+ghost use Rattle.std.specs.Prelude.{◌≡◌, ◌<◌, ◌⊎◌, true, false, length, if◌then◌else◌, IsOk, IfOk};
 ghost use Rattle.std.specs.Process.{exit_status};
 ghost use Rattle.actions.specs.Reading.{reading};
 ghost use Rattle.scripts.specs.Script.{echoed_text, script_text};
 ghost use Rattle.scripts.specs.Streams.{IfInput, Writes};
 ghost use Rattle.scripts.specs.Watched.{has_failed, has_unflushed};
-ghost use Rattle.thread_scripts.specs.Outputs.{output_text};
-ghost use Rattle.thread_scripts.specs.Plans.{PlanValue, plan_in};
+ghost use Rattle.thread_scripts.specs.Outputs.{PlaysTo};
 ghost use Rattle.failreg.specs.Statuses.{HasStatus, OnStatus};
 
 mod command_line;
@@ -95,11 +94,10 @@ fn threads<R: Threads + Wait + Sync + Eprint + AllocGlobal, I: Read, O: Write>(
 ) -> anyhow::Result<ExitCode>
     requires reader { has_failed reader.old ≡ false }
     requires writer { has_failed writer.old ≡ false }
-    // With status 0 the script has a plan, and what is written and flushed is how many workers the
-    // plan has, and some number of calls.
+    // With status 0 the script has a plan, and what is written and flushed is its whole output: of
+    // some traces and receipts.
     ensures done { OnStatus result 0 (IfInput I.remaining reader.old (λ input.
-        (plan : PlanValue) × (calls : ℕ) × (plan_in input ≡ Ok plan)
-        × Writes O.contents writer.old writer.new (output_text (length plan.blocks) calls))) }
+        PlaysTo input (Writes O.contents writer.old writer.new))) }
     ensures flushed { OnStatus result 0 (has_unflushed writer.new ≡ false) }
     // A script that is too long, or that can't be read or answered, has status 1.
     ensures read_failed { has_failed reader.new ≡ true → HasStatus result 1 }

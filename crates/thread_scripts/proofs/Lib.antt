@@ -1,3 +1,4 @@
 pub mod Readings
 pub mod Counts
 pub mod Runs
+pub mod Seats

@@ -6,6 +6,8 @@ use Rattle.scripts.specs.Fields.{◌>>=◌, field_of, amount_of, field_cut_of, b
 use Rattle.scripts.specs.Commands.{CommandValue, nodes, event, question}
 use Rattle.thread_scripts.specs.declared.call.Call.{Call}
 use Rattle.thread_scripts.specs.declared.call.Call.TheVariants as calls
+use Rattle.thread_scripts.specs.declared.call.Start.{Start}
+use Rattle.thread_scripts.specs.declared.call.Start.TheVariants as starts
 
 -- a call of the code, without where its texts lie in memory
 abbrev pub call_value : Call → Asked
@@ -15,6 +17,16 @@ call_value (calls.Load text) = Load (text.now)
 call_value (calls.Pass name) = Pass (name.now)
 call_value (calls.Shift name term to amount) = Shift (name.now) term to amount
 call_value (calls.Grant name term amount) = Grant (name.now) term amount
+
+-- what a node does before the workers start: it makes a call, or spreads its rights to a point
+pub data StartValue : Type 0 where
+  makes : (ask : Asked) → StartValue
+  spreads : (name : List ℕ) → StartValue
+
+-- the same of the code's, without where its texts lie in memory
+abbrev pub start_value : Start → StartValue
+start_value (starts.Call call) = makes (call_value call)
+start_value (starts.Spread name) = spreads (name.now)
 
 -- the node and the call of a start line: a command as in a script of calls, of those that need no words and make and
 -- take no message

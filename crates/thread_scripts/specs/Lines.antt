@@ -4,19 +4,20 @@ use Rattle.std.specs.Str.{bytes_eq}
 use Rattle.hex.specs.Hex.{decode_sized}
 use Rattle.hex.specs.declared.error.FromHexError.{FromHexError}
 use Rattle.node_core.specs.Asks.{Asked, Pass}
-use Rattle.scripts.specs.Fields.{◌>>=◌, cut_of, byte_of, word_of, number_of, field_cut_of, byte_cut_of}
+use Rattle.scripts.specs.Fields.{◌>>=◌, cut_of, byte_of, word_of, number_of, field_of, field_cut_of, byte_cut_of}
 use Rattle.scripts.specs.Commands.{command_of}
 use Rattle.scripts.specs.Script.{text_in}
 use Rattle.thread_scripts.specs.declared.line.Line.{Line}
 use Rattle.thread_scripts.specs.declared.line.Line.TheVariants as lines
-use Rattle.thread_scripts.specs.Calls.{call_value, start_of, set_in, remove_in, load_in, shift_in, grant_in}
+use Rattle.thread_scripts.specs.Calls.{StartValue, makes, spreads, call_value, start_value, start_of, set_in, remove_in, load_in, shift_in, grant_in}
 
--- so many nodes, each of which accepts so many calls; the seed of their words; a call of a node before the workers
--- start; a block of calls of one worker at a node; or a call of the worker, so many times
+-- so many nodes, each of which accepts so many calls; the seed of their words; what a node does before the workers
+-- start; so many rounds of gossip; a block of calls of one worker at a node; or a call of the worker, so many times
 pub data LineValue : Type 0 where
   nodes_line : (count cap : ℕ) → LineValue
   seed_line : (bytes : List ℕ) → LineValue
-  start_line : (node : ℕ) (call : Asked) → LineValue
+  start_line : (node : ℕ) (start : StartValue) → LineValue
+  gossip_line : (rounds : ℕ) → LineValue
   worker_line : (node : ℕ) → LineValue
   calls_line : (call : Asked) (times : ℕ) → LineValue
 
@@ -24,7 +25,8 @@ pub data LineValue : Type 0 where
 abbrev pub line_value : Line → LineValue
 line_value (lines.Nodes count cap) = nodes_line count cap
 line_value (lines.Seed bytes) = seed_line bytes
-line_value (lines.Start node call) = start_line node (call_value call)
+line_value (lines.Start node start) = start_line node (start_value start)
+line_value (lines.Gossip rounds) = gossip_line rounds
 line_value (lines.Worker node) = worker_line node
 line_value (lines.Calls call times) = calls_line (call_value call) times
 
@@ -43,12 +45,33 @@ seed_read (Err fault) = None
 abbrev pub seed_in : List ℕ → Option LineValue
 seed_in rest = seed_read (decode_sized rest 32)
 
--- `start ` before a line of a script of calls
-abbrev pub start_in : List ℕ → Option LineValue
-start_in rest = do
+-- a line of a script of calls
+abbrev pub start_call_in : List ℕ → Option LineValue
+start_call_in rest = do
   command ← command_of rest
   call ← start_of command
-  Some (start_line (call.0) (call.1))
+  Some (start_line (call.0) (makes (call.1)))
+
+-- `<node> <name>`
+abbrev pub spread_in : List ℕ → Option LineValue
+spread_in rest = do
+  node ← byte_cut_of rest
+  name ← field_of (node.1)
+  Some (start_line (node.0) (spreads name))
+
+abbrev pub start_cut_in : List ℕ → Option (List ℕ × List ℕ) → Option LineValue
+start_cut_in rest None = start_call_in rest
+start_cut_in rest (Some parts) = if bytes_eq (parts.0) (codes "spread") then spread_in (parts.1) else start_call_in rest
+
+-- `start ` before a line of a script of calls, or before `spread <node> <name>`
+abbrev pub start_in : List ℕ → Option LineValue
+start_in rest = start_cut_in rest (cut_of rest)
+
+-- `gossip <rounds>`
+abbrev pub gossip_in : List ℕ → Option LineValue
+gossip_in rest = do
+  rounds ← word_of rest
+  Some (gossip_line rounds)
 
 -- `worker <node>`
 abbrev pub worker_in : List ℕ → Option LineValue
@@ -76,13 +99,14 @@ line_after word rest =
     if bytes_eq word (codes "nodes") then nodes_in rest else
     (if bytes_eq word (codes "seed") then seed_in rest else
     (if bytes_eq word (codes "start") then start_in rest else
+    (if bytes_eq word (codes "gossip") then gossip_in rest else
     (if bytes_eq word (codes "worker") then worker_in rest else
     (if bytes_eq word (codes "set") then option_map once (set_in rest) else
     (if bytes_eq word (codes "remove") then option_map once (remove_in rest) else
     (if bytes_eq word (codes "load") then Some (once (load_in rest)) else
     (if bytes_eq word (codes "shift") then option_map once (shift_in rest) else
     (if bytes_eq word (codes "grant") then option_map once (grant_in rest) else
-    (if bytes_eq word (codes "pass") then pass_in rest else None)))))))))
+    (if bytes_eq word (codes "pass") then pass_in rest else None))))))))))
 
 -- what a line says, where it has one of the forms
 abbrev pub line_of : List ℕ → Option LineValue

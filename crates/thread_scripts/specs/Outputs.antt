@@ -1,8 +1,42 @@
 -- What a script of threads prints.
-use Rattle.std.specs.Prelude.{ℕ, List, ◌++◌, codes, decimal}
+use Rattle.std.specs.Prelude.{◌≡◌, ◌≢◌, ℕ, List, length, ◌++◌, codes, decimal, vec_len, Result, Ok, Err}
+use Rattle.std.specs.List.{sum_by}
+use Rattle.audit.specs.declared.auditing.AuditYes.{AuditYes}
+use Rattle.audit.specs.declared.fault.AuditFault.{AuditFault}
+use Rattle.audit.specs.declared.fault.AuditFault.TheVariants.{OutOfMemory}
+use Rattle.audit.specs.Answers.{IsAudited}
+use Rattle.audit.specs.Receipts.{Lists}
+use Rattle.audit.specs.Traces.{Traces}
+use Rattle.audit.specs.VerdictText.{verdict_text}
 use Rattle.scripts.specs.Replies.{output_line}
+use Rattle.thread_scripts.specs.Plans.{PlanValue, plan_in}
 
--- how many blocks there were, and how many calls were accepted
-abbrev pub output_text : ℕ → ℕ → List ℕ
-output_text blocks calls =
+-- how many blocks there were, how many calls were accepted, and what an audit said
+abbrev pub output_text : ℕ → ℕ → Result AuditYes AuditFault → List ℕ
+output_text blocks calls verdict =
     output_line (codes "workers " ++ decimal blocks) ++ output_line (codes "calls " ++ decimal calls)
+    ++ verdict_text verdict
+
+-- how many entries traces have, and receipts lists
+abbrev pub entries_in : Traces → ℕ
+entries_in traces = sum_by (λ trace. vec_len trace) traces
+
+abbrev pub receipts_in : Lists → ℕ
+receipts_in lists = sum_by (λ list. vec_len list) lists
+
+-- What a plan prints: it came to some traces, one for each node, and to as many receipts as these have entries. Those
+-- are the calls, and the verdict is that of an audit of these traces and receipts.
+pub record IsOutput (plan : PlanValue) (text : List ℕ) : Type 0 where
+  pub traces : Traces
+  pub lists : Lists
+  pub verdict : Result AuditYes AuditFault
+  pub each : length traces ≡ plan.nodes
+  pub counted : receipts_in lists ≡ entries_in traces
+  pub audited : IsAudited plan.nodes traces lists verdict
+  pub ended : verdict ≢ Err OutOfMemory
+  pub printed : text ≡ output_text (length plan.blocks) (entries_in traces) verdict
+
+-- a script has a plan, and this is so of what it prints
+abbrev pub PlaysTo : List ℕ → (List ℕ → Type 0) → Type 0
+PlaysTo script written =
+    (plan : PlanValue) × (text : List ℕ) × (plan_in script ≡ Ok plan) × IsOutput plan text × written text

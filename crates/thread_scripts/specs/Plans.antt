@@ -1,6 +1,7 @@
 -- What the lines of a script of threads come to: a plan, or the first line that is bad.
 use Rattle.std.specs.Prelude.{ℕ, ◌+◌, ◌-◌, ◌^◌, Bool, ◌&&◌, ◌||◌, ◌==◌, List, [], ◌∷◌, ◌++◌, length, map, count_by, slice_index, nat_lt, if◌then◌else◌, Option, Some, None, option_map, Result, Ok, Err}
 use Rattle.std.specs.List.{sum_by}
+use Rattle.std.specs.Option.{is_none}
 use Rattle.cluster_model.specs.Worlds.{is_cluster_size}
 use Rattle.node_core.specs.Asks.{Asked}
 use Rattle.scripts.specs.Fields.{newline, lines_of}
@@ -11,8 +12,8 @@ use Rattle.thread_scripts.specs.declared.plan.StartLine.{StartLine}
 use Rattle.thread_scripts.specs.declared.plan.ThreadPlan.{ThreadPlan}
 use Rattle.thread_scripts.specs.declared.stage.Stage.{Stage}
 use Rattle.thread_scripts.specs.declared.stage.Stage.TheVariants as stages
-use Rattle.thread_scripts.specs.Calls.{call_value}
-use Rattle.thread_scripts.specs.Lines.{LineValue, nodes_line, seed_line, start_line, worker_line, calls_line, line_in}
+use Rattle.thread_scripts.specs.Calls.{StartValue, call_value, start_value}
+use Rattle.thread_scripts.specs.Lines.{LineValue, nodes_line, seed_line, start_line, gossip_line, worker_line, calls_line, line_in}
 
 -- the lines of a worker: each a call, with how often it is made
 pub record BlockValue : Type 0 where
@@ -23,7 +24,8 @@ pub record PlanValue : Type 0 where
   pub nodes : ℕ
   pub cap : ℕ
   pub seed : List ℕ
-  pub starts : List (ℕ × Asked)
+  pub starts : List (ℕ × StartValue)
+  pub gossip : Option ℕ
   pub blocks : List BlockValue
 
 -- ---- the same of the code's values
@@ -34,15 +36,16 @@ call_line_value l = (call_value l.call, l.times)
 abbrev pub block_value : Block → BlockValue
 block_value b = record { node = b.node; lines = map call_line_value b.lines.items }
 
-abbrev pub start_value : StartLine → ℕ × Asked
-start_value s = (s.node, call_value s.call)
+abbrev pub start_line_value : StartLine → ℕ × StartValue
+start_line_value s = (s.node, start_value s.start)
 
 abbrev pub plan_value : ThreadPlan → PlanValue
 plan_value p = record {
   nodes = p.size.nodes;
   cap = p.size.trace_cap;
   seed = p.seed;
-  starts = map start_value p.starts.items;
+  starts = map start_line_value p.starts.items;
+  gossip = p.gossip;
   blocks = map block_value p.blocks.items;
 }
 
@@ -62,10 +65,13 @@ stage_value (stages.Started plan) = started (plan_value plan)
 stage_value (stages.Working work) = working (plan_value work.plan) (block_value work.last)
 
 abbrev pub new_plan : ℕ → ℕ → List ℕ → PlanValue
-new_plan nodes cap bytes = record { nodes = nodes; cap = cap; seed = bytes; starts = []; blocks = [] }
+new_plan nodes cap bytes = record { nodes = nodes; cap = cap; seed = bytes; starts = []; gossip = None; blocks = [] }
 
-abbrev pub with_start : PlanValue → ℕ → Asked → PlanValue
-with_start p node call = record p { starts = p.starts ++ (node, call) ∷ [] }
+abbrev pub with_start : PlanValue → ℕ → StartValue → PlanValue
+with_start p node start = record p { starts = p.starts ++ (node, start) ∷ [] }
+
+abbrev pub with_gossip : PlanValue → ℕ → PlanValue
+with_gossip p rounds = record p { gossip = Some rounds }
 
 abbrev pub with_block : PlanValue → BlockValue → PlanValue
 with_block p b = record p { blocks = p.blocks ++ b ∷ [] }
@@ -96,19 +102,24 @@ add_calls p b call times =
 abbrev pub after_empty : LineValue → Option StageValue
 after_empty (nodes_line count cap) = if is_cluster_size count then Some (sized count cap) else None
 after_empty (seed_line bytes) = None
-after_empty (start_line node call) = None
+after_empty (start_line node start) = None
+after_empty (gossip_line rounds) = None
 after_empty (worker_line node) = None
 after_empty (calls_line call times) = None
 
 abbrev pub after_sized : ℕ → ℕ → LineValue → Option StageValue
 after_sized n cap (seed_line bytes) = Some (started (new_plan n cap bytes))
 after_sized n cap (nodes_line count other) = None
-after_sized n cap (start_line node call) = None
+after_sized n cap (start_line node start) = None
+after_sized n cap (gossip_line rounds) = None
 after_sized n cap (worker_line node) = None
 after_sized n cap (calls_line call times) = None
 
+-- there is one gossip line at most, and no start line behind it
 abbrev pub after_started : PlanValue → LineValue → Option StageValue
-after_started p (start_line node call) = if nat_lt node p.nodes then Some (started (with_start p node call)) else None
+after_started p (start_line node start) =
+    if nat_lt node p.nodes && is_none p.gossip then Some (started (with_start p node start)) else None
+after_started p (gossip_line rounds) = if is_none p.gossip then Some (started (with_gossip p rounds)) else None
 after_started p (worker_line node) = begin_block p node
 after_started p (nodes_line count cap) = None
 after_started p (seed_line bytes) = None
@@ -119,7 +130,8 @@ after_working p b (worker_line node) = begin_block (with_block p b) node
 after_working p b (calls_line call times) = add_calls p b call times
 after_working p b (nodes_line count cap) = None
 after_working p b (seed_line bytes) = None
-after_working p b (start_line node call) = None
+after_working p b (start_line node start) = None
+after_working p b (gossip_line rounds) = None
 
 -- a line that stands in its place
 abbrev pub after_line : StageValue → LineValue → Option StageValue

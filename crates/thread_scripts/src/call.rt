@@ -45,6 +45,15 @@ pub enum Call<'a> {
     },
 }
 
+/// What a node does before the workers start.
+#[derive(Clone, Copy)]
+pub enum Start<'a> {
+    /// Makes a call.
+    Call(Call<'a>),
+    /// Gives each other node an equal share of its rights to a point.
+    Spread { name: &'a str },
+}
+
 /// What a node is asked by a call.
 pub fn ask_of(alloc: Global, call: &Call<'_>) -> Result<Ask, AllocError>
     ensures { IfOk result (λ ask. (nodes : ℕ) → ask_value_first nodes ask ≡ call_value call.now) }

@@ -2,15 +2,23 @@
 //! from a reader to a writer.
 #![tactic(auto)]
 
+mod asks;
+mod beside;
 mod call;
+mod finished;
 mod line;
 mod nodes;
+mod output;
 mod plan;
+mod played;
 mod reading;
 mod run;
 mod stage;
+mod starts;
 
-pub use call::Call;
+pub use call::{Call, Start};
+pub use output::output_of;
 pub use plan::{Block, CallLine, Size, StartLine, ThreadPlan};
+pub use played::{Played, play};
 pub use reading::read_plan;
 pub use run::run_threads;

@@ -2,11 +2,13 @@
 
 ghost use Rattle.std.specs.Prelude.{◌≡◌, option_map, IfOk};
 ghost use Rattle.thread_scripts.specs.Calls.{call_value};
-ghost use Rattle.thread_scripts.specs.Lines.{line_after, line_in, line_of, line_value, nodes_in, once, pass_in, seed_in, start_in, times_of, worker_in};
+ghost use Rattle.thread_scripts.specs.Lines.{gossip_in, line_after, line_in, line_of, line_value, nodes_in, once, pass_in, seed_in, spread_in, start_call_in, start_in, times_of, worker_in};
 
-use crate::call::{Call, grant_call, load_call, remove_call, set_call, shift_call, start_of};
+use crate::call::{
+    Call, Start, grant_call, load_call, remove_call, set_call, shift_call, start_of,
+};
 use hex::FromHex;
-use scripts::{byte, cut, cut_byte, cut_field, number, read_command, text_of, word};
+use scripts::{byte, cut, cut_byte, cut_field, field, number, read_command, text_of, word};
 use std::alloc::{AllocError, Global};
 
 /// What a line of a script of threads says.
@@ -16,8 +18,10 @@ pub enum Line<'a> {
     Nodes { count: u8, trace_cap: u32 },
     /// The seed of the words that passes are given.
     Seed([u8; 32]),
-    /// A node is called before the workers start.
-    Start { node: u8, call: Call<'a> },
+    /// A node does this before the workers start.
+    Start { node: u8, start: Start<'a> },
+    /// Beside the workers, the nodes do so many rounds of gossip.
+    Gossip { rounds: u32 },
     /// A block of calls of one worker at a node begins.
     Worker { node: u8 },
     /// The worker makes a call, so many times.
@@ -41,16 +45,46 @@ fn seed_line(rest: &str) -> Option<Line<'_>>
     Some(Line::Seed(seed))
 }
 
-fn start_line(alloc: Global, rest: &str) -> Result<Option<Line<'_>>, AllocError>
-    ensures { IfOk result (λ line. option_map line_value line ≡ start_in rest.now) }
+fn start_call_line(alloc: Global, rest: &str) -> Result<Option<Line<'_>>, AllocError>
+    ensures { IfOk result (λ line. option_map line_value line ≡ start_call_in rest.now) }
 {
     let Some(command) = read_command(alloc, rest)? else {
         return Ok(None);
     };
     match start_of(command) {
-        Some((node, call)) => Ok(Some(Line::Start { node, call })),
+        Some((node, call)) => Ok(Some(Line::Start {
+            node,
+            start: Start::Call(call),
+        })),
         None => Ok(None),
     }
+}
+
+fn spread_line(rest: &str) -> Option<Line<'_>>
+    ensures { option_map line_value result ≡ spread_in rest.now }
+{
+    let (node, name) = cut_byte(rest)?;
+    let name = field(name)?;
+    let start = Start::Spread { name };
+    Some(Line::Start { node, start })
+}
+
+fn start_line(alloc: Global, rest: &str) -> Result<Option<Line<'_>>, AllocError>
+    ensures { IfOk result (λ line. option_map line_value line ≡ start_in rest.now) }
+{
+    if let Some((word, spread)) = cut(rest) {
+        if word == "spread" {
+            return Ok(spread_line(spread));
+        }
+    }
+    start_call_line(alloc, rest)
+}
+
+fn gossip_line(rest: &str) -> Option<Line<'_>>
+    ensures { option_map line_value result ≡ gossip_in rest.now }
+{
+    let rounds = word(rest)?;
+    Some(Line::Gossip { rounds })
 }
 
 fn worker_line(rest: &str) -> Option<Line<'_>>
@@ -90,6 +124,7 @@ fn line_after<'a>(alloc: Global, word: &str, rest: &'a str) -> Result<Option<Lin
         "nodes" => Ok(nodes_line(rest)),
         "seed" => Ok(seed_line(rest)),
         "start" => start_line(alloc, rest),
+        "gossip" => Ok(gossip_line(rest)),
         "worker" => Ok(worker_line(rest)),
         "set" => Ok(set_call(rest).map(once)),
         "remove" => Ok(remove_call(rest).map(once)),

@@ -4,7 +4,7 @@ ghost use Rattle.std.specs.Prelude.{◌≡◌, ℕ, ◌<◌, ◌≤◌, ◌==◌
 ghost use Rattle.std.specs.List.{sum_by};
 ghost use Rattle.cluster_model.specs.Worlds.{is_cluster_size};
 
-use crate::call::Call;
+use crate::call::{Call, Start};
 
 /// How many nodes there are, 1 to 32, and how many calls each of them accepts.
 #[derive(Clone, Copy)]
@@ -30,20 +30,22 @@ pub struct Block<'a> {
     ghost all: { calls ≡ sum_by (λ l. l.times) lines.items },
 }
 
-/// A call of a node before the workers start.
+/// What a node does before the workers start.
 #[derive(Clone, Copy)]
 pub struct StartLine<'a> {
     pub node: u8,
-    pub call: Call<'a>,
+    pub start: Start<'a>,
 }
 
-/// The plan of a run: its nodes, the seed of the words that their passes are given, the calls before
-/// the workers start, and the workers' blocks, of which a node has 250 at most.
+/// The plan of a run: its nodes, the seed of the words that their passes are given, what is done
+/// before the workers start, how many rounds of gossip the nodes do beside them, if any, and the
+/// workers' blocks, of which a node has 250 at most.
 #[derive(Drop)]
 pub struct ThreadPlan<'a> {
     pub size: Size,
     pub seed: [u8; 32],
     pub starts: Vec<StartLine<'a>>,
+    pub gossip: Option<u32>,
     pub blocks: Vec<Block<'a>>,
     ghost few_blocks: { (node : ℕ) → count_by (λ b. b.node == node) blocks.items ≤ 250 },
 }

@@ -4,28 +4,20 @@ ghost use Rattle.std.specs.Prelude.{◌≡◌, ◌≢◌, ℕ, ◌+◌, ◌<◌,
 ghost use Rattle.scripts.specs.declared.fault.ScriptFault.TheVariants.{BadLine, OutOfMemory, ReadFailed, TooLong, WriteFailed};
 ghost use Rattle.scripts.specs.Watched.{has_failed, has_unflushed};
 ghost use Rattle.scripts.specs.Streams.{IfInput, ReadsUpTo, Writes, WritesPrefix};
-ghost use Rattle.thread_scripts.specs.Outputs.{output_text};
-ghost use Rattle.thread_scripts.specs.Plans.{PlanValue, plan_in};
+ghost use Rattle.thread_scripts.specs.Outputs.{PlaysTo};
+ghost use Rattle.thread_scripts.specs.Plans.{plan_in};
 
-use crate::nodes::run_nodes;
+use crate::output::output_of;
+use crate::played::play;
 use crate::reading::read_plan;
 use scripts::{MOST_BYTES, ScriptFault, Watched, read_script, write_text};
-use std::alloc::{AllocError, Global};
+use std::alloc::Global;
 use std::io::{Read, Write};
 use std::sync::Wait;
 use std::thread::Threads;
 
-fn output(alloc: Global, blocks: usize, calls: u64) -> Result<String, AllocError>
-    ensures { IfOk result (λ text. string_bytes text ≡ output_text blocks calls) }
-{
-    let mut text = String::new(alloc);
-    writeln!(text, "workers {blocks}")?;
-    writeln!(text, "calls {calls}")?;
-    Ok(text)
-}
-
-/// Runs the script of threads that a reader gives, and writes how many workers there were and how many
-/// calls were accepted.
+/// Runs the script of threads that a reader gives, and writes how many workers there were, how many
+/// calls were accepted, and what an audit says of them.
 ///
 /// Before anything is called, the whole script is read. The calls have been made before the first byte
 /// is written.
@@ -38,17 +30,14 @@ pub fn run_threads<R: Threads + Wait + Sync, I: Read, O: Write>(
     requires reader { has_failed reader.old ≡ false }
     requires writer { has_failed writer.old ≡ false }
 
-    // The script has a plan, and what is written is how many blocks the plan has, and some number of
-    // calls.
+    // The script has a plan, and its whole output is written: of some traces and receipts.
     ensures ok { OnOk result (IfInput I.remaining reader.old (λ input.
-        (plan : PlanValue) × (calls : ℕ) × (plan_in input ≡ Ok plan)
-        × Writes O.contents writer.old writer.new (output_text (length plan.blocks) calls))) }
+        PlaysTo input (Writes O.contents writer.old writer.new))) }
     // All that was written is flushed.
     ensures flushed { OnOk result (has_unflushed writer.new ≡ false) }
     // Where a write failed, a prefix of it.
     ensures prefix { result ≡ Err WriteFailed → IfInput I.remaining reader.old (λ input.
-        (plan : PlanValue) × (calls : ℕ) × (plan_in input ≡ Ok plan)
-        × WritesPrefix O.contents writer.old writer.new (output_text (length plan.blocks) calls)) }
+        PlaysTo input (WritesPrefix O.contents writer.old writer.new)) }
     // After any other fault the writer is as it was.
     ensures unwritten { IfErr result (λ fault. fault ≢ WriteFailed → writer.new ≡ writer.old) }
 
@@ -67,7 +56,7 @@ pub fn run_threads<R: Threads + Wait + Sync, I: Read, O: Write>(
 {
     let script = read_script(alloc, reader)?;
     let plan = read_plan(alloc, script.as_slice())?;
-    let calls = run_nodes(rt, alloc, &plan)?;
-    let text = output(alloc, plan.blocks.len(), calls)?;
+    let played = play(rt, alloc, &plan)?;
+    let text = output_of(alloc, &plan, &played)?;
     write_text(writer, text.as_bytes())
 }

@@ -94,6 +94,7 @@ fn after_empty(line: Line<'_>) -> Option<Stage<'_>>
         Line::Nodes { .. }
         | Line::Seed(_)
         | Line::Start { .. }
+        | Line::Gossip { .. }
         | Line::Worker { .. }
         | Line::Calls { .. } => None,
     }
@@ -108,9 +109,14 @@ fn after_sized(alloc: Global, size: Size, line: Line<'_>) -> Option<Stage<'_>>
             size,
             seed,
             starts: Vec::new(alloc),
+            gossip: None,
             blocks: Vec::new(alloc),
         })),
-        Line::Nodes { .. } | Line::Start { .. } | Line::Worker { .. } | Line::Calls { .. } => None,
+        Line::Nodes { .. }
+        | Line::Start { .. }
+        | Line::Gossip { .. }
+        | Line::Worker { .. }
+        | Line::Calls { .. } => None,
     }
 }
 
@@ -123,11 +129,18 @@ fn after_started<'a>(
         ≡ after_started (plan_value plan.entry) (line_value line.entry)) }
 {
     match line {
-        Line::Start { node, call } => {
-            if node >= plan.size.nodes {
+        Line::Start { node, start } => {
+            if node >= plan.size.nodes || plan.gossip.is_some() {
                 return Ok(None);
             }
-            plan.starts.push(StartLine { node, call })?;
+            plan.starts.push(StartLine { node, start })?;
+            Ok(Some(Stage::Started(plan)))
+        }
+        Line::Gossip { rounds } => {
+            if plan.gossip.is_some() {
+                return Ok(None);
+            }
+            plan.gossip = Some(rounds);
             Ok(Some(Stage::Started(plan)))
         }
         Line::Worker { node } => Ok(begin_block(alloc, plan, node)),
@@ -146,7 +159,7 @@ fn after_working<'a>(
     match line {
         Line::Worker { node } => Ok(begin_block(alloc, with_block(working)?, node)),
         Line::Calls { call, times } => add_calls(working, call, times),
-        Line::Nodes { .. } | Line::Seed(_) | Line::Start { .. } => Ok(None),
+        Line::Nodes { .. } | Line::Seed(_) | Line::Start { .. } | Line::Gossip { .. } => Ok(None),
     }
 }
 

@@ -1,25 +1,25 @@
-use Rattle.std.proofs.Common.{◌≡◌, ◌∙◌, length, map, arith}
-use Rattle.std.proofs.lemmas.List.{length-map}
+use Rattle.std.proofs.Common.{◌≡◌, sym}
 use Rattle.scripts.specs.Streams.{Writes, WritesPrefix}
 use Rattle.scripts.specs.Watched.{inner_of}
-use Rattle.thread_scripts.specs.Plans.{block_value, plan_value}
+use Rattle.thread_scripts.specs.Outputs.{IsOutput}
+use Rattle.thread_scripts.specs.Plans.{plan_value}
 use Rattle.thread_scripts.proofs.Runs.{reported, reported_on_ok}
 use Rattle.thread_scripts.proofs.run.run_threads.Goals as goal
 
 pub returns-clause-ok : goal.returns-clause-ok
 returns-clause-ok g c =
     let planned = rw c.as_slice.ensures.value at c.in_ok-plan.ensures.ok in
-    let counted : c.len.result ≡ length (map block_value c.in_ok-plan.plan.blocks.items) = simp length-map (omega arith) in
+    let printed = rw (← c.as_bytes.ensures.value) at c.in_ok-text.ensures in
     reported_on_ok (Writes g.O.Write.contents c.args.writer.now c.write_text.new.writer)
-    c.in_ok-script.script.items c.as_bytes.result.now (plan_value c.in_ok-plan.plan) c.len.result c.in_ok-calls.calls
-    c.write_text.result (g.I.Read.remaining (inner_of c.args.reader.now)) c.in_ok-script.ensures.ok planned counted
-    (c.as_bytes.ensures.value ∙ c.in_ok-text.ensures) c.write_text.ensures.ok
+    c.in_ok-script.script.items c.as_bytes.result.now (plan_value c.in_ok-plan.plan)
+    c.write_text.result (g.I.Read.remaining (inner_of c.args.reader.now)) c.in_ok-script.ensures.ok planned
+    printed c.write_text.ensures.ok
 
 pub returns-clause-prefix : goal.returns-clause-prefix
 returns-clause-prefix g c failed =
     let planned = rw c.as_slice.ensures.value at c.in_ok-plan.ensures.ok in
-    let counted : c.len.result ≡ length (map block_value c.in_ok-plan.plan.blocks.items) = simp length-map (omega arith) in
+    let printed = rw (← c.as_bytes.ensures.value) at c.in_ok-text.ensures in
     reported (WritesPrefix g.O.Write.contents c.args.writer.now c.write_text.new.writer)
-    c.in_ok-script.script.items c.as_bytes.result.now (plan_value c.in_ok-plan.plan) c.len.result c.in_ok-calls.calls
-    (g.I.Read.remaining (inner_of c.args.reader.now)) c.in_ok-script.ensures.ok planned counted
-    (c.as_bytes.ensures.value ∙ c.in_ok-text.ensures) c.write_text.ensures.prefix
+    c.in_ok-script.script.items c.as_bytes.result.now (plan_value c.in_ok-plan.plan)
+    (g.I.Read.remaining (inner_of c.args.reader.now)) c.in_ok-script.ensures.ok planned
+    printed c.write_text.ensures.prefix

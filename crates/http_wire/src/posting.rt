@@ -1,0 +1,129 @@
+//! One message to a server.
+
+ghost use Rattle.std.specs.Prelude.{◌≢◌, IfErr};
+
+use bytes::Bytes;
+use futures::future::join;
+use gossip::WireError;
+use http_body_util::Full;
+use hyper::client::conn::http1::handshake;
+use hyper::{Request, StatusCode, header};
+use std::alloc::{AllocGlobal, Global};
+use std::hash::RandomState;
+use std::io;
+use std::net::{Net, SocketAddr};
+use std::random::RandomSource;
+use std::sync::Wait;
+use std::time::{Clock, Duration, Instant};
+use tokio::net::TcpStream;
+use tokio::runtime::LocalRuntime;
+
+/// How many seconds a message may take, from the connection to the head of the reply.
+pub const POST_SECONDS: u64 = 2;
+
+// Want of memory by its name, and any other error as a call that failed.
+pub(crate) fn failed(error: io::Error) -> WireError
+    ensures { result ≢ WireError.NoPeer }
+{
+    if error.kind() == io::ErrorKind::OutOfMemory {
+        WireError::OutOfMemory
+    } else {
+        WireError::Failed
+    }
+}
+
+// A message as a request, of which the message is the body.
+fn request(alloc: Global, message: &[u8]) -> Result<Request<Full<Bytes>>, WireError>
+    ensures { IfErr result (λ e. e ≢ WireError.NoPeer) }
+{
+    let body = Full::new(Bytes::copy_from_slice(alloc, message)?);
+    let request = Request::post(alloc, "/gossip")
+        .header(header::HOST, "127.0.0.1")
+        .body(body);
+    match request {
+        Ok(request) => Ok(request),
+        Err(_) => Err(WireError::Failed),
+    }
+}
+
+// A connection to a port of this machine.
+fn connected<R>(
+    rt: &R,
+    runtime: &mut LocalRuntime,
+    port: u16,
+    deadline: Instant,
+) -> Result<TcpStream, WireError>
+where
+    R: Wait + Clock + Net + RandomSource + AllocGlobal,
+    ensures { IfErr result (λ e. e ≢ WireError.NoPeer) }
+{
+    let address = SocketAddr::from(([127, 0, 0, 1], port));
+    let connecting = TcpStream::connect(rt, address, runtime.handle().reactor());
+    let connecting = runtime.handle().time().timeout_at(deadline, connecting)?;
+    match runtime.block_on(rt, connecting).map_err(failed)? {
+        Ok(socket) => socket.map_err(failed),
+        Err(_elapsed) => Err(WireError::Failed),
+    }
+}
+
+// Sends a request over a connection, and waits for the reply's status.
+fn answered<R>(
+    rt: &R,
+    alloc: Global,
+    runtime: &mut LocalRuntime,
+    socket: TcpStream,
+    request: Request<Full<Bytes>>,
+    deadline: Instant,
+) -> Result<StatusCode, WireError>
+where
+    R: Wait + Clock + Net + RandomSource + AllocGlobal,
+    ensures { IfErr result (λ e. e ≢ WireError.NoPeer) }
+{
+    let keys = RandomState::new(rt).map_err(failed)?;
+    let Ok((mut sender, connection)) = handshake(alloc, keys, socket) else {
+        return Err(WireError::Failed);
+    };
+    let reply = sender.send_request(request);
+    drop(sender);
+    let both = runtime
+        .handle()
+        .time()
+        .timeout_at(deadline, join(reply, connection))?;
+    match runtime.block_on(rt, both).map_err(failed)? {
+        Ok(ended) => {
+            let (reply, _connection) = ended;
+            match reply {
+                Ok(reply) => Ok(reply.status()),
+                Err(_) => Err(WireError::Failed),
+            }
+        }
+        Err(_elapsed) => Err(WireError::Failed),
+    }
+}
+
+/// Posts a message to the server on a port of this machine, over a connection of its own. Any reply but
+/// 200, and none within `POST_SECONDS`, is a failure.
+pub(crate) fn post<R>(
+    rt: &R,
+    alloc: Global,
+    runtime: &mut LocalRuntime,
+    port: u16,
+    message: &[u8],
+) -> Result<(), WireError>
+where
+    R: Wait + Clock + Net + RandomSource + AllocGlobal,
+    ensures { IfErr result (λ e. e ≢ WireError.NoPeer) }
+{
+    let now = Instant::now(rt).map_err(failed)?;
+    let Some(deadline) = now.checked_add(Duration::from_secs(POST_SECONDS)) else {
+        return Err(WireError::Failed);
+    };
+    let request = request(alloc, message)?;
+    let socket = connected(rt, runtime, port, deadline)?;
+    let status = answered(rt, alloc, runtime, socket, request, deadline)?;
+    if status == StatusCode::OK {
+        Ok(())
+    } else {
+        Err(WireError::Failed)
+    }
+}

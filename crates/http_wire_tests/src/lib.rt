@@ -1,0 +1,5 @@
+//! What is tested of a wire over HTTP.
+#![tactic(auto)]
+
+#[cfg(test)]
+mod tests;

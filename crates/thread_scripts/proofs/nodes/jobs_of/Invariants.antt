@@ -1,9 +1,0 @@
-use Rattle.std.proofs.Common.{◌≡◌, ◌+◌, ◌<◌, ◌^◌, vec_len}
-use Rattle.std.specs.Prelude.{All}
-use Rattle.thread_scripts.proofs.nodes.jobs_of.Given as goal
-
-abbrev pub invariant-loop-block : goal.invariant-loop-block
-invariant-loop-block g l = record {
-  len : vec_len l.jobs + vec_len l.seats ≡ vec_len l.fn.seats;
-  few : All (λ j. vec_len j.asks < 2 ^ 32) l.jobs.items;
-}

@@ -1,0 +1,8 @@
+use Rattle.std.proofs.Common.{◌≡◌, ◌≤◌, vec_len, vec_capacity}
+use Rattle.thread_scripts.proofs.played.jobs_of.Given as goal
+
+abbrev pub invariant-loop-node : goal.invariant-loop-node
+invariant-loop-node l = record {
+  len : vec_len l.jobs ≡ l.node;
+  room : l.nodes ≤ vec_capacity l.jobs;
+}

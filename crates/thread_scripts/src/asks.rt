@@ -1,0 +1,85 @@
+//! What workers ask.
+
+ghost use Rattle.std.specs.Prelude.{◌≡◌, ◌+◌, ◌<◌, ◌^◌, vec_len, All, IfOk, OnOk};
+
+use crate::call::ask_of;
+use crate::plan::{Block, CallLine};
+use node_core::Ask;
+use node_registry::{Job, Label, Registry, Seat};
+use std::alloc::{AllocError, Global};
+
+// What a line asks, so many times.
+fn push_asks(alloc: Global, line: &CallLine<'_>, asks: &mut Vec<Ask>) -> Result<(), AllocError>
+    ensures { OnOk result (vec_len asks.new ≡ vec_len asks.old + line.now.times) }
+{
+    for _time in 0..line.times {
+        asks.push(ask_of(alloc, &line.call)?)?;
+    }
+    Ok(())
+}
+
+// What a block asks, each line as often as it says.
+fn asks_of(alloc: Global, block: &Block<'_>) -> Result<Vec<Ask>, AllocError>
+    ensures all { IfOk result (λ asks. vec_len asks ≡ block.now.calls) }
+    ensures few { IfOk result (λ asks. vec_len asks < 2 ^ 32) }
+{
+    let mut asks = Vec::with_capacity(alloc, block.calls as usize)?;
+    for line in &block.lines {
+        push_asks(alloc, line, &mut asks)?;
+    }
+    Ok(asks)
+}
+
+// Puts a job for a block of the node, with the last seat.
+fn push_job<'a, L: Label>(
+    alloc: Global,
+    registry: &'a Registry<L>,
+    block: &Block<'_>,
+    node: u8,
+    seats: &mut Vec<Seat<L>>,
+    jobs: &mut Vec<Job<'a, L>>,
+) -> Result<(), AllocError>
+    requires few { All (λ j. vec_len j.asks < 2 ^ 32) jobs.old.items }
+    requires fresh { All (λ j. j.seat ≡ 0) jobs.old.items }
+    requires fresh_seats { All (λ calls. calls ≡ 0) seats.old.items }
+    ensures len { OnOk result
+        (vec_len jobs.new + vec_len seats.new ≡ vec_len jobs.old + vec_len seats.old) }
+    ensures few { OnOk result (All (λ j. vec_len j.asks < 2 ^ 32) jobs.new.items) }
+    ensures fresh { OnOk result (All (λ j. j.seat ≡ 0) jobs.new.items) }
+    ensures fresh_seats { OnOk result (All (λ calls. calls ≡ 0) seats.new.items) }
+{
+    if block.node != node {
+        return Ok(());
+    }
+    let Some(seat) = seats.pop() else {
+        return Ok(());
+    };
+    let asks = asks_of(alloc, block)?;
+    jobs.push(Job {
+        registry,
+        seat,
+        asks,
+    })?;
+    Ok(())
+}
+
+/// A job for each block of a node, and the seats that are left.
+pub(crate) fn jobs_of<'a, L: Label>(
+    alloc: Global,
+    registry: &'a Registry<L>,
+    mut seats: Vec<Seat<L>>,
+    blocks: &[Block<'_>],
+    node: u8,
+) -> Result<(Vec<Job<'a, L>>, Vec<Seat<L>>), AllocError>
+    requires { All (λ calls. calls ≡ 0) seats.items }
+    ensures len { IfOk result (λ r. vec_len r.0 + vec_len r.1 ≡ vec_len seats) }
+    ensures few { IfOk result (λ r. All (λ j. vec_len j.asks < 2 ^ 32) r.0.items) }
+    ensures fresh { IfOk result (λ r. All (λ j. j.seat ≡ 0) r.0.items) }
+    ensures fresh_seats { IfOk result (λ r. All (λ calls. calls ≡ 0) r.1.items) }
+{
+    let mut jobs = Vec::new(alloc);
+    for block in blocks {
+        push_job(alloc, registry, block, node, &mut seats, &mut jobs)?;
+    }
+    Ok((jobs, seats))
+}

@@ -1,0 +1,156 @@
+//! Workers of a node, and its gossip beside them.
+
+ghost use Rattle.std.specs.Prelude.{◌≡◌, ◌≤◌, ◌<◌, ◌^◌, vec_len, All, IfOk};
+
+use gossip::{GossipReport, MailWire, gossip_rounds};
+use node_registry::{Done, Gate, Job, Label, Registry, Seat, run_workers};
+use std::alloc::{AllocError, Global};
+use std::sync::Wait;
+use std::sync::atomic::{AtomicBool, Ordering};
+use std::thread;
+use std::thread::{Scope, Threads};
+
+// A gate that is always open.
+#[derive(Drop)]
+struct Open;
+
+impl Gate for Open {
+    fn turn(&self, _worker: u16, _index: u32) -> bool {
+        true
+    }
+
+    fn answered(&self, _worker: u16, _index: u32) {}
+}
+
+/// The gossip of a node: so many rounds over its wire.
+#[derive(Drop)]
+pub(crate) struct Gossip {
+    pub wire: MailWire,
+    pub rounds: u32,
+}
+
+/// What a node's gossip came to, all of which was done from one seat.
+#[derive(Drop)]
+pub(crate) struct Gossiped<L: Label> {
+    pub seat: Seat<L>,
+    pub report: GossipReport,
+    ghost counted: { seat ≡ vec_len report.receipts },
+}
+
+/// What workers and gossip came to beside each other.
+#[derive(Drop)]
+pub(crate) struct Both<L: Label> {
+    pub dones: Vec<Done<L>>,
+    pub gossiped: Gossiped<L>,
+}
+
+// What the gossip's thread runs. Where it couldn't start, no round is done.
+fn do_gossip<L: Label, R: Wait>(
+    rt: &R,
+    alloc: Global,
+    registry: &Registry<L>,
+    refused: &AtomicBool,
+    mut seat: Seat<L>,
+    gossip: Gossip,
+) -> Gossiped<L>
+    requires { seat ≡ 0 }
+{
+    let Gossip { mut wire, rounds } = gossip;
+    let rounds = if refused.load(Ordering::SeqCst) {
+        0
+    } else {
+        rounds
+    };
+    let report = gossip_rounds(rt, alloc, registry, &mut seat, &mut wire, rounds);
+    Gossiped { seat, report }
+}
+
+/// Makes the calls of workers, each in a thread of its own.
+pub(crate) fn work<L: Label + Send + Sync, R: Threads + Wait + Sync>(
+    rt: &R,
+    alloc: Global,
+    jobs: Vec<Job<'_, L>>,
+) -> Result<Vec<Done<L>>, AllocError>
+    requires number { vec_len jobs ≤ 65536 }
+    requires few { All (λ j. vec_len j.asks < 2 ^ 32) jobs.items }
+    requires fresh { All (λ j. j.seat ≡ 0) jobs.items }
+    ensures len { IfOk result (λ dones. vec_len dones ≡ vec_len jobs.entry) }
+    ensures counted { IfOk result (λ dones. All (λ d. d.seat ≡ vec_len d.receipts) dones.items) }
+{
+    match run_workers(rt, alloc, jobs, &Open) {
+        Ok(dones) => Ok(dones),
+        Err(_) => Err(AllocError),
+    }
+}
+
+// A node's gossip and its workers, none of which has called yet.
+#[derive(Drop)]
+struct Crew<'a, L: Label> {
+    seat: Seat<L>,
+    gossip: Gossip,
+    jobs: Vec<Job<'a, L>>,
+    ghost fresh_seat: { seat ≡ 0 },
+    ghost number: { vec_len jobs ≤ 65536 },
+    ghost few: { All (λ j. vec_len j.asks < 2 ^ 32) jobs.items },
+    ghost fresh: { All (λ j. j.seat ≡ 0) jobs.items },
+}
+
+// Lets all of them call beside each other.
+fn work_in<'s, E, L: Label + Send + Sync + 's, R: Threads + Wait + Sync>(
+    scope: &Scope<'s, E>,
+    rt: &'s R,
+    alloc: Global,
+    registry: &'s Registry<L>,
+    refused: &'s AtomicBool,
+    crew: Crew<'s, L>,
+) -> Result<Both<L>, AllocError>
+    ensures len { IfOk result (λ both. vec_len both.dones ≡ vec_len crew.entry.jobs) }
+    ensures counted { IfOk result (λ both.
+        All (λ d. d.seat ≡ vec_len d.receipts) both.dones.items) }
+{
+    let Crew { seat, gossip, jobs } = crew;
+    let gossiping = scope.spawn(move || do_gossip(rt, alloc, registry, refused, seat, gossip));
+    let dones = work(rt, alloc, jobs);
+    let gossiped = match gossiping {
+        Ok(thread) => thread.join(rt),
+        Err(back) => {
+            refused.store(true, Ordering::SeqCst);
+            (back.value)()
+        }
+    };
+    Ok(Both {
+        dones: dones?,
+        gossiped,
+    })
+}
+
+/// Makes the calls of workers, each in a thread of its own, and does the node's gossip in another one.
+pub(crate) fn work_and_gossip<L: Label + Send + Sync, R: Threads + Wait + Sync>(
+    rt: &R,
+    alloc: Global,
+    registry: &Registry<L>,
+    seat: Seat<L>,
+    gossip: Gossip,
+    jobs: Vec<Job<'_, L>>,
+) -> Result<Both<L>, AllocError>
+    requires seat { seat ≡ 0 }
+    requires number { vec_len jobs ≤ 65536 }
+    requires few { All (λ j. vec_len j.asks < 2 ^ 32) jobs.items }
+    requires fresh { All (λ j. j.seat ≡ 0) jobs.items }
+    ensures len { IfOk result (λ both. vec_len both.dones ≡ vec_len jobs.entry) }
+    ensures counted { IfOk result (λ both.
+        All (λ d. d.seat ≡ vec_len d.receipts) both.dones.items) }
+{
+    let crew = Crew { seat, gossip, jobs };
+    let refused = AtomicBool::new(false);
+    let refused = &refused;
+    thread::scope(
+        thread::scope_env(),
+        rt,
+        |scope| -> Result<Both<L>, AllocError>
+            ensures len { IfOk result (λ both. vec_len both.dones ≡ vec_len crew.entry.jobs) }
+            ensures counted { IfOk result (λ both.
+                All (λ d. d.seat ≡ vec_len d.receipts) both.dones.items) }
+        { work_in(scope, rt, alloc, registry, refused, crew) },
+    )
+}

@@ -1,0 +1,99 @@
+//! Seats that are done.
+
+ghost use Rattle.std.specs.Prelude.{◌≡◌, ◌+◌, [], sum, vec_len, All, IfOk};
+ghost use Rattle.std.specs.List.{sum_by};
+
+use crate::beside::Gossiped;
+use gossip::Ended;
+use node_core::{NodeFault, Receipt};
+use node_registry::{Done, Label, Seat};
+use std::alloc::{AllocError, Global};
+
+/// The seats of a node that are done, and of each the receipts of its calls, in their order.
+#[derive(Drop)]
+pub(crate) struct Finished<L: Label> {
+    pub seats: Vec<Seat<L>>,
+    pub lists: Vec<Vec<Receipt>>,
+    ghost each: { vec_len lists ≡ vec_len seats },
+    ghost counted: { sum seats.items ≡ sum_by (λ list. vec_len list) lists.items },
+}
+
+impl<L: Label> Finished<L> {
+    pub(crate) fn new(alloc: Global) -> Finished<L>
+        ensures { vec_len result.seats ≡ 0 }
+    {
+        Finished {
+            seats: Vec::new(alloc),
+            lists: Vec::new(alloc),
+        }
+    }
+
+    /// With one seat more, and all receipts of its calls.
+    pub(crate) fn with(
+        self,
+        seat: Seat<L>,
+        receipts: Vec<Receipt>,
+    ) -> Result<Finished<L>, AllocError>
+        requires { seat ≡ vec_len receipts }
+        ensures { IfOk result (λ all. vec_len all.seats ≡ vec_len self.seats + 1) }
+    {
+        let Finished {
+            mut seats,
+            mut lists,
+        } = self;
+        seats.push(seat)?;
+        lists.push(receipts)?;
+        Ok(Finished { seats, lists })
+    }
+
+    /// With the seats of workers that are done, where none was refused memory.
+    pub(crate) fn with_workers(self, dones: Vec<Done<L>>) -> Result<Finished<L>, AllocError>
+        requires { All (λ d. d.seat ≡ vec_len d.receipts) dones.items }
+        ensures { IfOk result (λ all. vec_len all.seats ≡ vec_len self.seats + vec_len dones) }
+    {
+        let mut finished = self;
+        for done in dones {
+            let Done {
+                seat,
+                started: _,
+                receipts,
+                faults,
+            } = done;
+            if faults
+                .iter()
+                .any(|(_, fault)| *fault == NodeFault::OutOfMemory)
+            {
+                return Err(AllocError);
+            }
+            finished = finished.with(seat, receipts)?;
+        }
+        Ok(finished)
+    }
+
+    /// With the seat of a node's gossip, where memory wasn't refused.
+    pub(crate) fn with_gossip(self, gossiped: Gossiped<L>) -> Result<Finished<L>, AllocError>
+        ensures { IfOk result (λ all. vec_len all.seats ≡ vec_len self.seats + 1) }
+    {
+        let Gossiped { seat, report } = gossiped;
+        if report.ended == Ended::OutOfMemory {
+            return Err(AllocError);
+        }
+        self.with(seat, report.receipts)
+    }
+
+    /// With seats that made no call.
+    pub(crate) fn with_idle(
+        self,
+        alloc: Global,
+        seats: Vec<Seat<L>>,
+    ) -> Result<Finished<L>, AllocError>
+        requires { All (λ calls. calls ≡ 0) seats.items }
+        ensures { IfOk result (λ all. vec_len all.seats ≡ vec_len self.seats + vec_len seats) }
+    {
+        let mut finished = self;
+        for seat in seats {
+            finished = finished.with(seat, Vec::new(alloc))?;
+        }
+        Ok(finished)
+    }
+}

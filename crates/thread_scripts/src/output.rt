@@ -1,0 +1,33 @@
+//! What a run prints.
+
+ghost use Rattle.std.specs.Prelude.{◌≡◌, vec_len, IfOk, string_bytes};
+ghost use Rattle.thread_scripts.specs.Outputs.{IsOutput};
+ghost use Rattle.thread_scripts.specs.Plans.{plan_value};
+
+use crate::plan::ThreadPlan;
+use crate::played::Played;
+use audit::{AuditFault, audit, verdict_text};
+use std::alloc::{AllocError, Global};
+use std::fmt::Write;
+
+/// What a plan that was played prints: its workers, the accepted calls, and the audit of its traces
+/// and receipts.
+pub fn output_of(
+    alloc: Global,
+    plan: &ThreadPlan<'_>,
+    played: &Played,
+) -> Result<String, AllocError>
+    requires { vec_len played.now.traces ≡ plan.now.size.nodes }
+    ensures { IfOk result (λ text. IsOutput (plan_value plan.now) (string_bytes text)) }
+{
+    let verdict = audit(alloc, plan.size.nodes, &played.traces, &played.lists);
+    if let Err(AuditFault::OutOfMemory) = verdict {
+        return Err(AllocError);
+    }
+    let verdict = verdict_text(alloc, &verdict)?;
+    let mut text = String::new(alloc);
+    writeln!(text, "workers {}", plan.blocks.len())?;
+    writeln!(text, "calls {}", played.calls())?;
+    text.push_str(&verdict)?;
+    Ok(text)
+}
