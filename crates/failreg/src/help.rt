@@ -97,7 +97,14 @@ order:
                                       load <node> <entries>,
                                       shift <node> <name> <term> <to> <amount>
                                       or grant <node> <name> <term> <amount>,
-                                      as in a script of `failreg sim`
+                                      as in a script of `failreg sim`; or it is
+                                      spread <node> <name>: the node gives each
+                                      other one an equal share of its rights to
+                                      each counted term
+  gossip <rounds>                     once at most: beside the workers each
+                                      node does so many rounds, in which it
+                                      tells every other node what it knows and
+                                      takes in what came
   worker <node>                       the lines up to the next `worker` are
                                       calls of one worker of the node, made in
                                       their order in a thread of its own:
@@ -110,13 +117,17 @@ order:
                                       at most
 Any number of `start` lines and of workers may stand there, up to 250 workers a
 node. All workers run beside each other, and those of one node take turns at
-it. The nodes tell each other nothing. Fields are separated by one space. Empty
-lines and lines that begin with `#` are skipped.
+it. Without `gossip` the nodes tell each other nothing. Fields are separated by
+one space. Empty lines and lines that begin with `#` are skipped.
 
-In the end two lines are printed: `workers` with the number of workers, and
-`calls` with the number of calls that the nodes accepted, those of the `start`
-lines too. A call that a node refuses changes nothing and isn't counted. A
-thread that can't be started makes no calls.
+In the end it is printed: `workers` with the number of workers; `calls` with
+the number of calls that the nodes accepted, those of `start` lines and gossip
+too; and `audit yes`, where some order of all calls explains what each thread
+was told, or `audit no` and why not. After a yes a line `budget` for each
+setting of a counted term says how often the term ran on all nodes together,
+which is never more than its count and what was granted. A call that a node
+refuses changes nothing and isn't counted. A thread that can't be started makes
+no calls.
 
 The status is 0. It is 1 where the script can't be read, is longer than
 16777216 bytes, or can't be answered, where memory is refused, and where a line
@@ -126,9 +137,11 @@ ones; where the seed is missing, it is the one behind the last. The reason
 stands on standard error.
 
 Example:
-  $ printf 'nodes 1 9\\nseed %064d\\nworker 0\\nset a off\\nworker 0\\npass b 4\\n' 0 | failreg threads
-  workers 2
-  calls 5";
+  $ printf 'nodes 1 9\\nseed %064d\\nstart set 0 a 2*off\\nworker 0\\npass a 4\\n' 0 | failreg threads
+  workers 1
+  calls 5
+  audit yes
+  budget a 1.0 0 count=2 executed=2";
 
 /// Behind the help of `serve`.
 pub const SERVE_HELP: &str = "\
