@@ -72,17 +72,10 @@ where
     for _ in 0..silent {
         sockets.push(TcpStream::connect(rt, address)?)?;
     }
+    let (alloc, requests) = (rt.alloc(), silent + 2);
     let (served, answers) = thread::join(
         rt,
-        move || serve(
-            rt,
-            rt.alloc(),
-            runtime,
-            registry,
-            seat,
-            listener,
-            silent + 2,
-        ),
+        move || serve(rt, alloc, runtime, registry, seat, listener, requests),
         move || (status(rt, address, SET), status(rt, address, NOWHERE)),
     );
     drop(sockets);
