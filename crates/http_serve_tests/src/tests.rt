@@ -1,7 +1,7 @@
 //! What no contract says: that requests over loopback are answered, and that a client which sends
 //! nothing holds up nobody else.
 
-ghost use Rattle.std.specs.Prelude.{◌≡◌};
+ghost use Rattle.std.specs.Prelude.{◌≡◌, ◌<◌};
 
 use http_serve::{ServeFault, serve};
 use node_core::Config;
