@@ -1,12 +1,13 @@
 -- What a script of threads prints.
-use Rattle.std.specs.Prelude.{◌≡◌, ◌≢◌, ℕ, List, length, ◌++◌, codes, decimal, vec_len, Result, Ok, Err}
+use Rattle.std.specs.Prelude.{◌≡◌, ◌≢◌, ℕ, List, length, ◌++◌, codes, decimal, vec_len, IfOk, Result, Ok, Err}
 use Rattle.std.specs.List.{sum_by}
 use Rattle.audit.specs.declared.auditing.AuditYes.{AuditYes}
 use Rattle.audit.specs.declared.fault.AuditFault.{AuditFault}
 use Rattle.audit.specs.declared.fault.AuditFault.TheVariants.{OutOfMemory}
-use Rattle.audit.specs.Answers.{IsAudited}
+use Rattle.audit.specs.Answers.{IsAudited, events_in}
 use Rattle.audit.specs.Receipts.{Lists}
-use Rattle.audit.specs.Traces.{Traces}
+use Rattle.audit.specs.Totals.{AreTotals}
+use Rattle.audit.specs.Traces.{Traces, audited}
 use Rattle.audit.specs.VerdictText.{verdict_text}
 use Rattle.scripts.specs.Replies.{output_line}
 use Rattle.thread_scripts.specs.Plans.{PlanValue, plan_in}
@@ -25,14 +26,17 @@ abbrev pub receipts_in : Lists → ℕ
 receipts_in lists = sum_by (λ list. vec_len list) lists
 
 -- What a plan prints: it came to some traces, one for each node, and to as many receipts as these have entries. Those
--- are the calls, and the verdict is that of an audit of these traces and receipts.
+-- are the calls, and the verdict is that of an audit of these traces and receipts; after a yes its totals are those of
+-- the schedule that the audit found.
 pub record IsOutput (plan : PlanValue) (text : List ℕ) : Type 0 where
   pub traces : Traces
   pub lists : Lists
   pub verdict : Result AuditYes AuditFault
   pub each : length traces ≡ plan.nodes
   pub counted : receipts_in lists ≡ entries_in traces
-  pub audited : IsAudited plan.nodes traces lists verdict
+  pub judged : IsAudited plan.nodes traces lists verdict
+  pub totals : IfOk verdict (λ yes.
+      AreTotals (audited plan.nodes) (events_in plan.nodes traces yes.order.items) yes.totals.items)
   pub ended : verdict ≢ Err OutOfMemory
   pub printed : text ≡ output_text (length plan.blocks) (entries_in traces) verdict
 
