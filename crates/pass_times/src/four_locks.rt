@@ -59,7 +59,7 @@ impl<L: Label> Site<L> {
 }
 
 /// When the passes of four registries are made by a thread for each.
-pub fn by_four_nodes<
+pub(crate) fn by_four_nodes<
     A: Label + Send + Sync,
     B: Label + Send + Sync,
     C: Label + Send + Sync,

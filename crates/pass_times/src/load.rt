@@ -3,13 +3,13 @@
 use node_core::Config;
 
 /// The point that is passed.
-pub const POINT: &str = "p";
+pub(crate) const POINT: &str = "p";
 
 /// The seed of each registry.
-pub const SEED: [u8; 32] = [7; 32];
+pub(crate) const SEED: [u8; 32] = [7; 32];
 
 /// A node of a cluster of four, which accepts any number of calls.
-pub fn config_of(node: u8) -> Config {
+pub(crate) fn config_of(node: u8) -> Config {
     Config {
         node,
         nodes: 4,
@@ -19,7 +19,7 @@ pub fn config_of(node: u8) -> Config {
 
 /// Which term the point has.
 #[derive(Clone, Copy, PartialEq, Eq)]
-pub enum Term {
+pub(crate) enum Term {
     Uncounted,
     Counted,
     Chance,
@@ -27,7 +27,7 @@ pub enum Term {
 
 impl Term {
     /// The actions of the point.
-    pub fn text(self) -> &'static str {
+    pub(crate) fn text(self) -> &'static str {
         match self {
             Term::Uncounted => "print(x)",
             Term::Counted => "4000000000*print(x)",
@@ -39,15 +39,15 @@ impl Term {
 /// So many passes of a point with such a term, and whether what they answer is kept until all of them
 /// are made, or dropped at once.
 #[derive(Clone, Copy)]
-pub struct Load {
-    pub term: Term,
-    pub passes: u32,
-    pub keeps: bool,
+pub(crate) struct Load {
+    pub(crate) term: Term,
+    pub(crate) passes: u32,
+    pub(crate) keeps: bool,
 }
 
 impl Load {
     /// What the thread of this number makes, of four.
-    pub fn quarter(self, thread: u8) -> Load {
+    pub(crate) fn quarter(self, thread: u8) -> Load {
         let passes = ((u64::from(self.passes) + u64::from(thread % 4)) / 4) as u32;
         Load { passes, ..self }
     }
@@ -63,7 +63,7 @@ fn term_of(word: &str) -> Option<Term> {
 }
 
 /// The load that the words say, if they do.
-pub fn load_of(term: &str, passes: &str, answers: &str) -> Option<Load> {
+pub(crate) fn load_of(term: &str, passes: &str, answers: &str) -> Option<Load> {
     let term = term_of(term)?;
     let passes = passes.parse::<u32>().ok()?;
     let keeps = match answers {

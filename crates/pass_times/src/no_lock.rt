@@ -26,7 +26,7 @@ fn pass_often(alloc: Global, node: &mut NodeCore, load: Load) -> Result<Vec<Pass
 }
 
 /// When the passes of a `NodeCore` are made.
-pub fn by_node<R: AllocGlobal + Clock>(rt: &R, load: Load) -> anyhow::Result<Span> {
+pub(crate) fn by_node<R: AllocGlobal + Clock>(rt: &R, load: Load) -> anyhow::Result<Span> {
     let alloc = rt.alloc();
     let mut node = NodeCore::new(alloc, config_of(0))?;
     node.set(alloc, POINT, load.term.text())?;

@@ -14,7 +14,7 @@ use std::thread::Threads;
 use std::time::{Clock, Instant};
 
 /// Passes the point from a seat, and answers the receipts that are to be kept.
-pub fn pass_often<L: Label, R: Wait>(
+pub(crate) fn pass_often<L: Label, R: Wait>(
     rt: &R,
     alloc: Global,
     registry: &Registry<L>,
@@ -47,7 +47,7 @@ fn time_one<L: Label, R: AllocGlobal + Clock + Wait>(
 }
 
 /// When the passes of a registry are made by one thread.
-pub fn by_one_thread<L: Label, R: AllocGlobal + Clock + Wait>(
+pub(crate) fn by_one_thread<L: Label, R: AllocGlobal + Clock + Wait>(
     rt: &R,
     blank: Blank,
     config: Config,
@@ -111,7 +111,7 @@ fn time_four<L: Label + Send + Sync, R: AllocGlobal + Clock + Threads + Wait + S
 }
 
 /// When the passes of a registry are made by four threads at once.
-pub fn by_four_threads<L: Label + Send + Sync, R: AllocGlobal + Clock + Threads + Wait + Sync>(
+pub(crate) fn by_four_threads<L: Label + Send + Sync, R: AllocGlobal + Clock + Threads + Wait + Sync>(
     rt: &R,
     blank: Blank,
     config: Config,

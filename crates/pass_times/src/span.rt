@@ -4,13 +4,13 @@ use std::time::Instant;
 
 /// From when to when passes were made.
 #[derive(Clone, Copy)]
-pub struct Span {
-    pub start: Instant,
-    pub end: Instant,
+pub(crate) struct Span {
+    pub(crate) start: Instant,
+    pub(crate) end: Instant,
 }
 
 impl Span {
-    pub fn nanoseconds(self) -> u128 {
+    pub(crate) fn nanoseconds(self) -> u128 {
         self.end.duration_since(self.start).as_nanos()
     }
 }
