@@ -111,12 +111,10 @@ fn time_four<L: Label + Send + Sync, R: AllocGlobal + Clock + Threads + Wait + S
 }
 
 /// When the passes of a registry are made by four threads at once.
-pub(crate) fn by_four_threads<L: Label + Send + Sync, R: AllocGlobal + Clock + Threads + Wait + Sync>(
-    rt: &R,
-    blank: Blank,
-    config: Config,
-    load: Load,
-) -> anyhow::Result<Span>
+pub(crate) fn by_four_threads<
+    L: Label + Send + Sync,
+    R: AllocGlobal + Clock + Threads + Wait + Sync,
+>(rt: &R, blank: Blank, config: Config, load: Load) -> anyhow::Result<Span>
     requires name { blank.name ≡ L.name }
     requires parts { (blank.parts ≡ L.parts) × (L.parts ≡ 4) }
     requires config { config ≡ L.config }
