@@ -18,11 +18,10 @@ impl Acts {
     /// Counts an answer.
     pub fn note(&mut self, receipt: &Receipt) {
         if let Reply::Pass(PassReply::Act { term, .. }) = &receipt.entry.reply {
-            let count = match self.counted.get_mut(usize::from(*term)) {
-                Some(count) => count,
-                None => &mut self.others,
-            };
-            *count = count.saturating_add(1);
+            match self.counted.get_mut(usize::from(*term)) {
+                Some(count) => *count = count.saturating_add(1),
+                None => self.others = self.others.saturating_add(1),
+            }
         }
     }
 

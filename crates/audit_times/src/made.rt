@@ -89,8 +89,8 @@ fn run_node<R: Wait>(
 /// Makes the calls of each node, through a registry of its own.
 pub fn make<R: Wait>(rt: &R, alloc: Global, asks: &[Vec<Ask>]) -> Result<Made, NodeFault> {
     let mut made = Made::new(alloc);
-    for (node, asks) in asks.iter().enumerate() {
-        let (trace, receipts) = run_node(rt, alloc, node as u8, asks)?;
+    for (node, asks) in (0..NODES).zip(asks.iter()) {
+        let (trace, receipts) = run_node(rt, alloc, node, asks)?;
         made.traces.push(trace)?;
         made.lists.push(receipts)?;
     }

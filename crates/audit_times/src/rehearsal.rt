@@ -1,6 +1,6 @@
 //! Nodes without locks that find out what is asked in a drill, the bytes of its messages among it.
 
-use node_core::{Ask, Config, NodeCore, NodeFault, Reply};
+use node_core::{Ask, Config, Entry, NodeCore, NodeFault, Reply};
 use std::alloc::Global;
 
 /// A node of a cluster, which accepts any number of calls.
@@ -40,9 +40,13 @@ impl Rehearsal {
         let (Some(core), Some(asks)) = (self.nodes.get_mut(at), self.asks.get_mut(at)) else {
             return Ok(None);
         };
-        let entry = core.apply(alloc, &ask, &[])?;
+        let Entry {
+            ask: _,
+            words: _,
+            reply,
+        } = core.apply(alloc, &ask, &[])?;
         asks.push(ask)?;
-        match entry.reply {
+        match reply {
             Reply::Emit(message) => Ok(Some(message)),
             _ => Ok(None),
         }

@@ -104,9 +104,10 @@ fn run_node<R: Threads + Wait + Sync>(rt: &R, alloc: Global, job: Job) -> Result
     run_registry::<Brand, R>(rt, alloc, Blank::new(3), job)
 }
 
-// What the nodes do before their threads start: the first one sets the point and gives each other a
-// quarter of its rights.
-fn starts(alloc: Global, first: u64, second: u64) -> Result<Vec<Vec<Ask>>, NodeFault> {
+// What the nodes do before their threads start: the first one sets the point, with rights to three in
+// five passes, and gives each other a quarter of them.
+fn starts(alloc: Global, passes: u32) -> Result<Vec<Vec<Ask>>, NodeFault> {
+    let (first, second) = (u64::from(passes / 10), u64::from(passes / 20));
     let text = format!(in alloc; "{}*off->{}*print(x)->yield", first * 4, second * 4)?;
     let mut rehearsal = Rehearsal::new(alloc, NODES)?;
     rehearsal.ask(alloc, 0, set(alloc, &text)?)?;
@@ -128,13 +129,13 @@ fn starts(alloc: Global, first: u64, second: u64) -> Result<Vec<Vec<Ask>>, NodeF
     Ok(rehearsal.into_asks())
 }
 
-// The nodes' jobs, of so many passes in all. Three in five of them find a right.
+// The nodes' jobs, of so many passes in all.
 fn jobs(alloc: Global, passes: u32) -> Result<Vec<Job>, NodeFault> {
-    let asks = starts(alloc, u64::from(passes / 10), u64::from(passes / 20))?;
+    let asks = starts(alloc, passes)?;
     let mut jobs = Vec::new(alloc);
-    for (node, asks) in asks.into_iter().enumerate() {
+    for (node, asks) in (0..NODES).zip(asks) {
         jobs.push(Job {
-            config: config_of(node as u8, NODES),
+            config: config_of(node, NODES),
             asks,
             passes: passes / 8,
         })?;

@@ -145,7 +145,7 @@ impl Stage {
         if let Reply::Emit(message) = &entry.reply {
             self.messages.push(Vec::from_slice(alloc, message)?)?;
         }
-        let index = list.len() as u32;
+        let index = u32::try_from(list.len()).unwrap_or(u32::MAX);
         list.push(Receipt { node, index, entry })?;
         Ok(())
     }
