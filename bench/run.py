@@ -1,6 +1,6 @@
 #!/usr/bin/env python3
-"""Times scripts of passes, loads, shifts, grants and exchanges, work on maps, messages, and passes under locks. See README.md
-beside this file."""
+"""Times scripts of passes, loads, shifts, grants and exchanges, work on maps, messages, passes under locks, and audits. See
+README.md beside this file."""
 
 import os
 import subprocess
@@ -53,6 +53,11 @@ TIMES = 100
 WAYS = ("core", "registry", "threads", "nodes")
 TERMS = ("uncounted", "counted", "chance")
 CALLS = (400_000, 800_000)
+
+# Drills of 16 nodes that are audited, of so many entries: nodes that pass, and nodes that send messages round.
+DRILLS = ("passes", "forwards", "backwards")
+ENTRIES = (1_000_000, 2_000_000)
+ROUNDS_OF_DRILLS = 3
 
 
 def build(crate, *arguments):
@@ -322,6 +327,37 @@ def time_locks(program):
             )
 
 
+def made_and_audited(program, drill, entries, work):
+    """Nanoseconds by the clock in which the calls were made and in which they were audited, and the most memory in MiB."""
+    words = [program, drill, str(entries), work]
+    child = subprocess.Popen(words, stdout=subprocess.DEVNULL, stderr=subprocess.PIPE)
+    said = child.stderr.read()
+    _, status, usage = os.wait4(child.pid, 0)
+    child.returncode = os.waitstatus_to_exitcode(status)
+    if child.returncode != 0:
+        sys.exit(f"{words}: status {child.returncode}")
+    return *[int(line.split()[0]) for line in said.splitlines()], usage.ru_maxrss / 1024
+
+
+def time_audits(program):
+    """The sizes go in turn. `to make` is to the time in which one thread makes the calls, of as many entries."""
+    few, many = ENTRIES
+    print(
+        f"\n{'drill':<11}{'ns to make one':>16}{f'audit it, {few}':>20}{many:>9}{'ratio':>7}{'to make':>9}{many:>9}"
+        f"{'MiB of calls':>14}{'with audit':>12}"
+    )
+    for drill in DRILLS:
+        rounds = [
+            [made_and_audited(program, drill, count, "audit") for count in ENTRIES] for _ in range(ROUNDS_OF_DRILLS)
+        ]
+        (made, audited, memory), (made_twice, twice, _) = ([min(parts) for parts in zip(*runs)] for runs in zip(*rounds))
+        _, before = made_and_audited(program, drill, few, "make")
+        print(
+            f"{drill:<11}{made / few:>16.0f}{audited / few:>20.0f}{twice / many:>9.0f}{twice / audited:>7.2f}"
+            f"{audited / made:>9.2f}{twice / made_twice:>9.2f}{before:>14.0f}{memory:>12.0f}"
+        )
+
+
 def main():
     failreg = build("failreg", "--help")
     if len(sys.argv) > 1:
@@ -336,6 +372,7 @@ def main():
     for form in FORMS:
         time_messages(messages, form)
     time_locks(build("pass_times", "core", "uncounted", "1", "drop"))
+    time_audits(build("audit_times", "passes", "16", "audit"))
 
 
 if __name__ == "__main__":
