@@ -1,7 +1,10 @@
 -- The routes as the router has them.
-use Rattle.std.specs.Prelude.{ℕ, List, [], ◌∷◌, ◌++◌, codes}
+use Rattle.std.specs.Prelude.{◌≡◌, ℕ, List, [], ◌∷◌, ◌++◌, None, Result, Ok, Err, codes}
+use Rattle.matchit.specs.Order.{placed}
 use Rattle.matchit.specs.Rows.{RowsOf, param_token}
-use Rattle.matchit.specs.Router.{RouteOf}
+use Rattle.matchit.specs.Route.{Scan}
+use Rattle.matchit.specs.Router.{RouteOf, nearest, route_from}
+use Rattle.matchit.specs.declared.error.InsertError.{InsertError}
 use Rattle.http_paths.specs.declared.targets.Place.{Place}
 use Rattle.http_paths.specs.declared.targets.Place.TheVariants as places
 
@@ -30,3 +33,13 @@ route_rows =
     (codes "/shift/{name}/{term}/{to}/{amount}")
     ((8, 12) ∷ (15, 19) ∷ (22, 24) ∷ (27, 33) ∷ []) places.Shift
     ∷ []
+
+-- a route that can be read, and that none of these stands in the way of
+abbrev pub IsFree : Result Scan InsertError → RowsOf (RouteOf Place) → Type 0
+IsFree (Ok route) rows = nearest route.pattern rows ≡ None
+IsFree (Err fault) rows = ⊥
+
+-- these with one more, in its place
+abbrev pub with_route : Result Scan InsertError → Place → RowsOf (RouteOf Place) → RowsOf (RouteOf Place)
+with_route (Ok route) place rows = placed (route.pattern, route_from route place) rows
+with_route (Err fault) place rows = rows

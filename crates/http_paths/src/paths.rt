@@ -1,7 +1,8 @@
 //! Paths, chosen among the routes by `matchit`.
 
-ghost use Rattle.std.specs.Prelude.{◌≡◌, IfOk, option_map};
-ghost use Rattle.http_paths.specs.Rows.{route_rows};
+ghost use Rattle.std.specs.Prelude.{◌≡◌, IfOk, OnOk, option_map};
+ghost use Rattle.matchit.specs.Route.{parse_route};
+ghost use Rattle.http_paths.specs.Rows.{route_rows, with_route, IsFree};
 ghost use Rattle.http_paths.specs.Paths.{after_word, cut_of, grant_of, place_of, shift_of};
 ghost use Rattle.http_paths.specs.Paths.{target_of};
 ghost use Rattle.http_paths.specs.Targets.{target_value};
@@ -18,13 +19,11 @@ pub struct Routes {
 }
 
 impl Routes {
-    /// The routes. The only error is want of memory.
+    /// The routes. The only error is want of memory: each can be read, and none stands in the way of
+    /// another.
     pub fn new(alloc: Global) -> Result<Routes, AllocError> {
-        match filled(alloc) {
-            Ok(router) => Ok(Routes { router }),
-            // The routes are read, and none stands in the way of another.
-            Err(_) => Err(AllocError),
-        }
+        let router = filled(alloc)?;
+        Ok(Routes { router })
     }
 
     /// Where a path leads, if there is a route for it.
@@ -56,18 +55,34 @@ impl Routes {
     }
 }
 
-fn filled(alloc: Global) -> Result<Router<Place>, InsertError>
+// Adds a route that can be read and that stands in the way of none. The only error is want of memory.
+fn add(router: &mut Router<Place>, route: &str, place: Place) -> Result<(), AllocError>
+    requires { IsFree (parse_route route.now) router.old }
+    ensures { OnOk result (router.new ≡ with_route (parse_route route.now) place router.old) }
+{
+    match router.insert(route, place) {
+        Ok(()) => Ok(()),
+        Err(InsertError::OutOfMemory) => Err(AllocError),
+        Err(_) => unreachable!(),
+    }
+}
+
+fn filled(alloc: Global) -> Result<Router<Place>, AllocError>
     ensures { IfOk result (λ router. router ≡ route_rows) }
 {
     let mut router = Router::new(alloc);
-    router.insert("/fail", Place::Points)?;
-    router.insert("/fail/", Place::Points)?;
-    router.insert("/fail/{name}", Place::Point)?;
-    router.insert("/gossip", Place::Gossip)?;
-    router.insert("/grant/{name}/{term}/{amount}", Place::Grant)?;
-    router.insert("/load", Place::Load)?;
-    router.insert("/report", Place::Report)?;
-    router.insert("/shift/{name}/{term}/{to}/{amount}", Place::Shift)?;
+    add(&mut router, "/fail", Place::Points)?;
+    add(&mut router, "/fail/", Place::Points)?;
+    add(&mut router, "/fail/{name}", Place::Point)?;
+    add(&mut router, "/gossip", Place::Gossip)?;
+    add(&mut router, "/grant/{name}/{term}/{amount}", Place::Grant)?;
+    add(&mut router, "/load", Place::Load)?;
+    add(&mut router, "/report", Place::Report)?;
+    add(
+        &mut router,
+        "/shift/{name}/{term}/{to}/{amount}",
+        Place::Shift,
+    )?;
     Ok(router)
 }
 

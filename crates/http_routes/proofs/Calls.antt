@@ -42,7 +42,15 @@ asked_first n (asks.Grant name term amount) = refl
 asked_first n (asks.Emit to) = refl
 asked_first n (asks.Deliver message) = refl
 
-for_some : (o : Option AskValue) (P : AskValue → Type 0) → ((a : AskValue) → o ≡ Some a → P a) → IfSome o P
+-- what a call asks is what its request does
+pub asked_is : (n : ℕ) (ask : Ask) (r : Reply) (a : AskValue) → ask_value ask ≡ Some a → nodes.ask_value n ask r ≡ asked_of n a
+asked_is n ask r a is = asked_with n ask r ∙ ap (λ o. asked_or n o (nodes.ask_value n ask r)) is
+
+pub asked_first_is : (n : ℕ) (ask : Ask) (a : AskValue) → ask_value ask ≡ Some a → ask_value_first n ask ≡ asked_of n a
+asked_first_is n ask a is = asked_first n ask ∙ ap (λ o. asked_or n o (ask_value_first n ask)) is
+
+-- it is enough to show this of what a call asks, if a request can
+pub for_some : (o : Option AskValue) (P : AskValue → Type 0) → ((a : AskValue) → o ≡ Some a → P a) → IfSome o P
 for_some None P h = tt
 for_some (Some a) P h = h a refl
 
@@ -56,12 +64,12 @@ pub done_by : (k new : Kept) (ask : Ask) (given : ReplyValue) (outcome : Result 
     → IfSome (ask_value ask) (λ a. Answers k (call a) new given)
 done_by k new ask given (Ok r) made refused kept told why = for_some (ask_value ask) _ (λ a is.
     let n = k.config.nodes in
-    let same : nodes.ask_value n ask r ≡ asked_of n a = asked_with n ask r ∙ ap (λ o. asked_or n o (nodes.ask_value n ask r)) is in
+    let same : nodes.ask_value n ask r ≡ asked_of n a = asked_is n ask r a is in
     let accepts : Accepts k new (asked_of n a) [] (nodes.reply_value n r) = subst (λ x. Accepts k new x [] (nodes.reply_value n r)) same made in
     inl (inl (record { accepted = accepts.0; made = accepts.2; told = told n ∙ ap acceptance_value (sym accepts.1) })))
 done_by k new ask given (Err f) made refused kept told why = for_some (ask_value ask) _ (λ a is.
     let n = k.config.nodes in
-    let same : ask_value_first n ask ≡ asked_of n a = asked_first n ask ∙ ap (λ o. asked_or n o (ask_value_first n ask)) is in
+    let same : ask_value_first n ask ≡ asked_of n a = asked_first_is n ask a is in
     inl (inr (record { fault = f; refused = subst (λ x. IsRefusalOf k x [] f) same refused; kept = kept; told = why })))
 
 -- nothing was asked for want of memory

@@ -34,9 +34,10 @@ pub trait Answers: Drop {
     fn reply_too_long(&self, alloc: Global, method: &str, path: &str) -> HttpReply;
 }
 
-/// A node with the seat from which requests call it.
+/// A node with the seat from which requests call it, and the routes of their paths.
 #[derive(Drop)]
 pub struct Desk<L: Label> {
+    routes: Routes,
     registry: Arc<Registry<L>>,
     seat: Mutex<Seat<L>>,
 }
@@ -49,6 +50,7 @@ impl<L: Label> Desk<L> {
         seat: Seat<L>,
     ) -> Result<Arc<Desk<L>>, AllocError> {
         let desk = Desk {
+            routes: Routes::new(alloc)?,
             registry: Arc::try_clone(registry)?,
             seat: Mutex::new(seat),
         };
@@ -67,10 +69,7 @@ impl<L: Label> Desk<L> {
     ) -> HttpReply
         ensures { IsServed L.config (wanted method.now path.now body.now) (http_value result) }
     {
-        let Ok(routes) = Routes::new(alloc) else {
-            return HttpReply::no_memory(alloc);
-        };
-        match route(alloc, &routes, method, path, body) {
+        match route(alloc, &self.routes, method, path, body) {
             Wanted::Do(ask) => self.call(rt, alloc, &ask),
             Wanted::List => self.list(rt, alloc),
             Wanted::Report => self.report(rt, alloc),
@@ -129,10 +128,7 @@ impl<L: Label> Desk<L> {
             → IsWanted (wanted method.now path.now body)
             (Some (requests.answered (http_value result))) }
     {
-        match Routes::new(alloc) {
-            Ok(routes) => too_long(alloc, &routes, method, path),
-            Err(_) => HttpReply::no_memory(alloc),
-        }
+        too_long(alloc, &self.routes, method, path)
     }
 }
 

@@ -1,15 +1,83 @@
 use Rattle.matchit.proofs.OnLiterals.{matchit_on_literals}
+use Rattle.std.proofs.Common.{refl}
 use Rattle.http_paths.proofs.paths.filled.Goals as goal
+
+pub add-requires : goal.add-requires
+unfolding matchit_on_literals
+add-requires c = rw c.new-router.ensures refl
+
+pub add-requires-2 : goal.add-requires-2
+unfolding matchit_on_literals
+add-requires-2 c =
+    let a = c.in_ok-add.ensures in
+    rw (a, c.new-router.ensures) refl
+
+pub add-requires-3 : goal.add-requires-3
+unfolding matchit_on_literals
+add-requires-3 c =
+    let a = c.in_ok-add.ensures in
+    let b = c.in_ok-add-2.ensures in
+    rw (b, a, c.new-router.ensures) refl
+
+pub add-requires-4 : goal.add-requires-4
+unfolding matchit_on_literals
+add-requires-4 c =
+    let a = c.in_ok-add.ensures in
+    let b = c.in_ok-add-2.ensures in
+    let d = c.in_ok-add-3.ensures in
+    rw (d, b, a, c.new-router.ensures) refl
+
+pub add-requires-5 : goal.add-requires-5
+unfolding matchit_on_literals
+add-requires-5 c =
+    let a = c.in_ok-add.ensures in
+    let b = c.in_ok-add-2.ensures in
+    let d = c.in_ok-add-3.ensures in
+    let e = c.in_ok-add-4.ensures in
+    rw (e, d, b, a, c.new-router.ensures) refl
+
+pub add-requires-6 : goal.add-requires-6
+unfolding matchit_on_literals
+add-requires-6 c =
+    let a = c.in_ok-add.ensures in
+    let b = c.in_ok-add-2.ensures in
+    let d = c.in_ok-add-3.ensures in
+    let e = c.in_ok-add-4.ensures in
+    let f = c.in_ok-add-5.ensures in
+    rw (f, e, d, b, a, c.new-router.ensures) refl
+
+pub add-requires-7 : goal.add-requires-7
+unfolding matchit_on_literals
+add-requires-7 c =
+    let a = c.in_ok-add.ensures in
+    let b = c.in_ok-add-2.ensures in
+    let d = c.in_ok-add-3.ensures in
+    let e = c.in_ok-add-4.ensures in
+    let f = c.in_ok-add-5.ensures in
+    let g = c.in_ok-add-6.ensures in
+    rw (g, f, e, d, b, a, c.new-router.ensures) refl
+
+pub add-requires-8 : goal.add-requires-8
+unfolding matchit_on_literals
+add-requires-8 c =
+    let a = c.in_ok-add.ensures in
+    let b = c.in_ok-add-2.ensures in
+    let d = c.in_ok-add-3.ensures in
+    let e = c.in_ok-add-4.ensures in
+    let f = c.in_ok-add-5.ensures in
+    let g = c.in_ok-add-6.ensures in
+    let h = c.in_ok-add-7.ensures in
+    rw (h, g, f, e, d, b, a, c.new-router.ensures) refl
 
 pub returns : goal.returns
 unfolding matchit_on_literals
 returns c =
-    let a = c.in_ok-insert.ensures in
-    let b = c.in_ok-insert-2.ensures in
-    let d = c.in_ok-insert-3.ensures in
-    let e = c.in_ok-insert-4.ensures in
-    let f = c.in_ok-insert-5.ensures in
-    let g = c.in_ok-insert-6.ensures in
-    let h = c.in_ok-insert-7.ensures in
-    let i = c.in_ok-insert-8.ensures in
-    rw (h.1, g.1, f.1, e.1, d.1, b.1, a.1, c.new-router.ensures) at i.1
+    let a = c.in_ok-add.ensures in
+    let b = c.in_ok-add-2.ensures in
+    let d = c.in_ok-add-3.ensures in
+    let e = c.in_ok-add-4.ensures in
+    let f = c.in_ok-add-5.ensures in
+    let g = c.in_ok-add-6.ensures in
+    let h = c.in_ok-add-7.ensures in
+    let i = c.in_ok-add-8.ensures in
+    rw (h, g, f, e, d, b, a, c.new-router.ensures) at i

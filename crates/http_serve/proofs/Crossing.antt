@@ -1,0 +1,26 @@
+-- A desk may go to another thread, and may be lent to one.
+use denote.RattleType.{RattleType}
+use denote.Param.Send.{IsSend, IsSync, recorded_send, recorded_sync, struct_send, struct_sync}
+use denote.Struct.Declared.{shape}
+use Rattle.std.proofs.Crossing.{Arc-send, Arc-sync}
+use Rattle.std.proofs.sync.Mutex.TheSendSync as mutex
+use Rattle.std.specs.declared.sync.ledger.Ledger as ledger
+use Rattle.node_registry.specs.declared.label.Label as label
+use Rattle.node_registry.specs.contracts.registry.Registry as Registry
+use Rattle.node_registry.specs.contracts.guarded.Seat as Seat
+use Rattle.node_registry.proofs.registry.Registry.TheSendSync as registry
+use Rattle.node_registry.proofs.guarded.Seat.TheSendSync as seat
+use Rattle.http_paths.proofs.Crossing.{routes_send, routes_sync}
+use Rattle.http_serve.specs.contracts.desk.Desk as Desk
+
+pub desk_send : (L : RattleType) (g : label.Ghosts L.Denot) (g' : ledger.Ghosts L.Denot) → IsSend (Desk.the_row L g g')
+desk_send L g g' =
+    let shared = Arc-send (Registry.the_row L g g') (registry.the_send L g g') (registry.the_sync L g g') in
+    let behind = mutex.the_send (Seat.the_row L g g') (seat.the_send L g g') in
+    recorded_send (Desk.the_field L g g').row _ _ (Desk.the_type L g g').to_one (struct_send (shape (Desk.the_type L g g')) (routes_send, (shared, (behind, tt))))
+
+pub desk_sync : (L : RattleType) (g : label.Ghosts L.Denot) (g' : ledger.Ghosts L.Denot) → IsSync (Desk.the_row L g g')
+desk_sync L g g' =
+    let shared = Arc-sync (Registry.the_row L g g') (registry.the_send L g g') (registry.the_sync L g g') in
+    let behind = mutex.the_sync (Seat.the_row L g g') (seat.the_send L g g') in
+    recorded_sync (Desk.the_field L g g').row _ _ (Desk.the_type L g g').to_one (struct_sync (shape (Desk.the_type L g g')) (routes_sync, (shared, (behind, tt))))
