@@ -1,5 +1,5 @@
 -- What the words of a command line name as peers.
-use Rattle.std.specs.Prelude.{◌≡◌, ℕ, ◌==◌, Bool, if◌then◌else◌, nat_lt, List, ◌++◌, ◌∷◌, length, Option, Some, None, Result, Ok, Err, All, IsOk, codes}
+use Rattle.std.specs.Prelude.{◌≡◌, ℕ, ◌==◌, Bool, if◌then◌else◌, nat_lt, List, ◌++◌, ◌∷◌, length, Option, Some, None, Result, Ok, Err, map, codes}
 use Rattle.std.specs.List.{position_or_len, before_first, after_first}
 use Rattle.scripts.specs.Fields.{byte_of, number_of}
 use Rattle.http_wire.specs.declared.wire.Peer.{Peer}
@@ -27,12 +27,13 @@ peer_in nodes word =
     then peer_of nodes (byte_of (before_first is_colon word)) (number_of 65535 (after_first is_colon word))
     else Err NoColon
 
--- the first of these words that names none, and why
+-- the first of these words that names none, and why: those before it name peers
 pub record IsFirstBad (nodes : ℕ) (words : List (List ℕ)) (word : List ℕ) (fault : PeerFault) : Type 0 where
   pub before : List (List ℕ)
   pub after : List (List ℕ)
+  pub peers : List Peer
   pub place : words ≡ before ++ word ∷ after
-  pub good : All (λ w. IsOk (peer_in nodes w)) before
+  pub good : map (peer_in nodes) before ≡ map Ok peers
   pub bad : peer_in nodes word ≡ Err fault
 
 -- what is printed of a fault

@@ -64,6 +64,33 @@ fn offered<'a>(
         .default_value(otherwise)
 }
 
+// With the arguments of a node's gossip.
+fn with_gossip<'a>(alloc: Global, command: Command<'a>) -> Result<Command<'a>, AllocError> {
+    let rounds = offered(
+        alloc,
+        "rounds",
+        "k",
+        "How many rounds of gossip the node does with its peers",
+        "0",
+    );
+    let every = offered(
+        alloc,
+        "every",
+        "ms",
+        "How many milliseconds it rests between two rounds",
+        "100",
+    );
+    let peers = Arg::new(alloc, "peer")
+        .value_name("node:port")
+        .help("Where another node is served on 127.0.0.1, as `1:7071`")
+        .action(ArgAction::Append)
+        .num_args(0..);
+    command
+        .arg(rounds.value_parser(value_parser!(u32)))?
+        .arg(every.value_parser(value_parser!(u32)))?
+        .arg(peers)
+}
+
 fn serve_command<'a>(alloc: Global) -> Result<Command<'a>, AllocError> {
     let node = needed(alloc, "node", "n", "The number of the node, from 0");
     let nodes = needed(
@@ -91,26 +118,7 @@ fn serve_command<'a>(alloc: Global) -> Result<Command<'a>, AllocError> {
         .long("failpoints")
         .value_name("text")
         .help("Points that are set first, as `a=off;b=panic`");
-    let rounds = offered(
-        alloc,
-        "rounds",
-        "k",
-        "How many rounds of gossip the node does with its peers",
-        "0",
-    );
-    let every = offered(
-        alloc,
-        "every",
-        "ms",
-        "How many milliseconds it rests between two rounds",
-        "100",
-    );
-    let peers = Arg::new(alloc, "peer")
-        .value_name("node:port")
-        .help("Where another node is served on 127.0.0.1, as `1:7071`")
-        .action(ArgAction::Append)
-        .num_args(0..);
-    Command::new(alloc, "serve")
+    let command = Command::new(alloc, "serve")
         .about("Serves a node over HTTP on 127.0.0.1")
         .after_help(SERVE_HELP)
         .arg(node.value_parser(value_parser!(u8)))?
@@ -118,10 +126,8 @@ fn serve_command<'a>(alloc: Global) -> Result<Command<'a>, AllocError> {
         .arg(port.value_parser(value_parser!(u16)))?
         .arg(cap.value_parser(value_parser!(u32)))?
         .arg(requests.value_parser(value_parser!(u32)))?
-        .arg(rounds.value_parser(value_parser!(u32)))?
-        .arg(every.value_parser(value_parser!(u32)))?
-        .arg(failpoints)?
-        .arg(peers)
+        .arg(failpoints)?;
+    with_gossip(alloc, command)
 }
 
 // The words of a command line live as long as the texts of its command.

@@ -82,7 +82,7 @@ pub fn read_peers<'a>(
     nodes: u8,
 ) -> Result<Vec<Peer>, PeersFault<'a>>
     ensures ok { IfOk result (λ peers.
-        map (λ word. peer_in nodes word.now) words.now ≡ map Ok peers.items) }
+        map (peer_in nodes) (map (λ w. w.now) words.now) ≡ map Ok peers.items) }
     ensures bad { (word : _) (fault : _) → result ≡ Err (PeersFault.BadPeer word fault)
         → IsFirstBad nodes (map (λ w. w.now) words.now) word.now fault }
 {

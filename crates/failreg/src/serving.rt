@@ -15,6 +15,7 @@ use std::alloc::{AllocGlobal, Global};
 use std::io;
 use std::io::Write;
 use std::marker::Brand;
+use std::net;
 use std::net::{Ipv4Addr, Net, SocketAddr};
 use std::process::ExitCode;
 use std::random::RandomSource;
@@ -34,7 +35,7 @@ where
         + Clock
         + RandomSource
         + AllocGlobal
-        + Net
+        + Net<Listener = net::TcpListener, Stream = net::TcpStream>
         + Send
         + Sync
         + Copy
@@ -70,7 +71,7 @@ where
         + Clock
         + RandomSource
         + AllocGlobal
-        + Net
+        + Net<Listener = net::TcpListener, Stream = net::TcpStream>
         + Send
         + Sync
         + Copy

@@ -9,6 +9,7 @@ use http_serve::{ServeFault, serve};
 use http_wire::{HttpWire, Peer};
 use node_registry::{Label, Registry, Seat};
 use std::alloc::AllocGlobal;
+use std::net;
 use std::net::Net;
 use std::random::RandomSource;
 use std::sync::atomic::{AtomicBool, Ordering};
@@ -105,7 +106,7 @@ fn serve_alone<L, R>(rt: &R, serving: Serving<'_, L>) -> Result<u32, ServeFault>
 where
     L: Label + Send + Sync,
     R: Wait + Threads + Clock + RandomSource + AllocGlobal + Send + Sync + Copy,
-    ensures ok { IfOk result (λ served. served ≡ serving.requests) }
+    ensures ok { IfOk result (λ served. served ≡ serving.entry.requests) }
     ensures err { IfErr result (λ f. (f ≡ AcceptFailed) ⊎ (f ≡ OutOfMemory)) }
 {
     let Serving {
@@ -129,8 +130,17 @@ fn serve_in<'s, E, L, R>(
 ) -> Result<u32, ServeFault>
 where
     L: Label + Send + Sync + 's,
-    R: Wait + Threads + Clock + Net + RandomSource + AllocGlobal + Send + Sync + Copy + Drop,
-    ensures ok { IfOk result (λ served. served ≡ serving.requests) }
+    R: Wait
+        + Threads
+        + Clock
+        + Net<Listener = net::TcpListener, Stream = net::TcpStream>
+        + RandomSource
+        + AllocGlobal
+        + Send
+        + Sync
+        + Copy
+        + Drop,
+    ensures ok { IfOk result (λ served. served ≡ serving.entry.requests) }
     ensures err { IfErr result (λ f. (f ≡ AcceptFailed) ⊎ (f ≡ OutOfMemory)) }
 {
     let registry: &'s Registry<L> = serving.registry;
@@ -154,8 +164,17 @@ pub fn serve_and_tell<L, R>(
 ) -> Result<u32, ServeFault>
 where
     L: Label + Send + Sync,
-    R: Wait + Threads + Clock + Net + RandomSource + AllocGlobal + Send + Sync + Copy + Drop,
-    ensures ok { IfOk result (λ served. served ≡ serving.requests) }
+    R: Wait
+        + Threads
+        + Clock
+        + Net<Listener = net::TcpListener, Stream = net::TcpStream>
+        + RandomSource
+        + AllocGlobal
+        + Send
+        + Sync
+        + Copy
+        + Drop,
+    ensures ok { IfOk result (λ served. served ≡ serving.entry.requests) }
     ensures err { IfErr result (λ f. (f ≡ AcceptFailed) ⊎ (f ≡ OutOfMemory)) }
 {
     if telling.peers.is_empty() || telling.rounds == 0 {
@@ -167,7 +186,7 @@ where
         thread::scope_env(),
         rt,
         |scope| -> Result<u32, ServeFault>
-            ensures ok { IfOk result (λ served. served ≡ serving.requests) }
+            ensures ok { IfOk result (λ served. served ≡ serving.entry.requests) }
             ensures err { IfErr result (λ f. (f ≡ AcceptFailed) ⊎ (f ≡ OutOfMemory)) }
         { serve_in(scope, rt, serving, seat, telling, service) },
     )

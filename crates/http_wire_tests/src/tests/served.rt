@@ -9,6 +9,7 @@ use node_core::Config;
 use node_registry::{Label, Registry, Seat};
 use std::alloc::AllocGlobal;
 use std::marker::Brand;
+use std::net;
 use std::net::{Ipv4Addr, Net, SocketAddr};
 use std::random::RandomSource;
 use std::sync::ledger::Blank;
@@ -84,7 +85,16 @@ fn told<L, M, R>(
 where
     L: Label + Send + Sync,
     M: Label + Send + Sync,
-    R: Wait + Threads + Clock + Net + RandomSource + AllocGlobal + Send + Sync + Copy + Drop,
+    R: Wait
+        + Threads
+        + Clock
+        + Net<Listener = net::TcpListener, Stream = net::TcpStream>
+        + RandomSource
+        + AllocGlobal
+        + Send
+        + Sync
+        + Copy
+        + Drop,
 {
     let mut runtime = Builder::new_current_thread().build(rt)?;
     let (listener, port) = listening(rt, &runtime)?;
@@ -101,7 +111,16 @@ fn heard<L, M, R>(rt: &R, zero: Blank, one: Blank) -> Result<String, Fail>
 where
     L: Label + Send + Sync,
     M: Label + Send + Sync,
-    R: Wait + Threads + Clock + Net + RandomSource + AllocGlobal + Send + Sync + Copy + Drop,
+    R: Wait
+        + Threads
+        + Clock
+        + Net<Listener = net::TcpListener, Stream = net::TcpStream>
+        + RandomSource
+        + AllocGlobal
+        + Send
+        + Sync
+        + Copy
+        + Drop,
     requires zero { zero.name ≡ L.name }
     requires zero_parts { (zero.parts ≡ L.parts) × (L.parts ≡ 1) }
     requires zero_config { ZERO ≡ L.config }
