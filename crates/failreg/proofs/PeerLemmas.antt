@@ -1,5 +1,5 @@
 -- The first word that names no peer.
-use Rattle.std.proofs.Common.{◌≡◌, ℕ, ◌+◌, ◌<◌, List, ◌∷◌, ◌++◌, length, get_or, take, drop, map, Ok, Err, ap, sym, ◌∙◌, take-append-drop}
+use Rattle.std.proofs.Common.{◌≡◌, ℕ, ◌+◌, ◌<◌, List, ◌++◌, length, get_or, take, drop, map, Ok, Err, ap, sym, ◌∙◌, take-append-drop}
 use Rattle.std.proofs.lemmas.List.{drop_more, map-append}
 use Rattle.http_wire.specs.declared.wire.Peer.{Peer}
 use Rattle.failreg.specs.declared.peers.PeerFault.{PeerFault}

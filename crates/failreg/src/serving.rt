@@ -12,10 +12,8 @@ use http_serve::ServeFault;
 use node_core::{Config, NodeFault};
 use node_registry::{Label, Registry, Seat};
 use std::alloc::{AllocGlobal, Global};
-use std::io;
 use std::io::Write;
 use std::marker::Brand;
-use std::net;
 use std::net::{Ipv4Addr, Net, SocketAddr};
 use std::process::ExitCode;
 use std::random::RandomSource;
@@ -23,6 +21,7 @@ use std::sync::ledger::Blank;
 use std::sync::{Arc, Wait};
 use std::thread::Threads;
 use std::time::Clock;
+use std::{io, net};
 use tokio::net::TcpListener;
 use tokio::runtime::{Builder, Runtime};
 
@@ -105,7 +104,10 @@ where
         listener,
         requests: options.requests,
     };
-    finish_serve(rt, serve_and_tell(rt, serving, telling_seat, options.telling))
+    finish_serve(
+        rt,
+        serve_and_tell(rt, serving, telling_seat, options.telling),
+    )
 }
 
 // The registry of a node, with the two seats from which it is called.

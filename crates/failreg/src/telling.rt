@@ -9,14 +9,13 @@ use http_serve::{ServeFault, serve};
 use http_wire::{HttpWire, Peer};
 use node_registry::{Label, Registry, Seat};
 use std::alloc::AllocGlobal;
-use std::net;
 use std::net::Net;
 use std::random::RandomSource;
 use std::sync::atomic::{AtomicBool, Ordering};
 use std::sync::{Arc, Wait};
-use std::thread;
 use std::thread::{Parker, Scope, Threads};
 use std::time::{Clock, Duration};
+use std::{net, thread};
 use tokio::net::TcpListener;
 use tokio::runtime::Runtime;
 
@@ -77,7 +76,8 @@ fn keep_telling<L, R>(
     seat: &mut Seat<L>,
     telling: Telling,
     service: &Service,
-) where
+)
+where
     L: Label,
     R: Wait + Clock + Net + RandomSource + AllocGlobal + Copy + Drop,
     ensures { seat.new ≤ seat.old + telling.rounds * most_calls L.config }

@@ -68,7 +68,10 @@ fn main(rt: HostRuntime) -> anyhow::Result<ExitCode> {
     if let [_, nodes, changed, rounds] = words.as_slice() {
         if let Some(load) = load_of(nodes.as_str(), changed.as_str(), rounds.as_str()) {
             let tally = tally_of(&rt, load)?;
-            println!(rt; "{} messages of {} bytes, {} lost", tally.messages, tally.bytes, tally.lost)?;
+            println!(rt;
+                "{} messages of {} bytes, {} lost",
+                tally.messages, tally.bytes, tally.lost
+            )?;
             eprintln!(rt; "{} ns", tally.nanoseconds)?;
             return Ok(ExitCode::SUCCESS);
         }

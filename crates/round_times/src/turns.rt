@@ -30,19 +30,26 @@ struct Site<'a, L: Label> {
 
 impl<'a, L: Label> Site<'a, L> {
     // Sets all points, or passes so many of them, at the first node.
-    fn change<R: AllocGlobal + Wait>(&mut self, rt: &R, round: u32, load: Load) -> Result<(), NodeFault> {
+    fn change<R: AllocGlobal + Wait>(
+        &mut self,
+        rt: &R,
+        round: u32,
+        load: Load,
+    ) -> Result<(), NodeFault> {
         let alloc = rt.alloc();
         if !self.is_first {
             return Ok(());
         }
         if round == 0 {
             let text = settings(alloc)?;
-            self.registry.load(rt, alloc, &mut self.seat, text.as_str())?;
+            self.registry
+                .load(rt, alloc, &mut self.seat, text.as_str())?;
             return Ok(());
         }
         for point in 0..load.changed {
             let name = format!(in alloc; "p{point}")?;
-            self.registry.pass(rt, alloc, &mut self.seat, name.as_str())?;
+            self.registry
+                .pass(rt, alloc, &mut self.seat, name.as_str())?;
         }
         Ok(())
     }

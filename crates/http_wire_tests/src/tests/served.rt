@@ -9,15 +9,14 @@ use node_core::Config;
 use node_registry::{Label, Registry, Seat};
 use std::alloc::AllocGlobal;
 use std::marker::Brand;
-use std::net;
 use std::net::{Ipv4Addr, Net, SocketAddr};
 use std::random::RandomSource;
 use std::sync::ledger::Blank;
 use std::sync::{Arc, Wait};
 use std::test::Fail;
-use std::thread;
 use std::thread::Threads;
 use std::time::Clock;
+use std::{net, thread};
 use tokio::net::TcpListener;
 use tokio::runtime::{Builder, Runtime};
 
