@@ -105,8 +105,12 @@ where
     ))
 }
 
-// What node 1 lists after a round at node 0, of which no message was lost.
-fn heard<L, M, R>(rt: &R, zero: Blank, one: Blank) -> Result<String, Fail>
+// How many messages of a round at node 0 were lost, how serving node 1 ended, and what it lists then.
+fn heard<L, M, R>(
+    rt: &R,
+    zero: Blank,
+    one: Blank,
+) -> Result<(u64, Result<u32, ServeFault>, String), Fail>
 where
     L: Label + Send + Sync,
     M: Label + Send + Sync,
@@ -129,15 +133,16 @@ where
 {
     let (teller, teller_seat) = opened::<L, R>(rt, zero, ZERO)?;
     let (server, server_seat) = opened::<M, R>(rt, one, ONE)?;
-    match told(rt, &teller, teller_seat, &server, server_seat)? {
-        (Ok(0), Ok(1)) => Ok(server.with(rt, |node| node.list(rt.alloc()))?),
-        _ => Err(Fail::from("a message was lost")),
-    }
+    let (lost, served) = told(rt, &teller, teller_seat, &server, server_seat)?;
+    let lost = lost?;
+    let list = server.with(rt, |node| node.list(rt.alloc()))?;
+    Ok((lost, served, list))
 }
 
 #[test]
 fn a_round_with_a_served_node(rt: HostRuntime) -> Result<(), Fail> {
-    let list = heard::<Brand, Brand, HostRuntime>(&rt, Blank::new(1), Blank::new(1))?;
-    assert_eq!(rt; list.as_str(), "a=off");
+    let (zero, one) = (Blank::new(1), Blank::new(1));
+    let (lost, served, list) = heard::<Brand, Brand, HostRuntime>(&rt, zero, one)?;
+    assert_eq!(rt; (lost, served, list.as_str()), (0, Ok(1), "a=off"));
     Ok(())
 }
