@@ -1,6 +1,6 @@
 #!/usr/bin/env python3
-"""Times scripts of passes, loads, shifts, grants and exchanges, work on maps, messages, passes under locks, and audits. See
-README.md beside this file."""
+"""Times scripts of passes, loads, shifts, grants and exchanges, work on maps, messages, passes under locks, rounds of
+gossip, and audits. See README.md beside this file."""
 
 import os
 import subprocess
@@ -58,6 +58,12 @@ CALLS = (400_000, 800_000)
 DRILLS = ("passes", "forwards", "backwards")
 ENTRIES = (1_000_000, 2_000_000)
 ROUNDS_OF_DRILLS = 3
+
+# Rounds of gossip of so many nodes over mail, before each of which so many of 256 points are passed; and how many messages
+# they make, more or less.
+MEMBERS = (2, 4, 16, 32)
+CHANGED = (0, 1, 256)
+MESSAGES = {0: 40_000, 1: 20_000, 256: 2_000}
 
 
 def build(crate, *arguments):
@@ -327,6 +333,30 @@ def time_locks(program):
             )
 
 
+def told(program, nodes, changed, rounds):
+    """The messages and bytes of so many rounds of all nodes, and their nanoseconds, without the changes before them."""
+    run = subprocess.run([program, *map(str, (nodes, changed, rounds))], check=True, capture_output=True)
+    words = run.stdout.split()
+    if words[-2] != b"0":
+        sys.exit(f"{program} {nodes} {changed} {rounds}: {run.stdout.decode()}")
+    return int(words[0]), int(words[3]), int(run.stderr.split()[0])
+
+
+def time_rounds(program):
+    """In a round each node tells all others, one node after the other."""
+    print(f"\n{'nodes':<7}{'changed':>8}{'rounds n':>10}{'messages':>10}{'bytes':>12}{'us a round, n':>15}{'2n':>10}{'ratio':>7}{'us a message':>14}")
+    for nodes in MEMBERS:
+        for changed in CHANGED:
+            few = max(4, MESSAGES[changed] // (nodes * (nodes - 1)))
+            rounds = [[told(program, nodes, changed, count) for count in (few, 2 * few)] for _ in range(ROUNDS_OF_TURNS)]
+            messages, length, _ = rounds[0][0]
+            first, second = (min(time for _, _, time in runs) / 1e3 for runs in zip(*rounds))
+            print(
+                f"{nodes:<7}{changed:>8}{few:>10}{messages / few:>10.0f}{length / few:>12.0f}{first / few:>15.1f}"
+                f"{second / few / 2:>10.1f}{second / first:>7.2f}{second / messages / 2:>14.2f}"
+            )
+
+
 def made_and_audited(program, drill, entries, work):
     """Nanoseconds by the clock in which the calls were made and in which they were audited, and the most memory in MiB."""
     words = [program, drill, str(entries), work]
@@ -372,6 +402,7 @@ def main():
     for form in FORMS:
         time_messages(messages, form)
     time_locks(build("pass_times", "core", "uncounted", "1", "drop"))
+    time_rounds(build("round_times", "2", "1", "3"))
     time_audits(build("audit_times", "passes", "16", "audit"))
 
 

@@ -1,13 +1,17 @@
 //! The command line.
 
 use crate::help::{EXAMPLE, PARSE_HELP, SERVE_HELP, SIM_HELP, THREADS_HELP};
+use crate::peers::{PeersFault, read_peers};
+use crate::telling::Telling;
+use clap::error::ErrorKind;
 use clap::{Arg, ArgAction, ArgMatches, Command, Error, value_parser};
 use std::alloc::{AllocError, Global};
+use std::time::Duration;
 
 const VERSION: &str = "0.1.0";
 
 /// What the program is asked to do.
-#[derive(Clone, Copy, Debug, PartialEq, Eq)]
+#[derive(Debug, Drop)]
 pub enum Invocation<'a> {
     /// To print the canonical spelling of an action text.
     Parse(&'a str),
@@ -20,7 +24,7 @@ pub enum Invocation<'a> {
 }
 
 /// The node that is served, and where.
-#[derive(Clone, Copy, Debug, PartialEq, Eq)]
+#[derive(Debug, Drop)]
 pub struct ServeOptions<'a> {
     pub node: u8,
     pub nodes: u8,
@@ -32,6 +36,8 @@ pub struct ServeOptions<'a> {
     pub requests: u32,
     /// The points that are set before the first request.
     pub failpoints: Option<&'a str>,
+    /// Whom the node tells what it knows.
+    pub telling: Telling,
 }
 
 // An option with a value, which has to be given.
@@ -56,6 +62,33 @@ fn offered<'a>(
         .value_name(value)
         .help(help)
         .default_value(otherwise)
+}
+
+// With the arguments of a node's gossip.
+fn with_gossip<'a>(alloc: Global, command: Command<'a>) -> Result<Command<'a>, AllocError> {
+    let rounds = offered(
+        alloc,
+        "rounds",
+        "k",
+        "How many rounds of gossip the node does with its peers",
+        "0",
+    );
+    let every = offered(
+        alloc,
+        "every",
+        "ms",
+        "How many milliseconds it rests between two rounds",
+        "100",
+    );
+    let peers = Arg::new(alloc, "peer")
+        .value_name("node:port")
+        .help("Where another node is served on 127.0.0.1, as `1:7071`")
+        .action(ArgAction::Append)
+        .num_args(0..);
+    command
+        .arg(rounds.value_parser(value_parser!(u32)))?
+        .arg(every.value_parser(value_parser!(u32)))?
+        .arg(peers)
 }
 
 fn serve_command<'a>(alloc: Global) -> Result<Command<'a>, AllocError> {
@@ -85,7 +118,7 @@ fn serve_command<'a>(alloc: Global) -> Result<Command<'a>, AllocError> {
         .long("failpoints")
         .value_name("text")
         .help("Points that are set first, as `a=off;b=panic`");
-    Command::new(alloc, "serve")
+    let command = Command::new(alloc, "serve")
         .about("Serves a node over HTTP on 127.0.0.1")
         .after_help(SERVE_HELP)
         .arg(node.value_parser(value_parser!(u8)))?
@@ -93,7 +126,8 @@ fn serve_command<'a>(alloc: Global) -> Result<Command<'a>, AllocError> {
         .arg(port.value_parser(value_parser!(u16)))?
         .arg(cap.value_parser(value_parser!(u32)))?
         .arg(requests.value_parser(value_parser!(u32)))?
-        .arg(failpoints)
+        .arg(failpoints)?;
+    with_gossip(alloc, command)
 }
 
 // The words of a command line live as long as the texts of its command.
@@ -128,16 +162,39 @@ fn whole_command<'a>(alloc: Global) -> Result<Command<'a>, AllocError> {
         .subcommand(serve_command(alloc)?)
 }
 
-// What is given where the values of a serve command have passed their parsers.
-fn serve_options<'a>(matches: &ArgMatches<'a>) -> ServeOptions<'a> {
-    ServeOptions {
+// What is given where the values of a serve command have passed their parsers. The peers haven't yet.
+fn serve_options<'a>(alloc: Global, matches: &ArgMatches<'a>) -> Result<ServeOptions<'a>, Error> {
+    let nodes = matches.get_one::<u8>("nodes").unwrap_or(0);
+    let every = matches.get_one::<u32>("every").unwrap_or(0);
+    let words = matches.get_strs("peer").unwrap_or(&[]);
+    let peers = match read_peers(alloc, words, nodes) {
+        Ok(peers) => peers,
+        Err(fault) => return Err(bad_peers(alloc, fault)?),
+    };
+    Ok(ServeOptions {
         node: matches.get_one::<u8>("node").unwrap_or(0),
-        nodes: matches.get_one::<u8>("nodes").unwrap_or(0),
+        nodes,
         port: matches.get_one::<u16>("port").unwrap_or(0),
         cap: matches.get_one::<u32>("cap").unwrap_or(0),
         requests: matches.get_one::<u32>("requests").unwrap_or(0),
         failpoints: matches.get_str("failpoints"),
-    }
+        telling: Telling {
+            peers,
+            rounds: matches.get_one::<u32>("rounds").unwrap_or(0),
+            every: Duration::from_millis(u64::from(every)),
+        },
+    })
+}
+
+// Words that name no peers, in the form of other mistakes in a command line.
+fn bad_peers(alloc: Global, fault: PeersFault<'_>) -> Result<Error, AllocError> {
+    let PeersFault::BadPeer { word, fault } = fault else {
+        return Err(AllocError);
+    };
+    let message = format!(in alloc; "invalid value '{word}' for '[node:port]...': {fault}")?;
+    serve_command(alloc)?
+        .bin_name("failreg serve")?
+        .error(ErrorKind::ValueValidation, &message)
 }
 
 /// What a command line asks for, whose first word is the program's name.
@@ -147,7 +204,7 @@ pub fn read_command_line<'a>(alloc: Global, words: &'a [String]) -> Result<Invoc
     match matches.subcommand() {
         Some(("parse", matches)) => Ok(Invocation::Parse(matches.get_str("text").unwrap_or(""))),
         Some(("threads", _)) => Ok(Invocation::Threads),
-        Some(("serve", matches)) => Ok(Invocation::Serve(serve_options(matches))),
+        Some(("serve", matches)) => Ok(Invocation::Serve(serve_options(alloc, matches)?)),
         Some((_, matches)) => Ok(Invocation::Sim {
             echo: matches.get_flag("echo"),
         }),

@@ -177,9 +177,20 @@ A client has 2 seconds for the head of its request and 10 in all, and then its
 connection is ended, which counts as served. 64 are served at once, and 4 of
 them while they send a body of more than 65536 bytes.
 
-The status is 0 once all were served. It is 1 where the node can't be made
-(`refused N21 BadConfig`: n isn't below m, or m isn't 1 to 32), where the port
-can't be listened on (`refused V1 BindFailed`), where the node refuses the
+With --rounds and peers the node tells them what it knows, in a thread of its
+own. In each round it makes a message to every other node, in the order of
+their numbers, and posts it to that node's peer, which has 2 seconds to answer;
+then it rests. A message is lost where its node has no peer here, or the peer
+isn't reached or refuses it; a later one tells the same again. Each message is
+one of the calls that --cap allows, and takes its bytes of memory for good. Of
+two peers of one node the first counts, and one of the node itself is told
+nothing. The rounds end with the service, which waits for the one under way.
+Where no thread or no sockets can be had for them, the node is served without.
+
+The status is 0 once all were served. It is 2 where a peer isn't the number of
+a node of the cluster and a port, round a `:`. It is 1 where the node can't be
+made (`refused N21 BadConfig`: n isn't below m, or m isn't 1 to 32), where the
+port can't be listened on (`refused V1 BindFailed`), where the node refuses the
 FAILPOINTS text, and where no more clients can be let in; the reason stands on
 standard error.
 

@@ -13,7 +13,9 @@ ghost use Rattle.failreg.specs.Statuses.{HasStatus, OnStatus};
 mod command_line;
 mod finish;
 mod help;
+mod peers;
 mod serving;
+mod telling;
 
 use actions::parse_actions;
 use command_line::{Invocation, read_command_line};

@@ -7,11 +7,11 @@ ghost use Rattle.failreg.specs.Statuses.{HasStatus};
 
 use crate::command_line::ServeOptions;
 use crate::finish::{finish_serve, refuse};
-use http_serve::{ServeFault, serve};
+use crate::telling::{Serving, serve_and_tell};
+use http_serve::ServeFault;
 use node_core::{Config, NodeFault};
 use node_registry::{Label, Registry, Seat};
 use std::alloc::{AllocGlobal, Global};
-use std::io;
 use std::io::Write;
 use std::marker::Brand;
 use std::net::{Ipv4Addr, Net, SocketAddr};
@@ -21,6 +21,7 @@ use std::sync::ledger::Blank;
 use std::sync::{Arc, Wait};
 use std::thread::Threads;
 use std::time::Clock;
+use std::{io, net};
 use tokio::net::TcpListener;
 use tokio::runtime::{Builder, Runtime};
 
@@ -33,10 +34,11 @@ where
         + Clock
         + RandomSource
         + AllocGlobal
-        + Net
+        + Net<Listener = net::TcpListener, Stream = net::TcpStream>
         + Send
         + Sync
         + Copy
+        + Drop
         + Print
         + Eprint,
     ensures status { IfOk result (λ code. (exit_status code ≡ 0) ⊎ (exit_status code ≡ 1)) }
@@ -51,7 +53,7 @@ where
         nodes: options.nodes,
         trace_cap: options.cap,
     };
-    serve_registry::<Brand, R>(rt, Blank::new(1), config, options)
+    serve_registry::<Brand, R>(rt, Blank::new(2), config, options)
 }
 
 // The same of the registry that `L` names: what that is, the call above picks.
@@ -68,19 +70,20 @@ where
         + Clock
         + RandomSource
         + AllocGlobal
-        + Net
+        + Net<Listener = net::TcpListener, Stream = net::TcpStream>
         + Send
         + Sync
         + Copy
+        + Drop
         + Print
         + Eprint,
     requires name { blank.name ≡ L.name }
-    requires parts { (blank.parts ≡ L.parts) × (L.parts ≡ 1) }
+    requires parts { (blank.parts ≡ L.parts) × (L.parts ≡ 2) }
     requires config { config ≡ L.config }
     ensures status { IfOk result (λ code. (exit_status code ≡ 0) ⊎ (exit_status code ≡ 1)) }
     ensures bad { IsTrue (is_bad_config config) → HasStatus result 1 }
 {
-    let (registry, mut seat) = match opened::<L, R>(rt, rt.alloc(), blank, config) {
+    let (registry, mut seat, telling_seat) = match opened::<L, R>(rt, rt.alloc(), blank, config) {
         Ok(opened) => opened,
         Err(fault) => return refuse(rt, fault),
     };
@@ -94,28 +97,34 @@ where
     {
         return refuse(rt, fault);
     }
-    let (alloc, requests) = (rt.alloc(), options.requests);
+    let serving = Serving {
+        runtime: &mut runtime,
+        registry: &registry,
+        seat,
+        listener,
+        requests: options.requests,
+    };
     finish_serve(
         rt,
-        serve(rt, alloc, &mut runtime, &registry, seat, listener, requests),
+        serve_and_tell(rt, serving, telling_seat, options.telling),
     )
 }
 
-// The registry of a node, with the seat from which it is called.
+// The registry of a node, with the two seats from which it is called.
 fn opened<L: Label, R: Wait>(
     rt: &R,
     alloc: Global,
     blank: Blank,
     config: Config,
-) -> Result<(Arc<Registry<L>>, Seat<L>), NodeFault>
+) -> Result<(Arc<Registry<L>>, Seat<L>, Seat<L>), NodeFault>
     requires name { blank.name ≡ L.name }
-    requires parts { (blank.parts ≡ L.parts) × (L.parts ≡ 1) }
+    requires parts { (blank.parts ≡ L.parts) × (L.parts ≡ 2) }
     requires config { config ≡ L.config }
     ensures { OnOk result (is_bad_config config ≡ false) }
 {
-    let (registry, mut seats) = Registry::<L>::start(rt, alloc, blank, config, [0; 32], 1)?;
-    match (Arc::new(alloc, registry), seats.pop()) {
-        (Ok(registry), Some(seat)) => Ok((registry, seat)),
+    let (registry, mut seats) = Registry::<L>::start(rt, alloc, blank, config, [0; 32], 2)?;
+    match (Arc::new(alloc, registry), seats.pop(), seats.pop()) {
+        (Ok(registry), Some(first), Some(second)) => Ok((registry, first, second)),
         _ => Err(NodeFault::OutOfMemory),
     }
 }

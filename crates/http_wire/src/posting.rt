@@ -1,6 +1,6 @@
 //! One message to a server.
 
-ghost use Rattle.std.specs.Prelude.{◌≢◌, IfErr};
+ghost use Rattle.std.specs.Prelude.{◌≡◌, ◌≢◌, ◌↔◌, IfErr, IsOk};
 
 use bytes::Bytes;
 use futures::future::join;
@@ -101,6 +101,18 @@ where
     }
 }
 
+// What the status of a reply says of a message: that it was taken in is only 200.
+fn taken_in(status: StatusCode) -> Result<(), WireError>
+    ensures ok { IsOk result ↔ (status ≡ 200) }
+    ensures err { IfErr result (λ e. e ≡ WireError.Failed) }
+{
+    if status.as_u16() == 200 {
+        Ok(())
+    } else {
+        Err(WireError::Failed)
+    }
+}
+
 /// Posts a message to the server on a port of this machine, over a connection of its own. Any reply but
 /// 200, and none within `POST_SECONDS`, is a failure.
 pub(crate) fn post<R>(
@@ -120,10 +132,5 @@ where
     };
     let request = request(alloc, message)?;
     let socket = connected(rt, runtime, port, deadline)?;
-    let status = answered(rt, alloc, runtime, socket, request, deadline)?;
-    if status == StatusCode::OK {
-        Ok(())
-    } else {
-        Err(WireError::Failed)
-    }
+    taken_in(answered(rt, alloc, runtime, socket, request, deadline)?)
 }

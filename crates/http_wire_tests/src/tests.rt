@@ -1,4 +1,7 @@
-//! What no contract says: what a wire does where a server isn't there, or never answers.
+//! What no contract says: what a wire does where a server isn't there, or never answers, and that a
+//! served node hears of what another one tells it.
+
+mod served;
 
 use gossip::{Wire, WireError};
 use http_wire::{HttpWire, POST_SECONDS, Peer};

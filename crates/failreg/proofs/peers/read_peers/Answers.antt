@@ -1,0 +1,14 @@
+use Rattle.std.proofs.Common.{◌≡◌, ℕ, List, [], Err, Bor, get_or, sym, ◌∙◌}
+use Rattle.failreg.specs.Peers.{peer_in}
+use Rattle.failreg.proofs.PeerLemmas.{first_bad}
+use Rattle.failreg.proofs.peers.read_peers.Goals as goal
+
+pub returns-in-Err-clause-bad : goal.returns-in-Err-clause-bad
+returns-in-Err-clause-bad c word fault e =
+    let nobody : Bor (List ℕ) = record { ref_ptr = (0, 0); now = [] } in
+    let same : get_or c.args.words.now c.loop-word.word-index nobody ≡ word = cc in
+    let why : c.in-Err.fault ≡ fault = cc in
+    let told : peer_in c.args.nodes (get_or c.args.words.now c.loop-word.word-index nobody).now ≡ Err c.in-Err.fault =
+    sym c.read_peer.ensures ∙ c.in-Err.is in
+    rw (← same, ← why) (first_bad (λ w. w.now) c.args.nodes c.args.words.now c.loop-word.word-index nobody c.loop-word.peers.items
+    c.in-Err.fault c.loop-word-test.true c.loop-word.invariant told)

@@ -1,0 +1,193 @@
+//! A node that is served, and its gossip beside it.
+
+ghost use Rattle.std.specs.Prelude.{◌≡◌, ◌≤◌, ◌+◌, ◌*◌, ◌⊎◌, IfOk, IfErr};
+ghost use Rattle.http_serve.specs.declared.fault.ServeFault.TheVariants.{AcceptFailed, OutOfMemory};
+ghost use Rattle.failreg.specs.Rounds.{most_calls};
+
+use gossip::gossip_rounds;
+use http_serve::{ServeFault, serve};
+use http_wire::{HttpWire, Peer};
+use node_registry::{Label, Registry, Seat};
+use std::alloc::AllocGlobal;
+use std::net::Net;
+use std::random::RandomSource;
+use std::sync::atomic::{AtomicBool, Ordering};
+use std::sync::{Arc, Wait};
+use std::thread::{Parker, Scope, Threads};
+use std::time::{Clock, Duration};
+use std::{net, thread};
+use tokio::net::TcpListener;
+use tokio::runtime::Runtime;
+
+/// Whom a served node tells what it knows, and how often.
+#[derive(Debug, Drop)]
+pub struct Telling {
+    pub peers: Vec<Peer>,
+    pub rounds: u32,
+    /// The rest between two rounds.
+    pub every: Duration,
+}
+
+/// A node whose port is listened on, and how many clients are let in.
+#[derive(Drop)]
+pub struct Serving<'a, L: Label> {
+    pub runtime: &'a mut Runtime,
+    pub registry: &'a Arc<Registry<L>>,
+    pub seat: Seat<L>,
+    pub listener: TcpListener,
+    pub requests: u32,
+}
+
+/// Whether a service has ended. Its end also ends a rest.
+#[derive(Drop)]
+struct Service {
+    has_ended: AtomicBool,
+    sleeper: Parker,
+}
+
+impl Service {
+    fn new() -> Service {
+        Service {
+            has_ended: AtomicBool::new(false),
+            sleeper: Parker::new(),
+        }
+    }
+
+    fn end(&self) {
+        self.has_ended.store(true, Ordering::SeqCst);
+        self.sleeper.unpark();
+    }
+
+    fn has_ended(&self) -> bool {
+        self.has_ended.load(Ordering::SeqCst)
+    }
+
+    // Rests so long, or until the end.
+    fn rest<R: Wait>(&self, rt: &R, time: Duration) {
+        self.sleeper.park_timeout(rt, time);
+    }
+}
+
+// Does one round after the other, with a rest between two, until all are done or the service has
+// ended. Where the wire can't be made there is none.
+fn keep_telling<L, R>(
+    rt: &R,
+    registry: &Registry<L>,
+    seat: &mut Seat<L>,
+    telling: Telling,
+    service: &Service,
+)
+where
+    L: Label,
+    R: Wait + Clock + Net + RandomSource + AllocGlobal + Copy + Drop,
+    ensures { seat.new ≤ seat.old + telling.rounds * most_calls L.config }
+{
+    let Telling {
+        peers,
+        rounds,
+        every,
+    } = telling;
+    let Ok(mut wire) = HttpWire::new(*rt, peers) else {
+        return;
+    };
+    for round in 0..rounds {
+        if round > 0 {
+            service.rest(rt, every);
+        }
+        if service.has_ended() {
+            return;
+        }
+        gossip_rounds(rt, rt.alloc(), registry, seat, &mut wire, 1);
+    }
+}
+
+// Serves a node.
+fn serve_alone<L, R>(rt: &R, serving: Serving<'_, L>) -> Result<u32, ServeFault>
+where
+    L: Label + Send + Sync,
+    R: Wait + Threads + Clock + RandomSource + AllocGlobal + Send + Sync + Copy,
+    ensures ok { IfOk result (λ served. served ≡ serving.entry.requests) }
+    ensures err { IfErr result (λ f. (f ≡ AcceptFailed) ⊎ (f ≡ OutOfMemory)) }
+{
+    let Serving {
+        runtime,
+        registry,
+        seat,
+        listener,
+        requests,
+    } = serving;
+    serve(rt, rt.alloc(), runtime, registry, seat, listener, requests)
+}
+
+// The same, with the node's gossip in a thread of the scope.
+fn serve_in<'s, E, L, R>(
+    scope: &Scope<'s, E>,
+    rt: &'s R,
+    serving: Serving<'s, L>,
+    mut seat: Seat<L>,
+    telling: Telling,
+    service: &'s Service,
+) -> Result<u32, ServeFault>
+where
+    L: Label + Send + Sync + 's,
+    R: Wait
+        + Threads
+        + Clock
+        + Net<Listener = net::TcpListener, Stream = net::TcpStream>
+        + RandomSource
+        + AllocGlobal
+        + Send
+        + Sync
+        + Copy
+        + Drop,
+    ensures ok { IfOk result (λ served. served ≡ serving.entry.requests) }
+    ensures err { IfErr result (λ f. (f ≡ AcceptFailed) ⊎ (f ≡ OutOfMemory)) }
+{
+    let registry: &'s Registry<L> = serving.registry;
+    let thread = scope.spawn(move || keep_telling(rt, registry, &mut seat, telling, service));
+    let served = serve_alone(rt, serving);
+    service.end();
+    if let Ok(thread) = thread {
+        thread.join(rt);
+    }
+    served
+}
+
+/// Serves a node as `serve` does, and meanwhile tells its peers what it knows, from a seat of its own
+/// in a second thread. Without peers, or where that thread can't be started, it is served without
+/// gossip.
+pub fn serve_and_tell<L, R>(
+    rt: &R,
+    serving: Serving<'_, L>,
+    seat: Seat<L>,
+    telling: Telling,
+) -> Result<u32, ServeFault>
+where
+    L: Label + Send + Sync,
+    R: Wait
+        + Threads
+        + Clock
+        + Net<Listener = net::TcpListener, Stream = net::TcpStream>
+        + RandomSource
+        + AllocGlobal
+        + Send
+        + Sync
+        + Copy
+        + Drop,
+    ensures ok { IfOk result (λ served. served ≡ serving.entry.requests) }
+    ensures err { IfErr result (λ f. (f ≡ AcceptFailed) ⊎ (f ≡ OutOfMemory)) }
+{
+    if telling.peers.is_empty() || telling.rounds == 0 {
+        return serve_alone(rt, serving);
+    }
+    let service = Service::new();
+    let service = &service;
+    thread::scope(
+        thread::scope_env(),
+        rt,
+        |scope| -> Result<u32, ServeFault>
+            ensures ok { IfOk result (λ served. served ≡ serving.entry.requests) }
+            ensures err { IfErr result (λ f. (f ≡ AcceptFailed) ⊎ (f ≡ OutOfMemory)) }
+        { serve_in(scope, rt, serving, seat, telling, service) },
+    )
+}
