@@ -1,0 +1,5 @@
+pub mod Newlines
+pub mod Cut
+pub mod Plain
+pub mod Rows
+pub mod Folds
