@@ -76,5 +76,5 @@ cut_later x y ys other more =
     (cond-false (x == 10) (y ∷ ys) (drop_through 10 (y ∷ ys)) other)
 
 pub first_line : (x : ℕ) (xs : List ℕ) → lines_in (x ∷ xs) ≡ first_piece 10 (x ∷ xs) ∷ lines_in (drop_through 10 (x ∷ xs))
-first_line x [] = elim (cases_Bool (x == 10)) [ | inl ends ↦ cut_here x [] ends | inr other ↦ cut_at_end x other ]
-first_line x (y ∷ ys) = elim (cases_Bool (x == 10)) [ | inl ends ↦ cut_here x (y ∷ ys) ends | inr other ↦ cut_later x y ys other (first_line y ys) ]
+first_line x [] = elim (cases_Bool (x == 10)) [ inl ends ↦ cut_here x [] ends | inr other ↦ cut_at_end x other ]
+first_line x (y ∷ ys) = elim (cases_Bool (x == 10)) [ inl ends ↦ cut_here x (y ∷ ys) ends | inr other ↦ cut_later x y ys other (first_line y ys) ]

@@ -26,7 +26,7 @@ comes_after d (x ∷ xs) ys = further (λ next. comes (Some next) (xs ++ ys)) (�
     further all first rest each None = refl
     further all first rest each (Some next) = each next
 
-put_last : {A : Type 0} (x : A) (parts : List (List A)) (part : List A) → in_last x (parts ++ part ∷ []) ≡ Some (parts ++ (part ++ x ∷ []) ∷ [])
+pub put_last : {A : Type 0} (x : A) (parts : List (List A)) (part : List A) → in_last x (parts ++ part ∷ []) ≡ Some (parts ++ (part ++ x ∷ []) ∷ [])
 put_last x [] part = refl
 put_last x (p ∷ []) part = refl
 put_last x (p ∷ q ∷ parts) part = ap (option_map (λ rest. p ∷ rest)) (put_last x (q ∷ parts) part)
@@ -47,8 +47,8 @@ traces_come done [] n e = ap (λ t. Some (drill t [])) (sym (append-nil done))
 traces_come done (t ∷ more) n e =
     comes_after (drill done []) (trace_lines n t) (numbered trace_lines (n + 1) more)
     ∙ ap (option_and_then (λ next. comes (Some next) (numbered trace_lines (n + 1) more))) (
-      ap (λ o. option_and_then (λ next. comes (Some next) (map entry t)) (with_traces (drill done []) o)) (begin_next n done e)
-      ∙ entries_come done [] t)
+    ap (λ o. option_and_then (λ next. comes (Some next) (map entry t)) (with_traces (drill done []) o)) (begin_next n done e)
+    ∙ entries_come done [] t)
     ∙ traces_come (done ++ t ∷ []) more (n + 1) (longer done t n e)
     ∙ ap (λ ts. Some (drill ts [])) (append_assoc done (t ∷ []) more)
   where
@@ -67,8 +67,8 @@ lists_come traces done [] n e = ap (λ t. Some (drill traces t)) (sym (append-ni
 lists_come traces done (t ∷ more) n e =
     comes_after (drill traces done) (list_lines n t) (numbered list_lines (n + 1) more)
     ∙ ap (option_and_then (λ next. comes (Some next) (numbered list_lines (n + 1) more))) (
-      ap (λ o. option_and_then (λ next. comes (Some next) (map receipt t)) (with_lists (drill traces done) o)) (begin_next n done e)
-      ∙ receipts_come traces done [] t)
+    ap (λ o. option_and_then (λ next. comes (Some next) (map receipt t)) (with_lists (drill traces done) o)) (begin_next n done e)
+    ∙ receipts_come traces done [] t)
     ∙ lists_come traces (done ++ t ∷ []) more (n + 1) (longer done t n e)
     ∙ ap (λ ts. Some (drill traces ts)) (append_assoc done (t ∷ []) more)
   where

@@ -1,5 +1,8 @@
 pub mod Newlines
 pub mod Cut
 pub mod Plain
-pub mod Rows
+pub mod Backs
 pub mod Folds
+pub mod Said
+pub mod Puts
+pub mod WordsRead

@@ -20,7 +20,7 @@ pub struct Drill {
 // With an entry behind the last trace, where there is one.
 fn with_entry(mut traces: Vec<Trace>, entry: Entry) -> Result<Option<Vec<Trace>>, AllocError>
     ensures { IfOk result (λ all. option_map (λ v. traces_told v.items) all
-        ≡ in_last (told entry) (traces_told traces.entry.items)) }
+        ≡ in_last (told entry) (traces_told traces.items)) }
 {
     let Some(mut last) = traces.pop() else {
         return Ok(None);
@@ -36,7 +36,7 @@ fn with_receipt(
     receipt: Receipt,
 ) -> Result<Option<Vec<Vec<Receipt>>>, AllocError>
     ensures { IfOk result (λ all. option_map (λ v. lists_told v.items) all
-        ≡ in_last (receipt_told receipt) (lists_told lists.entry.items)) }
+        ≡ in_last (receipt_told receipt) (lists_told lists.items)) }
 {
     let Some(mut last) = lists.pop() else {
         return Ok(None);
@@ -53,7 +53,7 @@ fn with_trace(
     node: u64,
 ) -> Result<Option<Vec<Trace>>, AllocError>
     ensures { IfOk result (λ all. option_map (λ v. traces_told v.items) all
-        ≡ begun node (traces_told traces.entry.items)) }
+        ≡ begun node (traces_told traces.items)) }
 {
     if node != traces.len() as u64 {
         return Ok(None);
@@ -69,7 +69,7 @@ fn with_list(
     number: u64,
 ) -> Result<Option<Vec<Vec<Receipt>>>, AllocError>
     ensures { IfOk result (λ all. option_map (λ v. lists_told v.items) all
-        ≡ begun number (lists_told lists.entry.items)) }
+        ≡ begun number (lists_told lists.items)) }
 {
     if number != lists.len() as u64 {
         return Ok(None);
@@ -98,7 +98,7 @@ fn with_lists(traces: Vec<Trace>, lists: Option<Vec<Vec<Receipt>>>) -> Option<Dr
 // The drill with a line more, which isn't the first.
 fn after_head(alloc: Global, drill: Drill, line: Line) -> Result<Option<Drill>, AllocError>
     ensures { IfOk result (λ next. option_map drill_of next
-        ≡ after_head (drill_of drill.entry) (line_told line.entry)) }
+        ≡ after_head (drill_of drill) (line_told line)) }
 {
     let Drill { traces, lists } = drill;
     match line {
@@ -112,7 +112,7 @@ fn after_head(alloc: Global, drill: Drill, line: Line) -> Result<Option<Drill>, 
 }
 
 fn at_start(alloc: Global, line: Line) -> Option<Drill>
-    ensures { option_map drill_of result ≡ at_start (line_told line.entry) }
+    ensures { option_map drill_of result ≡ at_start (line_told line) }
 {
     match line {
         Line::Head => Some(Drill {
@@ -130,7 +130,7 @@ pub(crate) fn after_text(
     bytes: &[u8],
 ) -> Result<Option<Drill>, AllocError>
     ensures { IfOk result (λ next. option_map drill_of next
-        ≡ after_text (option_map drill_of drill.entry) bytes.now) }
+        ≡ after_text (option_map drill_of drill) bytes.now) }
 {
     match (drill, line_in(alloc, bytes)?) {
         (Some(drill), Some(line)) => after_head(alloc, drill, line),

@@ -5,6 +5,8 @@ ghost use Rattle.serde_json.specs.View.{view};
 ghost use Rattle.actions.specs.Value.{task_value};
 ghost use Rattle.node_core.specs.Asks.{passed};
 ghost use Rattle.audit.specs.Told.{ask_told, reply_told};
+ghost use Rattle.hex.specs.Hex.{IsBytes};
+ghost use Rattle.drills.specs.Fits.{AskFits, PassFits, ReplyFits, StampFits, WordsFit};
 ghost use Rattle.drills.specs.Rows.{bytes_data, text_data, count_data, row, words_data, task_data, ask_data, pass_data, reply_data, list_data};
 
 use actions::Task;
@@ -15,7 +17,8 @@ use std::alloc::{AllocError, Global};
 
 // Bytes, in hexadecimal.
 fn bytes_value(alloc: Global, bytes: &[u8]) -> Result<Value, AllocError>
-    ensures { IfOk result (λ value. view value ≡ bytes_data bytes.now) }
+    ensures value { IfOk result (λ value. view value ≡ bytes_data bytes.now) }
+    ensures fits { OnOk result (IsBytes bytes.now) }
 {
     Ok(Value::String(hex::encode(alloc, bytes)?))
 }
@@ -71,7 +74,8 @@ fn task_value(alloc: Global, task: &Task) -> Result<Value, AllocError>
 
 /// What was asked.
 pub(crate) fn ask_value(alloc: Global, ask: &Ask) -> Result<Value, AllocError>
-    ensures { IfOk result (λ value. view value ≡ ask_data (ask_told ask.now)) }
+    ensures value { IfOk result (λ value. view value ≡ ask_data (ask_told ask.now)) }
+    ensures fits { OnOk result (AskFits (ask_told ask.now)) }
 {
     match ask {
         Ask::Set { name, text } => json!(in alloc; ["set", name.as_str(), text.as_str()]),
@@ -97,14 +101,16 @@ pub(crate) fn ask_value(alloc: Global, ask: &Ask) -> Result<Value, AllocError>
 
 // A word with a stamp: its clock and its node.
 fn stamped(alloc: Global, word: &str, stamp: Stamp) -> Result<Value, AllocError>
-    ensures { IfOk result (λ value. view value
+    ensures value { IfOk result (λ value. view value
         ≡ row word.now (count_data stamp.clock ∷ count_data stamp.node ∷ [])) }
+    ensures fits { OnOk result (StampFits stamp) }
 {
     json!(in alloc; [word, stamp.clock, stamp.node])
 }
 
 fn pass_value(alloc: Global, reply: &PassReply) -> Result<Value, AllocError>
-    ensures { IfOk result (λ value. view value ≡ pass_data (passed reply.now)) }
+    ensures value { IfOk result (λ value. view value ≡ pass_data (passed reply.now)) }
+    ensures fits { OnOk result (PassFits (passed reply.now)) }
 {
     match reply {
         PassReply::Unset => alone(alloc, "unset"),
@@ -118,7 +124,8 @@ fn pass_value(alloc: Global, reply: &PassReply) -> Result<Value, AllocError>
 
 /// What was answered.
 pub(crate) fn reply_value(alloc: Global, reply: &Reply) -> Result<Value, AllocError>
-    ensures { IfOk result (λ value. view value ≡ reply_data (reply_told reply.now)) }
+    ensures value { IfOk result (λ value. view value ≡ reply_data (reply_told reply.now)) }
+    ensures fits { OnOk result (ReplyFits (reply_told reply.now)) }
 {
     match reply {
         Reply::Set(stamp) => stamped(alloc, "set", *stamp),
@@ -147,7 +154,8 @@ fn push_word(values: &mut Vec<Value>, word: u32) -> Result<(), AllocError>
 
 /// The words of a pass.
 pub(crate) fn words_value(alloc: Global, words: &[u32]) -> Result<Value, AllocError>
-    ensures { IfOk result (λ value. view value ≡ words_data words.now) }
+    ensures value { IfOk result (λ value. view value ≡ words_data words.now) }
+    ensures fits { OnOk result (WordsFit words.now) }
 {
     let mut values = Vec::new(alloc);
     for word in words {

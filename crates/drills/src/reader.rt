@@ -1,7 +1,8 @@
 //! A recorded drill from a reader.
 
 ghost use Rattle.std.specs.Prelude.{◌≡◌, ◌≢◌, ℕ, ◌∷◌, [], true, false, cond, Some, IfOk, IfSome, Ok, Err};
-ghost use Rattle.std.specs.Io.Buffered.{reader_inner, reader_remaining};
+ghost use Rattle.std.specs.Io.BufRead.{strip_last};
+ghost use Rattle.std.specs.Io.Buffered.{reader_inner};
 ghost use Rattle.scripts.specs.Watched.{has_failed, inner_of};
 ghost use Rattle.drills.specs.declared.fault.DrillFault.TheVariants.{BadLine, ReadFailed, WriteFailed};
 ghost use Rattle.drills.specs.Drills.{drill_in, drill_of, lines_in};
@@ -12,6 +13,15 @@ use crate::fault::DrillFault;
 use scripts::Watched;
 use std::alloc::Global;
 use std::io::{BufRead, BufReader, Read};
+
+// A line without the newline that ends it, if one does.
+fn drop_newline(line: &mut Vec<u8>)
+    ensures { line.new.items ≡ strip_last 10 line.old.items }
+{
+    if line.last() == Some(&b'\n') {
+        line.pop();
+    }
+}
 
 // Takes the next line, without its newline, and says whether there was one.
 fn next_line<I: Read>(
@@ -27,9 +37,7 @@ fn next_line<I: Read>(
     match reader.read_until(b'\n', line) {
         Ok(0) => Ok(false),
         Ok(_) => {
-            if line.last() == Some(&b'\n') {
-                line.pop();
-            }
+            drop_newline(line);
             Ok(true)
         }
         Err(_) if reader.get_ref().failed() => Err(DrillFault::ReadFailed),

@@ -19,7 +19,10 @@ pub(crate) fn byte_in(value: &Value) -> Option<u8>
     ensures { result ≡ byte_in (view value.now) }
 {
     let number = value.as_u64()?;
-    (number <= 255).then_some(number as u8)
+    if number > 255 {
+        return None;
+    }
+    Some(number as u8)
 }
 
 // A number of 16 bits.
@@ -27,7 +30,10 @@ fn short_in(value: &Value) -> Option<u16>
     ensures { result ≡ short_in (view value.now) }
 {
     let number = value.as_u64()?;
-    (number <= 65535).then_some(number as u16)
+    if number > 65535 {
+        return None;
+    }
+    Some(number as u16)
 }
 
 /// A number of 32 bits.
@@ -35,7 +41,10 @@ pub(crate) fn word_in(value: &Value) -> Option<u32>
     ensures { result ≡ word_in (view value.now) }
 {
     let number = value.as_u64()?;
-    (number <= 4_294_967_295).then_some(number as u32)
+    if number > 4_294_967_295 {
+        return None;
+    }
+    Some(number as u32)
 }
 
 /// Words, where each is a number of 32 bits.
@@ -46,8 +55,8 @@ pub(crate) fn words_in(alloc: Global, value: &Value) -> Result<Option<Vec<u32>>,
         return Ok(None);
     };
     let mut words = Vec::with_capacity(alloc, values.len())?;
-    for value in values {
-        let Some(word) = word_in(value) else {
+    for item in values {
+        let Some(word) = word_in(item) else {
             return Ok(None);
         };
         words.push(word)?;

@@ -20,7 +20,7 @@ use std::io::Write;
 fn write_line<W: Write>(writer: &mut Watched<W>, mut text: String) -> Result<(), DrillFault>
     requires { has_failed writer.old ≡ false }
     ensures ok { OnOk result (Writes W.contents writer.old writer.new
-        (string_bytes text.entry ++ newline ∷ [])) }
+        (string_bytes text ++ newline ∷ [])) }
     ensures write_failed { (result ≡ Err WriteFailed) ↔ (has_failed writer.new ≡ true) }
     ensures only { IfErr result (λ fault. (fault ≡ WriteFailed) ⊎ (fault ≡ OutOfMemory)) }
 {

@@ -84,8 +84,13 @@ entry_back e h = rw (ask_back e.ask h.ask, words_back e.words h.words, reply_bac
 
 receipt_back : (r : ReceiptTold) → LineFits (receipt r) → receipt_in (line_data (receipt r)) ≡ Some r
 receipt_back r h =
-    rw (fits_up_to 255 r.node (omega (arith, h.0)), fits_up_to 4294967295 r.index (omega (arith, h.1)),
-    ask_back r.entry.ask h.2.ask, words_back r.entry.words h.2.words, reply_back r.entry.reply h.2.reply) refl
+    rw (
+      fits_up_to 255 r.node (omega (arith, h.0)),
+      fits_up_to 4294967295 r.index (omega (arith, h.1)),
+      ask_back r.entry.ask h.2.ask,
+      words_back r.entry.words h.2.words,
+      reply_back r.entry.reply h.2.reply,
+    ) refl
 
 pub line_back : (line : LineTold) → LineFits line → line_of (line_data line) ≡ Some line
 line_back head h = refl
