@@ -1,19 +1,19 @@
 -- What is written of an entry is read as the same.
-use Rattle.std.proofs.Common.{◌≡◌, ℕ, ◌+◌, ◌≤◌, ◌<◌, ◌^◌, Bool, true, false, List, [], ◌∷◌, map, Option, Some, None, Ok, refl, sym, ap, ◌∙◌, arith, rules}
-use Rattle.std.specs.Prelude.{All, codes, option_map, nat_le, if◌then◌else◌}
+use Rattle.std.proofs.Common.{◌≡◌, ℕ, ◌≤◌, ◌<◌, ◌^◌, true, false, List, [], ◌∷◌, map, Option, Some, None, refl, ap, arith}
+use Rattle.std.specs.Prelude.{codes, option_map, nat_le}
 use Rattle.std.proofs.lemmas.Bool.{cond-true, le-leb}
 use Rattle.std.proofs.lemmas.List.Elements.{All-head, All-tail}
-use Rattle.hex.specs.Hex.{IsBytes, encode_lower}
+use Rattle.hex.specs.Hex.{IsBytes}
 use Rattle.hex.proofs.HexLemmas.{decode_of-encode_lower}
-use Rattle.serde_json.specs.Data.{Data, string}
+use Rattle.serde_json.specs.Data.{Data}
 use Rattle.serde_json.specs.View.{items_of}
 use Rattle.stamp_register.specs.declared.key.Stamp.{Stamp}
 use Rattle.actions.specs.Value.{TaskValue, off, «return», sleep, panic, print, pause, yield, delay}
 use Rattle.node_core.specs.Asks.{Passed, Unset, NoTerm, Act}
 use Rattle.audit.specs.Told.{AskTold, sets, removes, loads, passes, shifts, grants, emits, delivers, ReplyTold, was_set, was_removed, was_loaded, was_passed, was_shifted, was_granted, was_emitted, was_delivered, Told}
 use Rattle.drills.specs.Lines.{LineTold, head, trace, entry, list, receipt, ReceiptTold, line_data}
-use Rattle.drills.specs.Rows.{count_data, bytes_data, text_data, row, words_data, task_data, ask_data, pass_data, reply_data}
-use Rattle.drills.specs.Reading.{up_to, byte_in, bytes_in, text_or_null, words_in, words_from, decoded, stamp_in, task_in, ask_in, pass_in, reply_in, told_in, receipt_in, line_of}
+use Rattle.drills.specs.Rows.{count_data, bytes_data, text_data, row, task_data, ask_data, pass_data, reply_data}
+use Rattle.drills.specs.Reading.{up_to, bytes_in, text_or_null, words_from, decoded, stamp_in, task_in, ask_in, pass_in, reply_in, told_in, receipt_in, line_of}
 use Rattle.drills.specs.Fits.{StampFits, AskFits, ReplyFits, PassFits, WordsFit, ToldFits, LineFits}
 
 fits_up_to : (most n : ℕ) → n ≤ most → up_to most n ≡ Some n

@@ -1,6 +1,6 @@
 -- Bytes as lines.
-use Rattle.std.proofs.Common.{◌≡◌, ℕ, zero, suc, ◌+◌, ◌-◌, ◌<◌, ◌==◌, Bool, true, false, List, [], ◌∷◌, ◌++◌, length, map, flat_map, take, refl, sym, ap, ◌∙◌, arith, rules, append_assoc, inl, inr}
-use Rattle.std.specs.Prelude.{All, cond, slice_index, nat_lt, if◌then◌else◌}
+use Rattle.std.proofs.Common.{◌≡◌, ℕ, suc, ◌-◌, ◌==◌, Bool, true, false, List, [], ◌∷◌, ◌++◌, length, map, flat_map, take, refl, ap, ◌∙◌, arith, append_assoc, inl, inr}
+use Rattle.std.specs.Prelude.{All, cond, slice_index, nat_lt}
 use Rattle.std.specs.Io.BufRead.{drop_through, ends_with_byte, first_piece, strip_last, take_through}
 use Rattle.std.proofs.lemmas.Bool.{cases_Bool, cond_both, or_parts, cond-true, cond-false, lt-ltb}
 use Rattle.std.proofs.lemmas.List.Elements.{All-head, All-tail}

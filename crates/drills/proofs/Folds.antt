@@ -1,11 +1,11 @@
 -- The lines of a drill come to that drill.
-use Rattle.std.proofs.Common.{◌≡◌, ℕ, zero, suc, ◌+◌, ◌==◌, Bool, true, false, List, [], ◌∷◌, ◌++◌, length, map, flat_map, Option, Some, None, Result, Ok, Err, refl, sym, ap, ◌∙◌, arith, rules, append_assoc, append-nil, length-append}
-use Rattle.std.specs.Prelude.{All, cond, option_map, option_and_then, if◌then◌else◌}
+use Rattle.std.proofs.Common.{◌≡◌, ℕ, ◌+◌, ◌==◌, List, [], ◌∷◌, ◌++◌, length, map, Option, Some, None, Result, Ok, refl, sym, ap, ◌∙◌, arith, append_assoc, append-nil, length-append}
+use Rattle.std.specs.Prelude.{All, option_map, option_and_then}
 use Rattle.std.proofs.lemmas.Bool.{cond-true, eq-eqb}
 use Rattle.std.proofs.lemmas.List.Elements.{All-head, All-tail}
 use Rattle.audit.specs.Told.{Told}
-use Rattle.drills.specs.Lines.{LineTold, head, trace, entry, list, receipt, ReceiptTold, line_text}
-use Rattle.drills.specs.Drills.{DrillTold, after_head, after_line, begun, drill_from, drill_in, drill_lines, drill_text, ended, in_last, lines_in, list_lines, numbered, or_line, trace_lines, with_lists, with_traces, ◌>>=◌}
+use Rattle.drills.specs.Lines.{LineTold, entry, receipt, ReceiptTold, line_text}
+use Rattle.drills.specs.Drills.{DrillTold, after_head, after_line, begun, drill_from, drill_in, drill_lines, drill_text, in_last, list_lines, numbered, or_line, trace_lines, with_lists, with_traces, ◌>>=◌}
 use Rattle.drills.specs.Written.{ReadsBack}
 use Rattle.drills.proofs.Cut.{all_lines}
 

@@ -6,3 +6,5 @@ pub mod Folds
 pub mod Said
 pub mod Puts
 pub mod WordsRead
+pub mod Taken
+pub mod Growing

@@ -1,8 +1,8 @@
 -- The text of a line says it.
-use Rattle.std.proofs.Common.{◌≡◌, ℕ, ◌≤◌, false, List, Some, sym, ap, ◌∙◌, rules}
-use Rattle.std.specs.Prelude.{IsUtf8, option_and_then}
-use Rattle.serde_json.specs.Data.{Data, depth}
-use Rattle.serde_json.specs.Read.{max_depth, read}
+use Rattle.std.proofs.Common.{◌≡◌, ℕ, List, Some, sym, ap, ◌∙◌}
+use Rattle.std.specs.Prelude.{option_and_then}
+use Rattle.serde_json.specs.Data.{Data}
+use Rattle.serde_json.specs.Read.{read}
 use Rattle.serde_json.specs.Written.{compact_text, has_float}
 use Rattle.scripts.proofs.Texts.{text_in-text}
 use Rattle.drills.specs.Fits.{LineFits}

@@ -1,5 +1,5 @@
 -- What holds of all that the code's values tell: their numbers fit their types.
-use Rattle.std.specs.Prelude.{◌≡◌, ℕ, ◌<◌, ◌^◌, List, All}
+use Rattle.std.specs.Prelude.{ℕ, ◌<◌, ◌^◌, List, All}
 use Rattle.hex.specs.Hex.{IsBytes}
 use Rattle.stamp_register.specs.declared.key.Stamp.{Stamp}
 use Rattle.node_core.specs.Asks.{Passed, Unset, NoTerm, Act}

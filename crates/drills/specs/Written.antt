@@ -1,5 +1,5 @@
 -- What is written of a recorded drill, and that it reads back.
-use Rattle.std.specs.Prelude.{◌≡◌, ℕ, ◌≤◌, Bool, IsUtf8, false, ◌==◌, ◌||◌, List, [], ◌∷◌, ◌++◌, All, flat_map, Option, Some}
+use Rattle.std.specs.Prelude.{◌≡◌, ℕ, ◌≤◌, Bool, IsUtf8, false, ◌==◌, ◌||◌, List, [], ◌∷◌, All, flat_map, Option, Some}
 use Rattle.scripts.specs.Streams.{Writes}
 use Rattle.scripts.specs.declared.watched.Watched.{Watched}
 use Rattle.serde_json.specs.Data.{Data, depth}

@@ -39,17 +39,19 @@ fn members_in(value: &Value) -> usize
 fn told_in(alloc: Global, value: &Value) -> Result<Option<Entry>, AllocError>
     ensures { IfOk result (λ entry. option_map told entry ≡ told_in (view value.now)) }
 {
-    let (Some(ask), Some(words), Some(reply)) = (
-        value.get("ask"),
-        value.get("words"),
-        value.get("reply"),
-    ) else {
+    let Some(ask) = value.get("ask") else {
         return Ok(None);
     };
     let Some(ask) = ask_in(alloc, ask)? else {
         return Ok(None);
     };
+    let Some(words) = value.get("words") else {
+        return Ok(None);
+    };
     let Some(words) = words_in(alloc, words)? else {
+        return Ok(None);
+    };
+    let Some(reply) = value.get("reply") else {
         return Ok(None);
     };
     let Some(reply) = reply_in(alloc, reply)? else {
