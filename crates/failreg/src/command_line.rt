@@ -128,7 +128,7 @@ fn whole_command<'a>(alloc: Global) -> Result<Command<'a>, AllocError> {
         .help("A drill that `failreg threads --record` kept")
         .required(true);
     let audit = Command::new(alloc, "audit")
-        .about("Says whether the calls of a recorded drill can be explained, and counts executions")
+        .about("Audits a drill that `threads --record` kept")
         .after_help(AUDIT_HELP)
         .arg(file)?;
     Command::new(alloc, "failreg")

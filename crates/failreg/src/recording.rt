@@ -1,9 +1,12 @@
 //! Recorded drills: a script of threads whose drill is kept.
 
-ghost use Rattle.std.specs.Prelude.{◌≡◌, ◌≢◌, ℕ, ◌↔◌, ◌⊎◌, true, false, IfErr, OnOk, Ok, Err, string_bytes};
-ghost use Rattle.scripts.specs.declared.fault.ScriptFault.TheVariants.{OutOfMemory, WriteFailed};
+ghost use Rattle.std.specs.Prelude.{◌≡◌, ◌≢◌, ℕ, false, OnOk, Err};
+ghost use Rattle.scripts.specs.declared.fault.ScriptFault.TheVariants.{BadLine};
+ghost use Rattle.scripts.specs.Streams.{IfInput, Writes};
 ghost use Rattle.scripts.specs.Watched.{has_failed, has_unflushed};
-ghost use Rattle.failreg.specs.Recordings.{Recorded};
+ghost use Rattle.thread_scripts.specs.Outputs.{PlaysTo};
+ghost use Rattle.thread_scripts.specs.Plans.{plan_in, plan_value};
+ghost use Rattle.failreg.specs.Recordings.{Prints, Recorded};
 
 use drills::{DrillFault, write_drill};
 use scripts::{ScriptFault, Watched, read_script, write_text};
@@ -15,7 +18,9 @@ use std::thread::Threads;
 use thread_scripts::{ThreadPlan, output_of, play, read_plan};
 
 // Why a drill wasn't written, as scripts tell it.
-fn unwritten(fault: DrillFault) -> ScriptFault {
+fn unwritten(fault: DrillFault) -> ScriptFault
+    ensures { (line : ℕ) → result ≢ BadLine line }
+{
     match fault {
         DrillFault::WriteFailed => ScriptFault::WriteFailed,
         DrillFault::ReadFailed | DrillFault::OutOfMemory | DrillFault::BadLine { .. } => {
@@ -34,13 +39,20 @@ fn play_recorded<R: Threads + Wait + Sync, D: Write, O: Write>(
 ) -> Result<(), ScriptFault>
     requires recorder { has_failed recorder.old ≡ false }
     requires writer { has_failed writer.old ≡ false }
-    // A drill was written that reads back as the same, with a trace for each node.
-    ensures recorded { OnOk result (Recorded plan.now.size.nodes D.contents recorder.old recorder.new) }
-    ensures flushed { OnOk result (has_unflushed recorder.new ≡ false) }
-    ensures failed { has_failed recorder.new ≡ true → result ≡ Err WriteFailed }
+    // A drill was kept that reads back as the same: a trace for each node, and a receipt for each
+    // of their entries.
+    ensures kept { OnOk result
+        (Recorded plan.now.size.nodes D.contents recorder.old recorder.new) }
+    ensures kept_whole { OnOk result (has_unflushed recorder.new ≡ false) }
+    ensures output { OnOk result
+        (Prints (plan_value plan.now) O.contents writer.old writer.new) }
+    ensures flushed { OnOk result (has_unflushed writer.new ≡ false) }
+    ensures no_line { (line : ℕ) → result ≢ Err (BadLine line) }
 {
     let played = play(rt, alloc, plan)?;
-    write_drill(alloc, &played.traces, &played.lists, recorder).map_err(unwritten)?;
+    if let Err(fault) = write_drill(alloc, &played.traces, &played.lists, recorder) {
+        return Err(unwritten(fault));
+    }
     let text = output_of(alloc, plan, &played)?;
     write_text(writer, text.as_bytes())
 }
@@ -56,6 +68,13 @@ pub fn run_recorded<R: Threads + Wait + Sync + Files, I: Read, O: Write>(
 ) -> Result<(), ScriptFault>
     requires reader { has_failed reader.old ≡ false }
     requires writer { has_failed writer.old ≡ false }
+    // The script has a plan, and its whole output is written and flushed.
+    ensures ok { OnOk result (IfInput I.remaining reader.old (λ input.
+        PlaysTo input (Writes O.contents writer.old writer.new))) }
+    ensures flushed { OnOk result (has_unflushed writer.new ≡ false) }
+    // The line is the first that is bad.
+    ensures bad_line { (line : ℕ) → result ≡ Err (BadLine line) →
+        IfInput I.remaining reader.old (λ input. plan_in input ≡ Err line) }
 {
     let script = read_script(alloc, reader)?;
     let plan = read_plan(alloc, script.as_slice())?;
