@@ -129,7 +129,7 @@ fn read<I: Read + Drop>(alloc: Global, reader: I) -> Result<Drill, DrillFault> {
 }
 
 // Writes a drill, without what the contract says of it.
-fn write<W: Write>(alloc: Global, drill: &Drill, writer: W) -> Result<(), DrillFault> {
+fn write<W: Write + Drop>(alloc: Global, drill: &Drill, writer: W) -> Result<(), DrillFault> {
     let mut writer = Watched::new(writer);
     write_drill(alloc, &drill.traces, &drill.lists, &mut writer)
 }
