@@ -1,2 +1,3 @@
 mod PeerLemmas
+pub mod Recorded
 mod RoundLemmas

@@ -1,3 +1,4 @@
 pub mod Peers
 pub mod Rounds
 pub mod Statuses
+pub mod Recordings

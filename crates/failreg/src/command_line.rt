@@ -1,6 +1,6 @@
 //! The command line.
 
-use crate::help::{EXAMPLE, PARSE_HELP, SERVE_HELP, SIM_HELP, THREADS_HELP};
+use crate::help::{AUDIT_HELP, EXAMPLE, PARSE_HELP, SERVE_HELP, SIM_HELP, THREADS_HELP};
 use crate::peers::{PeersFault, read_peers};
 use crate::telling::Telling;
 use clap::error::ErrorKind;
@@ -17,8 +17,10 @@ pub enum Invocation<'a> {
     Parse(&'a str),
     /// To run the script on standard input, and perhaps to echo its lines.
     Sim { echo: bool },
-    /// To run the script of threads on standard input.
-    Threads,
+    /// To run the script of threads on standard input, and perhaps to keep its drill in a file.
+    Threads { record: Option<&'a str> },
+    /// To audit the drill in a file.
+    Audit(&'a str),
     /// To serve a node over HTTP.
     Serve(ServeOptions<'a>),
 }
@@ -148,9 +150,21 @@ fn whole_command<'a>(alloc: Global) -> Result<Command<'a>, AllocError> {
         .about("Runs the script on standard input, and prints what its lines answer")
         .after_help(SIM_HELP)
         .arg(echo)?;
+    let record = Arg::new(alloc, "record")
+        .long("record")
+        .value_name("file")
+        .help("Keeps the drill in this file, for `failreg audit`");
     let threads = Command::new(alloc, "threads")
         .about("Runs the script on standard input with workers in threads, and counts their calls")
-        .after_help(THREADS_HELP);
+        .after_help(THREADS_HELP)
+        .arg(record)?;
+    let file = Arg::new(alloc, "file")
+        .help("A drill that `failreg threads --record` kept")
+        .required(true);
+    let audit = Command::new(alloc, "audit")
+        .about("Audits a drill that `threads --record` kept")
+        .after_help(AUDIT_HELP)
+        .arg(file)?;
     Command::new(alloc, "failreg")
         .version(VERSION)
         .about("Failpoints of a cluster, with shared budgets")
@@ -159,6 +173,7 @@ fn whole_command<'a>(alloc: Global) -> Result<Command<'a>, AllocError> {
         .subcommand(parse)?
         .subcommand(sim)?
         .subcommand(threads)?
+        .subcommand(audit)?
         .subcommand(serve_command(alloc)?)
 }
 
@@ -203,7 +218,10 @@ pub fn read_command_line<'a>(alloc: Global, words: &'a [String]) -> Result<Invoc
     let matches = command.try_get_matches_from(words)?;
     match matches.subcommand() {
         Some(("parse", matches)) => Ok(Invocation::Parse(matches.get_str("text").unwrap_or(""))),
-        Some(("threads", _)) => Ok(Invocation::Threads),
+        Some(("threads", matches)) => Ok(Invocation::Threads {
+            record: matches.get_str("record"),
+        }),
+        Some(("audit", matches)) => Ok(Invocation::Audit(matches.get_str("file").unwrap_or(""))),
         Some(("serve", matches)) => Ok(Invocation::Serve(serve_options(alloc, matches)?)),
         Some((_, matches)) => Ok(Invocation::Sim {
             echo: matches.get_flag("echo"),

@@ -1,11 +1,12 @@
 //! How the program ends: what it says last, and its exit status.
 
-ghost use Rattle.std.specs.Prelude.{◌≡◌, ◌↔◌, IfOk, IsOk, IsErr};
+ghost use Rattle.std.specs.Prelude.{◌≡◌, ◌↔◌, ◌⊎◌, true, IfOk, IsOk, IsErr, Ok};
 ghost use Rattle.std.specs.Process.{exit_status};
 ghost use Rattle.clap.specs.Values.{kind_of};
 ghost use Rattle.failreg.specs.Statuses.{HasStatus, unread_status};
 
 use actions::{ActionFault, Actions};
+use drills::DrillFault;
 use http_serve::ServeFault;
 use scripts::ScriptFault;
 use std::fmt::Display;
@@ -43,6 +44,21 @@ pub fn finish_script<R: Eprint>(rt: &R, run: Result<(), ScriptFault>) -> anyhow:
 {
     match run {
         Ok(()) => Ok(ExitCode::SUCCESS),
+        Err(fault) => refuse(rt, fault),
+    }
+}
+
+/// After a drill was audited: ends as the audit says, or says why there was none.
+pub fn finish_audit<R: Eprint>(
+    rt: &R,
+    audited: Result<bool, DrillFault>,
+) -> anyhow::Result<ExitCode>
+    ensures done { IfOk result (λ code. exit_status code ≡ 0 ↔ (audited ≡ Ok true)) }
+    ensures status { IfOk result (λ code. (exit_status code ≡ 0) ⊎ (exit_status code ≡ 1)) }
+{
+    match audited {
+        Ok(true) => Ok(ExitCode::SUCCESS),
+        Ok(false) => Ok(ExitCode::FAILURE),
         Err(fault) => refuse(rt, fault),
     }
 }

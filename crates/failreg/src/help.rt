@@ -143,6 +143,30 @@ Example:
   audit yes
   budget a 1.0 0 count=2 executed=2";
 
+/// Behind the help of `audit`.
+pub const AUDIT_HELP: &str = "\
+The file has a drill that `failreg threads --record <file>` kept: what each node
+did, and what its callers were told. What it prints is what the run printed of
+its audit: `audit yes`, where some order of all calls explains what each caller
+was told, with a line `budget` for each setting of a counted term; or `audit no`
+and why not. Nothing else that the file says is believed. docs/drills.md tells
+its format, and what an audit doesn't judge.
+
+The status is 0 after a yes. It is 1 after a no, and where the file can't be
+read (`P2 ReadFailed`), a line of it isn't one of a drill or stands out of its
+place (`P5 BadLine line=6`), or memory is refused; the reason then stands on
+standard error.
+
+Example:
+  $ printf 'nodes 1 9\\nseed %064d\\nstart set 0 a 2*off\\n' 0 | failreg threads --record /tmp/drill
+  workers 0
+  calls 1
+  audit yes
+  budget a 1.0 0 count=2 executed=0
+  $ failreg audit /tmp/drill
+  audit yes
+  budget a 1.0 0 count=2 executed=0";
+
 /// Behind the help of `serve`.
 pub const SERVE_HELP: &str = "\
 The node listens on 127.0.0.1 alone, asks for no password, and knows of other

@@ -10,16 +10,20 @@ ghost use Rattle.scripts.specs.Watched.{has_failed, has_unflushed};
 ghost use Rattle.thread_scripts.specs.Outputs.{PlaysTo};
 ghost use Rattle.failreg.specs.Statuses.{HasStatus, OnStatus};
 
+mod auditing;
 mod command_line;
 mod finish;
 mod help;
 mod peers;
+mod recording;
 mod serving;
 mod telling;
 
 use actions::parse_actions;
+use auditing::audit_file;
 use command_line::{Invocation, read_command_line};
-use finish::{finish_parse, finish_script, finish_unread};
+use finish::{finish_audit, finish_parse, finish_script, finish_unread};
+use recording::run_recorded;
 use scripts::{MOST_BYTES, Watched, run_script, run_script_echoing};
 use serving::serve_node;
 use std::io;
@@ -39,10 +43,22 @@ fn main(rt: HostRuntime) -> anyhow::Result<ExitCode> {
             let mut writer = Watched::new(io::writer(&rt));
             sim(&rt, echo, &mut reader, &mut writer)
         }
-        Ok(Invocation::Threads) => {
+        Ok(Invocation::Threads { record: None }) => {
             let mut reader = Watched::new(rt.reader());
             let mut writer = Watched::new(io::writer(&rt));
             threads(&rt, &mut reader, &mut writer)
+        }
+        Ok(Invocation::Threads { record: Some(path) }) => {
+            let mut reader = Watched::new(rt.reader());
+            let mut writer = Watched::new(io::writer(&rt));
+            finish_script(
+                &rt,
+                run_recorded(&rt, alloc, path, &mut reader, &mut writer),
+            )
+        }
+        Ok(Invocation::Audit(path)) => {
+            let mut writer = Watched::new(io::writer(&rt));
+            finish_audit(&rt, audit_file(&rt, alloc, path, &mut writer))
         }
         Ok(Invocation::Serve(options)) => serve_node(&rt, options),
         Err(error) => finish_unread(&rt, &error),

@@ -1,0 +1,50 @@
+-- What holds of all that the code's values tell: their numbers fit their types.
+use Rattle.std.specs.Prelude.{ℕ, ◌<◌, ◌^◌, List, All}
+use Rattle.hex.specs.Hex.{IsBytes}
+use Rattle.stamp_register.specs.declared.key.Stamp.{Stamp}
+use Rattle.node_core.specs.Asks.{Passed, Unset, NoTerm, Act}
+use Rattle.audit.specs.Told.{AskTold, sets, removes, loads, passes, shifts, grants, emits, delivers, ReplyTold, was_set, was_removed, was_loaded, was_passed, was_shifted, was_granted, was_emitted, was_delivered, Told}
+use Rattle.drills.specs.Lines.{LineTold, head, trace, entry, list, receipt}
+
+abbrev pub StampFits : Stamp → Type 0
+StampFits stamp = (stamp.clock < 2 ^ 64) × (stamp.node < 2 ^ 8)
+
+abbrev pub AskFits : AskTold → Type 0
+AskFits (sets name text) = Unit {0}
+AskFits (removes name) = Unit {0}
+AskFits (loads text) = Unit {0}
+AskFits (passes name) = Unit {0}
+AskFits (shifts name term to amount) = (term < 2 ^ 8) × (to < 2 ^ 8) × (amount < 2 ^ 64)
+AskFits (grants name term amount) = (term < 2 ^ 8) × (amount < 2 ^ 64)
+AskFits (emits to) = to < 2 ^ 8
+AskFits (delivers bytes) = IsBytes bytes
+
+abbrev pub PassFits : Passed → Type 0
+PassFits Unset = Unit {0}
+PassFits (NoTerm stamp) = StampFits stamp
+PassFits (Act stamp term task) = StampFits stamp × (term < 2 ^ 8)
+
+abbrev pub ReplyFits : ReplyTold → Type 0
+ReplyFits (was_set stamp) = StampFits stamp
+ReplyFits (was_removed stamp) = StampFits stamp
+ReplyFits (was_loaded entries) = entries < 2 ^ 16
+ReplyFits (was_passed outcome) = PassFits outcome
+ReplyFits (was_shifted total) = total < 2 ^ 64
+ReplyFits (was_granted total) = total < 2 ^ 64
+ReplyFits (was_emitted bytes) = IsBytes bytes
+ReplyFits (was_delivered changed) = Unit {0}
+
+abbrev pub WordsFit : List ℕ → Type 0
+WordsFit words = All (λ word. word < 2 ^ 32) words
+
+pub record ToldFits (e : Told) : Type 0 where
+  pub ask : AskFits e.ask
+  pub words : WordsFit e.words
+  pub reply : ReplyFits e.reply
+
+abbrev pub LineFits : LineTold → Type 0
+LineFits head = Unit {0}
+LineFits (trace node) = node < 2 ^ 64
+LineFits (entry e) = ToldFits e
+LineFits (list number) = number < 2 ^ 64
+LineFits (receipt r) = (r.node < 2 ^ 8) × (r.index < 2 ^ 32) × ToldFits r.entry

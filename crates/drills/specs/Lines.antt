@@ -1,0 +1,54 @@
+-- The lines of a recorded drill.
+use Rattle.std.specs.Prelude.{ℕ, List, codes}
+use Rattle.serde_json.specs.Data.{Data, string, object, member, no_members}
+use Rattle.serde_json.specs.Written.{compact_text}
+use Rattle.node_core.specs.declared.receipt.Receipt.{Receipt}
+use Rattle.audit.specs.Told.{Told, told}
+use Rattle.drills.specs.declared.line.Line.{Line}
+use Rattle.drills.specs.declared.line.Line.TheVariants as lines
+use Rattle.drills.specs.Rows.{count_data, words_data, ask_data, reply_data}
+
+-- what a receipt tells: its place, and its entry
+pub record ReceiptTold : Type 0 where
+  pub node : ℕ
+  pub index : ℕ
+  pub entry : Told
+
+abbrev pub receipt_told : Receipt → ReceiptTold
+receipt_told r = record { node = r.node; index = r.index; entry = told r.entry }
+
+-- the first line; the trace of a node begins; its next entry; a list begins; or its next receipt
+pub data LineTold : Type 0 where
+  head : LineTold
+  trace : (node : ℕ) → LineTold
+  entry : (told : Told) → LineTold
+  list : (number : ℕ) → LineTold
+  receipt : (told : ReceiptTold) → LineTold
+
+-- a line of the code, without where its texts lie in memory
+abbrev pub line_told : Line → LineTold
+line_told lines.Head = head
+line_told (lines.Trace node) = trace node
+line_told (lines.Entry e) = entry (told e)
+line_told (lines.List number) = list number
+line_told (lines.Receipt r) = receipt (receipt_told r)
+
+-- as JSON: one object a line
+abbrev pub line_data : LineTold → Data
+line_data head = object (member (codes "failreg") (string (codes "drill")) (member (codes "version") (count_data 1) no_members))
+line_data (trace node) = object (member (codes "trace") (count_data node) no_members)
+line_data (entry e) =
+    object (member (codes "ask") (ask_data e.ask)
+    (member (codes "reply") (reply_data e.reply)
+    (member (codes "words") (words_data e.words) no_members)))
+line_data (list number) = object (member (codes "list") (count_data number) no_members)
+line_data (receipt r) =
+    object (member (codes "ask") (ask_data r.entry.ask)
+    (member (codes "index") (count_data r.index)
+    (member (codes "node") (count_data r.node)
+    (member (codes "reply") (reply_data r.entry.reply)
+    (member (codes "words") (words_data r.entry.words) no_members)))))
+
+-- with no spaces, and without the newline that ends it
+abbrev pub line_text : LineTold → List ℕ
+line_text line = compact_text (line_data line)

@@ -1,0 +1,76 @@
+//! A recorded drill from a reader.
+
+ghost use Rattle.std.specs.Prelude.{◌≡◌, ◌≢◌, ℕ, ◌∷◌, [], true, false, cond, Some, IfOk, IfSome, Ok, Err};
+ghost use Rattle.std.specs.Io.BufRead.{strip_last};
+ghost use Rattle.std.specs.Io.Buffered.{reader_inner};
+ghost use Rattle.scripts.specs.Watched.{has_failed, inner_of};
+ghost use Rattle.drills.specs.declared.fault.DrillFault.TheVariants.{BadLine, ReadFailed, WriteFailed};
+ghost use Rattle.drills.specs.Drills.{drill_in, drill_of, lines_in};
+ghost use Rattle.drills.specs.Taken.{TakesLine, IfBytes};
+
+use crate::drill::{Drill, after_text};
+use crate::fault::DrillFault;
+use scripts::Watched;
+use std::alloc::Global;
+use std::io::{BufRead, BufReader, Read};
+
+// A line without the newline that ends it, if one does.
+fn drop_newline(line: &mut Vec<u8>)
+    ensures { line.new.items ≡ strip_last 10 line.old.items }
+{
+    if line.last() == Some(&b'\n') {
+        line.pop();
+    }
+}
+
+// Takes the next line, without its newline, and says whether there was one.
+fn next_line<I: Read>(
+    reader: &mut BufReader<Watched<I>>,
+    line: &mut Vec<u8>,
+) -> Result<bool, DrillFault>
+    ensures taken { IfOk result (λ more. TakesLine I.remaining reader.old reader.new more line.new.items) }
+    ensures read_failed { result ≡ Err ReadFailed → has_failed (reader_inner reader.new) ≡ true }
+    ensures no_line { (number : ℕ) → result ≢ Err (BadLine number) }
+    ensures no_write { result ≢ Err WriteFailed }
+{
+    line.clear();
+    match reader.read_until(b'\n', line) {
+        Ok(0) => Ok(false),
+        Ok(_) => {
+            drop_newline(line);
+            Ok(true)
+        }
+        Err(_) if reader.get_ref().failed() => Err(DrillFault::ReadFailed),
+        Err(_) => Err(DrillFault::OutOfMemory),
+    }
+}
+
+/// Reads a drill to its end, line by line: it may have any number of lines, each of any length.
+pub fn read_drill<I: Read>(
+    alloc: Global,
+    reader: &mut BufReader<Watched<I>>,
+) -> Result<Drill, DrillFault>
+    // It is the one that the bytes are.
+    ensures ok { IfOk result (λ drill. IfBytes I.remaining reader.old (λ bytes.
+        drill_in bytes ≡ Ok (drill_of drill))) }
+    // The line is the first that can't be read or stands out of its place.
+    ensures bad_line { (line : ℕ) → result ≡ Err (BadLine line) →
+        IfBytes I.remaining reader.old (λ bytes. drill_in bytes ≡ Err line) }
+    // A read has failed.
+    ensures read_failed { result ≡ Err ReadFailed → has_failed (reader_inner reader.new) ≡ true }
+    ensures no_write { result ≢ Err WriteFailed }
+{
+    let mut line = Vec::new(alloc);
+    let mut drill = None;
+    for number in 1..u64::MAX {
+        if !next_line(reader, &mut line)? {
+            return drill.ok_or(DrillFault::BadLine { line: number });
+        }
+        match after_text(alloc, drill, &line)? {
+            Some(next) => drill = Some(next),
+            None => return Err(DrillFault::BadLine { line: number }),
+        }
+    }
+    // No reader has so many lines.
+    Err(DrillFault::OutOfMemory)
+}

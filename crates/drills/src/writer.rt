@@ -1,0 +1,135 @@
+//! A recorded drill to a writer.
+
+ghost use Rattle.std.specs.Prelude.{◌≡◌, ◌++◌, ◌∷◌, [], ◌↔◌, ◌⊎◌, true, false, map, string_bytes, IfErr, OnOk, Ok, Err};
+ghost use Rattle.scripts.specs.Watched.{has_failed, has_unflushed};
+ghost use Rattle.scripts.specs.Streams.{Writes};
+ghost use Rattle.audit.specs.Told.{told};
+ghost use Rattle.drills.specs.declared.fault.DrillFault.TheVariants.{OutOfMemory, WriteFailed};
+ghost use Rattle.drills.specs.Lines.{receipt_told};
+ghost use Rattle.drills.specs.Drills.{drill_in, drill_text, drill_told, list_lines, lists_told, newline, numbered, trace_lines, traces_told};
+ghost use Rattle.drills.specs.Written.{WritesLines};
+
+use crate::fault::DrillFault;
+use crate::line_text::{entry_text, head_text, list_text, receipt_text, trace_text};
+use node_core::{Receipt, Trace};
+use scripts::Watched;
+use std::alloc::Global;
+use std::io::Write;
+
+// Writes a line, and the newline that ends it.
+fn write_line<W: Write>(writer: &mut Watched<W>, mut text: String) -> Result<(), DrillFault>
+    requires { has_failed writer.old ≡ false }
+    ensures ok { OnOk result (Writes W.contents writer.old writer.new
+        (string_bytes text ++ newline ∷ [])) }
+    ensures write_failed { (result ≡ Err WriteFailed) ↔ (has_failed writer.new ≡ true) }
+    ensures only { IfErr result (λ fault. (fault ≡ WriteFailed) ⊎ (fault ≡ OutOfMemory)) }
+{
+    text.push('\n')?;
+    match writer.write_all(text.as_bytes()) {
+        Ok(()) => Ok(()),
+        Err(_) => Err(DrillFault::WriteFailed),
+    }
+}
+
+// Writes a node's trace.
+fn write_trace<W: Write>(
+    alloc: Global,
+    node: u64,
+    trace: &Trace,
+    writer: &mut Watched<W>,
+) -> Result<(), DrillFault>
+    requires { has_failed writer.old ≡ false }
+    ensures ok { OnOk result (WritesLines W.contents writer.old writer.new
+        (trace_lines node (map told trace.now.items))) }
+    ensures write_failed { (result ≡ Err WriteFailed) ↔ (has_failed writer.new ≡ true) }
+    ensures only { IfErr result (λ fault. (fault ≡ WriteFailed) ⊎ (fault ≡ OutOfMemory)) }
+{
+    write_line(writer, trace_text(alloc, node)?)?;
+    for entry in trace {
+        write_line(writer, entry_text(alloc, entry)?)?;
+    }
+    Ok(())
+}
+
+// Writes a list of receipts.
+fn write_list<W: Write>(
+    alloc: Global,
+    number: u64,
+    list: &Vec<Receipt>,
+    writer: &mut Watched<W>,
+) -> Result<(), DrillFault>
+    requires { has_failed writer.old ≡ false }
+    ensures ok { OnOk result (WritesLines W.contents writer.old writer.new
+        (list_lines number (map receipt_told list.now.items))) }
+    ensures write_failed { (result ≡ Err WriteFailed) ↔ (has_failed writer.new ≡ true) }
+    ensures only { IfErr result (λ fault. (fault ≡ WriteFailed) ⊎ (fault ≡ OutOfMemory)) }
+{
+    write_line(writer, list_text(alloc, number)?)?;
+    for receipt in list {
+        write_line(writer, receipt_text(alloc, receipt)?)?;
+    }
+    Ok(())
+}
+
+fn write_traces<W: Write>(
+    alloc: Global,
+    traces: &[Trace],
+    writer: &mut Watched<W>,
+) -> Result<(), DrillFault>
+    requires { has_failed writer.old ≡ false }
+    ensures ok { OnOk result (WritesLines W.contents writer.old writer.new
+        (numbered trace_lines 0 (traces_told traces.now))) }
+    ensures write_failed { (result ≡ Err WriteFailed) ↔ (has_failed writer.new ≡ true) }
+    ensures only { IfErr result (λ fault. (fault ≡ WriteFailed) ⊎ (fault ≡ OutOfMemory)) }
+{
+    for node in 0..traces.len() {
+        write_trace(alloc, node as u64, &traces[node], writer)?;
+    }
+    Ok(())
+}
+
+fn write_lists<W: Write>(
+    alloc: Global,
+    lists: &[Vec<Receipt>],
+    writer: &mut Watched<W>,
+) -> Result<(), DrillFault>
+    requires { has_failed writer.old ≡ false }
+    ensures ok { OnOk result (WritesLines W.contents writer.old writer.new
+        (numbered list_lines 0 (lists_told lists.now))) }
+    ensures write_failed { (result ≡ Err WriteFailed) ↔ (has_failed writer.new ≡ true) }
+    ensures only { IfErr result (λ fault. (fault ≡ WriteFailed) ⊎ (fault ≡ OutOfMemory)) }
+{
+    for number in 0..lists.len() {
+        write_list(alloc, number as u64, &lists[number], writer)?;
+    }
+    Ok(())
+}
+
+/// Writes a drill: the traces of the nodes, in their order, and of each caller the receipts of its
+/// calls, in their order. What is written reads back as the same traces and lists.
+///
+/// It is written line by line. After a fault a part of it may be written, which no clause tells.
+pub fn write_drill<W: Write>(
+    alloc: Global,
+    traces: &[Trace],
+    lists: &[Vec<Receipt>],
+    writer: &mut Watched<W>,
+) -> Result<(), DrillFault>
+    requires { has_failed writer.old ≡ false }
+    ensures ok { OnOk result (Writes W.contents writer.old writer.new
+        (drill_text (drill_told traces.now lists.now))) }
+    ensures reads_back { OnOk result (drill_in (drill_text (drill_told traces.now lists.now))
+        ≡ Ok (drill_told traces.now lists.now)) }
+    // All that was written is flushed.
+    ensures flushed { OnOk result (has_unflushed writer.new ≡ false) }
+    ensures write_failed { (result ≡ Err WriteFailed) ↔ (has_failed writer.new ≡ true) }
+    ensures only { IfErr result (λ fault. (fault ≡ WriteFailed) ⊎ (fault ≡ OutOfMemory)) }
+{
+    write_line(writer, head_text(alloc)?)?;
+    write_traces(alloc, traces, writer)?;
+    write_lists(alloc, lists, writer)?;
+    match writer.flush() {
+        Ok(()) => Ok(()),
+        Err(_) => Err(DrillFault::WriteFailed),
+    }
+}

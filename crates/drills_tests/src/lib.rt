@@ -1,0 +1,5 @@
+//! What is tested of recorded drills.
+#![tactic(auto)]
+
+#[cfg(test)]
+mod tests;

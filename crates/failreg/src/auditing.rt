@@ -1,0 +1,57 @@
+//! The audit of a recorded drill.
+
+ghost use Rattle.std.specs.Prelude.{◌≡◌, IfOk, false};
+ghost use Rattle.scripts.specs.Watched.{has_failed, has_unflushed};
+ghost use Rattle.drills.specs.Taken.{IfBytes};
+ghost use Rattle.failreg.specs.Recordings.{SaysVerdict};
+
+use audit::{AuditFault, audit, verdict_text};
+use drills::{DrillFault, read_drill};
+use scripts::{Watched, write_text};
+use std::alloc::Global;
+use std::fs;
+use std::io::{BufReader, Read, Write};
+
+// Audits the drill that a reader gives, writes what the audit says, and answers whether it is a yes.
+fn audit_drill<I: Read, O: Write>(
+    alloc: Global,
+    reader: &mut BufReader<Watched<I>>,
+    writer: &mut Watched<O>,
+) -> Result<bool, DrillFault>
+    requires { has_failed writer.old ≡ false }
+    // It is an audit of the drill that the bytes are, and nothing else is written.
+    ensures ok { IfOk result (λ yes. IfBytes I.remaining reader.old (λ bytes.
+        SaysVerdict bytes yes O.contents writer.old writer.new)) }
+    ensures flushed { IfOk result (λ yes. has_unflushed writer.new ≡ false) }
+{
+    let drill = read_drill(alloc, reader)?;
+    // No cluster has so many nodes as a number of 8 bits can count.
+    let nodes = u8::try_from(drill.traces.len()).unwrap_or(u8::MAX);
+    let verdict = audit(alloc, nodes, &drill.traces, &drill.lists);
+    if let Err(AuditFault::OutOfMemory) = verdict {
+        return Err(DrillFault::OutOfMemory);
+    }
+    let text = verdict_text(alloc, &verdict)?;
+    match write_text(writer, text.as_bytes()) {
+        Ok(()) => Ok(verdict.is_ok()),
+        Err(_) => Err(DrillFault::WriteFailed),
+    }
+}
+
+/// Audits the drill in a file, and writes what the audit says. Answers whether it is a yes.
+pub fn audit_file<R: Files, O: Write>(
+    rt: &R,
+    alloc: Global,
+    path: &str,
+    writer: &mut Watched<O>,
+) -> Result<bool, DrillFault>
+    requires { has_failed writer.old ≡ false }
+{
+    let Ok(file) = fs::open(rt, path) else {
+        return Err(DrillFault::ReadFailed);
+    };
+    let Ok(mut reader) = BufReader::new(alloc, Watched::new(file)) else {
+        return Err(DrillFault::OutOfMemory);
+    };
+    audit_drill(alloc, &mut reader, writer)
+}
