@@ -25,7 +25,7 @@ Prints plan contents old new = (text : List ℕ) × IsOutput plan text × Writes
 
 -- what an audit says of the drill that bytes are was written; more than 255 traces are as few as those, and too many
 abbrev pub SaysVerdict : {O : Type 0} → List ℕ → Bool → (O → Option (List ℕ)) → Watched O → Watched O → Type 0
-SaysVerdict bytes yes contents old new =
+SaysVerdict bytes explained contents old new =
     (traces : Traces) × (lists : Lists) × (verdict : Result AuditYes AuditFault)
     × (drill_in bytes ≡ Ok (drill_told traces lists)) × IsAudited (min (length traces) 255) traces lists verdict
-    × (yes ≡ is_ok verdict) × Writes contents old new (verdict_text verdict)
+    × (explained ≡ is_ok verdict) × Writes contents old new (verdict_text verdict)

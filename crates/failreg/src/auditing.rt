@@ -1,6 +1,6 @@
 //! The audit of a recorded drill.
 
-ghost use Rattle.std.specs.Prelude.{◌≡◌, IfOk, false};
+ghost use Rattle.std.specs.Prelude.{◌≡◌, min, IfOk, false};
 ghost use Rattle.scripts.specs.Watched.{has_failed, has_unflushed};
 ghost use Rattle.drills.specs.Taken.{IfBytes};
 ghost use Rattle.failreg.specs.Recordings.{SaysVerdict};
@@ -10,7 +10,15 @@ use drills::{DrillFault, read_drill};
 use scripts::{Watched, write_text};
 use std::alloc::Global;
 use std::fs;
+use std::fs::Files;
 use std::io::{BufReader, Read, Write};
+
+// How many nodes have so many traces. No cluster has 255 of them.
+fn nodes_of(traces: usize) -> u8
+    ensures { result ≡ min traces 255 }
+{
+    traces.min(255) as u8
+}
 
 // Audits the drill that a reader gives, writes what the audit says, and answers whether it is a yes.
 fn audit_drill<I: Read, O: Write>(
@@ -25,8 +33,7 @@ fn audit_drill<I: Read, O: Write>(
     ensures flushed { IfOk result (λ yes. has_unflushed writer.new ≡ false) }
 {
     let drill = read_drill(alloc, reader)?;
-    // No cluster has so many nodes as a number of 8 bits can count.
-    let nodes = u8::try_from(drill.traces.len()).unwrap_or(u8::MAX);
+    let nodes = nodes_of(drill.traces.len());
     let verdict = audit(alloc, nodes, &drill.traces, &drill.lists);
     if let Err(AuditFault::OutOfMemory) = verdict {
         return Err(DrillFault::OutOfMemory);

@@ -12,6 +12,7 @@ use drills::{DrillFault, write_drill};
 use scripts::{ScriptFault, Watched, read_script, write_text};
 use std::alloc::Global;
 use std::fs;
+use std::fs::Files;
 use std::io::{BufWriter, Read, Write};
 use std::sync::Wait;
 use std::thread::Threads;
