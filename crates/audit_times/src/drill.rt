@@ -19,8 +19,7 @@ pub enum Way {
     Backwards,
 }
 
-/// The way of this name.
-pub fn way_of(word: &str) -> Option<Way> {
+fn way_of(word: &str) -> Option<Way> {
     match word {
         "passes" => Some(Way::Passes),
         "forwards" => Some(Way::Forwards),
@@ -34,6 +33,13 @@ pub fn way_of(word: &str) -> Option<Way> {
 pub struct Drill {
     pub way: Way,
     pub entries: u32,
+}
+
+/// The drill that the words say, if they do.
+pub fn drill_of(way: &str, entries: &str) -> Option<Drill> {
+    let way = way_of(way)?;
+    let entries = entries.parse::<u32>().ok()?;
+    Some(Drill { way, entries })
 }
 
 /// A setting of the point that is passed.

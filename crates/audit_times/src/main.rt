@@ -11,7 +11,7 @@ mod threads;
 
 use acts::Acts;
 use audit::{Total, audit};
-use drill::{Drill, NODES, asks_of, way_of};
+use drill::{Drill, NODES, asks_of, drill_of};
 use made::make;
 use std::process::ExitCode;
 use std::sync::Wait;
@@ -78,13 +78,24 @@ fn audit_threads<R: AllocGlobal + Print + Threads + Wait + Sync>(
     compare(rt, acts, &found.totals)
 }
 
+// Whether the calls are audited too, by the word for what is done.
+fn audits(work: &str) -> Option<bool> {
+    match work {
+        "make" => Some(false),
+        "audit" => Some(true),
+        _ => None,
+    }
+}
+
 fn main(rt: HostRuntime) -> anyhow::Result<ExitCode> {
     let words: Vec<String> = std::env::args(&rt)?.collect(rt.alloc())?;
     match words.as_slice() {
         [_, way, entries, work] => {
-            if let (Some(way), Ok(entries)) = (way_of(way.as_str()), entries.parse::<u32>()) {
-                let drill = Drill { way, entries };
-                time_drill(&rt, drill, work.as_str() == "audit")?;
+            if let (Some(drill), Some(audits)) = (
+                drill_of(way.as_str(), entries.as_str()),
+                audits(work.as_str()),
+            ) {
+                time_drill(&rt, drill, audits)?;
                 return Ok(ExitCode::SUCCESS);
             }
         }

@@ -15,7 +15,7 @@ enum Change {
     Message,
     // A receipt says another index.
     Index,
-    // A receipt is given to both callers.
+    // The first caller's receipts are given to another one too.
     Again,
     // The last receipt is left out.
     LeftOut,
@@ -77,7 +77,7 @@ fn alter_second(drill: &mut Drill, change: Change) {
     }
 }
 
-// Gives the first caller's receipts to the second one too.
+// Gives the first caller's receipts to another one too.
 fn give_again(alloc: Global, drill: &mut Drill) -> Result<(), NodeFault> {
     let mut other = played(alloc)?;
     other.lists.truncate(1);

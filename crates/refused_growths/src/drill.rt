@@ -91,6 +91,14 @@ impl Stage {
         Ok(stage)
     }
 
+    // The bytes of the message of this number, or none.
+    fn message(&self, alloc: Global, number: usize) -> Result<Vec<u8>, AllocError> {
+        match self.messages.get(number) {
+            Some(message) => Vec::from_slice(alloc, message),
+            None => Ok(Vec::new(alloc)),
+        }
+    }
+
     // What a node is asked by a step.
     fn ask_of(&self, alloc: Global, node: u8, step: &Step) -> Result<Ask, AllocError> {
         let text_of = |text: &str| String::from_str(alloc, text);
@@ -122,10 +130,7 @@ impl Stage {
             },
             Step::Emit => Ask::Emit { to },
             Step::Deliver(number) => Ask::Deliver {
-                message: match self.messages.get(*number) {
-                    Some(message) => Vec::from_slice(alloc, message)?,
-                    None => Vec::new(alloc),
-                },
+                message: self.message(alloc, *number)?,
             },
         })
     }
