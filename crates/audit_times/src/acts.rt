@@ -4,19 +4,19 @@ use node_core::{PassReply, Receipt, Reply};
 
 /// How often each counted term was triggered, and how often another one.
 #[derive(Clone, Copy)]
-pub struct Acts {
-    pub counted: [u64; 2],
-    pub others: u64,
+pub(crate) struct Acts {
+    pub(crate) counted: [u64; 2],
+    pub(crate) others: u64,
 }
 
 impl Acts {
-    pub const NONE: Acts = Acts {
+    pub(crate) const NONE: Acts = Acts {
         counted: [0; 2],
         others: 0,
     };
 
     /// Counts an answer.
-    pub fn note(&mut self, receipt: &Receipt) {
+    pub(crate) fn note(&mut self, receipt: &Receipt) {
         if let Reply::Pass(PassReply::Act { term, .. }) = &receipt.entry.reply {
             match self.counted.get_mut(usize::from(*term)) {
                 Some(count) => *count = count.saturating_add(1),
@@ -26,7 +26,7 @@ impl Acts {
     }
 
     /// What two of them come to together.
-    pub fn with(self, more: Acts) -> Acts {
+    pub(crate) fn with(self, more: Acts) -> Acts {
         let [first, second] = self.counted;
         let [more_of_first, more_of_second] = more.counted;
         Acts {

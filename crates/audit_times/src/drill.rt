@@ -5,11 +5,11 @@ use node_core::{Ask, NodeFault};
 use std::alloc::{AllocError, Global};
 
 /// How many nodes there are.
-pub const NODES: u8 = 16;
+pub(crate) const NODES: u8 = 16;
 
 /// Who calls what.
 #[derive(Clone, Copy)]
-pub enum Way {
+pub(crate) enum Way {
     /// Each node sets a point and passes it.
     Passes,
     /// The nodes stand in a ring, and each takes in the last message and makes one to the next node.
@@ -30,20 +30,20 @@ fn way_of(word: &str) -> Option<Way> {
 
 /// So many calls, to about two.
 #[derive(Clone, Copy)]
-pub struct Drill {
-    pub way: Way,
-    pub entries: u32,
+pub(crate) struct Drill {
+    pub(crate) way: Way,
+    pub(crate) entries: u32,
 }
 
 /// The drill that the words say, if they do.
-pub fn drill_of(way: &str, entries: &str) -> Option<Drill> {
+pub(crate) fn drill_of(way: &str, entries: &str) -> Option<Drill> {
     let way = way_of(way)?;
     let entries = entries.parse::<u32>().ok()?;
     Some(Drill { way, entries })
 }
 
 /// A setting of the point that is passed.
-pub fn set(alloc: Global, text: &str) -> Result<Ask, AllocError> {
+pub(crate) fn set(alloc: Global, text: &str) -> Result<Ask, AllocError> {
     Ok(Ask::Set {
         name: String::from_str(alloc, "p")?,
         text: String::from_str(alloc, text)?,
@@ -51,7 +51,7 @@ pub fn set(alloc: Global, text: &str) -> Result<Ask, AllocError> {
 }
 
 /// A pass of that point.
-pub fn pass(alloc: Global) -> Result<Ask, AllocError> {
+pub(crate) fn pass(alloc: Global) -> Result<Ask, AllocError> {
     let name = String::from_str(alloc, "p")?;
     Ok(Ask::Pass { name })
 }
@@ -67,7 +67,7 @@ fn passes(alloc: Global, count: u32) -> Result<Vec<Ask>, AllocError> {
 }
 
 /// What each node is asked, in its order.
-pub fn asks_of(alloc: Global, drill: Drill) -> Result<Vec<Vec<Ask>>, NodeFault> {
+pub(crate) fn asks_of(alloc: Global, drill: Drill) -> Result<Vec<Vec<Ask>>, NodeFault> {
     match drill.way {
         Way::Passes => {
             let mut asks = Vec::new(alloc);

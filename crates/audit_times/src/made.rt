@@ -12,17 +12,17 @@ use std::sync::Wait;
 use std::sync::ledger::Blank;
 
 /// The seed of each registry.
-pub const SEED: [u8; 32] = [7; 32];
+pub(crate) const SEED: [u8; 32] = [7; 32];
 
 /// The traces of nodes, in their order, and of each caller the receipts of its calls.
 #[derive(Drop)]
-pub struct Made {
-    pub traces: Vec<Trace>,
-    pub lists: Vec<Vec<Receipt>>,
+pub(crate) struct Made {
+    pub(crate) traces: Vec<Trace>,
+    pub(crate) lists: Vec<Vec<Receipt>>,
 }
 
 impl Made {
-    pub fn new(alloc: Global) -> Made {
+    pub(crate) fn new(alloc: Global) -> Made {
         Made {
             traces: Vec::new(alloc),
             lists: Vec::new(alloc),
@@ -30,7 +30,7 @@ impl Made {
     }
 
     /// How many entries the traces have.
-    pub fn entries(&self) -> u64 {
+    pub(crate) fn entries(&self) -> u64 {
         let mut entries = 0u64;
         for trace in &self.traces {
             entries = entries.saturating_add(trace.len() as u64);
@@ -40,7 +40,7 @@ impl Made {
 }
 
 /// Makes calls from a seat, and keeps their receipts.
-pub fn call_all<L: Label, R: Wait>(
+pub(crate) fn call_all<L: Label, R: Wait>(
     rt: &R,
     alloc: Global,
     registry: &Registry<L>,
@@ -87,7 +87,7 @@ fn run_node<R: Wait>(
 }
 
 /// Makes the calls of each node, through a registry of its own.
-pub fn make<R: Wait>(rt: &R, alloc: Global, asks: &[Vec<Ask>]) -> Result<Made, NodeFault> {
+pub(crate) fn make<R: Wait>(rt: &R, alloc: Global, asks: &[Vec<Ask>]) -> Result<Made, NodeFault> {
     let mut made = Made::new(alloc);
     for (node, asks) in (0..NODES).zip(asks.iter()) {
         let (trace, receipts) = run_node(rt, alloc, node, asks)?;

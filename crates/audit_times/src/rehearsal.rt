@@ -4,7 +4,7 @@ use node_core::{Ask, Config, Entry, NodeCore, NodeFault, Reply};
 use std::alloc::Global;
 
 /// A node of a cluster, which accepts any number of calls.
-pub fn config_of(node: u8, nodes: u8) -> Config {
+pub(crate) fn config_of(node: u8, nodes: u8) -> Config {
     Config {
         node,
         nodes,
@@ -14,14 +14,14 @@ pub fn config_of(node: u8, nodes: u8) -> Config {
 
 /// The nodes of a cluster, and what each of them was asked.
 #[derive(Drop)]
-pub struct Rehearsal {
+pub(crate) struct Rehearsal {
     nodes: Vec<NodeCore>,
     asks: Vec<Vec<Ask>>,
 }
 
 impl Rehearsal {
     /// Nodes that were asked nothing.
-    pub fn new(alloc: Global, nodes: u8) -> Result<Rehearsal, NodeFault> {
+    pub(crate) fn new(alloc: Global, nodes: u8) -> Result<Rehearsal, NodeFault> {
         let mut rehearsal = Rehearsal {
             nodes: Vec::new(alloc),
             asks: Vec::new(alloc),
@@ -35,7 +35,12 @@ impl Rehearsal {
     }
 
     /// Asks a node, and answers the message that it made, if it did.
-    pub fn ask(&mut self, alloc: Global, node: u8, ask: Ask) -> Result<Option<Vec<u8>>, NodeFault> {
+    pub(crate) fn ask(
+        &mut self,
+        alloc: Global,
+        node: u8,
+        ask: Ask,
+    ) -> Result<Option<Vec<u8>>, NodeFault> {
         let at = usize::from(node);
         let (Some(core), Some(asks)) = (self.nodes.get_mut(at), self.asks.get_mut(at)) else {
             return Ok(None);
@@ -53,7 +58,7 @@ impl Rehearsal {
     }
 
     /// What each node was asked.
-    pub fn into_asks(self) -> Vec<Vec<Ask>> {
+    pub(crate) fn into_asks(self) -> Vec<Vec<Ask>> {
         let Rehearsal { nodes: _, asks } = self;
         asks
     }

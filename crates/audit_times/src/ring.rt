@@ -37,7 +37,11 @@ impl Ring {
 }
 
 /// What each node is asked in about so many calls, where the next one lies so far on.
-pub fn asks_in_ring(alloc: Global, calls: u32, step: u8) -> Result<Vec<Vec<Ask>>, NodeFault> {
+pub(crate) fn asks_in_ring(
+    alloc: Global,
+    calls: u32,
+    step: u8,
+) -> Result<Vec<Vec<Ask>>, NodeFault> {
     let mut ring = Ring {
         rehearsal: Rehearsal::new(alloc, NODES)?,
         node: 0,

@@ -16,7 +16,7 @@ use std::thread;
 use std::thread::Threads;
 
 /// How many nodes there are.
-pub const NODES: u8 = 4;
+pub(crate) const NODES: u8 = 4;
 
 // What a node is to do: its calls before its threads start, and then so many passes of each.
 #[derive(Drop)]
@@ -144,7 +144,7 @@ fn jobs(alloc: Global, passes: u32) -> Result<Vec<Job>, NodeFault> {
 }
 
 /// Lets eight threads pass the point, so many times in all: what they were told, and what they counted.
-pub fn run<R: Threads + Wait + Sync>(
+pub(crate) fn run<R: Threads + Wait + Sync>(
     rt: &R,
     alloc: Global,
     passes: u32,

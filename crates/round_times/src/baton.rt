@@ -6,14 +6,14 @@ use std::thread::Parker;
 
 /// Who has it has the turn.
 #[derive(Drop)]
-pub struct Baton {
+pub(crate) struct Baton {
     // One for each thread, which waits there for its turn.
     places: Vec<Parker>,
 }
 
 impl Baton {
     /// Of so many threads, the first of which has the turn.
-    pub fn new(alloc: Global, threads: u8) -> Result<Baton, AllocError> {
+    pub(crate) fn new(alloc: Global, threads: u8) -> Result<Baton, AllocError> {
         let mut places = Vec::new(alloc);
         for _ in 0..threads {
             places.push(Parker::new())?;
@@ -30,14 +30,14 @@ impl Baton {
     }
 
     /// Waits for the turn.
-    pub fn wait<R: Wait>(&self, rt: &R, thread: usize) {
+    pub(crate) fn wait<R: Wait>(&self, rt: &R, thread: usize) {
         if let Some(place) = self.places.get(thread) {
             place.park(rt);
         }
     }
 
     /// Gives the turn to the next thread, behind the last one to the first.
-    pub fn pass(&self, thread: usize) {
+    pub(crate) fn pass(&self, thread: usize) {
         let next = thread.wrapping_add(1);
         self.give(if next < self.places.len() { next } else { 0 });
     }

@@ -3,22 +3,22 @@
 use std::alloc::{AllocError, Global};
 
 /// How many points there are.
-pub const POINTS: u32 = 256;
+pub(crate) const POINTS: u32 = 256;
 
 /// How many rounds come before those that are timed: after them each node knows all points, and what
 /// the others know.
-pub const FIRST_ROUNDS: u32 = 4;
+pub(crate) const FIRST_ROUNDS: u32 = 4;
 
 /// So many nodes do so many rounds. Before each of them the first node passes so many points.
 #[derive(Clone, Copy)]
-pub struct Load {
-    pub nodes: u8,
-    pub changed: u32,
-    pub rounds: u32,
+pub(crate) struct Load {
+    pub(crate) nodes: u8,
+    pub(crate) changed: u32,
+    pub(crate) rounds: u32,
 }
 
 /// The load that the words say, if they do.
-pub fn load_of(nodes: &str, changed: &str, rounds: &str) -> Option<Load> {
+pub(crate) fn load_of(nodes: &str, changed: &str, rounds: &str) -> Option<Load> {
     let nodes = nodes.parse::<u8>().ok()?;
     let changed = changed.parse::<u32>().ok()?;
     let rounds = rounds.parse::<u32>().ok()?;
@@ -35,7 +35,7 @@ pub fn load_of(nodes: &str, changed: &str, rounds: &str) -> Option<Load> {
 }
 
 /// The settings of all points, as one text.
-pub fn settings(alloc: Global) -> Result<String, AllocError> {
+pub(crate) fn settings(alloc: Global) -> Result<String, AllocError> {
     let mut text = String::new(alloc);
     for point in 0..POINTS {
         write!(text, "p{point}=1000000000*off;")?;

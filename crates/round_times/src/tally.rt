@@ -5,16 +5,16 @@ use node_core::Reply;
 
 /// How many messages of how many bytes rounds sent, how many they lost, and how long they took.
 #[derive(Clone, Copy)]
-pub struct Tally {
-    pub messages: u64,
-    pub lost: u64,
-    pub bytes: u64,
-    pub nanoseconds: u128,
+pub(crate) struct Tally {
+    pub(crate) messages: u64,
+    pub(crate) lost: u64,
+    pub(crate) bytes: u64,
+    pub(crate) nanoseconds: u128,
 }
 
 impl Tally {
     /// Of no round.
-    pub fn new() -> Tally {
+    pub(crate) fn new() -> Tally {
         Tally {
             messages: 0,
             lost: 0,
@@ -24,7 +24,7 @@ impl Tally {
     }
 
     /// With a round more.
-    pub fn record(&mut self, report: &GossipReport, nanoseconds: u128) {
+    pub(crate) fn record(&mut self, report: &GossipReport, nanoseconds: u128) {
         for receipt in &report.receipts {
             if let Reply::Emit(message) = &receipt.entry.reply {
                 self.messages = self.messages.saturating_add(1);
@@ -36,7 +36,7 @@ impl Tally {
     }
 
     /// Of both.
-    pub fn with(self, other: Tally) -> Tally {
+    pub(crate) fn with(self, other: Tally) -> Tally {
         Tally {
             messages: self.messages.saturating_add(other.messages),
             lost: self.lost.saturating_add(other.lost),

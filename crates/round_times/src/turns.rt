@@ -14,9 +14,9 @@ use std::time::{Clock, Instant};
 
 /// A node of those that take turns, and its wire.
 #[derive(Drop)]
-pub struct Member {
-    pub config: Config,
-    pub wire: MailWire,
+pub(crate) struct Member {
+    pub(crate) config: Config,
+    pub(crate) wire: MailWire,
 }
 
 // A node that takes its turns.
@@ -105,7 +105,7 @@ fn take_turns<L: Label, R: AllocGlobal + Clock + Wait>(
 }
 
 /// The turns of the node that `L` names.
-pub fn member_turns<L: Label, R: AllocGlobal + Clock + Wait>(
+pub(crate) fn member_turns<L: Label, R: AllocGlobal + Clock + Wait>(
     rt: &R,
     blank: Blank,
     member: Member,
