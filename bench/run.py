@@ -334,26 +334,33 @@ def time_locks(program):
 
 
 def told(program, nodes, changed, rounds):
-    """The messages and bytes of so many rounds of all nodes, and their nanoseconds, without the changes before them."""
-    run = subprocess.run([program, *map(str, (nodes, changed, rounds))], check=True, capture_output=True)
-    words = run.stdout.split()
-    if words[-2] != b"0":
-        sys.exit(f"{program} {nodes} {changed} {rounds}: {run.stdout.decode()}")
-    return int(words[0]), int(words[3]), int(run.stderr.split()[0])
+    """The messages and bytes of so many rounds of all nodes; their nanoseconds by the clock, without the changes before
+    them; and the seconds of a processor that the whole run took."""
+    words = [program, *map(str, (nodes, changed, rounds))]
+    child = subprocess.Popen(words, stdout=subprocess.PIPE, stderr=subprocess.PIPE)
+    said, took = child.stdout.read().split(), child.stderr.read().split()
+    _, status, usage = os.wait4(child.pid, 0)
+    child.returncode = os.waitstatus_to_exitcode(status)
+    if child.returncode != 0 or said[-2] != b"0":
+        sys.exit(f"{words}: status {child.returncode}, {said}")
+    return int(said[0]), int(said[3]), int(took[0]), usage.ru_utime + usage.ru_stime
 
 
 def time_rounds(program):
-    """In a round each node tells all others, one node after the other."""
+    """In a round each node tells all others, one node after the other. The ratio is of what the rounds take of a processor,
+    without what a run of none takes; the microseconds are by the clock."""
     print(f"\n{'nodes':<7}{'changed':>8}{'rounds n':>10}{'messages':>10}{'bytes':>12}{'us a round, n':>15}{'2n':>10}{'ratio':>7}{'us a message':>14}")
     for nodes in MEMBERS:
         for changed in CHANGED:
             few = max(4, MESSAGES[changed] // (nodes * (nodes - 1)))
-            rounds = [[told(program, nodes, changed, count) for count in (few, 2 * few)] for _ in range(ROUNDS_OF_TURNS)]
-            messages, length, _ = rounds[0][0]
-            first, second = (min(time for _, _, time in runs) / 1e3 for runs in zip(*rounds))
+            sizes = (0, few, 2 * few)
+            rounds = [[told(program, nodes, changed, count) for count in sizes] for _ in range(ROUNDS_OF_TURNS)]
+            messages, length = rounds[0][1][:2]
+            _, first, second = (min(run[2] for run in runs) / 1e3 for runs in zip(*rounds))
+            none, once, twice = (min(run[3] for run in runs) for runs in zip(*rounds))
             print(
                 f"{nodes:<7}{changed:>8}{few:>10}{messages / few:>10.0f}{length / few:>12.0f}{first / few:>15.1f}"
-                f"{second / few / 2:>10.1f}{second / first:>7.2f}{second / messages / 2:>14.2f}"
+                f"{second / few / 2:>10.1f}{(twice - none) / (once - none):>7.2f}{second / messages / 2:>14.2f}"
             )
 
 

@@ -66,22 +66,40 @@ fn offered<'a>(
         .default_value(otherwise)
 }
 
+// With where the node is, and what it listens on.
+fn with_place<'a>(alloc: Global, command: Command<'a>) -> Result<Command<'a>, AllocError> {
+    let node = needed(alloc, "node", "n", "The number of the node, from 0");
+    let help = "How many nodes the cluster has, 32 at most";
+    let nodes = needed(alloc, "nodes", "m", help);
+    let port = needed(alloc, "port", "p", "The port to listen on, or 0 for any");
+    command
+        .arg(node.value_parser(value_parser!(u8)))?
+        .arg(nodes.value_parser(value_parser!(u8)))?
+        .arg(port.value_parser(value_parser!(u16)))
+}
+
+// With how much it takes, and what it begins with.
+fn with_limits<'a>(alloc: Global, command: Command<'a>) -> Result<Command<'a>, AllocError> {
+    let help = "How many calls the node accepts";
+    let cap = offered(alloc, "cap", "c", help, "1000000");
+    let help = "How many clients are served";
+    let requests = offered(alloc, "requests", "r", help, "1000000");
+    let failpoints = Arg::new(alloc, "failpoints")
+        .long("failpoints")
+        .value_name("text")
+        .help("Points that are set first, as `a=off;b=panic`");
+    command
+        .arg(cap.value_parser(value_parser!(u32)))?
+        .arg(requests.value_parser(value_parser!(u32)))?
+        .arg(failpoints)
+}
+
 // With the arguments of a node's gossip.
 fn with_gossip<'a>(alloc: Global, command: Command<'a>) -> Result<Command<'a>, AllocError> {
-    let rounds = offered(
-        alloc,
-        "rounds",
-        "k",
-        "How many rounds of gossip the node does with its peers",
-        "0",
-    );
-    let every = offered(
-        alloc,
-        "every",
-        "ms",
-        "How many milliseconds it rests between two rounds",
-        "100",
-    );
+    let help = "How many rounds of gossip the node does with its peers";
+    let rounds = offered(alloc, "rounds", "k", help, "0");
+    let help = "How many milliseconds it rests between two rounds";
+    let every = offered(alloc, "every", "ms", help, "100");
     let peers = Arg::new(alloc, "peer")
         .value_name("node:port")
         .help("Where another node is served on 127.0.0.1, as `1:7071`")
@@ -94,87 +112,69 @@ fn with_gossip<'a>(alloc: Global, command: Command<'a>) -> Result<Command<'a>, A
 }
 
 fn serve_command<'a>(alloc: Global) -> Result<Command<'a>, AllocError> {
-    let node = needed(alloc, "node", "n", "The number of the node, from 0");
-    let nodes = needed(
-        alloc,
-        "nodes",
-        "m",
-        "How many nodes the cluster has, 32 at most",
-    );
-    let port = needed(alloc, "port", "p", "The port to listen on, or 0 for any");
-    let cap = offered(
-        alloc,
-        "cap",
-        "c",
-        "How many calls the node accepts",
-        "1000000",
-    );
-    let requests = offered(
-        alloc,
-        "requests",
-        "r",
-        "How many clients are served",
-        "1000000",
-    );
-    let failpoints = Arg::new(alloc, "failpoints")
-        .long("failpoints")
-        .value_name("text")
-        .help("Points that are set first, as `a=off;b=panic`");
     let command = Command::new(alloc, "serve")
         .about("Serves a node over HTTP on 127.0.0.1")
-        .after_help(SERVE_HELP)
-        .arg(node.value_parser(value_parser!(u8)))?
-        .arg(nodes.value_parser(value_parser!(u8)))?
-        .arg(port.value_parser(value_parser!(u16)))?
-        .arg(cap.value_parser(value_parser!(u32)))?
-        .arg(requests.value_parser(value_parser!(u32)))?
-        .arg(failpoints)?;
+        .after_help(SERVE_HELP);
+    let command = with_place(alloc, command)?;
+    let command = with_limits(alloc, command)?;
     with_gossip(alloc, command)
 }
 
-// The words of a command line live as long as the texts of its command.
-fn whole_command<'a>(alloc: Global) -> Result<Command<'a>, AllocError> {
+fn parse_command<'a>(alloc: Global) -> Result<Command<'a>, AllocError> {
     let text = Arg::new(alloc, "text")
         .help("An action text, which may begin with `-`")
         .required(true)
         .allow_hyphen_values(true);
-    let parse = Command::new(alloc, "parse")
+    Command::new(alloc, "parse")
         .about("Prints the canonical spelling of an action text")
         .after_help(PARSE_HELP)
-        .arg(text)?;
+        .arg(text)
+}
+
+fn sim_command<'a>(alloc: Global) -> Result<Command<'a>, AllocError> {
     let echo = Arg::new(alloc, "echo")
         .long("echo")
         .help("Writes each line of the script before what it prints")
         .action(ArgAction::SetTrue);
-    let sim = Command::new(alloc, "sim")
+    Command::new(alloc, "sim")
         .about("Runs the script on standard input, and prints what its lines answer")
         .after_help(SIM_HELP)
-        .arg(echo)?;
+        .arg(echo)
+}
+
+fn threads_command<'a>(alloc: Global) -> Result<Command<'a>, AllocError> {
     let record = Arg::new(alloc, "record")
         .long("record")
         .value_name("file")
         .help("Keeps the drill in this file, for `failreg audit`");
-    let threads = Command::new(alloc, "threads")
+    Command::new(alloc, "threads")
         .about("Runs the script on standard input with workers in threads, and counts their calls")
         .after_help(THREADS_HELP)
-        .arg(record)?;
+        .arg(record)
+}
+
+fn audit_command<'a>(alloc: Global) -> Result<Command<'a>, AllocError> {
     let file = Arg::new(alloc, "file")
         .help("A drill that `failreg threads --record` kept")
         .required(true);
-    let audit = Command::new(alloc, "audit")
+    Command::new(alloc, "audit")
         .about("Audits a drill that `threads --record` kept")
         .after_help(AUDIT_HELP)
-        .arg(file)?;
-    Command::new(alloc, "failreg")
+        .arg(file)
+}
+
+// The words of a command line live as long as the texts of its command.
+fn whole_command<'a>(alloc: Global) -> Result<Command<'a>, AllocError> {
+    let command = Command::new(alloc, "failreg")
         .version(VERSION)
         .about("Failpoints of a cluster, with shared budgets")
         .after_help(EXAMPLE)
-        .subcommand_required(true)
-        .subcommand(parse)?
-        .subcommand(sim)?
-        .subcommand(threads)?
-        .subcommand(audit)?
-        .subcommand(serve_command(alloc)?)
+        .subcommand_required(true);
+    let command = command.subcommand(parse_command(alloc)?)?;
+    let command = command.subcommand(sim_command(alloc)?)?;
+    let command = command.subcommand(threads_command(alloc)?)?;
+    let command = command.subcommand(audit_command(alloc)?)?;
+    command.subcommand(serve_command(alloc)?)
 }
 
 // What is given where the values of a serve command have passed their parsers. The peers haven't yet.

@@ -14,6 +14,7 @@ mod auditing;
 mod command_line;
 mod finish;
 mod help;
+mod host;
 mod peers;
 mod recording;
 mod serving;

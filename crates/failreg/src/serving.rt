@@ -7,21 +7,19 @@ ghost use Rattle.failreg.specs.Statuses.{HasStatus};
 
 use crate::command_line::ServeOptions;
 use crate::finish::{finish_serve, refuse};
+use crate::host::Host;
 use crate::telling::{Serving, serve_and_tell};
 use http_serve::ServeFault;
 use node_core::{Config, NodeFault};
 use node_registry::{Label, Registry, Seat};
-use std::alloc::{AllocGlobal, Global};
+use std::alloc::Global;
+use std::io;
 use std::io::Write;
 use std::marker::Brand;
-use std::net::{Ipv4Addr, Net, SocketAddr};
+use std::net::{Ipv4Addr, SocketAddr};
 use std::process::ExitCode;
-use std::random::RandomSource;
 use std::sync::ledger::Blank;
 use std::sync::{Arc, Wait};
-use std::thread::Threads;
-use std::time::Clock;
-use std::{io, net};
 use tokio::net::TcpListener;
 use tokio::runtime::{Builder, Runtime};
 
@@ -29,18 +27,7 @@ use tokio::runtime::{Builder, Runtime};
 /// then its first points are set, and then clients are let in.
 pub fn serve_node<R>(rt: &R, options: ServeOptions<'_>) -> anyhow::Result<ExitCode>
 where
-    R: Wait
-        + Threads
-        + Clock
-        + RandomSource
-        + AllocGlobal
-        + Net<Listener = net::TcpListener, Stream = net::TcpStream>
-        + Send
-        + Sync
-        + Copy
-        + Drop
-        + Print
-        + Eprint,
+    R: Host + Print + Eprint,
     ensures status { IfOk result (λ code. (exit_status code ≡ 0) ⊎ (exit_status code ≡ 1)) }
     ensures bad { IsTrue (is_bad_config (record {
       node = options.entry.node;
@@ -65,18 +52,7 @@ fn serve_registry<L, R>(
 ) -> anyhow::Result<ExitCode>
 where
     L: Label + Send + Sync,
-    R: Wait
-        + Threads
-        + Clock
-        + RandomSource
-        + AllocGlobal
-        + Net<Listener = net::TcpListener, Stream = net::TcpStream>
-        + Send
-        + Sync
-        + Copy
-        + Drop
-        + Print
-        + Eprint,
+    R: Host + Print + Eprint,
     requires name { blank.name ≡ L.name }
     requires parts { (blank.parts ≡ L.parts) × (L.parts ≡ 2) }
     requires config { config ≡ L.config }
@@ -132,7 +108,7 @@ fn opened<L: Label, R: Wait>(
 // Listens on a port of this machine, and answers which.
 fn listen<R>(rt: &R, port: u16) -> io::Result<(Runtime, TcpListener, u16)>
 where
-    R: Wait + Threads + Clock + RandomSource + AllocGlobal + Net + Sync,
+    R: Host,
 {
     let runtime = Builder::new_current_thread().build(rt)?;
     let address = SocketAddr::from((Ipv4Addr::LOCALHOST, port));

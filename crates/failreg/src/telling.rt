@@ -4,18 +4,16 @@ ghost use Rattle.std.specs.Prelude.{◌≡◌, ◌≤◌, ◌+◌, ◌*◌, ◌�
 ghost use Rattle.http_serve.specs.declared.fault.ServeFault.TheVariants.{AcceptFailed, OutOfMemory};
 ghost use Rattle.failreg.specs.Rounds.{most_calls};
 
+use crate::host::Host;
 use gossip::gossip_rounds;
 use http_serve::{ServeFault, serve};
 use http_wire::{HttpWire, Peer};
 use node_registry::{Label, Registry, Seat};
-use std::alloc::AllocGlobal;
-use std::net::Net;
-use std::random::RandomSource;
 use std::sync::atomic::{AtomicBool, Ordering};
 use std::sync::{Arc, Wait};
-use std::thread::{Parker, Scope, Threads};
-use std::time::{Clock, Duration};
-use std::{net, thread};
+use std::thread;
+use std::thread::{Parker, Scope};
+use std::time::Duration;
 use tokio::net::TcpListener;
 use tokio::runtime::Runtime;
 
@@ -79,7 +77,7 @@ fn keep_telling<L, R>(
 )
 where
     L: Label,
-    R: Wait + Clock + Net + RandomSource + AllocGlobal + Copy + Drop,
+    R: Host,
     ensures { seat.new ≤ seat.old + telling.rounds * most_calls L.config }
 {
     let Telling {
@@ -105,7 +103,7 @@ where
 fn serve_alone<L, R>(rt: &R, serving: Serving<'_, L>) -> Result<u32, ServeFault>
 where
     L: Label + Send + Sync,
-    R: Wait + Threads + Clock + RandomSource + AllocGlobal + Send + Sync + Copy,
+    R: Host,
     ensures ok { IfOk result (λ served. served ≡ serving.entry.requests) }
     ensures err { IfErr result (λ f. (f ≡ AcceptFailed) ⊎ (f ≡ OutOfMemory)) }
 {
@@ -130,16 +128,7 @@ fn serve_in<'s, E, L, R>(
 ) -> Result<u32, ServeFault>
 where
     L: Label + Send + Sync + 's,
-    R: Wait
-        + Threads
-        + Clock
-        + Net<Listener = net::TcpListener, Stream = net::TcpStream>
-        + RandomSource
-        + AllocGlobal
-        + Send
-        + Sync
-        + Copy
-        + Drop,
+    R: Host,
     ensures ok { IfOk result (λ served. served ≡ serving.entry.requests) }
     ensures err { IfErr result (λ f. (f ≡ AcceptFailed) ⊎ (f ≡ OutOfMemory)) }
 {
@@ -164,16 +153,7 @@ pub fn serve_and_tell<L, R>(
 ) -> Result<u32, ServeFault>
 where
     L: Label + Send + Sync,
-    R: Wait
-        + Threads
-        + Clock
-        + Net<Listener = net::TcpListener, Stream = net::TcpStream>
-        + RandomSource
-        + AllocGlobal
-        + Send
-        + Sync
-        + Copy
-        + Drop,
+    R: Host,
     ensures ok { IfOk result (λ served. served ≡ serving.entry.requests) }
     ensures err { IfErr result (λ f. (f ≡ AcceptFailed) ⊎ (f ≡ OutOfMemory)) }
 {

@@ -2,6 +2,7 @@
 
 ghost use Rattle.std.specs.Prelude.{◌≡◌};
 
+use crate::both::both;
 use crate::load::{Load, POINT, SEED};
 use crate::one_lock::pass_often;
 use crate::span::Span;
@@ -82,13 +83,30 @@ pub(crate) fn by_four_nodes<
 {
     let (zero, one, two, three) = blanks;
     let text = load.term.text();
-    let mut zero: Site<A> = Site::new(rt, zero, configs.0, text)?;
-    let mut one: Site<B> = Site::new(rt, one, configs.1, text)?;
-    let mut two: Site<C> = Site::new(rt, two, configs.2, text)?;
-    let mut three: Site<D> = Site::new(rt, three, configs.3, text)?;
+    let zero = Site::<A>::new(rt, zero, configs.0, text);
+    let one = Site::<B>::new(rt, one, configs.1, text);
+    let two = Site::<C>::new(rt, two, configs.2, text);
+    let three = Site::<D>::new(rt, three, configs.3, text);
+    let (first, second) = both(both(zero, one), both(two, three))?;
+    time_sites(rt, first, second, load)
+}
+
+// Passes the points of two pairs of registries, each by a thread.
+fn time_sites<
+    A: Label + Send + Sync,
+    B: Label + Send + Sync,
+    C: Label + Send + Sync,
+    D: Label + Send + Sync,
+    R: AllocGlobal + Clock + Threads + Wait + Sync,
+>(
+    rt: &R,
+    (mut zero, mut one): (Site<A>, Site<B>),
+    (mut two, mut three): (Site<C>, Site<D>),
+    load: Load,
+) -> anyhow::Result<Span> {
     let alloc = rt.alloc();
     let start = Instant::now(rt)?;
-    let kept = thread::join(
+    let (first, second) = thread::join(
         rt,
         || {
             thread::join(
@@ -106,7 +124,6 @@ pub(crate) fn by_four_nodes<
         },
     );
     let end = Instant::now(rt)?;
-    let ((zero, one), (two, three)) = kept;
-    let _kept = (zero?, one?, two?, three?);
+    let _kept = both(both(first.0, first.1), both(second.0, second.1))?;
     Ok(Span { start, end })
 }

@@ -1,6 +1,7 @@
 //! Passes a point of a node alone, of a registry, and of four registries, for `bench/run.py` to time.
 #![tactic(auto)]
 
+mod both;
 mod four_locks;
 mod load;
 mod no_lock;

@@ -2,6 +2,7 @@
 
 ghost use Rattle.std.specs.Prelude.{◌≡◌};
 
+use crate::both::both;
 use crate::load::{Load, POINT, SEED};
 use crate::span::Span;
 use node_core::{Config, NodeFault, Receipt};
@@ -87,7 +88,7 @@ fn time_four<L: Label + Send + Sync, R: AllocGlobal + Clock + Threads + Wait + S
     let (mut zero, one, two, three) = seats;
     registry.set(rt, alloc, &mut zero, POINT, load.term.text())?;
     let start = Instant::now(rt)?;
-    let kept = thread::join(
+    let (first, second) = thread::join(
         rt,
         move || {
             thread::join(
@@ -105,8 +106,7 @@ fn time_four<L: Label + Send + Sync, R: AllocGlobal + Clock + Threads + Wait + S
         },
     );
     let end = Instant::now(rt)?;
-    let ((zero, one), (two, three)) = kept;
-    let _kept = (zero?, one?, two?, three?);
+    let _kept = both(both(first.0, first.1), both(second.0, second.1))?;
     Ok(Span { start, end })
 }
 

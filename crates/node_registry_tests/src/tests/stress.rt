@@ -309,6 +309,23 @@ impl<L: Label> Site<L> {
     }
 }
 
+fn both<A: Drop, B: Drop, E: Drop>(one: Result<A, E>, other: Result<B, E>) -> Result<(A, B), E> {
+    Ok((one?, other?))
+}
+
+fn sites_of<A: Label, B: Label, C: Label, D: Label>(
+    first: Result<(Site<A>, Site<B>), NodeFault>,
+    second: Result<(Site<C>, Site<D>), NodeFault>,
+) -> Result<Sites<A, B, C, D>, NodeFault> {
+    let ((zero, one), (two, three)) = both(first, second)?;
+    Ok(Sites {
+        zero,
+        one,
+        two,
+        three,
+    })
+}
+
 // Four nodes.
 #[derive(Drop)]
 struct Sites<A: Label, B: Label, C: Label, D: Label> {
@@ -354,12 +371,7 @@ impl<
                 )
             },
         );
-        Ok(Sites {
-            zero: zero?,
-            one: one?,
-            two: two?,
-            three: three?,
-        })
+        sites_of(both(zero, one), both(two, three))
     }
 
     fn letters(&self, alloc: Global) -> Result<Vec<Letter>, AllocError> {
@@ -380,12 +392,9 @@ impl<
             two,
             three,
         } = self;
-        Ok(
-            zero.is_lawful(rt, alloc)?
-                && one.is_lawful(rt, alloc)?
-                && two.is_lawful(rt, alloc)?
-                && three.is_lawful(rt, alloc)?,
-        )
+        let first = both(zero.is_lawful(rt, alloc), one.is_lawful(rt, alloc))?;
+        let second = both(two.is_lawful(rt, alloc), three.is_lawful(rt, alloc))?;
+        Ok(first == (true, true) && second == (true, true))
     }
 }
 
@@ -408,13 +417,11 @@ fn stressed<
     requires three { D.config ≡ record { node = 3; nodes = 4; trace_cap = 1000 } }
 {
     let (zero, one, two, three) = blanks;
-    let sites: Sites<A, B, C, D> = Sites {
-        zero: new_site(rt, alloc, zero, 0)?,
-        one: new_site(rt, alloc, one, 1)?,
-        two: new_site(rt, alloc, two, 2)?,
-        three: new_site(rt, alloc, three, 3)?,
-    };
-    let sites = sites.work(rt, alloc, &[])?;
+    let zero: Result<Site<A>, NodeFault> = new_site(rt, alloc, zero, 0);
+    let one: Result<Site<B>, NodeFault> = new_site(rt, alloc, one, 1);
+    let two: Result<Site<C>, NodeFault> = new_site(rt, alloc, two, 2);
+    let three: Result<Site<D>, NodeFault> = new_site(rt, alloc, three, 3);
+    let sites = sites_of(both(zero, one), both(two, three))?.work(rt, alloc, &[])?;
     let letters = sites.letters(alloc)?;
     let sites = sites.work(rt, alloc, &letters)?;
     sites.are_lawful(rt, alloc)

@@ -1,3 +1,4 @@
+use super::expect;
 use counters::{Budget, CounterFault, HitCounter};
 use lattice_laws::Join;
 use std::alloc::{AllocError, Global};
@@ -45,11 +46,11 @@ fn call_all_hits(
         let before = hits(counter);
         let mut answer = call_hits(alloc, counter, *call);
         if answer == Err(CounterFault::OutOfMemory) {
-            assert_eq!(rt; hits(counter), before);
+            expect(rt, &hits(counter), &before);
             answer = call_hits(alloc, counter, *call);
         }
-        assert_eq!(rt; answer, *want);
-        assert_eq!(rt; hits(counter), *after);
+        expect(rt, &answer, want);
+        expect(rt, &hits(counter), after);
     }
 }
 
@@ -159,11 +160,11 @@ fn follow(
         let before = shown(budget);
         let mut answer = take(alloc, budget, *next);
         if answer == Err(CounterFault::OutOfMemory) {
-            assert_eq!(rt; shown(budget), before);
+            expect(rt, &shown(budget), &before);
             answer = take(alloc, budget, *next);
         }
-        assert_eq!(rt; answer, *want);
-        assert_eq!(rt; shown(budget), *after);
+        expect(rt, &answer, want);
+        expect(rt, &shown(budget), after);
     }
 }
 
@@ -380,7 +381,7 @@ fn joins_hits(rt: HostRuntime) -> Result<(), Fail> {
     assert!(rt; is_least && !other.below(&one));
     let both = joined(&rt, alloc, &one, &other)?;
     let seen = hits(&both);
-    assert_eq!(rt; seen, (5, 7, 12));
+    expect(&rt, &seen, &(5, 7, 12));
     Ok(())
 }
 
@@ -400,26 +401,24 @@ fn joins_budgets(rt: HostRuntime) -> Result<(), Fail> {
     Ok(())
 }
 
+fn text_of(alloc: Global, fault: &CounterFault) -> Result<String, AllocError> {
+    format!(in alloc; "{fault}")
+}
+
 /// Each fault shows its number, its name and what it holds.
 #[test]
 fn prints(rt: HostRuntime) -> Result<(), Fail> {
-    let faults = [
-        (
-            CounterFault::TooFewRights { have: -3 },
-            "B1 TooFewRights have=-3",
-        ),
-        (
-            CounterFault::TooFewRights { have: 2 },
-            "B1 TooFewRights have=2",
-        ),
+    let few = CounterFault::TooFewRights { have: 2 };
+    let overspent = CounterFault::TooFewRights { have: -3 };
+    for (fault, want) in [
+        (overspent, "B1 TooFewRights have=-3"),
+        (few, "B1 TooFewRights have=2"),
         (CounterFault::CellFull, "B2 CellFull"),
         (CounterFault::ZeroAmount, "B3 ZeroAmount"),
         (CounterFault::SameNode, "B4 SameNode"),
         (CounterFault::OutOfMemory, "B5 OutOfMemory"),
-    ];
-    for (fault, want) in faults {
-        let text = format!(in rt.alloc(); "{fault}")?;
-        assert_eq!(rt; text.as_str(), want);
+    ] {
+        expect(&rt, &text_of(rt.alloc(), &fault)?.as_str(), &want);
     }
     Ok(())
 }

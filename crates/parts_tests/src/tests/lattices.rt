@@ -1,3 +1,4 @@
+use super::{expect, expect_at};
 use lattice_laws::{Held, Join, LexOf, MapOf, Max, PairOf};
 use std::alloc::{AllocError, Global};
 use std::mem;
@@ -65,7 +66,7 @@ fn raise(
         .raise(alloc, line, two(alloc, values.0, values.1)?)
         .is_err()
     {
-        assert_eq!(rt; cells(table), before);
+        expect(rt, &cells(table), &before);
         table.raise(alloc, line, two(alloc, values.0, values.1)?)?;
     }
     Ok(())
@@ -76,10 +77,10 @@ fn raise(
 fn numbers(rt: HostRuntime) -> Result<(), Fail> {
     for (one, other, both, is_below) in [(3, 5, 5, true), (5, 3, 5, false), (5, 4, 5, false)] {
         let mut held = Max(one);
-        assert_eq!(rt; held.below(&Max(other)), is_below);
-        assert_eq!(rt; held.joined(rt.alloc(), &Max(other))?, Max(both));
+        expect(&rt, &held.below(&Max(other)), &is_below);
+        expect(&rt, &held.joined(rt.alloc(), &Max(other))?, &Max(both));
         held.join_in(rt.alloc(), Max(other))?;
-        assert_eq!(rt; held, Max(both));
+        expect(&rt, &held, &Max(both));
     }
     Ok(())
 }
@@ -89,7 +90,7 @@ fn numbers(rt: HostRuntime) -> Result<(), Fail> {
 fn least_number(rt: HostRuntime) -> Result<(), Fail> {
     for (number, is_bottom) in [(0, true), (1, false), (7, false)] {
         let copy = Max(number).copied(rt.alloc())?;
-        assert_eq!(rt; (copy, copy.is_bottom()), (Max(number), is_bottom));
+        expect(&rt, &(copy, copy.is_bottom()), &(Max(number), is_bottom));
     }
     Ok(())
 }
@@ -107,16 +108,16 @@ fn raises(rt: HostRuntime) -> Result<(), Fail> {
         (4, 8, Some(Max(8))),
     ] {
         map.raise(alloc, key, Max(number))?;
-        assert_eq!(rt; map.get(&key).copied(), want);
+        expect(&rt, &map.get(&key).copied(), &want);
         assert!(rt; !map.is_empty());
     }
     let entries = map
         .iter()
         .map(|(key, value)| (*key, value.0))
         .collect::<Vec<(u8, u64)>>(alloc)?;
-    assert_eq!(rt; entries.as_slice(), [(4, 8), (7, 3)].as_slice());
+    expect(&rt, &entries.as_slice(), &([(4, 8), (7, 3)].as_slice()));
     let places = (map.at(0).map(|e| *e.0), map.at(2).map(|e| *e.0), map.len());
-    assert_eq!(rt; places, (Some(4), None, 2));
+    expect(&rt, &places, &(Some(4), None, 2));
     Ok(())
 }
 
@@ -128,14 +129,15 @@ fn maps(rt: HostRuntime) -> Result<(), Fail> {
     let mut right = table(alloc, 1, 1, 4)?;
     raise(&rt, alloc, &mut right, 2, (6, 2))?;
     let both = left.joined(alloc, &right)?;
-    assert_eq!(rt; cells(&both), (5, 0, 6, 2));
-    assert_eq!(rt; cells(&both.copied(alloc)?), (5, 0, 6, 2));
+    expect(&rt, &cells(&both), &(5, 0, 6, 2));
+    expect(&rt, &cells(&both.copied(alloc)?), &(5, 0, 6, 2));
     let parts_below = left.below(&both) && right.below(&both);
     let both_below = both.below(&left) || both.below(&right);
     let bottoms = (both.is_bottom(), Table::new(alloc).is_bottom());
-    assert_eq!(rt;
-        (parts_below, both_below, bottoms),
-        (true, false, (false, true))
+    expect(
+        &rt,
+        &(parts_below, both_below, bottoms),
+        &(true, false, (false, true)),
     );
     Ok(())
 }
@@ -148,16 +150,16 @@ fn changes(rt: HostRuntime) -> Result<(), Fail> {
     map.raise(alloc, 2, row(alloc, 2, 7)?)?;
     let raised = map.change(&1, |row| row.raise(alloc, 2, Max(9)));
     raised.ok_or("no line")??;
-    assert_eq!(rt; cells(&map), (5, 9, 0, 7));
+    expect(&rt, &cells(&map), &(5, 9, 0, 7));
     let old = map.change(
         &2,
         |row| row.change(&2, |value| mem::replace(value, Max(0))),
     );
-    assert_eq!(rt; old.ok_or("no line")?, Some(Max(7)));
-    assert_eq!(rt; cells(&map), (5, 9, 0, 0));
-    assert_eq!(rt; map.len(), 1);
+    expect(&rt, &old.ok_or("no line")?, &Some(Max(7)));
+    expect(&rt, &cells(&map), &(5, 9, 0, 0));
+    expect(&rt, &map.len(), &1);
     let absent = map.change(&3, |row| row.len());
-    assert_eq!(rt; absent, None);
+    expect(&rt, &absent, &None);
     Ok(())
 }
 
@@ -170,15 +172,15 @@ fn raises_in_place(rt: HostRuntime) -> Result<(), Fail> {
     raise(&rt, alloc, &mut map, 2, (1, 1))?;
     raise(&rt, alloc, &mut map, 1, (2, 4))?;
     raise(&rt, alloc, &mut map, 1, (6, 5))?;
-    assert_eq!(rt; cells(&map), (6, 5, 1, 1));
+    expect(&rt, &cells(&map), &(6, 5, 1, 1));
     Ok(())
 }
 
 fn three_lines(alloc: Global) -> Result<Table, AllocError> {
     let mut table = MapOf::new(alloc);
-    table.raise(alloc, 1, two(alloc, 7, 2)?)?;
-    table.raise(alloc, 2, two(alloc, 3, 9)?)?;
-    table.raise(alloc, 3, row(alloc, 1, 8)?)?;
+    for (line, first, second) in [(1, 7, 2), (2, 3, 9), (3, 8, 0)] {
+        table.raise(alloc, line, two(alloc, first, second)?)?;
+    }
     Ok(table)
 }
 
@@ -198,7 +200,7 @@ fn takes_in(rt: HostRuntime) -> Result<(), Fail> {
     }
     map.join_in(alloc, MapOf::new(alloc))?;
     let seen = (cells(&map), map.len());
-    assert_eq!(rt; seen, ((7, 2, 4, 9), 3));
+    expect(&rt, &seen, &((7, 2, 4, 9), 3));
     Ok(())
 }
 
@@ -228,10 +230,10 @@ fn pairs(rt: HostRuntime) -> Result<(), Fail> {
     ] {
         let left = pair(one);
         let joined = joined_pairs(rt.alloc(), &left, other)?;
-        assert_eq!(rt; joined, (pair(both), pair(both)));
+        expect(&rt, &joined, &(pair(both), pair(both)));
         let right = pair(other);
-        assert_eq!(rt; (left.below(&right), right.below(&left)), is_below);
-        assert_eq!(rt; left.is_bottom(), one == (0, 0));
+        expect(&rt, &(left.below(&right), right.below(&left)), &is_below);
+        expect(&rt, &left.is_bottom(), &(one == (0, 0)));
     }
     Ok(())
 }
@@ -282,7 +284,7 @@ fn keys_and_values(rt: HostRuntime) -> Result<(), Fail> {
             in_place: Some(both),
             is_below,
         };
-        assert_eq!(rt; meet(rt.alloc(), one, other)?, want);
+        expect(&rt, &meet(rt.alloc(), one, other)?, &want);
     }
     Ok(())
 }
@@ -294,7 +296,7 @@ fn nothing_held(rt: HostRuntime) -> Result<(), Fail> {
     assert!(rt; kept.is_bottom());
     for (next, want) in [((1, 9), (1, 9)), ((2, 5), (2, 5)), ((2, 3), (2, 5))] {
         kept.join_in(rt.alloc(), keyed(rt.alloc(), next)?)?;
-        assert_eq!(rt; held(&kept), Some(want));
+        expect(&rt, &held(&kept), &Some(want));
         assert!(rt; !kept.is_bottom());
     }
     Ok(())
@@ -307,17 +309,25 @@ fn changes_what_is_held(rt: HostRuntime) -> Result<(), Fail> {
     let mut kept = keyed(alloc, (2, 5))?;
     let raised = kept.change(|row| row.raise(alloc, 1, Max(8)));
     raised.ok_or("nothing is held")??;
-    assert_eq!(rt; held(&kept), Some((2, 8)));
+    expect(&rt, &held(&kept), &Some((2, 8)));
     Ok(())
+}
+
+fn copied_byte(alloc: Global, key: u8) -> Result<u8, AllocError> {
+    Held::copied(&key, alloc)
+}
+
+fn number_under(key: u8, number: u64) -> Option<u64> {
+    let keyed = LexOf::of(key, Max(number));
+    let (held, value) = keyed.held()?;
+    if *held == key { Some(value.0) } else { None }
 }
 
 /// A key of one byte is copied, and numbers may be held under one.
 #[test]
 fn keys(rt: HostRuntime) -> Result<(), Fail> {
-    let alloc = rt.alloc();
-    assert_eq!(rt; Held::copied(&7u8, alloc)?, 7);
-    let keyed = LexOf::of(Held::copied(&3u8, alloc)?, Max(4));
-    assert_eq!(rt; keyed.held().map(|e| (e.0, e.1)), Some((3, Max(4))));
+    expect(&rt, &copied_byte(rt.alloc(), 7)?, &7);
+    expect(&rt, &number_under(3, 4), &Some(4));
     Ok(())
 }
 
@@ -374,9 +384,9 @@ fn takes_in_many(rt: HostRuntime) -> Result<(), Fail> {
         ),
     ] {
         let map = taken_in(rt.alloc(), half, keys)?;
-        assert_eq!(rt; map.len(), len);
+        expect(&rt, &map.len(), &len);
         for (place, want) in at.into_iter().zip([1, 2, 2, 0]) {
-            assert_eq!(rt; number_at(&map, place), want, "at {place}");
+            expect_at(&rt, place, &number_at(&map, place), &want);
         }
     }
     Ok(())

@@ -54,6 +54,21 @@ pub(super) fn join_in<J: Join>(
     Ok(())
 }
 
+/// What two replicas come to, joined in both directions and in place.
+pub(super) fn joins<R: Replica>(
+    rt: &impl Abort,
+    alloc: Global,
+    left: &R,
+    right: &R,
+) -> Result<[R; 3], AllocError> {
+    let mut grown = copied(alloc, left)?;
+    let is_copy = same(&grown, left);
+    join_in(rt, alloc, &mut grown, right)?;
+    assert!(rt; is_copy && left.below(&grown) && right.below(&grown));
+    let turned = joined(alloc, right, left)?;
+    Ok([grown, turned, joined(alloc, left, right)?])
+}
+
 /// Joins two replicas, in both directions and in place.
 fn check<R: Replica>(
     rt: &impl Abort,
@@ -63,14 +78,9 @@ fn check<R: Replica>(
     want: Seen,
 ) -> Result<(), Fail> {
     let a = name(alloc, "a")?;
-    let both = joined(alloc, left, right)?;
-    let turned = joined(alloc, right, left)?;
-    let mut grown = copied(alloc, left)?;
-    let is_copy = same(&grown, left);
-    join_in(rt, alloc, &mut grown, right)?;
-    let is_above = left.below(&both) && right.below(&both);
+    let [grown, turned, both] = joins(rt, alloc, left, right)?;
     let is_wanted = shows(&both, &a, want) && shows(&turned, &a, want) && shows(&grown, &a, want);
-    assert!(rt; is_copy && is_above && is_wanted && same(&grown, &both));
+    assert!(rt; is_wanted && same(&grown, &both) && same(&turned, &both));
     Ok(())
 }
 

@@ -1,7 +1,7 @@
 //! One long run of operations of every kind, which both replicas learn in several orders, and what
 //! they then answer, side by side.
 
-use super::joins::{copied, join_in, joined, same};
+use super::joins::{joins, same};
 use super::readers::{
     all_hits, all_names, all_names_with, all_spent, clock_of, execs_at, hits_at, marks_rights,
     moved_from, rights_at,
@@ -201,20 +201,30 @@ fn mixed_run_backwards(rt: HostRuntime) -> Result<(), Fail> {
     side_by_side(&rt, alloc, &plain, &backwards::<Matrix>(&rt, alloc)?)
 }
 
+/// Whether what joins two replicas, in both directions and in place, answers and means the same as
+/// one that learned the whole.
+fn are_whole<R: Replica>(
+    rt: &impl Abort,
+    alloc: Global,
+    whole: &R,
+    first: &R,
+    second: &R,
+) -> Result<bool, Fail> {
+    let plain = plain(rt, alloc)?;
+    let mut are_whole = true;
+    for joined in joins(rt, alloc, first, second)?.iter() {
+        side_by_side(rt, alloc, &plain, joined)?;
+        are_whole = are_whole && same(joined, whole);
+    }
+    Ok(are_whole)
+}
+
 /// What joins two replicas that learned a half of the run each.
 fn halves<R: Replica>(rt: &impl Abort, alloc: Global) -> Result<(), Fail> {
-    let plain = plain(rt, alloc)?;
     let whole: R = part(rt, alloc, 0, RUN)?;
     let first: R = part(rt, alloc, 0, HALF)?;
     let second: R = part(rt, alloc, HALF, RUN)?;
-    let both = joined(alloc, &first, &second)?;
-    let turned = joined(alloc, &second, &first)?;
-    let mut grown = copied(alloc, &first)?;
-    join_in(rt, alloc, &mut grown, &second)?;
-    side_by_side(rt, alloc, &plain, &both)?;
-    side_by_side(rt, alloc, &plain, &turned)?;
-    side_by_side(rt, alloc, &plain, &grown)?;
-    let are_whole = same(&both, &whole) && same(&turned, &whole) && same(&grown, &whole);
+    let are_whole = are_whole(rt, alloc, &whole, &first, &second)?;
     let are_below = first.below(&whole) && !whole.below(&first) && second.below(&whole);
     assert!(rt; are_whole && are_below && !whole.is_bottom());
     Ok(())

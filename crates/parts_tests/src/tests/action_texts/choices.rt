@@ -1,3 +1,4 @@
+use super::super::{expect, expect_at};
 use super::parsed;
 use actions::decide;
 use std::alloc::Global;
@@ -26,7 +27,7 @@ fn chance_at_its_edge(rt: HostRuntime) -> Result<(), Fail> {
         ("100%panic", [].as_slice(), Some(0)),
     ] {
         let chosen = choice(rt.alloc(), text, words, [true; 16])?;
-        assert_eq!(rt; chosen, want, "{text}");
+        expect_at(&rt, text, &chosen, &want);
     }
     Ok(())
 }
@@ -41,24 +42,30 @@ fn one_word_for_each_uncertain_term(rt: HostRuntime) -> Result<(), Fail> {
         ([HIGHEST, HIGHEST], false, None),
     ] {
         let chosen = choice(rt.alloc(), text, &words, [may; 16])?;
-        assert_eq!(rt; chosen, want);
+        expect(&rt, &chosen, &want);
     }
     Ok(())
 }
 
+// A right for one term alone, or for none.
+fn right_for(term: Option<usize>) -> [bool; 16] {
+    let mut may = [false; 16];
+    if let Some(right) = term.and_then(|term| may.get_mut(term)) {
+        *right = true;
+    }
+    may
+}
+
 #[test]
 fn counted_terms_need_a_right(rt: HostRuntime) -> Result<(), Fail> {
-    let none = [false; 16];
-    let mut second = none;
-    second[1] = true;
-    for (text, may, want) in [
-        ("0*off->yield", none, Some(1)),
-        ("3*off", none, None),
-        ("off", none, Some(0)),
-        ("3*off->2*off->off", second, Some(1)),
+    for (text, right, want) in [
+        ("0*off->yield", None, Some(1)),
+        ("3*off", None, None),
+        ("off", None, Some(0)),
+        ("3*off->2*off->off", Some(1), Some(1)),
     ] {
-        let chosen = choice(rt.alloc(), text, &[], may)?;
-        assert_eq!(rt; chosen, want, "{text}");
+        let chosen = choice(rt.alloc(), text, &[], right_for(right))?;
+        expect_at(&rt, text, &chosen, &want);
     }
     Ok(())
 }

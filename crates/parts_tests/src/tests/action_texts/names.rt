@@ -1,3 +1,4 @@
+use super::super::{expect, expect_at};
 use super::{copied_key, repeated, shown};
 use actions::{Name, NameFault};
 use std::alloc::{AllocError, Global};
@@ -23,7 +24,7 @@ fn names(rt: HostRuntime) -> Result<(), Fail> {
         let name = named(rt.alloc(), text)?;
         let copy = copied(rt.alloc(), &name)?;
         assert!(rt; copy == name && name.text() == text, "at {text}");
-        assert_eq!(rt; copy.into_text().as_str(), text);
+        expect(&rt, &copy.into_text().as_str(), &text);
     }
     Ok(())
 }
@@ -31,15 +32,26 @@ fn names(rt: HostRuntime) -> Result<(), Fail> {
 #[test]
 fn longest_name(rt: HostRuntime) -> Result<(), Fail> {
     let text = repeated(rt.alloc(), "a", 127, "a")?;
-    assert_eq!(rt; named(rt.alloc(), text.as_str())?.text(), text.as_str());
+    expect(
+        &rt,
+        &named(rt.alloc(), text.as_str())?.text(),
+        &text.as_str(),
+    );
     Ok(())
+}
+
+fn refusal(alloc: Global, text: &str) -> Option<NameFault> {
+    named(alloc, text).err()
 }
 
 #[test]
 fn too_long_name(rt: HostRuntime) -> Result<(), Fail> {
     let text = repeated(rt.alloc(), "a", 128, "a")?;
-    let fault = named(rt.alloc(), text.as_str()).err();
-    assert_eq!(rt; fault, Some(NameFault::BadName));
+    expect(
+        &rt,
+        &refusal(rt.alloc(), text.as_str()),
+        &Some(NameFault::BadName),
+    );
     Ok(())
 }
 
@@ -48,8 +60,12 @@ fn not_names(rt: HostRuntime) -> Result<(), Fail> {
     for text in [
         "", " ", "a ", "bad!", "a/b", "a=off", "a;b", "\u{e9}", "a\n",
     ] {
-        let fault = named(rt.alloc(), text).err();
-        assert_eq!(rt; fault, Some(NameFault::BadName), "at {text}");
+        expect_at(
+            &rt,
+            text,
+            &refusal(rt.alloc(), text),
+            &Some(NameFault::BadName),
+        );
     }
     Ok(())
 }
@@ -60,7 +76,7 @@ fn name_faults(rt: HostRuntime) -> Result<(), Fail> {
         (NameFault::BadName, "BadName"),
         (NameFault::OutOfMemory, "OutOfMemory"),
     ] {
-        assert_eq!(rt; shown(rt.alloc(), &fault)?.as_str(), want);
+        expect(&rt, &shown(rt.alloc(), &fault)?.as_str(), &want);
     }
     Ok(())
 }
@@ -78,6 +94,6 @@ fn name_order(rt: HostRuntime) -> Result<(), Fail> {
 #[test]
 fn names_are_keys(rt: HostRuntime) -> Result<(), Fail> {
     let name = named(rt.alloc(), "a::b")?;
-    assert_eq!(rt; copied_key(rt.alloc(), &name)?.text(), "a::b");
+    expect(&rt, &copied_key(rt.alloc(), &name)?.text(), &"a::b");
     Ok(())
 }

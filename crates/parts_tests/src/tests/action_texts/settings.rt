@@ -1,3 +1,4 @@
+use super::super::{expect, expect_at};
 use super::{repeated, shown};
 use actions::{ActionFault, Actions, Name, SettingFault, parse_setting};
 use std::alloc::{AllocError, Global};
@@ -54,7 +55,7 @@ fn points_in_their_order(rt: HostRuntime) -> Result<(), Fail> {
         (" ; ;;  ", ""),
     ] {
         let list = listed(rt.alloc(), text)?;
-        assert_eq!(rt; list.as_str(), want, "at {text}");
+        expect_at(&rt, text, &list.as_str(), &want);
     }
     Ok(())
 }
@@ -79,7 +80,7 @@ fn refused_settings(rt: HostRuntime) -> Result<(), Fail> {
         ("a=101%off;b", "S4 BadActions entry=0 A4 BadPercent term=0"),
     ] {
         let outcome = outcome(rt.alloc(), text)?;
-        assert_eq!(rt; outcome.as_str(), want, "at {text}");
+        expect_at(&rt, text, &outcome.as_str(), &want);
     }
     Ok(())
 }
@@ -87,16 +88,17 @@ fn refused_settings(rt: HostRuntime) -> Result<(), Fail> {
 #[test]
 fn want_of_memory_is_shown(rt: HostRuntime) -> Result<(), Fail> {
     let printed = shown(rt.alloc(), &SettingFault::OutOfMemory)?;
-    assert_eq!(rt; printed.as_str(), "S5 OutOfMemory");
+    expect(&rt, &printed.as_str(), &"S5 OutOfMemory");
     Ok(())
 }
 
 #[test]
 fn fault_of_actions_is_kept(rt: HostRuntime) -> Result<(), Fail> {
     let fault = ActionFault::UnknownTask { term: 0 };
-    assert_eq!(rt;
-        set(rt.alloc(), "a=off;b=bad").err(),
-        Some(SettingFault::BadActions { entry: 1, fault })
+    expect(
+        &rt,
+        &set(rt.alloc(), "a=off;b=bad").err(),
+        &Some(SettingFault::BadActions { entry: 1, fault }),
     );
     Ok(())
 }

@@ -1,3 +1,4 @@
+use super::super::{expect, expect_at};
 use super::{parsed, repeated, shown};
 use actions::{ActionFault, parse_actions};
 use std::alloc::Global;
@@ -93,7 +94,7 @@ fn refused_texts(rt: HostRuntime) -> Result<(), Fail> {
         ("print(\x7f)", "A10 BadByte offset=6"),
     ] {
         let fault = refused_text(rt.alloc(), text)?;
-        assert_eq!(rt; fault.as_str(), want, "at {text}");
+        expect_at(&rt, text, &fault.as_str(), &want);
     }
     Ok(())
 }
@@ -101,21 +102,25 @@ fn refused_texts(rt: HostRuntime) -> Result<(), Fail> {
 #[test]
 fn want_of_memory_is_shown(rt: HostRuntime) -> Result<(), Fail> {
     let printed = shown(rt.alloc(), &ActionFault::OutOfMemory)?;
-    assert_eq!(rt; printed.as_str(), "A11 OutOfMemory");
+    expect(&rt, &printed.as_str(), &"A11 OutOfMemory");
     Ok(())
 }
 
 #[test]
 fn most_terms(rt: HostRuntime) -> Result<(), Fail> {
     let text = repeated(rt.alloc(), "off->", 15, "off")?;
-    assert_eq!(rt; parsed(rt.alloc(), text.as_str())?.text(), text.as_str());
+    expect(
+        &rt,
+        &parsed(rt.alloc(), text.as_str())?.text(),
+        &text.as_str(),
+    );
     Ok(())
 }
 
 #[test]
 fn longest_text(rt: HostRuntime) -> Result<(), Fail> {
     let text = repeated(rt.alloc(), " ", 1021, "off")?;
-    assert_eq!(rt; parsed(rt.alloc(), text.as_str())?.text(), "off");
+    expect(&rt, &parsed(rt.alloc(), text.as_str())?.text(), &"off");
     Ok(())
 }
 
@@ -131,7 +136,7 @@ fn too_many_or_too_long(rt: HostRuntime) -> Result<(), Fail> {
     ] {
         let text = repeated(rt.alloc(), piece, times, last)?;
         let fault = refused_text(rt.alloc(), text.as_str())?;
-        assert_eq!(rt; fault.as_str(), want);
+        expect(&rt, &fault.as_str(), &want);
     }
     Ok(())
 }

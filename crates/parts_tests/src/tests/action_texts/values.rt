@@ -1,3 +1,4 @@
+use super::super::{expect, expect_at};
 use super::{copied_key, parsed, shown};
 use actions::{Actions, Task, Term};
 use std::alloc::{AllocError, Global};
@@ -12,8 +13,8 @@ fn parts(rt: HostRuntime) -> Result<(), Fail> {
         (1, 1000000, None, "panic"),
     ] {
         let term = actions.term(index).ok_or("no term")?;
-        assert_eq!(rt; (term.ppm, term.count), (ppm, count));
-        assert_eq!(rt; shown(rt.alloc(), &term.task)?.as_str(), task);
+        expect(&rt, &(term.ppm, term.count), &(ppm, count));
+        expect(&rt, &shown(rt.alloc(), &term.task)?.as_str(), &task);
     }
     assert!(rt; actions.term(2).is_none());
     Ok(())
@@ -40,7 +41,7 @@ fn percentages(rt: HostRuntime) -> Result<(), Fail> {
     ] {
         let actions = parsed(rt.alloc(), text)?;
         let term = actions.term(0).ok_or("no term")?;
-        assert_eq!(rt; term.ppm, want, "at {text}");
+        expect_at(&rt, text, &term.ppm, &want);
     }
     Ok(())
 }
@@ -52,7 +53,11 @@ fn words_for_terms_below_all(rt: HostRuntime) -> Result<(), Fail> {
         (" 020.50%3*print(a(b)c) -> panic", 2, 1),
     ] {
         let actions = parsed(rt.alloc(), text)?;
-        assert_eq!(rt; (actions.len(), actions.words_needed()), (terms, words));
+        expect(
+            &rt,
+            &(actions.len(), actions.words_needed()),
+            &(terms, words),
+        );
     }
     Ok(())
 }
@@ -93,7 +98,7 @@ fn tasks(rt: HostRuntime) -> Result<(), Fail> {
     ] {
         let task = first_task(rt.alloc(), text)?;
         let shown_as = shown(rt.alloc(), &task)?;
-        assert_eq!(rt; shown_as.as_str(), want);
+        expect(&rt, &shown_as.as_str(), &want);
     }
     Ok(())
 }
@@ -154,7 +159,7 @@ fn terms_of_copies(rt: HostRuntime) -> Result<(), Fail> {
         let actions = parsed(rt.alloc(), text)?;
         let copy = copied(rt.alloc(), &actions)?;
         let term = copied_term(rt.alloc(), copy.term(1).ok_or("no term")?)?;
-        assert_eq!(rt; shown(rt.alloc(), &term)?.as_str(), want);
+        expect(&rt, &shown(rt.alloc(), &term)?.as_str(), &want);
     }
     Ok(())
 }
