@@ -12,14 +12,17 @@ use crate::telling::{Serving, serve_and_tell};
 use http_serve::ServeFault;
 use node_core::{Config, NodeFault};
 use node_registry::{Label, Registry, Seat};
-use std::alloc::Global;
-use std::io;
+use std::alloc::{AllocGlobal, Global};
 use std::io::Write;
 use std::marker::Brand;
-use std::net::{Ipv4Addr, SocketAddr};
+use std::net::{Ipv4Addr, Net, SocketAddr};
 use std::process::ExitCode;
+use std::random::RandomSource;
 use std::sync::ledger::Blank;
 use std::sync::{Arc, Wait};
+use std::thread::Threads;
+use std::time::Clock;
+use std::{io, net};
 use tokio::net::TcpListener;
 use tokio::runtime::{Builder, Runtime};
 
@@ -27,7 +30,18 @@ use tokio::runtime::{Builder, Runtime};
 /// then its first points are set, and then clients are let in.
 pub fn serve_node<R>(rt: &R, options: ServeOptions<'_>) -> anyhow::Result<ExitCode>
 where
-    R: Host + Print + Eprint,
+    R: Wait
+        + Threads
+        + Clock
+        + RandomSource
+        + AllocGlobal
+        + Net<Listener = net::TcpListener, Stream = net::TcpStream>
+        + Send
+        + Sync
+        + Copy
+        + Drop
+        + Print
+        + Eprint,
     ensures status { IfOk result (λ code. (exit_status code ≡ 0) ⊎ (exit_status code ≡ 1)) }
     ensures bad { IsTrue (is_bad_config (record {
       node = options.entry.node;
