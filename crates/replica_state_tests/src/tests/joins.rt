@@ -60,13 +60,13 @@ pub(super) fn joins<R: Replica>(
     alloc: Global,
     left: &R,
     right: &R,
-) -> Result<[R; 3], AllocError> {
+) -> Result<(R, R, R), AllocError> {
     let mut grown = copied(alloc, left)?;
     let is_copy = same(&grown, left);
     join_in(rt, alloc, &mut grown, right)?;
     assert!(rt; is_copy && left.below(&grown) && right.below(&grown));
     let turned = joined(alloc, right, left)?;
-    Ok([grown, turned, joined(alloc, left, right)?])
+    Ok((grown, turned, joined(alloc, left, right)?))
 }
 
 /// Joins two replicas, in both directions and in place.
@@ -78,7 +78,7 @@ fn check<R: Replica>(
     want: Seen,
 ) -> Result<(), Fail> {
     let a = name(alloc, "a")?;
-    let [grown, turned, both] = joins(rt, alloc, left, right)?;
+    let (grown, turned, both) = joins(rt, alloc, left, right)?;
     let is_wanted = shows(&both, &a, want) && shows(&turned, &a, want) && shows(&grown, &a, want);
     assert!(rt; is_wanted && same(&grown, &both) && same(&turned, &both));
     Ok(())

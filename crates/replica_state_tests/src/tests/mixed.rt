@@ -211,12 +211,11 @@ fn are_whole<R: Replica>(
     second: &R,
 ) -> Result<bool, Fail> {
     let plain = plain(rt, alloc)?;
-    let mut are_whole = true;
-    for joined in joins(rt, alloc, first, second)?.iter() {
-        side_by_side(rt, alloc, &plain, joined)?;
-        are_whole = are_whole && same(joined, whole);
-    }
-    Ok(are_whole)
+    let (grown, turned, both) = joins(rt, alloc, first, second)?;
+    side_by_side(rt, alloc, &plain, &grown)?;
+    side_by_side(rt, alloc, &plain, &turned)?;
+    side_by_side(rt, alloc, &plain, &both)?;
+    Ok(same(&grown, whole) && same(&turned, whole) && same(&both, whole))
 }
 
 /// What joins two replicas that learned a half of the run each.
