@@ -42,10 +42,7 @@ fn print_registry<L: Label, R: Print + Wait>(rt: &R, registry: &Registry<L>) -> 
     registry.with(rt, |core| print_node(rt, core))
 }
 
-fn print_receipt<R: Print>(
-    rt: &R,
-    receipt: &Result<Receipt, NodeFault>,
-) -> anyhow::Result<()> {
+fn print_receipt<R: Print>(rt: &R, receipt: &Result<Receipt, NodeFault>) -> anyhow::Result<()> {
     match receipt {
         Ok(receipt) => println!(rt; "{receipt:?}")?,
         Err(fault) => println!(rt; "refused {fault}")?,

@@ -4,8 +4,7 @@ use http_paths::Routes;
 use http_routes::{HttpReply, Wanted, answer, reply_of, route};
 use node_core::{Ask, Config, NodeCore, NodeFault, Reply};
 use std::alloc::{AllocError, Global};
-use std::io;
-use std::str;
+use std::{io, str};
 
 /// A request. `pass` and `emit` in place of its method stand for calls that no request asks.
 #[derive(Clone, Copy)]
