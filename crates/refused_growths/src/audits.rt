@@ -1,7 +1,8 @@
 //! Audits of a drill, and of what is wrong with it.
 
-use crate::drill::{Drill, NODES, played};
+use crate::drill::{NODES, played};
 use audit::{AuditFault, AuditYes, audit};
+use drills::Drill;
 use node_core::{NodeFault, Reply};
 use std::alloc::Global;
 

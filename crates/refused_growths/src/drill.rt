@@ -1,17 +1,11 @@
 //! A drill of two nodes, in which each kind of call is made.
 
-use node_core::{Ask, Config, NodeCore, NodeFault, Receipt, Reply, Trace};
+use drills::Drill;
+use node_core::{Ask, Config, NodeCore, NodeFault, Receipt, Reply};
 use std::alloc::{AllocError, Global};
 
 /// How many nodes there are.
 pub const NODES: u8 = 2;
-
-/// The traces of the nodes, and of each the receipts of its calls.
-#[derive(Drop)]
-pub struct Drill {
-    pub traces: Vec<Trace>,
-    pub lists: Vec<Vec<Receipt>>,
-}
 
 // A call.
 enum Step {
@@ -156,7 +150,7 @@ impl Stage {
     }
 }
 
-/// The drill.
+/// The drill: the traces of the nodes, and of each the receipts of its calls.
 pub fn played(alloc: Global) -> Result<Drill, NodeFault> {
     let mut stage = Stage::new(alloc)?;
     for (node, step) in STEPS.iter() {
