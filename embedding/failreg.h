@@ -1,27 +1,27 @@
 /* failreg: one node of a cluster's failpoints, for programs of C and C++.
  *
- * A node holds named points. failreg_open opens one, failreg_end ends it. Of a term that is counted,
- * as in "5*panic->off", all nodes together run no more than the count and what was granted beyond it,
- * whatever becomes of their messages.
+ * A node holds named points. failreg_open opens one, failreg_end ends it. Of a term that is
+ * counted, as in "5*panic->off", all nodes together run no more than the count and what was granted
+ * beyond it, whatever becomes of their messages.
  *
  * What a call is given, and what it must be given, since nothing checks it:
  *
- *  - A node is given to one call at a time: by a mutex of yours, or by one thread. Calls of different
- *    nodes need no order. A node may go from thread to thread.
+ *  - A node is given to one call at a time: by a mutex of yours, or by one thread. Calls of
+ *    different nodes need no order. A node may go from thread to thread.
  *  - A node that is given is one that failreg_open or a later call left, or FAILREG_CLOSED_NODE. A
  *    copy of its bytes is the same node: use and end one of them alone.
- *  - No pointer is null, also where a length is 0: then give "" or any other address. A pointer leads
- *    to as many bytes or numbers as the length beside it says, and what a call writes to overlaps
- *    nothing else that it is given.
+ *  - No pointer is null, also where a length is 0: then give "" or any other address. A pointer
+ *    leads to as many bytes or numbers as the length beside it says, and what a call writes to
+ *    overlaps nothing else that it is given.
  *  - malloc, realloc and free are those of one allocator, and align as C asks. No call is made in a
  *    signal handler, or in the child of a fork where the process had several threads.
  *
  * Texts have a length and no closing zero. Whether they are UTF-8 is looked at by the calls.
  *
- * Every call but failreg_fetch and failreg_words answers 0, or why it is refused. Then the node and
- * its generator are as they were, what the call would have told is 0 or false, and failreg_fault with
- * failreg_fetch tells a text. An accepted call that changes the node, marked below by [entry], is an
- * entry of the node's trace: it takes memory until the node is ended, and counts against the cap. */
+ * Every call but failreg_close, failreg_fetch and failreg_words answers 0, or why it is refused.
+ * Then the node and its generator are as they were, and what the call would have told is 0 or
+ * false. An accepted call that changes the node, marked below by [entry], is an entry of the node's
+ * trace: it takes memory until the node is ended, and counts against the cap. */
 #ifndef FAILREG_H
 #define FAILREG_H
 
@@ -42,7 +42,8 @@ typedef struct failreg {
 /* What a node is before it is opened and after it was ended: all zero. */
 #define FAILREG_CLOSED_NODE { false, NULL }
 
-/* What a call answers. 1 to 22 are the numbers with which the texts of faults begin ("N7 NoSuchTerm"). */
+/* What a call answers. 1 to 22 are the numbers with which the texts of faults begin, as that of
+ * "N7 NoSuchTerm". */
 enum failreg_status {
     FAILREG_OK = 0,
     FAILREG_TRACE_FULL = 1,     /* the node has accepted as many calls as it may */
@@ -70,7 +71,7 @@ enum failreg_status {
     FAILREG_ALREADY_OPEN = 32   /* failreg_open of a node that is open */
 };
 
-/* The clock of a setting, and the node that made it: no two settings of a cluster have one stamp. */
+/* The clock of a setting and the node that made it: no two settings of a cluster have one stamp. */
 typedef struct failreg_stamp {
     uint64_t clock;
     uint8_t node;
@@ -111,8 +112,9 @@ typedef struct failreg_act {
     bool has_text;     /* return() has a text of no bytes, return has none */
 } failreg_act;
 
-/* Opens a closed node: node `number` of a cluster of `nodes`, which accepts `trace_cap` calls in its
- * life. The words of its passes are those of ChaCha8 of the seed, on the stream of its number. */
+/* Opens a closed node: node `number` of a cluster of `nodes`, which accepts `trace_cap` calls in
+ * its life. The words of its passes are those of ChaCha8 of the seed, on the stream of its
+ * number. */
 uint32_t failreg_open(failreg *node, uint8_t number, uint8_t nodes, uint32_t trace_cap,
                       const uint8_t seed[32]);
 
@@ -146,12 +148,13 @@ uint32_t failreg_pass_with(failreg *node, const char *name, size_t name_len, con
 /* Whether a point is set. This is no pass, and no entry of the trace. */
 uint32_t failreg_is_set(failreg *node, const char *name, size_t name_len, bool *is_set);
 
-/* Whether a pause is over that began with a pass of this stamp: the point isn't set under it now. */
+/* Whether a pause is over that began with a pass of this stamp: the point isn't set under it. */
 uint32_t failreg_pause_over(failreg *node, const char *name, size_t name_len,
                             const failreg_stamp *stamp, bool *is_over);
 
-/* [entry] Moves rights of a counted term, by its number from 0, to another node, which can spend them
- * once it has heard of it. Tells how many this node moved to that one in all, under the setting. */
+/* [entry] Moves rights of a counted term, by its number from 0, to another node, which can spend
+ * them once it has heard of it. Tells how many this node moved to that one in all, under the
+ * setting. */
 uint32_t failreg_shift(failreg *node, const char *name, size_t name_len, uint8_t term, uint8_t to,
                        uint64_t amount, uint64_t *total);
 
@@ -166,8 +169,8 @@ uint32_t failreg_emit(failreg *node, uint8_t to);
 /* [entry] Takes in a message, and tells whether the node learnt anything. */
 uint32_t failreg_deliver(failreg *node, const uint8_t *message, size_t message_len, bool *changed);
 
-/* How often a term ran at all nodes under the setting, and how often a point was passed at all nodes
- * while it was set, as far as this node knows. */
+/* How often a term ran at all nodes under the setting, and how often a point was passed at all
+ * nodes while it was set, as far as this node knows. */
 uint32_t failreg_spent(failreg *node, const char *name, size_t name_len, uint8_t term,
                        failreg_wide *spent);
 uint32_t failreg_hits(failreg *node, const char *name, size_t name_len, failreg_wide *hits);
@@ -189,12 +192,12 @@ uint32_t failreg_calls(failreg *node, uint64_t *calls);
 /* Lists the points that are set, as a text for failreg_load: fetch it. */
 uint32_t failreg_list(failreg *node);
 
-/* The text of the last call marked [entry] that was refused, as "N11 TooFewRights have=2": fetch it.
- * It has no bytes after FAILREG_NOT_UTF8. */
+/* The text of the last call marked [entry] that was refused, as "N11 TooFewRights have=2": fetch
+ * it. It has no bytes after FAILREG_NOT_UTF8. */
 uint32_t failreg_fault(failreg *node);
 
-/* Copies what the last pass (its text), emit, list or fault left to be fetched, as much as `room` is,
- * and answers how long it is: with room 0 only that. It stays until the next of those calls. */
+/* Copies what the last pass (its text), emit, list or fault left to be fetched, as much as `room`
+ * is, and answers how long it is: with room 0 only that. It stays until the next of those calls. */
 size_t failreg_fetch(failreg *node, void *into, size_t room);
 
 /* The same of the words that the last failreg_pass drew; `room` counts words. */

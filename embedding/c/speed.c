@@ -2,8 +2,8 @@
  *
  *     speed KIND THREADS PASSES
  *
- * prints nanoseconds a pass, over all threads, and the bytes that a pass takes more of memory. Threads
- * share one node and take turns by a mutex; libfiu has a lock of its own. */
+ * prints nanoseconds a pass, over all threads, and the bytes that a pass takes more of memory.
+ * Threads share one node and take turns by a mutex; libfiu has a lock of its own. */
 #define _POSIX_C_SOURCE 200809L
 #include "failreg.h"
 

@@ -234,7 +234,8 @@ static void readers_take_no_entry(void)
     uint16_t entries;
     bool is_set;
     failreg_stamp stamp;
-    CHECK(failreg_load(&node, TEXT("p=off;q=2*panic->off"), &entries) == FAILREG_OK && entries == 2);
+    CHECK(failreg_load(&node, TEXT("p=off;q=2*panic->off"), &entries) == FAILREG_OK);
+    CHECK(entries == 2);
     CHECK(failreg_is_set(&node, TEXT("p"), &is_set) == FAILREG_OK && is_set);
     CHECK(failreg_remove(&node, TEXT("p"), &stamp) == FAILREG_OK && stamp.clock == 3);
     CHECK(failreg_is_set(&node, TEXT("p"), &is_set) == FAILREG_OK && !is_set);
@@ -256,7 +257,8 @@ static void refusals_are_told(void)
     failreg_act act;
     uint64_t calls;
     bool is_set;
-    CHECK(failreg_pass(&node, TEXT("p"), &act) == FAILREG_CLOSED && failreg_fetch(&node, "", 0) == 0);
+    CHECK(failreg_pass(&node, TEXT("p"), &act) == FAILREG_CLOSED);
+    CHECK(failreg_fetch(&node, "", 0) == 0);
     CHECK(failreg_is_set(&node, TEXT("p"), &is_set) == FAILREG_CLOSED && !is_set);
     CHECK(failreg_open(&node, 2, NODES, 9, SEED) == FAILREG_BAD_CONFIG && !node.is_open);
     CHECK(failreg_open(&node, 0, NODES, 2, SEED) == FAILREG_OK);
@@ -271,7 +273,8 @@ static void refusals_are_told(void)
     CHECK(failreg_calls(&node, &calls) == FAILREG_OK && calls == 0);
     set(&node, "off");
     pass(&node);
-    CHECK(failreg_pass(&node, TEXT("p"), &act) == FAILREG_TRACE_FULL && act.outcome == FAILREG_UNSET);
+    CHECK(failreg_pass(&node, TEXT("p"), &act) == FAILREG_TRACE_FULL);
+    CHECK(act.outcome == FAILREG_UNSET);
     CHECK(failreg_fault(&node) == FAILREG_OK && said(&node, "N1 TraceFull"));
     CHECK(failreg_pass(&node, "\xff", 1, &act) == FAILREG_NOT_UTF8);
     failreg_end(&node);

@@ -98,11 +98,13 @@ pub extern "C" fn failreg_set(
             ensures ok { result.1.0 ≡ 0 → Both node.handle.kept result.0.handle.kept
                 (IsMade (asks.Set given.entry.0.now given.entry.1.now)
                 (asks.IsSet result.1.1)) }
-            ensures refused { result.1.0 ≢ 0 → MatchOption node.handle.kept (result.1.0 ≡ closed) (λ k.
+            ensures refused { result.1.0 ≢ 0
+                → MatchOption node.handle.kept (result.1.0 ≡ closed) (λ k.
                 IsRefusedOf (IsUtf8 given.entry.0.now × IsUtf8 given.entry.1.now) k.core
                 (asks.Set given.entry.0.now given.entry.1.now) []
                 (SetNeedsMemory k.core given.entry.0.now given.entry.1.now) result.1.0) }
-            ensures left { result.1.0 ≢ 0 → Stays node.handle.kept result.0.handle.kept (IsLeft result.1.0) }
+            ensures left { result.1.0 ≢ 0
+                → Stays node.handle.kept result.0.handle.kept (IsLeft result.1.0) }
         {
             if !node.is_open {
                 return (node, (CLOSED, NO_STAMP));
@@ -141,10 +143,12 @@ pub extern "C" fn failreg_remove(
             ensures ok { result.1.0 ≡ 0 → Both node.handle.kept result.0.handle.kept
                 (IsMade (asks.Remove given.now)
                 (asks.IsRemoved result.1.1)) }
-            ensures refused { result.1.0 ≢ 0 → MatchOption node.handle.kept (result.1.0 ≡ closed) (λ k.
+            ensures refused { result.1.0 ≢ 0
+                → MatchOption node.handle.kept (result.1.0 ≡ closed) (λ k.
                 IsRefusedOf (IsUtf8 given.now) k.core
                 (asks.Remove given.now) [] (NameNeedsMemory k.core given.now) result.1.0) }
-            ensures left { result.1.0 ≢ 0 → Stays node.handle.kept result.0.handle.kept (IsLeft result.1.0) }
+            ensures left { result.1.0 ≢ 0
+                → Stays node.handle.kept result.0.handle.kept (IsLeft result.1.0) }
         {
             if !node.is_open {
                 return (node, (CLOSED, NO_STAMP));
@@ -181,10 +185,12 @@ pub extern "C" fn failreg_load(
         |node: Node, given: &[u8]| -> (Node, (u32, u16))
             ensures ok { result.1.0 ≡ 0 → Both node.handle.kept result.0.handle.kept
                 (IsMade (asks.Load given.now) (asks.IsLoaded result.1.1)) }
-            ensures refused { result.1.0 ≢ 0 → MatchOption node.handle.kept (result.1.0 ≡ closed) (λ k.
+            ensures refused { result.1.0 ≢ 0
+                → MatchOption node.handle.kept (result.1.0 ≡ closed) (λ k.
                 IsRefusedOf (IsUtf8 given.now) k.core
                 (asks.Load given.now) [] (LoadNeedsMemory k.core given.now) result.1.0) }
-            ensures left { result.1.0 ≢ 0 → Stays node.handle.kept result.0.handle.kept (IsLeft result.1.0) }
+            ensures left { result.1.0 ≢ 0
+                → Stays node.handle.kept result.0.handle.kept (IsLeft result.1.0) }
         {
             if !node.is_open {
                 return (node, (CLOSED, 0));
@@ -200,8 +206,8 @@ pub extern "C" fn failreg_load(
     status
 }
 
-/// Passes a point, with the next words of the node's generator. The text of its task, and the words,
-/// are then to be fetched.
+/// Passes a point, with the next words of the node's generator. The text of its task, and the
+/// words, are then to be fetched.
 #[unsafe(no_mangle)]
 pub extern "C" fn failreg_pass(alloc: Global, node: &mut Node, name: &[u8], act: &mut Act) -> u32
     ensures ok { result ≡ 0 → Both node.old.handle.kept node.new.handle.kept
@@ -217,10 +223,12 @@ pub extern "C" fn failreg_pass(alloc: Global, node: &mut Node, name: &[u8], act:
         |node: Node, given: &[u8]| -> (Node, (u32, Act))
             ensures ok { result.1.0 ≡ 0 → Both node.handle.kept result.0.handle.kept
                 (IsPassedDrawing given.now result.1.1) }
-            ensures refused { result.1.0 ≢ 0 → MatchOption node.handle.kept (result.1.0 ≡ closed) (λ k.
+            ensures refused { result.1.0 ≢ 0
+                → MatchOption node.handle.kept (result.1.0 ≡ closed) (λ k.
                 IsRefusedOf (IsUtf8 given.now) k.core
                 (asks.Pass given.now) (words_drawn k given.now) (Unit {0}) result.1.0) }
-            ensures left { result.1.0 ≢ 0 → Stays node.handle.kept result.0.handle.kept (IsLeft result.1.0) }
+            ensures left { result.1.0 ≢ 0
+                → Stays node.handle.kept result.0.handle.kept (IsLeft result.1.0) }
         {
             if !node.is_open {
                 return (node, (CLOSED, UNSET));
@@ -249,7 +257,8 @@ pub extern "C" fn failreg_pass_with(
         (IsPassedGiven name.now words.now act.new) }
     ensures refused { result ≢ 0 → MatchOption node.old.handle.kept (result ≡ closed) (λ k.
         IsRefusedOf (IsUtf8 name.now) k.core
-        (asks.Pass name.now) words.now (NameNeedsMemory k.core name.now) result) }
+        (asks.Pass name.now) words.now
+        (NameNeedsMemory k.core name.now) result) }
     ensures left { result ≢ 0 → Stays node.old.handle.kept node.new.handle.kept (IsLeft result) }
 {
     let (status, answer) = replace_with(
@@ -258,10 +267,13 @@ pub extern "C" fn failreg_pass_with(
         |node: Node, given: (&[u8], &[u32])| -> (Node, (u32, Act))
             ensures ok { result.1.0 ≡ 0 → Both node.handle.kept result.0.handle.kept
                 (IsPassedGiven given.entry.0.now given.entry.1.now result.1.1) }
-            ensures refused { result.1.0 ≢ 0 → MatchOption node.handle.kept (result.1.0 ≡ closed) (λ k.
+            ensures refused { result.1.0 ≢ 0
+                → MatchOption node.handle.kept (result.1.0 ≡ closed) (λ k.
                 IsRefusedOf (IsUtf8 given.entry.0.now) k.core
-                (asks.Pass given.entry.0.now) given.entry.1.now (NameNeedsMemory k.core given.entry.0.now) result.1.0) }
-            ensures left { result.1.0 ≢ 0 → Stays node.handle.kept result.0.handle.kept (IsLeft result.1.0) }
+                (asks.Pass given.entry.0.now) given.entry.1.now
+                (NameNeedsMemory k.core given.entry.0.now) result.1.0) }
+            ensures left { result.1.0 ≢ 0
+                → Stays node.handle.kept result.0.handle.kept (IsLeft result.1.0) }
         {
             if !node.is_open {
                 return (node, (CLOSED, UNSET));
@@ -302,11 +314,13 @@ pub extern "C" fn failreg_shift(
         |node: Node, given: &[u8]| -> (Node, (u32, u64))
             ensures ok { result.1.0 ≡ 0 → Both node.handle.kept result.0.handle.kept
                 (IsMade (asks.Shift given.now term to amount) (asks.IsShifted result.1.1)) }
-            ensures refused { result.1.0 ≢ 0 → MatchOption node.handle.kept (result.1.0 ≡ closed) (λ k.
+            ensures refused { result.1.0 ≢ 0
+                → MatchOption node.handle.kept (result.1.0 ≡ closed) (λ k.
                 IsRefusedOf (IsUtf8 given.now) k.core
                 (asks.Shift given.now term to amount) []
                 (NameNeedsMemory k.core given.now) result.1.0) }
-            ensures left { result.1.0 ≢ 0 → Stays node.handle.kept result.0.handle.kept (IsLeft result.1.0) }
+            ensures left { result.1.0 ≢ 0
+                → Stays node.handle.kept result.0.handle.kept (IsLeft result.1.0) }
         {
             if !node.is_open {
                 return (node, (CLOSED, 0));
@@ -336,7 +350,8 @@ pub extern "C" fn failreg_grant(
         (IsMade (asks.Grant name.now term amount) (asks.IsGranted total.new)) }
     ensures refused { result ≢ 0 → MatchOption node.old.handle.kept (result ≡ closed) (λ k.
         IsRefusedOf (IsUtf8 name.now) k.core
-        (asks.Grant name.now term amount) [] (NameNeedsMemory k.core name.now) result) }
+        (asks.Grant name.now term amount) []
+        (NameNeedsMemory k.core name.now) result) }
     ensures left { result ≢ 0 → Stays node.old.handle.kept node.new.handle.kept (IsLeft result) }
 {
     let (status, answer) = replace_with(
@@ -345,10 +360,13 @@ pub extern "C" fn failreg_grant(
         |node: Node, given: &[u8]| -> (Node, (u32, u64))
             ensures ok { result.1.0 ≡ 0 → Both node.handle.kept result.0.handle.kept
                 (IsMade (asks.Grant given.now term amount) (asks.IsGranted result.1.1)) }
-            ensures refused { result.1.0 ≢ 0 → MatchOption node.handle.kept (result.1.0 ≡ closed) (λ k.
+            ensures refused { result.1.0 ≢ 0
+                → MatchOption node.handle.kept (result.1.0 ≡ closed) (λ k.
                 IsRefusedOf (IsUtf8 given.now) k.core
-                (asks.Grant given.now term amount) [] (NameNeedsMemory k.core given.now) result.1.0) }
-            ensures left { result.1.0 ≢ 0 → Stays node.handle.kept result.0.handle.kept (IsLeft result.1.0) }
+                (asks.Grant given.now term amount) []
+                (NameNeedsMemory k.core given.now) result.1.0) }
+            ensures left { result.1.0 ≢ 0
+                → Stays node.handle.kept result.0.handle.kept (IsLeft result.1.0) }
         {
             if !node.is_open {
                 return (node, (CLOSED, 0));
@@ -373,10 +391,12 @@ pub extern "C" fn failreg_deliver(
     changed: &mut bool,
 ) -> u32
     ensures ok { result ≡ 0 → Both node.old.handle.kept node.new.handle.kept
-        (λ k l. IsMade (delivery_of k.core message.now) (asks.IsDelivered changed.new) k l) }
+        (λ k l. IsMade (delivery_of k.core message.now)
+        (asks.IsDelivered changed.new) k l) }
     ensures refused { result ≢ 0 → MatchOption node.old.handle.kept (result ≡ closed) (λ k.
         IsRefused k.core
-        (delivery_of k.core message.now) [] (DeliveryNeedsMemory k.core message.now) result) }
+        (delivery_of k.core message.now) []
+        (DeliveryNeedsMemory k.core message.now) result) }
     ensures left { result ≢ 0 → Stays node.old.handle.kept node.new.handle.kept (IsLeft result) }
 {
     let (status, answer) = replace_with(
@@ -384,11 +404,15 @@ pub extern "C" fn failreg_deliver(
         message,
         |node: Node, given: &[u8]| -> (Node, (u32, bool))
             ensures ok { result.1.0 ≡ 0 → Both node.handle.kept result.0.handle.kept
-                (λ k l. IsMade (delivery_of k.core given.now) (asks.IsDelivered result.1.1) k l) }
-            ensures refused { result.1.0 ≢ 0 → MatchOption node.handle.kept (result.1.0 ≡ closed) (λ k.
+                (λ k l. IsMade (delivery_of k.core given.now)
+                (asks.IsDelivered result.1.1) k l) }
+            ensures refused { result.1.0 ≢ 0
+                → MatchOption node.handle.kept (result.1.0 ≡ closed) (λ k.
                 IsRefused k.core
-                (delivery_of k.core given.now) [] (DeliveryNeedsMemory k.core given.now) result.1.0) }
-            ensures left { result.1.0 ≢ 0 → Stays node.handle.kept result.0.handle.kept (IsLeft result.1.0) }
+                (delivery_of k.core given.now) []
+                (DeliveryNeedsMemory k.core given.now) result.1.0) }
+            ensures left { result.1.0 ≢ 0
+                → Stays node.handle.kept result.0.handle.kept (IsLeft result.1.0) }
         {
             if !node.is_open {
                 return (node, (CLOSED, false));

@@ -15,8 +15,8 @@ use rand_core::utils::NextWord;
 use std::alloc::{AllocError, Global};
 use std::marker::Model;
 
-/// The generator of a node's words: ChaCha8 of a seed, on the stream of the node's number. Contracts
-/// see its key, its stream, and the place of its next word, counted from 0.
+/// The generator of a node's words: ChaCha8 of a seed, on the stream of the node's number.
+/// Contracts see its key, its stream, and the place of its next word, counted from 0.
 #[derive(Drop)]
 pub struct Generator {
     stream: ChaCha8Rng,
@@ -89,8 +89,8 @@ fn draw(alloc: Global, generator: &mut ChaCha8Rng, count: u8) -> Result<Vec<u32>
     Ok(words)
 }
 
-/// Passes a point with the generator's next words, as many as it needs, and answers these beside the
-/// reply. The words of a refused pass are put back.
+/// Passes a point with the generator's next words, as many as it needs, and answers these beside
+/// the reply. The words of a refused pass are put back.
 pub(crate) fn pass_drawing(
     core: &mut NodeCore,
     generator: &mut Generator,

@@ -41,7 +41,8 @@ pub extern "C" fn failreg_is_set(
             ensures value { result.1.0 ≡ 0 → MatchOption node.handle.kept ⊥ (λ k.
                 IsTrue result.1.1 ↔ IsSome (setting_of (state_known k.core) name.now)) }
             ensures refused { result.1.0 ≢ 0
-                → MatchOption node.handle.kept (result.1.0 ≡ closed) (λ _. IsNoName name.now result.1.0) }
+                → MatchOption node.handle.kept (result.1.0 ≡ closed)
+                (λ _. IsNoName name.now result.1.0) }
             ensures same { Stays node.handle.kept result.0.handle.kept (λ k l. l ≡ k) }
         {
             if !node.is_open {
@@ -58,8 +59,8 @@ pub extern "C" fn failreg_is_set(
     status
 }
 
-/// Tells whether a pause that began with a pass of this stamp is over: once the point isn't set under
-/// it any more.
+/// Tells whether a pause is over that began with a pass of this stamp: once the point isn't set
+/// under it any more.
 #[unsafe(no_mangle)]
 pub extern "C" fn failreg_pause_over(
     alloc: Global,
@@ -86,7 +87,8 @@ pub extern "C" fn failreg_pause_over(
             ensures value { result.1.0 ≡ 0 → MatchOption node.handle.kept ⊥ (λ k.
                 IsTrue result.1.1 ↔ (HasStamp ((state_known k.core).key name.now) since → ⊥)) }
             ensures refused { result.1.0 ≢ 0
-                → MatchOption node.handle.kept (result.1.0 ≡ closed) (λ _. IsNoName name.now result.1.0) }
+                → MatchOption node.handle.kept (result.1.0 ≡ closed)
+                (λ _. IsNoName name.now result.1.0) }
             ensures same { Stays node.handle.kept result.0.handle.kept (λ k l. l ≡ k) }
         {
             if !node.is_open {
@@ -125,7 +127,8 @@ pub extern "C" fn failreg_spent(
             ensures value { result.1.0 ≡ 0 → MatchOption node.handle.kept ⊥ (λ k.
                 result.1.1 ≡ spent_of (state_known k.core) name.now term) }
             ensures refused { result.1.0 ≢ 0
-                → MatchOption node.handle.kept (result.1.0 ≡ closed) (λ _. IsNoName name.now result.1.0) }
+                → MatchOption node.handle.kept (result.1.0 ≡ closed)
+                (λ _. IsNoName name.now result.1.0) }
             ensures same { Stays node.handle.kept result.0.handle.kept (λ k l. l ≡ k) }
         {
             if !node.is_open {
@@ -158,7 +161,8 @@ pub extern "C" fn failreg_hits(alloc: Global, node: &mut Node, name: &[u8], hits
             ensures value { result.1.0 ≡ 0 → MatchOption node.handle.kept ⊥ (λ k.
                 result.1.1 ≡ total_hits (state_known k.core) name.now) }
             ensures refused { result.1.0 ≢ 0
-                → MatchOption node.handle.kept (result.1.0 ≡ closed) (λ _. IsNoName name.now result.1.0) }
+                → MatchOption node.handle.kept (result.1.0 ≡ closed)
+                (λ _. IsNoName name.now result.1.0) }
             ensures same { Stays node.handle.kept result.0.handle.kept (λ k l. l ≡ k) }
         {
             if !node.is_open {
@@ -175,8 +179,8 @@ pub extern "C" fn failreg_hits(alloc: Global, node: &mut Node, name: &[u8], hits
     status
 }
 
-/// Tells the rights of a node to execute a counted term, as this node knows, or the number of 64 bits
-/// that is nearest to them.
+/// Tells the rights of a node to execute a counted term, as this node knows, or the number of 64
+/// bits that is nearest to them.
 #[unsafe(no_mangle)]
 pub extern "C" fn failreg_rights(
     alloc: Global,
@@ -201,7 +205,8 @@ pub extern "C" fn failreg_rights(
             ensures value { result.1.0 ≡ 0 → MatchOption node.handle.kept ⊥ (λ k.
                 result.1.1 ≡ rights_of (state_known k.core) name.now term of) }
             ensures refused { result.1.0 ≢ 0
-                → MatchOption node.handle.kept (result.1.0 ≡ closed) (λ _. IsNoName name.now result.1.0) }
+                → MatchOption node.handle.kept (result.1.0 ≡ closed)
+                (λ _. IsNoName name.now result.1.0) }
             ensures same { Stays node.handle.kept result.0.handle.kept (λ k l. l ≡ k) }
         {
             if !node.is_open {

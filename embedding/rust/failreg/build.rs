@@ -12,7 +12,10 @@ fn main() {
     for name in ["failreg_c", "libc_c"] {
         let archive = folder.join(format!("lib{name}.a"));
         if !archive.is_file() {
-            panic!("{} isn't there: run embedding/build, or set FAILREG_LIB", archive.display());
+            panic!(
+                "{} isn't there: run embedding/build, or set FAILREG_LIB",
+                archive.display()
+            );
         }
         println!("cargo:rerun-if-changed={}", archive.display());
         println!("cargo:rustc-link-lib=static={name}");

@@ -29,13 +29,18 @@ fn work(node: &Registry, passes: u64) {
 
 fn bytes_resident() -> f64 {
     let statm = std::fs::read_to_string("/proc/self/statm").expect("/proc/self/statm is there");
-    let pages = statm.split(' ').nth(1).and_then(|pages| pages.parse::<f64>().ok());
+    let pages = statm
+        .split(' ')
+        .nth(1)
+        .and_then(|pages| pages.parse::<f64>().ok());
     4096.0 * pages.expect("it has two numbers")
 }
 
 fn main() {
     let words: Vec<String> = std::env::args().collect();
-    let [_, kind, threads, passes] = &words[..] else { panic!("speed KIND THREADS PASSES") };
+    let [_, kind, threads, passes] = &words[..] else {
+        panic!("speed KIND THREADS PASSES")
+    };
     let threads: u64 = threads.parse().expect("threads are a number");
     let each = passes.parse::<u64>().expect("passes are a number") / threads;
     let (_, settings) = KINDS.iter().find(|it| it.0 == kind).expect("no such kind");
@@ -50,5 +55,9 @@ fn main() {
     });
     let made = (each * threads) as f64;
     let took = begun.elapsed().as_nanos() as f64;
-    println!("{:.1} {:.1}", took / made, (bytes_resident() - resident) / made);
+    println!(
+        "{:.1} {:.1}",
+        took / made,
+        (bytes_resident() - resident) / made
+    );
 }

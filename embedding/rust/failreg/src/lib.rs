@@ -1,7 +1,8 @@
 //! Failpoints whose counts hold for a cluster of nodes: a wrapper of a proved registry.
 //!
-//! A [`Registry`] is one node of a cluster, which threads share. [`setup`] makes the program's own and
-//! loads FAILPOINTS into it; [`fail_point!`] passes a point of that one, or of one that is named:
+//! A [`Registry`] is one node of a cluster, which threads share. [`setup`] makes the program's own
+//! and loads FAILPOINTS into it; [`fail_point!`] passes a point of that one, or of one that is
+//! named:
 //!
 //! ```
 //! use failreg::{Registry, fail_point};
@@ -34,8 +35,9 @@ use std::sync::{Mutex, OnceLock};
 
 static PROGRAM: OnceLock<Registry> = OnceLock::new();
 
-/// Makes the program's registry, as node `number` of a cluster of `nodes`, and loads FAILPOINTS into
-/// it. A second call answers the registry that is there. A FAILPOINTS that is refused makes none.
+/// Makes the program's registry, as node `number` of a cluster of `nodes`, and loads FAILPOINTS
+/// into it. A second call answers the registry that is there. A FAILPOINTS that is refused makes
+/// none.
 pub fn setup(number: u8, nodes: u8, cap: u32) -> Result<&'static Registry, Refused> {
     static ONE: Mutex<()> = Mutex::new(());
     let _one = ONE.lock().unwrap_or_else(|poisoned| poisoned.into_inner());
@@ -54,10 +56,10 @@ pub fn program() -> Option<&'static Registry> {
 }
 
 /// Passes a point, if it is set, and carries its task out. `fail_point!("name")` panics where the
-/// task is `return`; `fail_point!("name", |argument| value)` leaves the function with the value then,
-/// and `fail_point!("name", condition, |argument| value)` passes the point only under the condition.
-/// With `in registry,` in front it is a point of that registry, else one of the program's, which
-/// does nothing before [`setup`].
+/// task is `return`; `fail_point!("name", |argument| value)` leaves the function with the value
+/// then, and `fail_point!("name", condition, |argument| value)` passes the point only under the
+/// condition. With `in registry,` in front it is a point of that registry, else one of the
+/// program's, which does nothing before [`setup`].
 #[macro_export]
 #[cfg(feature = "failpoints")]
 macro_rules! fail_point {

@@ -1,5 +1,5 @@
-//! A node of the proved library, given to one call at a time by `&mut`. All `unsafe` calls are here:
-//! each passes references and slices of its own, which live as long as the call.
+//! A node of the proved library, given to one call at a time by `&mut`. All `unsafe` calls are
+//! here: each passes references and slices of its own, which live as long as the call.
 
 use crate::sys;
 use crate::told::{Passed, Refused, Stamp, Task};
@@ -9,7 +9,8 @@ pub struct Node {
     handle: sys::Handle,
 }
 
-// A handle may go to another thread: it owns plain data on the heap. (Proved of the library's type.)
+// A handle may go to another thread: it owns plain data on the heap. (Proved of the library's
+// type.)
 unsafe impl Send for Node {}
 
 impl Drop for Node {
@@ -20,25 +21,40 @@ impl Drop for Node {
 
 impl Node {
     pub fn open(number: u8, nodes: u8, cap: u32, seed: &[u8; 32]) -> Result<Node, Refused> {
-        let handle = sys::Handle { is_open: false, at: std::ptr::null_mut() };
+        let handle = sys::Handle {
+            is_open: false,
+            at: std::ptr::null_mut(),
+        };
         let mut node = Node { handle };
         match unsafe { sys::failreg_open(&mut node.handle, number, nodes, cap, seed) } {
             0 => Ok(node),
-            21 => Err(Refused { status: 21, text: "N21 BadConfig".into() }),
-            status => Err(Refused { status, text: "N22 OutOfMemory".into() }),
+            21 => Err(Refused {
+                status: 21,
+                text: "N21 BadConfig".into(),
+            }),
+            status => Err(Refused {
+                status,
+                text: "N22 OutOfMemory".into(),
+            }),
         }
     }
 
     /// Gives the memory back. Every call is then refused.
     pub fn close(&mut self) {
-        let closed = sys::Handle { is_open: false, at: std::ptr::null_mut() };
+        let closed = sys::Handle {
+            is_open: false,
+            at: std::ptr::null_mut(),
+        };
         unsafe { sys::failreg_close(std::mem::replace(&mut self.handle, closed)) }
     }
 
     fn answer<T>(&mut self, status: u32, value: T) -> Result<T, Refused> {
         match status {
             0 => Ok(value),
-            _ => Err(Refused { status, text: self.text_of(status) }),
+            _ => Err(Refused {
+                status,
+                text: self.text_of(status),
+            }),
         }
     }
 
@@ -55,7 +71,10 @@ impl Node {
     // A reader of a name keeps no text: it refuses bad names, and where memory is wanted.
     fn read<T>(&mut self, status: u32, value: T) -> Result<T, Refused> {
         match status {
-            2 => Err(Refused { status, text: "N2 BadName".into() }),
+            2 => Err(Refused {
+                status,
+                text: "N2 BadName".into(),
+            }),
             _ => self.answer(status, value),
         }
     }
@@ -82,16 +101,27 @@ impl Node {
         let mut stamp = sys::Stamped::default();
         let (at, len) = (actions.as_ptr(), actions.len());
         let h = &mut self.handle;
-        let status =
-            unsafe { sys::failreg_set(h, name.as_ptr(), name.len(), at, len, &mut stamp) };
-        self.answer(status, Stamp { clock: stamp.clock, node: stamp.node })
+        let status = unsafe { sys::failreg_set(h, name.as_ptr(), name.len(), at, len, &mut stamp) };
+        self.answer(
+            status,
+            Stamp {
+                clock: stamp.clock,
+                node: stamp.node,
+            },
+        )
     }
 
     pub fn remove(&mut self, name: &str) -> Result<Stamp, Refused> {
         let mut stamp = sys::Stamped::default();
         let h = &mut self.handle;
         let status = unsafe { sys::failreg_remove(h, name.as_ptr(), name.len(), &mut stamp) };
-        self.answer(status, Stamp { clock: stamp.clock, node: stamp.node })
+        self.answer(
+            status,
+            Stamp {
+                clock: stamp.clock,
+                node: stamp.node,
+            },
+        )
     }
 
     pub fn load(&mut self, text: &[u8]) -> Result<u16, Refused> {
@@ -106,11 +136,18 @@ impl Node {
         let h = &mut self.handle;
         let status = unsafe { sys::failreg_pass(h, name.as_ptr(), name.len(), &mut act) };
         self.answer(status, ())?;
-        let stamp = Stamp { clock: act.clock, node: act.node };
+        let stamp = Stamp {
+            clock: act.clock,
+            node: act.node,
+        };
         Ok(match act.outcome {
             0 => Passed::Unset,
             1 => Passed::NoTerm { stamp },
-            _ => Passed::Act { stamp, term: act.term, task: self.task_of(&act) },
+            _ => Passed::Act {
+                stamp,
+                term: act.term,
+                task: self.task_of(&act),
+            },
         })
     }
 
@@ -130,12 +167,14 @@ impl Node {
     }
 
     pub fn is_pause_over(&mut self, name: &str, stamp: Stamp) -> Result<bool, Refused> {
-        let since = sys::Stamped { clock: stamp.clock, node: stamp.node };
+        let since = sys::Stamped {
+            clock: stamp.clock,
+            node: stamp.node,
+        };
         let mut is_over = false;
         let h = &mut self.handle;
-        let status = unsafe {
-            sys::failreg_pause_over(h, name.as_ptr(), name.len(), &since, &mut is_over)
-        };
+        let status =
+            unsafe { sys::failreg_pause_over(h, name.as_ptr(), name.len(), &since, &mut is_over) };
         self.read(status, is_over)
     }
 

@@ -22,7 +22,10 @@ fn place(name: &str) -> (usize, u64) {
 
 impl Bits {
     pub fn new() -> Bits {
-        Bits { is_any: AtomicBool::new(false), words: [const { AtomicU64::new(0) }; WORDS] }
+        Bits {
+            is_any: AtomicBool::new(false),
+            words: [const { AtomicU64::new(0) }; WORDS],
+        }
     }
 
     #[inline]

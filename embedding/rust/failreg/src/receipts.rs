@@ -44,6 +44,11 @@ fn hex(bytes: &[u8]) -> String {
     json + "\""
 }
 
+fn row(words: &[u32]) -> String {
+    let words: Vec<String> = words.iter().map(u32::to_string).collect();
+    format!("[{}]", words.join(","))
+}
+
 /// What was asked.
 pub mod ask {
     use super::{hex, text};
@@ -101,8 +106,17 @@ pub mod reply {
         match passed {
             Passed::Unset => "[\"unset\"]".into(),
             Passed::NoTerm { stamp } => format!("[\"none\",{},{}]", stamp.clock, stamp.node),
-            Passed::Act { stamp, term, task: asked } => {
-                format!("[\"act\",{},{},{term},{}]", stamp.clock, stamp.node, task(asked))
+            Passed::Act {
+                stamp,
+                term,
+                task: asked,
+            } => {
+                format!(
+                    "[\"act\",{},{},{term},{}]",
+                    stamp.clock,
+                    stamp.node,
+                    task(asked)
+                )
             }
         }
     }
@@ -120,7 +134,11 @@ pub mod reply {
     }
 
     pub fn delivered(changed: bool) -> String {
-        if changed { "[\"changed\"]".into() } else { "[\"same\"]".into() }
+        if changed {
+            "[\"changed\"]".into()
+        } else {
+            "[\"same\"]".into()
+        }
     }
 }
 
@@ -140,8 +158,9 @@ fn task(task: &Task) -> String {
 fn write_entries(receipts: &Receipts, out: &mut impl Write) -> io::Result<()> {
     writeln!(out, "{{\"trace\":{}}}", receipts.node)?;
     for receipt in &receipts.all {
-        let Receipt { ask, words, reply, .. } = receipt;
-        writeln!(out, "{{\"ask\":{ask},\"reply\":{reply},\"words\":{words:?}}}")?;
+        let Receipt { ask, reply, .. } = receipt;
+        let words = row(&receipt.words);
+        writeln!(out, "{{\"ask\":{ask},\"reply\":{reply},\"words\":{words}}}")?;
     }
     Ok(())
 }
@@ -157,12 +176,16 @@ fn write_lists(receipts: &Receipts, next: &mut usize, out: &mut impl Write) -> i
         writeln!(out, "{{\"list\":{next}}}")?;
         *next += 1;
         for (index, receipt) in receipts.all.iter().enumerate() {
-            let Receipt { ask, words, reply, .. } = receipt;
-            let node = receipts.node;
-            if receipt.caller == caller {
-                let place = format!("\"index\":{index},\"node\":{node}");
-                writeln!(out, "{{\"ask\":{ask},{place},\"reply\":{reply},\"words\":{words:?}}}")?;
+            if receipt.caller != caller {
+                continue;
             }
+            let Receipt { ask, reply, .. } = receipt;
+            let place = format!("\"index\":{index},\"node\":{}", receipts.node);
+            let words = row(&receipt.words);
+            writeln!(
+                out,
+                "{{\"ask\":{ask},{place},\"reply\":{reply},\"words\":{words}}}"
+            )?;
         }
     }
     Ok(())

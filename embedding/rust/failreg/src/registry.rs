@@ -31,7 +31,11 @@ struct State {
 }
 
 fn tell_on_stderr(refused: &Refused) {
-    let rest = if refused.is_trace_full() { ": its failpoints do nothing from now on" } else { "" };
+    let rest = if refused.is_trace_full() {
+        ": its failpoints do nothing from now on"
+    } else {
+        ""
+    };
     eprintln!("failreg: a pass was refused: {refused}{rest}");
 }
 
@@ -63,7 +67,11 @@ impl Registry {
         let names = HashSet::new();
         Ok(Registry {
             bits: Bits::new(),
-            state: Mutex::new(State { node, names, receipts }),
+            state: Mutex::new(State {
+                node,
+                names,
+                receipts,
+            }),
             changed: Condvar::new(),
             is_over: AtomicBool::new(false),
             number,
@@ -75,12 +83,15 @@ impl Registry {
     /// Keeps a receipt of each call that is accepted from now on, for `write_drill`. To be called
     /// before the first: a drill has all calls of its nodes.
     pub fn recording(self) -> Registry {
-        self.lock().receipts = Some(Receipts { node: self.number, all: Vec::new() });
+        self.lock().receipts = Some(Receipts {
+            node: self.number,
+            all: Vec::new(),
+        });
         self
     }
 
-    /// What is told of a pass that `eval` or `fail_point!` made and that was refused: each time, but
-    /// of a full trace once. Where nothing is given here a line on standard error is.
+    /// What is told of a pass that `eval` or `fail_point!` made and that was refused: each time,
+    /// but of a full trace once. Where nothing is given here a line on standard error is.
     pub fn on_refusal(mut self, tell: fn(&Refused)) -> Registry {
         self.on_refusal = tell;
         self
@@ -88,7 +99,9 @@ impl Registry {
 
     fn lock(&self) -> MutexGuard<'_, State> {
         // No call is left half done by a panic.
-        self.state.lock().unwrap_or_else(|poisoned| poisoned.into_inner())
+        self.state
+            .lock()
+            .unwrap_or_else(|poisoned| poisoned.into_inner())
     }
 
     // Makes a call that changes the node, and keeps its receipt.
@@ -105,7 +118,12 @@ impl Registry {
                 if let Some(receipts) = &mut state.receipts {
                     let caller = std::thread::current().id();
                     let (ask, reply) = (asked(), replied(value));
-                    receipts.all.push(Receipt { caller, ask, words: Vec::new(), reply });
+                    receipts.all.push(Receipt {
+                        caller,
+                        ask,
+                        words: Vec::new(),
+                        reply,
+                    });
                 }
             }
             Err(refused) if refused.is_trace_full() => self.end(state),
@@ -155,8 +173,12 @@ impl Registry {
 
     fn load_bytes(&self, text: &[u8]) -> Result<u16, Refused> {
         let state = &mut *self.lock();
-        let entries =
-            self.call(state, || ask::load(text), |n| n.load(text), |n| reply::loaded(*n))?;
+        let entries = self.call(
+            state,
+            || ask::load(text),
+            |n| n.load(text),
+            |n| reply::loaded(*n),
+        )?;
         self.settings_changed(state);
         Ok(entries)
     }
@@ -177,7 +199,10 @@ impl Registry {
     fn pass_in(&self, state: &mut State, name: &str) -> Result<Passed, Refused> {
         let passed = self.call(state, || ask::pass(name), |n| n.pass(name), reply::pass)?;
         let State { node, receipts, .. } = state;
-        if let Some(receipt) = receipts.as_mut().and_then(|receipts| receipts.all.last_mut()) {
+        if let Some(receipt) = receipts
+            .as_mut()
+            .and_then(|receipts| receipts.all.last_mut())
+        {
             receipt.words = node.words();
         }
         Ok(passed)
@@ -243,7 +268,10 @@ impl Registry {
         while !self.is_over.load(Ordering::Acquire)
             && matches!(state.node.is_pause_over(name, stamp), Ok(false))
         {
-            state = self.changed.wait(state).unwrap_or_else(|poisoned| poisoned.into_inner());
+            state = self
+                .changed
+                .wait(state)
+                .unwrap_or_else(|poisoned| poisoned.into_inner());
         }
     }
 
@@ -267,7 +295,12 @@ impl Registry {
     /// A message to another node, which tells what that one isn't known to have.
     pub fn emit(&self, to: u8) -> Result<Vec<u8>, Refused> {
         let state = &mut *self.lock();
-        self.call(state, || ask::emit(to), |n| n.emit(to), |bytes| reply::message(bytes))
+        self.call(
+            state,
+            || ask::emit(to),
+            |n| n.emit(to),
+            |bytes| reply::message(bytes),
+        )
     }
 
     /// Takes in a message of another node; answers whether this one learnt anything.
@@ -338,7 +371,9 @@ pub fn write_drill(registries: &[&Registry], out: &mut impl Write) -> io::Result
     let nodes = registries.len();
     let in_order = |(n, it): (usize, &&Registry)| (n, nodes) == (it.number.into(), it.nodes.into());
     if !registries.iter().enumerate().all(in_order) {
-        return Err(not_a_cluster("a drill takes all nodes of a cluster, in their order"));
+        return Err(not_a_cluster(
+            "a drill takes all nodes of a cluster, in their order",
+        ));
     }
     let states: Vec<_> = registries.iter().map(|registry| registry.lock()).collect();
     let recorded: Option<Vec<_>> = states.iter().map(|state| state.receipts.as_ref()).collect();

@@ -1,4 +1,5 @@
-//! The exports of `libfailreg_c.a`, as `failreg.h` declares them. What they must be given stands there.
+//! The exports of `libfailreg_c.a`, as `failreg.h` declares them. What they must be given stands
+//! there.
 
 use std::ffi::c_void;
 

@@ -7,7 +7,10 @@ use std::time::{Duration, Instant};
 const SEED: [u8; 32] = [7; 32];
 
 fn pair() -> (Registry, Registry) {
-    (Registry::open(0, 2, 100_000).unwrap(), Registry::open(1, 2, 100_000).unwrap())
+    (
+        Registry::open(0, 2, 100_000).unwrap(),
+        Registry::open(1, 2, 100_000).unwrap(),
+    )
 }
 
 fn runs(node: &Registry, passes: usize) -> usize {
@@ -17,7 +20,10 @@ fn runs(node: &Registry, passes: usize) -> usize {
 fn runs_in_threads(node: &Registry) -> usize {
     std::thread::scope(|scope| {
         let threads: Vec<_> = (0..4).map(|_| scope.spawn(|| runs(node, 2000))).collect();
-        threads.into_iter().map(|thread| thread.join().unwrap()).sum()
+        threads
+            .into_iter()
+            .map(|thread| thread.join().unwrap())
+            .sum()
     })
 }
 
@@ -29,7 +35,10 @@ fn two_nodes_share_a_count_over_threads() {
     assert_eq!(runs(&b, 10), 0);
     assert_eq!(b.calls(), Ok(0));
     let message = a.emit(1).unwrap();
-    assert_eq!((b.deliver(&message), b.deliver(&message)), (Ok(true), Ok(false)));
+    assert_eq!(
+        (b.deliver(&message), b.deliver(&message)),
+        (Ok(true), Ok(false))
+    );
     let both = std::thread::scope(|scope| {
         let at_b = scope.spawn(|| runs_in_threads(&b));
         (runs_in_threads(&a), at_b.join().unwrap())
@@ -40,7 +49,10 @@ fn two_nodes_share_a_count_over_threads() {
     assert_eq!((a.rights("p", 0, 0), a.rights("p", 0, 1)), (Ok(0), Ok(0)));
     assert_eq!((a.grant("p", 0, 5), runs(&a, 10)), (Ok(5), 5));
     assert_eq!(a.list(), Ok("p=1000*return->off".to_string()));
-    assert_eq!((a.known(1), b.acked(0), b.known(0)), (b.version(), Ok(0), Ok(2)));
+    assert_eq!(
+        (a.known(1), b.acked(0), b.known(0)),
+        (b.version(), Ok(0), Ok(2))
+    );
 }
 
 fn value(node: &Registry) -> u32 {
@@ -75,7 +87,11 @@ fn tasks_are_carried_out() {
     assert_eq!(panics_with(|| value(&a)), "boom");
     assert_eq!(panics_with(|| value(&a)), "failpoint value panic");
     let begun = Instant::now();
-    a.set("value", "1*sleep(30)->1*delay(30)->1*yield->1*print(hello)->1*print").unwrap();
+    a.set(
+        "value",
+        "1*sleep(30)->1*delay(30)->1*yield->1*print(hello)->1*print",
+    )
+    .unwrap();
     assert_eq!((0..5).map(|_| value(&a)).sum::<u32>(), 5);
     assert!(begun.elapsed() >= Duration::from_millis(60));
     let stamp = Stamp { clock: 5, node: 0 };
@@ -117,7 +133,10 @@ fn a_point_that_is_not_set_takes_no_entry() {
     let a = Registry::open(0, 1, 10).unwrap();
     assert_eq!(runs(&a, 1000), 0);
     a.set("other", "off").unwrap();
-    assert_eq!((runs(&a, 1000), a.is_set("p"), a.is_set("other")), (0, false, true));
+    assert_eq!(
+        (runs(&a, 1000), a.is_set("p"), a.is_set("other")),
+        (0, false, true)
+    );
     // Names that share a bit with one that is set are looked up, and aren't passed either.
     (0..100_000).for_each(|n| assert_eq!(a.eval(&format!("p{n}")), None));
     assert_eq!(a.calls(), Ok(1));
@@ -130,7 +149,10 @@ static TOLD: AtomicUsize = AtomicUsize::new(0);
 #[test]
 fn a_full_trace_is_told_once() {
     let a = Registry::open(0, 1, 5).unwrap().on_refusal(|refused| {
-        assert_eq!((refused.is_trace_full(), &*refused.text), (true, "N1 TraceFull"));
+        assert_eq!(
+            (refused.is_trace_full(), &*refused.text),
+            (true, "N1 TraceFull")
+        );
         TOLD.fetch_add(1, Ordering::SeqCst);
     });
     a.set("p", "return").unwrap();
@@ -152,13 +174,28 @@ fn refusals_say_why() {
     assert_eq!(refused(a.set("p", "offf")).0, 3);
     assert_eq!(refused(a.shift("p", 0, 1, 1)), (6, "N6 NotSet".into()));
     assert_eq!(refused(b.deliver(b"noise")).0, 16);
-    assert_eq!(refused(b.deliver(&b.emit(0).unwrap())), (17, "N17 NotForMe".into()));
-    assert_eq!(refused(Registry::open(2, 2, 1).map(|_| ())), (21, "N21 BadConfig".into()));
+    assert_eq!(
+        refused(b.deliver(&b.emit(0).unwrap())),
+        (17, "N17 NotForMe".into())
+    );
+    assert_eq!(
+        refused(Registry::open(2, 2, 1).map(|_| ())),
+        (21, "N21 BadConfig".into())
+    );
     assert_eq!(refused(a.load("x=off;x=")).0, 3);
-    assert_eq!((a.load("x=off;y=2*panic"), a.list()), (Ok(2), Ok("x=off;y=2*panic".into())));
+    assert_eq!(
+        (a.load("x=off;y=2*panic"), a.list()),
+        (Ok(2), Ok("x=off;y=2*panic".into()))
+    );
     a.close();
-    assert_eq!(refused(a.set("p", "off")), (31, "the registry is closed".into()));
-    assert_eq!((refused(a.calls()).0, a.eval("y"), a.is_set("y")), (31, None, false));
+    assert_eq!(
+        refused(a.set("p", "off")),
+        (31, "the registry is closed".into())
+    );
+    assert_eq!(
+        (refused(a.calls()).0, a.eval("y"), a.is_set("y")),
+        (31, None, false)
+    );
 }
 
 #[test]

@@ -1,5 +1,5 @@
-//! Drills that are recorded here and audited by the program `failreg`, whose path FAILREG_PROGRAM is.
-//! `embedding/check` runs them; without the program they are ignored.
+//! Drills that are recorded here and audited by the program `failreg`, whose path FAILREG_PROGRAM
+//! is. `embedding/check` runs them; without the program they are ignored.
 
 use failreg::{Registry, write_drill};
 use std::path::{Path, PathBuf};
@@ -21,7 +21,11 @@ fn audit(name: &str, drill: &str) -> String {
     std::fs::write(&path, drill).unwrap();
     let ran = program().arg("audit").arg(path).output().unwrap();
     let text = String::from_utf8(ran.stdout).unwrap();
-    assert_eq!(ran.status.success(), text.starts_with("audit yes\n"), "{text}");
+    assert_eq!(
+        ran.status.success(),
+        text.starts_with("audit yes\n"),
+        "{text}"
+    );
     text
 }
 
@@ -52,7 +56,8 @@ fn pass_in_threads(nodes: [&Registry; 2]) {
 fn recorded() -> String {
     let open = |number| Registry::open(number, 2, 10_000).unwrap().recording();
     let (a, b) = (open(0), open(1));
-    a.load("p=30%20*return(\"x\\\u{e9}\")->off;q=pause").unwrap();
+    a.load("p=30%20*return(\"x\\\u{e9}\")->off;q=pause")
+        .unwrap();
     a.set("q", "4*delay(0)->1*print()->yield").unwrap();
     a.set("gone", "off").unwrap();
     a.remove("gone").unwrap();
@@ -76,7 +81,10 @@ fn a_recorded_drill_is_audited() {
     let told = audit("as_recorded", &recorded());
     assert!(told.starts_with("audit yes\n"), "{told}");
     assert!(told.contains("budget p 1.0 0 count=20 executed="), "{told}");
-    assert!(told.contains("budget q 3.0 0 count=4 granted=3 executed=7\n"), "{told}");
+    assert!(
+        told.contains("budget q 3.0 0 count=4 granted=3 executed=7\n"),
+        "{told}"
+    );
 }
 
 #[test]
@@ -91,9 +99,15 @@ fn an_altered_drill_is_no_yes() {
     for (name, text) in [
         ("another_reply", altered("[\"changed\"]", "[\"same\"]")),
         ("another_task", altered("[\"delay\",0]", "[\"delay\",1]")),
-        ("another_total", altered("[\"granted\",3]", "[\"granted\",2]")),
+        (
+            "another_total",
+            altered("[\"granted\",3]", "[\"granted\",2]"),
+        ),
         ("another_place", altered("\"index\":0,", "\"index\":1,")),
-        ("no_last_receipt", drill[..drill.trim_end().rfind('\n').unwrap() + 1].to_string()),
+        (
+            "no_last_receipt",
+            drill[..drill.trim_end().rfind('\n').unwrap() + 1].to_string(),
+        ),
     ] {
         let told = audit(name, &text);
         assert!(told.starts_with("audit no"), "{name}: {told}");
@@ -108,7 +122,9 @@ fn traces(drill: &str) -> &str {
 #[test]
 #[ignore = "needs FAILREG_PROGRAM"]
 fn a_seed_gives_the_drill_of_a_script_of_threads() {
-    let a = Registry::open_with_seed(0, 1, 100, SEED).unwrap().recording();
+    let a = Registry::open_with_seed(0, 1, 100, SEED)
+        .unwrap()
+        .recording();
     a.set("p", "50%3*return->30%sleep(1)->off").unwrap();
     (0..40).for_each(|_| assert!(a.pass("p").is_ok()));
     let seed = "5e".repeat(32);
@@ -133,7 +149,13 @@ fn a_drill_takes_a_whole_cluster_that_records() {
     let (a, b, silent) = (open(0).recording(), open(1).recording(), open(1));
     let is_written = |nodes: &[&Registry]| write_drill(nodes, &mut Vec::new()).is_ok();
     assert!(is_written(&[&a, &b]));
-    for nodes in [&[&a][..], &[&b, &a], &[&a, &a], &[&a, &silent], &[&a, &b, &b]] {
+    for nodes in [
+        &[&a][..],
+        &[&b, &a],
+        &[&a, &a],
+        &[&a, &silent],
+        &[&a, &b, &b],
+    ] {
         assert!(!is_written(nodes));
     }
 }
