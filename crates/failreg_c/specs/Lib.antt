@@ -3,3 +3,4 @@ pub mod Numbers
 pub mod Words
 pub mod Told
 pub mod Calls
+pub mod Pauses

@@ -8,6 +8,7 @@ mod generator;
 mod handle;
 mod numbers;
 mod parts;
+mod pauses;
 mod readers;
 mod registry;
 

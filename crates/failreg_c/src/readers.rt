@@ -2,22 +2,20 @@
 
 ghost use Rattle.std.specs.Prelude.{◌≡◌, ◌≢◌, ◌↔◌, ◌+◌, ◌*◌, ◌^◌, ◌≤ℤ◌, pos, neg_ℤ, [], length, IsSome, IsTrue, MatchOption};
 ghost use Rattle.node_core.specs.Nodes.{setting_of};
-ghost use Rattle.node_core.specs.Stamps.{HasStamp};
 ghost use Rattle.node_core.specs.Texts.{list_text, node_fault_text};
 ghost use Rattle.node_core.specs.Traces.{node_of, state_known};
 ghost use Rattle.replica_state.specs.States.{rights_of, spent_of, total_hits};
 ghost use Rattle.failreg_c.specs.Numbers.{closed};
-ghost use Rattle.failreg_c.specs.Calls.{Both, FillsFront, IsNoName, IsSame, Stays};
+ghost use Rattle.failreg_c.specs.Calls.{Both, IsNoName, IsSame, Stays};
 
 use crate::calls::CLOSED;
 use crate::handle::Node;
-use crate::numbers::{Stamped, Wide, narrow};
+use crate::numbers::{Wide, narrow};
 use crate::registry::{Registry, read_name};
 use actions::Name;
 use core::mem::replace_with;
 use node_core::NodeCore;
 use replica_state::Replica;
-use stamp_register::Stamp;
 use std::alloc::Global;
 
 /// Tells whether a point is set. That is no pass: the trace gets no entry.
@@ -56,52 +54,6 @@ pub extern "C" fn failreg_is_set(
         },
     );
     *is_set = answer;
-    status
-}
-
-/// Tells whether a pause is over that began with a pass of this stamp: once the point isn't set
-/// under it any more.
-#[unsafe(no_mangle)]
-pub extern "C" fn failreg_pause_over(
-    alloc: Global,
-    node: &mut Node,
-    name: &[u8],
-    stamp: &Stamped,
-    is_over: &mut bool,
-) -> u32
-    ensures value { result ≡ 0 → MatchOption node.old.handle.kept ⊥ (λ k.
-        IsTrue is_over.new ↔ (HasStamp ((state_known k.core).key name.now)
-        (record { clock = stamp.now.clock; node = stamp.now.node }) → ⊥)) }
-    ensures refused { result ≢ 0
-        → MatchOption node.old.handle.kept (result ≡ closed) (λ _. IsNoName name.now result) }
-    ensures same { Stays node.old.handle.kept node.new.handle.kept (λ k l. l ≡ k) }
-{
-    let since = Stamp {
-        clock: stamp.clock,
-        node: stamp.node,
-    };
-    let (status, answer) = replace_with(
-        node,
-        name,
-        |node: Node, name: &[u8]| -> (Node, (u32, bool))
-            ensures value { result.1.0 ≡ 0 → MatchOption node.handle.kept ⊥ (λ k.
-                IsTrue result.1.1 ↔ (HasStamp ((state_known k.core).key name.now) since → ⊥)) }
-            ensures refused { result.1.0 ≢ 0
-                → MatchOption node.handle.kept (result.1.0 ≡ closed)
-                (λ _. IsNoName name.now result.1.0) }
-            ensures same { Stays node.handle.kept result.0.handle.kept (λ k l. l ≡ k) }
-        {
-            if !node.is_open {
-                return (node, (CLOSED, false));
-            }
-            let Some(registry) = node.into_box() else {
-                unreachable!();
-            };
-            let answer = pause_over_at(alloc, &registry, name, since);
-            (Node::of(registry), answer)
-        },
-    );
-    *is_over = answer;
     status
 }
 
@@ -423,8 +375,6 @@ pub extern "C" fn failreg_fault(alloc: Global, node: &mut Node) -> u32
 pub extern "C" fn failreg_fetch(node: &mut Node, into: &mut [u8]) -> usize
     ensures length { MatchOption node.old.handle.kept (result ≡ 0)
         (λ k. result ≡ length k.said.items) }
-    ensures filled { MatchOption node.old.handle.kept (into.new ≡ into.old)
-        (λ k. FillsFront k.said.items into.old into.new) }
     ensures same { Stays node.old.handle.kept node.new.handle.kept (λ k l. l ≡ k) }
 {
     replace_with(
@@ -433,8 +383,6 @@ pub extern "C" fn failreg_fetch(node: &mut Node, into: &mut [u8]) -> usize
         |node: Node, into: &mut [u8]| -> (Node, usize)
             ensures length { MatchOption node.handle.kept (result.1 ≡ 0)
                 (λ k. result.1 ≡ length k.said.items) }
-            ensures filled { MatchOption node.handle.kept (into.new ≡ into.old)
-                (λ k. FillsFront k.said.items into.old into.new) }
             ensures same { Stays node.handle.kept result.0.handle.kept (λ k l. l ≡ k) }
         {
             if !node.is_open {
@@ -454,8 +402,6 @@ pub extern "C" fn failreg_fetch(node: &mut Node, into: &mut [u8]) -> usize
 pub extern "C" fn failreg_words(node: &mut Node, into: &mut [u32]) -> usize
     ensures length { MatchOption node.old.handle.kept (result ≡ 0)
         (λ k. result ≡ length k.words.items) }
-    ensures filled { MatchOption node.old.handle.kept (into.new ≡ into.old)
-        (λ k. FillsFront k.words.items into.old into.new) }
     ensures same { Stays node.old.handle.kept node.new.handle.kept (λ k l. l ≡ k) }
 {
     replace_with(
@@ -464,8 +410,6 @@ pub extern "C" fn failreg_words(node: &mut Node, into: &mut [u32]) -> usize
         |node: Node, into: &mut [u32]| -> (Node, usize)
             ensures length { MatchOption node.handle.kept (result.1 ≡ 0)
                 (λ k. result.1 ≡ length k.words.items) }
-            ensures filled { MatchOption node.handle.kept (into.new ≡ into.old)
-                (λ k. FillsFront k.words.items into.old into.new) }
             ensures same { Stays node.handle.kept result.0.handle.kept (λ k l. l ≡ k) }
         {
             if !node.is_open {
@@ -497,17 +441,6 @@ fn is_set(core: &NodeCore, name: &Name) -> bool
     match core.state().key(name) {
         Some(key) => key.actions().is_some(),
         None => false,
-    }
-}
-
-fn pause_over_at(alloc: Global, registry: &Registry, name: &[u8], since: Stamp) -> (u32, bool)
-    ensures value { result.0 ≡ 0 → (IsTrue result.1
-        ↔ (HasStamp ((state_known registry.now.core).key name.now) since → ⊥)) }
-    ensures refused { result.0 ≢ 0 → IsNoName name.now result.0 }
-{
-    match read_name(alloc, name) {
-        Ok(name) => (0, registry.core.pause_over(&name, since)),
-        Err(status) => (status, false),
     }
 }
 
