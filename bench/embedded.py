@@ -9,6 +9,8 @@ HERE = os.path.dirname(os.path.abspath(__file__))
 EMBEDDING = os.path.join(HERE, "..", "embedding")
 PASSES = 1_000_000
 ROUNDS = 7
+# Before each program: nothing, or what gives it the processors where other work stands beside it.
+FIRST = os.environ.get("BENCH_FIRST", "").split()
 THREADS = (1, 4)
 # What C and Rust call the same thing; libfiu is called from C.
 ROWS = (
@@ -63,7 +65,7 @@ def main():
         for _ in range(ROUNDS):
             for whose, _, kind in rows:
                 for threads in THREADS:
-                    words = (programs[whose], kind, str(threads), str(PASSES))
+                    words = (*FIRST, programs[whose], kind, str(threads), str(PASSES))
                     told = run(*words, stdout=subprocess.PIPE).stdout
                     found.setdefault((whose, kind, threads), []).append([float(it) for it in told.split()])
         print(f"{PASSES:,} passes, the best of {ROUNDS} rounds: ns a pass by 1 thread, by 4, bytes a pass")
