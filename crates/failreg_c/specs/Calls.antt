@@ -1,10 +1,9 @@
 -- What C is told of a call, and what the call leaves of the registry. Where C's node is closed there is none.
 use Rattle.std.specs.Prelude.{◌≡◌, ◌⊎◌, ℕ, List, [], ◌++◌, length, take, drop, MatchOption, Option, Some, None, false, IsUtf8}
 use Rattle.actions.specs.Names.{is_name}
-use Rattle.node_core.specs.Asks.{Asked, Answered, bare_emit}
+use Rattle.node_core.specs.Asks.{Asked, Answered}
 use Rattle.node_core.specs.Asks as asks
 use Rattle.node_core.specs.Deliveries.{TellsDelta}
-use Rattle.node_core.specs.Memory.{EmitNeedsMemory, NameNeedsMemory}
 use Rattle.node_core.specs.Passes.{words_for}
 use Rattle.node_core.specs.Traces.{Kept, Accepts, Emits, after_call, refusal, reply_to, state_known}
 use Rattle.failreg_c.specs.Words.{place_after, words_next}
