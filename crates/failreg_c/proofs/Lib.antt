@@ -1,0 +1,2 @@
+pub mod AsBox
+mod StreamWords

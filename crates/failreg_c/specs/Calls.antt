@@ -1,0 +1,88 @@
+-- What C is told of a call, and what the call leaves of the registry. Where C's node is closed there is none.
+use Rattle.std.specs.Prelude.{◌≡◌, ◌⊎◌, ℕ, List, [], ◌++◌, length, take, drop, MatchOption, Option, Some, None, false, IsUtf8}
+use Rattle.actions.specs.Names.{is_name}
+use Rattle.node_core.specs.Asks.{Asked, Answered}
+use Rattle.node_core.specs.Asks as asks
+use Rattle.node_core.specs.Deliveries.{TellsDelta}
+use Rattle.node_core.specs.Passes.{words_for}
+use Rattle.node_core.specs.Traces.{Kept, Accepts, Emits, after_call, refusal, reply_to, state_known}
+use Rattle.failreg_c.specs.Words.{place_after, words_next}
+use Rattle.failreg_c.specs.Numbers.{not_text, number}
+use Rattle.failreg_c.specs.Told.{IsPassTold}
+use Rattle.failreg_c.specs.declared.act.Act.{Act}
+use Rattle.failreg_c.specs.declared.registry.Registry.{Registry}
+
+-- a fact of a registry before and after a call, which there is
+abbrev pub Both : {R : Type 0} → Option R → Option R → (R → R → Type 0) → Type 0
+Both (Some k) (Some l) f = f k l
+Both (Some k) None f = ⊥
+Both None _ f = ⊥
+
+-- the same, or there is none before and after
+abbrev pub Stays : {R : Type 0} → Option R → Option R → (R → R → Type 0) → Type 0
+Stays (Some k) (Some l) f = f k l
+Stays (Some k) None f = ⊥
+Stays None (Some l) f = ⊥
+Stays None None f = Unit {0}
+
+-- an accepted call that draws no words
+abbrev pub IsMade : Asked → Answered → Registry → Registry → Type 0
+IsMade ask answer k l = Accepts k.core l.core ask [] answer × (l.generator ≡ k.generator)
+
+-- an accepted emit, whose message is to be fetched
+abbrev pub IsEmitted : ℕ → Registry → Registry → Type 0
+IsEmitted to k l =
+    Emits k.core l.core to l.said.items × TellsDelta k.core to l.said.items × (l.generator ≡ k.generator)
+
+-- an accepted pass with these words
+abbrev pub IsPassedWith : List ℕ → List ℕ → Act → Registry → Registry → Type 0
+IsPassedWith name words act k l =
+    (refusal k.core (asks.Pass name) words ≡ None) ×
+    IsPassTold (reply_to k.core (asks.Pass name) words) act l.said.items ×
+    (l.core ≡ after_call k.core (asks.Pass name) words)
+
+abbrev pub IsPassedGiven : List ℕ → List ℕ → Act → Registry → Registry → Type 0
+IsPassedGiven name words act k l = IsPassedWith name words act k l × (l.generator ≡ k.generator)
+
+-- the words that a pass draws: those of the node's stream, as a registry of Rattle's draws them
+abbrev pub words_needed : Registry → List ℕ → ℕ
+words_needed k name = words_for (state_known k.core) name
+
+abbrev pub words_drawn : Registry → List ℕ → List ℕ
+words_drawn k name = words_next k.generator (words_needed k name)
+
+-- an accepted pass with the next words of the node's generator, which are kept
+abbrev pub IsPassedDrawing : List ℕ → Act → Registry → Registry → Type 0
+IsPassedDrawing name act k l =
+    IsPassedWith name (words_drawn k name) act k l × (l.words.items ≡ words_drawn k name) ×
+    (l.generator ≡ place_after k.generator (words_needed k name))
+
+-- why an ask of UTF-8 texts isn't answered by 0: want of memory, where it is needed, or the first refusal
+abbrev pub IsRefused : Kept → Asked → List ℕ → Type 0 → ℕ → Type 0
+IsRefused k ask words needs status =
+    ((status ≡ 22) × needs) ⊎ MatchOption (refusal k ask words) ⊥ (λ f. status ≡ number f)
+
+-- the same where these texts are to be UTF-8
+abbrev pub IsRefusedOf : Type 0 → Kept → Asked → List ℕ → Type 0 → ℕ → Type 0
+IsRefusedOf texts k ask words needs status =
+    ((status ≡ not_text) × (texts → ⊥)) ⊎ (texts × IsRefused k ask words needs status)
+
+-- the node and its generator are as they were, and the fault that is kept is the one of the status
+abbrev pub IsLeft : ℕ → Registry → Registry → Type 0
+IsLeft status k l =
+    (l.core ≡ k.core) × (l.generator ≡ k.generator) ×
+    MatchOption l.fault (status ≡ not_text) (λ f. status ≡ number f)
+
+-- the node and its generator are as they were
+abbrev pub IsSame : Registry → Registry → Type 0
+IsSame k l = (l.core ≡ k.core) × (l.generator ≡ k.generator)
+
+-- why a reader isn't answered by 0: these bytes are no UTF-8, or no name, or memory was refused
+abbrev pub IsNoName : List ℕ → ℕ → Type 0
+IsNoName name status =
+    ((status ≡ not_text) × (IsUtf8 name → ⊥)) ⊎
+    ((status ≡ 2) × (is_name name ≡ false)) ⊎ (status ≡ 22)
+
+-- as much of what is to be fetched as there is room for, and the rest of the room as it was
+abbrev pub FillsFront : List ℕ → List ℕ → List ℕ → Type 0
+FillsFront said old new = new ≡ take (length old) said ++ drop (length said) old

@@ -1,0 +1,6 @@
+pub mod Owned
+pub mod Numbers
+pub mod Words
+pub mod Told
+pub mod Calls
+pub mod Pauses

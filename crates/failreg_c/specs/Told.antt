@@ -1,0 +1,67 @@
+-- A pass as C is told it.
+use Rattle.std.specs.Prelude.{◌≡◌, ℕ, List, [], length, Option, Some, None, is_some}
+use Rattle.actions.specs.Value.{TaskValue}
+use Rattle.actions.specs.Value as tasks
+use Rattle.node_core.specs.Asks.{Passed, Answered}
+use Rattle.node_core.specs.Asks as asks
+use Rattle.failreg_c.specs.declared.act.Act.{Act}
+
+-- the number, the time and the text of a task
+abbrev pub task_number : TaskValue → ℕ
+task_number tasks.off = 0
+task_number (tasks.«return» _) = 1
+task_number (tasks.sleep _) = 2
+task_number (tasks.panic _) = 3
+task_number (tasks.print _) = 4
+task_number tasks.pause = 5
+task_number tasks.yield = 6
+task_number (tasks.delay _) = 7
+
+abbrev pub task_time : TaskValue → ℕ
+task_time tasks.off = 0
+task_time (tasks.«return» _) = 0
+task_time (tasks.sleep n) = n
+task_time (tasks.panic _) = 0
+task_time (tasks.print _) = 0
+task_time tasks.pause = 0
+task_time tasks.yield = 0
+task_time (tasks.delay n) = n
+
+abbrev pub task_text : TaskValue → Option (List ℕ)
+task_text tasks.off = None
+task_text (tasks.«return» text) = text
+task_text (tasks.sleep _) = None
+task_text (tasks.panic text) = text
+task_text (tasks.print text) = text
+task_text tasks.pause = None
+task_text tasks.yield = None
+task_text (tasks.delay _) = None
+
+abbrev pub text_or_none : Option (List ℕ) → List ℕ
+text_or_none None = []
+text_or_none (Some text) = text
+
+-- the term that acts, and the text of its task, which is to be fetched
+pub record TellsTask (term : ℕ) (task : TaskValue) (a : Act) (said : List ℕ) : Type 0 where
+  pub term_is : a.term ≡ term
+  pub task_is : a.task ≡ task_number task
+  pub time : a.millis ≡ task_time task
+  pub has_text : a.has_text ≡ is_some (task_text task)
+  pub text : said ≡ text_or_none (task_text task)
+  pub text_len : a.text_len ≡ length said
+
+abbrev pub IsTold : Passed → Act → List ℕ → Type 0
+IsTold asks.Unset a said = (a.outcome ≡ 0) × (said ≡ [])
+IsTold (asks.NoTerm s) a said = (a.outcome ≡ 1) × (a.clock ≡ s.clock) × (a.node ≡ s.node) × (said ≡ [])
+IsTold (asks.Act s term task) a said =
+    (a.outcome ≡ 2) × (a.clock ≡ s.clock) × (a.node ≡ s.node) × TellsTask term task a said
+
+abbrev pub IsPassTold : Answered → Act → List ℕ → Type 0
+IsPassTold (asks.IsPassed p) a said = IsTold p a said
+IsPassTold (asks.IsSet _) a said = ⊥
+IsPassTold (asks.IsRemoved _) a said = ⊥
+IsPassTold (asks.IsLoaded _) a said = ⊥
+IsPassTold (asks.IsShifted _) a said = ⊥
+IsPassTold (asks.IsGranted _) a said = ⊥
+IsPassTold (asks.IsEmitted _) a said = ⊥
+IsPassTold (asks.IsDelivered _) a said = ⊥

@@ -1,0 +1,116 @@
+//! The generator of a node's words, the same that a registry of Rattle's has.
+
+ghost use Rattle.std.specs.Prelude.{◌≡◌, ◌⊎◌, ◌+◌, ◌<◌, ◌^◌, ◌%◌, vec_len, IfOk, IfErr, OnErr, OnOk};
+ghost use Rattle.rand_chacha.specs.ChaCha.{ChaCha, key_of};
+ghost use Rattle.node_core.specs.Asks as asks;
+ghost use Rattle.node_core.specs.Asks.{passed};
+ghost use Rattle.node_core.specs.Passes.{words_for};
+ghost use Rattle.node_core.specs.Traces.{Accepts, IsRefusalOf, state_known};
+ghost use Rattle.failreg_c.specs.Words.{words_next, place_after};
+
+use node_core::{NodeCore, NodeFault, PassReply, WordSource};
+use rand_chacha::ChaCha8Rng;
+use rand_core::SeedableRng;
+use rand_core::utils::NextWord;
+use std::alloc::{AllocError, Global};
+use std::marker::Model;
+
+/// The generator of a node's words: ChaCha8 of a seed, on the stream of the node's number.
+/// Contracts see its key, its stream, and the place of its next word, counted from 0.
+#[derive(Drop)]
+pub struct Generator {
+    stream: ChaCha8Rng,
+}
+
+impl Model for Generator {
+    ghost Value = { ChaCha };
+
+    ghost view = { λ g. g.stream };
+}
+
+// A stream has 2^68 words. Each pass takes 16 at most, and a node accepts fewer than 2^32 calls.
+const LAST_PLACE: u128 = 147_573_952_589_676_412_928;
+
+impl Generator {
+    /// At the start of a stream of the seed.
+    pub(crate) fn new(seed: [u8; 32], stream: u64) -> Generator
+        ensures { result ≡ record { key = key_of seed; stream = stream; word_pos = 0 } }
+    {
+        let mut words = ChaCha8Rng::from_seed(seed);
+        words.set_stream(stream);
+        Generator { stream: words }
+    }
+
+    // The place of the next word.
+    fn place(&self) -> u128
+        ensures place { result ≡ self.now.word_pos }
+        ensures bound { result < 2 ^ 68 }
+    {
+        self.stream.get_word_pos()
+    }
+
+    // Goes to a place.
+    fn set_place(&mut self, place: u128)
+        ensures { self.new ≡ record self.old { word_pos = place % 2 ^ 68 } }
+    {
+        self.stream.set_word_pos(place);
+    }
+}
+
+impl WordSource for Generator {
+    ghost use Rattle.failreg_c.specs.Words.{words_next, place_after};
+
+    ghost can_draw = { λ _. Unit {0} };
+
+    ghost next_words = { words_next };
+
+    ghost after_words = { place_after };
+
+    fn draw(&mut self, alloc: Global, count: u8) -> Result<Vec<u32>, NodeFault> {
+        if self.stream.get_word_pos() >= LAST_PLACE {
+            return Err(NodeFault::OutOfMemory);
+        }
+        Ok(draw(alloc, &mut self.stream, count)?)
+    }
+}
+
+// The next words of the generator, so many.
+fn draw(alloc: Global, generator: &mut ChaCha8Rng, count: u8) -> Result<Vec<u32>, AllocError>
+    requires { generator.old.word_pos + count < 2 ^ 68 }
+    ensures words { IfOk result (λ words. words.items ≡ words_next generator.old count) }
+    ensures many { IfOk result (λ words. vec_len words ≡ count) }
+    ensures place { OnOk result (generator.new ≡ place_after generator.old count) }
+    ensures err { OnErr result (generator.new ≡ generator.old) }
+{
+    let mut words = Vec::with_capacity(alloc, usize::from(count))?;
+    for _ in 0..count {
+        words.push_reserved(generator.next_word());
+    }
+    Ok(words)
+}
+
+/// Passes a point with the generator's next words, as many as it needs, and answers these beside
+/// the reply. The words of a refused pass are put back.
+pub(crate) fn pass_drawing(
+    core: &mut NodeCore,
+    generator: &mut Generator,
+    alloc: Global,
+    name: &str,
+) -> Result<(Vec<u32>, PassReply), NodeFault>
+    ensures ok { IfOk result (λ r. Accepts core.old core.new
+        (asks.Pass name.now) r.0.items (asks.IsPassed (passed r.1))) }
+    ensures words { IfOk result (λ r. r.0.items
+        ≡ words_next generator.old (words_for (state_known core.old) name.now)) }
+    ensures place { OnOk result (generator.new
+        ≡ place_after generator.old (words_for (state_known core.old) name.now)) }
+    ensures refused { IfErr result (IsRefusalOf core.old (asks.Pass name.now)
+        (words_next generator.old (words_for (state_known core.old) name.now))) }
+    ensures err { OnErr result ((core.new ≡ core.old) × (generator.new ≡ generator.old)) }
+{
+    let place = generator.place();
+    let passed = core.pass_drawing(alloc, name, generator);
+    if passed.is_err() {
+        generator.set_place(place);
+    }
+    passed
+}

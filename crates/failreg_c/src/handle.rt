@@ -1,0 +1,89 @@
+//! A registry as C holds it: a flag and one pointer, which owns the registry that it leads to.
+
+ghost use Rattle.std.specs.Prelude.{◌≡◌, Option, Some, None, IsSome, is_some, option_map};
+ghost use Rattle.failreg_c.specs.declared.registry.Registry.{Registry};
+ghost use Rattle.failreg_c.specs.Owned.{maybe_coded, handle_owns};
+
+use crate::parts::Parts;
+use crate::registry::Registry;
+use std::alloc::Global;
+use std::marker::Model;
+
+/// What C sees at the pointer of a handle: nothing.
+#[repr(C)]
+#[derive(Drop)]
+pub struct Opaque {
+    byte: u8,
+}
+
+/// A pointer that owns what `Box<Registry>` does, or nothing. To drop it forgets what it owns.
+#[repr(C)]
+#[derive(Drop)]
+pub struct Handle {
+    ptr: *mut Opaque,
+    alloc: Global,
+    pub ghost kept: { Option Registry } by { maybe_coded },
+}
+
+impl Model for Handle {
+    ghost also_owns = { λ h. handle_owns h.alloc h.ptr h.kept };
+}
+
+// What a handle leads to may go to another thread.
+unsafe impl Send for Handle {}
+
+impl Handle {
+    fn of_parts(parts: Parts<Registry, Global>) -> Handle
+        ensures { result.kept ≡ Some parts.value }
+    {
+        let Parts { ptr, alloc } = parts;
+        Handle {
+            ptr: ptr as *mut Opaque,
+            alloc,
+        }
+    }
+
+    fn into_parts(self) -> Parts<Registry, Global>
+        requires { IsSome self.kept }
+        ensures { self.kept ≡ Some result.value }
+    {
+        let Handle { ptr, alloc } = self;
+        Parts {
+            ptr: ptr as *mut Registry,
+            alloc,
+        }
+    }
+}
+
+/// A node that C holds. One whose bytes are all zero is closed. `handle.kept` is the registry that
+/// an open one leads to.
+#[repr(C)]
+#[derive(Drop)]
+pub struct Node {
+    pub(crate) is_open: bool,
+    pub(crate) handle: Handle,
+    pub ghost agrees: { is_open ≡ is_some handle.kept },
+}
+
+impl Node {
+    /// The registry, if it is open.
+    pub(crate) fn into_box(self) -> Option<Box<Registry>>
+        ensures { option_map (λ b. b.value) result ≡ self.handle.kept }
+    {
+        let Node { is_open, handle } = self;
+        if !is_open {
+            return None;
+        }
+        Some(handle.into_parts().into_box())
+    }
+
+    /// The open node of a registry.
+    pub(crate) fn of(registry: Box<Registry>) -> Node
+        ensures { result.handle.kept ≡ Some registry.value }
+    {
+        Node {
+            is_open: true,
+            handle: Handle::of_parts(Parts::of(registry)),
+        }
+    }
+}

@@ -1,0 +1,18 @@
+//! A node for programs of C: each export is one call of a node that C holds by a handle. The header
+//! `embedding/failreg.h` declares the exports, and says what C owes.
+#![tactic(auto)]
+
+mod act;
+mod calls;
+mod generator;
+mod handle;
+mod numbers;
+mod parts;
+mod pauses;
+mod readers;
+mod registry;
+
+pub use act::Act;
+pub use handle::{Handle, Node, Opaque};
+pub use numbers::{Stamped, Wide};
+pub use registry::Registry;

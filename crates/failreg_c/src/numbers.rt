@@ -1,0 +1,61 @@
+//! Stamps and great numbers, for C.
+
+ghost use Rattle.std.specs.Prelude.{◌≡◌, ◌+◌, ◌*◌, ◌^◌, ◌≤ℤ◌, pos, neg_ℤ};
+
+use stamp_register::Stamp;
+
+/// The clock of a setting and the node that made it.
+#[repr(C)]
+#[derive(Drop, Clone, Copy)]
+pub struct Stamped {
+    pub clock: u64,
+    pub node: u8,
+}
+
+pub(crate) const NO_STAMP: Stamp = Stamp { clock: 0, node: 0 };
+
+impl Stamped {
+    pub(crate) fn of(stamp: Stamp) -> Stamped
+        ensures { result ≡ record { clock = stamp.clock; node = stamp.node } }
+    {
+        Stamped {
+            clock: stamp.clock,
+            node: stamp.node,
+        }
+    }
+}
+
+/// A number of up to 128 bits: `low + 2^64 * high`.
+#[repr(C)]
+#[derive(Drop, Clone, Copy)]
+pub struct Wide {
+    pub low: u64,
+    pub high: u64,
+}
+
+const TWO_64: u128 = 18_446_744_073_709_551_616;
+
+impl Wide {
+    pub(crate) fn of(number: u128) -> Wide
+        ensures { result.low + 2 ^ 64 * result.high ≡ number }
+    {
+        Wide {
+            low: (number % TWO_64) as u64,
+            high: (number / TWO_64) as u64,
+        }
+    }
+}
+
+/// The number of 64 bits that is nearest to this one.
+pub(crate) fn narrow(number: i128) -> i64
+    ensures { number ≤ℤ pos 9223372036854775807
+        → neg_ℤ (pos 9223372036854775808) ≤ℤ number → result ≡ number }
+{
+    if number > i128::from(i64::MAX) {
+        return i64::MAX;
+    }
+    if number < i128::from(i64::MIN) {
+        return i64::MIN;
+    }
+    number as i64
+}

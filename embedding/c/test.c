@@ -1,0 +1,294 @@
+/* What a program of C sees of nodes: a count that two nodes share over threads, tasks, refusals. */
+#define _POSIX_C_SOURCE 200809L
+#include "failreg.h"
+
+#include <pthread.h>
+#include <sched.h>
+#include <stdio.h>
+#include <stdlib.h>
+#include <string.h>
+#include <time.h>
+
+#define TEXT(s) (s), sizeof(s) - 1
+#define CHECK(holds)                                                       \
+    do {                                                                   \
+        if (!(holds)) {                                                    \
+            fprintf(stderr, "%s:%d: not so: %s\n", __FILE__, __LINE__, #holds); \
+            exit(1);                                                       \
+        }                                                                  \
+    } while (0)
+
+enum { NODES = 2, THREADS = 4, PASSES = 2000 };
+
+static const uint8_t SEED[32] = { 1, 2, 3 };
+
+/* A node with the mutex by which threads take turns at it. */
+typedef struct shared {
+    failreg node;
+    pthread_mutex_t mutex;
+} shared;
+
+static failreg opened(uint8_t number)
+{
+    failreg node = FAILREG_CLOSED_NODE;
+    CHECK(failreg_open(&node, number, NODES, 100000, SEED) == FAILREG_OK);
+    return node;
+}
+
+static void set(failreg *node, const char *actions)
+{
+    failreg_stamp stamp;
+    CHECK(failreg_set(node, TEXT("p"), actions, strlen(actions), &stamp) == FAILREG_OK);
+}
+
+static failreg_act pass(failreg *node)
+{
+    failreg_act act;
+    CHECK(failreg_pass(node, TEXT("p"), &act) == FAILREG_OK);
+    return act;
+}
+
+/* What is to be fetched, with a closing zero. The caller frees it. */
+static char *fetched(failreg *node, size_t *length)
+{
+    *length = failreg_fetch(node, "", 0);
+    char *bytes = malloc(*length + 1);
+    CHECK(bytes != NULL && failreg_fetch(node, bytes, *length) == *length);
+    bytes[*length] = 0;
+    return bytes;
+}
+
+static bool said(failreg *node, const char *wanted)
+{
+    size_t length;
+    char *bytes = fetched(node, &length);
+    bool is_same = strcmp(bytes, wanted) == 0;
+    free(bytes);
+    return is_same;
+}
+
+static bool tell(failreg *from, uint8_t number, failreg *to)
+{
+    size_t length;
+    bool changed;
+    CHECK(failreg_emit(from, number) == FAILREG_OK);
+    char *bytes = fetched(from, &length);
+    CHECK(failreg_deliver(to, (const uint8_t *)bytes, length, &changed) == FAILREG_OK);
+    free(bytes);
+    return changed;
+}
+
+static void *pass_often(void *given)
+{
+    shared *at = given;
+    size_t ran = 0;
+    for (int i = 0; i < PASSES; i++) {
+        pthread_mutex_lock(&at->mutex);
+        failreg_act act = pass(&at->node);
+        pthread_mutex_unlock(&at->mutex);
+        ran += act.outcome == FAILREG_ACT && act.task == FAILREG_RETURN;
+    }
+    return (void *)ran;
+}
+
+/* Two nodes share the 1000 of a count, and four threads at each use up just those. */
+static void a_count_is_shared_over_threads(void)
+{
+    shared nodes[NODES];
+    pthread_t threads[NODES][THREADS];
+    uint64_t total;
+    size_t ran[NODES] = { 0, 0 };
+    for (uint8_t n = 0; n < NODES; n++) {
+        nodes[n].node = opened(n);
+        CHECK(pthread_mutex_init(&nodes[n].mutex, NULL) == 0);
+    }
+    failreg *first = &nodes[0].node, *second = &nodes[1].node;
+    set(first, "1000*return->off");
+    CHECK(failreg_shift(first, TEXT("p"), 0, 1, 300, &total) == FAILREG_OK && total == 300);
+    CHECK(tell(first, 1, second) && !tell(first, 1, second));
+    for (int n = 0; n < NODES; n++)
+        for (int t = 0; t < THREADS; t++)
+            CHECK(pthread_create(&threads[n][t], NULL, pass_often, &nodes[n]) == 0);
+    for (int n = 0; n < NODES; n++)
+        for (int t = 0; t < THREADS; t++) {
+            void *each;
+            CHECK(pthread_join(threads[n][t], &each) == 0);
+            ran[n] += (size_t)each;
+        }
+    CHECK(ran[0] == 700 && ran[1] == 300);
+    failreg_wide spent, hits;
+    int64_t left;
+    CHECK(tell(second, 0, first));
+    CHECK(failreg_spent(first, TEXT("p"), 0, &spent) == FAILREG_OK);
+    CHECK(spent.low == 1000 && spent.high == 0);
+    CHECK(failreg_hits(first, TEXT("p"), &hits) == FAILREG_OK);
+    CHECK(hits.low == NODES * THREADS * PASSES && hits.high == 0);
+    CHECK(failreg_grant(first, TEXT("p"), 0, 5, &total) == FAILREG_OK && total == 5);
+    CHECK(failreg_rights(first, TEXT("p"), 0, 0, &left) == FAILREG_OK && left == 5);
+    CHECK(failreg_rights(first, TEXT("p"), 0, 1, &left) == FAILREG_OK && left == 0);
+    for (int n = 0; n < NODES; n++) {
+        failreg_end(&nodes[n].node);
+        pthread_mutex_destroy(&nodes[n].mutex);
+    }
+}
+
+static double seconds(void)
+{
+    struct timespec now;
+    clock_gettime(CLOCK_MONOTONIC, &now);
+    return (double)now.tv_sec + (double)now.tv_nsec / 1e9;
+}
+
+/* Carries a task out, as a program does, and answers whether it is `return`. */
+static bool carry_out(failreg *node, failreg_act act)
+{
+    struct timespec time = { (time_t)(act.millis / 1000), (long)(act.millis % 1000) * 1000000 };
+    double end = seconds() + (double)act.millis / 1000;
+    bool is_over = true;
+    failreg_stamp stamp = { act.clock, act.node };
+    switch (act.task) {
+    case FAILREG_RETURN:
+        return true;
+    case FAILREG_SLEEP:
+        nanosleep(&time, NULL);
+        break;
+    case FAILREG_DELAY:
+        while (seconds() < end)
+            ;
+        break;
+    case FAILREG_YIELD:
+        sched_yield();
+        break;
+    case FAILREG_PAUSE:
+        CHECK(failreg_pause_over(node, TEXT("p"), &stamp, &is_over) == FAILREG_OK && !is_over);
+        set(node, "off");
+        CHECK(failreg_pause_over(node, TEXT("p"), &stamp, &is_over) == FAILREG_OK && is_over);
+        break;
+    }
+    return false;
+}
+
+/* Each task, its text and its time. */
+static void tasks_are_told_and_carried_out(void)
+{
+    static const struct {
+        const char *actions;
+        uint8_t task;
+        uint64_t millis;
+        const char *text; /* NULL: none is given */
+    } rows[] = {
+        { "off", FAILREG_OFF, 0, NULL },
+        { "return", FAILREG_RETURN, 0, NULL },
+        { "return()", FAILREG_RETURN, 0, "" },
+        { "return(no luck)", FAILREG_RETURN, 0, "no luck" },
+        { "sleep(20)", FAILREG_SLEEP, 20, NULL },
+        { "panic(boom)", FAILREG_PANIC, 0, "boom" },
+        { "print(\xc3\xa9)", FAILREG_PRINT, 0, "\xc3\xa9" },
+        { "pause", FAILREG_PAUSE, 0, NULL },
+        { "yield", FAILREG_YIELD, 0, NULL },
+        { "delay(20)", FAILREG_DELAY, 20, NULL },
+    };
+    failreg node = opened(0);
+    CHECK(pass(&node).outcome == FAILREG_UNSET);
+    for (size_t i = 0; i < sizeof rows / sizeof rows[0]; i++) {
+        set(&node, rows[i].actions);
+        failreg_act act = pass(&node);
+        const char *text = rows[i].text ? rows[i].text : "";
+        CHECK(act.outcome == FAILREG_ACT && act.term == 0 && act.task == rows[i].task);
+        CHECK(act.millis == rows[i].millis && act.has_text == (rows[i].text != NULL));
+        CHECK(act.text_len == strlen(text) && said(&node, text));
+        double begun = seconds();
+        CHECK(carry_out(&node, act) == (act.task == FAILREG_RETURN));
+        CHECK(seconds() - begun >= (double)act.millis / 1000);
+    }
+    set(&node, "1*off");
+    CHECK(pass(&node).outcome == FAILREG_ACT && pass(&node).outcome == FAILREG_NONE);
+    failreg_end(&node);
+}
+
+/* Words: those that a pass drew give the same when they are given, and no others are drawn. */
+static void words_are_drawn(void)
+{
+    failreg node = opened(0), other = opened(0);
+    failreg_act act, again;
+    uint32_t words[2] = { 0, 0 }, none = 0;
+    set(&node, "50%return->50%print->off");
+    set(&other, "50%return->50%print->off");
+    for (int i = 0; i < 40; i++) {
+        act = pass(&node);
+        CHECK(failreg_words(&node, &none, 0) == 2 && failreg_words(&node, words, 2) == 2);
+        CHECK(failreg_pass_with(&other, TEXT("p"), words, 2, &again) == FAILREG_OK);
+        CHECK(again.term == act.term);
+    }
+    CHECK(failreg_pass_with(&other, TEXT("p"), words, 1, &again) == FAILREG_BAD_WORDS);
+    CHECK(failreg_fault(&other) == FAILREG_OK && said(&other, "N14 BadWords need=2"));
+    failreg_end(&node);
+    failreg_end(&other);
+}
+
+/* A look at a point, its settings, and the versions. Only accepted calls that change it count. */
+static void readers_take_no_entry(void)
+{
+    failreg node = opened(0), other = opened(1);
+    uint64_t calls, version, known, acked;
+    uint16_t entries;
+    bool is_set;
+    failreg_stamp stamp;
+    CHECK(failreg_load(&node, TEXT("p=off;q=2*panic->off"), &entries) == FAILREG_OK);
+    CHECK(entries == 2);
+    CHECK(failreg_is_set(&node, TEXT("p"), &is_set) == FAILREG_OK && is_set);
+    CHECK(failreg_remove(&node, TEXT("p"), &stamp) == FAILREG_OK && stamp.clock == 3);
+    CHECK(failreg_is_set(&node, TEXT("p"), &is_set) == FAILREG_OK && !is_set);
+    CHECK(failreg_list(&node) == FAILREG_OK && said(&node, "q=2*panic->off"));
+    CHECK(failreg_calls(&node, &calls) == FAILREG_OK && calls == 2);
+    CHECK(failreg_version(&node, &version) == FAILREG_OK && version == 2);
+    CHECK(tell(&node, 1, &other) && !tell(&other, 0, &node));
+    CHECK(failreg_known(&other, 0, &known) == FAILREG_OK && known == version);
+    CHECK(failreg_acked(&node, 1, &acked) == FAILREG_OK && acked == version);
+    failreg_end(&node);
+    failreg_end(&other);
+}
+
+/* What is refused leaves the node, and says why. */
+static void refusals_are_told(void)
+{
+    failreg node = FAILREG_CLOSED_NODE;
+    failreg_stamp stamp = { 7, 7 };
+    failreg_act act;
+    uint64_t calls;
+    bool is_set;
+    CHECK(failreg_pass(&node, TEXT("p"), &act) == FAILREG_CLOSED);
+    CHECK(failreg_fetch(&node, "", 0) == 0);
+    CHECK(failreg_is_set(&node, TEXT("p"), &is_set) == FAILREG_CLOSED && !is_set);
+    CHECK(failreg_open(&node, 2, NODES, 9, SEED) == FAILREG_BAD_CONFIG && !node.is_open);
+    CHECK(failreg_open(&node, 0, NODES, 2, SEED) == FAILREG_OK);
+    CHECK(failreg_open(&node, 0, NODES, 2, SEED) == FAILREG_ALREADY_OPEN);
+    CHECK(failreg_set(&node, "\xff", 1, TEXT("off"), &stamp) == FAILREG_NOT_UTF8);
+    CHECK(stamp.clock == 0 && failreg_fault(&node) == FAILREG_OK && said(&node, ""));
+    CHECK(failreg_set(&node, TEXT("p"), "\xff", 1, &stamp) == FAILREG_NOT_UTF8);
+    CHECK(failreg_set(&node, TEXT("a b"), TEXT("off"), &stamp) == FAILREG_BAD_NAME);
+    CHECK(failreg_set(&node, TEXT("p"), TEXT("offf"), &stamp) == FAILREG_BAD_ACTIONS);
+    CHECK(failreg_is_set(&node, TEXT("\xc0"), &is_set) == FAILREG_NOT_UTF8);
+    CHECK(failreg_is_set(&node, TEXT(""), &is_set) == FAILREG_BAD_NAME);
+    CHECK(failreg_calls(&node, &calls) == FAILREG_OK && calls == 0);
+    set(&node, "off");
+    pass(&node);
+    CHECK(failreg_pass(&node, TEXT("p"), &act) == FAILREG_TRACE_FULL);
+    CHECK(act.outcome == FAILREG_UNSET);
+    CHECK(failreg_fault(&node) == FAILREG_OK && said(&node, "N1 TraceFull"));
+    CHECK(failreg_pass(&node, "\xff", 1, &act) == FAILREG_NOT_UTF8);
+    failreg_end(&node);
+    failreg_end(&node);
+    CHECK(failreg_list(&node) == FAILREG_CLOSED);
+}
+
+int main(void)
+{
+    a_count_is_shared_over_threads();
+    tasks_are_told_and_carried_out();
+    words_are_drawn();
+    readers_take_no_entry();
+    refusals_are_told();
+    puts("the C test passed");
+    return 0;
+}

@@ -1,0 +1,209 @@
+/* failreg: one node of a cluster's failpoints, for programs of C and C++.
+ *
+ * A node holds named points. failreg_open opens one, failreg_end ends it. Of a term that is
+ * counted, as in "5*panic->off", all nodes together run no more than the count and what was granted
+ * beyond it, whatever becomes of their messages.
+ *
+ * What a call is given, and what it must be given, since nothing checks it:
+ *
+ *  - A node is given to one call at a time: by a mutex of yours, or by one thread. Calls of
+ *    different nodes need no order. A node may go from thread to thread.
+ *  - A node that is given is one that failreg_open or a later call left, or FAILREG_CLOSED_NODE. A
+ *    copy of its bytes is the same node: use and end one of them alone.
+ *  - No pointer is null, also where a length is 0: then give "" or any other address. A pointer
+ *    leads to as many bytes or numbers as the length beside it says, and what a call writes to
+ *    overlaps nothing else that it is given.
+ *  - malloc, realloc and free are those of one allocator, and align as C asks. No call is made in a
+ *    signal handler, or in the child of a fork where the process had several threads.
+ *
+ * Texts have a length and no closing zero. Whether they are UTF-8 is looked at by the calls.
+ *
+ * Every call but failreg_close, failreg_fetch and failreg_words answers 0, or why it is refused.
+ * Then the node and its generator are as they were, and what the call would have told is 0 or
+ * false. An accepted call that changes the node, marked below by [entry], is an entry of the node's
+ * trace: it takes memory until the node is ended, and counts against the cap. */
+#ifndef FAILREG_H
+#define FAILREG_H
+
+#include <stdbool.h>
+#include <stddef.h>
+#include <stdint.h>
+
+#ifdef __cplusplus
+extern "C" {
+#endif
+
+/* A node, open or closed. Its fields are the library's own. */
+typedef struct failreg {
+    bool is_open;
+    void *at;
+} failreg;
+
+/* What a node is before it is opened and after it was ended: all zero. */
+#define FAILREG_CLOSED_NODE { false, NULL }
+
+/* What a call answers. 1 to 22 are the numbers with which the texts of faults begin, as that of
+ * "N7 NoSuchTerm". */
+enum failreg_status {
+    FAILREG_OK = 0,
+    FAILREG_TRACE_FULL = 1,     /* the node has accepted as many calls as it may */
+    FAILREG_BAD_NAME = 2,       /* a name is 1 to 128 ASCII letters, digits, _ - . and : */
+    FAILREG_BAD_ACTIONS = 3,    /* the action text, or the setting text */
+    FAILREG_TOO_MANY_POINTS = 4, /* more than 256 names, removed ones counted */
+    FAILREG_CLOCK_FULL = 5,
+    FAILREG_NOT_SET = 6,
+    FAILREG_NO_SUCH_TERM = 7,
+    FAILREG_NOT_COUNTED = 8,
+    FAILREG_BAD_NODE = 9,       /* no node of the cluster, or this one */
+    FAILREG_ZERO_AMOUNT = 10,
+    FAILREG_TOO_FEW_RIGHTS = 11,
+    FAILREG_CELL_FULL = 12,
+    FAILREG_BAD_WORDS = 14,     /* the pass takes another number of words */
+    FAILREG_BAD_MESSAGE = 16,
+    FAILREG_NOT_FOR_ME = 17,
+    FAILREG_OWN_AHEAD = 18,
+    FAILREG_ACK_AHEAD = 19,
+    FAILREG_OVERSPENT = 20,
+    FAILREG_BAD_CONFIG = 21,    /* a cluster has 1 to 32 nodes, and this is one of them */
+    FAILREG_NO_MEMORY = 22,
+    FAILREG_NOT_UTF8 = 30,      /* a name or a text isn't UTF-8 */
+    FAILREG_CLOSED = 31,        /* the node is closed */
+    FAILREG_ALREADY_OPEN = 32   /* failreg_open of a node that is open */
+};
+
+/* The clock of a setting and the node that made it: no two settings of a cluster have one stamp. */
+typedef struct failreg_stamp {
+    uint64_t clock;
+    uint8_t node;
+} failreg_stamp;
+
+/* low + 2^64 * high. */
+typedef struct failreg_wide {
+    uint64_t low;
+    uint64_t high;
+} failreg_wide;
+
+enum failreg_outcome {
+    FAILREG_UNSET = 0, /* the point isn't set here */
+    FAILREG_NONE = 1,  /* it is set, and no term's turn came */
+    FAILREG_ACT = 2    /* a term was triggered: carry its task out */
+};
+
+enum failreg_task {
+    FAILREG_OFF = 0,
+    FAILREG_RETURN = 1, /* return, with the text as its argument */
+    FAILREG_SLEEP = 2,  /* for `millis` milliseconds */
+    FAILREG_PANIC = 3,
+    FAILREG_PRINT = 4,
+    FAILREG_PAUSE = 5,  /* until failreg_pause_over tells true */
+    FAILREG_YIELD = 6,
+    FAILREG_DELAY = 7   /* keep busy for `millis` milliseconds */
+};
+
+/* What a pass came to. */
+typedef struct failreg_act {
+    uint64_t clock;    /* with `node` the stamp of the setting, where the point is set */
+    uint64_t millis;   /* of sleep and delay */
+    uint64_t text_len; /* of return, panic and print: fetch the text */
+    uint8_t node;
+    uint8_t term;      /* which term was triggered, from 0 */
+    uint8_t outcome;   /* enum failreg_outcome */
+    uint8_t task;      /* enum failreg_task */
+    bool has_text;     /* return() has a text of no bytes, return has none */
+} failreg_act;
+
+/* Opens a closed node: node `number` of a cluster of `nodes`, which accepts `trace_cap` calls in
+ * its life. The words of its passes are those of ChaCha8 of the seed, on the stream of its
+ * number. */
+uint32_t failreg_open(failreg *node, uint8_t number, uint8_t nodes, uint32_t trace_cap,
+                      const uint8_t seed[32]);
+
+/* Ends a node, and leaves it closed. (The export takes it by value.) */
+void failreg_close(failreg node);
+static inline void failreg_end(failreg *node)
+{
+    failreg was = *node;
+    node->is_open = false;
+    node->at = NULL;
+    failreg_close(was);
+}
+
+/* [entry] Sets a point to an action text, as "20%3*print(hi)->off". */
+uint32_t failreg_set(failreg *node, const char *name, size_t name_len, const char *actions,
+                     size_t actions_len, failreg_stamp *stamp);
+
+/* [entry] Removes a point. */
+uint32_t failreg_remove(failreg *node, const char *name, size_t name_len, failreg_stamp *stamp);
+
+/* [entry] Sets the points of a text "name=actions;name=actions", as of FAILPOINTS: all or none. */
+uint32_t failreg_load(failreg *node, const char *text, size_t text_len, uint16_t *entries);
+
+/* [entry] Passes a point, with the next words of the node's generator. */
+uint32_t failreg_pass(failreg *node, const char *name, size_t name_len, failreg_act *act);
+
+/* [entry] Passes a point with words of yours, one for each term whose chance is below 100%. */
+uint32_t failreg_pass_with(failreg *node, const char *name, size_t name_len, const uint32_t *words,
+                           size_t words_len, failreg_act *act);
+
+/* Whether a point is set. This is no pass, and no entry of the trace. */
+uint32_t failreg_is_set(failreg *node, const char *name, size_t name_len, bool *is_set);
+
+/* Whether a pause is over that began with a pass of this stamp: the point isn't set under it. */
+uint32_t failreg_pause_over(failreg *node, const char *name, size_t name_len,
+                            const failreg_stamp *stamp, bool *is_over);
+
+/* [entry] Moves rights of a counted term, by its number from 0, to another node, which can spend
+ * them once it has heard of it. Tells how many this node moved to that one in all, under the
+ * setting. */
+uint32_t failreg_shift(failreg *node, const char *name, size_t name_len, uint8_t term, uint8_t to,
+                       uint64_t amount, uint64_t *total);
+
+/* [entry] Gives the node rights beyond the count. Tells how many in all, under the setting. */
+uint32_t failreg_grant(failreg *node, const char *name, size_t name_len, uint8_t term,
+                       uint64_t amount, uint64_t *total);
+
+/* [entry] Makes a message to another node: fetch its bytes, and take them there. It tells what that
+ * node isn't known to have. */
+uint32_t failreg_emit(failreg *node, uint8_t to);
+
+/* [entry] Takes in a message, and tells whether the node learnt anything. */
+uint32_t failreg_deliver(failreg *node, const uint8_t *message, size_t message_len, bool *changed);
+
+/* How often a term ran at all nodes under the setting, and how often a point was passed at all
+ * nodes while it was set, as far as this node knows. */
+uint32_t failreg_spent(failreg *node, const char *name, size_t name_len, uint8_t term,
+                       failreg_wide *spent);
+uint32_t failreg_hits(failreg *node, const char *name, size_t name_len, failreg_wide *hits);
+
+/* The rights that node `of` has left of a counted term, as far as this node knows. Of another node
+ * they may be below 0. What doesn't fit is told as the nearest number that does. */
+uint32_t failreg_rights(failreg *node, const char *name, size_t name_len, uint8_t term, uint8_t of,
+                        int64_t *rights);
+
+/* How many accepted calls changed what the node knows; the version of another node that it has all
+ * of; and the version of its own that another one said it has: whom there is something to tell. */
+uint32_t failreg_version(failreg *node, uint64_t *version);
+uint32_t failreg_known(failreg *node, uint8_t from, uint64_t *known);
+uint32_t failreg_acked(failreg *node, uint8_t to, uint64_t *acked);
+
+/* How many calls the node has accepted. */
+uint32_t failreg_calls(failreg *node, uint64_t *calls);
+
+/* Lists the points that are set, as a text for failreg_load: fetch it. */
+uint32_t failreg_list(failreg *node);
+
+/* The text of the last call marked [entry] that was refused, as "N11 TooFewRights have=2": fetch
+ * it. It has no bytes after FAILREG_NOT_UTF8. */
+uint32_t failreg_fault(failreg *node);
+
+/* Copies what the last pass (its text), emit, list or fault left to be fetched, as much as `room`
+ * is, and answers how long it is: with room 0 only that. It stays until the next of those calls. */
+size_t failreg_fetch(failreg *node, void *into, size_t room);
+
+/* The same of the words that the last failreg_pass drew; `room` counts words. */
+size_t failreg_words(failreg *node, uint32_t *into, size_t room);
+
+#ifdef __cplusplus
+}
+#endif
+#endif

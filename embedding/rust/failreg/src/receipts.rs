@@ -1,0 +1,206 @@
+//! What callers were told of accepted calls, and drills of it, which `failreg audit` reads.
+
+use crate::told::{Passed, Stamp, Task};
+use std::fmt::Write as _;
+use std::io::{self, Write};
+use std::thread::ThreadId;
+
+/// An accepted call as its caller was told of it. The ask and the reply are rows of JSON.
+pub struct Receipt {
+    pub caller: ThreadId,
+    pub ask: String,
+    pub words: Vec<u32>,
+    pub reply: String,
+}
+
+/// The receipts of a node: the place in the list is the place of the call's entry in the trace.
+pub struct Receipts {
+    pub node: u8,
+    pub all: Vec<Receipt>,
+}
+
+fn text(text: &str) -> String {
+    let mut json = String::from("\"");
+    for c in text.chars() {
+        match c {
+            '"' | '\\' => json.extend(['\\', c]),
+            c if c < ' ' => write!(json, "\\u{:04x}", c as u32).expect("a String takes all"),
+            c => json.push(c),
+        }
+    }
+    json + "\""
+}
+
+fn optional(given: &Option<String>) -> String {
+    given.as_deref().map_or("null".into(), text)
+}
+
+fn hex(bytes: &[u8]) -> String {
+    let mut json = String::with_capacity(2 * bytes.len() + 2);
+    json.push('"');
+    for byte in bytes {
+        write!(json, "{byte:02x}").expect("a String takes all");
+    }
+    json + "\""
+}
+
+fn row(words: &[u32]) -> String {
+    let words: Vec<String> = words.iter().map(u32::to_string).collect();
+    format!("[{}]", words.join(","))
+}
+
+/// What was asked.
+pub mod ask {
+    use super::{hex, text};
+
+    pub fn set(name: &str, actions: &str) -> String {
+        format!("[\"set\",{},{}]", text(name), text(actions))
+    }
+
+    pub fn remove(name: &str) -> String {
+        format!("[\"remove\",{}]", text(name))
+    }
+
+    pub fn load(entries: &[u8]) -> String {
+        format!("[\"load\",{}]", text(&String::from_utf8_lossy(entries)))
+    }
+
+    pub fn pass(name: &str) -> String {
+        format!("[\"pass\",{}]", text(name))
+    }
+
+    pub fn shift(name: &str, term: u8, to: u8, amount: u64) -> String {
+        format!("[\"shift\",{},{term},{to},{amount}]", text(name))
+    }
+
+    pub fn grant(name: &str, term: u8, amount: u64) -> String {
+        format!("[\"grant\",{},{term},{amount}]", text(name))
+    }
+
+    pub fn emit(to: u8) -> String {
+        format!("[\"emit\",{to}]")
+    }
+
+    pub fn deliver(message: &[u8]) -> String {
+        format!("[\"deliver\",{}]", hex(message))
+    }
+}
+
+/// What was answered.
+pub mod reply {
+    use super::{Passed, Stamp, hex, task};
+
+    pub fn set(stamp: Stamp) -> String {
+        format!("[\"set\",{},{}]", stamp.clock, stamp.node)
+    }
+
+    pub fn removed(stamp: Stamp) -> String {
+        format!("[\"removed\",{},{}]", stamp.clock, stamp.node)
+    }
+
+    pub fn loaded(entries: u16) -> String {
+        format!("[\"loaded\",{entries}]")
+    }
+
+    pub fn pass(passed: &Passed) -> String {
+        match passed {
+            Passed::Unset => "[\"unset\"]".into(),
+            Passed::NoTerm { stamp } => format!("[\"none\",{},{}]", stamp.clock, stamp.node),
+            Passed::Act {
+                stamp,
+                term,
+                task: asked,
+            } => {
+                format!(
+                    "[\"act\",{},{},{term},{}]",
+                    stamp.clock,
+                    stamp.node,
+                    task(asked)
+                )
+            }
+        }
+    }
+
+    pub fn shifted(total: u64) -> String {
+        format!("[\"shifted\",{total}]")
+    }
+
+    pub fn granted(total: u64) -> String {
+        format!("[\"granted\",{total}]")
+    }
+
+    pub fn message(bytes: &[u8]) -> String {
+        format!("[\"message\",{}]", hex(bytes))
+    }
+
+    pub fn delivered(changed: bool) -> String {
+        if changed {
+            "[\"changed\"]".into()
+        } else {
+            "[\"same\"]".into()
+        }
+    }
+}
+
+fn task(task: &Task) -> String {
+    match task {
+        Task::Off => "[\"off\"]".into(),
+        Task::Return(argument) => format!("[\"return\",{}]", optional(argument)),
+        Task::Sleep(time) => format!("[\"sleep\",{}]", time.as_millis()),
+        Task::Panic(argument) => format!("[\"panic\",{}]", optional(argument)),
+        Task::Print(argument) => format!("[\"print\",{}]", optional(argument)),
+        Task::Pause => "[\"pause\"]".into(),
+        Task::Yield => "[\"yield\"]".into(),
+        Task::Delay(time) => format!("[\"delay\",{}]", time.as_millis()),
+    }
+}
+
+fn write_entries(receipts: &Receipts, out: &mut impl Write) -> io::Result<()> {
+    writeln!(out, "{{\"trace\":{}}}", receipts.node)?;
+    for receipt in &receipts.all {
+        let Receipt { ask, reply, .. } = receipt;
+        let words = row(&receipt.words);
+        writeln!(out, "{{\"ask\":{ask},\"reply\":{reply},\"words\":{words}}}")?;
+    }
+    Ok(())
+}
+
+fn write_lists(receipts: &Receipts, next: &mut usize, out: &mut impl Write) -> io::Result<()> {
+    let mut callers: Vec<ThreadId> = Vec::new();
+    for receipt in &receipts.all {
+        if !callers.contains(&receipt.caller) {
+            callers.push(receipt.caller);
+        }
+    }
+    for caller in callers {
+        writeln!(out, "{{\"list\":{next}}}")?;
+        *next += 1;
+        for (index, receipt) in receipts.all.iter().enumerate() {
+            if receipt.caller != caller {
+                continue;
+            }
+            let Receipt { ask, reply, .. } = receipt;
+            let place = format!("\"index\":{index},\"node\":{}", receipts.node);
+            let words = row(&receipt.words);
+            writeln!(
+                out,
+                "{{\"ask\":{ask},{place},\"reply\":{reply},\"words\":{words}}}"
+            )?;
+        }
+    }
+    Ok(())
+}
+
+/// Writes the drill of a whole cluster: the trace of each node, and a list of receipts for each
+/// thread that called it.
+pub fn write(nodes: &[&Receipts], out: &mut impl Write) -> io::Result<()> {
+    writeln!(out, "{{\"failreg\":\"drill\",\"version\":1}}")?;
+    for receipts in nodes {
+        write_entries(receipts, out)?;
+    }
+    let mut next = 0;
+    for receipts in nodes {
+        write_lists(receipts, &mut next, out)?;
+    }
+    out.flush()
+}
