@@ -1,4 +1,4 @@
-use Rattle.std.proofs.Common.{◌≡◌, ◌+◌, ◌<◌, ◌^◌, ◌∙◌, arith}
+use Rattle.std.proofs.Common.{◌+◌, ◌<◌, ◌^◌, ◌∙◌, arith}
 use Rattle.failreg_c.proofs.StreamWords.{drawn_one, words_next-push}
 use Rattle.failreg_c.proofs.generator.draw.Goals as goal
 

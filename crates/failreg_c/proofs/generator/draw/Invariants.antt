@@ -1,4 +1,4 @@
-use Rattle.std.proofs.Common.{◌≡◌, ◌+◌, ◌≤◌, vec_len, vec_capacity}
+use Rattle.std.proofs.Common.{◌≡◌, ◌≤◌, vec_len, vec_capacity}
 use Rattle.failreg_c.specs.Words.{words_next, place_after}
 use Rattle.failreg_c.proofs.generator.draw.Given as goal
 
