@@ -1,8 +1,8 @@
 //! Makes a call whose growths `tools/refused-growths` refuses in turn, and makes it again.
 //!
-//! What the call is given is made before `ready` is printed. Then stands what it answered, and behind
-//! `again` what it answered the second time. Where the call may change something, that stands before
-//! `ready` and behind each answer; of a cluster it stands at the end.
+//! What the call is given is made before `ready` is printed. Then stands what it answered, and
+//! behind `again` what it answered the second time. Where the call may change something, that
+//! stands before `ready` and behind each answer; of a cluster it stands at the end.
 #![tactic(auto)]
 
 mod audits;
