@@ -1,7 +1,8 @@
 -- What the placing keeps.
 use Rattle.std.specs.Prelude.{◌≡◌, ℕ, ◌+◌, ◌-◌, ◌<◌, ◌↔◌, IsTrue, List, [], ◌∷◌, length, slice_index, reverse, Bool}
-use Rattle.std.specs.Str.{bytes_eq}
-use Rattle.std.specs.HashSet.{contains_by}
+use Rattle.std.specs.BTreeSet.{contains_by}
+use Rattle.std.specs.Cmp.Lexicographic.{slice_cmp}
+use Rattle.std.specs.Ordering.{nat_cmp}
 use Rattle.audit.specs.declared.placing.Board.{Board}
 use Rattle.audit.specs.declared.placing.Placing.{Placing}
 use Rattle.audit.specs.declared.placing.Placing.TheVariants.{All, Stuck}
@@ -11,7 +12,7 @@ use Rattle.audit.specs.Places.{count_at, IsSent, IsRun, Fits, IsStuckWith}
 
 -- whether the bytes were added
 unfoldable pub has_sent : Sent → List ℕ → Bool
-has_sent s bytes = contains_by (λ k. bytes_eq bytes k.now) s.set
+has_sent s bytes = contains_by (λ k. slice_cmp nat_cmp bytes k.now) s.set
 
 -- how many entries are beyond these positions
 abbrev pub left : Traces → List ℕ → ℕ

@@ -8,12 +8,12 @@ ghost use Rattle.audit.specs.Told.{bytes_emitted};
 use crate::told::emitted;
 use node_core::Entry;
 use std::alloc::{AllocError, Global};
-use std::collections::HashSet;
+use std::collections::BTreeSet;
 
-/// The bytes that were emitted so far.
+/// The bytes that were emitted so far, in order: no choice of messages makes a look-up slow.
 #[derive(Drop)]
 pub(crate) struct Sent<'a> {
-    set: HashSet<&'a [u8]>,
+    set: BTreeSet<&'a [u8]>,
 }
 
 impl<'a> Sent<'a> {
@@ -21,7 +21,7 @@ impl<'a> Sent<'a> {
         ensures { (b : List ℕ) → has_sent result b ≡ false }
     {
         Sent {
-            set: HashSet::new(alloc),
+            set: BTreeSet::new(alloc),
         }
     }
 

@@ -37,8 +37,3 @@ drawn_one g now new n w at next small =
       ap (λ r. r.0) next ∙ word-at now.key now.stream now.word_pos ∙ ap (λ (h : ChaCha). word h.key h.stream h.word_pos) at,
       ap (λ r. r.1) next ∙ (λ i. record { key = (at i).key; stream = (at i).stream; word_pos = place i }),
     )
-
--- a generator whose place is put back
-pub put_back : (g now new : ChaCha) (n place : ℕ) → now ≡ place_after g n → place ≡ g.word_pos → place < 2 ^ 68 → new ≡ record now { word_pos = place % 2 ^ 68 } → new ≡ g
-put_back g now new n place at is small back =
-    back ∙ (λ i. record { key = (at i).key; stream = (at i).stream; word_pos = (mod_small place small ∙ is) i })

@@ -79,6 +79,7 @@ impl NodeCore {
         ensures few { OnOk result (words_for (state_known self.old) name.now < 2 ^ 8) }
         ensures refused { IfErr result (IsRefusalOf self.old (asks.Pass name.now)
             (S.next_words source.old (words_for (state_known self.old) name.now))) }
+        ensures memory { IsErrOf result NodeFault.OutOfMemory → NameNeedsMemory self.old name.now }
         ensures vain { OnErr result ((source.new ≡ source.old) ⊎ (source.new
             ≡ S.after_words source.old (words_for (state_known self.old) name.now))) }
         ensures err { OnErr result (self.new ≡ self.old) }
