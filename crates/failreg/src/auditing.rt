@@ -1,8 +1,8 @@
 //! The audit of a recorded drill.
 
-ghost use Rattle.std.specs.Prelude.{◌≡◌, min, IfOk, false};
+ghost use Rattle.std.specs.Prelude.{◌≡◌, min, IfOk, None, false};
 ghost use Rattle.scripts.specs.Watched.{has_failed, has_unflushed};
-ghost use Rattle.drills.specs.Taken.{IfBytes};
+ghost use Rattle.drills.specs.Taken.{bytes_left};
 ghost use Rattle.failreg.specs.Recordings.{SaysVerdict};
 
 use audit::{AuditFault, audit, verdict_text};
@@ -28,8 +28,8 @@ fn audit_drill<I: Read, O: Write>(
 ) -> Result<bool, DrillFault>
     requires { has_failed writer.old ≡ false }
     // It is an audit of the drill that the bytes are, and nothing else is written.
-    ensures ok { IfOk result (λ yes. IfBytes I.remaining reader.old (λ bytes.
-        SaysVerdict bytes yes O.contents writer.old writer.new)) }
+    ensures ok { IfOk result (λ yes. SaysVerdict (bytes_left I.remaining reader.old)
+        yes O.contents writer.old writer.new) }
     ensures flushed { IfOk result (λ yes. has_unflushed writer.new ≡ false) }
 {
     let drill = read_drill(alloc, reader)?;
@@ -53,6 +53,9 @@ pub fn audit_file<R: Files, O: Write>(
     writer: &mut Watched<O>,
 ) -> Result<bool, DrillFault>
     requires { has_failed writer.old ≡ false }
+    // Of a file's bytes nothing is known; it is an audit of some drill, and nothing else is written.
+    ensures ok { IfOk result (λ yes. SaysVerdict None yes O.contents writer.old writer.new) }
+    ensures flushed { IfOk result (λ yes. has_unflushed writer.new ≡ false) }
 {
     let Ok(file) = fs::open(rt, path) else {
         return Err(DrillFault::ReadFailed);

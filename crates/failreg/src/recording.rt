@@ -6,7 +6,7 @@ ghost use Rattle.scripts.specs.Streams.{IfInput, Writes};
 ghost use Rattle.scripts.specs.Watched.{has_failed, has_unflushed};
 ghost use Rattle.thread_scripts.specs.Outputs.{PlaysTo};
 ghost use Rattle.thread_scripts.specs.Plans.{plan_in, plan_value};
-ghost use Rattle.failreg.specs.Recordings.{Prints, Recorded};
+ghost use Rattle.failreg.specs.Recordings.{IsRecorded};
 
 use drills::{DrillFault, write_drill};
 use scripts::{ScriptFault, Watched, read_script, write_text};
@@ -40,13 +40,10 @@ fn play_recorded<R: Threads + Wait + Sync, D: Write, O: Write>(
 ) -> Result<(), ScriptFault>
     requires recorder { has_failed recorder.old ≡ false }
     requires writer { has_failed writer.old ≡ false }
-    // A drill was kept that reads back as the same: a trace for each node, and a receipt for each
-    // of their entries.
-    ensures kept { OnOk result
-        (Recorded plan.now.size.nodes D.contents recorder.old recorder.new) }
+    // The drill that was kept is the one whose output was written.
+    ensures ok { OnOk result (IsRecorded (plan_value plan.now)
+        D.contents recorder.old recorder.new O.contents writer.old writer.new) }
     ensures kept_whole { OnOk result (has_unflushed recorder.new ≡ false) }
-    ensures output { OnOk result
-        (Prints (plan_value plan.now) O.contents writer.old writer.new) }
     ensures flushed { OnOk result (has_unflushed writer.new ≡ false) }
     ensures no_line { (line : ℕ) → result ≢ Err (BadLine line) }
 {

@@ -25,12 +25,10 @@ entries_in traces = sum_by (λ trace. vec_len trace) traces
 abbrev pub receipts_in : Lists → ℕ
 receipts_in lists = sum_by (λ list. vec_len list) lists
 
--- What a plan prints: it came to some traces, one for each node, and to as many receipts as these have entries. Those
--- are the calls, and the verdict is that of an audit of these traces and receipts; after a yes its totals are those of
--- the schedule that the audit found.
-pub record IsOutput (plan : PlanValue) (text : List ℕ) : Type 0 where
-  pub traces : Traces
-  pub lists : Lists
+-- What a plan prints that came to these traces, one for each node, and to as many receipts as these have entries.
+-- Those are the calls, and the verdict is that of an audit of these traces and receipts; after a yes its totals are
+-- those of the schedule that the audit found.
+pub record IsOutputOf (plan : PlanValue) (traces : Traces) (lists : Lists) (text : List ℕ) : Type 0 where
   pub verdict : Result AuditYes AuditFault
   pub each : length traces ≡ plan.nodes
   pub counted : receipts_in lists ≡ entries_in traces
@@ -39,6 +37,10 @@ pub record IsOutput (plan : PlanValue) (text : List ℕ) : Type 0 where
       AreTotals (audited plan.nodes) (events_in plan.nodes traces yes.order.items) yes.totals.items)
   pub ended : verdict ≢ Err OutOfMemory
   pub printed : text ≡ output_text (length plan.blocks) (entries_in traces) verdict
+
+-- what it prints that came to some traces and receipts
+abbrev pub IsOutput : PlanValue → List ℕ → Type 0
+IsOutput plan text = (traces : Traces) × (lists : Lists) × IsOutputOf plan traces lists text
 
 -- a script has a plan, and this is so of what it prints
 abbrev pub PlaysTo : List ℕ → (List ℕ → Type 0) → Type 0

@@ -1,7 +1,7 @@
 //! What a run prints.
 
 ghost use Rattle.std.specs.Prelude.{◌≡◌, vec_len, IfOk, string_bytes};
-ghost use Rattle.thread_scripts.specs.Outputs.{IsOutput};
+ghost use Rattle.thread_scripts.specs.Outputs.{IsOutputOf};
 ghost use Rattle.thread_scripts.specs.Plans.{plan_value};
 
 use crate::plan::ThreadPlan;
@@ -18,7 +18,8 @@ pub fn output_of(
     played: &Played,
 ) -> Result<String, AllocError>
     requires { vec_len played.now.traces ≡ plan.now.size.nodes }
-    ensures { IfOk result (λ text. IsOutput (plan_value plan.now) (string_bytes text)) }
+    ensures { IfOk result (λ text. IsOutputOf (plan_value plan.now)
+        played.now.traces.items played.now.lists.items (string_bytes text)) }
 {
     let verdict = audit(alloc, plan.size.nodes, &played.traces, &played.lists);
     if let Err(AuditFault::OutOfMemory) = verdict {

@@ -1,7 +1,5 @@
 use Rattle.std.proofs.Common.{ap, ◌∙◌}
 use Rattle.std.specs.Prelude.{min}
-use Rattle.drills.specs.Taken.{bytes_left}
-use Rattle.failreg.proofs.Recorded.{says}
 use Rattle.failreg.proofs.auditing.audit_drill.Goals as goal
 
 pub returns-in-Ok-clause-ok : goal.returns-in-Ok-clause-ok
@@ -9,6 +7,7 @@ returns-in-Ok-clause-ok g c =
     let drill = c.in_ok-drill.drill in
     let number = c.nodes_of-nodes.ensures ∙ ap (λ n. min n 255) (c.len.ensures ∙ drill.traces.ok.0) in
     let audited = rw (c.deref.ensures.value, c.deref-2.ensures.value, number) at c.audit-verdict.ensures.answer in
-    let written = rw (c.as_bytes.ensures.value, c.in_ok-text.ensures) at c.in-Ok.ensures.ok in
-    says (bytes_left g.I.Read.remaining c.args.reader.now) g.O.Write.contents c.args.writer.now c.write_text.new.writer drill.traces.items drill.lists.items
-    c.audit-verdict.result c.is_ok.result c.in_ok-drill.ensures.ok audited c.is_ok.ensures.value written
+    let written = rw (c.as_bytes.ensures.value, c.in_ok-text.ensures) at c.in-Ok.ensures.ok in (
+      drill.traces.items, drill.lists.items, c.audit-verdict.result,
+      c.in_ok-drill.ensures.ok, audited, c.is_ok.ensures.value, written,
+    )

@@ -7,5 +7,4 @@ use Rattle.failreg.proofs.recording.run_recorded.Goals as goal
 pub returns-clause-ok : goal.returns-clause-ok
 returns-clause-ok g c =
     let planned = rw c.as_slice.ensures.value at c.in_ok-plan.ensures.ok in
-    played (Writes g.O.Write.contents c.args.writer.now c.play_recorded.new.writer) c.in_ok-script.script.items (plan_value c.in_ok-plan.plan)
-    c.play_recorded.result (g.I.Read.remaining (inner_of c.args.reader.now)) c.in_ok-script.ensures.ok planned c.play_recorded.ensures.output
+    played XXX
