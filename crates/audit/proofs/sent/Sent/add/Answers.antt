@@ -7,4 +7,4 @@ pub returns : goal.returns
 unfolding has_sent
 returns c = λ b.
     c.in_ok-insert.ensures.updates.0 (record { ref_ptr = (0, 0); now = b })
-    ∙ ap (λ t. cond t true (has_sent c.self.old b)) (is_eq-slice_cmp c.bytes.now b)
+    ∙ ap (λ t. cond t true (has_sent c.args.self.now b)) (is_eq-slice_cmp c.args.bytes.now b)
