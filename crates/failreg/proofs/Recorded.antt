@@ -1,6 +1,6 @@
 -- What a recorded run writes, where its reader tells its bytes.
 use Rattle.std.proofs.Common.{◌≡◌, List, ℕ, Bool, Option, Some, None, Result, Ok, Err}
-use Rattle.std.specs.Prelude.{IfSome, OnOk}
+use Rattle.std.specs.Prelude.{IfOk, IfSome, OnOk}
 use Rattle.scripts.specs.Streams.{Writes}
 use Rattle.scripts.specs.declared.watched.Watched.{Watched}
 use Rattle.failreg.specs.Recordings.{IsRecorded, SaysVerdict}
@@ -17,7 +17,8 @@ played kept old_kept new_kept contents old new script plan (Ok done) None same p
 played kept old_kept new_kept contents old new script plan (Ok done) (Some bytes) same planned h =
     (plan, h.text, rw same at planned, (h.traces, h.lists, h.output), h.printed)
 
--- what an audit of the drill that was read says is what one of some drill says
-pub says_of_some : {O : Type 0} (left : Option (List ℕ)) (explained : Bool) (contents : O → Option (List ℕ)) (old new : Watched O)
-    → SaysVerdict left explained contents old new → SaysVerdict None explained contents old new
-says_of_some left explained contents old new h = (h.0, h.1, h.2, tt, h.4, h.5, h.6)
+-- an audit of the drill that was read is one of some drill
+pub says_of_some : {O E : Type 0} (left : Option (List ℕ)) (contents : O → Option (List ℕ)) (old new : Watched O) (result : Result Bool E)
+    → IfOk result (λ yes. SaysVerdict left yes contents old new) → IfOk result (λ yes. SaysVerdict None yes contents old new)
+says_of_some left contents old new (Err fault) h = tt
+says_of_some left contents old new (Ok yes) h = (h.0, h.1, h.2, tt, h.4, h.5, h.6)

@@ -1,4 +1,3 @@
-use Rattle.scripts.specs.Streams.{Writes}
 use Rattle.scripts.specs.Watched.{inner_of}
 use Rattle.thread_scripts.specs.Plans.{plan_value}
 use Rattle.failreg.proofs.Recorded.{played}
@@ -7,4 +6,5 @@ use Rattle.failreg.proofs.recording.run_recorded.Goals as goal
 pub returns-clause-ok : goal.returns-clause-ok
 returns-clause-ok g c =
     let planned = rw c.as_slice.ensures.value at c.in_ok-plan.ensures.ok in
-    played XXX
+    played _ _ _ _ _ _ c.in_ok-script.script.items (plan_value c.in_ok-plan.plan) c.play_recorded.result
+    (g.I.Read.remaining (inner_of c.args.reader.now)) c.in_ok-script.ensures.ok planned c.play_recorded.ensures.ok
