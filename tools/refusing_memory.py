@@ -1,0 +1,80 @@
+"""Runs programs over calls for memory that are counted, and refuses some of them."""
+
+import os
+import re
+import subprocess
+
+# The C library's calls for memory. They are counted from the start, or where the start isn't
+# counted after `ready` was written, up to the next write, and then told.
+COUNTED = r"""
+#include <errno.h>
+#include <stdio.h>
+#include <stdlib.h>
+#include <string.h>
+#include <sys/syscall.h>
+#include <unistd.h>
+
+void *__libc_malloc(size_t);
+void *__libc_calloc(size_t, size_t);
+void *__libc_realloc(void *, size_t);
+
+static int counts;
+static long growths, refused, first, last;
+
+__attribute__((constructor)) static void start(void) {
+    first = atol(getenv("FIRST_REFUSED"));
+    last = atol(getenv("LAST_REFUSED"));
+    counts = getenv("START_IS_COUNTED") != NULL;
+}
+
+static int refuses(void) {
+    if (!counts) return 0;
+    long growth = __atomic_add_fetch(&growths, 1, __ATOMIC_SEQ_CST);
+    if (growth < first || growth > last) return 0;
+    __atomic_add_fetch(&refused, 1, __ATOMIC_SEQ_CST);
+    errno = ENOMEM;
+    return 1;
+}
+
+void *malloc(size_t size) { return refuses() ? NULL : __libc_malloc(size); }
+void *calloc(size_t count, size_t size) { return refuses() ? NULL : __libc_calloc(count, size); }
+void *realloc(void *old, size_t size) { return refuses() ? NULL : __libc_realloc(old, size); }
+
+ssize_t write(int file, const void *bytes, size_t length) {
+    if (file == 1) {
+        int counted = counts;
+        counts = length >= 5 && memcmp(bytes, "ready", 5) == 0;
+        if (counted) dprintf(2, "%ld growths refused of %ld\n", refused, growths);
+    }
+    return syscall(SYS_write, file, bytes, length);
+}
+"""
+
+# A number of growths that no run comes to.
+ALL = 2**40
+
+
+def growths_of(errors):
+    """How many growths were refused, and how many there were, by the last of these lines."""
+    last = re.fullmatch(r"(\d+) growths refused of (\d+)", errors[-1] if errors else "")
+    return tuple(map(int, last.groups())) if last else (0, 0)
+
+
+class CountedMemory:
+    """The library of those calls, made in a folder."""
+
+    def __init__(self, folder):
+        self.library = os.path.join(folder, "counted.so")
+        source = os.path.join(folder, "counted.c")
+        with open(source, "w", encoding="utf-8") as file:
+            file.write(COUNTED)
+        flags = ["-O1", "-fno-builtin", "-shared", "-fPIC"]
+        subprocess.run(["cc", *flags, "-o", self.library, source], check=True)
+
+    def run(self, words, first=ALL, last=ALL, start_is_counted=False, **how):
+        """What a program did of which the growths from first to last were refused."""
+        environment = {"LD_PRELOAD": self.library, "FIRST_REFUSED": str(first)}
+        environment["LAST_REFUSED"] = str(last)
+        if start_is_counted:
+            environment["START_IS_COUNTED"] = "yes"
+        return subprocess.run(words, env=environment, capture_output=True, **how)
