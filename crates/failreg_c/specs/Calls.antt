@@ -1,13 +1,17 @@
 -- What C is told of a call, and what the call leaves of the registry. Where C's node is closed there is none.
-use Rattle.std.specs.Prelude.{◌≡◌, ◌⊎◌, ℕ, List, [], ◌++◌, length, take, drop, MatchOption, Option, Some, None, false, IsUtf8}
+use Rattle.std.specs.Prelude.{◌≡◌, ◌⊎◌, ℕ, List, [], ◌++◌, length, take, drop, MatchOption, Option, Some, None, true, false, IsTrue, IsUtf8}
+use Rattle.rand_chacha.specs.ChaCha.{key_of}
 use Rattle.actions.specs.Names.{is_name}
+use Rattle.node_core.specs.declared.config.Config.{Config}
+use Rattle.node_core.specs.declared.fault.NodeFault.TheVariants.{BadConfig, BadName}
 use Rattle.node_core.specs.Asks.{Asked, Answered}
 use Rattle.node_core.specs.Asks as asks
 use Rattle.node_core.specs.Deliveries.{TellsDelta}
 use Rattle.node_core.specs.Passes.{words_for}
-use Rattle.node_core.specs.Traces.{Kept, Accepts, Emits, after_call, refusal, reply_to, state_known}
+use Rattle.node_core.specs.Refusals.{is_bad_config}
+use Rattle.node_core.specs.Traces.{Kept, Accepts, Emits, IsRefusalOf, after_call, refusal, reply_to, state_known}
 use Rattle.failreg_c.specs.Words.{place_after, words_next}
-use Rattle.failreg_c.specs.Numbers.{not_text, number}
+use Rattle.failreg_c.specs.Numbers.{no_memory, not_text, number}
 use Rattle.failreg_c.specs.Told.{IsPassTold}
 use Rattle.failreg_c.specs.declared.act.Act.{Act}
 use Rattle.failreg_c.specs.declared.registry.Registry.{Registry}
@@ -25,14 +29,28 @@ Stays (Some k) None f = ⊥
 Stays None (Some l) f = ⊥
 Stays None None f = Unit {0}
 
--- an accepted call that draws no words
+-- a registry that was just opened
+abbrev pub IsOpened : Config → List ℕ → Registry → Type 0
+IsOpened config seed k =
+    (k.core ≡ record { config = config; trace = [] }) ×
+    (k.generator ≡ record { key = key_of seed; stream = config.node; word_pos = 0 }) ×
+    (k.said.items ≡ []) × (k.words.items ≡ []) × (k.fault ≡ None)
+
+-- why a closed node isn't opened
+abbrev pub IsNotOpened : Config → ℕ → Type 0
+IsNotOpened config status =
+    ((status ≡ number BadConfig) × IsTrue (is_bad_config config)) ⊎
+    ((status ≡ no_memory) × (is_bad_config config ≡ false))
+
+-- an accepted call that draws no words: it changes the node, and nothing else
 abbrev pub IsMade : Asked → Answered → Registry → Registry → Type 0
-IsMade ask answer k l = Accepts k.core l.core ask [] answer × (l.generator ≡ k.generator)
+IsMade ask answer k l = Accepts k.core l.core ask [] answer × (l ≡ record k { core = l.core })
 
 -- an accepted emit, whose message is to be fetched
 abbrev pub IsEmitted : ℕ → Registry → Registry → Type 0
 IsEmitted to k l =
-    Emits k.core l.core to l.said.items × TellsDelta k.core to l.said.items × (l.generator ≡ k.generator)
+    Emits k.core l.core to l.said.items × TellsDelta k.core to l.said.items ×
+    (l ≡ record k { core = l.core; said = l.said })
 
 -- an accepted pass with these words
 abbrev pub IsPassedWith : List ℕ → List ℕ → Act → Registry → Registry → Type 0
@@ -42,7 +60,8 @@ IsPassedWith name words act k l =
     (l.core ≡ after_call k.core (asks.Pass name) words)
 
 abbrev pub IsPassedGiven : List ℕ → List ℕ → Act → Registry → Registry → Type 0
-IsPassedGiven name words act k l = IsPassedWith name words act k l × (l.generator ≡ k.generator)
+IsPassedGiven name words act k l =
+    IsPassedWith name words act k l × (l ≡ record k { core = l.core; said = l.said })
 
 -- the words that a pass draws: those of the node's stream, as a registry of Rattle's draws them
 abbrev pub words_needed : Registry → List ℕ → ℕ
@@ -55,33 +74,35 @@ words_drawn k name = words_next k.generator (words_needed k name)
 abbrev pub IsPassedDrawing : List ℕ → Act → Registry → Registry → Type 0
 IsPassedDrawing name act k l =
     IsPassedWith name (words_drawn k name) act k l × (l.words.items ≡ words_drawn k name) ×
-    (l.generator ≡ place_after k.generator (words_needed k name))
+    (l.generator ≡ place_after k.generator (words_needed k name)) × (l.fault ≡ k.fault)
+
+-- a text is to be fetched, and nothing else changed
+abbrev pub IsSaid : List ℕ → Registry → Registry → Type 0
+IsSaid text k l = (l.said.items ≡ text) × (l ≡ record k { said = l.said })
 
 -- why an ask of UTF-8 texts isn't answered by 0: want of memory, where it is needed, or the first refusal
 abbrev pub IsRefused : Kept → Asked → List ℕ → Type 0 → ℕ → Type 0
 IsRefused k ask words needs status =
-    ((status ≡ 22) × needs) ⊎ MatchOption (refusal k ask words) ⊥ (λ f. status ≡ number f)
+    ((status ≡ no_memory) × needs) ⊎ MatchOption (refusal k ask words) ⊥ (λ f. status ≡ number f)
 
 -- the same where these texts are to be UTF-8
 abbrev pub IsRefusedOf : Type 0 → Kept → Asked → List ℕ → Type 0 → ℕ → Type 0
 IsRefusedOf texts k ask words needs status =
     ((status ≡ not_text) × (texts → ⊥)) ⊎ (texts × IsRefused k ask words needs status)
 
--- the node and its generator are as they were, and the fault that is kept is the one of the status
-abbrev pub IsLeft : ℕ → Registry → Registry → Type 0
-IsLeft status k l =
-    (l.core ≡ k.core) × (l.generator ≡ k.generator) ×
-    MatchOption l.fault (status ≡ not_text) (λ f. status ≡ number f)
-
--- the node and its generator are as they were
-abbrev pub IsSame : Registry → Registry → Type 0
-IsSame k l = (l.core ≡ k.core) × (l.generator ≡ k.generator)
+-- all is as it was, but for the fault that is kept, if the texts were UTF-8: the one of the status
+abbrev pub IsLeft : Asked → List ℕ → ℕ → Registry → Registry → Type 0
+IsLeft ask words status k l =
+    (l ≡ record k { fault = l.fault }) ×
+    MatchOption l.fault (status ≡ not_text)
+    (λ f. (status ≡ number f) × IsRefusalOf k.core ask words f)
 
 -- why a reader isn't answered by 0: these bytes are no UTF-8, or no name, or memory was refused
 abbrev pub IsNoName : List ℕ → ℕ → Type 0
 IsNoName name status =
     ((status ≡ not_text) × (IsUtf8 name → ⊥)) ⊎
-    ((status ≡ 2) × (is_name name ≡ false)) ⊎ (status ≡ 22)
+    (IsUtf8 name × (((status ≡ number BadName) × (is_name name ≡ false)) ⊎
+    ((status ≡ no_memory) × (is_name name ≡ true))))
 
 -- as much of what is to be fetched as there is room for, and the rest of the room as it was
 abbrev pub FillsFront : List ℕ → List ℕ → List ℕ → Type 0

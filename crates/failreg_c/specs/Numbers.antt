@@ -1,7 +1,12 @@
--- The statuses that calls answer: 0, the number of a fault, with which its text begins, or one of these.
-use Rattle.std.specs.Prelude.{ℕ}
+-- Numbers that C is told: the status of a call, which is 0, the number of a fault, with which its text begins, or
+-- one of these; stamps, and numbers that don't fit.
+use Rattle.std.specs.Prelude.{◌≡◌, ℕ, ℤ, ◌+◌, ◌*◌, ◌^◌, ◌≤ℤ◌, pos, neg_ℤ, List, ◌++◌, codes, decimal}
+use Rattle.stamp_register.specs.declared.key.Stamp.{Stamp}
 use Rattle.node_core.specs.declared.fault.NodeFault.{NodeFault}
 use Rattle.node_core.specs.declared.fault.NodeFault.TheVariants as faults
+use Rattle.node_core.specs.Texts.{node_fault_text}
+use Rattle.failreg_c.specs.declared.numbers.Stamped.{Stamped}
+use Rattle.failreg_c.specs.declared.numbers.Wide.{Wide}
 
 abbrev pub number : NodeFault → ℕ
 number faults.TraceFull = 1
@@ -25,6 +30,15 @@ number faults.Overspent = 20
 number faults.BadConfig = 21
 number faults.OutOfMemory = 22
 
+-- the text of a fault begins with `N`, its number and a space
+abbrev pub IsNumbered : NodeFault → Type 0
+IsNumbered fault =
+    (rest : List ℕ) × (node_fault_text fault ≡ codes "N" ++ decimal (number fault) ++ codes " " ++ rest)
+
+-- memory was refused
+abbrev pub no_memory : ℕ
+no_memory = number faults.OutOfMemory
+
 -- a text isn't UTF-8
 abbrev pub not_text : ℕ
 not_text = 30
@@ -36,3 +50,27 @@ closed = 31
 -- the node is open already
 abbrev pub already_open : ℕ
 already_open = 32
+
+-- a stamp as C has it, and what C is told where there is none
+abbrev pub stamp_in : Stamped → Stamp
+stamp_in s = record { clock = s.clock; node = s.node }
+
+abbrev pub no_stamp : Stamped
+no_stamp = record { clock = 0; node = 0 }
+
+-- the number of two halves
+abbrev pub whole : Wide → ℕ
+whole w = w.low + 2 ^ 64 * w.high
+
+-- the greatest and the least number of 64 bits
+abbrev pub greatest : ℤ
+greatest = pos 9223372036854775807
+
+abbrev pub least : ℤ
+least = neg_ℤ (pos 9223372036854775808)
+
+-- of the numbers of 64 bits the one that is nearest to a number
+abbrev pub IsNearest : ℤ → ℤ → Type 0
+IsNearest number told =
+    (greatest ≤ℤ number → told ≡ greatest) × (number ≤ℤ least → told ≡ least) ×
+    (least ≤ℤ number → number ≤ℤ greatest → told ≡ number)

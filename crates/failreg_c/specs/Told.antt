@@ -1,5 +1,5 @@
 -- A pass as C is told it.
-use Rattle.std.specs.Prelude.{◌≡◌, ℕ, List, [], length, Option, Some, None, is_some}
+use Rattle.std.specs.Prelude.{◌≡◌, ℕ, List, [], length, Option, Some, None, is_some, false}
 use Rattle.actions.specs.Value.{TaskValue}
 use Rattle.actions.specs.Value as tasks
 use Rattle.node_core.specs.Asks.{Passed, Answered}
@@ -50,9 +50,23 @@ pub record TellsTask (term : ℕ) (task : TaskValue) (a : Act) (said : List ℕ)
   pub text : said ≡ text_or_none (task_text task)
   pub text_len : a.text_len ≡ length said
 
+-- what C is told of a point that isn't set, and of a pass that is refused
+abbrev pub no_act : Act
+no_act = record {
+  clock = 0;
+  millis = 0;
+  text_len = 0;
+  node = 0;
+  term = 0;
+  outcome = 0;
+  task = 0;
+  has_text = false;
+}
+
 abbrev pub IsTold : Passed → Act → List ℕ → Type 0
-IsTold asks.Unset a said = (a.outcome ≡ 0) × (said ≡ [])
-IsTold (asks.NoTerm s) a said = (a.outcome ≡ 1) × (a.clock ≡ s.clock) × (a.node ≡ s.node) × (said ≡ [])
+IsTold asks.Unset a said = (a ≡ no_act) × (said ≡ [])
+IsTold (asks.NoTerm s) a said =
+    (a ≡ record no_act { clock = s.clock; node = s.node; outcome = 1 }) × (said ≡ [])
 IsTold (asks.Act s term task) a said =
     (a.outcome ≡ 2) × (a.clock ≡ s.clock) × (a.node ≡ s.node) × TellsTask term task a said
 

@@ -1,22 +1,20 @@
 //! The calls that change a node.
 
-ghost use Rattle.std.specs.Prelude.{◌≡◌, ◌≢◌, [], IsSome, IsUtf8, MatchOption};
-ghost use Rattle.rand_chacha.specs.ChaCha.{key_of};
+ghost use Rattle.std.specs.Prelude.{◌≡◌, ◌≢◌, [], false, IsSome, IsUtf8, MatchOption};
 ghost use Rattle.node_core.specs.Asks as asks;
 ghost use Rattle.node_core.specs.Asks.{bare_emit};
 ghost use Rattle.node_core.specs.Memory.{DeliveryNeedsMemory, EmitNeedsMemory, LoadNeedsMemory, NameNeedsMemory, SetNeedsMemory};
 ghost use Rattle.node_core.specs.Traces.{delivery_of};
-ghost use Rattle.failreg_c.specs.Numbers.{already_open, closed};
-ghost use Rattle.failreg_c.specs.Calls.{Both, IsEmitted, IsLeft, IsMade, IsPassedDrawing, IsPassedGiven, IsRefused, IsRefusedOf, Stays, words_drawn};
+ghost use Rattle.failreg_c.specs.Numbers.{already_open, closed, no_stamp, stamp_in};
+ghost use Rattle.failreg_c.specs.Told.{no_act};
+ghost use Rattle.failreg_c.specs.Calls.{Both, IsEmitted, IsLeft, IsMade, IsNotOpened, IsOpened, IsPassedDrawing, IsPassedGiven, IsRefused, IsRefusedOf, Stays, words_drawn};
 
 use crate::act::{Act, UNSET};
 use crate::generator::Generator;
 use crate::handle::Node;
 use crate::numbers::{NO_STAMP, Stamped};
 use crate::registry::{Registry, number_of};
-use core::mem::replace_with;
 use node_core::{Config, NodeCore, NodeFault};
-use stamp_register::Stamp;
 use std::alloc::Global;
 
 /// What a call of a node that is closed is answered.
@@ -36,12 +34,11 @@ pub extern "C" fn failreg_open(
     trace_cap: u32,
     seed: &[u8; 32],
 ) -> u32
-    ensures ok { result ≡ 0 → MatchOption node.new.handle.kept ⊥ (λ k. k.core ≡ record {
-      config = record { node = number; nodes = nodes; trace_cap = trace_cap };
-      trace = [];
-    }) }
-    ensures generator { result ≡ 0 → MatchOption node.new.handle.kept ⊥ (λ k. k.generator
-        ≡ record { key = key_of seed.now; stream = number; word_pos = 0 }) }
+    ensures ok { result ≡ 0 → MatchOption node.new.handle.kept ⊥ (IsOpened
+        (record { node = number; nodes = nodes; trace_cap = trace_cap }) seed.now) }
+    ensures refused { result ≢ 0 → MatchOption node.old.handle.kept
+        (IsNotOpened (record { node = number; nodes = nodes; trace_cap = trace_cap }) result)
+        (λ _. result ≡ already_open) }
     ensures open { IsSome node.old.handle.kept → result ≡ already_open }
     ensures same { result ≢ 0 → node.new.handle.kept ≡ node.old.handle.kept }
 {
@@ -83,39 +80,20 @@ pub extern "C" fn failreg_set(
     stamp: &mut Stamped,
 ) -> u32
     ensures ok { result ≡ 0 → Both node.old.handle.kept node.new.handle.kept
-        (IsMade (asks.Set name.now text.now)
-        (asks.IsSet (record { clock = stamp.new.clock; node = stamp.new.node }))) }
+        (IsMade (asks.Set name.now text.now) (asks.IsSet (stamp_in stamp.new))) }
     ensures refused { result ≢ 0 → MatchOption node.old.handle.kept (result ≡ closed) (λ k.
-        IsRefusedOf (IsUtf8 name.now × IsUtf8 text.now) k.core
-        (asks.Set name.now text.now) []
+        IsRefusedOf (IsUtf8 name.now × IsUtf8 text.now) k.core (asks.Set name.now text.now) []
         (SetNeedsMemory k.core name.now text.now) result) }
-    ensures left { result ≢ 0 → Stays node.old.handle.kept node.new.handle.kept (IsLeft result) }
+    ensures left { result ≢ 0 → Stays node.old.handle.kept node.new.handle.kept
+        (IsLeft (asks.Set name.now text.now) [] result) }
+    ensures none { result ≢ 0 → stamp.new ≡ no_stamp }
 {
-    let (status, answer) = replace_with(
-        node,
-        (name, text),
-        |node: Node, given: (&[u8], &[u8])| -> (Node, (u32, Stamp))
-            ensures ok { result.1.0 ≡ 0 → Both node.handle.kept result.0.handle.kept
-                (IsMade (asks.Set given.entry.0.now given.entry.1.now)
-                (asks.IsSet result.1.1)) }
-            ensures refused { result.1.0 ≢ 0
-                → MatchOption node.handle.kept (result.1.0 ≡ closed) (λ k.
-                IsRefusedOf (IsUtf8 given.entry.0.now × IsUtf8 given.entry.1.now) k.core
-                (asks.Set given.entry.0.now given.entry.1.now) []
-                (SetNeedsMemory k.core given.entry.0.now given.entry.1.now) result.1.0) }
-            ensures left { result.1.0 ≢ 0
-                → Stays node.handle.kept result.0.handle.kept (IsLeft result.1.0) }
-        {
-            if !node.is_open {
-                return (node, (CLOSED, NO_STAMP));
-            }
-            let Some(mut registry) = node.into_box() else {
-                unreachable!();
-            };
-            let answer = registry.set(alloc, given.0, given.1);
-            (Node::of(registry), answer)
-        },
-    );
+    let Some(mut registry) = node.take(alloc) else {
+        *stamp = Stamped::of(NO_STAMP);
+        return CLOSED;
+    };
+    let (status, answer) = registry.set(alloc, name, text);
+    *node = Node::of(registry);
     *stamp = Stamped::of(answer);
     status
 }
@@ -129,37 +107,20 @@ pub extern "C" fn failreg_remove(
     stamp: &mut Stamped,
 ) -> u32
     ensures ok { result ≡ 0 → Both node.old.handle.kept node.new.handle.kept
-        (IsMade (asks.Remove name.now)
-        (asks.IsRemoved (record { clock = stamp.new.clock; node = stamp.new.node }))) }
+        (IsMade (asks.Remove name.now) (asks.IsRemoved (stamp_in stamp.new))) }
     ensures refused { result ≢ 0 → MatchOption node.old.handle.kept (result ≡ closed) (λ k.
-        IsRefusedOf (IsUtf8 name.now) k.core
-        (asks.Remove name.now) [] (NameNeedsMemory k.core name.now) result) }
-    ensures left { result ≢ 0 → Stays node.old.handle.kept node.new.handle.kept (IsLeft result) }
+        IsRefusedOf (IsUtf8 name.now) k.core (asks.Remove name.now) []
+        (NameNeedsMemory k.core name.now) result) }
+    ensures left { result ≢ 0 → Stays node.old.handle.kept node.new.handle.kept
+        (IsLeft (asks.Remove name.now) [] result) }
+    ensures none { result ≢ 0 → stamp.new ≡ no_stamp }
 {
-    let (status, answer) = replace_with(
-        node,
-        name,
-        |node: Node, given: &[u8]| -> (Node, (u32, Stamp))
-            ensures ok { result.1.0 ≡ 0 → Both node.handle.kept result.0.handle.kept
-                (IsMade (asks.Remove given.now)
-                (asks.IsRemoved result.1.1)) }
-            ensures refused { result.1.0 ≢ 0
-                → MatchOption node.handle.kept (result.1.0 ≡ closed) (λ k.
-                IsRefusedOf (IsUtf8 given.now) k.core
-                (asks.Remove given.now) [] (NameNeedsMemory k.core given.now) result.1.0) }
-            ensures left { result.1.0 ≢ 0
-                → Stays node.handle.kept result.0.handle.kept (IsLeft result.1.0) }
-        {
-            if !node.is_open {
-                return (node, (CLOSED, NO_STAMP));
-            }
-            let Some(mut registry) = node.into_box() else {
-                unreachable!();
-            };
-            let answer = registry.remove(alloc, given);
-            (Node::of(registry), answer)
-        },
-    );
+    let Some(mut registry) = node.take(alloc) else {
+        *stamp = Stamped::of(NO_STAMP);
+        return CLOSED;
+    };
+    let (status, answer) = registry.remove(alloc, name);
+    *node = Node::of(registry);
     *stamp = Stamped::of(answer);
     status
 }
@@ -175,33 +136,18 @@ pub extern "C" fn failreg_load(
     ensures ok { result ≡ 0 → Both node.old.handle.kept node.new.handle.kept
         (IsMade (asks.Load text.now) (asks.IsLoaded entries.new)) }
     ensures refused { result ≢ 0 → MatchOption node.old.handle.kept (result ≡ closed) (λ k.
-        IsRefusedOf (IsUtf8 text.now) k.core
-        (asks.Load text.now) [] (LoadNeedsMemory k.core text.now) result) }
-    ensures left { result ≢ 0 → Stays node.old.handle.kept node.new.handle.kept (IsLeft result) }
+        IsRefusedOf (IsUtf8 text.now) k.core (asks.Load text.now) []
+        (LoadNeedsMemory k.core text.now) result) }
+    ensures left { result ≢ 0 → Stays node.old.handle.kept node.new.handle.kept
+        (IsLeft (asks.Load text.now) [] result) }
+    ensures none { result ≢ 0 → entries.new ≡ 0 }
 {
-    let (status, answer) = replace_with(
-        node,
-        text,
-        |node: Node, given: &[u8]| -> (Node, (u32, u16))
-            ensures ok { result.1.0 ≡ 0 → Both node.handle.kept result.0.handle.kept
-                (IsMade (asks.Load given.now) (asks.IsLoaded result.1.1)) }
-            ensures refused { result.1.0 ≢ 0
-                → MatchOption node.handle.kept (result.1.0 ≡ closed) (λ k.
-                IsRefusedOf (IsUtf8 given.now) k.core
-                (asks.Load given.now) [] (LoadNeedsMemory k.core given.now) result.1.0) }
-            ensures left { result.1.0 ≢ 0
-                → Stays node.handle.kept result.0.handle.kept (IsLeft result.1.0) }
-        {
-            if !node.is_open {
-                return (node, (CLOSED, 0));
-            }
-            let Some(mut registry) = node.into_box() else {
-                unreachable!();
-            };
-            let answer = registry.load(alloc, given);
-            (Node::of(registry), answer)
-        },
-    );
+    let Some(mut registry) = node.take(alloc) else {
+        *entries = 0;
+        return CLOSED;
+    };
+    let (status, answer) = registry.load(alloc, text);
+    *node = Node::of(registry);
     *entries = answer;
     status
 }
@@ -213,33 +159,18 @@ pub extern "C" fn failreg_pass(alloc: Global, node: &mut Node, name: &[u8], act:
     ensures ok { result ≡ 0 → Both node.old.handle.kept node.new.handle.kept
         (IsPassedDrawing name.now act.new) }
     ensures refused { result ≢ 0 → MatchOption node.old.handle.kept (result ≡ closed) (λ k.
-        IsRefusedOf (IsUtf8 name.now) k.core
-        (asks.Pass name.now) (words_drawn k name.now) (Unit {0}) result) }
-    ensures left { result ≢ 0 → Stays node.old.handle.kept node.new.handle.kept (IsLeft result) }
+        IsRefusedOf (IsUtf8 name.now) k.core (asks.Pass name.now) (words_drawn k name.now)
+        (NameNeedsMemory k.core name.now) result) }
+    ensures left { result ≢ 0 → Stays node.old.handle.kept node.new.handle.kept (λ k l.
+        IsLeft (asks.Pass name.now) (words_drawn k name.now) result k l) }
+    ensures none { result ≢ 0 → act.new ≡ no_act }
 {
-    let (status, answer) = replace_with(
-        node,
-        name,
-        |node: Node, given: &[u8]| -> (Node, (u32, Act))
-            ensures ok { result.1.0 ≡ 0 → Both node.handle.kept result.0.handle.kept
-                (IsPassedDrawing given.now result.1.1) }
-            ensures refused { result.1.0 ≢ 0
-                → MatchOption node.handle.kept (result.1.0 ≡ closed) (λ k.
-                IsRefusedOf (IsUtf8 given.now) k.core
-                (asks.Pass given.now) (words_drawn k given.now) (Unit {0}) result.1.0) }
-            ensures left { result.1.0 ≢ 0
-                → Stays node.handle.kept result.0.handle.kept (IsLeft result.1.0) }
-        {
-            if !node.is_open {
-                return (node, (CLOSED, UNSET));
-            }
-            let Some(mut registry) = node.into_box() else {
-                unreachable!();
-            };
-            let answer = registry.pass(alloc, given);
-            (Node::of(registry), answer)
-        },
-    );
+    let Some(mut registry) = node.take(alloc) else {
+        *act = UNSET;
+        return CLOSED;
+    };
+    let (status, answer) = registry.pass(alloc, name);
+    *node = Node::of(registry);
     *act = answer;
     status
 }
@@ -256,35 +187,18 @@ pub extern "C" fn failreg_pass_with(
     ensures ok { result ≡ 0 → Both node.old.handle.kept node.new.handle.kept
         (IsPassedGiven name.now words.now act.new) }
     ensures refused { result ≢ 0 → MatchOption node.old.handle.kept (result ≡ closed) (λ k.
-        IsRefusedOf (IsUtf8 name.now) k.core
-        (asks.Pass name.now) words.now
+        IsRefusedOf (IsUtf8 name.now) k.core (asks.Pass name.now) words.now
         (NameNeedsMemory k.core name.now) result) }
-    ensures left { result ≢ 0 → Stays node.old.handle.kept node.new.handle.kept (IsLeft result) }
+    ensures left { result ≢ 0 → Stays node.old.handle.kept node.new.handle.kept
+        (IsLeft (asks.Pass name.now) words.now result) }
+    ensures none { result ≢ 0 → act.new ≡ no_act }
 {
-    let (status, answer) = replace_with(
-        node,
-        (name, words),
-        |node: Node, given: (&[u8], &[u32])| -> (Node, (u32, Act))
-            ensures ok { result.1.0 ≡ 0 → Both node.handle.kept result.0.handle.kept
-                (IsPassedGiven given.entry.0.now given.entry.1.now result.1.1) }
-            ensures refused { result.1.0 ≢ 0
-                → MatchOption node.handle.kept (result.1.0 ≡ closed) (λ k.
-                IsRefusedOf (IsUtf8 given.entry.0.now) k.core
-                (asks.Pass given.entry.0.now) given.entry.1.now
-                (NameNeedsMemory k.core given.entry.0.now) result.1.0) }
-            ensures left { result.1.0 ≢ 0
-                → Stays node.handle.kept result.0.handle.kept (IsLeft result.1.0) }
-        {
-            if !node.is_open {
-                return (node, (CLOSED, UNSET));
-            }
-            let Some(mut registry) = node.into_box() else {
-                unreachable!();
-            };
-            let answer = registry.pass_with(alloc, given.0, given.1);
-            (Node::of(registry), answer)
-        },
-    );
+    let Some(mut registry) = node.take(alloc) else {
+        *act = UNSET;
+        return CLOSED;
+    };
+    let (status, answer) = registry.pass_with(alloc, name, words);
+    *node = Node::of(registry);
     *act = answer;
     status
 }
@@ -303,35 +217,18 @@ pub extern "C" fn failreg_shift(
     ensures ok { result ≡ 0 → Both node.old.handle.kept node.new.handle.kept
         (IsMade (asks.Shift name.now term to amount) (asks.IsShifted total.new)) }
     ensures refused { result ≢ 0 → MatchOption node.old.handle.kept (result ≡ closed) (λ k.
-        IsRefusedOf (IsUtf8 name.now) k.core
-        (asks.Shift name.now term to amount) []
+        IsRefusedOf (IsUtf8 name.now) k.core (asks.Shift name.now term to amount) []
         (NameNeedsMemory k.core name.now) result) }
-    ensures left { result ≢ 0 → Stays node.old.handle.kept node.new.handle.kept (IsLeft result) }
+    ensures left { result ≢ 0 → Stays node.old.handle.kept node.new.handle.kept
+        (IsLeft (asks.Shift name.now term to amount) [] result) }
+    ensures none { result ≢ 0 → total.new ≡ 0 }
 {
-    let (status, answer) = replace_with(
-        node,
-        name,
-        |node: Node, given: &[u8]| -> (Node, (u32, u64))
-            ensures ok { result.1.0 ≡ 0 → Both node.handle.kept result.0.handle.kept
-                (IsMade (asks.Shift given.now term to amount) (asks.IsShifted result.1.1)) }
-            ensures refused { result.1.0 ≢ 0
-                → MatchOption node.handle.kept (result.1.0 ≡ closed) (λ k.
-                IsRefusedOf (IsUtf8 given.now) k.core
-                (asks.Shift given.now term to amount) []
-                (NameNeedsMemory k.core given.now) result.1.0) }
-            ensures left { result.1.0 ≢ 0
-                → Stays node.handle.kept result.0.handle.kept (IsLeft result.1.0) }
-        {
-            if !node.is_open {
-                return (node, (CLOSED, 0));
-            }
-            let Some(mut registry) = node.into_box() else {
-                unreachable!();
-            };
-            let answer = registry.shift(alloc, given, term, to, amount);
-            (Node::of(registry), answer)
-        },
-    );
+    let Some(mut registry) = node.take(alloc) else {
+        *total = 0;
+        return CLOSED;
+    };
+    let (status, answer) = registry.shift(alloc, name, term, to, amount);
+    *node = Node::of(registry);
     *total = answer;
     status
 }
@@ -349,35 +246,18 @@ pub extern "C" fn failreg_grant(
     ensures ok { result ≡ 0 → Both node.old.handle.kept node.new.handle.kept
         (IsMade (asks.Grant name.now term amount) (asks.IsGranted total.new)) }
     ensures refused { result ≢ 0 → MatchOption node.old.handle.kept (result ≡ closed) (λ k.
-        IsRefusedOf (IsUtf8 name.now) k.core
-        (asks.Grant name.now term amount) []
+        IsRefusedOf (IsUtf8 name.now) k.core (asks.Grant name.now term amount) []
         (NameNeedsMemory k.core name.now) result) }
-    ensures left { result ≢ 0 → Stays node.old.handle.kept node.new.handle.kept (IsLeft result) }
+    ensures left { result ≢ 0 → Stays node.old.handle.kept node.new.handle.kept
+        (IsLeft (asks.Grant name.now term amount) [] result) }
+    ensures none { result ≢ 0 → total.new ≡ 0 }
 {
-    let (status, answer) = replace_with(
-        node,
-        name,
-        |node: Node, given: &[u8]| -> (Node, (u32, u64))
-            ensures ok { result.1.0 ≡ 0 → Both node.handle.kept result.0.handle.kept
-                (IsMade (asks.Grant given.now term amount) (asks.IsGranted result.1.1)) }
-            ensures refused { result.1.0 ≢ 0
-                → MatchOption node.handle.kept (result.1.0 ≡ closed) (λ k.
-                IsRefusedOf (IsUtf8 given.now) k.core
-                (asks.Grant given.now term amount) []
-                (NameNeedsMemory k.core given.now) result.1.0) }
-            ensures left { result.1.0 ≢ 0
-                → Stays node.handle.kept result.0.handle.kept (IsLeft result.1.0) }
-        {
-            if !node.is_open {
-                return (node, (CLOSED, 0));
-            }
-            let Some(mut registry) = node.into_box() else {
-                unreachable!();
-            };
-            let answer = registry.grant(alloc, given, term, amount);
-            (Node::of(registry), answer)
-        },
-    );
+    let Some(mut registry) = node.take(alloc) else {
+        *total = 0;
+        return CLOSED;
+    };
+    let (status, answer) = registry.grant(alloc, name, term, amount);
+    *node = Node::of(registry);
     *total = answer;
     status
 }
@@ -390,40 +270,21 @@ pub extern "C" fn failreg_deliver(
     message: &[u8],
     changed: &mut bool,
 ) -> u32
-    ensures ok { result ≡ 0 → Both node.old.handle.kept node.new.handle.kept
-        (λ k l. IsMade (delivery_of k.core message.now)
-        (asks.IsDelivered changed.new) k l) }
+    ensures ok { result ≡ 0 → Both node.old.handle.kept node.new.handle.kept (λ k l.
+        IsMade (delivery_of k.core message.now) (asks.IsDelivered changed.new) k l) }
     ensures refused { result ≢ 0 → MatchOption node.old.handle.kept (result ≡ closed) (λ k.
-        IsRefused k.core
-        (delivery_of k.core message.now) []
+        IsRefused k.core (delivery_of k.core message.now) []
         (DeliveryNeedsMemory k.core message.now) result) }
-    ensures left { result ≢ 0 → Stays node.old.handle.kept node.new.handle.kept (IsLeft result) }
+    ensures left { result ≢ 0 → Stays node.old.handle.kept node.new.handle.kept (λ k l.
+        IsLeft (delivery_of k.core message.now) [] result k l) }
+    ensures none { result ≢ 0 → changed.new ≡ false }
 {
-    let (status, answer) = replace_with(
-        node,
-        message,
-        |node: Node, given: &[u8]| -> (Node, (u32, bool))
-            ensures ok { result.1.0 ≡ 0 → Both node.handle.kept result.0.handle.kept
-                (λ k l. IsMade (delivery_of k.core given.now)
-                (asks.IsDelivered result.1.1) k l) }
-            ensures refused { result.1.0 ≢ 0
-                → MatchOption node.handle.kept (result.1.0 ≡ closed) (λ k.
-                IsRefused k.core
-                (delivery_of k.core given.now) []
-                (DeliveryNeedsMemory k.core given.now) result.1.0) }
-            ensures left { result.1.0 ≢ 0
-                → Stays node.handle.kept result.0.handle.kept (IsLeft result.1.0) }
-        {
-            if !node.is_open {
-                return (node, (CLOSED, false));
-            }
-            let Some(mut registry) = node.into_box() else {
-                unreachable!();
-            };
-            let answer = registry.deliver(alloc, given);
-            (Node::of(registry), answer)
-        },
-    );
+    let Some(mut registry) = node.take(alloc) else {
+        *changed = false;
+        return CLOSED;
+    };
+    let (status, answer) = registry.deliver(alloc, message);
+    *node = Node::of(registry);
     *changed = answer;
     status
 }
@@ -434,27 +295,13 @@ pub extern "C" fn failreg_emit(alloc: Global, node: &mut Node, to: u8) -> u32
     ensures ok { result ≡ 0 → Both node.old.handle.kept node.new.handle.kept (IsEmitted to) }
     ensures refused { result ≢ 0 → MatchOption node.old.handle.kept (result ≡ closed) (λ k.
         IsRefused k.core (bare_emit to) [] (EmitNeedsMemory k.core to) result) }
-    ensures left { result ≢ 0 → Stays node.old.handle.kept node.new.handle.kept (IsLeft result) }
+    ensures left { result ≢ 0 → Stays node.old.handle.kept node.new.handle.kept
+        (IsLeft (bare_emit to) [] result) }
 {
-    replace_with(
-        node,
-        to,
-        |node: Node, to: u8| -> (Node, u32)
-            ensures ok { result.1 ≡ 0
-                → Both node.handle.kept result.0.handle.kept (IsEmitted to) }
-            ensures refused { result.1 ≢ 0 → MatchOption node.handle.kept (result.1 ≡ closed)
-                (λ k. IsRefused k.core (bare_emit to) [] (EmitNeedsMemory k.core to) result.1) }
-            ensures left { result.1 ≢ 0
-                → Stays node.handle.kept result.0.handle.kept (IsLeft result.1) }
-        {
-            if !node.is_open {
-                return (node, CLOSED);
-            }
-            let Some(mut registry) = node.into_box() else {
-                unreachable!();
-            };
-            let status = registry.emit(alloc, to);
-            (Node::of(registry), status)
-        },
-    )
+    let Some(mut registry) = node.take(alloc) else {
+        return CLOSED;
+    };
+    let status = registry.emit(alloc, to);
+    *node = Node::of(registry);
+    status
 }

@@ -1,9 +1,10 @@
 //! The generator of a node's words, the same that a registry of Rattle's has.
 
-ghost use Rattle.std.specs.Prelude.{◌≡◌, ◌⊎◌, ◌+◌, ◌<◌, ◌^◌, ◌%◌, vec_len, IfOk, IfErr, OnErr, OnOk};
+ghost use Rattle.std.specs.Prelude.{◌≡◌, ◌⊎◌, ◌+◌, ◌<◌, ◌^◌, ◌%◌, vec_len, IfOk, IfErr, IsErrOf, OnErr, OnOk};
 ghost use Rattle.rand_chacha.specs.ChaCha.{ChaCha, key_of};
 ghost use Rattle.node_core.specs.Asks as asks;
 ghost use Rattle.node_core.specs.Asks.{passed};
+ghost use Rattle.node_core.specs.Memory.{NameNeedsMemory};
 ghost use Rattle.node_core.specs.Passes.{words_for};
 ghost use Rattle.node_core.specs.Traces.{Accepts, IsRefusalOf, state_known};
 ghost use Rattle.failreg_c.specs.Words.{words_next, place_after};
@@ -105,6 +106,7 @@ pub(crate) fn pass_drawing(
         ≡ place_after generator.old (words_for (state_known core.old) name.now)) }
     ensures refused { IfErr result (IsRefusalOf core.old (asks.Pass name.now)
         (words_next generator.old (words_for (state_known core.old) name.now))) }
+    ensures memory { IsErrOf result NodeFault.OutOfMemory → NameNeedsMemory core.old name.now }
     ensures err { OnErr result ((core.new ≡ core.old) × (generator.new ≡ generator.old)) }
 {
     let place = generator.place();

@@ -8,6 +8,8 @@ use crate::parts::Parts;
 use crate::registry::Registry;
 use std::alloc::Global;
 use std::marker::Model;
+use std::mem::replace;
+use std::ptr::null_mut;
 
 /// What C sees at the pointer of a handle: nothing.
 #[repr(C)]
@@ -43,6 +45,16 @@ impl Handle {
         }
     }
 
+    // A handle that owns nothing.
+    fn closed(alloc: Global) -> Handle
+        ensures { result.kept ≡ None }
+    {
+        Handle {
+            ptr: null_mut(),
+            alloc,
+        }
+    }
+
     fn into_parts(self) -> Parts<Registry, Global>
         requires { IsSome self.kept }
         ensures { self.kept ≡ Some result.value }
@@ -66,7 +78,19 @@ pub struct Node {
 }
 
 impl Node {
-    /// The registry, if it is open.
+    /// Takes the registry out, if the node is open, and leaves the node closed.
+    pub(crate) fn take(&mut self, alloc: Global) -> Option<Box<Registry>>
+        ensures value { option_map (λ b. b.value) result ≡ self.old.handle.kept }
+        ensures closed { self.new.handle.kept ≡ None }
+    {
+        let closed = Node {
+            is_open: false,
+            handle: Handle::closed(alloc),
+        };
+        replace(self, closed).into_box()
+    }
+
+    /// The registry, if the node is open.
     pub(crate) fn into_box(self) -> Option<Box<Registry>>
         ensures { option_map (λ b. b.value) result ≡ self.handle.kept }
     {

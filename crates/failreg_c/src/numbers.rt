@@ -1,6 +1,7 @@
 //! Stamps and great numbers, for C.
 
-ghost use Rattle.std.specs.Prelude.{◌≡◌, ◌+◌, ◌*◌, ◌^◌, ◌≤ℤ◌, pos, neg_ℤ};
+ghost use Rattle.std.specs.Prelude.{◌≡◌};
+ghost use Rattle.failreg_c.specs.Numbers.{IsNearest, whole};
 
 use stamp_register::Stamp;
 
@@ -37,7 +38,7 @@ const TWO_64: u128 = 18_446_744_073_709_551_616;
 
 impl Wide {
     pub(crate) fn of(number: u128) -> Wide
-        ensures { result.low + 2 ^ 64 * result.high ≡ number }
+        ensures { whole result ≡ number }
     {
         Wide {
             low: (number % TWO_64) as u64,
@@ -48,8 +49,7 @@ impl Wide {
 
 /// The number of 64 bits that is nearest to this one.
 pub(crate) fn narrow(number: i128) -> i64
-    ensures { number ≤ℤ pos 9223372036854775807
-        → neg_ℤ (pos 9223372036854775808) ≤ℤ number → result ≡ number }
+    ensures { IsNearest number result }
 {
     if number > i128::from(i64::MAX) {
         return i64::MAX;

@@ -1,19 +1,19 @@
 //! The calls that read a node and leave it as it is.
 
-ghost use Rattle.std.specs.Prelude.{◌≡◌, ◌≢◌, ◌↔◌, ◌+◌, ◌*◌, ◌^◌, ◌≤ℤ◌, pos, neg_ℤ, [], length, IsSome, IsTrue, MatchOption};
+ghost use Rattle.std.specs.Prelude.{◌≡◌, ◌≢◌, ◌↔◌, pos, false, length, option_map, IsSome, IsTrue, MatchOption};
 ghost use Rattle.node_core.specs.Nodes.{setting_of};
 ghost use Rattle.node_core.specs.Texts.{list_text, node_fault_text};
 ghost use Rattle.node_core.specs.Traces.{node_of, state_known};
 ghost use Rattle.replica_state.specs.States.{rights_of, spent_of, total_hits};
-ghost use Rattle.failreg_c.specs.Numbers.{closed};
-ghost use Rattle.failreg_c.specs.Calls.{Both, IsNoName, IsSame, Stays};
+ghost use Rattle.failreg_c.specs.Numbers.{IsNearest, closed, no_memory, whole};
+ghost use Rattle.failreg_c.specs.Told.{text_or_none};
+ghost use Rattle.failreg_c.specs.Calls.{Both, FillsFront, IsNoName, IsSaid};
 
 use crate::calls::CLOSED;
 use crate::handle::Node;
 use crate::numbers::{Wide, narrow};
 use crate::registry::{Registry, read_name};
 use actions::Name;
-use core::mem::replace_with;
 use node_core::NodeCore;
 use replica_state::Replica;
 use std::alloc::Global;
@@ -30,29 +30,15 @@ pub extern "C" fn failreg_is_set(
         IsTrue is_set.new ↔ IsSome (setting_of (state_known k.core) name.now)) }
     ensures refused { result ≢ 0
         → MatchOption node.old.handle.kept (result ≡ closed) (λ _. IsNoName name.now result) }
-    ensures same { Stays node.old.handle.kept node.new.handle.kept (λ k l. l ≡ k) }
+    ensures none { result ≢ 0 → is_set.new ≡ false }
+    ensures same { node.new.handle.kept ≡ node.old.handle.kept }
 {
-    let (status, answer) = replace_with(
-        node,
-        name,
-        |node: Node, name: &[u8]| -> (Node, (u32, bool))
-            ensures value { result.1.0 ≡ 0 → MatchOption node.handle.kept ⊥ (λ k.
-                IsTrue result.1.1 ↔ IsSome (setting_of (state_known k.core) name.now)) }
-            ensures refused { result.1.0 ≢ 0
-                → MatchOption node.handle.kept (result.1.0 ≡ closed)
-                (λ _. IsNoName name.now result.1.0) }
-            ensures same { Stays node.handle.kept result.0.handle.kept (λ k l. l ≡ k) }
-        {
-            if !node.is_open {
-                return (node, (CLOSED, false));
-            }
-            let Some(registry) = node.into_box() else {
-                unreachable!();
-            };
-            let answer = is_set_at(alloc, &registry, name);
-            (Node::of(registry), answer)
-        },
-    );
+    let Some(registry) = node.take(alloc) else {
+        *is_set = false;
+        return CLOSED;
+    };
+    let (status, answer) = is_set_at(alloc, &registry, name);
+    *node = Node::of(registry);
     *is_set = answer;
     status
 }
@@ -67,32 +53,18 @@ pub extern "C" fn failreg_spent(
     spent: &mut Wide,
 ) -> u32
     ensures value { result ≡ 0 → MatchOption node.old.handle.kept ⊥ (λ k.
-        spent.new.low + 2 ^ 64 * spent.new.high ≡ spent_of (state_known k.core) name.now term) }
+        whole spent.new ≡ spent_of (state_known k.core) name.now term) }
     ensures refused { result ≢ 0
         → MatchOption node.old.handle.kept (result ≡ closed) (λ _. IsNoName name.now result) }
-    ensures same { Stays node.old.handle.kept node.new.handle.kept (λ k l. l ≡ k) }
+    ensures none { result ≢ 0 → whole spent.new ≡ 0 }
+    ensures same { node.new.handle.kept ≡ node.old.handle.kept }
 {
-    let (status, answer) = replace_with(
-        node,
-        name,
-        |node: Node, name: &[u8]| -> (Node, (u32, u128))
-            ensures value { result.1.0 ≡ 0 → MatchOption node.handle.kept ⊥ (λ k.
-                result.1.1 ≡ spent_of (state_known k.core) name.now term) }
-            ensures refused { result.1.0 ≢ 0
-                → MatchOption node.handle.kept (result.1.0 ≡ closed)
-                (λ _. IsNoName name.now result.1.0) }
-            ensures same { Stays node.handle.kept result.0.handle.kept (λ k l. l ≡ k) }
-        {
-            if !node.is_open {
-                return (node, (CLOSED, 0));
-            }
-            let Some(registry) = node.into_box() else {
-                unreachable!();
-            };
-            let answer = spent_at(alloc, &registry, name, term);
-            (Node::of(registry), answer)
-        },
-    );
+    let Some(registry) = node.take(alloc) else {
+        *spent = Wide::of(0);
+        return CLOSED;
+    };
+    let (status, answer) = spent_at(alloc, &registry, name, term);
+    *node = Node::of(registry);
     *spent = Wide::of(answer);
     status
 }
@@ -101,32 +73,18 @@ pub extern "C" fn failreg_spent(
 #[unsafe(no_mangle)]
 pub extern "C" fn failreg_hits(alloc: Global, node: &mut Node, name: &[u8], hits: &mut Wide) -> u32
     ensures value { result ≡ 0 → MatchOption node.old.handle.kept ⊥ (λ k.
-        hits.new.low + 2 ^ 64 * hits.new.high ≡ total_hits (state_known k.core) name.now) }
+        whole hits.new ≡ total_hits (state_known k.core) name.now) }
     ensures refused { result ≢ 0
         → MatchOption node.old.handle.kept (result ≡ closed) (λ _. IsNoName name.now result) }
-    ensures same { Stays node.old.handle.kept node.new.handle.kept (λ k l. l ≡ k) }
+    ensures none { result ≢ 0 → whole hits.new ≡ 0 }
+    ensures same { node.new.handle.kept ≡ node.old.handle.kept }
 {
-    let (status, answer) = replace_with(
-        node,
-        name,
-        |node: Node, name: &[u8]| -> (Node, (u32, u128))
-            ensures value { result.1.0 ≡ 0 → MatchOption node.handle.kept ⊥ (λ k.
-                result.1.1 ≡ total_hits (state_known k.core) name.now) }
-            ensures refused { result.1.0 ≢ 0
-                → MatchOption node.handle.kept (result.1.0 ≡ closed)
-                (λ _. IsNoName name.now result.1.0) }
-            ensures same { Stays node.handle.kept result.0.handle.kept (λ k l. l ≡ k) }
-        {
-            if !node.is_open {
-                return (node, (CLOSED, 0));
-            }
-            let Some(registry) = node.into_box() else {
-                unreachable!();
-            };
-            let answer = hits_at(alloc, &registry, name);
-            (Node::of(registry), answer)
-        },
-    );
+    let Some(registry) = node.take(alloc) else {
+        *hits = Wide::of(0);
+        return CLOSED;
+    };
+    let (status, answer) = hits_at(alloc, &registry, name);
+    *node = Node::of(registry);
     *hits = Wide::of(answer);
     status
 }
@@ -143,199 +101,113 @@ pub extern "C" fn failreg_rights(
     rights: &mut i64,
 ) -> u32
     ensures value { result ≡ 0 → MatchOption node.old.handle.kept ⊥ (λ k.
-        rights_of (state_known k.core) name.now term of ≤ℤ pos 9223372036854775807
-        → neg_ℤ (pos 9223372036854775808) ≤ℤ rights_of (state_known k.core) name.now term of
-        → rights.new ≡ rights_of (state_known k.core) name.now term of) }
+        IsNearest (rights_of (state_known k.core) name.now term of) rights.new) }
     ensures refused { result ≢ 0
         → MatchOption node.old.handle.kept (result ≡ closed) (λ _. IsNoName name.now result) }
-    ensures same { Stays node.old.handle.kept node.new.handle.kept (λ k l. l ≡ k) }
+    ensures none { result ≢ 0 → rights.new ≡ pos 0 }
+    ensures same { node.new.handle.kept ≡ node.old.handle.kept }
 {
-    let (status, answer) = replace_with(
-        node,
-        name,
-        |node: Node, name: &[u8]| -> (Node, (u32, i128))
-            ensures value { result.1.0 ≡ 0 → MatchOption node.handle.kept ⊥ (λ k.
-                result.1.1 ≡ rights_of (state_known k.core) name.now term of) }
-            ensures refused { result.1.0 ≢ 0
-                → MatchOption node.handle.kept (result.1.0 ≡ closed)
-                (λ _. IsNoName name.now result.1.0) }
-            ensures same { Stays node.handle.kept result.0.handle.kept (λ k l. l ≡ k) }
-        {
-            if !node.is_open {
-                return (node, (CLOSED, 0));
-            }
-            let Some(registry) = node.into_box() else {
-                unreachable!();
-            };
-            let answer = rights_at(alloc, &registry, name, term, of);
-            (Node::of(registry), answer)
-        },
-    );
+    let Some(registry) = node.take(alloc) else {
+        *rights = 0;
+        return CLOSED;
+    };
+    let (status, answer) = rights_at(alloc, &registry, name, term, of);
+    *node = Node::of(registry);
     *rights = narrow(answer);
     status
 }
 
 /// Tells how many accepted calls changed what the node knows.
 #[unsafe(no_mangle)]
-pub extern "C" fn failreg_version(node: &mut Node, version: &mut u64) -> u32
+pub extern "C" fn failreg_version(alloc: Global, node: &mut Node, version: &mut u64) -> u32
     ensures value { result ≡ 0 → MatchOption node.old.handle.kept ⊥ (λ k.
         version.new ≡ (node_of k.core).marks.version) }
     ensures refused { result ≢ 0
         → MatchOption node.old.handle.kept (result ≡ closed) (λ _. ⊥) }
-    ensures same { Stays node.old.handle.kept node.new.handle.kept (λ k l. l ≡ k) }
+    ensures none { result ≢ 0 → version.new ≡ 0 }
+    ensures same { node.new.handle.kept ≡ node.old.handle.kept }
 {
-    let (status, answer) = replace_with(
-        node,
-        (),
-        |node: Node, _: ()| -> (Node, (u32, u64))
-            ensures value { result.1.0 ≡ 0 → MatchOption node.handle.kept ⊥ (λ k.
-                result.1.1 ≡ (node_of k.core).marks.version) }
-            ensures refused { result.1.0 ≢ 0
-                → MatchOption node.handle.kept (result.1.0 ≡ closed) (λ _. ⊥) }
-            ensures same { Stays node.handle.kept result.0.handle.kept (λ k l. l ≡ k) }
-        {
-            if !node.is_open {
-                return (node, (CLOSED, 0));
-            }
-            let Some(registry) = node.into_box() else {
-                unreachable!();
-            };
-            let answer = (0, registry.core.version());
-            (Node::of(registry), answer)
-        },
-    );
-    *version = answer;
-    status
+    let Some(registry) = node.take(alloc) else {
+        *version = 0;
+        return CLOSED;
+    };
+    *version = registry.core.version();
+    *node = Node::of(registry);
+    0
 }
 
 /// Tells the version of another node that this one has all of, 0 at first.
 #[unsafe(no_mangle)]
-pub extern "C" fn failreg_known(node: &mut Node, from: u8, known: &mut u64) -> u32
+pub extern "C" fn failreg_known(alloc: Global, node: &mut Node, from: u8, known: &mut u64) -> u32
     ensures value { result ≡ 0 → MatchOption node.old.handle.kept ⊥ (λ k.
         known.new ≡ (node_of k.core).marks.known from) }
     ensures refused { result ≢ 0
         → MatchOption node.old.handle.kept (result ≡ closed) (λ _. ⊥) }
-    ensures same { Stays node.old.handle.kept node.new.handle.kept (λ k l. l ≡ k) }
+    ensures none { result ≢ 0 → known.new ≡ 0 }
+    ensures same { node.new.handle.kept ≡ node.old.handle.kept }
 {
-    let (status, answer) = replace_with(
-        node,
-        from,
-        |node: Node, from: u8| -> (Node, (u32, u64))
-            ensures value { result.1.0 ≡ 0 → MatchOption node.handle.kept ⊥ (λ k.
-                result.1.1 ≡ (node_of k.core).marks.known from) }
-            ensures refused { result.1.0 ≢ 0
-                → MatchOption node.handle.kept (result.1.0 ≡ closed) (λ _. ⊥) }
-            ensures same { Stays node.handle.kept result.0.handle.kept (λ k l. l ≡ k) }
-        {
-            if !node.is_open {
-                return (node, (CLOSED, 0));
-            }
-            let Some(registry) = node.into_box() else {
-                unreachable!();
-            };
-            let answer = (0, registry.core.known(from));
-            (Node::of(registry), answer)
-        },
-    );
-    *known = answer;
-    status
+    let Some(registry) = node.take(alloc) else {
+        *known = 0;
+        return CLOSED;
+    };
+    *known = registry.core.known(from);
+    *node = Node::of(registry);
+    0
 }
 
 /// Tells the version of this node that another one said it has, 0 at first.
 #[unsafe(no_mangle)]
-pub extern "C" fn failreg_acked(node: &mut Node, to: u8, acked: &mut u64) -> u32
+pub extern "C" fn failreg_acked(alloc: Global, node: &mut Node, to: u8, acked: &mut u64) -> u32
     ensures value { result ≡ 0 → MatchOption node.old.handle.kept ⊥ (λ k.
         acked.new ≡ (node_of k.core).marks.acked to) }
     ensures refused { result ≢ 0
         → MatchOption node.old.handle.kept (result ≡ closed) (λ _. ⊥) }
-    ensures same { Stays node.old.handle.kept node.new.handle.kept (λ k l. l ≡ k) }
+    ensures none { result ≢ 0 → acked.new ≡ 0 }
+    ensures same { node.new.handle.kept ≡ node.old.handle.kept }
 {
-    let (status, answer) = replace_with(
-        node,
-        to,
-        |node: Node, to: u8| -> (Node, (u32, u64))
-            ensures value { result.1.0 ≡ 0 → MatchOption node.handle.kept ⊥ (λ k.
-                result.1.1 ≡ (node_of k.core).marks.acked to) }
-            ensures refused { result.1.0 ≢ 0
-                → MatchOption node.handle.kept (result.1.0 ≡ closed) (λ _. ⊥) }
-            ensures same { Stays node.handle.kept result.0.handle.kept (λ k l. l ≡ k) }
-        {
-            if !node.is_open {
-                return (node, (CLOSED, 0));
-            }
-            let Some(registry) = node.into_box() else {
-                unreachable!();
-            };
-            let answer = (0, registry.core.acked(to));
-            (Node::of(registry), answer)
-        },
-    );
-    *acked = answer;
-    status
+    let Some(registry) = node.take(alloc) else {
+        *acked = 0;
+        return CLOSED;
+    };
+    *acked = registry.core.acked(to);
+    *node = Node::of(registry);
+    0
 }
 
 /// Tells how many calls the node has accepted.
 #[unsafe(no_mangle)]
-pub extern "C" fn failreg_calls(node: &mut Node, calls: &mut u64) -> u32
+pub extern "C" fn failreg_calls(alloc: Global, node: &mut Node, calls: &mut u64) -> u32
     ensures value { result ≡ 0 → MatchOption node.old.handle.kept ⊥ (λ k.
         calls.new ≡ length k.core.trace) }
     ensures refused { result ≢ 0
         → MatchOption node.old.handle.kept (result ≡ closed) (λ _. ⊥) }
-    ensures same { Stays node.old.handle.kept node.new.handle.kept (λ k l. l ≡ k) }
+    ensures none { result ≢ 0 → calls.new ≡ 0 }
+    ensures same { node.new.handle.kept ≡ node.old.handle.kept }
 {
-    let (status, answer) = replace_with(
-        node,
-        (),
-        |node: Node, _: ()| -> (Node, (u32, u64))
-            ensures value { result.1.0 ≡ 0 → MatchOption node.handle.kept ⊥ (λ k.
-                result.1.1 ≡ length k.core.trace) }
-            ensures refused { result.1.0 ≢ 0
-                → MatchOption node.handle.kept (result.1.0 ≡ closed) (λ _. ⊥) }
-            ensures same { Stays node.handle.kept result.0.handle.kept (λ k l. l ≡ k) }
-        {
-            if !node.is_open {
-                return (node, (CLOSED, 0));
-            }
-            let Some(registry) = node.into_box() else {
-                unreachable!();
-            };
-            let answer = (0, calls_of(&registry));
-            (Node::of(registry), answer)
-        },
-    );
-    *calls = answer;
-    status
+    let Some(registry) = node.take(alloc) else {
+        *calls = 0;
+        return CLOSED;
+    };
+    *calls = registry.core.trace().len() as u64;
+    *node = Node::of(registry);
+    0
 }
 
 /// Lists the points that are set; the list is then to be fetched.
 #[unsafe(no_mangle)]
 pub extern "C" fn failreg_list(alloc: Global, node: &mut Node) -> u32
     ensures text { result ≡ 0 → Both node.old.handle.kept node.new.handle.kept (λ k l.
-        l.said.items ≡ list_text (state_known k.core)) }
-    ensures refused { result ≢ 0 → MatchOption node.old.handle.kept (result ≡ closed)
-        (λ _. result ≡ 22) }
-    ensures same { Stays node.old.handle.kept node.new.handle.kept IsSame }
+        IsSaid (list_text (state_known k.core)) k l) }
+    ensures refused { result ≢ 0
+        → MatchOption node.old.handle.kept (result ≡ closed) (λ _. result ≡ no_memory) }
+    ensures same { result ≢ 0 → node.new.handle.kept ≡ node.old.handle.kept }
 {
-    replace_with(
-        node,
-        alloc,
-        |node: Node, alloc: Global| -> (Node, u32)
-            ensures text { result.1 ≡ 0 → Both node.handle.kept result.0.handle.kept (λ k l.
-                l.said.items ≡ list_text (state_known k.core)) }
-            ensures refused { result.1 ≢ 0 → MatchOption node.handle.kept (result.1 ≡ closed)
-                (λ _. result.1 ≡ 22) }
-            ensures same { Stays node.handle.kept result.0.handle.kept IsSame }
-        {
-            if !node.is_open {
-                return (node, CLOSED);
-            }
-            let Some(mut registry) = node.into_box() else {
-                unreachable!();
-            };
-            let status = registry.list(alloc);
-            (Node::of(registry), status)
-        },
-    )
+    let Some(mut registry) = node.take(alloc) else {
+        return CLOSED;
+    };
+    let status = registry.list(alloc);
+    *node = Node::of(registry);
+    status
 }
 
 /// Writes the text of the last refusal, which is then to be fetched: nothing where that was a text
@@ -343,91 +215,54 @@ pub extern "C" fn failreg_list(alloc: Global, node: &mut Node) -> u32
 #[unsafe(no_mangle)]
 pub extern "C" fn failreg_fault(alloc: Global, node: &mut Node) -> u32
     ensures text { result ≡ 0 → Both node.old.handle.kept node.new.handle.kept (λ k l.
-        MatchOption k.fault (l.said.items ≡ []) (λ f. l.said.items ≡ node_fault_text f)) }
-    ensures refused { result ≢ 0 → MatchOption node.old.handle.kept (result ≡ closed)
-        (λ _. result ≡ 22) }
-    ensures same { Stays node.old.handle.kept node.new.handle.kept IsSame }
+        IsSaid (text_or_none (option_map node_fault_text k.fault)) k l) }
+    ensures refused { result ≢ 0
+        → MatchOption node.old.handle.kept (result ≡ closed) (λ _. result ≡ no_memory) }
+    ensures same { result ≢ 0 → node.new.handle.kept ≡ node.old.handle.kept }
 {
-    replace_with(
-        node,
-        alloc,
-        |node: Node, alloc: Global| -> (Node, u32)
-            ensures text { result.1 ≡ 0 → Both node.handle.kept result.0.handle.kept (λ k l.
-                MatchOption k.fault (l.said.items ≡ []) (λ f. l.said.items ≡ node_fault_text f)) }
-            ensures refused { result.1 ≢ 0 → MatchOption node.handle.kept (result.1 ≡ closed)
-                (λ _. result.1 ≡ 22) }
-            ensures same { Stays node.handle.kept result.0.handle.kept IsSame }
-        {
-            if !node.is_open {
-                return (node, CLOSED);
-            }
-            let Some(mut registry) = node.into_box() else {
-                unreachable!();
-            };
-            let status = registry.fault_text(alloc);
-            (Node::of(registry), status)
-        },
-    )
+    let Some(mut registry) = node.take(alloc) else {
+        return CLOSED;
+    };
+    let status = registry.fault_text(alloc);
+    *node = Node::of(registry);
+    status
 }
 
 /// Copies what is to be fetched, as much as there is room for, and answers its whole length.
 #[unsafe(no_mangle)]
-pub extern "C" fn failreg_fetch(node: &mut Node, into: &mut [u8]) -> usize
-    ensures length { MatchOption node.old.handle.kept (result ≡ 0)
-        (λ k. result ≡ length k.said.items) }
-    ensures same { Stays node.old.handle.kept node.new.handle.kept (λ k l. l ≡ k) }
+pub extern "C" fn failreg_fetch(alloc: Global, node: &mut Node, into: &mut [u8]) -> usize
+    ensures bytes { MatchOption node.old.handle.kept ((result ≡ 0) × (into.new ≡ into.old)) (λ k.
+        (result ≡ length k.said.items) × FillsFront k.said.items into.old into.new) }
+    ensures same { node.new.handle.kept ≡ node.old.handle.kept }
 {
-    replace_with(
-        node,
-        into,
-        |node: Node, into: &mut [u8]| -> (Node, usize)
-            ensures length { MatchOption node.handle.kept (result.1 ≡ 0)
-                (λ k. result.1 ≡ length k.said.items) }
-            ensures same { Stays node.handle.kept result.0.handle.kept (λ k l. l ≡ k) }
-        {
-            if !node.is_open {
-                return (node, 0);
-            }
-            let Some(registry) = node.into_box() else {
-                unreachable!();
-            };
-            let length = registry.fetch(into);
-            (Node::of(registry), length)
-        },
-    )
+    let Some(registry) = node.take(alloc) else {
+        return 0;
+    };
+    let length = registry.fetch(into);
+    *node = Node::of(registry);
+    length
 }
 
 /// The same of the words that the last `failreg_pass` drew.
 #[unsafe(no_mangle)]
-pub extern "C" fn failreg_words(node: &mut Node, into: &mut [u32]) -> usize
-    ensures length { MatchOption node.old.handle.kept (result ≡ 0)
-        (λ k. result ≡ length k.words.items) }
-    ensures same { Stays node.old.handle.kept node.new.handle.kept (λ k l. l ≡ k) }
+pub extern "C" fn failreg_words(alloc: Global, node: &mut Node, into: &mut [u32]) -> usize
+    ensures words { MatchOption node.old.handle.kept ((result ≡ 0) × (into.new ≡ into.old)) (λ k.
+        (result ≡ length k.words.items) × FillsFront k.words.items into.old into.new) }
+    ensures same { node.new.handle.kept ≡ node.old.handle.kept }
 {
-    replace_with(
-        node,
-        into,
-        |node: Node, into: &mut [u32]| -> (Node, usize)
-            ensures length { MatchOption node.handle.kept (result.1 ≡ 0)
-                (λ k. result.1 ≡ length k.words.items) }
-            ensures same { Stays node.handle.kept result.0.handle.kept (λ k l. l ≡ k) }
-        {
-            if !node.is_open {
-                return (node, 0);
-            }
-            let Some(registry) = node.into_box() else {
-                unreachable!();
-            };
-            let length = registry.fetch_words(into);
-            (Node::of(registry), length)
-        },
-    )
+    let Some(registry) = node.take(alloc) else {
+        return 0;
+    };
+    let length = registry.fetch_words(into);
+    *node = Node::of(registry);
+    length
 }
 
 fn is_set_at(alloc: Global, registry: &Registry, name: &[u8]) -> (u32, bool)
     ensures value { result.0 ≡ 0 → (IsTrue result.1
         ↔ IsSome (setting_of (state_known registry.now.core) name.now)) }
     ensures refused { result.0 ≢ 0 → IsNoName name.now result.0 }
+    ensures none { result.0 ≢ 0 → result.1 ≡ false }
 {
     match read_name(alloc, name) {
         Ok(name) => (0, is_set(&registry.core, &name)),
@@ -448,6 +283,7 @@ fn spent_at(alloc: Global, registry: &Registry, name: &[u8], term: u8) -> (u32, 
     ensures value { result.0 ≡ 0
         → result.1 ≡ spent_of (state_known registry.now.core) name.now term }
     ensures refused { result.0 ≢ 0 → IsNoName name.now result.0 }
+    ensures none { result.0 ≢ 0 → result.1 ≡ 0 }
 {
     match read_name(alloc, name) {
         Ok(name) => (0, registry.core.spent(&name, term)),
@@ -458,6 +294,7 @@ fn spent_at(alloc: Global, registry: &Registry, name: &[u8], term: u8) -> (u32, 
 fn hits_at(alloc: Global, registry: &Registry, name: &[u8]) -> (u32, u128)
     ensures value { result.0 ≡ 0 → result.1 ≡ total_hits (state_known registry.now.core) name.now }
     ensures refused { result.0 ≢ 0 → IsNoName name.now result.0 }
+    ensures none { result.0 ≢ 0 → result.1 ≡ 0 }
 {
     match read_name(alloc, name) {
         Ok(name) => (0, registry.core.hits(&name)),
@@ -469,15 +306,10 @@ fn rights_at(alloc: Global, registry: &Registry, name: &[u8], term: u8, of: u8) 
     ensures value { result.0 ≡ 0
         → result.1 ≡ rights_of (state_known registry.now.core) name.now term of }
     ensures refused { result.0 ≢ 0 → IsNoName name.now result.0 }
+    ensures none { result.0 ≢ 0 → result.1 ≡ pos 0 }
 {
     match read_name(alloc, name) {
         Ok(name) => (0, registry.core.rights(&name, term, of)),
         Err(status) => (status, 0),
     }
-}
-
-fn calls_of(registry: &Registry) -> u64
-    ensures { result ≡ length registry.now.core.trace }
-{
-    registry.core.trace().len() as u64
 }

@@ -1,13 +1,14 @@
 //! A node with its generator, and what C is told of its last call.
 
-ghost use Rattle.std.specs.Prelude.{◌≡◌, ◌≢◌, [], None, length, IfOk, IfErr, IsUtf8, MatchOption};
+ghost use Rattle.std.specs.Prelude.{◌≡◌, ◌≢◌, [], Some, None, false, length, option_map, IfOk, IfErr, IsUtf8};
 ghost use Rattle.node_core.specs.Asks as asks;
 ghost use Rattle.node_core.specs.Asks.{bare_emit};
 ghost use Rattle.node_core.specs.Memory.{DeliveryNeedsMemory, EmitNeedsMemory, LoadNeedsMemory, NameNeedsMemory, SetNeedsMemory};
 ghost use Rattle.node_core.specs.Texts.{list_text, node_fault_text};
 ghost use Rattle.node_core.specs.Traces.{delivery_of, state_known};
-ghost use Rattle.failreg_c.specs.Numbers.{not_text, number};
-ghost use Rattle.failreg_c.specs.Calls.{FillsFront, IsEmitted, IsLeft, IsMade, IsNoName, IsPassedDrawing, IsPassedGiven, IsRefused, IsRefusedOf, IsSame, words_drawn};
+ghost use Rattle.failreg_c.specs.Numbers.{IsNumbered, no_memory, not_text, number};
+ghost use Rattle.failreg_c.specs.Told.{no_act, text_or_none};
+ghost use Rattle.failreg_c.specs.Calls.{FillsFront, IsEmitted, IsLeft, IsMade, IsNoName, IsPassedDrawing, IsPassedGiven, IsRefused, IsRefusedOf, IsSaid, words_drawn};
 
 use crate::act::{Act, UNSET, act_of};
 use crate::generator::{Generator, pass_drawing};
@@ -32,8 +33,10 @@ pub struct Registry {
 const NOT_TEXT: u32 = 30;
 
 /// The number of a fault, with which its text begins.
+#[tactic(auto, using(crate::proofs::FaultNumbers::numbered))]
 pub(crate) fn number_of(fault: NodeFault) -> u32
     ensures value { result ≡ number fault }
+    ensures text { IsNumbered fault }
     ensures some { result ≢ 0 }
 {
     match fault {
@@ -80,6 +83,9 @@ impl Registry {
     pub(crate) fn new(alloc: Global, core: NodeCore, generator: Generator) -> Registry
         ensures core { result.core ≡ core }
         ensures generator { result.generator ≡ generator }
+        ensures said { result.said.items ≡ [] }
+        ensures words { result.words.items ≡ [] }
+        ensures fault { result.fault ≡ None }
     {
         Registry {
             core,
@@ -94,7 +100,7 @@ impl Registry {
     fn refuse(&mut self, fault: NodeFault) -> u32
         ensures status { result ≡ number fault }
         ensures some { result ≢ 0 }
-        ensures left { IsLeft result self.old self.new }
+        ensures left { self.new ≡ record self.old { fault = Some fault } }
     {
         self.fault = Some(fault);
         number_of(fault)
@@ -103,7 +109,7 @@ impl Registry {
     // Keeps no refusal: a text wasn't UTF-8.
     fn refuse_text(&mut self) -> u32
         ensures status { result ≡ not_text }
-        ensures left { IsLeft result self.old self.new }
+        ensures left { self.new ≡ record self.old { fault = None } }
     {
         self.fault = None;
         NOT_TEXT
@@ -115,7 +121,9 @@ impl Registry {
         ensures refused { result.0 ≢ 0 → IsRefusedOf (IsUtf8 name.now × IsUtf8 text.now)
             self.old.core (asks.Set name.now text.now) []
             (SetNeedsMemory self.old.core name.now text.now) result.0 }
-        ensures left { result.0 ≢ 0 → IsLeft result.0 self.old self.new }
+        ensures left { result.0 ≢ 0
+            → IsLeft (asks.Set name.now text.now) [] result.0 self.old self.new }
+        ensures none { result.0 ≢ 0 → result.1 ≡ record { clock = 0; node = 0 } }
     {
         let Ok(name) = str::from_utf8(name) else {
             return (self.refuse_text(), NO_STAMP);
@@ -134,7 +142,9 @@ impl Registry {
             → IsMade (asks.Remove name.now) (asks.IsRemoved result.1) self.old self.new }
         ensures refused { result.0 ≢ 0 → IsRefusedOf (IsUtf8 name.now) self.old.core
             (asks.Remove name.now) [] (NameNeedsMemory self.old.core name.now) result.0 }
-        ensures left { result.0 ≢ 0 → IsLeft result.0 self.old self.new }
+        ensures left { result.0 ≢ 0
+            → IsLeft (asks.Remove name.now) [] result.0 self.old self.new }
+        ensures none { result.0 ≢ 0 → result.1 ≡ record { clock = 0; node = 0 } }
     {
         let Ok(name) = str::from_utf8(name) else {
             return (self.refuse_text(), NO_STAMP);
@@ -150,7 +160,9 @@ impl Registry {
             → IsMade (asks.Load text.now) (asks.IsLoaded result.1) self.old self.new }
         ensures refused { result.0 ≢ 0 → IsRefusedOf (IsUtf8 text.now) self.old.core
             (asks.Load text.now) [] (LoadNeedsMemory self.old.core text.now) result.0 }
-        ensures left { result.0 ≢ 0 → IsLeft result.0 self.old self.new }
+        ensures left { result.0 ≢ 0
+            → IsLeft (asks.Load text.now) [] result.0 self.old self.new }
+        ensures none { result.0 ≢ 0 → result.1 ≡ 0 }
     {
         let Ok(text) = str::from_utf8(text) else {
             return (self.refuse_text(), 0);
@@ -164,8 +176,12 @@ impl Registry {
     pub(crate) fn pass(&mut self, alloc: Global, name: &[u8]) -> (u32, Act)
         ensures ok { result.0 ≡ 0 → IsPassedDrawing name.now result.1 self.old self.new }
         ensures refused { result.0 ≢ 0 → IsRefusedOf (IsUtf8 name.now) self.old.core
-            (asks.Pass name.now) (words_drawn self.old name.now) (Unit {0}) result.0 }
-        ensures left { result.0 ≢ 0 → IsLeft result.0 self.old self.new }
+            (asks.Pass name.now) (words_drawn self.old name.now)
+            (NameNeedsMemory self.old.core name.now) result.0 }
+        ensures left { result.0 ≢ 0
+            → IsLeft (asks.Pass name.now)
+            (words_drawn self.old name.now) result.0 self.old self.new }
+        ensures none { result.0 ≢ 0 → result.1 ≡ no_act }
     {
         let Ok(name) = str::from_utf8(name) else {
             return (self.refuse_text(), UNSET);
@@ -185,7 +201,9 @@ impl Registry {
         ensures ok { result.0 ≡ 0 → IsPassedGiven name.now words.now result.1 self.old self.new }
         ensures refused { result.0 ≢ 0 → IsRefusedOf (IsUtf8 name.now) self.old.core
             (asks.Pass name.now) words.now (NameNeedsMemory self.old.core name.now) result.0 }
-        ensures left { result.0 ≢ 0 → IsLeft result.0 self.old self.new }
+        ensures left { result.0 ≢ 0
+            → IsLeft (asks.Pass name.now) words.now result.0 self.old self.new }
+        ensures none { result.0 ≢ 0 → result.1 ≡ no_act }
     {
         let Ok(name) = str::from_utf8(name) else {
             return (self.refuse_text(), UNSET);
@@ -213,7 +231,9 @@ impl Registry {
         ensures refused { result.0 ≢ 0 → IsRefusedOf (IsUtf8 name.now) self.old.core
             (asks.Shift name.now term to amount) []
             (NameNeedsMemory self.old.core name.now) result.0 }
-        ensures left { result.0 ≢ 0 → IsLeft result.0 self.old self.new }
+        ensures left { result.0 ≢ 0
+            → IsLeft (asks.Shift name.now term to amount) [] result.0 self.old self.new }
+        ensures none { result.0 ≢ 0 → result.1 ≡ 0 }
     {
         let Ok(name) = str::from_utf8(name) else {
             return (self.refuse_text(), 0);
@@ -230,7 +250,9 @@ impl Registry {
         ensures refused { result.0 ≢ 0 → IsRefusedOf (IsUtf8 name.now) self.old.core
             (asks.Grant name.now term amount) []
             (NameNeedsMemory self.old.core name.now) result.0 }
-        ensures left { result.0 ≢ 0 → IsLeft result.0 self.old self.new }
+        ensures left { result.0 ≢ 0
+            → IsLeft (asks.Grant name.now term amount) [] result.0 self.old self.new }
+        ensures none { result.0 ≢ 0 → result.1 ≡ 0 }
     {
         let Ok(name) = str::from_utf8(name) else {
             return (self.refuse_text(), 0);
@@ -245,7 +267,7 @@ impl Registry {
         ensures ok { result ≡ 0 → IsEmitted to self.old self.new }
         ensures refused { result ≢ 0 → IsRefused self.old.core (bare_emit to) []
             (EmitNeedsMemory self.old.core to) result }
-        ensures left { result ≢ 0 → IsLeft result self.old self.new }
+        ensures left { result ≢ 0 → IsLeft (bare_emit to) [] result self.old self.new }
     {
         match self.core.emit(alloc, to) {
             Ok(message) => {
@@ -262,7 +284,9 @@ impl Registry {
         ensures refused { result.0 ≢ 0 → IsRefused self.old.core
             (delivery_of self.old.core message.now) []
             (DeliveryNeedsMemory self.old.core message.now) result.0 }
-        ensures left { result.0 ≢ 0 → IsLeft result.0 self.old self.new }
+        ensures left { result.0 ≢ 0
+            → IsLeft (delivery_of self.old.core message.now) [] result.0 self.old self.new }
+        ensures none { result.0 ≢ 0 → result.1 ≡ false }
     {
         match self.core.deliver(alloc, message) {
             Ok(changed) => (0, changed),
@@ -272,9 +296,10 @@ impl Registry {
 
     /// Lists the points that are set, to be fetched.
     pub(crate) fn list(&mut self, alloc: Global) -> u32
-        ensures text { result ≡ 0 → self.new.said.items ≡ list_text (state_known self.old.core) }
-        ensures only { result ≢ 0 → result ≡ 22 }
-        ensures same { IsSame self.old self.new }
+        ensures text { result ≡ 0
+            → IsSaid (list_text (state_known self.old.core)) self.old self.new }
+        ensures only { result ≢ 0 → result ≡ no_memory }
+        ensures same { result ≢ 0 → self.new ≡ self.old }
     {
         match self.core.list(alloc) {
             Ok(text) => {
@@ -288,10 +313,10 @@ impl Registry {
     /// Writes the text of the last refusal, to be fetched: nothing where that was a text that isn't
     /// UTF-8, or where there was none.
     pub(crate) fn fault_text(&mut self, alloc: Global) -> u32
-        ensures text { result ≡ 0 → MatchOption self.old.fault (self.new.said.items ≡ [])
-            (λ f. self.new.said.items ≡ node_fault_text f) }
-        ensures only { result ≢ 0 → result ≡ 22 }
-        ensures same { IsSame self.old self.new }
+        ensures text { result ≡ 0 → IsSaid
+            (text_or_none (option_map node_fault_text self.old.fault)) self.old self.new }
+        ensures only { result ≢ 0 → result ≡ no_memory }
+        ensures same { result ≢ 0 → self.new ≡ self.old }
     {
         let Some(fault) = self.fault else {
             self.said.clear();
