@@ -1,5 +1,6 @@
-//! Tables of requests, each with what it is answered. They also pass where any one allocation
-//! fails: a request that is refused memory leaves the node as it was, and is made a second time.
+//! Tables of requests, each with what it is answered. They also pass where an allocation of an
+//! answer fails: a request that is refused memory leaves the node as it was, and is made a second
+//! time.
 
 mod asking;
 mod faults;
