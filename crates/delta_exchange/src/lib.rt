@@ -58,7 +58,7 @@ mod writing;
 pub use fault::WireFault;
 pub use held::message_of_all;
 pub use learning::replica_of;
-pub use message::{MAX_NAMES, MAX_NODES, Message, NameEntry};
+pub use message::{MAX_MESSAGE, MAX_NAMES, MAX_NODES, Message, NameEntry};
 pub use reading::decode;
 pub use versioned::Versioned;
 pub use writing::encode;

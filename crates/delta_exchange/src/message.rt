@@ -14,6 +14,9 @@ pub const MAX_NODES: u8 = 32;
 /// How many names a node holds at most, so that one message can tell all of them.
 pub const MAX_NAMES: usize = 256;
 
+/// How many bytes a message has at most.
+pub const MAX_MESSAGE: usize = 67_108_864;
+
 /// What a message says of one name: its key, and cells of what was counted at nodes.
 ///
 /// The numbers of a cell stand in the order in which they are written. The last is the count or

@@ -7,12 +7,9 @@ ghost use Rattle.delta_exchange.specs.Reading.{Gives, GivesAlways, entries_at, i
 
 use crate::entry::read_entry;
 use crate::fault::WireFault;
-use crate::message::{Message, NameEntry, have_grants};
+use crate::message::{MAX_MESSAGE, Message, NameEntry, have_grants};
 use crate::wire::{Form, Whole, read_bytes, read_node, read_other_node, read_u16, read_u64};
 use std::alloc::Global;
-
-/// The most bytes of a message.
-const MAX_MESSAGE: usize = 67_108_864;
 
 /// The form that the first four bytes say.
 #[tactic(auto, unfolding(crate::specs::Reading::magic_at))]

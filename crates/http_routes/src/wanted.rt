@@ -12,13 +12,14 @@ ghost use Rattle.http_routes.specs.Requests.{max_amount, texted, wanted, wanted_
 
 use crate::fields::number;
 use crate::reply::HttpReply;
+use delta_exchange::MAX_MESSAGE;
 use http_paths::{Routes, Target};
 use node_core::Ask;
 use std::alloc::{AllocError, Global};
 use std::str;
 
 /// The longest body that is looked at, in bytes: that of the longest message.
-pub const MAX_BODY: usize = 67_108_864;
+pub const MAX_BODY: usize = MAX_MESSAGE;
 
 /// What a request wants of a node.
 #[derive(Debug, Drop)]

@@ -1,6 +1,8 @@
 //! One message to a server.
 
-ghost use Rattle.std.specs.Prelude.{◌≡◌, ◌≢◌, ◌↔◌, IfErr, IsOk};
+ghost use Rattle.std.specs.Prelude.{◌≡◌, ◌↔◌, IfErr, IsOk};
+ghost use Rattle.http_wire.specs.Failures.{IsFailure};
+ghost use Rattle.std_io.specs.IoError.{error_kind};
 
 use bytes::Bytes;
 use futures::future::join;
@@ -11,6 +13,7 @@ use hyper::{Request, StatusCode, header};
 use std::alloc::{AllocGlobal, Global};
 use std::hash::RandomState;
 use std::io;
+use std::io::ErrorKind;
 use std::net::{Net, SocketAddr};
 use std::random::RandomSource;
 use std::sync::Wait;
@@ -23,9 +26,11 @@ pub const POST_SECONDS: u64 = 2;
 
 // Want of memory by its name, and any other error as a call that failed.
 pub(crate) fn failed(error: io::Error) -> WireError
-    ensures { result ≢ WireError.NoPeer }
+    ensures failure { IsFailure result }
+    ensures memory { (result ≡ WireError.OutOfMemory)
+        ↔ (error_kind error ≡ ErrorKind.OutOfMemory) }
 {
-    if error.kind() == io::ErrorKind::OutOfMemory {
+    if error.kind() == ErrorKind::OutOfMemory {
         WireError::OutOfMemory
     } else {
         WireError::Failed
@@ -34,7 +39,7 @@ pub(crate) fn failed(error: io::Error) -> WireError
 
 // A message as a request, of which the message is the body.
 fn request(alloc: Global, message: &[u8]) -> Result<Request<Full<Bytes>>, WireError>
-    ensures { IfErr result (λ e. e ≢ WireError.NoPeer) }
+    ensures { IfErr result IsFailure }
 {
     let body = Full::new(Bytes::copy_from_slice(alloc, message)?);
     let request = Request::post(alloc, "/gossip")
@@ -55,7 +60,7 @@ fn connected<R>(
 ) -> Result<TcpStream, WireError>
 where
     R: Wait + Clock + Net + RandomSource + AllocGlobal,
-    ensures { IfErr result (λ e. e ≢ WireError.NoPeer) }
+    ensures { IfErr result IsFailure }
 {
     let address = SocketAddr::from(([127, 0, 0, 1], port));
     let connecting = TcpStream::connect(rt, address, runtime.handle().reactor());
@@ -77,7 +82,7 @@ fn answered<R>(
 ) -> Result<StatusCode, WireError>
 where
     R: Wait + Clock + Net + RandomSource + AllocGlobal,
-    ensures { IfErr result (λ e. e ≢ WireError.NoPeer) }
+    ensures { IfErr result IsFailure }
 {
     let keys = RandomState::new(rt).map_err(failed)?;
     let Ok((mut sender, connection)) = handshake(alloc, keys, socket) else {
@@ -124,7 +129,7 @@ pub(crate) fn post<R>(
 ) -> Result<(), WireError>
 where
     R: Wait + Clock + Net + RandomSource + AllocGlobal,
-    ensures { IfErr result (λ e. e ≢ WireError.NoPeer) }
+    ensures { IfErr result IsFailure }
 {
     let now = Instant::now(rt).map_err(failed)?;
     let Some(deadline) = now.checked_add(Duration::from_secs(POST_SECONDS)) else {

@@ -1,6 +1,7 @@
 //! A wire over HTTP.
 
-ghost use Rattle.std.specs.Prelude.{◌≡◌, ◌≢◌, ◌↔◌, false, IfErr, IfOk};
+ghost use Rattle.std.specs.Prelude.{◌≡◌, ◌↔◌, ◌⊎◌, false, IfErr, IfOk};
+ghost use Rattle.http_wire.specs.Failures.{IsFailure};
 ghost use Rattle.http_wire.specs.Peers.{has_peer, port_of};
 
 use crate::posting::{failed, post};
@@ -42,7 +43,7 @@ impl<R: Wait + Clock + Net + RandomSource + AllocGlobal + Drop> HttpWire<R> {
     /// A wire to these nodes. Where one is named twice, its first port counts.
     pub fn new(rt: R, peers: Vec<Peer>) -> Result<HttpWire<R>, WireError>
         ensures ok { IfOk result (λ wire. wire.peers ≡ peers) }
-        ensures err { IfErr result (λ e. e ≢ WireError.NoPeer) }
+        ensures err { IfErr result IsFailure }
     {
         let runtime = LocalRuntime::new(&rt).map_err(failed)?;
         Ok(HttpWire { rt, runtime, peers })
@@ -59,6 +60,7 @@ impl<R: Wait + Clock + Net + RandomSource + AllocGlobal + Drop> Wire for HttpWir
     ) -> Result<(), WireError>
         ensures no_peer { (result ≡ Err WireError.NoPeer)
             ↔ (has_peer self.old.peers.items to ≡ false) }
+        ensures err { IfErr result (λ e. (e ≡ WireError.NoPeer) ⊎ IsFailure e) }
         ensures stays { self.new.peers ≡ self.old.peers }
     {
         let Some(port) = self.port_of(to) else {

@@ -1,6 +1,6 @@
 //! Audits of a drill, and of what is wrong with it.
 
-use crate::drill::{NODES, played};
+use crate::drill::{LAST, NODES, played};
 use audit::{AuditFault, AuditYes, audit};
 use drills::Drill;
 use node_core::{NodeFault, Reply};
@@ -10,7 +10,7 @@ use std::alloc::Global;
 #[derive(Clone, Copy)]
 enum Change {
     Nothing,
-    // The second node's first entry is answered otherwise.
+    // The last node's first entry is answered otherwise.
     Reply,
     // The first node's last entry, by which it made a message, is left out with its receipt.
     Message,
@@ -60,9 +60,10 @@ fn alter_first(drill: &mut Drill, change: Change) {
     }
 }
 
-// Alters the second node's part.
-fn alter_second(drill: &mut Drill, change: Change) {
-    let (Some(trace), Some(list)) = (drill.traces.get_mut(1), drill.lists.get_mut(1)) else {
+// Alters the last node's part.
+fn alter_last(drill: &mut Drill, change: Change) {
+    let last = usize::from(LAST);
+    let (Some(trace), Some(list)) = (drill.traces.get_mut(last), drill.lists.get_mut(last)) else {
         return;
     };
     match change {
@@ -90,7 +91,7 @@ fn give_again(alloc: Global, drill: &mut Drill) -> Result<(), NodeFault> {
 fn altered(alloc: Global, change: Change) -> Result<Drill, NodeFault> {
     let mut drill = played(alloc)?;
     alter_first(&mut drill, change);
-    alter_second(&mut drill, change);
+    alter_last(&mut drill, change);
     if let Change::Again = change {
         give_again(alloc, &mut drill)?;
     }

@@ -1,11 +1,14 @@
-//! A drill of two nodes, in which each kind of call is made.
+//! A drill of 32 nodes, in which each kind of call is made at the first and the last.
 
 use drills::Drill;
 use node_core::{Ask, Config, NodeCore, NodeFault, Receipt, Reply};
 use std::alloc::{AllocError, Global};
 
 /// How many nodes there are.
-pub const NODES: u8 = 2;
+pub const NODES: u8 = 32;
+
+/// The last node.
+pub const LAST: u8 = NODES - 1;
 
 // A call.
 enum Step {
@@ -15,11 +18,11 @@ enum Step {
     Pass(&'static str),
     // A pass of a point with a chance, which takes a word.
     Try(&'static str),
-    // One right to the first term, to the other node.
+    // One right to the first term, to the other of the two nodes.
     Shift(&'static str),
     // Three rights to the first term.
     Grant(&'static str),
-    // A message to the other node.
+    // A message to the other of the two nodes.
     Emit,
     // A delivery of the message of this number.
     Deliver(usize),
@@ -44,18 +47,18 @@ const STEPS: [(u8, Step); 23] = [
     (0, Step::Shift("b")),
     (0, Step::Pass("unknown")),
     (0, Step::Emit),
-    (1, Step::Deliver(0)),
-    (1, Step::Try("b")),
-    (1, Step::Set("b", "1*off")),
-    (1, Step::Pass("b")),
-    (1, Step::Remove("p3")),
-    (1, Step::Pass("p3")),
-    (1, Step::Emit),
+    (LAST, Step::Deliver(0)),
+    (LAST, Step::Try("b")),
+    (LAST, Step::Set("b", "1*off")),
+    (LAST, Step::Pass("b")),
+    (LAST, Step::Remove("p3")),
+    (LAST, Step::Pass("p3")),
+    (LAST, Step::Emit),
     (0, Step::Deliver(1)),
     (0, Step::Pass("b")),
     (0, Step::Set("a", "1*sleep(3)")),
     (0, Step::Emit),
-    (1, Step::Deliver(2)),
+    (LAST, Step::Deliver(2)),
 ];
 
 // The nodes as they play.
@@ -96,7 +99,7 @@ impl Stage {
     // What a node is asked by a step.
     fn ask_of(&self, alloc: Global, node: u8, step: &Step) -> Result<Ask, AllocError> {
         let text_of = |text: &str| String::from_str(alloc, text);
-        let to = 1 - node % 2;
+        let to = LAST - node.min(LAST);
         Ok(match step {
             Step::Set(name, text) => Ask::Set {
                 name: text_of(name)?,

@@ -1,5 +1,5 @@
-//! Replicas that are joined. What memory is refused to is asked again, and nothing may have changed
-//! by then: so these also pass where any one allocation fails.
+//! Replicas that are joined. A call whose memory is refused is asked again, and nothing may have
+//! changed by then: where one allocation fails, a test passes, or gives up at what it makes itself.
 
 use super::readers::{Seen, all_names, clock_of, shows, wanted};
 use super::{Step, add, key, name, op_of, op_on};
