@@ -21,4 +21,4 @@ played kept old_kept new_kept contents old new script plan (Ok done) (Some bytes
 pub says_of_some : {O E : Type 0} (left : Option (List ℕ)) (contents : O → Option (List ℕ)) (old new : Watched O) (result : Result Bool E)
     → IfOk result (λ yes. SaysVerdict left yes contents old new) → IfOk result (λ yes. SaysVerdict None yes contents old new)
 says_of_some left contents old new (Err fault) h = tt
-says_of_some left contents old new (Ok explained) h = (h.0, h.1, h.2, tt, h.4, h.5, h.6)
+says_of_some left contents old new (Ok explained) h = (h.0, h.1, h.2, tt, h.4, h.5, h.6, h.7)

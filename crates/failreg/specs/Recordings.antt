@@ -1,7 +1,8 @@
 -- What of a recorded drill is written, and what an audit of one says.
-use Rattle.std.specs.Prelude.{◌≡◌, ℕ, Bool, List, length, min, is_ok, IfSome, Option, Result, Ok}
+use Rattle.std.specs.Prelude.{◌≡◌, ◌≢◌, ℕ, Bool, List, length, min, is_ok, IfSome, Option, Result, Ok, Err}
 use Rattle.audit.specs.declared.auditing.AuditYes.{AuditYes}
 use Rattle.audit.specs.declared.fault.AuditFault.{AuditFault}
+use Rattle.audit.specs.declared.fault.AuditFault.TheVariants.{OutOfMemory}
 use Rattle.audit.specs.Answers.{IsAudited}
 use Rattle.audit.specs.Receipts.{Lists}
 use Rattle.audit.specs.Traces.{Traces}
@@ -24,10 +25,10 @@ pub record IsRecorded {D O : Type 0} (plan : PlanValue) (kept : D → Option (Li
   pub printed : Writes contents old new text
 
 -- what an audit says of a drill was written, of the one that the bytes are where these are known; more than 255
--- traces are as few as those, and too many
+-- traces are as few as those, and too many; want of memory is no verdict
 abbrev pub SaysVerdict : {O : Type 0} → Option (List ℕ) → Bool → (O → Option (List ℕ)) → Watched O → Watched O → Type 0
 SaysVerdict bytes explained contents old new =
     (traces : Traces) × (lists : Lists) × (verdict : Result AuditYes AuditFault)
     × IfSome bytes (λ known. drill_in known ≡ Ok (drill_told traces lists))
-    × IsAudited (min (length traces) 255) traces lists verdict
+    × IsAudited (min (length traces) 255) traces lists verdict × (verdict ≢ Err OutOfMemory)
     × (explained ≡ is_ok verdict) × Writes contents old new (verdict_text verdict)

@@ -1,7 +1,8 @@
 //! Connections beside each other, each in a task of its own.
 
-ghost use Rattle.std.specs.Prelude.{◌≡◌, ◌⊎◌, IfErr, IfSome};
+ghost use Rattle.std.specs.Prelude.{◌≡◌, ◌⊎◌, ◌+◌, ◌↔◌, IsTrue, IfErr, IfSome, Err};
 ghost use Rattle.http_serve.specs.declared.fault.ServeFault.TheVariants.{AcceptFailed, OutOfMemory};
+ghost use Rattle.std.specs.IoError.{error_kind};
 ghost use Rattle.tokio.specs.Timers.{timeout_future};
 ghost use Rattle.tokio.specs.Locks.{CanAcquire};
 
@@ -10,6 +11,8 @@ use crate::seats::Seats;
 use futures::executor::TaskSet;
 use futures::task::{Context, Poll};
 use futures::{Future, Stream, ready};
+use std::io;
+use std::io::ErrorKind;
 use std::time::{Clock, Duration};
 use tokio::net::{TcpListener, TcpStream};
 use tokio::sync::OwnedSemaphorePermit;
@@ -80,11 +83,24 @@ pub struct Accepting<'a, D: Opens> {
     pub left: u32,
 }
 
-// Where a connection can't be accepted, as for want of descriptors: there is a seat fewer, so the
+// Whether only the connection is gone that was to be accepted. The next one can be.
+fn is_gone(error: &io::Error) -> bool
+    ensures { IsTrue result ↔ ((error_kind error.now ≡ ErrorKind.ConnectionAborted)
+        ⊎ (error_kind error.now ≡ ErrorKind.ConnectionReset)) }
+{
+    matches!(
+        error.kind(),
+        ErrorKind::ConnectionAborted | ErrorKind::ConnectionReset
+    )
+}
+
+// Where no connection can be accepted, as for want of descriptors: there is a seat fewer, so the
 // next is accepted once one under way has ended. The fault comes once no seat is left, and then
 // none is under way.
 fn give_up_seat(seat: Option<OwnedSemaphorePermit>, at_once: &mut u32) -> Result<(), ServeFault>
-    ensures { IfErr result (λ f. f ≡ AcceptFailed) }
+    ensures fewer { (at_once.old ≡ 0) ⊎ (at_once.old ≡ at_once.new + 1) }
+    ensures last { (result ≡ Err AcceptFailed) ↔ (at_once.new ≡ 0) }
+    ensures err { IfErr result (λ f. f ≡ AcceptFailed) }
 {
     if let Some(seat) = seat {
         seat.forget();
@@ -114,11 +130,15 @@ impl<D: Opens> Future for Accepting<'_, D> {
                 };
                 self.seat = Some(seat);
             }
-            let Ok((socket, _peer)) = ready!(self.listener.poll_accept(cx)) else {
-                if let Err(fault) = give_up_seat(self.seat.take(), &mut self.at_once) {
-                    return Poll::Ready(Err(fault));
+            let socket = match ready!(self.listener.poll_accept(cx)) {
+                Ok((socket, _peer)) => socket,
+                Err(error) if is_gone(&error) => continue,
+                Err(_) => {
+                    if let Err(fault) = give_up_seat(self.seat.take(), &mut self.at_once) {
+                        return Poll::Ready(Err(fault));
+                    }
+                    continue;
                 }
-                continue;
             };
             self.left -= 1;
             // Without memory for its task the connection is closed, and counts as served.
