@@ -4,5 +4,5 @@ use Rattle.gossip.specs.declared.wire.WireError.{WireError}
 use Rattle.gossip.specs.declared.wire.WireError.TheVariants.{Failed, OutOfMemory}
 
 -- want of memory by its name, or a call that failed otherwise
-abbrev pub IsFailure : WireError → Type
+abbrev pub IsFailure : WireError → Type 0
 IsFailure e = (e ≡ Failed) ⊎ (e ≡ OutOfMemory)
