@@ -140,11 +140,17 @@ impl<L: Label> Answers for Desk<L> {
         method: &str,
         path: &str,
         body: &[u8],
-    ) -> HttpReply {
+    ) -> HttpReply
+        ensures { IsServed L.config (wanted method.now path.now body.now) (http_value result) }
+    {
         self.answer(rt, alloc, method, path, body)
     }
 
-    fn reply_too_long(&self, alloc: Global, method: &str, path: &str) -> HttpReply {
+    fn reply_too_long(&self, alloc: Global, method: &str, path: &str) -> HttpReply
+        ensures { (body : List ℕ) → max_message < length body
+            → IsWanted (wanted method.now path.now body)
+            (Some (requests.answered (http_value result))) }
+    {
         self.answer_too_long(alloc, method, path)
     }
 }

@@ -3,7 +3,7 @@
 ghost use Rattle.std.specs.Prelude.{◌≡◌, ◌⊎◌, ◌+◌, ◌↔◌, IsTrue, IfErr, IfSome, Err};
 ghost use Rattle.http_serve.specs.declared.fault.ServeFault.TheVariants.{AcceptFailed, OutOfMemory};
 ghost use Rattle.std.specs.IoError.{error_kind};
-ghost use Rattle.tokio.specs.Timers.{timeout_future};
+ghost use Rattle.tokio.specs.Timers.{IsDelayedBy, sleep_deadline, timeout_delay, timeout_future};
 ghost use Rattle.tokio.specs.Locks.{CanAcquire};
 
 use crate::fault::ServeFault;
@@ -48,7 +48,10 @@ impl<C: Future> Visit<C> {
         seat: OwnedSemaphorePermit,
     ) -> Option<Visit<C>>
         requires { C.can_poll connection }
-        ensures { IfSome result (λ visit. C.can_poll (timeout_future visit.timed)) }
+        ensures ready { IfSome result (λ visit. C.can_poll (timeout_future visit.timed)) }
+        ensures connection { IfSome result (λ visit. timeout_future visit.timed ≡ connection) }
+        ensures whole { IfSome result (λ visit.
+            IsDelayedBy whole (sleep_deadline (timeout_delay visit.timed))) }
     {
         let timed = timers.timeout(clock, whole, connection).ok()?;
         Some(Visit { timed, seat })
