@@ -1,12 +1,13 @@
 //! The audit of a recorded drill.
 
-ghost use Rattle.std.specs.Prelude.{◌≡◌, min, IfOk, None, false};
+ghost use Rattle.std.specs.Prelude.{◌≡◌, ◌≢◌, min, length, IfOk, None, Err, false};
+ghost use Rattle.audit.specs.Answers.{IsAudited};
 ghost use Rattle.scripts.specs.Watched.{has_failed, has_unflushed};
 ghost use Rattle.drills.specs.Taken.{bytes_left};
 ghost use Rattle.failreg.specs.Recordings.{SaysVerdict};
 
-use audit::{AuditFault, audit, verdict_text};
-use drills::{DrillFault, read_drill};
+use audit::{AuditFault, AuditYes, audit, verdict_text};
+use drills::{Drill, DrillFault, read_drill};
 use scripts::{Watched, write_text};
 use std::alloc::Global;
 use std::fs;
@@ -18,6 +19,19 @@ fn nodes_of(traces: usize) -> u8
     ensures { result ≡ min traces 255 }
 {
     traces.min(255) as u8
+}
+
+// The verdict of an audit of a drill. Want of memory is none.
+fn judged(alloc: Global, drill: &Drill) -> Result<Result<AuditYes, AuditFault>, DrillFault>
+    ensures audited { IfOk result (IsAudited (min (length drill.now.traces.items) 255)
+        drill.now.traces.items drill.now.lists.items) }
+    ensures ended { IfOk result (λ verdict. verdict ≢ Err AuditFault.OutOfMemory) }
+{
+    let nodes = nodes_of(drill.traces.len());
+    match audit(alloc, nodes, &drill.traces, &drill.lists) {
+        Err(AuditFault::OutOfMemory) => Err(DrillFault::OutOfMemory),
+        verdict => Ok(verdict),
+    }
 }
 
 // Audits the drill that a reader gives, writes what the audit says, and answers whether it is a yes.
@@ -33,11 +47,7 @@ fn audit_drill<I: Read, O: Write>(
     ensures flushed { IfOk result (λ yes. has_unflushed writer.new ≡ false) }
 {
     let drill = read_drill(alloc, reader)?;
-    let nodes = nodes_of(drill.traces.len());
-    let verdict = audit(alloc, nodes, &drill.traces, &drill.lists);
-    if let Err(AuditFault::OutOfMemory) = verdict {
-        return Err(DrillFault::OutOfMemory);
-    }
+    let verdict = judged(alloc, &drill)?;
     let text = verdict_text(alloc, &verdict)?;
     match write_text(writer, text.as_bytes()) {
         Ok(()) => Ok(verdict.is_ok()),
