@@ -1,9 +1,12 @@
 //! The audit of a recorded drill.
 
-ghost use Rattle.std.specs.Prelude.{◌≡◌, ◌≢◌, min, length, IfOk, None, Err, false};
+ghost use Rattle.std.specs.Prelude.{◌≡◌, ◌≢◌, ◌↔◌, ℕ, min, length, IfOk, IfErr, None, Err, true, false};
+ghost use Rattle.std.specs.Io.Buffered.{reader_inner};
 ghost use Rattle.audit.specs.Answers.{IsAudited};
 ghost use Rattle.scripts.specs.Watched.{has_failed, has_unflushed};
-ghost use Rattle.drills.specs.Taken.{bytes_left};
+ghost use Rattle.drills.specs.declared.fault.DrillFault.TheVariants.{BadLine, ReadFailed, WriteFailed};
+ghost use Rattle.drills.specs.Drills.{drill_in};
+ghost use Rattle.drills.specs.Taken.{IfBytes, bytes_left};
 ghost use Rattle.failreg.specs.Recordings.{SaysVerdict};
 
 use audit::{AuditFault, AuditYes, audit, verdict_text};
@@ -26,6 +29,7 @@ fn judged(alloc: Global, drill: &Drill) -> Result<Result<AuditYes, AuditFault>, 
     ensures audited { IfOk result (IsAudited (min (length drill.now.traces.items) 255)
         drill.now.traces.items drill.now.lists.items) }
     ensures ended { IfOk result (λ verdict. verdict ≢ Err AuditFault.OutOfMemory) }
+    ensures err { IfErr result (λ fault. fault ≡ DrillFault.OutOfMemory) }
 {
     let nodes = nodes_of(drill.traces.len());
     match audit(alloc, nodes, &drill.traces, &drill.lists) {
@@ -45,6 +49,13 @@ fn audit_drill<I: Read, O: Write>(
     ensures ok { IfOk result (λ yes. SaysVerdict (bytes_left I.remaining reader.old)
         yes O.contents writer.old writer.new) }
     ensures flushed { IfOk result (λ yes. has_unflushed writer.new ≡ false) }
+    // The line is the first that is bad.
+    ensures bad_line { (line : ℕ) → result ≡ Err (BadLine line) →
+        IfBytes I.remaining reader.old (λ bytes. drill_in bytes ≡ Err line) }
+    ensures read_failed { result ≡ Err ReadFailed → has_failed (reader_inner reader.new) ≡ true }
+    ensures write_failed { (result ≡ Err WriteFailed) ↔ (has_failed writer.new ≡ true) }
+    // After any other fault the writer is as it was.
+    ensures unwritten { IfErr result (λ fault. fault ≢ WriteFailed → writer.new ≡ writer.old) }
 {
     let drill = read_drill(alloc, reader)?;
     let verdict = judged(alloc, &drill)?;
@@ -66,6 +77,8 @@ pub fn audit_file<R: Files, O: Write>(
     // Of a file's bytes nothing is known; it is an audit of some drill, and nothing else is written.
     ensures ok { IfOk result (λ yes. SaysVerdict None yes O.contents writer.old writer.new) }
     ensures flushed { IfOk result (λ yes. has_unflushed writer.new ≡ false) }
+    ensures write_failed { (result ≡ Err WriteFailed) ↔ (has_failed writer.new ≡ true) }
+    ensures unwritten { IfErr result (λ fault. fault ≢ WriteFailed → writer.new ≡ writer.old) }
 {
     let Ok(file) = fs::open(rt, path) else {
         return Err(DrillFault::ReadFailed);

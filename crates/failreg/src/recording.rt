@@ -1,7 +1,7 @@
 //! Recorded drills: a script of threads whose drill is kept.
 
-ghost use Rattle.std.specs.Prelude.{◌≡◌, ◌≢◌, ℕ, false, OnOk, Err};
-ghost use Rattle.scripts.specs.declared.fault.ScriptFault.TheVariants.{BadLine};
+ghost use Rattle.std.specs.Prelude.{◌≡◌, ◌≢◌, ◌↔◌, ◌<◌, ◌⊎◌, ℕ, length, true, false, OnOk, IfErr, Err};
+ghost use Rattle.scripts.specs.declared.fault.ScriptFault.TheVariants.{BadLine, OutOfMemory, ReadFailed, TooLong, WriteFailed};
 ghost use Rattle.scripts.specs.Streams.{IfInput, Writes};
 ghost use Rattle.scripts.specs.Watched.{has_failed, has_unflushed};
 ghost use Rattle.thread_scripts.specs.Outputs.{PlaysTo};
@@ -9,7 +9,7 @@ ghost use Rattle.thread_scripts.specs.Plans.{plan_in, plan_value};
 ghost use Rattle.failreg.specs.Recordings.{IsRecorded};
 
 use drills::{DrillFault, write_drill};
-use scripts::{ScriptFault, Watched, read_script, write_text};
+use scripts::{MOST_BYTES, ScriptFault, Watched, read_script, write_text};
 use std::alloc::Global;
 use std::fs;
 use std::fs::Files;
@@ -20,7 +20,8 @@ use thread_scripts::{ThreadPlan, output_of, play, read_plan};
 
 // Why a drill wasn't written, as scripts tell it.
 fn unwritten(fault: DrillFault) -> ScriptFault
-    ensures { (line : ℕ) → result ≢ BadLine line }
+    ensures only { (result ≡ WriteFailed) ⊎ (result ≡ OutOfMemory) }
+    ensures write_failed { (result ≡ WriteFailed) ↔ (fault ≡ DrillFault.WriteFailed) }
 {
     match fault {
         DrillFault::WriteFailed => ScriptFault::WriteFailed,
@@ -45,7 +46,10 @@ fn play_recorded<R: Threads + Wait + Sync, D: Write, O: Write>(
         D.contents recorder.old recorder.new O.contents writer.old writer.new) }
     ensures kept_whole { OnOk result (has_unflushed recorder.new ≡ false) }
     ensures flushed { OnOk result (has_unflushed writer.new ≡ false) }
-    ensures no_line { (line : ℕ) → result ≢ Err (BadLine line) }
+    ensures only { IfErr result (λ fault. (fault ≡ WriteFailed) ⊎ (fault ≡ OutOfMemory)) }
+    ensures write_failed { (result ≡ Err WriteFailed)
+        ↔ ((has_failed recorder.new ≡ true) ⊎ (has_failed writer.new ≡ true)) }
+    ensures unwritten { result ≡ Err OutOfMemory → writer.new ≡ writer.old }
 {
     let played = play(rt, alloc, plan)?;
     if let Err(fault) = write_drill(alloc, &played.traces, &played.lists, recorder) {
@@ -73,6 +77,11 @@ pub fn run_recorded<R: Threads + Wait + Sync + Files, I: Read, O: Write>(
     // The line is the first that is bad.
     ensures bad_line { (line : ℕ) → result ≡ Err (BadLine line) →
         IfInput I.remaining reader.old (λ input. plan_in input ≡ Err line) }
+    ensures read_failed { (result ≡ Err ReadFailed) ↔ (has_failed reader.new ≡ true) }
+    ensures too_long { result ≡ Err TooLong →
+        IfInput I.remaining reader.old (λ input. MOST_BYTES < length input) }
+    // After any other fault the writer is as it was.
+    ensures unwritten { IfErr result (λ fault. fault ≢ WriteFailed → writer.new ≡ writer.old) }
 {
     let script = read_script(alloc, reader)?;
     let plan = read_plan(alloc, script.as_slice())?;

@@ -1,6 +1,6 @@
 //! A node that is served over HTTP.
 
-ghost use Rattle.std.specs.Prelude.{◌≡◌, ◌⊎◌, IfOk, IsTrue, OnOk, true, false};
+ghost use Rattle.std.specs.Prelude.{◌≡◌, ◌⊎◌, IfOk, IfErr, IsTrue, OnOk, true, false};
 ghost use Rattle.std.specs.Process.{exit_status};
 ghost use Rattle.node_core.specs.Refusals.{is_bad_config};
 ghost use Rattle.failreg.specs.Statuses.{HasStatus};
@@ -110,7 +110,9 @@ fn opened<L: Label, R: Wait>(
     requires name { blank.name ≡ L.name }
     requires parts { (blank.parts ≡ L.parts) × (L.parts ≡ 2) }
     requires config { config ≡ L.config }
-    ensures { OnOk result (is_bad_config config ≡ false) }
+    ensures good { OnOk result (is_bad_config config ≡ false) }
+    ensures err { IfErr result (λ f. (f ≡ NodeFault.OutOfMemory)
+        ⊎ ((f ≡ NodeFault.BadConfig) × IsTrue (is_bad_config config))) }
 {
     let (registry, mut seats) = Registry::<L>::start(rt, alloc, blank, config, [0; 32], 2)?;
     match (Arc::new(alloc, registry), seats.pop(), seats.pop()) {
