@@ -6,8 +6,7 @@ use Rattle.stamp_register.specs.Keys.{KeyValue}
 use Rattle.replica_state.specs.Operations.{Hits, Execs, Shifts, Operation, Set, Count, IsIn}
 use Rattle.replica_state.specs.States.{State}
 use Rattle.replica_state.specs.Folds.{fold, key_in, key_of, number_at, at_key, name_in, holds_name}
-use Rattle.replica_state.specs.StateOrder.{IsBelow}
-use Rattle.replica_state.specs.SetOrder.{below-trans}
+use Rattle.replica_state.specs.StateOrder.{IsBelow, below-trans}
 use Rattle.replica_state.specs.Deltas.{IsInDelta, IsDelta}
 use Rattle.replica_state.proofs.Sets.{IsIn-append_left, number_at-is_in, KeyUpto, KeyUpto-trans, KeyUpto-antisym, key_of-is_in}
 use Rattle.replica_state.proofs.Names.{HoldsName, names_same, key_named, hit_named}

@@ -5,8 +5,7 @@ use Rattle.replica_state.specs.Operations.{Operation, IsIn}
 use Rattle.replica_state.specs.States.{State}
 use Rattle.replica_state.specs.Folds.{fold}
 use Rattle.replica_state.specs.Knowledge.{changes}
-use Rattle.replica_state.specs.StateOrder.{IsBelow}
-use Rattle.replica_state.specs.SetOrder.{below-refl, below-trans}
+use Rattle.replica_state.specs.StateOrder.{IsBelow, below-refl, below-trans}
 use Rattle.replica_state.specs.Deltas.{IsDelta}
 use Rattle.replica_state.proofs.Sets.{IsIn-append_cases}
 use Rattle.replica_state.proofs.KnownSets.{union_above_right}

@@ -1,5 +1,5 @@
 -- The entries of a state: which they are, in which order they stand, and in how many bytes one is written.
-use Rattle.std.proofs.Common.{◌≡◌, ℕ, zero, suc, ◌*◌, ◌<◌, ◌≤◌, ◌^◌, ◌&&◌, true, false, List, [], ◌∷◌, length, map, ⊎_elim, inl, inr, Option, Some, None, refl, sym, ap, subst, ◌∙◌, length-append, arith}
+use Rattle.std.proofs.Common.{◌≡◌, ℕ, zero, suc, ◌<◌, ◌≤◌, ◌&&◌, true, false, List, [], ◌∷◌, length, map, ⊎_elim, inl, inr, Option, Some, None, refl, sym, ap, subst, ◌∙◌, length-append, arith}
 use Rattle.std.specs.Prelude.{is_some, IsTrue, nat_lt, nat_le, slice_get}
 use Rattle.std.specs.List.{list_all}
 use Rattle.std.specs.Ordering.{nat_cmp}
@@ -13,18 +13,15 @@ use Rattle.actions.specs.Names.{is_name_byte, is_name}
 use Rattle.actions.proofs.Complete.{reading_complete}
 use Rattle.stamp_register.specs.Keys.{KeyValue, terms_read, terms_in_text, terms_set}
 use Rattle.replica_state.specs.Operations.{IsIn, count_in, count_under, count_of}
-use Rattle.replica_state.specs.States.{State, granted_in}
+use Rattle.replica_state.specs.States.{State}
 use Rattle.replica_state.proofs.Names.{IsAscending}
 use Rattle.delta_exchange.specs.Limits.{max_nodes}
 use Rattle.delta_exchange.specs.declared.wire.Form.{Form}
 use Rattle.delta_exchange.specs.declared.wire.Form.TheVariants.{Plain, WithGrants}
 use Rattle.delta_exchange.specs.Messages.{EntryValue}
-use Rattle.delta_exchange.specs.Spelling.{IsHit, IsExec, IsShift, IsBody, IsKey, IsEntry, hit_bytes, exec_bytes, shift_bytes, grants_bytes, body_bytes, entry_bytes}
-use Rattle.delta_exchange.specs.Cells.{hit_cells, term_cells, exec_cells, grant_cells, shift_cells, entry_of, entry_under, entry_at, entries_of, EntryFits}
-use Rattle.delta_exchange.proofs.Members.{all_of, one_of}
-use Rattle.delta_exchange.proofs.LawfulStates.{IsLawfulState}
-use Rattle.delta_exchange.proofs.BelowLemmas.{ascends, below_in, in_below, length_below, ascending_below, length_flat}
-use Rattle.delta_exchange.proofs.HeldCells.{hit_member, few_hits, hits_ascend, term_member, few_terms, terms_ascend, shift_member, few_shifts, shifts_ascend}
+use Rattle.delta_exchange.specs.Spelling.{IsBody, IsKey, IsEntry, hit_bytes, exec_bytes, shift_bytes, grants_bytes, body_bytes, entry_bytes}
+use Rattle.delta_exchange.specs.Cells.{entry_of, entry_under, entry_at, entries_of}
+use Rattle.delta_exchange.proofs.BelowLemmas.{below_in, in_below, ascending_below, length_flat}
 
 -- ---- names by their places
 

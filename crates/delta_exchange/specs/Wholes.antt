@@ -1,12 +1,9 @@
 -- Which operations a node of a cluster may know, so that messages can tell them.
-use Rattle.std.specs.Prelude.{◌≡◌, ℕ, ◌<◌, ◌≤◌, List, length, IsTrue, is_some}
+use Rattle.std.specs.Prelude.{ℕ, ◌<◌, List, IsTrue, is_some}
 use Rattle.actions.specs.Names.{is_name}
 use Rattle.replica_state.specs.Operations.{Operation, Set, Count, Hits, Execs, Shifts, IsIn}
-use Rattle.replica_state.specs.States.{State}
 use Rattle.replica_state.specs.Folds.{key_of}
-use Rattle.replica_state.specs.Deltas.{IsAllTold}
-use Rattle.delta_exchange.specs.Messages.{MessageValue, operations_in}
-use Rattle.delta_exchange.specs.Spelling.{IsKey, IsCountedTerm, IsMessage, message_bytes, max_message}
+use Rattle.delta_exchange.specs.Spelling.{IsKey, IsCountedTerm}
 
 -- an operation that a message of a cluster of so many nodes can tell
 abbrev pub IsLawful : ℕ → Operation → Type 0

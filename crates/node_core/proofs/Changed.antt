@@ -7,7 +7,7 @@ use Rattle.replica_state.specs.declared.point.Counted.TheVariants.{Hits, Execs, 
 use Rattle.replica_state.specs.Operations.{Operation, Set, Count}
 use Rattle.replica_state.specs.Operations as cells
 use Rattle.replica_state.specs.Points.{is_hits}
-use Rattle.replica_state.specs.OpSets.{cell_of}
+use Rattle.replica_state.specs.Cells.{cell_of}
 use Rattle.replica_state.specs.States.{State}
 use Rattle.replica_state.specs.Folds.{fold, key_of, at_key, name_in}
 use Rattle.replica_state.specs.Knowledge.{changes}

@@ -1,8 +1,7 @@
 -- Bytes that tell what differs are those of the message that the node makes.
 use Rattle.std.proofs.Common.{◌≡◌, ℕ, ◌==◌, Bool, true, false, cond, List, [], ◌∷◌, ◌++◌, ap, ◌∙◌}
 use Rattle.replica_state.specs.Folds.{fold}
-use Rattle.replica_state.specs.StateOrder.{IsBelow}
-use Rattle.replica_state.specs.SetOrder.{below-refl, below-trans}
+use Rattle.replica_state.specs.StateOrder.{IsBelow, below-refl, below-trans}
 use Rattle.replica_state.proofs.KnownSets.{union_above_right}
 use Rattle.delta_exchange.specs.Messages.{MessageValue}
 use Rattle.delta_exchange.specs.Spelling.{message_bytes}

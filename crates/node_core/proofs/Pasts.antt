@@ -5,8 +5,7 @@ use Rattle.replica_state.specs.Operations.{Operation}
 use Rattle.replica_state.specs.States.{State}
 use Rattle.replica_state.specs.Folds.{fold}
 use Rattle.replica_state.specs.Knowledge.{changes}
-use Rattle.replica_state.specs.StateOrder.{IsBelow}
-use Rattle.replica_state.specs.SetOrder.{below-refl, below-trans}
+use Rattle.replica_state.specs.StateOrder.{IsBelow, below-refl, below-trans}
 use Rattle.replica_state.proofs.KnownSets.{union_above_right}
 use Rattle.replica_state.proofs.Changes.{changes_is_change}
 use Rattle.node_core.specs.Asks.{Asked, Call}

@@ -98,8 +98,7 @@ impl NodeCore {
         }
     }
 
-    /// Passes a point as `pass_with` does, without a reply of its own: the trace has it, and
-    /// `last_pass` lends it from there.
+    /// Passes a point as `pass_with` does, without a reply of its own: the trace's last entry has it.
     pub fn record_pass(&mut self, alloc: Global, name: &str, words: &[u32]) -> Result<(), NodeFault>
         ensures ok { OnOk result (Accepts self.old self.new
             (asks.Pass name.now) words.now (reply_to self.old (asks.Pass name.now) words.now)) }
@@ -118,16 +117,6 @@ impl NodeCore {
         };
         self.pass(alloc, point, &mut given, wanted)?;
         Ok(())
-    }
-
-    /// The reply of the last accepted call, if that was a pass.
-    pub fn last_pass(&self) -> Option<&PassReply>
-        ensures { option_map (λ r. passed r.now) result ≡ last_passed self.now }
-    {
-        match &self.trace.last()?.reply {
-            Reply::Pass(reply) => Some(reply),
-            _ => None,
-        }
     }
 
     // Passes a point whose name was read, with the next words of a source, and answers what is wanted.
