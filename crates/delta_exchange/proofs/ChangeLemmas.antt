@@ -5,7 +5,7 @@ use Rattle.std.specs.Str.{bytes_eq}
 use Rattle.replica_state.specs.declared.point.Counted.{Counted}
 use Rattle.replica_state.specs.Points.{is_hits}
 use Rattle.replica_state.specs.States.{State}
-use Rattle.replica_state.specs.OpSets.{cell_of}
+use Rattle.replica_state.specs.Cells.{cell_of}
 use Rattle.delta_exchange.specs.Changes.{IsSameKey, IsSameCell, IsChangedAt, ChangesAt}
 use Rattle.delta_exchange.specs.Marks.{MarksValue, AreUpto, is_of, with_mark, with_new_key, cell_change, last_changes}
 use Rattle.delta_exchange.specs.Versions.{no_changes}

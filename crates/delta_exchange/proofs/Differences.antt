@@ -7,8 +7,7 @@ use Rattle.std.proofs.lemmas.List.Concat.{flat_map-cons}
 use Rattle.stamp_register.specs.Keys.{KeyValue}
 use Rattle.replica_state.specs.Operations.{Operation, Set, Count, Hits, Execs, Shifts, IsIn}
 use Rattle.replica_state.specs.States.{State, granted_in}
-use Rattle.replica_state.specs.StateOrder.{IsKeyBelow, IsBelow}
-use Rattle.replica_state.specs.SetOrder.{key_below-irrefl}
+use Rattle.replica_state.specs.StateOrder.{IsKeyBelow, IsBelow, key_below-irrefl}
 use Rattle.replica_state.specs.Folds.{fold, name_in, names_of}
 use Rattle.replica_state.specs.Deltas.{IsTold, IsInDelta, IsDelta, TellSameOf}
 use Rattle.replica_state.proofs.Names.{IsAscending, names_of-ascending, holds-names_of, key_named}

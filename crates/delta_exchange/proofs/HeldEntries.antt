@@ -1,4 +1,4 @@
--- The entries of a state: which they are, in which order they stand, that they can be written, and in how many bytes.
+-- The entries of a state: which they are, in which order they stand, and in how many bytes one is written.
 use Rattle.std.proofs.Common.{◌≡◌, ℕ, zero, suc, ◌*◌, ◌<◌, ◌≤◌, ◌^◌, ◌&&◌, true, false, List, [], ◌∷◌, length, map, ⊎_elim, inl, inr, Option, Some, None, refl, sym, ap, subst, ◌∙◌, length-append, arith}
 use Rattle.std.specs.Prelude.{is_some, IsTrue, nat_lt, nat_le, slice_get}
 use Rattle.std.specs.List.{list_all}
@@ -110,17 +110,6 @@ module _ (v : State) (nodes : ℕ) where
       (subst (λ place. IsIn (entry_of v nodes name key) (entry_at v nodes place)) (sym r.2)
       (subst (λ k. IsIn (entry_of v nodes name key) (entry_under v nodes name k)) (sym e) (inl refl)))
 
-  one_under : (name : List ℕ) (k : Option KeyValue) → length (entry_under v nodes name k) ≤ 1
-  one_under name None = omega arith
-  one_under name (Some key) = omega arith
-
-  one_at : (place : Option (List ℕ)) → length (entry_at v nodes place) ≤ 1
-  one_at None = omega arith
-  one_at (Some name) = one_under name (v.key name)
-
-  pub few_entries : length v.names ≤ 256 → length (entries_of v nodes) ≤ 256 * 1
-  few_entries few = length_below (λ index. entry_at v nodes (slice_get v.names index)) 1 (length v.names) 256 few (λ index. one_at (slice_get v.names index))
-
   under_ascends : (name : List ℕ) (k : Option KeyValue) → IsAscending (map (λ e. e.name) (entry_under v nodes name k))
   under_ascends name None = tt
   under_ascends name (Some key) = (λ m h. absurd h, tt)
@@ -136,61 +125,6 @@ module _ (v : State) (nodes : ℕ) where
       let a = in_place (slice_get v.names i) c k in
       let b = in_place (slice_get v.names j) d l in
       rw (a.is, b.is) (get_less v.names i j a.name b.name h lt a.found b.found))
-
-  -- ---- they can be written
-
-  module _ (lawful : IsLawfulState nodes v) (few : nodes ≤ max_nodes) where
-    hit_is : (name : List ℕ) (c : ℕ × ℕ) → c.1 < 2 ^ 64 → IsIn c (hit_cells v name nodes) → IsHit nodes c
-    hit_is name c fits h =
-        let r = hit_member v name nodes c h in
-        let a : c.0 ≡ r.node = ap (λ (x : ℕ × ℕ). x.0) r.is in
-        let b : c.1 ≡ v.hits name r.node = ap (λ (x : ℕ × ℕ). x.1) r.is in
-        (omega (arith, a, r.below), (omega (arith, b, r.some), fits))
-
-    exec_is : (number : ℕ → ℕ → ℕ) (key : KeyValue) (c : ℕ × ℕ × ℕ) → c.2 < 2 ^ 64 → IsIn c (term_cells number key nodes) → IsExec nodes key c
-    exec_is number key c fits h =
-        let r = term_member number nodes key c h in
-        let t : c.0 ≡ r.term = ap (λ (x : ℕ × ℕ × ℕ). x.0) r.row.is in
-        let a : c.1 ≡ r.row.node = ap (λ (x : ℕ × ℕ × ℕ). x.1) r.row.is in
-        let b : c.2 ≡ number r.term r.row.node = ap (λ (x : ℕ × ℕ × ℕ). x.2) r.row.is in
-        ((subst (λ term. IsTrue (is_some (count_of key term))) (sym t) r.counted, omega (arith, t, r.below)), omega (arith, a, r.row.below), (omega (arith, b, r.row.some), fits))
-
-    shift_is : (name : List ℕ) (key : KeyValue) (c : ℕ × ℕ × ℕ × ℕ) → c.3 < 2 ^ 64 → IsIn c (shift_cells v name key nodes) → IsShift nodes key c
-    shift_is name key c fits h =
-        let r = shift_member v name nodes key c h in
-        let t : c.0 ≡ r.term = ap (λ (x : ℕ × ℕ × ℕ × ℕ). x.0) r.rows.row.is in
-        let a : c.1 ≡ r.rows.from = ap (λ (x : ℕ × ℕ × ℕ × ℕ). x.1) r.rows.row.is in
-        let b : c.2 ≡ r.rows.row.to = ap (λ (x : ℕ × ℕ × ℕ × ℕ). x.2) r.rows.row.is in
-        let d : c.3 ≡ v.shifts name r.term r.rows.from r.rows.row.to = ap (λ (x : ℕ × ℕ × ℕ × ℕ). x.3) r.rows.row.is in (
-          (subst (λ term. IsTrue (is_some (count_of key term))) (sym t) r.counted, omega (arith, t, r.below)),
-          omega (arith, a, r.rows.below),
-          omega (arith, b, r.rows.row.below),
-          λ e. r.rows.row.apart (sym b ∙ e ∙ a),
-          (omega (arith, d, r.rows.row.some), fits),
-        )
-
-    pub entry_is : (name : List ℕ) (key : KeyValue) → IsIn name v.names → v.key name ≡ Some key → EntryFits (entry_of v nodes name key) → IsEntry nodes (entry_of v nodes name key)
-    entry_is name key held keyed fits =
-        let hits = few_hits v name nodes few in
-        let execs = few_terms (v.execs name) nodes key few in
-        let grants = few_terms (granted_in v name) nodes key few in
-        let shifts = few_shifts v name nodes key few in
-        record {
-          name = lawful.named name held;
-          key = lawful.key name key keyed;
-          few_hits = omega (arith, hits);
-          hits = all_of (IsHit nodes) (hit_cells v name nodes) (λ c h. hit_is name c (one_of (λ (x : ℕ × ℕ). x.1 < 2 ^ 64) (hit_cells v name nodes) fits.0 c h) h);
-          hits_ascend = ascends _ (hits_ascend v name nodes);
-          few_execs = omega (arith, execs);
-          execs = all_of (IsExec nodes key) (exec_cells v name key nodes) (λ c h. exec_is (v.execs name) key c (one_of (λ (x : ℕ × ℕ × ℕ). x.2 < 2 ^ 64) (exec_cells v name key nodes) fits.1 c h) h);
-          execs_ascend = ascends _ (terms_ascend (v.execs name) nodes key);
-          few_shifts = omega (arith, shifts);
-          shifts = all_of (IsShift nodes key) (shift_cells v name key nodes) (λ c h. shift_is name key c (one_of (λ (x : ℕ × ℕ × ℕ × ℕ). x.3 < 2 ^ 64) (shift_cells v name key nodes) fits.2 c h) h);
-          shifts_ascend = ascends _ (shifts_ascend v name nodes key);
-          few_grants = omega (arith, grants);
-          grants = all_of (IsExec nodes key) (grant_cells v name key nodes) (λ c h. exec_is (granted_in v name) key c (one_of (λ (x : ℕ × ℕ × ℕ). x.2 < 2 ^ 64) (grant_cells v name key nodes) fits.3 c h) h);
-          grants_ascend = ascends _ (terms_ascend (granted_in v name) nodes key);
-        }
 
 -- ---- in how many bytes
 

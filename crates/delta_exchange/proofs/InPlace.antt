@@ -8,7 +8,7 @@ use Rattle.replica_state.specs.declared.point.Counted.TheVariants.{Hits, Execs, 
 use Rattle.replica_state.specs.Points.{is_hits, same_counted}
 use Rattle.replica_state.specs.Knowledge.{is_upto}
 use Rattle.replica_state.specs.States.{State, with_key, with_hits, with_execs, with_shifts, with_pass}
-use Rattle.replica_state.specs.OpSets.{cell_of}
+use Rattle.replica_state.specs.Cells.{cell_of}
 use Rattle.replica_state.proofs.Orders.{bytes_eq-true, key_le-refl}
 use Rattle.delta_exchange.specs.Changes.{IsSameKey, IsSameCell}
 use Rattle.delta_exchange.specs.Marks.{is_of}

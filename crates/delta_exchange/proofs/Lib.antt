@@ -18,7 +18,6 @@ pub mod LawfulStates
 pub mod BelowLemmas
 pub mod HeldCells
 pub mod HeldEntries
-pub mod WholeLemmas
 pub mod StateAgain
 pub mod MarkLemmas
 pub mod ChangeLemmas

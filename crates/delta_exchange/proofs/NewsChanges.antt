@@ -10,7 +10,7 @@ use Rattle.replica_state.specs.Points.{is_hits, same_counted}
 use Rattle.replica_state.specs.Operations.{Operation, Cell, Set, Count, Hits, Execs, Shifts, IsIn, IsWellFormed}
 use Rattle.replica_state.specs.States.{State}
 use Rattle.replica_state.specs.Folds.{fold, name_in, key_in, key_in_cell, at_key, key_of, number_at}
-use Rattle.replica_state.specs.OpSets.{cell_of, key_told, count_told}
+use Rattle.replica_state.specs.Cells.{cell_of, key_told, count_told}
 use Rattle.replica_state.specs.Knowledge.{is_upto, knows, knows_count, changes}
 use Rattle.replica_state.proofs.Orders.{bytes_eq-true, bytes_eq-refl}
 use Rattle.replica_state.proofs.Sets.{IsIn-append_left, IsIn-append_right, IsIn-append_cases, number_at-is_in, number_at-least, KeyUpto, KeyUpto-antisym, key_of-is_in, key_of-least, key_of-mono}

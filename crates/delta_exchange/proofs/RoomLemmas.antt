@@ -6,7 +6,7 @@ use Rattle.replica_state.specs.declared.point.Counted.{Counted}
 use Rattle.replica_state.specs.declared.point.Counted.TheVariants.{Hits, Execs, Shifts}
 use Rattle.replica_state.specs.declared.point.Count.{Count}
 use Rattle.replica_state.specs.Folds.{name_in}
-use Rattle.replica_state.specs.OpSets.{operation_told, count_told, cell_told}
+use Rattle.replica_state.specs.Cells.{operation_told, count_told, cell_told}
 use Rattle.replica_state.specs.Operations as cells
 use Rattle.delta_exchange.specs.declared.news.Told.{Told}
 use Rattle.delta_exchange.specs.declared.marks.Marks.{Marks}

@@ -8,7 +8,7 @@ use Rattle.stamp_register.specs.Keys.{KeyValue}
 use Rattle.replica_state.specs.Operations.{IsIn}
 use Rattle.replica_state.specs.States.{State, granted_in}
 use Rattle.replica_state.specs.Points.{counted_cmp, is_hits}
-use Rattle.replica_state.specs.OpSets as state
+use Rattle.replica_state.specs.Cells as state
 use Rattle.replica_state.specs.declared.point.Counted.{Counted}
 use Rattle.replica_state.specs.declared.point.Counted.TheVariants.{Hits, Execs, Shifts}
 use Rattle.delta_exchange.specs.Limits.{max_nodes}

@@ -1,18 +1,20 @@
 -- What changed after a version, as a message: it can be written, and it tells just the changes.
-use Rattle.std.proofs.Common.{◌≡◌, ◌≢◌, ℕ, ◌<◌, ◌≤◌, ◌^◌, inl, inr, ⊎_elim, List, length, refl, sym, subst, ◌∙◌, length-append, arith}
-use Rattle.std.specs.Prelude.{◌↔◌}
+use Rattle.std.proofs.Common.{◌≡◌, ◌≢◌, ℕ, ◌<◌, ◌≤◌, ◌^◌, inl, inr, ⊎_elim, List, length, Option, Some, None, refl, sym, subst, ◌∙◌, length-append, arith}
+use Rattle.std.specs.Prelude.{◌↔◌, is_some, IsTrue}
 use Rattle.std.specs.List.{flat_map}
 use Rattle.std.proofs.lemmas.Bool.{cases_eq}
+use Rattle.stamp_register.specs.Keys.{KeyValue}
 use Rattle.replica_state.specs.Operations.{Operation, Set, Count, Hits, Execs, Shifts, IsIn}
 use Rattle.replica_state.specs.States.{State}
 use Rattle.replica_state.specs.declared.point.Counted.TheVariants as counted
 use Rattle.delta_exchange.specs.Limits.{max_nodes}
 use Rattle.delta_exchange.specs.declared.marks.Marks.{Marks}
 use Rattle.delta_exchange.specs.declared.wire.Form.{Form}
+use Rattle.delta_exchange.specs.declared.wire.Form.TheVariants.{Plain, WithGrants}
 use Rattle.delta_exchange.specs.Marks.{marks_value, AreUpto}
 use Rattle.delta_exchange.specs.Changes.{IsChangeSince, IsChangedCell, IsUnchangedSince}
 use Rattle.delta_exchange.specs.Messages.{EntryValue, MessageValue, operations_of}
-use Rattle.delta_exchange.specs.Spelling.{IsEntry, IsMessage, form_of, entry_bytes, message_bytes, max_message}
+use Rattle.delta_exchange.specs.Spelling.{IsEntry, IsMessage, magic, form_of, entry_bytes, message_bytes, max_message}
 use Rattle.delta_exchange.specs.Cells.{EntryFits, EntriesFit}
 use Rattle.delta_exchange.specs.Versions.{VersionedValue}
 use Rattle.delta_exchange.specs.Since.{CanBeTold, IsMessageSince, entry_since}
@@ -22,10 +24,17 @@ use Rattle.delta_exchange.proofs.OneMessage.{hit_in, exec_in, shift_in, grant_in
 use Rattle.delta_exchange.proofs.LawfulStates.{IsLawfulState, lawful_state}
 use Rattle.delta_exchange.proofs.BelowLemmas.{ascends, length_flat}
 use Rattle.delta_exchange.proofs.HeldEntries.{entry_short}
-use Rattle.delta_exchange.proofs.WholeLemmas.{magic_short, some_key}
 use Rattle.delta_exchange.proofs.SinceCells.{changes_of, hit_changed, changed_hit, few_hits_since, exec_changed, changed_exec, few_execs_since, shift_changed, changed_shift, few_shifts_since, grant_changed, changed_grant, few_grants_since}
 use Rattle.delta_exchange.proofs.SinceEntries.{all_since, AreOrdered, IsEntrySince, entry_member, few_entries, entries_ascend}
 use Rattle.delta_exchange.proofs.SinceChanges.{told_change, entry_is, entry_changed}
+
+magic_short : (form : Form) → length (magic form) ≤ 4
+magic_short Plain = omega arith
+magic_short WithGrants = omega arith
+
+some_key : (o : Option KeyValue) → IsTrue (is_some o) → (key : KeyValue) × (o ≡ Some key)
+some_key None h = absurd cc
+some_key (Some key) h = (key, refl)
 
 module _ (v : State) (nodes : ℕ) (lawful : IsLawfulState nodes v) (few : nodes ≤ max_nodes) (m : Marks) (base version : ℕ) (upto : AreUpto (marks_value m) version) (ordered : AreOrdered v base m) where
   abbrev Changes : Operation → Type 0

@@ -10,7 +10,7 @@ use Rattle.replica_state.proofs.KnownSets.{own_name, same_fold}
 use Rattle.replica_state.proofs.Orders.{same_key-true, same_key-refl, key_le-refl}
 use Rattle.replica_state.proofs.Sets.{number_at-is_in, number_held, KeyUpto, key_of-is_in, key_of-found}
 use Rattle.delta_exchange.specs.Messages.{MessageValue, operations_in}
-use Rattle.delta_exchange.specs.Wholes.{AreLawful, IsWhole}
+use Rattle.delta_exchange.specs.Wholes.{AreLawful}
 
 -- a number that a set has is known by it
 has_later : (ops : List Operation) (cell : Cell) (number : ℕ) → number ≡ number_at cell ops → number ≢ 0 → HoldsLater ops cell number
@@ -94,5 +94,5 @@ module _ (ops told : List Operation) (all : IsAllTold (fold ops) told) where
       let now : number_at cell ops ≡ at_key (key_of name ops) (λ k. number_at (Shifts name k term from to) ops) = sym (ap (λ o. at_key o (λ k. number_at (Shifts name k term from to) ops)) e) in
       (all (Count cell (number_at cell ops))).1 ((e, sym now), not))
 
-pub state_again : (nodes from to : ℕ) (ops : List Operation) (m : MessageValue) → AreLawful nodes ops → IsWhole nodes from to (fold ops) m → fold (operations_in m) ≡ fold ops
-state_again nodes from to ops m lawful whole = same_fold (operations_in m) ops (knows ops (operations_in m) whole.all nodes lawful) (known ops (operations_in m) whole.all)
+pub state_again : (nodes : ℕ) (ops : List Operation) (m : MessageValue) → AreLawful nodes ops → IsAllTold (fold ops) (operations_in m) → fold (operations_in m) ≡ fold ops
+state_again nodes ops m lawful all = same_fold (operations_in m) ops (knows ops (operations_in m) all nodes lawful) (known ops (operations_in m) all)

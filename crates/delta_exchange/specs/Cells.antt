@@ -79,10 +79,6 @@ entry_at v nodes (Some name) = entry_under v nodes name (v.key name)
 abbrev pub entries_of : State → ℕ → List EntryValue
 entries_of v nodes = each_below (λ index. entry_at v nodes (slice_get v.names index)) (length v.names)
 
--- all of it, in a message that tells no version
-abbrev pub whole_of : State → ℕ → ℕ → ℕ → MessageValue
-whole_of v nodes from to = record { from = from; to = to; base = 0; upto = 0; ack = 0; entries = entries_of v nodes }
-
 -- ---- numbers of 64 bits
 
 abbrev pub HitsFit : List (ℕ × ℕ) → Type 0

@@ -4,7 +4,7 @@ use Rattle.replica_state.specs.Operations.{Operation, Set, Count}
 use Rattle.replica_state.specs.Operations as cells
 use Rattle.replica_state.specs.States.{State}
 use Rattle.replica_state.specs.Points.{is_hits}
-use Rattle.replica_state.specs.OpSets.{cell_of}
+use Rattle.replica_state.specs.Cells.{cell_of}
 use Rattle.replica_state.specs.declared.point.Counted.{Counted}
 use Rattle.replica_state.specs.declared.point.Counted.TheVariants.{Hits, Execs, Shifts}
 

@@ -10,7 +10,7 @@ use Rattle.replica_state.specs.States.{State}
 use Rattle.replica_state.specs.Folds.{fold, name_in, IsUnion}
 use Rattle.replica_state.specs.Knowledge.{is_upto, knows}
 use Rattle.replica_state.specs.Points.{is_hits, key_standing}
-use Rattle.replica_state.specs.OpSets.{key_told, count_told, operation_told}
+use Rattle.replica_state.specs.Cells.{key_told, count_told, operation_told}
 use Rattle.delta_exchange.specs.declared.news.Told.{Told}
 use Rattle.delta_exchange.specs.declared.marks.Marks.{Marks}
 use Rattle.delta_exchange.specs.Marks.{MarksValue, has_room, with_mark}

@@ -1,4 +1,4 @@
--- All that a node knows, as a message: which operations a node may know, and what it then tells.
+-- Which operations a node of a cluster may know, so that messages can tell them.
 use Rattle.std.specs.Prelude.{◌≡◌, ℕ, ◌<◌, ◌≤◌, List, length, IsTrue, is_some}
 use Rattle.actions.specs.Names.{is_name}
 use Rattle.replica_state.specs.Operations.{Operation, Set, Count, Hits, Execs, Shifts, IsIn}
@@ -23,14 +23,3 @@ pub record AreLawful (nodes : ℕ) (ops : List Operation) : Type 0 where
   pub each : (op : Operation) → IsIn op ops → IsLawful nodes op
   pub keyed : (name : List ℕ) (node number : ℕ) → IsIn (Count (Hits name node) number) ops →
       IsTrue (is_some (key_of name ops))
-
--- a message of one node to another that tells all of a state, and no version
-pub record IsWhole (nodes from to : ℕ) (v : State) (m : MessageValue) : Type 0 where
-  pub sender : m.from ≡ from
-  pub receiver : m.to ≡ to
-  pub base : m.base ≡ 0
-  pub upto : m.upto ≡ 0
-  pub ack : m.ack ≡ 0
-  pub spelled : IsMessage nodes m
-  pub short : length (message_bytes m) ≤ max_message
-  pub all : IsAllTold v (operations_in m)

@@ -3,11 +3,12 @@
 ghost use Rattle.std.specs.Prelude.{◌≡◌, ◌≤◌, ℕ, List, length, Ok};
 ghost use Rattle.std.specs.List.{AllByRecursion};
 ghost use Rattle.replica_state.specs.Operations.{Operation, IsWellFormed};
+ghost use Rattle.replica_state.specs.Deltas.{IsAllTold};
 ghost use Rattle.replica_state.specs.Folds.{fold};
 ghost use Rattle.delta_exchange.specs.Messages.{MessageValue, MovesToOthers, TellSame, operations_in};
 ghost use Rattle.delta_exchange.specs.Spelling.{IsMessage, SpellsMessage, message_bytes, max_message};
 ghost use Rattle.delta_exchange.specs.Reading.{message_at};
-ghost use Rattle.delta_exchange.specs.Wholes.{AreLawful, IsWhole};
+ghost use Rattle.delta_exchange.specs.Wholes.{AreLawful};
 
 /// Bytes are of at most one message, whatever the number of nodes.
 pub fn bytes_spell_one_message()
@@ -38,8 +39,9 @@ pub fn told_operations_are_well_formed()
         → AllByRecursion IsWellFormed (operations_in m) }
 {}
 
-/// A whole message of what lawful operations come to tells operations that come to the same.
+/// A message that tells all of what lawful operations come to tells operations that come to the
+/// same.
 pub fn whole_is_learned()
-    ensures { (nodes from to : ℕ) (ops : List Operation) (m : MessageValue) → AreLawful nodes ops
-        → IsWhole nodes from to (fold ops) m → fold (operations_in m) ≡ fold ops }
+    ensures { (nodes : ℕ) (ops : List Operation) (m : MessageValue) → AreLawful nodes ops
+        → IsAllTold (fold ops) (operations_in m) → fold (operations_in m) ≡ fold ops }
 {}

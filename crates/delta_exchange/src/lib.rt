@@ -24,12 +24,6 @@
 //! let same_bytes = encode(alloc, &message)?;
 //! ```
 //!
-//! `message_of_all` is the message of all that a replica holds:
-//!
-//! ```rust
-//! let message = message_of_all(alloc, &replica, nodes, from, to)?;
-//! ```
-//!
 //! `Versioned` is a replica that counts its changes, and knows of each key and each cell which
 //! change was the last:
 //!
@@ -42,7 +36,6 @@
 mod cells;
 mod entry;
 mod fault;
-mod held;
 pub mod laws;
 mod learning;
 mod marks;
@@ -56,7 +49,6 @@ mod wire;
 mod writing;
 
 pub use fault::WireFault;
-pub use held::message_of_all;
 pub use learning::replica_of;
 pub use message::{MAX_MESSAGE, MAX_NAMES, MAX_NODES, Message, NameEntry};
 pub use reading::decode;

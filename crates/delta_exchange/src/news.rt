@@ -7,7 +7,7 @@ ghost use Rattle.stamp_register.specs.Keys.{key_value};
 ghost use Rattle.replica_state.specs.Operations.{operation, IsWellFormed};
 ghost use Rattle.replica_state.specs.Knowledge.{knows};
 ghost use Rattle.replica_state.specs.Points.{key_standing};
-ghost use Rattle.replica_state.specs.OpSets.{operation_told};
+ghost use Rattle.replica_state.specs.Cells.{operation_told};
 ghost use Rattle.std.specs.List.{AllByRecursion};
 ghost use Rattle.replica_state.specs.Folds.{fold};
 ghost use Rattle.delta_exchange.specs.Marks.{marks_value};

@@ -16,7 +16,7 @@ use Rattle.replica_state.specs.Operations.{Hits, Execs, Shifts, Operation, Set, 
 use Rattle.replica_state.specs.Folds.{fold, names_of, greater, key_in, key_of, number_at, at_key, name_in, holds_name}
 use Rattle.replica_state.specs.States.{State, with_name}
 use Rattle.replica_state.specs.Points.{Held, key_standing, held_after_learning, held_after_count}
-use Rattle.replica_state.specs.OpSets.{held_at, with_held, key_told, count_told, cell_told, operation_told}
+use Rattle.replica_state.specs.Cells.{held_at, with_held, key_told, count_told, cell_told, operation_told}
 use Rattle.replica_state.proofs.Orders.{key_le-trans, key_le-other, same_key-cmp, same_key-true, same_key-refl, bytes_eq-true}
 use Rattle.replica_state.proofs.FoldSteps.{max_zero}
 use Rattle.replica_state.proofs.Learned.{held_none, held_equal}

@@ -1,6 +1,5 @@
 pub mod FoldSteps
 pub mod Counts
-pub mod NodeSums
 pub mod Orders
 pub mod Added
 pub mod Shown
@@ -15,7 +14,6 @@ pub mod Unions
 pub mod SlotLemmas
 pub mod Slots
 pub mod StateOrders
-pub mod PointJoins
 pub mod SetJoins
 pub mod MatrixJoins
 pub mod NamesTogether

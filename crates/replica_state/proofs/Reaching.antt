@@ -18,7 +18,7 @@ use Rattle.replica_state.specs.States.{State, with_name, with_key, with_hits, wi
 use Rattle.replica_state.specs.Folds.{fold, key_of, number_at, at_key, names_of, Learns, IsUnion, clock_of}
 use Rattle.replica_state.specs.Knowledge.{is_upto}
 use Rattle.replica_state.specs.Points.{Held, key_standing, same_counted, held_after_learning, held_after_key, held_after_count, held_after_shift}
-use Rattle.replica_state.specs.OpSets.{held_at, with_held}
+use Rattle.replica_state.specs.Cells.{held_at, with_held}
 use Rattle.replica_state.specs.Reached.{ComeTo, ComeToWith, ComeToBoth, IsReached}
 use Rattle.replica_state.proofs.Added.{added_parts}
 use Rattle.replica_state.proofs.FoldSteps.{fold_hits, fold_execs, fold_shifts, all_later, later_above}

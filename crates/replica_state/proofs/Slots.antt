@@ -31,7 +31,7 @@ use Rattle.replica_state.specs.declared.point.Counted.TheVariants.{Hits, Execs, 
 use Rattle.replica_state.specs.Operations.{IsIn}
 use Rattle.replica_state.specs.States.{with_name}
 use Rattle.replica_state.specs.Points.{Held, empty_held, is_hits, same_counted, raised_numbers, held_after_learning}
-use Rattle.replica_state.specs.OpSets.{cell_of, held_at, with_held}
+use Rattle.replica_state.specs.Cells.{cell_of, held_at, with_held}
 use Rattle.replica_state.specs.Slots.{Slot, Budgets, SaysSomething, no_slot, under_key, slot_key, slot_number, slot_held, slot_at, shown_slots}
 use Rattle.replica_state.proofs.Orders.{bytes_eq-true, bytes_eq-refl}
 use Rattle.replica_state.proofs.Shown.{with_held-same}

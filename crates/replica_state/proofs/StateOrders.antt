@@ -5,15 +5,11 @@ use Rattle.std.specs.Ordering.{nat_cmp, is_le, ordering_reverse}
 use Rattle.std.specs.Cmp.Lexicographic.{slice_cmp}
 use Rattle.std.specs.declared.cmp.Ordering.{Ordering}
 use Rattle.std.specs.declared.cmp.Ordering.TheVariants.{Less, Equal, Greater}
-use Rattle.lattice_laws.specs.Order.{IsCopy, IsJoin}
 use Rattle.stamp_register.specs.Keys.{KeyValue, key_rank, key_le}
-use Rattle.replica_state.specs.declared.op_set.OpSet.{OpSet}
 use Rattle.replica_state.specs.States.{State}
 use Rattle.replica_state.specs.Folds.{greater}
 use Rattle.replica_state.specs.StateOrder.{IsKeyBelow, IsBelowAt, IsBelow}
 use Rattle.replica_state.specs.Unions.{key_order, number_both, union_of}
-use Rattle.replica_state.specs.SetOrder.{state_of, IsSet, IsSetBelow}
-use Rattle.replica_state.specs.SetOrder.{below-refl}
 use Rattle.replica_state.proofs.Orders.{key_le-antisym}
 
 -- ---- keys
@@ -128,22 +124,3 @@ union_above v w = (λ name. above_left v w name, λ name. above_right v w name)
 pub union_under : (v w u : State) → IsBelow v u → IsBelow w u → IsBelow (union_of v w) u
 union_under v w u h k = λ name. least_at v w name u (h name) (k name)
 
--- a set whose state is the union is the least one above both
-pub union_joins : (x y both : OpSet) → state_of both ≡ union_of (state_of x) (state_of y) → IsJoin IsSet IsSetBelow x y both
-union_joins x y both e = record {
-  admitted_first = tt;
-  admitted_second = tt;
-  admitted_join = tt;
-  above_first = subst (IsBelow (state_of x)) (sym e) (union_above (state_of x) (state_of y)).0;
-  above_second = subst (IsBelow (state_of y)) (sym e) (union_above (state_of x) (state_of y)).1;
-  least = λ u a h k. subst (λ (s : State). IsBelow s (state_of u)) (sym e) (union_under (state_of x) (state_of y) (state_of u) h k);
-}
-
--- a set with the same state is a copy
-pub same_copies : (x copy : OpSet) → state_of copy ≡ state_of x → IsCopy IsSet IsSetBelow x copy
-same_copies x copy e = record {
-  admitted_source = tt;
-  admitted_copy = tt;
-  above = subst (IsBelow (state_of x)) (sym e) (below-refl (state_of x));
-  below = subst (λ (s : State). IsBelow s (state_of x)) (sym e) (below-refl (state_of x));
-}

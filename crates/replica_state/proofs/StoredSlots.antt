@@ -18,7 +18,7 @@ use Rattle.replica_state.specs.declared.point.Counted.TheVariants.{Hits, Execs, 
 use Rattle.replica_state.specs.States as states
 use Rattle.replica_state.specs.States.{State, with_name, total_hits, granted_of, budget_of, rights_of, spent_of}
 use Rattle.replica_state.specs.Points.{Held, empty_held, held_after_key, held_after_pass, held_after_count, budget_under}
-use Rattle.replica_state.specs.OpSets.{cell_of, held_at, with_held}
+use Rattle.replica_state.specs.Cells.{cell_of, held_at, with_held}
 use Rattle.replica_state.specs.Slots.{Budgets, Slot, IsSlotOf, HasNoSlot, ChangesSlot, no_slot, under_key, slot_key, slot_number, slot_held, slot_rights, shown_slots}
 use Rattle.replica_state.specs.MatrixOrder.{slots_order, are_slots, slots_map}
 use Rattle.replica_state.proofs.SlotLemmas.{not_found}

@@ -7,9 +7,8 @@ pub mod Knowledge
 pub mod Deltas
 pub mod Points
 pub mod Unions
-pub mod OpSets
+pub mod Cells
 pub mod Slots
-pub mod SetOrder
 pub mod MatrixOrder
 pub mod MatrixStates
 pub mod Laws

@@ -15,9 +15,8 @@ use Rattle.replica_state.specs.declared.matrix.Matrix.{Matrix}
 use Rattle.replica_state.specs.declared.point.Counted.{Counted}
 use Rattle.replica_state.specs.declared.point.Counted.TheVariants.{Hits, Execs, Shifts}
 use Rattle.replica_state.specs.States.{State}
-use Rattle.replica_state.specs.StateOrder.{IsKeyBelow, AreCellsBelow, OrdersByState}
+use Rattle.replica_state.specs.StateOrder.{IsKeyBelow, AreCellsBelow, OrdersByState, key_below-irrefl, key_below-trans}
 use Rattle.replica_state.specs.Reached.{IsReached}
-use Rattle.replica_state.specs.SetOrder.{key_below-irrefl, key_below-trans}
 use Rattle.replica_state.specs.Slots.{Budgets, share_number, budgets_number, under_key, slot_at, shown_slots}
 use Rattle.replica_state.specs.MatrixOrder.{First, first_order, cells_order, shares_order, budgets_order, key_cmp, IsMatrix, IsMatrixBelow}
 

@@ -1,4 +1,4 @@
--- What the plain replica holds of one name, and what it makes of an operation more.
+-- What is counted of one name, what is held of it, and what becomes of that with an operation more.
 use Rattle.std.specs.Prelude.{◌≡◌, ℕ, ◌==◌, ◌&&◌, ◌+◌, max, Bool, true, false, List, [], ◌∷◌, if◌then◌else◌, Option, Some, None, option_map, ℤ, pos}
 use Rattle.std.specs.Borrow.{Bor}
 use Rattle.std.specs.Option.{option_copied, option_map_or}
@@ -13,7 +13,6 @@ use Rattle.replica_state.specs.Operations.{count_of}
 use Rattle.replica_state.specs.declared.point.Counted.{Counted}
 use Rattle.replica_state.specs.declared.point.Counted.TheVariants.{Hits, Execs, Shifts}
 use Rattle.replica_state.specs.declared.point.Count.{Count}
-use Rattle.replica_state.specs.declared.point.Point.{Point}
 use Rattle.replica_state.specs.Folds.{greater}
 
 abbrev pub same_counted : Counted → Counted → Bool
@@ -26,12 +25,6 @@ abbrev pub is_hits : Counted → Bool
 is_hits (Hits node) = true
 is_hits (Execs term node) = false
 is_hits (Shifts term from to) = false
-
--- a number above those of its nodes
-abbrev pub node_bound : Counted → ℕ
-node_bound (Hits node) = node + 1
-node_bound (Execs term node) = node + 1
-node_bound (Shifts term from to) = max from to + 1
 
 -- what is counted, as numbers: first hits, then executions, then shifts, and each by its own numbers
 abbrev pub place_of_counted : Counted → List ℕ
@@ -48,11 +41,6 @@ abbrev pub term_of : Counted → Option ℕ
 term_of (Hits node) = None
 term_of (Execs term node) = Some term
 term_of (Shifts term from to) = Some term
-
--- the greatest number of what is counted so, 0 where there is none
-abbrev pub number_of : List Count → Counted → ℕ
-number_of [] counted = 0
-number_of (c ∷ cs) counted = max (if same_counted c.counted counted then c.number else 0) (number_of cs counted)
 
 -- the budget of a term in a name's numbers, if there is a key that counts it
 abbrev pub budget_in : (Counted → ℕ) → ℕ → ℕ → ℕ → Budget
@@ -86,9 +74,6 @@ pub record Held : Type 0 where
 
 unfoldable pub empty_held : Held
 empty_held = record { key = None; number = λ counted. 0 }
-
-unfoldable pub held_of : Point → Held
-held_of p = record { key = option_map key_value p.key; number = number_of p.counts.items }
 
 -- how a key stands to the one that is held
 abbrev pub key_standing : KeyValue → Option KeyValue → Ordering

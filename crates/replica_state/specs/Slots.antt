@@ -14,7 +14,7 @@ use Rattle.replica_state.specs.declared.point.Counted.TheVariants.{Hits, Execs, 
 use Rattle.replica_state.specs.declared.point.Count.{Count}
 use Rattle.replica_state.specs.States.{State, with_name}
 use Rattle.replica_state.specs.Points.{Held, empty_held, rights_of_key}
-use Rattle.replica_state.specs.OpSets.{cell_of, with_held}
+use Rattle.replica_state.specs.Cells.{cell_of, with_held}
 
 -- the budgets of a key's terms
 abbrev pub Budgets : Type 0

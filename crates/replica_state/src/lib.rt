@@ -2,20 +2,18 @@
 //! comes to. Which operations came first, and how often, makes no difference.
 #![tactic(auto)]
 
-mod budget;
 mod counted_order;
 pub mod laws;
 mod matrix;
 mod op;
-mod op_set;
 mod point;
-mod point_map;
 mod replica;
 mod slot;
 mod slot_map;
+mod terms;
 
 pub use matrix::Matrix;
 pub use op::Op;
-pub use op_set::OpSet;
-pub use point::{Count, Counted};
+pub use point::{Count, Counted, key_with};
 pub use replica::Replica;
+pub use terms::count_of;

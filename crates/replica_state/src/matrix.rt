@@ -4,7 +4,7 @@
 ghost use Rattle.std.specs.Prelude.{◌≡◌, IfOk, IfNone, IfSome, OnOk, OnErr};
 ghost use Rattle.lattice_laws.specs.Order.{IsCopy, IsJoin};
 ghost use Rattle.replica_state.specs.Folds.{IsUnion};
-ghost use Rattle.replica_state.specs.OpSets.{cell_of};
+ghost use Rattle.replica_state.specs.Cells.{cell_of};
 ghost use Rattle.replica_state.specs.Reached.{IsReached};
 ghost use Rattle.replica_state.specs.Slots.{IsSlotOf, HasNoSlot, shown_slots};
 

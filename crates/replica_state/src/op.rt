@@ -3,10 +3,10 @@
 ghost use Rattle.std.specs.Prelude.{◌≡◌, ◌↔◌, IsTrue};
 ghost use Rattle.replica_state.specs.Operations.{operation, IsWellFormed, ShiftsToAnother};
 ghost use Rattle.replica_state.specs.Folds.{name_in};
-ghost use Rattle.replica_state.specs.OpSets.{key_told, count_told};
+ghost use Rattle.replica_state.specs.Cells.{key_told, count_told};
 ghost use Rattle.replica_state.specs.Points.{given_key};
 
-use crate::budget::count_of;
+use crate::terms::count_of;
 use crate::point::{Count, Counted};
 use actions::Name;
 use stamp_register::Key;
@@ -90,7 +90,7 @@ impl Op {
     }
 
     /// The name that it tells of.
-    pub(crate) fn name(&self) -> &Name
+    pub fn name(&self) -> &Name
         ensures { result.now ≡ name_in (operation self.now) }
     {
         match self {
@@ -103,7 +103,7 @@ impl Op {
     }
 
     /// The key that it carries, if it does.
-    pub(crate) fn key(&self) -> Option<&Key>
+    pub fn key(&self) -> Option<&Key>
         ensures { given_key result ≡ key_told (operation self.now) }
     {
         match self {
@@ -116,7 +116,7 @@ impl Op {
     }
 
     /// What it counts, if it does.
-    pub(crate) fn count(&self) -> Option<Count>
+    pub fn count(&self) -> Option<Count>
         ensures { result ≡ count_told (operation self.now) }
     {
         match self {

@@ -8,12 +8,12 @@ ghost use Rattle.replica_state.specs.States.{State, with_name, with_key, with_pa
 ghost use Rattle.replica_state.specs.Folds.{fold, Learns, IsUnion};
 ghost use Rattle.replica_state.specs.Reached.{IsReached};
 ghost use Rattle.replica_state.specs.Knowledge.{is_upto};
-ghost use Rattle.replica_state.specs.OpSets.{operation_told, MayLearnCount, LearnsCount};
+ghost use Rattle.replica_state.specs.Cells.{operation_told, MayLearnCount, LearnsCount};
 ghost use Rattle.replica_state.specs.StateOrder.{OrdersByState};
 ghost use Rattle.replica_state.specs.Unions.{with_names};
 ghost use Rattle.replica_state.specs.Points.{given_key};
 
-use crate::budget::{count_of, terms_of};
+use crate::terms::{count_of, terms_of};
 use crate::op::Op;
 use crate::point::Count;
 use actions::Name;

@@ -11,7 +11,7 @@ ghost use Rattle.replica_state.specs.States.{MarksRights};
 ghost use Rattle.replica_state.specs.declared.point.Counted.{Counted};
 ghost use Rattle.replica_state.specs.declared.point.Counted.TheVariants.{Hits, Execs, Shifts};
 
-use crate::budget::{count_of, terms_of};
+use crate::terms::{count_of, terms_of};
 use crate::point::{Count, Counted};
 use counters::{Budget, HitCounter};
 use lattice_laws::{Join, LexOf, MapOf, PairOf};

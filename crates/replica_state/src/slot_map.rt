@@ -6,7 +6,7 @@ ghost use Rattle.std.specs.Borrow.{MutBor};
 ghost use Rattle.std.specs.Fn.{FnOnceReturnsAtMut};
 ghost use Rattle.stamp_register.specs.Keys.{key_value};
 ghost use Rattle.replica_state.specs.Points.{is_hits, empty_held, held_after_learning, held_after_key, held_after_pass, held_after_count, given_key};
-ghost use Rattle.replica_state.specs.OpSets.{with_held, with_change};
+ghost use Rattle.replica_state.specs.Cells.{with_held, with_change};
 ghost use Rattle.replica_state.specs.States.{with_name, with_key, with_pass, with_shifts};
 ghost use Rattle.replica_state.specs.Slots.{IsSlotOf, HasNoSlot, ChangesSlot, SaysSomething, slot_held, slot_key, slot_number, shown_slots};
 ghost use Rattle.replica_state.specs.MatrixOrder.{slots_map};

@@ -1,7 +1,7 @@
 use Rattle.std.proofs.Common.{◌≡◌, ◌++◌, ◌∷◌, [], List, Bool, map, ◌∙◌}
 use Rattle.stamp_register.specs.Keys.{key_value}
 use Rattle.replica_state.specs.Operations.{Operation, Set}
-use Rattle.replica_state.specs.OpSets.{operation_told}
+use Rattle.replica_state.specs.Cells.{operation_told}
 use Rattle.replica_state.proofs.Learned.{on_ok}
 use Rattle.delta_exchange.specs.Messages.{hits_in, execs_in, shifts_in, grants_in}
 use Rattle.delta_exchange.specs.News.{news_in, news_of}

@@ -1,4 +1,4 @@
-use Rattle.std.proofs.Common.{◌≡◌, refl, sym, ◌∙◌}
+use Rattle.std.proofs.Common.{refl, sym, ◌∙◌}
 use Rattle.counters.specs.Sums.{node_numbers}
 use Rattle.counters.specs.Cells.{granted_cell}
 use Rattle.counters.proofs.SumLemmas.{sum-same, sum-zero}

@@ -3,7 +3,7 @@ use Rattle.std.proofs.Common.{◌≡◌, ap, sym, ◌∙◌, rules}
 use Rattle.std.specs.Option.{option_map, option_copied}
 use Rattle.stamp_register.specs.Keys.{key_value}
 use Rattle.replica_state.specs.Points.{Held, held_after_learning}
-use Rattle.replica_state.specs.OpSets.{with_held}
+use Rattle.replica_state.specs.Cells.{with_held}
 use Rattle.replica_state.specs.Slots.{shown_slots, slot_held}
 use Rattle.replica_state.proofs.Learned.{on_ok}
 use Rattle.replica_state.proofs.Slots.{learned_is_something, none_told}

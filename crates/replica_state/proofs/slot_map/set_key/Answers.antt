@@ -1,7 +1,7 @@
 use Rattle.std.proofs.Common.{◌≡◌, ap, sym, ◌∙◌, rules}
 use Rattle.stamp_register.specs.Keys.{key_value}
 use Rattle.replica_state.specs.Points.{Held, held_after_key}
-use Rattle.replica_state.specs.OpSets.{with_held}
+use Rattle.replica_state.specs.Cells.{with_held}
 use Rattle.replica_state.specs.Slots.{shown_slots, slot_held}
 use Rattle.replica_state.proofs.Learned.{on_ok}
 use Rattle.replica_state.proofs.Shown.{took}

@@ -1,8 +1,0 @@
-use Rattle.std.proofs.Common.{◌≡◌, ◌*◌, ◌≤◌, ◌^◌}
-use Rattle.counters.specs.Sums.{sum_below}
-use Rattle.replica_state.specs.Points.{number_of}
-use Rattle.replica_state.specs.declared.point.Counted.TheVariants.{Hits}
-use Rattle.replica_state.proofs.budget.sum_hits.Given as goal
-
-abbrev pub invariant-loop-node : goal.invariant-loop-node
-invariant-loop-node l = record { value : l.sum ≡ sum_below l.node (λ node. number_of l.counts (Hits node)); small : l.sum ≤ l.node * 2 ^ 64 }

@@ -1,8 +1,0 @@
-use Rattle.std.proofs.Common.{◌≡◌, ◌*◌, ◌≤◌, ◌^◌}
-use Rattle.counters.specs.Sums.{sum_others}
-use Rattle.replica_state.specs.Points.{number_of}
-use Rattle.replica_state.specs.declared.point.Counted.TheVariants.{Shifts}
-use Rattle.replica_state.proofs.budget.sum_to.Given as goal
-
-abbrev pub invariant-loop-node : goal.invariant-loop-node
-invariant-loop-node l = record { value : l.sum ≡ sum_others l.node l.to (λ from. number_of l.counts (Shifts l.term from l.to)); small : l.sum ≤ l.node * 2 ^ 64 }

@@ -1,7 +1,0 @@
-use Rattle.std.proofs.Common.{ap, ◌∙◌}
-use Rattle.replica_state.specs.Points.{number_of}
-use Rattle.replica_state.proofs.Counts.{number_of-hits}
-use Rattle.replica_state.proofs.point.Point.take.Goals as goal
-
-pub returns-clause-number : goal.returns-clause-number
-returns-clause-number c = λ d. ap (λ cs. number_of cs d) c.keep_hits.ensures.items ∙ number_of-hits c.args.self.now.counts.items d

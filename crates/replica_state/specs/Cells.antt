@@ -1,0 +1,70 @@
+-- What a state holds of a name, and what an operation tells it.
+use Rattle.std.specs.Prelude.{◌≡◌, ℕ, List, if◌then◌else◌, Option, Some, None}
+use Rattle.std.specs.Str.{bytes_eq}
+use Rattle.stamp_register.specs.Keys.{KeyValue}
+use Rattle.replica_state.specs.declared.point.Counted.{Counted}
+use Rattle.replica_state.specs.declared.point.Counted.TheVariants.{Hits, Execs, Shifts}
+use Rattle.replica_state.specs.declared.point.Count.{Count as Counting}
+use Rattle.replica_state.specs.Operations as cells
+use Rattle.replica_state.specs.Operations.{Operation, Set, Count, IsWellFormed}
+use Rattle.replica_state.specs.States.{State, with_name}
+use Rattle.replica_state.specs.Folds.{Learns}
+use Rattle.replica_state.specs.Points.{Held}
+
+-- what a state holds of a name
+abbrev pub cell_of : State → List ℕ → Counted → ℕ
+cell_of v name (Hits node) = v.hits name node
+cell_of v name (Execs term node) = v.execs name term node
+cell_of v name (Shifts term from to) = v.shifts name term from to
+
+abbrev pub held_at : State → List ℕ → Held
+held_at v name = record { key = v.key name; number = cell_of v name }
+
+-- the state in which a name holds something else
+unfoldable pub with_held : List ℕ → Held → State → State
+with_held name h v =
+    record {
+      names = with_name name v.names;
+      key = λ n. if bytes_eq name n then h.key else v.key n;
+      hits = λ n node. if bytes_eq name n then h.number (Hits node) else v.hits n node;
+      execs = λ n term node. if bytes_eq name n then h.number (Execs term node) else v.execs n term node;
+      shifts = λ n term from to. if bytes_eq name n then h.number (Shifts term from to) else v.shifts n term from to;
+    }
+
+-- the state in which a name holds what this makes of what it held
+abbrev pub with_change : List ℕ → (Held → Held) → State → State
+with_change name f v = with_held name (f (held_at v name)) v
+
+-- what an operation tells its name
+abbrev pub key_told : Operation → Option KeyValue
+key_told (Set n key) = Some key
+key_told (Count (cells.Hits n node) number) = None
+key_told (Count (cells.Execs n key term node) number) = Some key
+key_told (Count (cells.Shifts n key term from to) number) = Some key
+
+abbrev pub count_told : Operation → Option Counting
+count_told (Set n key) = None
+count_told (Count (cells.Hits n node) number) = Some (record { counted = Hits node; number = number })
+count_told (Count (cells.Execs n key term node) number) = Some (record { counted = Execs term node; number = number })
+count_told (Count (cells.Shifts n key term from to) number) =
+    Some (record { counted = Shifts term from to; number = number })
+
+-- the operation of a name and its key that a setting or a count tells
+abbrev pub cell_told : List ℕ → KeyValue → Counted → cells.Cell
+cell_told name key (Hits node) = cells.Hits name node
+cell_told name key (Execs term node) = cells.Execs name key term node
+cell_told name key (Shifts term from to) = cells.Shifts name key term from to
+
+abbrev pub operation_told : List ℕ → KeyValue → Option Counting → Operation
+operation_told name key None = Set name key
+operation_told name key (Some told) = Count (cell_told name key told.counted) told.number
+
+-- a count can be learned of a name under the key that it has
+abbrev pub MayLearnCount : State → List ℕ → Counting → Type 0
+MayLearnCount v name count =
+    (key : KeyValue) × (v.key name ≡ Some key) × IsWellFormed (operation_told name key (Some count))
+
+-- with it the state is that of its set with the count under that key
+abbrev pub LearnsCount : State → State → List ℕ → Counting → Type 0
+LearnsCount v w name count =
+    (key : KeyValue) → v.key name ≡ Some key → Learns v w (operation_told name key (Some count))
