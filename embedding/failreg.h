@@ -58,7 +58,7 @@ enum failreg_status {
     FAILREG_ZERO_AMOUNT = 10,
     FAILREG_TOO_FEW_RIGHTS = 11,
     FAILREG_CELL_FULL = 12,
-    FAILREG_BAD_WORDS = 14,     /* the pass takes another number of words */
+    FAILREG_BAD_WORDS = 14,     /* the pass takes another number of random draws */
     FAILREG_BAD_MESSAGE = 16,
     FAILREG_NOT_FOR_ME = 17,
     FAILREG_OWN_AHEAD = 18,
@@ -113,8 +113,7 @@ typedef struct failreg_act {
 } failreg_act;
 
 /* Opens a closed node: node `number` of a cluster of `nodes`, which accepts `trace_cap` calls in
- * its life. The words of its passes are those of ChaCha8 of the seed, on the stream of its
- * number. */
+ * its life. Its passes draw at random by ChaCha8 of the seed, on the stream of its number. */
 uint32_t failreg_open(failreg *node, uint8_t number, uint8_t nodes, uint32_t trace_cap,
                       const uint8_t seed[32]);
 
@@ -138,10 +137,12 @@ uint32_t failreg_remove(failreg *node, const char *name, size_t name_len, failre
 /* [entry] Sets the points of a text "name=actions;name=actions", as of FAILPOINTS: all or none. */
 uint32_t failreg_load(failreg *node, const char *text, size_t text_len, uint16_t *entries);
 
-/* [entry] Passes a point, with the next words of the node's generator. */
+/* [entry] Passes a point, with the next random draws of the node's generator. A pass of a point
+ * that isn't set is an entry too: ask failreg_is_set first. */
 uint32_t failreg_pass(failreg *node, const char *name, size_t name_len, failreg_act *act);
 
-/* [entry] Passes a point with words of yours, one for each term whose chance is below 100%. */
+/* [entry] Passes a point with random draws of yours, words of 32 bits, one for each term whose
+ * chance is below 100%. */
 uint32_t failreg_pass_with(failreg *node, const char *name, size_t name_len, const uint32_t *words,
                            size_t words_len, failreg_act *act);
 
@@ -200,7 +201,8 @@ uint32_t failreg_fault(failreg *node);
  * is, and answers how long it is: with room 0 only that. It stays until the next of those calls. */
 size_t failreg_fetch(failreg *node, void *into, size_t room);
 
-/* The same of the words that the last failreg_pass drew; `room` counts words. */
+/* Copies the random draws of the last failreg_pass, as much as `room` is, and answers how many
+ * there are; `room` counts words of 32 bits. */
 size_t failreg_words(failreg *node, uint32_t *into, size_t room);
 
 #ifdef __cplusplus

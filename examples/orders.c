@@ -1,0 +1,33 @@
+/* One failpoint in a program of C: FAILPOINTS='save=2*return->off' loses two orders.
+ *
+ *     cc -I embedding examples/orders.c embedding/lib/libfailreg_c.a embedding/lib/liblibc_c.a -o orders */
+#include "failreg.h"
+#include <stdio.h>
+#include <stdlib.h>
+#include <string.h>
+
+/* Whether the point tells the caller to return. Where it isn't set, nothing is passed. */
+static bool is_failing(failreg *node, const char *name)
+{
+    bool is_set;
+    failreg_act act;
+    if (failreg_is_set(node, name, strlen(name), &is_set) != FAILREG_OK || !is_set)
+        return false;
+    return failreg_pass(node, name, strlen(name), &act) == FAILREG_OK
+        && act.outcome == FAILREG_ACT && act.task == FAILREG_RETURN;
+}
+
+int main(void)
+{
+    const uint8_t seed[32] = { 1 };
+    const char *settings = getenv("FAILPOINTS");
+    failreg node = FAILREG_CLOSED_NODE;
+    uint16_t points;
+    if (failreg_open(&node, 0, 1, 100000, seed) != FAILREG_OK)
+        return 1;
+    if (settings && failreg_load(&node, settings, strlen(settings), &points) != FAILREG_OK)
+        return 1;
+    for (int order = 0; order < 4; order++)
+        printf("order %d is %s\n", order, is_failing(&node, "save") ? "lost" : "saved");
+    failreg_end(&node);
+}
