@@ -1,5 +1,0 @@
-//! What is tested of messages.
-#![tactic(auto)]
-
-#[cfg(test)]
-mod tests;

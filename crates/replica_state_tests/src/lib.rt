@@ -1,5 +1,0 @@
-//! What is tested of replicas.
-#![tactic(auto)]
-
-#[cfg(test)]
-mod tests;

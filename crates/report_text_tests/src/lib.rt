@@ -1,5 +1,0 @@
-//! What is tested of reports.
-#![tactic(auto)]
-
-#[cfg(test)]
-mod tests;

@@ -1,0 +1,5 @@
+//! What is tested of messages and of replicas with versions.
+#![tactic(auto)]
+
+#[cfg(test)]
+mod tests;

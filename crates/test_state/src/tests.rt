@@ -1,0 +1,38 @@
+//! Examples from outside, a module for each crate.
+//!
+//! What changes a value is asked again where it is refused memory, and may have changed nothing by
+//! then. A test gives up where anything else is refused memory.
+
+mod counts;
+mod joined;
+mod keys;
+mod lattices;
+mod replicas;
+mod texts;
+
+use lattice_laws::Held;
+use std::alloc::{AllocError, Global};
+use std::fmt::{Debug, Display};
+use std::process::Abort;
+
+/// Ends the test where what is found isn't what is wanted.
+fn expect<T: PartialEq + Debug>(rt: &impl Abort, found: &T, wanted: &T) {
+    assert_eq!(rt; found, wanted);
+}
+
+/// Ends the test where a value doesn't print as wanted.
+fn expect_print<T: Display>(
+    rt: &impl Abort,
+    alloc: Global,
+    value: &T,
+    wanted: &str,
+) -> Result<(), AllocError> {
+    let printed = format!(in alloc; "{value}")?;
+    expect(rt, &printed.as_str(), &wanted);
+    Ok(())
+}
+
+/// The copy of a key that what holds it makes.
+fn held_copy<K: Held>(alloc: Global, key: &K) -> Result<K, AllocError> {
+    key.copied(alloc)
+}

@@ -1,0 +1,226 @@
+//! Replicas that are joined.
+
+use super::*;
+
+fn learned<R: Replica>(rt: &impl Abort, alloc: Global, steps: &[Step]) -> Result<R, Fail> {
+    let mut replica = R::empty(alloc);
+    for step in steps {
+        make_on(rt, alloc, &mut replica, "a", Call::Learn(*step))?;
+    }
+    Ok(replica)
+}
+
+const A: Keyed = (1, 0, "2*off");
+
+const NINE: Keyed = (1, 0, "9*off");
+
+/// What two replicas learned of a, whether each is below the other, and what both show.
+type Join = (&'static [Step], &'static [Step], (bool, bool), Told);
+
+const JOINS: &[Join] = &[
+    // What was known before the shift that pays for a spend adds nothing to what is known after it.
+    (
+        &[Step::Set(A), Step::Exec(A, 0, 1, 1)],
+        &[
+            Step::Set(A),
+            Step::Exec(A, 0, 1, 1),
+            Step::Shift(A, 0, 0, 1, 1),
+        ],
+        (true, false),
+        (1, (0, 0), (0, 1), (1, 0), (1, 0)),
+    ),
+    // Of one clock and one node the greater text holds, and with it what is counted under it. Hits
+    // go on under every key.
+    (
+        &[
+            Step::Hit(0, 4),
+            Step::Exec((5, 0, "3*off"), 0, 1, 2),
+            Step::Shift((5, 0, "3*off"), 0, 0, 1, 2),
+        ],
+        &[
+            Step::Hit(0, 3),
+            Step::Hit(1, 7),
+            Step::Exec((5, 0, "4*off"), 0, 0, 1),
+        ],
+        (false, false),
+        (5, (4, 7), (1, 0), (0, 0), (3, 0)),
+    ),
+    // Under one key each cell has the greater number.
+    (
+        &[Step::Exec(NINE, 0, 0, 3), Step::Exec(NINE, 0, 1, 1)],
+        &[
+            Step::Exec(NINE, 0, 0, 2),
+            Step::Exec(NINE, 0, 1, 2),
+            Step::Shift(NINE, 0, 0, 1, 4),
+        ],
+        (false, false),
+        (1, (0, 0), (3, 2), (4, 0), (2, 2)),
+    ),
+    // A replica that knows nothing is the bottom, and adds nothing.
+    (
+        &[],
+        &[Step::Hit(0, 1)],
+        (true, false),
+        (0, (1, 0), (0, 0), (0, 0), (0, 0)),
+    ),
+];
+
+fn all_joins<R: Replica>(rt: &impl Abort, alloc: Global) -> Result<(), Fail> {
+    let name = name(alloc, "a")?;
+    for (one, other, is_below, told) in JOINS {
+        let left: R = learned(rt, alloc, one)?;
+        let right: R = learned(rt, alloc, other)?;
+        expect(
+            rt,
+            &(order(&left, &right), left.is_bottom()),
+            &(*is_below, one.is_empty()),
+        );
+        expect_joins(
+            rt,
+            alloc,
+            (&left, &right),
+            |both| seen(both, &name),
+            &wanted(*told),
+        )?;
+    }
+    Ok(())
+}
+
+#[test]
+fn replicas_join(rt: HostRuntime) -> Result<(), Fail> {
+    all_joins::<OpSet>(&rt, rt.alloc())?;
+    all_joins::<Matrix>(&rt, rt.alloc())
+}
+
+/// Names, and the clocks at which node 0 set them.
+type Names = &'static [(&'static str, u64)];
+
+fn with_names<R: Replica>(rt: &impl Abort, alloc: Global, names: Names) -> Result<R, Fail> {
+    let mut replica = R::empty(alloc);
+    for (text, clock) in names {
+        make_on(
+            rt,
+            alloc,
+            &mut replica,
+            text,
+            Call::SetKey((*clock, 0, "off")),
+        )?;
+    }
+    Ok(replica)
+}
+
+/// A copy of a replica that another one is merged into. If its memory is refused, nothing may have
+/// changed, and it is asked again.
+fn merged<R: Replica>(
+    rt: &impl Abort,
+    alloc: Global,
+    replica: &R,
+    other: &R,
+) -> Result<R, AllocError> {
+    let mut copy = replica.copied(alloc)?;
+    if copy.merge(alloc, other.copied(alloc)?).is_err() {
+        expect(rt, &same(&copy, replica), &true);
+        copy.merge(alloc, other.copied(alloc)?)?;
+    }
+    Ok(copy)
+}
+
+fn names_together<R: Replica>(left: &R, right: &R) -> (usize, usize) {
+    (left.names_together(right), right.names_together(left))
+}
+
+/// The text of the name at a place.
+fn text_at<R: Replica>(replica: &R, place: usize) -> Option<&str> {
+    Some(replica.name_at(place)?.text())
+}
+
+/// Ends the test where a replica doesn't hold these names alone, in this order, at these clocks.
+fn expect_names<R: Replica>(
+    rt: &impl Abort,
+    alloc: Global,
+    replica: &R,
+    names: Names,
+) -> Result<(), Fail> {
+    for (place, (text, clock)) in names.iter().enumerate() {
+        let name = name(alloc, text)?;
+        let found = (text_at(replica, place), clock_of(replica, &name));
+        expect(rt, &found, &(Some(*text), *clock));
+        expect(rt, &all_names_with(replica, &name), &names.len());
+    }
+    expect(
+        rt,
+        &(all_names(replica), text_at(replica, names.len())),
+        &(names.len(), None),
+    );
+    Ok(())
+}
+
+/// Two replicas, and both. Names stand in byte order, each once.
+const NAMES: &[(Names, Names, Names)] = &[
+    (&[("b", 2)], &[("a", 1)], &[("a", 1), ("b", 2)]),
+    (
+        &[("a", 1), ("b", 2)],
+        &[("b", 5), ("c", 4)],
+        &[("a", 1), ("b", 5), ("c", 4)],
+    ),
+    (
+        &[("b", 1), ("a", 1), ("b", 2), ("c", 1)],
+        &[],
+        &[("a", 1), ("b", 2), ("c", 1)],
+    ),
+    (&[], &[("a", 1)], &[("a", 1)]),
+];
+
+fn all_merges<R: Replica>(rt: &impl Abort, alloc: Global) -> Result<(), Fail> {
+    for (one, other, names) in NAMES {
+        let left: R = with_names(rt, alloc, one)?;
+        let right: R = with_names(rt, alloc, other)?;
+        expect(
+            rt,
+            &names_together(&left, &right),
+            &(names.len(), names.len()),
+        );
+        let merged = merged(rt, alloc, &left, &right)?;
+        expect_names(rt, alloc, &merged, names)?;
+        expect_joins(
+            rt,
+            alloc,
+            (&left, &right),
+            |both| same(both, &merged),
+            &true,
+        )?;
+    }
+    Ok(())
+}
+
+#[test]
+fn names_join(rt: HostRuntime) -> Result<(), Fail> {
+    all_merges::<OpSet>(&rt, rt.alloc())?;
+    all_merges::<Matrix>(&rt, rt.alloc())
+}
+
+/// A matrix in which this many names have a hit.
+fn with_hits(rt: &impl Abort, alloc: Global, names: u32) -> Result<Matrix, Fail> {
+    let mut replica = Matrix::empty(alloc);
+    for place in 0..names {
+        let text = format!(in alloc; "p{place}")?;
+        make_on(
+            rt,
+            alloc,
+            &mut replica,
+            text.as_str(),
+            Call::Learn(Step::Hit(0, 1)),
+        )?;
+    }
+    Ok(replica)
+}
+
+/// A matrix takes in another one with more names than are joined in place.
+#[test]
+fn many_names(rt: HostRuntime) -> Result<(), Fail> {
+    let mut few = with_hits(&rt, rt.alloc(), 10)?;
+    let many = with_hits(&rt, rt.alloc(), 300)?;
+    join_in(&rt, rt.alloc(), &mut few, &many)?;
+    expect(&rt, &(same(&few, &many), all_names(&few)), &(true, 300));
+    Ok(())
+}

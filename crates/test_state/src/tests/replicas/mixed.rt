@@ -1,0 +1,210 @@
+//! One long run of operations of every kind, which both replicas learn in several orders, and what
+//! they then answer, side by side.
+
+use super::*;
+
+/// How many operations the run has. The last 12 repeat the first 12.
+const RUN: u16 = 204;
+
+const HALF: u16 = 102;
+
+/// The key of an operation. The stamps of the places 1 and 2 are equal.
+fn key_at(place: u16) -> Keyed {
+    match place {
+        0 => (1, 0, "2*off->3*off->4*off"),
+        1 => (2, 1, "5*off->6*off->5*off"),
+        2 => (2, 1, "5*off->5*off->6*off"),
+        _ => (3, 2, "7*off->8*off->9*off"),
+    }
+}
+
+/// The name of an operation and its key in this round. The key of `a` that holds is the one at
+/// place 3, and that of `b` is the one of two equal stamps with the greater text.
+fn point_at(index: u16, round: u16) -> (&'static str, Keyed) {
+    match index % 3 {
+        0 => ("a", key_at(round % 2 * 3)),
+        1 => ("b", key_at(round % 2 + 1)),
+        _ => ("c", key_at(round % 4)),
+    }
+}
+
+/// A setting or, in some rounds, a removal. The one of `c` holds.
+fn setting_at(text: &str, round: u16, key: Keyed) -> Step {
+    match (round % 5, text) {
+        (4, "a") => Step::Remove(3, 1),
+        (4, "b") => Step::Remove(2, 1),
+        (4, _) => Step::Remove(4, 0),
+        _ => Step::Set(key),
+    }
+}
+
+/// The operation at a place of the run, and its name.
+fn step_at(index: u16) -> (&'static str, Step) {
+    let round = index % 192 / 12;
+    let (text, key) = point_at(index, round);
+    let number = u64::from(round % 8 * 5 % 8 + 1);
+    let (shift, place) = (round % 3, index % 3);
+    let node = ((shift + place) % 3) as u8;
+    let to = ((shift + place + 1 + round % 2) % 3) as u8;
+    let term = (round / 4 % 3) as u8;
+    let step = match index / 3 % 4 {
+        0 => setting_at(text, round, key),
+        1 => Step::Hit(node, number),
+        2 => Step::Exec(key, term, node, number),
+        _ => Step::Shift(key, term, node, to, number),
+    };
+    (text, step)
+}
+
+/// What learns a part of the run, in its order or from its end.
+fn part<R: Replica>(
+    rt: &impl Abort,
+    alloc: Global,
+    from: u16,
+    upto: u16,
+    is_backwards: bool,
+) -> Result<R, Fail> {
+    let mut replica = R::empty(alloc);
+    for index in from..upto {
+        let place = if is_backwards {
+            upto - 1 - (index - from)
+        } else {
+            index
+        };
+        let (text, step) = step_at(place);
+        make_on(rt, alloc, &mut replica, text, Call::Learn(step))?;
+    }
+    Ok(replica)
+}
+
+/// Whether a node's marks of the terms of a name are as its rights to each say.
+fn marks_rights<R: Replica>(replica: &R, name: &Name, node: u8) -> bool {
+    let Some(found) = replica.key_and_rights(name, node) else {
+        return replica.key(name).is_none();
+    };
+    let marks = found.1;
+    let mut is_marked = replica.key(name) == Some(found.0);
+    for term in 0..16 {
+        let has_right = rights_at(replica, name, term, node) >= 1;
+        is_marked &= marks[usize::from(term)] == has_right;
+    }
+    is_marked
+}
+
+/// Whether two replicas answer equally of a name, and mark the rights. The greatest node and the
+/// greatest terms are in no operation.
+fn is_same_name<R: Replica, S: Replica>(left: &R, right: &S, name: &Name) -> bool {
+    let mut is_same = left.key(name) == right.key(name);
+    for node in 0..4 {
+        is_same &= marks_rights(left, name, node) && marks_rights(right, name, node);
+        for term in 0..5 {
+            for to in 0..4 {
+                let answers = answers_at(left, name, term, node, to);
+                is_same &= answers == answers_at(right, name, term, node, to);
+            }
+        }
+    }
+    is_same
+}
+
+/// Whether two replicas answer equally by every reader.
+fn is_same<R: Replica, S: Replica>(left: &R, right: &S, names: &[Name]) -> bool {
+    let mut is_same = true;
+    for name in names {
+        is_same &= is_same_name(left, right, name);
+    }
+    for place in 0..5 {
+        is_same &= left.name_at(place) == right.name_at(place);
+    }
+    is_same
+}
+
+/// The names of the run, and one that nobody names.
+fn all_of_run(alloc: Global) -> Result<Vec<Name>, Fail> {
+    let mut names = Vec::new(alloc);
+    for text in ["a", "b", "c", "d"] {
+        names.push(name(alloc, text)?)?;
+    }
+    Ok(names)
+}
+
+/// A name's clock, hits, executions of three terms and rights of the first term at three nodes.
+const KNOWN: [(&str, u64, u128, [u128; 3], [i128; 3]); 3] = [
+    ("a", 3, 22, [14, 6, 14], [-10, -12, 15]),
+    ("b", 2, 22, [12, 12, 4], [-14, 2, 5]),
+    ("c", 4, 22, [0, 0, 0], [0, 0, 0]),
+];
+
+fn expect_known<R: Replica>(rt: &impl Abort, alloc: Global, replica: &R) -> Result<(), Fail> {
+    for (text, clock, hits, spent, rights) in KNOWN {
+        let name = name(alloc, text)?;
+        expect(
+            rt,
+            &(clock_of(replica, &name), all_hits(replica, &name)),
+            &(clock, hits),
+        );
+        expect(
+            rt,
+            &[0, 1, 2].map(|term| all_spent(replica, &name, term)),
+            &spent,
+        );
+        expect(
+            rt,
+            &[0, 1, 2].map(|node| rights_at(replica, &name, 0, node)),
+            &rights,
+        );
+    }
+    expect(rt, &all_names(replica), &3);
+    Ok(())
+}
+
+/// Ends the test where a replica that learns the run, in its order or from its end, doesn't answer
+/// as another one.
+fn learns_in_order<R: Replica, S: Replica>(
+    rt: &impl Abort,
+    alloc: Global,
+    plain: &S,
+    names: &[Name],
+) -> Result<(), Fail> {
+    let whole: R = part(rt, alloc, 0, RUN, false)?;
+    expect_known(rt, alloc, &whole)?;
+    expect(rt, &is_same(plain, &whole, names), &true);
+    let backwards: R = part(rt, alloc, 0, RUN, true)?;
+    expect(rt, &is_same(plain, &backwards, names), &true);
+    expect(rt, &same(&whole, &backwards), &true);
+    Ok(())
+}
+
+/// Ends the test where two replicas that learn a half of the run each don't come to what learns all
+/// of it.
+fn joins_halves<R: Replica, S: Replica>(
+    rt: &impl Abort,
+    alloc: Global,
+    plain: &S,
+    names: &[Name],
+) -> Result<(), Fail> {
+    let whole: R = part(rt, alloc, 0, RUN, false)?;
+    let first: R = part(rt, alloc, 0, HALF, false)?;
+    let second: R = part(rt, alloc, HALF, RUN, false)?;
+    let orders = (order(&first, &whole), order(&second, &whole));
+    expect(rt, &orders, &((true, false), (true, false)));
+    let is_whole = |both: &R| same(both, &whole) && is_same(plain, both, names);
+    expect_joins(rt, alloc, (&first, &second), is_whole, &true)?;
+    Ok(())
+}
+
+#[test]
+fn run_in_two_orders(rt: HostRuntime) -> Result<(), Fail> {
+    let names = all_of_run(rt.alloc())?;
+    let plain: OpSet = part(&rt, rt.alloc(), 0, RUN, false)?;
+    learns_in_order::<OpSet, OpSet>(&rt, rt.alloc(), &plain, &names)?;
+    learns_in_order::<Matrix, OpSet>(&rt, rt.alloc(), &plain, &names)
+}
+
+#[test]
+fn run_in_halves(rt: HostRuntime) -> Result<(), Fail> {
+    let names = all_of_run(rt.alloc())?;
+    let plain: OpSet = part(&rt, rt.alloc(), 0, RUN, false)?;
+    joins_halves::<OpSet, OpSet>(&rt, rt.alloc(), &plain, &names)?;
+    joins_halves::<Matrix, OpSet>(&rt, rt.alloc(), &plain, &names)
+}

@@ -1,0 +1,94 @@
+//! Operations.
+
+use super::*;
+
+/// A key: its clock, its node and its text.
+pub(super) type Keyed = (u64, u8, &'static str);
+
+/// An operation of a point. What is executed, shifted or granted is of a term.
+#[derive(Clone, Copy)]
+pub(super) enum Step {
+    Set(Keyed),
+    Remove(u64, u8),
+    Hit(u8, u64),
+    Exec(Keyed, u8, u8, u64),
+    Shift(Keyed, u8, u8, u8, u64),
+    Grant(Keyed, u8, u8, u64),
+}
+
+pub(super) fn name(alloc: Global, text: &str) -> Result<Name, NameFault> {
+    Name::parse(alloc, text)
+}
+
+pub(super) fn key(alloc: Global, (clock, node, text): Keyed) -> Result<Key, ActionFault> {
+    let body = Body::Set(parse_actions(alloc, text)?);
+    Ok(Key { clock, node, body })
+}
+
+/// The key of an operation; and of a hit one that is not to be learned.
+pub(super) fn key_of(alloc: Global, step: Step) -> Result<Key, ActionFault> {
+    match step {
+        Step::Set(keyed) => key(alloc, keyed),
+        Step::Remove(clock, node) => {
+            let body = Body::Removed;
+            Ok(Key { clock, node, body })
+        }
+        Step::Hit(..) => key(alloc, (9, 9, "off")),
+        Step::Exec(keyed, ..) => key(alloc, keyed),
+        Step::Shift(keyed, ..) => key(alloc, keyed),
+        Step::Grant(keyed, ..) => key(alloc, keyed),
+    }
+}
+
+fn op(name: Name, key: Key, step: Step) -> Op {
+    match step {
+        Step::Set(_) => Op::Set { name, key },
+        Step::Remove(..) => Op::Set { name, key },
+        Step::Hit(node, number) => Op::Hit { name, node, number },
+        Step::Exec(_, term, node, number) => Op::Exec {
+            name,
+            key,
+            term,
+            node,
+            number,
+        },
+        Step::Shift(_, term, from, to, total) => Op::Shift {
+            name,
+            key,
+            term,
+            from,
+            to,
+            total,
+        },
+        Step::Grant(_, term, node, total) => Op::Grant {
+            name,
+            key,
+            term,
+            node,
+            total,
+        },
+    }
+}
+
+pub(super) fn op_of(alloc: Global, text: &str, step: Step) -> Result<Op, Fail> {
+    let name = name(alloc, text)?;
+    let key = key_of(alloc, step)?;
+    Ok(op(name, key, step))
+}
+
+/// What an operation counts, if it does.
+pub(super) fn count_of(step: Step) -> Option<Count> {
+    match step {
+        Step::Set(_) => None,
+        Step::Remove(..) => None,
+        Step::Hit(node, number) => Some(Counted::Hits { node }.times(number)),
+        Step::Exec(_, term, node, number) => Some(Counted::Execs { term, node }.times(number)),
+        Step::Shift(_, term, from, to, total) => {
+            Some(Counted::Shifts { term, from, to }.times(total))
+        }
+        Step::Grant(_, term, node, total) => {
+            let (from, to) = (node, node);
+            Some(Counted::Shifts { term, from, to }.times(total))
+        }
+    }
+}
