@@ -14,7 +14,7 @@ use Rattle.node_core.specs.Asks.{Asked, Message, Call}
 use Rattle.node_core.specs.Asks as asks
 use Rattle.node_core.specs.Nodes.{Node, start}
 use Rattle.node_core.specs.Steps.{after, reply}
-use Rattle.node_core.specs.Traces.{Kept, replay, replay_from, SendsDelta, IsLegalFrom, IsLegal}
+use Rattle.node_core.specs.Traces.{Kept, replay, replay_from, SendsDelta, IsLegal}
 use Rattle.node_core.proofs.TraceLemmas.{replay_more}
 use Rattle.node_core.proofs.LegalTraces.{legal_more, nothing_legal}
 use Rattle.node_core.specs.Refusals.{refusal_at}

@@ -11,11 +11,11 @@ use super::expect;
 use super::joined::{expect_joins, join_in, order, same};
 use actions::{ActionFault, Name, NameFault, parse_actions};
 use calls::{Call, make_on};
+use op_set::OpSet;
 use readers::{
     Told, all_hits, all_names, all_names_with, all_spent, answers_at, clock_of, rights_at, seen,
     wanted,
 };
-use op_set::OpSet;
 use replica_state::{Count, Counted, Matrix, Op, Replica};
 use stamp_register::{Body, Key};
 use std::alloc::{AllocError, Global};
