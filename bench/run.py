@@ -3,6 +3,7 @@
 gossip, and audits. See README.md beside this file."""
 
 import os
+import re
 import subprocess
 import sys
 import tempfile
@@ -69,7 +70,8 @@ MESSAGES = {0: 40_000, 1: 20_000, 256: 2_000}
 def build(crate, *arguments):
     """Proves and builds a program, where it has changed."""
     folder = os.path.join(CRATES, crate)
-    subprocess.run(["rt", "run", "--", *arguments], cwd=folder, check=True, stdout=subprocess.DEVNULL)
+    how = {"check": True, "stdin": subprocess.DEVNULL, "stdout": subprocess.DEVNULL}
+    subprocess.run(["rt", "run", "--", *arguments], cwd=folder, **how)
     return os.path.join(folder, "out", crate)
 
 
@@ -258,28 +260,39 @@ def time_turns(program):
         )
 
 
-def spent(program, *words):
-    """Seconds of a processor, and the most memory in MiB."""
-    child = subprocess.Popen([program, *map(str, words)], stdout=subprocess.DEVNULL)
-    _, status, usage = os.wait4(child.pid, 0)
-    child.returncode = os.waitstatus_to_exitcode(status)
-    if child.returncode != 0:
-        sys.exit(f"{program} {words}: status {child.returncode}")
-    return usage.ru_utime + usage.ru_stime, usage.ru_maxrss / 1024
+class Ran:
+    """A run of `bench` that did what one command says."""
+
+    def __init__(self, program, *words):
+        command = " ".join(map(str, words))
+        how = {"stdin": subprocess.DEVNULL, "stdout": subprocess.PIPE, "stderr": subprocess.PIPE, "text": True}
+        child = subprocess.Popen([program, command], **how)
+        printed, took = child.stdout.read(), child.stderr.read()
+        _, status, usage = os.wait4(child.pid, 0)
+        child.returncode = os.waitstatus_to_exitcode(status)
+        said = re.fullmatch(r".*: (\d+) done, (\d+) bytes, 0 wrong\n", printed)
+        if child.returncode != 0 or not said:
+            sys.exit(f"{program} {command!r}: status {child.returncode}, {printed}{took}")
+        self.count, self.bytes = map(int, said.groups())
+        # By the clock.
+        self.nanoseconds, self.to_audit = map(int, re.findall(r"(\d+) ns", took))
+        # Of a processor.
+        self.seconds = usage.ru_utime + usage.ru_stime
+        # The most, in bytes.
+        self.memory = usage.ru_maxrss * 1024
 
 
 def time_maps(program):
     few, many = KEYS
     print(f"\n{'work':<12}{f'ms, {few} keys':>20}{many:>8}{'ratio':>7}")
     for work in WORKS:
-        rounds = [[spent(program, work, keys)[0] for keys in KEYS] for _ in range(ROUNDS)]
+        rounds = [[Ran(program, "maps", work, keys).seconds for keys in KEYS] for _ in range(ROUNDS)]
         first, second = (min(times) * 1e3 for times in zip(*rounds))
         print(f"{work:<12}{first:>20.0f}{second:>8.0f}{second / first:>7.2f}")
 
 
 def message_bytes(program, form, names):
-    words = subprocess.run([program, "encode", form, str(names), "0"], check=True, capture_output=True).stdout.split()
-    return int(words[0])
+    return Ran(program, "messages", "decode", form, names, 0).bytes
 
 
 def time_messages(program, form):
@@ -289,27 +302,23 @@ def time_messages(program, form):
     print(f"\n{form:<9}{f'MB/s, {few} names':>16}{many:>7}{most:>7}{'ratio':>7}{f'ms, {lengths[-1]} bytes':>20}{'most MiB':>10}")
     for work in ("decode", "encode"):
         rounds = [
-            [spent(program, work, form, names, times)[0] for names in NAMES for times in (0, TIMES)] for _ in range(ROUNDS)
+            [Ran(program, "messages", work, form, names, times).seconds for names in NAMES for times in (0, TIMES)]
+            for _ in range(ROUNDS)
         ]
         best = [min(times) for times in zip(*rounds)]
         seconds = [(after - before) / TIMES for before, after in zip(best[::2], best[1::2])]
         speeds = [length / time / 1e6 for length, time in zip(lengths, seconds)]
-        _, memory = spent(program, work, form, most, 1)
+        memory = Ran(program, "messages", work, form, most, 1).memory / 2**20
         print(
             f"{work:<9}{speeds[0]:>16.0f}{speeds[1]:>7.0f}{speeds[2]:>7.0f}{seconds[1] / seconds[0]:>7.2f}"
             f"{seconds[2] * 1e3:>20.1f}{memory:>10.1f}"
         )
 
 
-def spent_on_calls(program, *words):
+def spent_on_calls(program, way, term, calls, answers):
     """Nanoseconds by the clock, of the passes alone, seconds of a processor, and the most memory in bytes."""
-    child = subprocess.Popen([program, *map(str, words)], stdout=subprocess.DEVNULL, stderr=subprocess.PIPE)
-    said = child.stderr.read()
-    _, status, usage = os.wait4(child.pid, 0)
-    child.returncode = os.waitstatus_to_exitcode(status)
-    if child.returncode != 0:
-        sys.exit(f"{program} {words}: status {child.returncode}")
-    return int(said.split()[0]), usage.ru_utime + usage.ru_stime, usage.ru_maxrss * 1024
+    ran = Ran(program, "passes", way, term, calls, answers)
+    return ran.nanoseconds, ran.seconds, ran.memory
 
 
 def time_locks(program):
@@ -336,14 +345,8 @@ def time_locks(program):
 def told(program, nodes, changed, rounds):
     """The messages and bytes of so many rounds of all nodes; their nanoseconds by the clock, without the changes before
     them; and the seconds of a processor that the whole run took."""
-    words = [program, *map(str, (nodes, changed, rounds))]
-    child = subprocess.Popen(words, stdout=subprocess.PIPE, stderr=subprocess.PIPE)
-    said, took = child.stdout.read().split(), child.stderr.read().split()
-    _, status, usage = os.wait4(child.pid, 0)
-    child.returncode = os.waitstatus_to_exitcode(status)
-    if child.returncode != 0 or said[-2] != b"0":
-        sys.exit(f"{words}: status {child.returncode}, {said}")
-    return int(said[0]), int(said[3]), int(took[0]), usage.ru_utime + usage.ru_stime
+    ran = Ran(program, "rounds", nodes, changed, rounds)
+    return ran.count, ran.bytes, ran.nanoseconds, ran.seconds
 
 
 def time_rounds(program):
@@ -366,14 +369,8 @@ def time_rounds(program):
 
 def made_and_audited(program, drill, entries, work):
     """Nanoseconds by the clock in which the calls were made and in which they were audited, and the most memory in MiB."""
-    words = [program, drill, str(entries), work]
-    child = subprocess.Popen(words, stdout=subprocess.DEVNULL, stderr=subprocess.PIPE)
-    said = child.stderr.read()
-    _, status, usage = os.wait4(child.pid, 0)
-    child.returncode = os.waitstatus_to_exitcode(status)
-    if child.returncode != 0:
-        sys.exit(f"{words}: status {child.returncode}")
-    return *[int(line.split()[0]) for line in said.splitlines()], usage.ru_maxrss / 1024
+    ran = Ran(program, "audits", drill, entries, work)
+    return ran.nanoseconds, ran.to_audit, ran.memory / 2**20
 
 
 def time_audits(program):
@@ -388,7 +385,7 @@ def time_audits(program):
             [made_and_audited(program, drill, count, "audit") for count in ENTRIES] for _ in range(ROUNDS_OF_DRILLS)
         ]
         (made, audited, memory), (made_twice, twice, _) = ([min(parts) for parts in zip(*runs)] for runs in zip(*rounds))
-        _, before = made_and_audited(program, drill, few, "make")
+        before = made_and_audited(program, drill, few, "make")[2]
         print(
             f"{drill:<11}{made / few:>16.0f}{audited / few:>20.0f}{twice / many:>9.0f}{twice / audited:>7.2f}"
             f"{audited / made:>9.2f}{twice / made_twice:>9.2f}{before:>14.0f}{memory:>12.0f}"
@@ -404,13 +401,13 @@ def main():
     time_calls(failreg)
     time_exchanges(failreg)
     time_turns(failreg)
-    time_maps(build("map_times", "build", "1"))
-    messages = build("message_times", "encode", "plain", "1", "1")
+    bench = build("bench", "maps build 1")
+    time_maps(bench)
     for form in FORMS:
-        time_messages(messages, form)
-    time_locks(build("pass_times", "core", "uncounted", "1", "drop"))
-    time_rounds(build("round_times", "2", "1", "3"))
-    time_audits(build("audit_times", "passes", "16", "audit"))
+        time_messages(bench, form)
+    time_locks(bench)
+    time_rounds(bench)
+    time_audits(bench)
 
 
 if __name__ == "__main__":

@@ -5,7 +5,8 @@ import re
 import subprocess
 
 # The C library's calls for memory. They are counted from the start, or where the start isn't
-# counted after `ready` was written, up to the next write, and then told.
+# counted after `ready` was written, up to the next write of standard output or the end, and then
+# told.
 COUNTED = r"""
 #include <errno.h>
 #include <stdio.h>
@@ -40,11 +41,18 @@ void *malloc(size_t size) { return refuses() ? NULL : __libc_malloc(size); }
 void *calloc(size_t count, size_t size) { return refuses() ? NULL : __libc_calloc(count, size); }
 void *realloc(void *old, size_t size) { return refuses() ? NULL : __libc_realloc(old, size); }
 
+static void stop_counting(void) {
+    if (!counts) return;
+    counts = 0;
+    dprintf(2, "%ld growths refused of %ld\n", refused, growths);
+}
+
+__attribute__((destructor)) static void end(void) { stop_counting(); }
+
 ssize_t write(int file, const void *bytes, size_t length) {
     if (file == 1) {
-        int counted = counts;
+        stop_counting();
         counts = length >= 5 && memcmp(bytes, "ready", 5) == 0;
-        if (counted) dprintf(2, "%ld growths refused of %ld\n", refused, growths);
     }
     return syscall(SYS_write, file, bytes, length);
 }
@@ -64,6 +72,7 @@ class CountedMemory:
     """The library of those calls, made in a folder."""
 
     def __init__(self, folder):
+        self.folder = folder
         self.library = os.path.join(folder, "counted.so")
         source = os.path.join(folder, "counted.c")
         with open(source, "w", encoding="utf-8") as file:

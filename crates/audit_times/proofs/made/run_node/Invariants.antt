@@ -1,7 +1,0 @@
-use Rattle.audit_times.proofs.made.run_node.Given as goal
-
-abbrev pub ghosts-run_registry-L-Ledger : goal.ghosts-run_registry-L-Ledger
-ghosts-run_registry-L-Ledger g a = record { name = a.blank.name; parts = 1 }
-
-abbrev pub ghosts-run_registry-L-Label : goal.ghosts-run_registry-L-Label
-ghosts-run_registry-L-Label g a = record { config = a.config }

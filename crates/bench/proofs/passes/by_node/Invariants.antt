@@ -1,0 +1,7 @@
+use Rattle.bench.proofs.passes.by_node.Given as goal
+
+abbrev pub ghosts-by_registry-L-Ledger : goal.ghosts-by_registry-L-Ledger
+ghosts-by_registry-L-Ledger g a = record { name = a.blank.name; parts = a.seats }
+
+abbrev pub ghosts-by_registry-L-Label : goal.ghosts-by_registry-L-Label
+ghosts-by_registry-L-Label g a = record { config = a.config }

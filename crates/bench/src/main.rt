@@ -1,0 +1,99 @@
+//! Times and tries what the program doesn't reach by scripts: `bench/run.py` and
+//! `tools/refused-growths` run it. Each word of its command line is one command.
+#![tactic(auto)]
+
+mod audits;
+mod baton;
+mod calls;
+mod figures;
+mod growths;
+mod maps;
+mod messages;
+mod passes;
+mod rounds;
+
+use figures::Figures;
+use scripts::{Watched, read_script};
+use std::process::ExitCode;
+use std::sync::Wait;
+use std::thread::Threads;
+use std::time::Clock;
+
+const USAGE: &str = "bench COMMAND.. < INPUT, where a COMMAND is one word of
+maps build|raise|join|take KEYS
+messages decode|encode plain|grants NAMES TIMES
+passes core|registry|threads|nodes uncounted|counted|chance PASSES drop|keep
+rounds NODES CHANGED ROUNDS, of 1 to 32 nodes, and of 256 points at most
+audits passes|forwards|backwards ENTRIES make|audit
+growths run, of events behind a line `run` of a script
+growths answer|reply_of METHOD PATH, of a request with the input as its body";
+
+// What a command asks for.
+#[derive(Clone, Copy)]
+enum Work {
+    Maps(maps::Load),
+    Messages(messages::Load),
+    Passes(passes::Load),
+    Rounds(rounds::Load),
+    Audits(audits::Load),
+}
+
+// What the words ask for, if they do.
+fn work_of(words: &[&str]) -> Option<Work> {
+    let (work, load) = words.split_first()?;
+    Some(match *work {
+        "maps" => Work::Maps(maps::load_of(load)?),
+        "messages" => Work::Messages(messages::load_of(load)?),
+        "passes" => Work::Passes(passes::load_of(load)?),
+        "rounds" => Work::Rounds(rounds::load_of(load)?),
+        "audits" => Work::Audits(audits::load_of(load)?),
+        _ => return None,
+    })
+}
+
+// Does the work.
+fn figures_of<R: AllocGlobal + Clock + Threads + Wait + Sync>(
+    rt: &R,
+    work: Work,
+) -> anyhow::Result<Figures> {
+    match work {
+        Work::Maps(load) => Ok(maps::figures(rt.alloc(), load)?),
+        Work::Messages(load) => Ok(messages::figures(rt.alloc(), load)?),
+        Work::Passes(load) => passes::figures(rt, load),
+        Work::Rounds(load) => rounds::figures(rt, load),
+        Work::Audits(load) => audits::figures(rt, load),
+    }
+}
+
+// Does what a command says, if it says anything; whether it does.
+fn obey<R: AllocGlobal + Clock + Eprint + Print + Threads + Wait + Sync>(
+    rt: &R,
+    command: &str,
+    input: &[u8],
+) -> anyhow::Result<bool> {
+    let words: Vec<&str> = command.split(' ').collect(rt.alloc())?;
+    let Some(work) = work_of(&words) else {
+        return growths::obey(rt, &words, input);
+    };
+    let found = figures_of(rt, work)?;
+    println!(rt;
+        "{command}: {} done, {} bytes, {} wrong",
+        found.count, found.bytes, found.wrong
+    )?;
+    eprintln!(rt; "{} ns, and {} ns to audit", found.work, found.audit)?;
+    Ok(true)
+}
+
+fn main(rt: HostRuntime) -> anyhow::Result<ExitCode> {
+    let commands: Vec<String> = std::env::args(&rt)?.skip(1).collect(rt.alloc())?;
+    let input = read_script(rt.alloc(), &mut Watched::new(rt.reader()))?;
+    let mut is_done = !commands.is_empty();
+    for command in &commands {
+        is_done = is_done && obey(&rt, command.as_str(), &input)?;
+    }
+    if is_done {
+        return Ok(ExitCode::SUCCESS);
+    }
+    eprintln!(rt; "{USAGE}")?;
+    Ok(ExitCode::from(2))
+}

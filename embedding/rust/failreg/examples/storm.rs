@@ -1,0 +1,318 @@
+//! Plays messages that no node made at a node, and says what came of them.
+//!
+//!     storm SEED MESSAGES
+//!
+//! They are messages that nodes made to node 0, with bytes altered, left out and doubled, cut short,
+//! and joined from two, and any bytes, up to 70,000 of them. A refused one must change nothing. What
+//! an accepted one tells must be spelled as a node spells it that knows just that. The status is 1
+//! where that isn't so of one, or where few were looked at.
+
+use failreg::{Refused, Registry};
+use std::collections::BTreeMap;
+use std::ops::Range;
+use std::process::ExitCode;
+
+const NODES: u8 = 32;
+
+/// The most bytes that a message has.
+const MOST_BYTES: usize = 70_000;
+
+/// After so many messages they are played at a node that knows nothing yet.
+const MESSAGES_A_NODE: u64 = 1_000;
+
+/// Where in a message its sender stands, and what it acknowledges; the names are behind that.
+const SENDER: usize = 4;
+const ACKNOWLEDGED: Range<usize> = 22..30;
+
+fn opened(number: u8) -> Result<Registry, Refused> {
+    Registry::open_with_seed(number, NODES, u32::MAX, [7; 32])
+}
+
+/// Messages of a few nodes to node 0. The longest has some 67,000 bytes.
+fn real_messages() -> Result<Vec<Vec<u8>>, Refused> {
+    let mut real = messages_of_one_node()?;
+    real.extend(messages_of_a_pair()?);
+    // A node 0 that is forgotten: what node 3 knows of it is more than a new node 0 knows.
+    let (forgotten, three) = (opened(0)?, opened(3)?);
+    forgotten.load("e=3*off")?;
+    forgotten.pass("e")?;
+    three.deliver(&forgotten.emit(3)?)?;
+    real.push(three.emit(0)?);
+    forgotten.deliver(&three.emit(0)?)?;
+    three.deliver(&forgotten.emit(3)?)?;
+    real.push(three.emit(0)?);
+    let long = format!("3*print({})", "x".repeat(991));
+    let texts = ["1*off->2*off->3*off->4*off->panic", "2*off", &long];
+    for ((number, points), text) in [(4, 1), (5, 256), (6, 64)].into_iter().zip(texts) {
+        let node = opened(number)?;
+        for point in 0..points {
+            node.set(&format!("point{point}"), text)?;
+        }
+        real.push(node.emit(0)?);
+    }
+    Ok(real)
+}
+
+/// A point that is set, passed, shifted, granted and removed.
+fn messages_of_one_node() -> Result<Vec<Vec<u8>>, Refused> {
+    let node = opened(1)?;
+    node.load("a=20%3*print(hi)->2*off->panic")?;
+    let set = node.emit(0)?;
+    node.pass("a")?;
+    node.shift("a", 1, 0, 1)?;
+    let passed = node.emit(0)?;
+    node.grant("a", 0, 5)?;
+    node.shift("a", 0, 2, 3)?;
+    let granted = node.emit(0)?;
+    node.remove("a")?;
+    Ok(vec![set, passed, granted, node.emit(0)?])
+}
+
+/// Nodes that tell each other, and node 0.
+fn messages_of_a_pair() -> Result<Vec<Vec<u8>>, Refused> {
+    let (one, other) = (opened(30)?, opened(31)?);
+    one.load("b=4*off->print(x);c=2*return(7);d=off")?;
+    one.shift("b", 0, 31, 3)?;
+    one.grant("c", 0, 9)?;
+    other.deliver(&one.emit(31)?)?;
+    other.pass("b")?;
+    let first = other.emit(0)?;
+    other.pass("d")?;
+    one.deliver(&other.emit(30)?)?;
+    Ok(vec![first, one.emit(0)?, other.emit(0)?])
+}
+
+/// Draws numbers by SplitMix64. The same seed draws the same.
+struct Dice(u64);
+
+impl Dice {
+    fn word(&mut self) -> u64 {
+        self.0 = self.0.wrapping_add(0x9e37_79b9_7f4a_7c15);
+        let mixed = (self.0 ^ (self.0 >> 30)).wrapping_mul(0xbf58_476d_1ce4_e5b9);
+        let mixed = (mixed ^ (mixed >> 27)).wrapping_mul(0x94d0_49bb_1331_11eb);
+        mixed ^ (mixed >> 31)
+    }
+
+    /// A number below this one, which isn't 0.
+    fn below(&mut self, bound: usize) -> usize {
+        (self.word() % bound as u64) as usize
+    }
+
+    fn byte(&mut self) -> u8 {
+        self.word().to_le_bytes()[0]
+    }
+
+    fn one_of<'a>(&mut self, real: &'a [Vec<u8>]) -> &'a [u8] {
+        &real[self.below(real.len())]
+    }
+
+    /// The bytes before a place, perhaps all.
+    fn start_of<'a>(&mut self, bytes: &'a [u8]) -> &'a [u8] {
+        &bytes[..self.below(bytes.len() + 1)]
+    }
+
+    /// The bytes from a place on, perhaps all.
+    fn end_of<'a>(&mut self, bytes: &'a [u8]) -> &'a [u8] {
+        &bytes[self.below(bytes.len() + 1)..]
+    }
+
+    /// With one to four bytes altered.
+    fn altered(&mut self, bytes: &[u8]) -> Vec<u8> {
+        let mut message = bytes.to_vec();
+        for _ in 0..=self.below(4) {
+            let place = self.below(message.len());
+            message[place] = self.byte();
+        }
+        message
+    }
+
+    /// A message made from real ones, or of any bytes.
+    fn message(&mut self, real: &[Vec<u8>]) -> Vec<u8> {
+        let one = self.one_of(real);
+        let mut message = match self.below(8) {
+            0 => one.to_vec(),
+            1 | 2 => self.altered(one),
+            3 => self.start_of(one).to_vec(),
+            4 => {
+                let other = self.one_of(real);
+                [self.start_of(one), self.end_of(other)].concat()
+            }
+            5 | 6 => [self.start_of(one), self.end_of(one)].concat(),
+            _ => (0..self.below(MOST_BYTES + 1))
+                .map(|_| self.byte())
+                .collect(),
+        };
+        message.truncate(MOST_BYTES);
+        message
+    }
+}
+
+/// All that a node shows and tells.
+#[derive(PartialEq)]
+struct Shown {
+    list: String,
+    version: u64,
+    /// Of each other node, its version that is known and the own one that it has.
+    versions: Vec<(u64, u64)>,
+    /// Of each point that is set, how often it was passed, and its terms ran.
+    counts: Vec<u128>,
+    /// A message of all that the node knows, to one that isn't known to have anything.
+    message: Vec<u8>,
+}
+
+impl Shown {
+    /// What a node shows. It accepts one call more.
+    fn of(node: &Registry) -> Result<Shown, Refused> {
+        let list = node.list()?;
+        let mut counts = Vec::new();
+        for (name, _) in list.split(';').filter_map(|entry| entry.split_once('=')) {
+            counts.push(node.hits(name)?);
+            for term in 0..4 {
+                counts.push(node.spent(name, term)?);
+            }
+        }
+        let versions = (0..NODES)
+            .map(|other| Ok((node.known(other)?, node.acked(other)?)))
+            .collect::<Result<Vec<_>, Refused>>()?;
+        let to = (1..NODES).find(|to| versions[usize::from(*to)].1 == 0);
+        Ok(Shown {
+            list,
+            version: node.version()?,
+            versions,
+            counts,
+            message: node.emit(to.expect("some node has acknowledged nothing"))?,
+        })
+    }
+}
+
+/// What came of a message.
+enum Outcome {
+    Accepted {
+        changed: bool,
+        is_spelled_so: Option<bool>,
+    },
+    Refused {
+        code: String,
+        is_as_before: bool,
+    },
+}
+
+/// A node, and what it showed after the last message that it accepted.
+struct Victim {
+    node: Registry,
+    shown: Shown,
+}
+
+/// The number and the name of a fault, without its fields.
+fn code_of(refused: &Refused) -> String {
+    let text = refused.text.trim_start_matches("N16 BadMessage ");
+    text.split(' ').take(2).collect::<Vec<_>>().join(" ")
+}
+
+/// Whether what a message tells is spelled as a node spells it that knows just that; nothing where
+/// such a node refuses it, since it overspends what it doesn't tell of.
+fn is_spelled_so(message: &[u8]) -> Result<Option<bool>, Refused> {
+    let node = opened(0)?;
+    let mut unanswering = message.to_vec();
+    unanswering[ACKNOWLEDGED].fill(0);
+    if node.deliver(&unanswering).is_err() {
+        return Ok(None);
+    }
+    let told = node.emit(if message[SENDER] == 1 { 2 } else { 1 })?;
+    let names = ACKNOWLEDGED.end;
+    Ok(Some(
+        told[..SENDER] == message[..SENDER] && told[names..] == message[names..],
+    ))
+}
+
+impl Victim {
+    /// Node 0, which knows nothing.
+    fn new() -> Result<Victim, Refused> {
+        let node = opened(0)?;
+        let shown = Shown::of(&node)?;
+        Ok(Victim { node, shown })
+    }
+
+    fn take(&mut self, message: &[u8]) -> Result<Outcome, Refused> {
+        let calls = self.node.calls()?;
+        match self.node.deliver(message) {
+            Ok(changed) => {
+                self.shown = Shown::of(&self.node)?;
+                Ok(Outcome::Accepted {
+                    changed,
+                    is_spelled_so: is_spelled_so(message)?,
+                })
+            }
+            Err(refused) => Ok(Outcome::Refused {
+                code: code_of(&refused),
+                is_as_before: self.node.calls()? == calls && Shown::of(&self.node)? == self.shown,
+            }),
+        }
+    }
+}
+
+/// How many messages came to what.
+#[derive(Default)]
+struct Tally {
+    kinds: BTreeMap<String, u64>,
+    spelled: u64,
+    wrong: u64,
+}
+
+impl Tally {
+    fn count(&mut self, outcome: Outcome) {
+        let (kind, is_well) = match outcome {
+            Outcome::Accepted {
+                changed,
+                is_spelled_so,
+            } => {
+                self.spelled += u64::from(is_spelled_so == Some(true));
+                let kind = if changed {
+                    "accepted, changed"
+                } else {
+                    "accepted, same"
+                };
+                (kind.to_string(), is_spelled_so != Some(false))
+            }
+            Outcome::Refused { code, is_as_before } => (format!("refused {code}"), is_as_before),
+        };
+        *self.kinds.entry(kind).or_default() += 1;
+        self.wrong += u64::from(!is_well);
+    }
+}
+
+fn storm(seed: u64, messages: u64) -> Result<Tally, Refused> {
+    let real = real_messages()?;
+    let mut dice = Dice(seed);
+    let mut tally = Tally::default();
+    let mut victim = Victim::new()?;
+    for number in 0..messages {
+        if number % MESSAGES_A_NODE == 0 {
+            victim = Victim::new()?;
+        }
+        tally.count(victim.take(&dice.message(&real))?);
+    }
+    Ok(tally)
+}
+
+fn main() -> Result<ExitCode, Box<dyn std::error::Error>> {
+    let words: Vec<String> = std::env::args().collect();
+    let [_, seed, messages] = &words[..] else {
+        return Err("storm SEED MESSAGES".into());
+    };
+    let messages = messages.parse()?;
+    let tally = storm(seed.parse()?, messages)?;
+    for (kind, many) in &tally.kinds {
+        println!("{many} {kind}");
+    }
+    println!(
+        "{} spelled as a node spells them, {} wrong",
+        tally.spelled, tally.wrong
+    );
+    let is_well = tally.wrong == 0 && tally.spelled > messages / 20;
+    Ok(if is_well {
+        ExitCode::SUCCESS
+    } else {
+        ExitCode::FAILURE
+    })
+}
