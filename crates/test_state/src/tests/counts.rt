@@ -289,11 +289,15 @@ fn called(alloc: Global, calls: &[HitCall]) -> Result<HitCounter, CounterFault> 
     Ok(counter)
 }
 
+const RAISED_ONCE: &[HitCall] = &[HitCall::Raise(0, 5)];
+
+const RAISED_TWICE: &[HitCall] = &[HitCall::Raise(0, 4), HitCall::Raise(1, 7)];
+
 #[test]
 fn joins_hits(rt: HostRuntime) -> Result<(), Fail> {
     let alloc = rt.alloc();
-    let one = called(alloc, &[HitCall::Raise(0, 5)])?;
-    let other = called(alloc, &[HitCall::Raise(0, 4), HitCall::Raise(1, 7)])?;
+    let one = called(alloc, RAISED_ONCE)?;
+    let other = called(alloc, RAISED_TWICE)?;
     expect(
         &rt,
         &(order(&one, &other), one.is_bottom()),
@@ -312,14 +316,15 @@ fn taken(alloc: Global, calls: &[Call]) -> Result<Budget, CounterFault> {
     Ok(budget)
 }
 
+const SPENT: &[Call] = &[Call::RaiseSpent(0, 1), Call::RaiseMoved(0, 1, 1)];
+
+const MOVED: &[Call] = &[Call::RaiseMoved(0, 1, 2), Call::RaiseMoved(1, 0, 1)];
+
 #[test]
 fn joins_budgets(rt: HostRuntime) -> Result<(), Fail> {
     let alloc = rt.alloc();
-    let one = taken(alloc, &[Call::RaiseSpent(0, 1), Call::RaiseMoved(0, 1, 1)])?;
-    let other = taken(
-        alloc,
-        &[Call::RaiseMoved(0, 1, 2), Call::RaiseMoved(1, 0, 1)],
-    )?;
+    let one = taken(alloc, SPENT)?;
+    let other = taken(alloc, MOVED)?;
     expect(
         &rt,
         &(order(&one, &other), one.is_bottom()),

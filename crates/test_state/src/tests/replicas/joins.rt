@@ -198,29 +198,3 @@ fn names_join(rt: HostRuntime) -> Result<(), Fail> {
     all_merges::<OpSet>(&rt, rt.alloc())?;
     all_merges::<Matrix>(&rt, rt.alloc())
 }
-
-/// A matrix in which this many names have a hit.
-fn with_hits(rt: &impl Abort, alloc: Global, names: u32) -> Result<Matrix, Fail> {
-    let mut replica = Matrix::empty(alloc);
-    for place in 0..names {
-        let text = format!(in alloc; "p{place}")?;
-        make_on(
-            rt,
-            alloc,
-            &mut replica,
-            text.as_str(),
-            Call::Learn(Step::Hit(0, 1)),
-        )?;
-    }
-    Ok(replica)
-}
-
-/// A matrix takes in another one with more names than are joined in place.
-#[test]
-fn many_names(rt: HostRuntime) -> Result<(), Fail> {
-    let mut few = with_hits(&rt, rt.alloc(), 10)?;
-    let many = with_hits(&rt, rt.alloc(), 300)?;
-    join_in(&rt, rt.alloc(), &mut few, &many)?;
-    expect(&rt, &(same(&few, &many), all_names(&few)), &(true, 300));
-    Ok(())
-}

@@ -26,17 +26,32 @@ fn expect_report<R: Replica>(
     Ok(())
 }
 
+/// A replica that learns the operations of a report, in their order or from their end.
+fn learned<R: Replica>(
+    rt: &impl Abort,
+    alloc: Global,
+    report: &Report,
+    is_backwards: bool,
+) -> Result<R, Fail> {
+    let steps = report.0;
+    let mut replica = R::empty(alloc);
+    for index in 0..steps.len() {
+        let place = if is_backwards {
+            steps.len() - 1 - index
+        } else {
+            index
+        };
+        let (text, step) = steps[place];
+        make_on(rt, alloc, &mut replica, text, Call::Learn(step))?;
+    }
+    Ok(replica)
+}
+
 fn reports<R: Replica>(rt: &impl Abort, alloc: Global, report: &Report) -> Result<(), Fail> {
-    let mut forwards = R::empty(alloc);
-    for (text, step) in report.0 {
-        make_on(rt, alloc, &mut forwards, text, Call::Learn(*step))?;
+    for is_backwards in [false, true] {
+        let replica: R = learned(rt, alloc, report, is_backwards)?;
+        expect_report(rt, alloc, &replica, report)?;
     }
-    expect_report(rt, alloc, &forwards, report)?;
-    let mut backwards = R::empty(alloc);
-    for (text, step) in report.0.iter().rev() {
-        make_on(rt, alloc, &mut backwards, text, Call::Learn(*step))?;
-    }
-    expect_report(rt, alloc, &backwards, report)?;
     Ok(())
 }
 

@@ -1,7 +1,0 @@
-use Rattle.node_registry_tests.proofs.tests.words.a_registry_draws_the_same.Given as goal
-
-abbrev pub ghosts-registry_draws-L-Ledger : goal.ghosts-registry_draws-L-Ledger
-ghosts-registry_draws-L-Ledger g a = record { name = a.blank.name; parts = 1 }
-
-abbrev pub ghosts-registry_draws-L-Label : goal.ghosts-registry_draws-L-Label
-ghosts-registry_draws-L-Label g a = record { config = a.config }

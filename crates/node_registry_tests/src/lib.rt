@@ -1,5 +1,0 @@
-//! What is tested of registries.
-#![tactic(auto)]
-
-#[cfg(test)]
-mod tests;

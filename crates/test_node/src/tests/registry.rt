@@ -1,0 +1,157 @@
+//! Nodes behind a lock. What no contract says: words from outside, that threads run beside each
+//! other, and that what callers are told is what the traces have.
+
+ghost use Rattle.std.specs.Prelude.{◌≡◌, ◌<◌};
+
+mod apart;
+mod calls;
+mod stress;
+mod words;
+mod workers;
+
+use super::stories::{ONE_NAME, SETS_A};
+use super::{expect, text_of};
+use calls::Line;
+use node_core::{Ask, Config, Entry, NodeCore, NodeFault, Receipt, Reply};
+use node_registry::{Done, Gate, Guarded, Job, Label, NodeCell, Registry, Seat, run_workers};
+use std::alloc::{AllocError, Global};
+use std::marker::Brand;
+use std::process::Abort;
+use std::sync::Wait;
+use std::sync::atomic::{AtomicU64, Ordering};
+use std::sync::ledger::Blank;
+use std::test::Fail;
+use std::thread;
+use std::thread::Threads;
+use std::time::{Clock, Duration};
+
+const FIRST_OF_TWO: Config = Config {
+    node: 0,
+    nodes: 2,
+    trace_cap: 1000,
+};
+
+const SECOND_OF_TWO: Config = Config {
+    node: 1,
+    nodes: 2,
+    trace_cap: 1000,
+};
+
+fn set_ask(alloc: Global, name: &str, text: &str) -> Result<Ask, AllocError> {
+    Ok(Ask::Set {
+        name: String::from_str(alloc, name)?,
+        text: String::from_str(alloc, text)?,
+    })
+}
+
+fn pass_ask(alloc: Global, name: &str) -> Result<Ask, AllocError> {
+    Ok(Ask::Pass {
+        name: String::from_str(alloc, name)?,
+    })
+}
+
+/// Whether two entries print alike.
+fn is_same(alloc: Global, left: &Entry, right: &Entry) -> Result<bool, AllocError> {
+    let left = format!(in alloc; "{left:?}")?;
+    let right = format!(in alloc; "{right:?}")?;
+    Ok(left == right)
+}
+
+/// Waits for a word to be as wanted, at most a thousand times a millisecond.
+fn waits<R: Clock>(rt: &R, word: &AtomicU64, wanted: u64) -> bool {
+    for _ in 0..1000 {
+        if word.load(Ordering::SeqCst) == wanted {
+            return true;
+        }
+        thread::sleep(rt, Duration::from_millis(1));
+    }
+    false
+}
+
+/// What is tried at a registry.
+#[derive(Clone, Copy)]
+enum Scene {
+    /// One caller makes calls.
+    Story(&'static [Line]),
+    /// One caller is told what the trace has.
+    Receipts,
+    /// Two workers wait for each other.
+    Meeting,
+    /// A worker's second call is refused.
+    BadName,
+    /// Eight workers make calls of each kind.
+    Stress,
+}
+
+fn seat_of<L: Label>(mut seats: Vec<Seat<L>>) -> Result<Seat<L>, Fail> {
+    match seats.pop() {
+        Some(seat) => Ok(seat),
+        None => Err(Fail::new("there is no seat")),
+    }
+}
+
+fn act<L: Label + Send + Sync, R: Abort + Threads + Wait + Clock + Sync>(
+    rt: &R,
+    alloc: Global,
+    scene: Scene,
+    registry: Registry<L>,
+    seats: Vec<Seat<L>>,
+    callers: u8,
+) -> Result<(), Fail>
+    requires parts { (L.parts ≡ callers) × (0 < callers) }
+{
+    match scene {
+        Scene::Story(lines) => calls::story(rt, alloc, &registry, seat_of(seats)?, lines),
+        Scene::Receipts => calls::receipts(rt, alloc, &registry, seat_of(seats)?),
+        Scene::Meeting => workers::two_meet(rt, alloc, &registry, seats),
+        Scene::BadName => workers::bad_name(rt, alloc, &registry, seats),
+        Scene::Stress => stress::stress(rt, alloc, registry, seats, callers),
+    }
+}
+
+/// Plays a scene at a registry with so many callers.
+fn play<L: Label + Send + Sync, R: Abort + Threads + Wait + Clock + Sync>(
+    rt: &R,
+    alloc: Global,
+    blank: Blank,
+    callers: u8,
+    scene: Scene,
+) -> Result<(), Fail>
+    requires name { blank.name ≡ L.name }
+    requires parts { (blank.parts ≡ L.parts) × (L.parts ≡ callers) × (0 < callers) }
+    requires config { SECOND_OF_TWO ≡ L.config }
+{
+    let (registry, seats) = Registry::<L>::start(
+        rt,
+        alloc,
+        blank,
+        SECOND_OF_TWO,
+        [0; 32],
+        callers,
+    )?;
+    act(rt, alloc, scene, registry, seats, callers)
+}
+
+#[test]
+fn one_caller(rt: HostRuntime) -> Result<(), Fail> {
+    for scene in [
+        Scene::Story(calls::REMOVED),
+        Scene::Story(calls::LOADED),
+        Scene::Story(calls::RIGHTS),
+        Scene::Receipts,
+        Scene::BadName,
+    ] {
+        play::<Brand, HostRuntime>(&rt, rt.alloc(), Blank::new(1), 1, scene)?;
+    }
+    Ok(())
+}
+
+#[test]
+fn two_workers_meet(rt: HostRuntime) -> Result<(), Fail> {
+    play::<Brand, HostRuntime>(&rt, rt.alloc(), Blank::new(2), 2, Scene::Meeting)
+}
+
+#[test]
+fn eight_workers_make_calls_of_each_kind(rt: HostRuntime) -> Result<(), Fail> {
+    play::<Brand, HostRuntime>(&rt, rt.alloc(), Blank::new(8), 8, Scene::Stress)
+}
