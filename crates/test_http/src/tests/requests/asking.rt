@@ -63,14 +63,28 @@ fn count_cut_off(alloc: Global, routes: &Routes, rows: &[Row]) -> usize {
     rows.len()
 }
 
-/// How many rows hold at a new node, in turn, before the first that doesn't.
-pub(super) fn held(alloc: Global, config: Config, rows: &[Row]) -> Result<usize, Fail> {
+// How many rows hold at a new node, in turn, before the first that doesn't.
+fn held(alloc: Global, config: Config, rows: &[Row]) -> Result<usize, Fail> {
     let routes = new_routes(alloc)?;
     let mut core = new_node(alloc, config)?;
     Ok(count_held(&mut core, alloc, &routes, rows))
 }
 
-/// The same of requests whose bodies aren't all there.
+/// The first table that doesn't hold at a new node, and its first row that doesn't.
+pub(super) fn first_other(
+    alloc: Global,
+    tables: &[(Config, &[Row])],
+) -> Result<Option<(usize, usize)>, Fail> {
+    for (table, (config, rows)) in tables.iter().enumerate() {
+        let count = held(alloc, *config, rows)?;
+        if count < rows.len() {
+            return Ok(Some((table, count)));
+        }
+    }
+    Ok(None)
+}
+
+/// How many rows of requests whose bodies aren't all there hold, before the first that doesn't.
 pub(super) fn cut_off_held(alloc: Global, rows: &[Row]) -> Result<usize, Fail> {
     let routes = new_routes(alloc)?;
     Ok(count_cut_off(alloc, &routes, rows))

@@ -7,7 +7,7 @@ mod faults;
 mod tables;
 
 use actions::{ActionFault, SettingFault};
-use asking::{cut_off_held, held};
+use asking::{cut_off_held, first_other};
 use delta_exchange::WireFault;
 use faults::{FAULTS, is_short};
 use http_paths::Routes;
@@ -19,15 +19,15 @@ use tables::{CUT_OFF, Row, TABLES};
 
 #[test]
 fn requests_in_turn(rt: HostRuntime) -> Result<(), Fail> {
-    for (config, rows) in TABLES {
-        assert_eq!(rt; held(rt.alloc(), *config, rows)?, rows.len());
-    }
+    let other = first_other(rt.alloc(), TABLES)?;
+    assert_eq!(rt; other, None);
     Ok(())
 }
 
 #[test]
 fn bodies_cut_off(rt: HostRuntime) -> Result<(), Fail> {
-    assert_eq!(rt; cut_off_held(rt.alloc(), CUT_OFF)?, CUT_OFF.len());
+    let count = cut_off_held(rt.alloc(), CUT_OFF)?;
+    assert_eq!(rt; count, CUT_OFF.len());
     Ok(())
 }
 
