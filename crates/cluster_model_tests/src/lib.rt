@@ -1,5 +1,0 @@
-//! What is tested of worlds.
-#![tactic(auto)]
-
-#[cfg(test)]
-mod tests;

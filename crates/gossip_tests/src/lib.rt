@@ -1,5 +1,0 @@
-//! What is tested of gossip.
-#![tactic(auto)]
-
-#[cfg(test)]
-mod tests;

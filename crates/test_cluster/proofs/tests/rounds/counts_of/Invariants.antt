@@ -1,0 +1,7 @@
+use Rattle.test_cluster.proofs.tests.rounds.counts_of.Given as goal
+
+abbrev pub ghosts-counts_at-L-Ledger : goal.ghosts-counts_at-L-Ledger
+ghosts-counts_at-L-Ledger g a = record { name = a.blank.name; parts = 1 }
+
+abbrev pub ghosts-counts_at-L-Label : goal.ghosts-counts_at-L-Label
+ghosts-counts_at-L-Label g a = record { config = record { node = 0; nodes = 3; trace_cap = 100 } }

@@ -1,0 +1,21 @@
+//! What no contract says: what mailboxes carry, what the rounds of two nodes send, and what a wire that
+//! fails leaves behind. And a run of events, which no program makes.
+
+mod events;
+mod failing;
+mod mail;
+mod rounds;
+mod stage;
+
+use cluster_model::{Event, RunReport, World};
+use failing::{Failing, Fails};
+use gossip::WireError::{Failed, Full, NoPeer, OutOfMemory};
+use gossip::{Ended, GossipReport, MailWire, Wire, WireError, gossip_rounds};
+use node_core::{Config, Receipt, Reply};
+use node_registry::{Label, Registry, Seat};
+use stage::{EMPTY, FIRST_OF_THREE, FIRST_OF_TWO, SECOND_OF_TWO, list, opened};
+use std::alloc::{AllocError, Global};
+use std::marker::Brand;
+use std::sync::Wait;
+use std::sync::ledger::Blank;
+use std::test::Fail;

@@ -1,0 +1,5 @@
+//! What no contract says: what requests are answered, in print, and what a node that is served, and one
+//! that tells it, come to over loopback.
+
+mod requests;
+mod served;
