@@ -1,5 +1,0 @@
-//! What is tested of audits.
-#![tactic(auto)]
-
-#[cfg(test)]
-mod tests;

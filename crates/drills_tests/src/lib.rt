@@ -1,5 +1,0 @@
-//! What is tested of recorded drills.
-#![tactic(auto)]
-
-#[cfg(test)]
-mod tests;

@@ -1,0 +1,10 @@
+//! What no contract says: readers and writers that fail, that are slow or narrow, and that are watched;
+//! what a drill's text is; in which order an audit places entries; and that an audit explains what
+//! threads are told beside gossip.
+
+mod audits;
+mod drills;
+mod streams;
+mod transfers;
+mod watched;
+mod workers;

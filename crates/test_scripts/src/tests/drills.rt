@@ -1,0 +1,219 @@
+//! The text of a drill, and readers and writers of it that fail.
+
+use super::transfers::{Narrow, Slow};
+use drills::{Drill, DrillFault, read_drill, write_drill};
+use scripts::Watched;
+use std::alloc::Global;
+use std::io::{BufReader, ErrorKind, Read, Write};
+use std::test::Fail;
+
+// Each form of a line, a row and a task.
+const EVERY_FORM: &str = r#"{"failreg":"drill","version":1}
+{"trace":0}
+{"ask":["set","a","20%3*print(hi)->panic"],"reply":["set",18446744073709551615,255],"words":[]}
+{"ask":["remove","a\nb\u0000"],"reply":["removed",2,0],"words":[]}
+{"ask":["load","é=off"],"reply":["loaded",65535],"words":[]}
+{"ask":["pass","a"],"reply":["unset"],"words":[]}
+{"ask":["pass","a"],"reply":["none",3,1],"words":[0,4294967295]}
+{"ask":["pass","a"],"reply":["act",3,1,255,["off"]],"words":[]}
+{"ask":["pass","a"],"reply":["act",3,1,0,["return",null]],"words":[]}
+{"ask":["pass","a"],"reply":["act",3,1,0,["sleep",5]],"words":[]}
+{"ask":["pass","a"],"reply":["act",3,1,0,["panic",""]],"words":[]}
+{"ask":["pass","a"],"reply":["act",3,1,0,["print","\"hi\""]],"words":[]}
+{"ask":["pass","a"],"reply":["act",3,1,0,["pause"]],"words":[]}
+{"ask":["pass","a"],"reply":["act",3,1,0,["yield"]],"words":[]}
+{"ask":["pass","a"],"reply":["act",3,1,0,["delay",18446744073709551615]],"words":[]}
+{"trace":1}
+{"trace":2}
+{"ask":["shift","a",0,1,18446744073709551615],"reply":["shifted",7],"words":[]}
+{"ask":["grant","a",255,2],"reply":["granted",9],"words":[]}
+{"ask":["emit",1],"reply":["message","46504731ff00"],"words":[]}
+{"ask":["deliver",""],"reply":["changed"],"words":[]}
+{"ask":["deliver","0a"],"reply":["same"],"words":[]}
+{"list":0}
+{"list":1}
+{"ask":["pass","a"],"index":4294967295,"node":255,"reply":["unset"],"words":[1]}
+"#;
+
+// A drill of one entry, told otherwise: with spaces, other escapes, another order of members, capital
+// digits, a carriage return, and no last newline.
+const TOLD_OTHERWISE: &str = "{ \"version\" : 1, \"failreg\" : \"dr\\u0069ll\" }\r
+{\"trace\": 0}
+{\"words\":[],\"reply\":[\"message\",\"FF\"],\"ask\":[\"emit\", 1]}";
+
+const ONE_ENTRY: &str = r#"{"failreg":"drill","version":1}
+{"trace":0}
+{"ask":["emit",1],"reply":["message","ff"],"words":[]}
+"#;
+
+// Texts behind a good first line, a trace's and an entry's, and the line of the whole that is bad.
+const BAD: [(&str, u64); 24] = [
+    ("\n", 4),
+    ("{", 4),
+    ("[]", 4),
+    ("{}", 4),
+    ("{\"failreg\":\"drill\",\"version\":1}", 4),
+    ("{\"trace\":0}", 4),
+    ("{\"trace\":2}", 4),
+    ("{\"trace\":-1}", 4),
+    ("{\"trace\":1.0}", 4),
+    ("{\"list\":1}", 4),
+    ("{\"list\":\"0\"}", 4),
+    ("{\"list\":0}\n{\"trace\":1}", 5),
+    (
+        "{\"list\":0}\n{\"ask\":[\"emit\",1],\"reply\":[\"same\"],\"words\":[]}",
+        5,
+    ),
+    (
+        "{\"ask\":[\"emit\",1],\"index\":0,\"node\":0,\"reply\":[\"same\"],\"words\":[]}",
+        4,
+    ),
+    (
+        "{\"list\":0}\n{\"ask\":[\"emit\",1],\"index\":0,\"node\":256,\"reply\":[\"same\"],\"words\":[]}",
+        5,
+    ),
+    (
+        "{\"list\":0}\n{\"ask\":[\"emit\",1],\"index\":4294967296,\"node\":0,\"reply\":[\"same\"],\"words\":[]}",
+        5,
+    ),
+    (
+        "{\"ask\":[\"emit\",256],\"reply\":[\"same\"],\"words\":[]}",
+        4,
+    ),
+    (
+        "{\"ask\":[\"emit\",1,1],\"reply\":[\"same\"],\"words\":[]}",
+        4,
+    ),
+    (
+        "{\"ask\":[\"emits\",1],\"reply\":[\"same\"],\"words\":[]}",
+        4,
+    ),
+    (
+        "{\"ask\":[\"deliver\",\"0\"],\"reply\":[\"same\"],\"words\":[]}",
+        4,
+    ),
+    (
+        "{\"ask\":[\"deliver\",\"0g\"],\"reply\":[\"same\"],\"words\":[]}",
+        4,
+    ),
+    (
+        "{\"ask\":[\"emit\",1],\"reply\":[\"loaded\",65536],\"words\":[]}",
+        4,
+    ),
+    (
+        "{\"ask\":[\"emit\",1],\"reply\":[\"same\"],\"words\":[4294967296]}",
+        4,
+    ),
+    (
+        "{\"ask\":[\"emit\",1],\"reply\":[\"same\"],\"words\":[],\"more\":0}",
+        4,
+    ),
+];
+
+// Texts that have no good first line.
+const BAD_FROM_THE_START: [&str; 6] = [
+    "",
+    "\n",
+    "{\"trace\":0}",
+    "{\"failreg\":\"drill\",\"version\":2}",
+    "{\"failreg\":\"drills\",\"version\":1}",
+    "{\"failreg\":\"drill\",\"version\":\"1\"}",
+];
+
+/// Reads a drill, without what the contract says of it.
+pub(super) fn read<I: Read + Drop>(alloc: Global, reader: I) -> Result<Drill, DrillFault> {
+    match BufReader::new(alloc, Watched::new(reader)) {
+        Ok(mut reader) => read_drill(alloc, &mut reader),
+        Err(_) => Err(DrillFault::OutOfMemory),
+    }
+}
+
+// Writes a drill, without what the contract says of it.
+fn write<W: Write + Drop>(alloc: Global, drill: &Drill, writer: W) -> Result<(), DrillFault> {
+    let mut writer = Watched::new(writer);
+    write_drill(alloc, &drill.traces, &drill.lists, &mut writer)
+}
+
+// A drill's text as it is written again.
+fn again(alloc: Global, text: &str) -> Result<Vec<u8>, DrillFault> {
+    let drill = read(alloc, text.as_bytes())?;
+    let mut written = Vec::new(alloc);
+    write(alloc, &drill, &mut written)?;
+    Ok(written)
+}
+
+// Why a text is no drill.
+fn fault_of(alloc: Global, text: &str) -> Option<DrillFault> {
+    read(alloc, text.as_bytes()).err()
+}
+
+#[test]
+fn each_form_reads_back(rt: HostRuntime) -> Result<(), Fail> {
+    for (text, wanted) in [(EVERY_FORM, EVERY_FORM), (TOLD_OTHERWISE, ONE_ENTRY)] {
+        let written = again(rt.alloc(), text)?;
+        assert_eq!(rt; written.as_slice(), wanted.as_bytes());
+    }
+    Ok(())
+}
+
+#[test]
+fn bad_lines(rt: HostRuntime) -> Result<(), Fail> {
+    for (text, line) in BAD {
+        let whole = format!(in rt.alloc(); "{ONE_ENTRY}{text}")?;
+        let fault = fault_of(rt.alloc(), &whole);
+        assert_eq!(rt; fault, Some(DrillFault::BadLine { line }), "{text}");
+    }
+    for text in BAD_FROM_THE_START {
+        let fault = fault_of(rt.alloc(), text);
+        assert_eq!(rt; fault, Some(DrillFault::BadLine { line: 1 }), "{text}");
+    }
+    Ok(())
+}
+
+// What comes of a text of which a read fails behind so many bytes, three for each read.
+fn fault_behind(alloc: Global, bytes: usize) -> Option<DrillFault> {
+    let slow = Slow {
+        text: ONE_ENTRY.as_bytes(),
+        calls: 0,
+        fails_at: bytes / 3,
+        kind: ErrorKind::ConnectionReset,
+    };
+    read(alloc, slow).err()
+}
+
+// What is read before a read fails is no drill, also where it ends with a line.
+#[test]
+fn a_read_fails(rt: HostRuntime) {
+    for bytes in [0, 3, ONE_ENTRY.len()] {
+        assert_eq!(rt;
+            fault_behind(rt.alloc(), bytes),
+            Some(DrillFault::ReadFailed)
+        );
+    }
+}
+
+fn written_into(alloc: Global, drill: &Drill, room: usize) -> Result<(), DrillFault> {
+    let narrow = Narrow {
+        taken: Vec::new(alloc),
+        room,
+        fails: false,
+        flushes: 0,
+        flush_fails: false,
+    };
+    write(alloc, drill, narrow)
+}
+
+#[test]
+fn a_write_stops(rt: HostRuntime) -> Result<(), Fail> {
+    let drill = read(rt.alloc(), ONE_ENTRY.as_bytes())?;
+    for room in 0..ONE_ENTRY.len() {
+        let written = written_into(rt.alloc(), &drill, room);
+        assert_eq!(rt;
+            written,
+            Err(DrillFault::WriteFailed),
+            "behind {room} bytes"
+        );
+    }
+    assert_eq!(rt; written_into(rt.alloc(), &drill, ONE_ENTRY.len()), Ok(()));
+    Ok(())
+}
