@@ -123,4 +123,3 @@ union_above v w = (λ name. above_left v w name, λ name. above_right v w name)
 
 pub union_under : (v w u : State) → IsBelow v u → IsBelow w u → IsBelow (union_of v w) u
 union_under v w u h k = λ name. least_at v w name u (h name) (k name)
-

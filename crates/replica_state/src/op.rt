@@ -6,8 +6,8 @@ ghost use Rattle.replica_state.specs.Folds.{name_in};
 ghost use Rattle.replica_state.specs.Cells.{key_told, count_told};
 ghost use Rattle.replica_state.specs.Points.{given_key};
 
-use crate::terms::count_of;
 use crate::point::{Count, Counted};
+use crate::terms::count_of;
 use actions::Name;
 use stamp_register::Key;
 

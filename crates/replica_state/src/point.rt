@@ -56,7 +56,6 @@ impl Counted {
             _ => false,
         }
     }
-
 }
 
 /// The key that goes with what is told of a name: with a setting and with what is counted under the

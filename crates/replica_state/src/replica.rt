@@ -13,9 +13,9 @@ ghost use Rattle.replica_state.specs.StateOrder.{OrdersByState};
 ghost use Rattle.replica_state.specs.Unions.{with_names};
 ghost use Rattle.replica_state.specs.Points.{given_key};
 
-use crate::terms::{count_of, terms_of};
 use crate::op::Op;
 use crate::point::Count;
+use crate::terms::{count_of, terms_of};
 use actions::Name;
 use lattice_laws::Join;
 use stamp_register::Key;

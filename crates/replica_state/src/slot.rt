@@ -11,8 +11,8 @@ ghost use Rattle.replica_state.specs.States.{MarksRights};
 ghost use Rattle.replica_state.specs.declared.point.Counted.{Counted};
 ghost use Rattle.replica_state.specs.declared.point.Counted.TheVariants.{Hits, Execs, Shifts};
 
-use crate::terms::{count_of, terms_of};
 use crate::point::{Count, Counted};
+use crate::terms::{count_of, terms_of};
 use counters::{Budget, HitCounter};
 use lattice_laws::{Join, LexOf, MapOf, PairOf};
 use stamp_register::Key;
