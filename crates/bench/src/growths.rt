@@ -1,8 +1,8 @@
-//! Calls whose growths `tools/refused-growths` refuses in turn.
+//! Calls whose growths `tools/refused-growths` refuses in turn, each made once more behind that.
 //!
-//! What a call is given is made before `ready` is printed. Then stands what it answered, and of a
-//! request behind `again` what it answered the second time. Where the call may change something, that
-//! stands before `ready` and behind each answer.
+//! What a call is given is made before `ready` is printed. Then stands what it answered, and behind
+//! `again` what it answered the second time. Where the call may change something, that stands before
+//! `ready` and behind each answer.
 
 use cluster_model::{Event, RunReport, World};
 use http_paths::Routes;
@@ -74,10 +74,10 @@ fn asked_node(alloc: Global, routes: &Routes) -> Result<NodeCore, NodeFault> {
     Ok(core)
 }
 
-// What the node shows, and a refused call has to leave as it was.
+// What the node shows, and a refused call has to leave as it was. (Room for marks isn't shown.)
 fn print_node<R: Print>(rt: &R, core: &NodeCore) -> io::Result<()> {
-    println!(rt; "{:?} {:?}", core.state(), core.trace())?;
-    println!(rt; "{} {} {}", core.version(), core.known(0), core.acked(0))
+    let versions = (core.version(), core.known(0), core.acked(0));
+    println!(rt; "{:?} {:?} {:?}", core.state(), core.trace(), versions)
 }
 
 fn print_reply<R: Print>(rt: &R, reply: &HttpReply) -> io::Result<()> {
@@ -186,10 +186,11 @@ fn run(alloc: Global, world: &mut World, events: &[Event<'_>]) -> Result<RunRepo
     world.run(alloc, events)
 }
 
-// What each node of a cluster shows, in a line.
 fn print_nodes<R: Print>(rt: &R, world: &World) -> io::Result<()> {
     for node in 0..ASKED.nodes {
-        println!(rt; "{:?}", world.node(node))?;
+        if let Some(core) = world.node(node) {
+            print_node(rt, core)?;
+        }
     }
     Ok(())
 }
@@ -201,19 +202,22 @@ fn print_answers<R: Print>(rt: &R, report: &RunReport) -> io::Result<()> {
     Ok(())
 }
 
-// Runs events of which none hangs on another, each at another node.
-fn run_once<R: AllocGlobal + Print>(
+// Runs events of which none hangs on another, each at another node, twice.
+fn run_twice<R: AllocGlobal + Print>(
     rt: &R,
     world: &mut World,
     events: &[Event<'_>],
 ) -> io::Result<()> {
     print_nodes(rt, world)?;
-    println!(rt; "ready")?;
-    match run(rt.alloc(), world, events) {
-        Ok(report) => print_answers(rt, &report)?,
-        Err(_) => println!(rt; "no answers")?,
+    for word in BOTH {
+        println!(rt; "{word}")?;
+        match run(rt.alloc(), world, events) {
+            Ok(report) => print_answers(rt, &report)?,
+            Err(_) => println!(rt; "no answers")?,
+        }
+        print_nodes(rt, world)?;
     }
-    print_nodes(rt, world)
+    Ok(())
 }
 
 // Runs the events of a script behind its line `run`.
@@ -221,7 +225,7 @@ fn run_case<R: AllocGlobal + Print>(rt: &R, script: &str) -> anyhow::Result<bool
     let (before, events) = script.split_once("\nrun\n").unwrap_or((script, ""));
     let mut world = World::new(rt.alloc(), ASKED.nodes, ASKED.trace_cap)?;
     run(rt.alloc(), &mut world, &events_of(rt.alloc(), before)?)?;
-    run_once(rt, &mut world, &events_of(rt.alloc(), events)?)?;
+    run_twice(rt, &mut world, &events_of(rt.alloc(), events)?)?;
     Ok(true)
 }
 

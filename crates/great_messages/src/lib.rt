@@ -1,4 +1,4 @@
-//! The greatest messages of a cluster of 32 nodes, which `delta_exchange_tests` and `message_times`
+//! The greatest messages of a cluster of 32 nodes, which `test_messages` and `bench`
 //! read and write.
 #![tactic(auto)]
 
