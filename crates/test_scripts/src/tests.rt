@@ -3,7 +3,7 @@
 //! threads are told beside gossip.
 
 mod audits;
-mod drills;
+mod kept_drills;
 mod streams;
 mod transfers;
 mod watched;

@@ -1,6 +1,6 @@
 //! In which order an audit places the entries of two nodes. An order that fits isn't always the only one.
 
-use super::drills::read;
+use super::kept_drills::read;
 use audit::{AuditFault, AuditYes, audit};
 use drills::Drill;
 use std::alloc::{AllocError, Global};
