@@ -135,7 +135,7 @@ impl<R: Replica> Versioned<R> {
         Ok(())
     }
 
-    // The same where the name has no marks yet.
+    // Counts a pass of a name that has no marks yet.
     fn count_unmarked_pass(
         &mut self,
         alloc: Global,

@@ -57,7 +57,7 @@ where
     serve_registry::<Brand, R>(rt, Blank::new(2), config, options)
 }
 
-// The same of the registry that `L` names: what that is, the call above picks.
+// Serves the node of the registry that `L` names: what that is, the call above picks.
 fn serve_registry<L, R>(
     rt: &R,
     blank: Blank,

@@ -117,7 +117,7 @@ where
     serve(rt, rt.alloc(), runtime, registry, seat, listener, requests)
 }
 
-// The same, with the node's gossip in a thread of the scope.
+// Serves a node, with its gossip in a thread of the scope.
 fn serve_in<'s, E, L, R>(
     scope: &Scope<'s, E>,
     rt: &'s R,

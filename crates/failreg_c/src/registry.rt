@@ -343,7 +343,8 @@ impl Registry {
         length
     }
 
-    /// The same of the words that the last pass drew.
+    /// Copies the words that the last pass drew, as many as there is room for, and answers how many
+    /// there are.
     pub(crate) fn fetch_words(&self, into: &mut [u32]) -> usize
         ensures length { result ≡ length self.now.words.items }
         ensures words { FillsFront self.now.words.items into.old into.new }

@@ -176,7 +176,7 @@ fn shared<A>(desk: &Option<Arc<A>>) -> Option<Arc<A>> {
     Arc::try_clone(desk.as_ref()?).ok()
 }
 
-// The same places, for another body.
+// A share of these places for another body.
 fn again(long: &Option<Seats>) -> Option<Seats>
     ensures { IfSome result (λ places. IfSome places.waiting CanAcquire) }
 {

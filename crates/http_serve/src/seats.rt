@@ -28,7 +28,7 @@ impl Seats {
         })
     }
 
-    /// The same places, for another who waits. `None` where there is no memory.
+    /// A share of these places for another who waits. `None` where there is no memory.
     pub fn again(&self) -> Option<Seats>
         ensures { IfSome result (λ seats. seats.waiting ≡ None) }
     {

@@ -92,7 +92,7 @@ where
     Ok(requests)
 }
 
-// The same of a desk, whoever stands there.
+// Serves clients at a desk, whoever stands there.
 fn serve_desk<A, R>(
     rt: &R,
     alloc: Global,

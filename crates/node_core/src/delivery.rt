@@ -233,7 +233,8 @@ fn execs_both(
     sum
 }
 
-/// What all nodes granted themselves of a term, likewise.
+/// What all nodes granted themselves of a term once both states are one, where the key that is told
+/// stands so.
 fn granted_both(
     nodes: u8,
     order: Ordering,

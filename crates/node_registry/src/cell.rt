@@ -72,7 +72,7 @@ impl NodeCell {
         self.enter_owned(alloc, copy)
     }
 
-    /// The same of an ask that goes into the entry.
+    /// Makes a call with an ask that goes into the entry.
     pub(crate) fn enter_owned(&mut self, alloc: Global, ask: Ask) -> Result<Entry, NodeFault>
         ensures asked { IfOk result (λ e. e.ask ≡ ask) }
         ensures ok { IfOk result (Enters self.old self.new) }

@@ -117,7 +117,7 @@ impl<L: Label> Guarded<L> {
         self.enter_owned(alloc, seat, copy)
     }
 
-    /// The same of an ask that goes into the receipt.
+    /// Makes a call with an ask that goes into the receipt.
     pub(crate) fn enter_owned(
         &mut self,
         alloc: Global,

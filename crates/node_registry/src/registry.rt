@@ -89,7 +89,7 @@ impl<L: Label> Registry<L> {
         self.enter_owned(rt, alloc, seat, copy)
     }
 
-    /// The same of an ask that goes into the receipt.
+    /// Makes a call with an ask that goes into the receipt.
     pub(crate) fn enter_owned<R: Wait>(
         &self,
         rt: &R,

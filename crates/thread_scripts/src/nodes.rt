@@ -90,7 +90,7 @@ fn make_calls<L: Label + Send + Sync, R: Threads + Wait + Sync>(
     make_calls_beside(rt, alloc, registry, finished, seats, plan, node, gossip)
 }
 
-// The same of the registry that `L` names: what that is, the caller picks.
+// Runs the node of the registry that `L` names: what that is, the caller picks.
 fn run_registry<L: Label + Send + Sync, R: Threads + Wait + Sync>(
     rt: &R,
     alloc: Global,

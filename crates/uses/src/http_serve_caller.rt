@@ -30,7 +30,7 @@ where
     node_served_by::<Brand, R>(rt, runtime, listener, Blank::new(1), config, clients)
 }
 
-// The same of the registry that `L` names: what that is, the call above picks.
+// Serves the node of the registry that `L` names: what that is, the call above picks.
 fn node_served_by<L, R>(
     rt: &R,
     runtime: &mut Runtime,

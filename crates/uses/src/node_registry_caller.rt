@@ -25,7 +25,7 @@ pub fn asked<R: Wait>(
     asked_by::<Brand, R>(rt, alloc, Blank::new(1), config, asks)
 }
 
-// The same of the registry that `L` names: what that is, the call above picks.
+// Asks the registry that `L` names: what that is, the call above picks.
 fn asked_by<L: Label, R: Wait>(
     rt: &R,
     alloc: Global,

@@ -25,7 +25,7 @@ fn with_words<T: Drop>(checked: Result<T, NodeFault>) -> NodeFault
     }
 }
 
-// The same of a delivery, whose words are looked at before its message.
+// The refusal of a delivery with words, which are looked at before its message.
 fn delivery_with_words(checked: Result<Delivery, NodeFault>) -> NodeFault
     ensures ok { OnOk checked (result ≡ NodeFault.BadWords 0) }
     ensures err { IfErr checked (λ f. result ≡ delivery_refused_with f) }

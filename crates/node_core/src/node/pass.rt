@@ -279,7 +279,7 @@ impl Outcome<'_> {
         Ok(PassReply::Act { term, stamp, task })
     }
 
-    /// The same where it is wanted.
+    /// The reply of the pass, where it is wanted.
     fn answer(self, alloc: Global, is_wanted: bool) -> Result<Option<PassReply>, AllocError>
         ensures { IfOk result (λ reply. option_map passed reply ≡ then_some is_wanted
             (outcome_reply self.entry.stamp self.entry.term
