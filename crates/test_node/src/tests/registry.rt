@@ -13,7 +13,7 @@ use super::stories::{ONE_NAME, SETS_A};
 use super::{expect, text_of};
 use calls::Line;
 use node_core::{Ask, Config, Entry, NodeCore, NodeFault, Receipt, Reply};
-use node_registry::{Done, Gate, Guarded, Job, Label, NodeCell, Registry, Seat, run_workers};
+use node_registry::{Done, Gate, Job, Label, Registry, Seat, run_workers};
 use std::alloc::{AllocError, Global};
 use std::marker::Brand;
 use std::process::Abort;

@@ -1,4 +1,5 @@
-//! The words that passes are given.
+//! The random draws of passes, which no contract names for a registry: the cell below it and its
+//! lock hand on what the contracts of `NodeCell` say.
 
 ghost use Rattle.std.specs.Prelude.{◌≡◌};
 
@@ -21,118 +22,46 @@ const FIVE_CALLS: Config = Config {
     trace_cap: 5,
 };
 
-/// What makes calls of a node.
-trait Caller {
-    /// Makes a call, and answers the first word that its entry has.
-    fn first_word(&mut self, alloc: Global, ask: &Ask) -> Result<Option<u32>, NodeFault>;
+/// Makes a call, and answers the first random draw that its entry has.
+fn first_draw<L: Label, R: Wait>(
+    rt: &R,
+    alloc: Global,
+    registry: &Registry<L>,
+    seat: &mut Seat<L>,
+    ask: &Ask,
+) -> Result<Option<u32>, NodeFault> {
+    let receipt = registry.enter(rt, alloc, seat, ask)?;
+    Ok(receipt.entry.words.first().copied())
 }
 
-impl Caller for NodeCell {
-    fn first_word(&mut self, alloc: Global, ask: &Ask) -> Result<Option<u32>, NodeFault> {
-        Ok(self.enter(alloc, ask)?.words.first().copied())
-    }
-}
-
-/// A caller of a guarded node.
-#[derive(Drop)]
-struct OfGuarded<L: Label> {
-    guarded: Guarded<L>,
-    seat: Seat<L>,
-}
-
-impl<L: Label> Caller for OfGuarded<L> {
-    fn first_word(&mut self, alloc: Global, ask: &Ask) -> Result<Option<u32>, NodeFault> {
-        let receipt = self.guarded.enter(alloc, &mut self.seat, ask)?;
-        Ok(receipt.entry.words.first().copied())
-    }
-}
-
-/// A caller of a registry.
-#[derive(Drop)]
-struct OfRegistry<'a, L: Label, R> {
-    rt: &'a R,
-    registry: &'a Registry<L>,
-    seat: Seat<L>,
-}
-
-impl<L: Label, R: Wait> Caller for OfRegistry<'_, L, R> {
-    fn first_word(&mut self, alloc: Global, ask: &Ask) -> Result<Option<u32>, NodeFault> {
-        let receipt = self.registry.enter(self.rt, alloc, &mut self.seat, ask)?;
-        Ok(receipt.entry.words.first().copied())
-    }
-}
-
-/// Makes a call, and again where its memory was refused: that drew no word.
-fn entered<C: Caller>(alloc: Global, caller: &mut C, ask: &Ask) -> Result<Option<u32>, NodeFault> {
-    match caller.first_word(alloc, ask) {
-        Err(NodeFault::OutOfMemory) => caller.first_word(alloc, ask),
+/// Makes a call, and again where its memory was refused: that made no random draw.
+fn entered<L: Label, R: Wait>(
+    rt: &R,
+    alloc: Global,
+    registry: &Registry<L>,
+    seat: &mut Seat<L>,
+    ask: &Ask,
+) -> Result<Option<u32>, NodeFault> {
+    match first_draw(rt, alloc, registry, seat, ask) {
+        Err(NodeFault::OutOfMemory) => first_draw(rt, alloc, registry, seat, ask),
         answer => answer,
     }
 }
 
-/// Ends the test where four passes don't draw the first words.
-fn draws<C: Caller>(rt: &impl Abort, alloc: Global, caller: &mut C) -> Result<(), Fail> {
-    let set = set_ask(alloc, "p", "20%off")?;
-    expect(rt, &entered(alloc, caller, &set)?, &None);
-    let pass = pass_ask(alloc, "p")?;
-    for word in FIRST_WORDS {
-        expect(rt, &entered(alloc, caller, &pass)?, &Some(word));
-    }
-    Ok(())
-}
-
-#[test]
-fn a_cell_draws_the_words_of_its_stream(rt: HostRuntime) -> Result<(), Fail> {
-    let mut cell = NodeCell::new(rt.alloc(), FIVE_CALLS, SEED)?;
-    draws(&rt, rt.alloc(), &mut cell)?;
-    expect(&rt, &cell.place(), &4);
-    Ok(())
-}
-
-/// Sets the point, and passes it nine times, which is refused where the trace is full.
-fn fill(alloc: Global, cell: &mut NodeCell) -> Result<(), Fail> {
-    cell.enter(alloc, &set_ask(alloc, "p", "20%off->50%yield")?)?;
-    let pass = pass_ask(alloc, "p")?;
-    for _ in 0..9 {
-        match cell.enter(alloc, &pass) {
-            Ok(_) => (),
-            Err(NodeFault::TraceFull) => (),
-            Err(fault) => return Err(fault)?,
-        }
-    }
-    Ok(())
-}
-
-/// Four of the passes were accepted.
-#[test]
-fn a_refused_pass_draws_nothing(rt: HostRuntime) -> Result<(), Fail> {
-    let mut cell = NodeCell::new(rt.alloc(), FIVE_CALLS, SEED)?;
-    fill(rt.alloc(), &mut cell)?;
-    expect(&rt, &cell.place(), &8);
-    Ok(())
-}
-
-fn guarded_draws<L: Label, R: Abort>(
+/// Ends the test where four passes don't draw the first words of the stream.
+fn draws<L: Label, R: Abort + Wait>(
     rt: &R,
     alloc: Global,
-    blank: Blank,
-    config: Config,
-) -> Result<(), Fail>
-    requires name { blank.name ≡ L.name }
-    requires parts { (blank.parts ≡ L.parts) × (L.parts ≡ 1) }
-    requires config { config ≡ L.config }
-{
-    let (guarded, seats) = Guarded::<L>::start(alloc, blank, config, SEED, 1)?;
-    let seat = seat_of(seats)?;
-    let mut caller = OfGuarded { guarded, seat };
-    draws(rt, alloc, &mut caller)?;
-    expect(rt, &caller.seat.calls(), &5);
+    registry: &Registry<L>,
+    seat: &mut Seat<L>,
+) -> Result<(), Fail> {
+    let set = set_ask(alloc, "p", "20%off")?;
+    expect(rt, &entered(rt, alloc, registry, seat, &set)?, &None);
+    let pass = pass_ask(alloc, "p")?;
+    for word in FIRST_WORDS {
+        expect(rt, &entered(rt, alloc, registry, seat, &pass)?, &Some(word));
+    }
     Ok(())
-}
-
-#[test]
-fn a_guarded_node_draws_the_same(rt: HostRuntime) -> Result<(), Fail> {
-    guarded_draws::<Brand, HostRuntime>(&rt, rt.alloc(), Blank::new(1), FIVE_CALLS)
 }
 
 // Whether a trace is a setting, and a pass for each of the stream's first words.
@@ -145,16 +74,15 @@ fn draws_at<L: Label, R: Abort + Wait>(
     rt: &R,
     alloc: Global,
     registry: &Registry<L>,
-    seat: Seat<L>,
+    mut seat: Seat<L>,
 ) -> Result<(), Fail> {
-    let mut caller = OfRegistry { rt, registry, seat };
-    draws(rt, alloc, &mut caller)?;
+    draws(rt, alloc, registry, &mut seat)?;
     expect(
         rt,
         &registry.with(rt, |node| has_first_words(node.trace())),
         &true,
     );
-    expect(rt, &caller.seat.calls(), &5);
+    expect(rt, &seat.calls(), &5);
     Ok(())
 }
 
@@ -173,6 +101,6 @@ fn registry_draws<L: Label, R: Abort + Wait>(
 }
 
 #[test]
-fn a_registry_draws_the_same(rt: HostRuntime) -> Result<(), Fail> {
+fn a_registry_draws_the_words_of_its_stream(rt: HostRuntime) -> Result<(), Fail> {
     registry_draws::<Brand, HostRuntime>(&rt, rt.alloc(), Blank::new(1), FIVE_CALLS)
 }

@@ -1,4 +1,4 @@
-use Rattle.test_node.proofs.tests.registry.words.a_registry_draws_the_same.Given as goal
+use Rattle.test_node.proofs.tests.registry.words.a_registry_draws_the_words_of_its_stream.Given as goal
 
 abbrev pub ghosts-registry_draws-L-Ledger : goal.ghosts-registry_draws-L-Ledger
 ghosts-registry_draws-L-Ledger g a = record { name = a.blank.name; parts = 1 }
