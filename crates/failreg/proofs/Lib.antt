@@ -1,3 +1,2 @@
-mod PeerLemmas
 pub mod Recorded
 mod RoundLemmas

@@ -1,4 +1,3 @@
-pub mod Peers
 pub mod Rounds
 pub mod Statuses
 pub mod Recordings

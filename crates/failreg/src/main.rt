@@ -11,11 +11,8 @@ ghost use Rattle.thread_scripts.specs.Outputs.{PlaysTo};
 ghost use Rattle.failreg.specs.Statuses.{HasStatus, OnStatus};
 
 mod auditing;
-mod command_line;
 mod finish;
-mod help;
 mod host;
-mod peers;
 mod recording;
 mod serving;
 mod telling;

@@ -5,10 +5,10 @@ ghost use Rattle.std.specs.Process.{exit_status};
 ghost use Rattle.node_core.specs.Refusals.{is_bad_config};
 ghost use Rattle.failreg.specs.Statuses.{HasStatus};
 
-use crate::command_line::ServeOptions;
 use crate::finish::{finish_serve, refuse};
 use crate::host::Host;
 use crate::telling::{Serving, serve_and_tell};
+use command_line::ServeOptions;
 use http_serve::ServeFault;
 use node_core::{Config, NodeFault};
 use node_registry::{Label, Registry, Seat};

@@ -1,11 +1,12 @@
 //! A node that is served, and its gossip beside it.
 
-ghost use Rattle.std.specs.Prelude.{◌≡◌, ◌≤◌, ◌+◌, ◌*◌, ◌⊎◌, IfOk, IfErr};
+ghost use Rattle.std.specs.Prelude.{◌≡◌, ◌≤◌, ◌+◌, ◌*◌, ◌⊎◌, map, IfOk, IfErr};
 ghost use Rattle.http_serve.specs.declared.fault.ServeFault.TheVariants.{AcceptFailed, OutOfMemory};
-ghost use Rattle.failreg.specs.Rounds.{most_calls};
+ghost use Rattle.failreg.specs.Rounds.{most_calls, peer_of};
 
 use crate::host::Host;
-use gossip::gossip_rounds;
+use command_line::{NamedPeer, Telling};
+use gossip::{WireError, gossip_rounds};
 use http_serve::{ServeFault, serve};
 use http_wire::{HttpWire, Peer};
 use node_registry::{Label, Registry, Seat};
@@ -16,15 +17,6 @@ use std::thread::{Parker, Scope};
 use std::time::Duration;
 use tokio::net::TcpListener;
 use tokio::runtime::Runtime;
-
-/// Whom a served node tells what it knows, and how often.
-#[derive(Debug, Drop)]
-pub struct Telling {
-    pub peers: Vec<Peer>,
-    pub rounds: u32,
-    /// The rest between two rounds.
-    pub every: Duration,
-}
 
 /// A node whose port is listened on, and how many clients are let in.
 #[derive(Drop)]
@@ -66,6 +58,20 @@ impl Service {
     }
 }
 
+// A wire to these peers.
+fn wire_to<R: Host>(rt: &R, named: &[NamedPeer]) -> Result<HttpWire<R>, WireError>
+    ensures { IfOk result (λ wire. wire.peers.items ≡ map peer_of named.now) }
+{
+    let mut peers = Vec::new(rt.alloc());
+    for peer in named {
+        peers.push(Peer {
+            node: peer.node,
+            port: peer.port,
+        })?;
+    }
+    HttpWire::new(*rt, peers)
+}
+
 // Does one round after the other, with a rest between two, until all are done or the service has
 // ended. Where the wire can't be made there is none.
 fn keep_telling<L, R>(
@@ -85,7 +91,7 @@ where
         rounds,
         every,
     } = telling;
-    let Ok(mut wire) = HttpWire::new(*rt, peers) else {
+    let Ok(mut wire) = wire_to(rt, &peers) else {
         return;
     };
     for round in 0..rounds {

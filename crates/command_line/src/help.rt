@@ -1,5 +1,37 @@
 //! The longer texts of the help.
 
+/// How much of the help of a subcommand stands behind its options.
+#[derive(Clone, Copy, Drop)]
+pub enum Extent {
+    /// Where the whole of it is found.
+    Short,
+    /// All of it.
+    Whole,
+}
+
+impl Extent {
+    /// Of two texts the one of this extent.
+    pub fn pick<'a>(self, short: &'a str, whole: &'a str) -> &'a str {
+        match self {
+            Extent::Short => short,
+            Extent::Whole => whole,
+        }
+    }
+}
+
+/// How much help the words of a command line ask for, of which the first is the program's name: `-h`
+/// asks for the short one. Of `-h` and `--help` the first counts, and none of those behind `--`.
+pub fn extent_of(words: &[String]) -> Extent {
+    for word in words.iter().skip(1) {
+        match word.as_str() {
+            "-h" => return Extent::Short,
+            "--help" | "--" => return Extent::Whole,
+            _ => {}
+        }
+    }
+    Extent::Whole
+}
+
 /// Behind the help of the program.
 pub const EXAMPLE: &str = "\
 Example:
@@ -7,8 +39,11 @@ Example:
   set 1.0
   act 1.0 0 off";
 
+/// Behind the short help of `parse`.
+pub const PARSE_SHORT: &str = "`failreg parse --help` says what an action text is.";
+
 /// Behind the help of `parse`.
-pub const PARSE_HELP: &str = "\
+pub const PARSE: &str = "\
 An action text is one or more terms joined by `->`, each of the form
 [<percent>%][<count>*]<task>[(<argument>)]. The tasks are off, return, sleep,
 panic, print, pause, yield and delay. A text that is refused has status 1, and
@@ -18,8 +53,11 @@ Example:
   $ failreg parse '020.50%3*print(hi) -> panic'
   20.5%3*print(hi)->panic";
 
+/// Behind the short help of `sim`.
+pub const SIM_SHORT: &str = "`failreg sim --help` has each line of a script, and what it prints.";
+
 /// Behind the help of `sim`.
-pub const SIM_HELP: &str = "\
+pub const SIM: &str = "\
 Each line of the script, and what it prints where it is accepted:
   nodes <n> <cap>                     nothing: makes nodes 0 to n-1, of which
                                       each accepts cap calls
@@ -82,8 +120,12 @@ Example:
   act 1.0 1 off
   2";
 
+/// Behind the short help of `threads`.
+pub const THREADS_SHORT: &str =
+    "`failreg threads --help` has each line of a script, and what is printed in the end.";
+
 /// Behind the help of `threads`.
-pub const THREADS_HELP: &str = "\
+pub const THREADS: &str = "\
 The script is read to its end before anything is called. Its lines, in this
 order:
   nodes <n> <cap>                     makes nodes 0 to n-1, 32 at most, of
@@ -143,8 +185,11 @@ Example:
   audit yes
   budget a 1.0 0 count=2 executed=2";
 
+/// Behind the short help of `audit`.
+pub const AUDIT_SHORT: &str = "`failreg audit --help` says what is printed, and has an example.";
+
 /// Behind the help of `audit`.
-pub const AUDIT_HELP: &str = "\
+pub const AUDIT: &str = "\
 The file has a drill that `failreg threads --record <file>` kept: what each node
 did, and what its callers were told. What it prints is what the run printed of
 its audit: `audit yes`, where some order of all calls explains what each caller
@@ -167,8 +212,12 @@ Example:
   audit yes
   budget a 1.0 0 count=2 executed=0";
 
+/// Behind the short help of `serve`.
+pub const SERVE_SHORT: &str =
+    "`failreg serve --help` has requests to try first, and says how the node tells its peers.";
+
 /// Behind the help of `serve`.
-pub const SERVE_HELP: &str = "\
+pub const SERVE: &str = "\
 The node listens on 127.0.0.1 alone, asks for no password, and knows of other
 nodes only what messages tell it. It prints `listening <port>` once clients can
 connect, and `served <r>` when r of them have been served, each with one

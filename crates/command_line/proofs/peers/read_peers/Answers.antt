@@ -1,7 +1,7 @@
 use Rattle.std.proofs.Common.{◌≡◌, ℕ, List, [], Err, Bor, get_or, sym, ◌∙◌}
-use Rattle.failreg.specs.Peers.{peer_in}
-use Rattle.failreg.proofs.PeerLemmas.{first_bad}
-use Rattle.failreg.proofs.peers.read_peers.Goals as goal
+use Rattle.command_line.specs.Peers.{peer_in}
+use Rattle.command_line.proofs.PeerLemmas.{first_bad}
+use Rattle.command_line.proofs.peers.read_peers.Goals as goal
 
 pub returns-in-Err-clause-bad : goal.returns-in-Err-clause-bad
 returns-in-Err-clause-bad c word fault e =

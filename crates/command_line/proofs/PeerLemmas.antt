@@ -1,11 +1,11 @@
 -- The first word that names no peer.
 use Rattle.std.proofs.Common.{◌≡◌, ℕ, ◌+◌, ◌<◌, List, ◌++◌, length, get_or, take, drop, map, Ok, Err, ap, sym, ◌∙◌, take-append-drop}
 use Rattle.std.proofs.lemmas.List.{drop_more, map-append}
-use Rattle.http_wire.specs.declared.wire.Peer.{Peer}
-use Rattle.failreg.specs.declared.peers.PeerFault.{PeerFault}
-use Rattle.failreg.specs.Peers.{IsFirstBad, peer_in}
+use Rattle.command_line.specs.declared.peers.NamedPeer.{NamedPeer}
+use Rattle.command_line.specs.declared.peers.PeerFault.{PeerFault}
+use Rattle.command_line.specs.Peers.{IsFirstBad, peer_in}
 
-module _ {X : Type 0} (text : X → List ℕ) (nodes : ℕ) (words : List X) (i : ℕ) (word : X) (peers : List Peer) where
+module _ {X : Type 0} (text : X → List ℕ) (nodes : ℕ) (words : List X) (i : ℕ) (word : X) (peers : List NamedPeer) where
   pub first_bad : (fault : PeerFault) → i < length words → map (peer_in nodes) (map text (take i words)) ≡ map Ok peers → peer_in nodes (text (get_or words i word)) ≡ Err fault →
       IsFirstBad nodes (map text words) (text (get_or words i word)) fault
   first_bad fault more so_far bad = record {

@@ -1,13 +1,19 @@
 //! Peers, as a command line names them.
 
 ghost use Rattle.std.specs.Prelude.{◌≡◌, map, Ok, IfOk};
-ghost use Rattle.failreg.specs.Peers.{IsFirstBad, peer_in};
+ghost use Rattle.command_line.specs.Peers.{IsFirstBad, peer_in};
 
-use http_wire::Peer;
-use scripts::{byte, number};
+use crate::numbers::{byte, number};
 use std::alloc::{AllocFailed, Global};
 use std::error::Error;
 use std::fmt;
+
+/// Where a word says that a node is served: at a port of this machine.
+#[derive(Clone, Copy, Debug, PartialEq, Eq)]
+pub struct NamedPeer {
+    pub node: u8,
+    pub port: u16,
+}
 
 /// Why a word names no peer. `Display` says it in words.
 #[derive(Clone, Copy, Debug, PartialEq, Eq)]
@@ -24,7 +30,7 @@ pub enum PeerFault {
 
 impl fmt::Display for PeerFault {
     ghost use Rattle.std.specs.Prelude.{Some};
-    ghost use Rattle.failreg.specs.Peers.{peer_fault_text};
+    ghost use Rattle.command_line.specs.Peers.{peer_fault_text};
 
     ghost output = { λ e. Some (peer_fault_text e) };
 
@@ -51,7 +57,7 @@ pub enum PeersFault<'a> {
 
 impl<'a, T: Drop> From<AllocFailed<T>> for PeersFault<'a> {
     ghost use Rattle.std.specs.Prelude.{◌≡◌};
-    ghost use Rattle.failreg.specs.declared.peers.PeersFault.TheVariants.{OutOfMemory};
+    ghost use Rattle.command_line.specs.declared.peers.PeersFault.TheVariants.{OutOfMemory};
 
     ghost from_gives = { λ _ e. e ≡ OutOfMemory };
 
@@ -62,14 +68,14 @@ impl<'a, T: Drop> From<AllocFailed<T>> for PeersFault<'a> {
 
 /// The peer that a word names in a cluster of so many nodes: the number of a node and a port, round a
 /// `:`.
-pub fn read_peer(word: &str, nodes: u8) -> Result<Peer, PeerFault>
+pub fn read_peer(word: &str, nodes: u8) -> Result<NamedPeer, PeerFault>
     ensures { result ≡ peer_in nodes word.now }
 {
     let (node, port) = word.split_once(':').ok_or(PeerFault::NoColon)?;
     let node = byte(node).ok_or(PeerFault::BadNode)?;
     let port = number(port, 65535).ok_or(PeerFault::BadPort)? as u16;
     if node < nodes {
-        Ok(Peer { node, port })
+        Ok(NamedPeer { node, port })
     } else {
         Err(PeerFault::NoSuchNode)
     }
@@ -80,7 +86,7 @@ pub fn read_peers<'a>(
     alloc: Global,
     words: &[&'a str],
     nodes: u8,
-) -> Result<Vec<Peer>, PeersFault<'a>>
+) -> Result<Vec<NamedPeer>, PeersFault<'a>>
     ensures ok { IfOk result (λ peers.
         map (peer_in nodes) (map (λ w. w.now) words.now) ≡ map Ok peers.items) }
     ensures bad { (word : _) (fault : _) → result ≡ Err (PeersFault.BadPeer word fault)

@@ -1,10 +1,10 @@
 -- What the words of a command line name as peers.
 use Rattle.std.specs.Prelude.{◌≡◌, ℕ, ◌==◌, Bool, if◌then◌else◌, nat_lt, List, ◌++◌, ◌∷◌, length, Option, Some, None, Result, Ok, Err, map, codes}
 use Rattle.std.specs.List.{position_or_len, before_first, after_first}
-use Rattle.scripts.specs.Fields.{byte_of, number_of}
-use Rattle.http_wire.specs.declared.wire.Peer.{Peer}
-use Rattle.failreg.specs.declared.peers.PeerFault.{PeerFault}
-use Rattle.failreg.specs.declared.peers.PeerFault.TheVariants.{NoColon, BadNode, BadPort, NoSuchNode}
+use Rattle.command_line.specs.Numbers.{number_of, byte_of}
+use Rattle.command_line.specs.declared.peers.NamedPeer.{NamedPeer}
+use Rattle.command_line.specs.declared.peers.PeerFault.{PeerFault}
+use Rattle.command_line.specs.declared.peers.PeerFault.TheVariants.{NoColon, BadNode, BadPort, NoSuchNode}
 
 abbrev pub is_colon : ℕ → Bool
 is_colon byte = byte == 58
@@ -13,7 +13,7 @@ abbrev pub has_colon : List ℕ → Bool
 has_colon word = nat_lt (position_or_len is_colon word) (length word)
 
 -- of the number of a node and a port, where they are numbers
-abbrev pub peer_of : ℕ → Option ℕ → Option ℕ → Result Peer PeerFault
+abbrev pub peer_of : ℕ → Option ℕ → Option ℕ → Result NamedPeer PeerFault
 peer_of nodes None port = Err BadNode
 peer_of nodes (Some node) None = Err BadPort
 peer_of nodes (Some node) (Some port) =
@@ -21,7 +21,7 @@ peer_of nodes (Some node) (Some port) =
 
 -- the peer that a word names in a cluster of so many nodes: what stands before the first colon is the
 -- number of one of them, and what stands behind it a port
-abbrev pub peer_in : ℕ → List ℕ → Result Peer PeerFault
+abbrev pub peer_in : ℕ → List ℕ → Result NamedPeer PeerFault
 peer_in nodes word =
     if has_colon word
     then peer_of nodes (byte_of (before_first is_colon word)) (number_of 65535 (after_first is_colon word))
@@ -31,7 +31,7 @@ peer_in nodes word =
 pub record IsFirstBad (nodes : ℕ) (words : List (List ℕ)) (word : List ℕ) (fault : PeerFault) : Type 0 where
   pub before : List (List ℕ)
   pub after : List (List ℕ)
-  pub peers : List Peer
+  pub peers : List NamedPeer
   pub place : words ≡ before ++ word ∷ after
   pub good : map (peer_in nodes) before ≡ map Ok peers
   pub bad : peer_in nodes word ≡ Err fault

@@ -1,0 +1,15 @@
+//! The command line of the program: its subcommands and their options, its help, and what is wrong
+//! with words that ask for none of it.
+//!
+//! ```rust
+//! let invocation = read_command_line(alloc, words.as_slice());
+//! ```
+#![tactic(auto)]
+
+mod help;
+mod numbers;
+mod peers;
+mod reading;
+
+pub use peers::{NamedPeer, PeerFault, PeersFault, read_peer, read_peers};
+pub use reading::{Invocation, ServeOptions, Telling, read_command_line};
