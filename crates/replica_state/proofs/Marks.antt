@@ -14,7 +14,8 @@ use Rattle.replica_state.specs.Operations.{count_of}
 use Rattle.replica_state.specs.States.{State, budget, budget_under, rights_of, MarksRights}
 use Rattle.replica_state.specs.Points as points
 use Rattle.replica_state.specs.Points.{budget_in}
-use Rattle.replica_state.specs.Slots.{Slot, slot_key, slot_number, slot_rights}
+use Rattle.replica_state.specs.declared.slot.Slot.{Slot}
+use Rattle.replica_state.specs.Slots.{slot_key, slot_number, slot_rights}
 
 -- a mark stands where there is a right to execute the term
 abbrev pub IsMark : ℤ → Bool → Type 0

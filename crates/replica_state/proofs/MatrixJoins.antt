@@ -13,7 +13,7 @@ use Rattle.lattice_laws.specs.Order.{IsCopy, IsJoin, Same}
 use Rattle.lattice_laws.specs.Lex.{lex_order}
 use Rattle.lattice_laws.specs.Map.{MapOrder, admitted_at, stored_at, map_order}
 use Rattle.lattice_laws.specs.Max.{max_order}
-use Rattle.lattice_laws.specs.Pair.{pair_of}
+use Rattle.lattice_laws.specs.Pair.{AreBoth, PairOrder, pair_of}
 use Rattle.lattice_laws.proofs.Bounds.{HaveBounds, max_bounds, pair_bounds, map_bounds}
 use Rattle.lattice_laws.proofs.Entries.{found_may_be_stored}
 use Rattle.lattice_laws.proofs.LexJoins.{lex_less, lex_greater}
@@ -30,7 +30,8 @@ use Rattle.replica_state.specs.Operations.{Operation, IsIn}
 use Rattle.replica_state.specs.Folds.{fold, greater}
 use Rattle.replica_state.specs.Points.{Held}
 use Rattle.replica_state.specs.Unions.{union_of, both_held, with_names, key_order, number_both}
-use Rattle.replica_state.specs.Slots.{Slot, Budgets, no_slot, budgets_number, under_key, slot_number, slot_held, slot_at, shown_slots}
+use Rattle.replica_state.specs.declared.slot.Slot.{Slot}
+use Rattle.replica_state.specs.Slots.{Budgets, no_slot, budgets_number, under_key, slot_number, slot_held, slot_at, shown_slots}
 use Rattle.replica_state.specs.MatrixStates.{first_key}
 use Rattle.replica_state.specs.MatrixOrder.{First, first_order, are_firsts, cells_order, are_cells, shares_order, are_shares, shares_laws, budgets_order, are_budgets, key_cmp, slots_order, are_slots, slots_laws, slots_map}
 use Rattle.replica_state.proofs.StateOrders.{stands_above, stands_equal, stands_below}
@@ -50,8 +51,8 @@ first_same : (f g : First) → Same first_order f g → (first_key f ≡ first_k
 unfolding slot_held
 first_same f g same = (ap (λ (h : Held). h.key) held, numbers)
   where
-    held : slot_held (pair_of f []) ≡ slot_held (pair_of g [])
-    held = slot_same (pair_of f []) (pair_of g []) ((same.0, λ q. omega arith), (same.1, λ q. omega arith))
+    held : slot_held (record { parts = pair_of f [] }) ≡ slot_held (record { parts = pair_of g [] })
+    held = slot_same (record { parts = pair_of f [] }) (record { parts = pair_of g [] }) ((same.0, λ q. omega arith), (same.1, λ q. omega arith))
 
     no_hits : (o : First) (node : ℕ) → under_key o (Hits node) ≡ 0
     no_hits None node = refl
@@ -74,11 +75,11 @@ share_bottom shares h = ⊎_elim
 
 slot_bottom : (slot : Slot) → are_slots slot → slots_order slot no_slot ⊎ (slots_order slot no_slot → ⊥)
 slot_bottom slot h = ⊎_elim
-    (λ low. by_first slot.first refl low)
+    (λ low. by_first slot.parts.first refl low)
     (λ not. inr (λ below. not below.1))
-    (cells_bottom slot.second h.1)
+    (cells_bottom slot.parts.second h.1)
   where
-    by_first : (f : First) → slot.first ≡ f → cells_order slot.second [] → slots_order slot no_slot ⊎ (slots_order slot no_slot → ⊥)
+    by_first : (f : First) → slot.parts.first ≡ f → cells_order slot.parts.second [] → slots_order slot no_slot ⊎ (slots_order slot no_slot → ⊥)
     by_first None e low = inl (subst (λ (o : First). first_order o None) (sym e) tt, low)
     by_first (Some p) e low = inr (λ below. subst (λ (o : First). first_order o None) e below.0)
 
@@ -145,11 +146,21 @@ slots_joined : (x y j : Slot) → IsJoin are_slots slots_order x y j → slot_he
 unfolding slot_held both_held
 slots_joined x y j join = λ i. record { key = first.key i; number = λ c. numbers c i }
   where
-    first : FirstJoined x.first y.first j.first
-    first = first_joined x.first y.first j.first (join_first are_firsts first_order are_cells cells_order x y j join)
+    parts : IsJoin (AreBoth are_firsts are_cells) (PairOrder first_order cells_order) x.parts y.parts j.parts
+    parts = record {
+      admitted_first = join.admitted_first;
+      admitted_second = join.admitted_second;
+      admitted_join = join.admitted_join;
+      above_first = join.above_first;
+      above_second = join.above_second;
+      least = λ u a f g. join.least (record { parts = u }) a f g;
+    }
+
+    first : FirstJoined x.parts.first y.parts.first j.parts.first
+    first = first_joined x.parts.first y.parts.first j.parts.first (join_first are_firsts first_order are_cells cells_order x.parts y.parts j.parts parts)
 
     numbers : (c : Counted) → slot_number j c ≡ (both_held (slot_held x) (slot_held y)).number c
-    numbers (Hits node) = cells_join x.second y.second j.second (join_second are_firsts first_order are_cells cells_order x y j join) node
+    numbers (Hits node) = cells_join x.parts.second y.parts.second j.parts.second (join_second are_firsts first_order are_cells cells_order x.parts y.parts j.parts parts) node
     numbers (Execs term node) = first.number (Execs term node)
     numbers (Shifts term from to) = first.number (Shifts term from to)
 

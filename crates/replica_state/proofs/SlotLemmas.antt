@@ -24,7 +24,8 @@ use Rattle.stamp_register.specs.Keys.{key_value}
 use Rattle.replica_state.specs.Points.{Held, empty_held, is_hits, term_of, same_counted, raised_numbers, only_hits, held_after_key, spending, held_after_pass, budget_in, budget_under}
 use Rattle.replica_state.specs.MatrixStates.{share_upto, cell_upto}
 use Rattle.replica_state.specs.MatrixOrder.{cells_order, are_cells, shares_order, are_shares, shares_laws}
-use Rattle.replica_state.specs.Slots.{Budgets, Slot, slot_held, slot_key, slot_number, under_key, share_number, budgets_number, IsShareRaised}
+use Rattle.replica_state.specs.declared.slot.Slot.{Slot}
+use Rattle.replica_state.specs.Slots.{Budgets, slot_held, slot_key, slot_number, under_key, share_number, budgets_number, IsShareRaised}
 
 -- ---- budgets, by their cells
 
@@ -169,32 +170,32 @@ raised_on (Some c) f g h d = ap (λ n. cond (same_counted c.counted d) (max c.nu
 
 -- ---- slots
 
-pub nothing_held : (first : Option (Key × Budgets)) (second : Cells) → first ≡ None → second ≡ [] → slot_held (record { first = first; second = second }) ≡ empty_held
+pub nothing_held : (first : Option (Key × Budgets)) (second : Cells) → first ≡ None → second ≡ [] → slot_held (record { parts = record { first = first; second = second } }) ≡ empty_held
 unfolding slot_held empty_held cell
-nothing_held first second e f = (λ i. slot_held (record { first = e i; second = f i })) ∙ (λ i. record { key = None; number = λ d. node_numbers d i })
+nothing_held first second e f = (λ i. slot_held (record { parts = record { first = e i; second = f i } })) ∙ (λ i. record { key = None; number = λ d. node_numbers d i })
   where
-    node_numbers : (d : Counted) → slot_number (record { first = None; second = [] }) d ≡ 0
+    node_numbers : (d : Counted) → slot_number (record { parts = record { first = None; second = [] } }) d ≡ 0
     node_numbers (Hits node) = refl
     node_numbers (Execs term node) = refl
     node_numbers (Shifts term from to) = refl
 
-pub taken_held : (slot : Slot) (key : Key) (first : Option (Key × Budgets)) (budgets : Budgets) → first ≡ Some (key, budgets) → budgets ≡ [] → slot_held (record { first = first; second = slot.second }) ≡ held_after_key (key_value key) (slot_held slot)
+pub taken_held : (slot : Slot) (key : Key) (first : Option (Key × Budgets)) (budgets : Budgets) → first ≡ Some (key, budgets) → budgets ≡ [] → slot_held (record { parts = record { first = first; second = slot.parts.second } }) ≡ held_after_key (key_value key) (slot_held slot)
 unfolding slot_held held_after_key
-taken_held slot key first budgets e f = (λ i. slot_held (record { first = (e ∙ ap (λ b. Some (key, b)) f) i; second = slot.second })) ∙ (λ i. record { key = Some (key_value key); number = λ d. node_numbers d i })
+taken_held slot key first budgets e f = (λ i. slot_held (record { parts = record { first = (e ∙ ap (λ b. Some (key, b)) f) i; second = slot.parts.second } })) ∙ (λ i. record { key = Some (key_value key); number = λ d. node_numbers d i })
   where
-    node_numbers : (d : Counted) → slot_number (record { first = Some (key, []); second = slot.second }) d ≡ only_hits (slot_number slot) d
+    node_numbers : (d : Counted) → slot_number (record { parts = record { first = Some (key, []); second = slot.parts.second } }) d ≡ only_hits (slot_number slot) d
     node_numbers (Hits node) = refl
     node_numbers (Execs term node) = none_counted (Execs term node)
     node_numbers (Shifts term from to) = none_counted (Shifts term from to)
 
 -- what is held of a term under a key
-pub under : (slot : Slot) (c : Counted) (term : ℕ) → term_of c ≡ Some term → slot_number slot c ≡ under_key slot.first c
+pub under : (slot : Slot) (c : Counted) (term : ℕ) → term_of c ≡ Some term → slot_number slot c ≡ under_key slot.parts.first c
 under slot (Hits node) term e = absurd (let impossible : ◌≡◌ {A = Option ℕ} None (Some term) = e in cc)
 under slot (Execs k node) term e = refl
 under slot (Shifts k from to) term e = refl
 
 -- nothing is counted of a term without a budget, or without a key
-pub no_number : (slot : Slot) (key : Key) (budgets : Budgets) (term : ℕ) → slot.first ≡ Some (key, budgets) → stored_at nat_cmp budgets term ≡ None → (c : Counted) → term_of c ≡ Some term → slot_number slot c ≡ 0
+pub no_number : (slot : Slot) (key : Key) (budgets : Budgets) (term : ℕ) → slot.parts.first ≡ Some (key, budgets) → stored_at nat_cmp budgets term ≡ None → (c : Counted) → term_of c ≡ Some term → slot_number slot c ≡ 0
 no_number slot key budgets term e none c is = under slot c term is ∙ ap (λ o. under_key o c) e ∙ absent_at budgets term none c is
 
 pub if_none : {A B : Type 0} (view : A → B) (r : Option A) (o : Option B) (P : Type 0) → option_map view r ≡ o → (o ≡ None → P) → IfNone r P
@@ -209,11 +210,11 @@ has_term (Shifts term from to) h o e f = let impossible : ◌≡◌ {A = Option 
 
 -- under a new key, what is counted with it
 pub replaced : (slot : Slot) (key : Key) (budgets : Budgets) (told : Option Count) → IfSome told (λ c. is_hits c.counted ≡ false) → ((d : Counted) → budgets_number budgets d ≡ raised_numbers told (λ c. 0) d) →
-    (d : Counted) → slot_number (record { first = Some (key, budgets); second = slot.second }) d ≡ raised_numbers told (only_hits (slot_number slot)) d
+    (d : Counted) → slot_number (record { parts = record { first = Some (key, budgets); second = slot.parts.second } }) d ≡ raised_numbers told (only_hits (slot_number slot)) d
 replaced slot key budgets None kinds h (Hits node) = refl
 replaced slot key budgets (Some c) kinds h (Hits node) = unlike c.counted kinds
   where
-    unlike : (counted : Counted) → is_hits counted ≡ false → cell slot.second node ≡ cond (same_counted counted (Hits node)) (max c.number (cell slot.second node)) (cell slot.second node)
+    unlike : (counted : Counted) → is_hits counted ≡ false → cell slot.parts.second node ≡ cond (same_counted counted (Hits node)) (max c.number (cell slot.parts.second node)) (cell slot.parts.second node)
     unlike (Hits j) k = absurd (true≢false k)
     unlike (Execs t j) k = refl
     unlike (Shifts t i o) k = refl
@@ -241,26 +242,26 @@ module _ (h w : Held) (node : ℕ) (spent : Option ℕ) (keys : w.key ≡ h.key)
 
 -- the hit was counted aside
 pub aside : (old mid : Slot) (copy new : Cells) (node term m : ℕ) → ((d : Counted) → slot_number mid d ≡ raised_numbers (Some (record { counted = Execs term node; number = m })) (slot_number old) d) →
-    IsCopy are_cells cells_order old.second copy → WritesCell copy new node (max (cell copy node) 1) → cell old.second node + 1 ≡ 1 →
-    (d : Counted) → slot_number (record { first = mid.first; second = new }) d ≡ raised_numbers (Some (record { counted = Hits node; number = cell old.second node + 1 })) (raised_numbers (Some (record { counted = Execs term node; number = m })) (slot_number old)) d
+    IsCopy are_cells cells_order old.parts.second copy → WritesCell copy new node (max (cell copy node) 1) → cell old.parts.second node + 1 ≡ 1 →
+    (d : Counted) → slot_number (record { parts = record { first = mid.parts.first; second = new } }) d ≡ raised_numbers (Some (record { counted = Hits node; number = cell old.parts.second node + 1 })) (raised_numbers (Some (record { counted = Execs term node; number = m })) (slot_number old)) d
 aside old mid copy new node term m h same wrote none (Hits j) = at (node == j) refl
   where
-    cells : (q : ℕ) → cell copy q ≡ cell old.second q
-    cells q = le_both _ _ (cell_upto copy old.second same.below q) (cell_upto old.second copy same.above q)
+    cells : (q : ℕ) → cell copy q ≡ cell old.parts.second q
+    cells q = le_both _ _ (cell_upto copy old.parts.second same.below q) (cell_upto old.parts.second copy same.above q)
 
-    at : (b : Bool) → (node == j) ≡ b → cell new j ≡ cond b (max (cell old.second node + 1) (cell old.second j)) (cell old.second j)
+    at : (b : Bool) → (node == j) ≡ b → cell new j ≡ cond b (max (cell old.parts.second node + 1) (cell old.parts.second j)) (cell old.parts.second j)
     at true e =
         let is : node ≡ j = eqb-true node j e in
         let zero = cells node in
-        let one : cell new node ≡ max (cell old.second node + 1) (cell old.second node) = wrote.this_cell ∙ (omega (arith, zero, none)) in
-        subst (λ q. cell new q ≡ max (cell old.second node + 1) (cell old.second q)) is one
+        let one : cell new node ≡ max (cell old.parts.second node + 1) (cell old.parts.second node) = wrote.this_cell ∙ (omega (arith, zero, none)) in
+        subst (λ q. cell new q ≡ max (cell old.parts.second node + 1) (cell old.parts.second q)) is one
     at false e = wrote.other_cells j (λ s. eqb-false node j e (sym s)) ∙ cells j
 aside old mid copy new node term m h same wrote none (Execs t j) = h (Execs t j)
 aside old mid copy new node term m h same wrote none (Shifts t i o) = h (Shifts t i o)
 
 -- ---- rights
 
-pub budget_seen : (slot : Slot) (key : Key) (budgets : Budgets) (term setter count : ℕ) (shares : Shares) → slot.first ≡ Some (key, budgets) → Some shares ≡ stored_at nat_cmp budgets term →
+pub budget_seen : (slot : Slot) (key : Key) (budgets : Budgets) (term setter count : ℕ) (shares : Shares) → slot.parts.first ≡ Some (key, budgets) → Some shares ≡ stored_at nat_cmp budgets term →
     budget_of shares setter count ≡ budget_in (slot_number slot) term setter count
 budget_seen slot key budgets term setter count shares held found = λ i. record {
   setter = setter;
@@ -272,7 +273,7 @@ budget_seen slot key budgets term setter count shares held found = λ i. record 
     number : (c : Counted) → term_of c ≡ Some term → share_number shares c ≡ slot_number slot c
     number c is = sym (under slot c term is ∙ ap (λ o. under_key o c) held ∙ found_at budgets term shares (sym found) c is)
 
-module _ (slot : Slot) (key : Key) (budgets : Budgets) (term count : ℕ) (held : slot.first ≡ Some (key, budgets)) (counted : Some count ≡ count_of (key_value key) term) where
+module _ (slot : Slot) (key : Key) (budgets : Budgets) (term count : ℕ) (held : slot.parts.first ≡ Some (key, budgets)) (counted : Some count ≡ count_of (key_value key) term) where
   under_it : budget_under (slot_key slot) (slot_number slot) term ≡ Some (budget_in (slot_number slot) term key.node count)
   under_it = ap (λ o. budget_under (option_map (λ p. key_value p.0) o) (slot_number slot) term) held ∙ ap (λ (n : Option ℕ). option_map (λ m. budget_in (slot_number slot) term key.node m) n) (sym counted)
 

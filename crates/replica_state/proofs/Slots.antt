@@ -32,7 +32,8 @@ use Rattle.replica_state.specs.Operations.{IsIn}
 use Rattle.replica_state.specs.States.{with_name}
 use Rattle.replica_state.specs.Points.{Held, empty_held, is_hits, same_counted, raised_numbers, held_after_learning}
 use Rattle.replica_state.specs.Cells.{cell_of, held_at, with_held}
-use Rattle.replica_state.specs.Slots.{Slot, Budgets, SaysSomething, no_slot, under_key, slot_key, slot_number, slot_held, slot_at, shown_slots}
+use Rattle.replica_state.specs.declared.slot.Slot.{Slot}
+use Rattle.replica_state.specs.Slots.{Budgets, SaysSomething, no_slot, under_key, slot_key, slot_number, slot_held, slot_at, shown_slots}
 use Rattle.replica_state.proofs.Orders.{bytes_eq-true, bytes_eq-refl}
 use Rattle.replica_state.proofs.Shown.{with_held-same}
 use Rattle.replica_state.specs.MatrixOrder.{budgets_order, key_cmp, slots_order, are_slots, slots_laws, slots_map}
@@ -134,12 +135,12 @@ le_both a b h k = omega arith
 -- slots that mean the same hold the same
 pub slot_same : (x y : Slot) → Same slots_order x y → slot_held x ≡ slot_held y
 unfolding slot_held
-slot_same x y same = by_first x.first y.first refl refl (same.0.0, same.1.0)
+slot_same x y same = by_first x.parts.first y.parts.first refl refl (same.0.0, same.1.0)
   where
-    cells : (q : ℕ) → cell x.second q ≡ cell y.second q
-    cells q = le_both _ _ (cell_upto x.second y.second same.0.1 q) (cell_upto y.second x.second same.1.1 q)
+    cells : (q : ℕ) → cell x.parts.second q ≡ cell y.parts.second q
+    cells q = le_both _ _ (cell_upto x.parts.second y.parts.second same.0.1 q) (cell_upto y.parts.second x.parts.second same.1.1 q)
 
-    by_first : (f g : Option (Key × Budgets)) → x.first ≡ f → y.first ≡ g → Same (LexOrder key_cmp budgets_order) f g → slot_held x ≡ slot_held y
+    by_first : (f g : Option (Key × Budgets)) → x.parts.first ≡ f → y.parts.first ≡ g → Same (LexOrder key_cmp budgets_order) f g → slot_held x ≡ slot_held y
     by_first None None e k s = λ i. record { key = option_map (λ p. key_value p.0) ((e ∙ sym k) i); number = λ d. numbers d i }
       where
         numbers : (d : Counted) → slot_number x d ≡ slot_number y d
@@ -156,7 +157,7 @@ slot_same x y same = by_first x.first y.first refl refl (same.0.0, same.1.0)
         keys : slot_key x ≡ slot_key y
         keys = ap (λ o. option_map (λ p. key_value p.0) o) e ∙ ap Some (same_rank _ _ (tied _ _ both.0)) ∙ sym (ap (λ o. option_map (λ p. key_value p.0) o) k)
 
-        under_both : (d : Counted) → under_key x.first d ≡ under_key y.first d
+        under_both : (d : Counted) → under_key x.parts.first d ≡ under_key y.parts.first d
         under_both d = ap (λ o. under_key o d) e ∙ le_both _ _ (budgets_upto p.1 q.1 both.1.0 d) (budgets_upto q.1 p.1 both.1.1 d) ∙ sym (ap (λ o. under_key o d) k)
 
         numbers : (d : Counted) → slot_number x d ≡ slot_number y d
@@ -170,16 +171,16 @@ no_first None h = refl
 no_first (Some p) h = absurd h
 
 pub keyless : (x : Slot) → slots_order x no_slot → slot_key x ≡ None
-keyless x h = ap (λ o. option_map (λ p. key_value p.0) o) (no_first x.first h.0)
+keyless x h = ap (λ o. option_map (λ p. key_value p.0) o) (no_first x.parts.first h.0)
 
 pub hitless : (x : Slot) → slots_order x no_slot → (q : ℕ) → slot_number x (Hits q) ≡ 0
 unfolding cell
-hitless x h q = let none : cell x.second q ≤ 0 = h.1 q in omega arith
+hitless x h q = let none : cell x.parts.second q ≤ 0 = h.1 q in omega arith
 
 -- and one that holds the same means nothing as well
 pub bottom_by_held : (x y : Slot) → slot_held x ≡ slot_held y → slots_order x no_slot → slots_order y no_slot
 unfolding slot_held cell
-bottom_by_held x y e h = (by_first y.first (sym (ap (λ (k : Held). k.key) e) ∙ keyless x h), λ q. let none = hitless x h q in let same = ap (λ (k : Held). k.number (Hits q)) e in omega (arith, none, same))
+bottom_by_held x y e h = (by_first y.parts.first (sym (ap (λ (k : Held). k.key) e) ∙ keyless x h), λ q. let none = hitless x h q in let same = ap (λ (k : Held). k.number (Hits q)) e in omega (arith, none, same))
   where
     by_first : (f : Option (Key × Budgets)) → option_map (λ p. key_value p.0) f ≡ None → LexOrder key_cmp budgets_order f None
     by_first None k = tt

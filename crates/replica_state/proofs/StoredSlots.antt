@@ -19,7 +19,8 @@ use Rattle.replica_state.specs.States as states
 use Rattle.replica_state.specs.States.{State, with_name, total_hits, granted_of, budget_of, rights_of, spent_of}
 use Rattle.replica_state.specs.Points.{Held, empty_held, held_after_key, held_after_pass, held_after_count, budget_under}
 use Rattle.replica_state.specs.Cells.{cell_of, held_at, with_held}
-use Rattle.replica_state.specs.Slots.{Budgets, Slot, IsSlotOf, HasNoSlot, ChangesSlot, no_slot, under_key, slot_key, slot_number, slot_held, slot_rights, shown_slots}
+use Rattle.replica_state.specs.declared.slot.Slot.{Slot}
+use Rattle.replica_state.specs.Slots.{Budgets, IsSlotOf, HasNoSlot, ChangesSlot, no_slot, under_key, slot_key, slot_number, slot_held, slot_rights, shown_slots}
 use Rattle.replica_state.specs.MatrixOrder.{slots_order, are_slots, slots_map}
 use Rattle.replica_state.proofs.SlotLemmas.{not_found}
 use Rattle.replica_state.proofs.Slots.{stored, keyless, hitless, no_first, name_kept, names_more, seen_number, absent_number, changed_to, unchanged_slots, added_to}
@@ -110,8 +111,8 @@ held_nothing x bottom = λ i. record { key = keyless x bottom i; number = λ c. 
   where
     none : (c : Counted) → slot_number x c ≡ 0
     none (Hits node) = let low = hitless x bottom node in low
-    none (Execs term node) = ap (λ (o : Option (Key × Budgets)). under_key o (Execs term node)) (no_first x.first bottom.0)
-    none (Shifts term from to) = ap (λ (o : Option (Key × Budgets)). under_key o (Shifts term from to)) (no_first x.first bottom.0)
+    none (Execs term node) = ap (λ (o : Option (Key × Budgets)). under_key o (Execs term node)) (no_first x.parts.first bottom.0)
+    none (Shifts term from to) = ap (λ (o : Option (Key × Budgets)). under_key o (Shifts term from to)) (no_first x.parts.first bottom.0)
 
 pub keyed_is_something : (h : Held) → IsSome h.key → h ≢ empty_held
 unfolding empty_held

@@ -16,7 +16,8 @@ use Rattle.stamp_register.specs.contracts.key.KeyOrd.TheImpl.Laws as key_laws
 use Rattle.replica_state.specs.declared.matrix.Matrix.{Matrix}
 use Rattle.replica_state.specs.Folds.{fold}
 use Rattle.replica_state.specs.Reached.{IsReached}
-use Rattle.replica_state.specs.Slots.{Budgets, Slot, no_slot, shown_slots}
+use Rattle.replica_state.specs.declared.slot.Slot.{Slot}
+use Rattle.replica_state.specs.Slots.{Budgets, no_slot, shown_slots}
 
 abbrev pub cells_order : Cells → Cells → Type 0
 cells_order = MapOrder nat_cmp IsAtMost zero_max
@@ -53,14 +54,14 @@ abbrev pub are_firsts : First → Type 0
 are_firsts = HoldsOnly {S = Key} are_budgets
 
 abbrev pub slots_order : Slot → Slot → Type 0
-slots_order = PairOrder first_order cells_order
+slots_order slot other = PairOrder first_order cells_order slot.parts other.parts
 
 abbrev pub are_slots : Slot → Type 0
-are_slots = AreBoth are_firsts are_cells
+are_slots slot = AreBoth are_firsts are_cells slot.parts
 
 pub slots_laws : IsJoinOrder are_slots slots_order no_slot
-slots_laws =
-    pair_order (lex_order (key_laws.lawful).total (map_order nat_cmp shares_laws)) (map_order nat_cmp max_order)
+slots_laws = order_through (λ (slot : Slot). slot.parts) no_slot
+    (pair_order (lex_order (key_laws.lawful).total (map_order nat_cmp shares_laws)) (map_order nat_cmp max_order))
 
 -- slots of names
 abbrev pub slots_map : List (List ℕ × Slot) → Type 0

@@ -119,10 +119,10 @@ unfolding matrix_state shown_slots cell
 matrix_ordered v w a b = (
   λ below name. record {
     hits = λ node. (below name).1 node;
-    cells = first_below (slot_at v.slots name).first (slot_at w.slots name).first (below name).0;
+    cells = first_below (slot_at v.slots name).parts.first (slot_at w.slots name).parts.first (below name).0;
   },
   λ below name. (
-    below_first (slot_at v.slots name).first (slot_at w.slots name).first (below name).cells,
+    below_first (slot_at v.slots name).parts.first (slot_at w.slots name).parts.first (below name).cells,
     λ node. (below name).hits node,
   ),
 )

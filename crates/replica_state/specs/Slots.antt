@@ -5,10 +5,10 @@ use Rattle.std.specs.Ordering.{nat_cmp}
 use Rattle.std.specs.Cmp.Lexicographic.{slice_cmp}
 use Rattle.lattice_laws.specs.Map.{value_at}
 use Rattle.lattice_laws.specs.Pair.{pair_of}
-use Rattle.lattice_laws.specs.declared.pair.PairOf.{PairOf}
-use Rattle.counters.specs.Cells.{Cells, Shares, cell, spent_cell, moved_cell, no_shares, WritesSpent, WritesMoved}
+use Rattle.counters.specs.Cells.{Shares, cell, spent_cell, moved_cell, no_shares, WritesSpent, WritesMoved}
 use Rattle.stamp_register.specs.declared.key.Key.{Key}
 use Rattle.stamp_register.specs.Keys.{KeyValue, key_value}
+use Rattle.replica_state.specs.declared.slot.Slot.{Slot}
 use Rattle.replica_state.specs.declared.point.Counted.{Counted}
 use Rattle.replica_state.specs.declared.point.Counted.TheVariants.{Hits, Execs, Shifts}
 use Rattle.replica_state.specs.declared.point.Count.{Count}
@@ -20,15 +20,11 @@ use Rattle.replica_state.specs.Cells.{cell_of, with_held}
 abbrev pub Budgets : Type 0
 Budgets = List (ℕ × Shares)
 
--- of one name its key with the budgets of its terms, if there is a key, and its hits
-abbrev pub Slot : Type 0
-Slot = PairOf (Option (Key × Budgets)) Cells
-
 abbrev pub no_slot : Slot
-no_slot = pair_of None []
+no_slot = record { parts = pair_of None [] }
 
 abbrev pub slot_key : Slot → Option KeyValue
-slot_key slot = option_map (λ p. key_value p.0) slot.first
+slot_key slot = option_map (λ p. key_value p.0) slot.parts.first
 
 -- what a budget counts of its own term
 abbrev pub share_number : Shares → Counted → ℕ
@@ -49,9 +45,9 @@ under_key (Some held) counted = budgets_number held.1 counted
 
 -- the number of what is counted so, 0 under no key
 abbrev pub slot_number : Slot → Counted → ℕ
-slot_number slot (Hits node) = cell slot.second node
-slot_number slot (Execs term node) = under_key slot.first (Execs term node)
-slot_number slot (Shifts term from to) = under_key slot.first (Shifts term from to)
+slot_number slot (Hits node) = cell slot.parts.second node
+slot_number slot (Execs term node) = under_key slot.parts.first (Execs term node)
+slot_number slot (Shifts term from to) = under_key slot.parts.first (Shifts term from to)
 
 unfoldable pub slot_held : Slot → Held
 slot_held slot = record { key = slot_key slot; number = slot_number slot }

@@ -22,16 +22,60 @@ use std::cmp::Ordering;
 /// The budgets of a key's terms.
 pub(crate) type Budgets = MapOf<u8, Budget>;
 
+// What is stored of a name, joined part by part.
+type Parts = PairOf<LexOf<Key, Budgets>, HitCounter>;
+
 /// A key with the budgets of its terms, and hits, which belong to no key.
-pub(crate) type Slot = PairOf<LexOf<Key, Budgets>, HitCounter>;
+#[derive(Debug, Drop)]
+pub(crate) struct Slot {
+    parts: Parts,
+}
+
+impl Join for Slot {
+    ghost use Rattle.replica_state.specs.MatrixOrder.{are_slots, slots_order, slots_laws};
+    ghost use Rattle.replica_state.specs.Slots.{no_slot};
+
+    ghost admitted = { are_slots };
+
+    ghost order = { slots_order };
+
+    ghost bottom = { no_slot };
+
+    ghost laws = { slots_laws };
+
+    fn joined(&self, alloc: Global, other: &Slot) -> Result<Slot, AllocError> {
+        let parts = self.parts.joined(alloc, &other.parts)?;
+        Ok(Slot { parts })
+    }
+
+    fn below(&self, other: &Slot) -> bool {
+        self.parts.below(&other.parts)
+    }
+
+    fn is_bottom(&self) -> bool {
+        self.parts.is_bottom()
+    }
+
+    fn copied(&self, alloc: Global) -> Result<Slot, AllocError> {
+        let parts = self.parts.copied(alloc)?;
+        Ok(Slot { parts })
+    }
+
+    fn join_in(&mut self, alloc: Global, other: Slot) -> Result<(), AllocError> {
+        let Slot { parts } = other;
+        self.parts.join_in(alloc, parts)
+    }
+}
 
 /// What is stored of a name of which nothing is known.
 pub(crate) fn empty(alloc: Global) -> Slot
     ensures { slot_held result ≡ empty_held }
 {
-    PairOf {
-        first: LexOf::nothing(),
-        second: HitCounter::new(alloc),
+    Slot {
+        parts: PairOf {
+            first: LexOf::nothing(),
+            second: HitCounter::new(alloc),
+        },
     }
 }
 
@@ -39,7 +83,7 @@ pub(crate) fn empty(alloc: Global) -> Slot
 pub(crate) fn key(slot: &Slot) -> Option<&Key>
     ensures { given_key result ≡ slot_key slot.now }
 {
-    let (key, _) = slot.first.held()?;
+    let (key, _) = slot.parts.first.held()?;
     Some(key)
 }
 
@@ -50,7 +94,7 @@ fn budget(slot: &Slot, term: u8) -> Option<&Budget>
     ensures none { IfNone result ((c : Counted) → term_of c ≡ Some term
         → slot_number slot.now c ≡ 0) }
 {
-    let (_, budgets) = slot.first.held()?;
+    let (_, budgets) = slot.parts.first.held()?;
     budgets.get(&term)
 }
 
@@ -59,7 +103,7 @@ pub(crate) fn number(slot: &Slot, counted: Counted) -> u64
     ensures { result ≡ slot_number slot.now counted }
 {
     match counted {
-        Counted::Hits { node } => slot.second.of(node),
+        Counted::Hits { node } => slot.parts.second.of(node),
         Counted::Execs { term, node } => match budget(slot, term) {
             Some(budget) => budget.spent(node),
             None => 0,
@@ -75,14 +119,14 @@ pub(crate) fn number(slot: &Slot, counted: Counted) -> u64
 pub(crate) fn total_hits(slot: &Slot) -> u128
     ensures { result ≡ sum_below node_numbers (λ node. slot_number slot.now (Hits node)) }
 {
-    slot.second.total()
+    slot.parts.second.total()
 }
 
 /// The rights of a node to execute a term, 0 where it isn't counted.
 pub(crate) fn rights(slot: &Slot, term: u8, node: u8) -> i128
     ensures { result ≡ slot_rights slot.now term node }
 {
-    let Some((key, budgets)) = slot.first.held() else {
+    let Some((key, budgets)) = slot.parts.first.held() else {
         return 0;
     };
     let Some(count) = count_of(key, term) else {
@@ -112,7 +156,7 @@ pub(crate) fn key_and_rights(slot: &Slot, node: u8) -> Option<(&Key, [bool; 16])
 pub(crate) fn spent(slot: &Slot, term: u8) -> u128
     ensures { result ≡ spent_of_key (slot_key slot.now) (slot_number slot.now) term }
 {
-    let Some((key, budgets)) = slot.first.held() else {
+    let Some((key, budgets)) = slot.parts.first.held() else {
         return 0;
     };
     let Some(_) = count_of(key, term) else {
@@ -139,14 +183,14 @@ pub(crate) fn total_granted(slot: &Slot, term: u8) -> u128
 pub(crate) fn take(slot: &mut Slot, alloc: Global, key: Key)
     ensures { slot_held slot.new ≡ held_after_key (key_value key) (slot_held slot.old) }
 {
-    slot.first = LexOf::of(key, MapOf::new(alloc));
+    slot.parts.first = LexOf::of(key, MapOf::new(alloc));
 }
 
 // How a key stands to the one that is held. Where none is, each is greater.
 fn standing(slot: &Slot, key: &Key) -> Ordering
     ensures { result ≡ key_standing (key_value key.now) (slot_key slot.now) }
 {
-    match slot.first.held() {
+    match slot.parts.first.held() {
         Some((held, _)) => key.cmp(held),
         None => Ordering::Greater,
     }
@@ -197,11 +241,12 @@ fn raise(slot: &mut Slot, alloc: Global, count: Count) -> Result<(), AllocError>
     ensures absent { OnErr result (slot_number slot.old count.counted ≡ 0) }
 {
     let term = match count.counted {
-        Counted::Hits { node } => return slot.second.raise(alloc, node, count.number),
+        Counted::Hits { node } => return slot.parts.second.raise(alloc, node, count.number),
         Counted::Execs { term, .. } => term,
         Counted::Shifts { term, .. } => term,
     };
     match slot
+        .parts
         .first
         .change(|budgets| raise_term(budgets, alloc, term, count))
     {
@@ -259,7 +304,7 @@ pub(crate) fn learn(
         Ordering::Equal => raise_if_any(slot, alloc, count),
         Ordering::Greater => {
             let budgets = budgets_with(alloc, count)?;
-            slot.first = LexOf::of(key.copied(alloc)?, budgets);
+            slot.parts.first = LexOf::of(key.copied(alloc)?, budgets);
             Ok(())
         }
     }
@@ -308,6 +353,7 @@ fn execute(slot: &mut Slot, alloc: Global, term: u8, node: u8) -> Result<(), All
     ensures err { OnErr result (slot_held slot.new ≡ slot_held slot.old) }
 {
     match slot
+        .parts
         .first
         .change(|budgets| execute_term(budgets, alloc, term, node))
     {
@@ -325,7 +371,7 @@ fn hit(slot: &mut Slot, alloc: Global, node: u8) -> Result<(), AllocError>
     ensures err { OnErr result (slot_held slot.new ≡ slot_held slot.old) }
     ensures absent { OnErr result (slot_number slot.old (Hits node) ≡ 0) }
 {
-    match slot.second.hit(alloc, node) {
+    match slot.parts.second.hit(alloc, node) {
         Ok(_) => Ok(()),
         Err(_) => Err(AllocError),
     }
@@ -348,12 +394,12 @@ pub(crate) fn pass(
     let Some(term) = spent else {
         return hit(slot, alloc, node);
     };
-    if slot.second.of(node) == 0 {
+    if slot.parts.second.of(node) == 0 {
         // The hit takes memory, as perhaps the execution does: so it is counted aside first.
-        let mut counter = slot.second.copied(alloc)?;
+        let mut counter = slot.parts.second.copied(alloc)?;
         counter.raise(alloc, node, 1)?;
         execute(slot, alloc, term, node)?;
-        slot.second = counter;
+        slot.parts.second = counter;
         return Ok(());
     }
     execute(slot, alloc, term, node)?;

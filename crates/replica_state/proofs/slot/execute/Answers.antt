@@ -6,7 +6,8 @@ use Rattle.replica_state.specs.declared.point.Counted.{Counted}
 use Rattle.replica_state.specs.declared.point.Counted.TheVariants.{Hits, Execs, Shifts}
 use Rattle.replica_state.specs.declared.point.Count.{Count}
 use Rattle.replica_state.specs.Points.{Raises, raised_numbers}
-use Rattle.replica_state.specs.Slots.{Budgets, Slot, budgets_number, slot_number, under_key}
+use Rattle.replica_state.specs.declared.slot.Slot.{Slot}
+use Rattle.replica_state.specs.Slots.{Budgets, budgets_number, slot_number, under_key}
 use Rattle.replica_state.proofs.Learned.{on_ok}
 use Rattle.replica_state.proofs.slot.execute.Goals as goal
 
@@ -15,15 +16,15 @@ abbrev next : (Counted → ℕ) → ℕ → ℕ → Option Count
 next f term node = Some (record { counted = Execs term node; number = f (Execs term node) + 1 })
 
 -- what changes of the budgets changes of the slot
-executed : (old : Slot) (first : Option (Key × Budgets)) (key : Key) (held left : Budgets) (term node : ℕ) → old.first ≡ Some (key, held) → first ≡ Some (key, left) →
+executed : (old : Slot) (first : Option (Key × Budgets)) (key : Key) (held left : Budgets) (term node : ℕ) → old.parts.first ≡ Some (key, held) → first ≡ Some (key, left) →
     Raises (budgets_number held) (budgets_number left) (next (budgets_number held) term node) →
-    Raises (slot_number old) (slot_number (pair_of first old.second)) (next (slot_number old) term node)
+    Raises (slot_number old) (slot_number (record { parts = pair_of first old.parts.second })) (next (slot_number old) term node)
 executed old first key held left term node found put h = at
   where
-    under : (d : Counted) → under_key first d ≡ raised_numbers (Some (record { counted = Execs term node; number = under_key old.first (Execs term node) + 1 })) (under_key old.first) d
+    under : (d : Counted) → under_key first d ≡ raised_numbers (Some (record { counted = Execs term node; number = under_key old.parts.first (Execs term node) + 1 })) (under_key old.parts.first) d
     under d = ap (λ o. under_key o d) put ∙ h d ∙ ap (λ o. raised_numbers (Some (record { counted = Execs term node; number = under_key o (Execs term node) + 1 })) (under_key o) d) (sym found)
 
-    at : (d : Counted) → slot_number (pair_of first old.second) d ≡ raised_numbers (Some (record { counted = Execs term node; number = slot_number old (Execs term node) + 1 })) (slot_number old) d
+    at : (d : Counted) → slot_number (record { parts = pair_of first old.parts.second }) d ≡ raised_numbers (Some (record { counted = Execs term node; number = slot_number old (Execs term node) + 1 })) (slot_number old) d
     at (Hits j) = refl
     at (Execs t j) = under (Execs t j)
     at (Shifts t i o) = under (Shifts t i o)

@@ -24,6 +24,6 @@ pub returns-in_ok-copied-in-Greater-clause-ok : goal.returns-in_ok-copied-in-Gre
 unfolding slot_held
 returns-in_ok-copied-in-Greater-clause-ok c =
     let copy = c.in_ok-copied-in-Greater.ensures in
-    ap (λ f. slot_held (record { first = f; second = c.args.slot.now.second })) c.of.ensures
-    ∙ held_greater (slot_held c.args.slot.now) (slot_held (record { first = Some (c.in_ok-copied-in-Greater.field-0, c.in_ok-budgets-in-Greater.budgets); second = c.args.slot.now.second })) _ c.args.count (key_value c.in-Some.key.now) (ap (λ k. option_map key_value (option_copied k)) c.in-Some.is) (sym c.in-Greater.ensures)
+    ap (λ f. slot_held (record { parts = record { first = f; second = c.args.slot.now.parts.second } })) c.of.ensures
+    ∙ held_greater (slot_held c.args.slot.now) (slot_held (record { parts = record { first = Some (c.in_ok-copied-in-Greater.field-0, c.in_ok-budgets-in-Greater.budgets); second = c.args.slot.now.parts.second } })) _ c.args.count (key_value c.in-Some.key.now) (ap (λ k. option_map key_value (option_copied k)) c.in-Some.is) (sym c.in-Greater.ensures)
     (ap (λ k. Some k) copy) (replaced c.args.slot.now c.in_ok-copied-in-Greater.field-0 c.in_ok-budgets-in-Greater.budgets c.args.count (subst (λ k. IfSome c.args.count (λ x. is_hits x.counted ≡ is_none k)) c.in-Some.is c.requires) c.in_ok-budgets-in-Greater.ensures)

@@ -15,7 +15,7 @@ returns-in_default-clause-ok c = on_ok c.hit.result (held_hit (slot_held c.args.
 pub returns-then-of-eq0-clause-ok : goal.returns-then-of-eq0-clause-ok
 unfolding slot_held
 returns-then-of-eq0-clause-ok c =
-    held_pass (slot_held c.args.slot.now) (slot_held (record { first = c.execute.new.slot.first; second = c.raise.new.self })) c.args.node c.args.spent c.execute.ensures.key c.in-Some.term c.in-Some.is
+    held_pass (slot_held c.args.slot.now) (slot_held (record { parts = record { first = c.execute.new.slot.parts.first; second = c.raise.new.self } })) c.args.node c.args.spent c.execute.ensures.key c.in-Some.term c.in-Some.is
     (aside c.args.slot.now c.execute.new.slot c.in_ok-counter.counter c.raise.new.self c.args.node c.in-Some.term (slot_number c.args.slot.now (Execs c.in-Some.term c.args.node) + 1) c.in_ok-execute.ensures.ok c.in_ok-counter.ensures c.in_ok-raise.ensures.ok (ap (λ n. n + 1) (sym c.of.ensures ∙ c.if-of-eq0.true)))
 
 pub hit-requires-2 : goal.hit-requires-2

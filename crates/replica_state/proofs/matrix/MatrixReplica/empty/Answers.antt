@@ -1,5 +1,6 @@
 use Rattle.std.proofs.Common.{ap, sym, subst, ◌∙◌, ℕ, List}
-use Rattle.replica_state.specs.Slots.{Slot, shown_slots}
+use Rattle.replica_state.specs.declared.slot.Slot.{Slot}
+use Rattle.replica_state.specs.Slots.{shown_slots}
 use Rattle.replica_state.specs.Reached.{IsReached}
 use Rattle.replica_state.specs.MatrixOrder.{nothing_reached}
 use Rattle.replica_state.specs.MatrixStates.{matrix_state}
