@@ -1,5 +1,4 @@
-use Rattle.std.proofs.Common.{◌≡◌, ℕ, ◌+◌, ◌<◌, Option, Some, None, sym, ◌∙◌, ap, arith}
-use Rattle.std.specs.Option.{SomeIff}
+use Rattle.std.proofs.Common.{◌+◌, sym, ◌∙◌, ap}
 use Rattle.actions.specs.Value.{term_value}
 use Rattle.stamp_register.specs.Keys.{key_value}
 use Rattle.replica_state.specs.Operations.{count_in}

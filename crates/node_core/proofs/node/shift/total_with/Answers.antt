@@ -1,10 +1,9 @@
-use Rattle.std.proofs.Common.{◌≡◌, ℕ, ◌+◌, ◌<◌, Bool, false, IsTrue, ◌∙◌, Option, Some, None, sym, ap, refl, subst, ⊎_elim, arith, rules, FitsSigned}
+use Rattle.std.proofs.Common.{◌≡◌, ℕ, ◌+◌, ◌<◌, Bool, false, IsTrue, ◌∙◌, sym, ap, refl, subst, ⊎_elim, arith, rules, FitsSigned}
 use Rattle.std.proofs.lemmas.Bool.{true≢false, cases_lt}
 use Rattle.std.proofs.lemmas.Int.{ints, to_z-of_z}
 use Rattle.std.specs.Prelude.{ℤ, pos, negsuc, ◌≤ℤ◌}
 use Rattle.std.specs.Int.{w128}
 use Rattle.std.proofs.Math.IntN.{nat_abs}
-use Rattle.std.specs.Option.{SomeIff}
 use Rattle.actions.specs.Value.{term_value}
 use Rattle.stamp_register.specs.Keys.{key_value}
 use Rattle.node_core.specs.Replicas.{state_in}
