@@ -8,6 +8,8 @@ pub mod SettingSteps
 pub mod ShiftSteps
 pub mod Kept
 pub mod ShiftRefusals
+pub mod GrantRefusals
+pub mod NamedRefusals
 pub mod LoadRefusals
 pub mod LoadSteps
 pub mod Ahead

@@ -8,7 +8,7 @@ use Rattle.counters.specs.Budgets.{Budget, has_rights, given_to, gone_from, righ
 use Rattle.stamp_register.specs.Keys.{KeyValue}
 use Rattle.replica_state.specs.Operations.{count_at, count_in}
 use Rattle.replica_state.specs.States.{State, budget, rights_of}
-use Rattle.std.specs.Option.{option_map_or}
+use Rattle.std.specs.Option.{option_map_or, SomeIff}
 use Rattle.std.specs.Prelude.{option_map}
 use Rattle.node_core.specs.declared.config.Config.{Config}
 use Rattle.node_core.specs.declared.fault.NodeFault.{NodeFault}
@@ -26,6 +26,21 @@ below_length {A} [] i x h = absurd (let impossible : ◌≡◌ {A = Option A} No
 below_length (y ∷ xs) zero x h = omega arith
 below_length (y ∷ xs) (suc i) x h = let rest = below_length xs i x h in omega (arith, rest)
 
+-- a number past those of the terms
+pub past_length : {A : Type 0} (xs : List A) (i : ℕ) → None ≡ slice_get xs i → length xs ≤ i
+past_length [] i h = omega arith
+past_length {A} (y ∷ xs) zero h = absurd (let impossible : ◌≡◌ {A = Option A} None (Some y) = h in cc)
+past_length (y ∷ xs) (suc i) h = let rest = past_length xs i h in omega (arith, rest)
+
+-- an amount that isn't 0
+pub some : (n : ℕ) → (n ≡ 0 → ⊥) → 0 < n
+some n not = omega (arith, not)
+
+-- a sum that isn't there doesn't fit
+pub no_sum : (o : Option ℕ) (P : Type 0) (n : ℕ) → o ≡ None → SomeIff o P n → P → ⊥
+no_sum None P n e h = h
+no_sum (Some m) P n e h = absurd (let impossible : ◌≡◌ {A = Option ℕ} (Some m) None = e in cc)
+
 -- which nodes are others of the cluster
 pub is_other : (config : Config) (to : ℕ) → to < config.nodes → (to ≡ config.node → ⊥) → is_bad_node config to ≡ false
 is_other config to low apart = grind (arith, nat_tests, low, apart)
@@ -39,6 +54,27 @@ past_most n m same not = let high : 2 ^ 64 ≤ m = omega (arith, not) in grind (
 
 pub upto_most : (n m : ℕ) → m ≡ n → m < 2 ^ 64 → nat_lt most n ≡ false
 upto_most n m same low = grind (arith, nat_tests, same, low)
+
+-- where the point isn't set, or has no such term that is counted
+module _ (config : Config) (v : State) (name : List ℕ) (term to amount : ℕ) where
+  abbrev refusal_under : Option (KeyValue × List TermValue) → Option NodeFault
+  refusal_under setting = first_fault (faults_of_shift_under config v name term to amount setting)
+
+  pub not_set : setting_of v name ≡ None → first_fault (faults_of_shift config v name term to amount) ≡ Some faults.NotSet
+  not_set e = ap refusal_under e
+
+  pub no_such_term : (key : KeyValue) (terms : List TermValue) → setting_of v name ≡ Some (key, terms) → None ≡ slice_get terms term → first_fault (faults_of_shift config v name term to amount) ≡ Some faults.NoSuchTerm
+  no_such_term key terms set none =
+      let past = past_length terms term none in
+      let is : nat_le (length terms) term ≡ true = grind (arith, nat_tests, past) in
+      ap refusal_under set ∙ rw is refl
+
+  pub not_counted : (key : KeyValue) (terms : List TermValue) → setting_of v name ≡ Some (key, terms) → (t : TermValue) → slice_get terms term ≡ Some t → t.count ≡ None → first_fault (faults_of_shift config v name term to amount) ≡ Some faults.NotCounted
+  not_counted key terms set t here none =
+      let low = below_length terms term t here in
+      let is : nat_le (length terms) term ≡ false = grind (arith, nat_tests, low) in
+      let count : count_at terms term ≡ None = ap count_in here ∙ none in
+      ap refusal_under set ∙ rw (is, count) refl
 
 module _ (config : Config) (v : State) (name : List ℕ) (term to amount : ℕ) (key : KeyValue) (terms : List TermValue) (t : TermValue) (n : ℕ)
     (set : setting_of v name ≡ Some (key, terms)) (here : slice_get terms term ≡ Some t) (counted : t.count ≡ Some n) where

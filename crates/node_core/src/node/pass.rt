@@ -18,7 +18,7 @@ ghost use Rattle.node_core.specs.Outcomes.{task_or_off, outcome_reply, spent_by,
 ghost use Rattle.node_core.specs.Passes.{words_for, triggered_term, task_in, pass_reply, pass_ops};
 ghost use Rattle.node_core.specs.Refusals.{bad_words};
 ghost use Rattle.node_core.specs.Room.{HasRoom};
-ghost use Rattle.node_core.specs.Traces.{Accepts, IsRefusalOf, reply_to, state_known};
+ghost use Rattle.node_core.specs.Traces.{Accepts, IsRefusalOf, after_call, reply_to, state_known};
 
 use super::{NodeCore, read_name};
 use crate::State;
@@ -149,12 +149,41 @@ impl NodeCore {
         ensures err { OnErr result (self.new ≡ self.old) }
     {
         let me = self.config.node;
-        let (words, outcome) = outcome_of(alloc, self.replica.state(), me, &point, source)?;
-        let copy = copied_if(alloc, &words, wanted.words)?;
-        let reply = outcome.answer(alloc, wanted.reply)?;
-        let recorded = outcome.reply(alloc)?;
+        let (words, outcome) = outcome_of(alloc, self.state(), me, &point, source)?;
+        let Copies {
+            words: copy,
+            answer,
+            reply,
+        } = outcome.copies(alloc, &words, wanted)?;
         let is_set = outcome.stamp.is_some();
         let spent = outcome.spent;
+        self.record(alloc, point, words, reply, is_set, spent)?;
+        Ok((copy, answer))
+    }
+
+    // Counts a pass and puts it into the trace: its words, and what it comes to.
+    fn record(
+        &mut self,
+        alloc: Global,
+        point: Name,
+        words: Vec<u32>,
+        reply: PassReply,
+        is_set: bool,
+        spent: Option<u8>,
+    ) -> Result<(), AllocError>
+        requires room { HasRoom self.old }
+        requires reply { passed reply
+            ≡ pass_reply self.old.config.node (state_known self.old) point words.items }
+        requires ops { pass_ops self.old.config.node (state_known self.old) point words.items
+            ≡ ops_done self.old.config.node (state_known self.old) point is_set spent }
+        requires key { is_set ≡ true → HasKey (state_known self.old) point }
+        requires low { IfSome spent (λ term. term < 2 ^ 8) }
+        requires rights { (term : ℕ) → spent ≡ Some term
+            → pos 1 ≤ℤ rights_of (state_known self.old) point term self.old.config.node }
+        ensures after { OnOk result (self.new ≡ after_call self.old (asks.Pass point) words.items) }
+        ensures err { OnErr result (self.new ≡ self.old) }
+    {
+        let me = self.config.node;
         self.trace.reserve(1)?;
         count(&mut self.replica, alloc, me, &point, is_set, spent)?;
         let entry = Entry {
@@ -162,10 +191,10 @@ impl NodeCore {
                 name: point.into_text(),
             },
             words,
-            reply: Reply::Pass(recorded),
+            reply: Reply::Pass(reply),
         };
         self.trace.push_reserved(entry);
-        Ok((copy, reply))
+        Ok(())
     }
 }
 
@@ -174,6 +203,14 @@ impl NodeCore {
 struct Wanted {
     words: bool,
     reply: bool,
+}
+
+/// The reply of a pass, and copies of the words and of it where they are wanted.
+#[derive(Drop)]
+struct Copies {
+    words: Option<Vec<u32>>,
+    answer: Option<PassReply>,
+    reply: PassReply,
 }
 
 /// A copy of the words where it is wanted.
@@ -290,6 +327,26 @@ impl Outcome<'_> {
         } else {
             Ok(None)
         }
+    }
+
+    /// The reply, and what is wanted of it and of the words.
+    fn copies(self, alloc: Global, words: &[u32], wanted: Wanted) -> Result<Copies, AllocError>
+        ensures words { IfOk result (λ c. option_map (λ v. v.items) c.words
+            ≡ then_some wanted.words words.now) }
+        ensures answer { IfOk result (λ c. option_map passed c.answer ≡ then_some wanted.reply
+            (outcome_reply self.entry.stamp self.entry.term
+            (option_map (λ task. task_value task.now) self.entry.task))) }
+        ensures reply { IfOk result (λ c. passed c.reply ≡ outcome_reply self.entry.stamp self.entry.term
+            (option_map (λ task. task_value task.now) self.entry.task)) }
+    {
+        let copy = copied_if(alloc, words, wanted.words)?;
+        let answer = self.answer(alloc, wanted.reply)?;
+        let reply = self.reply(alloc)?;
+        Ok(Copies {
+            words: copy,
+            answer,
+            reply,
+        })
     }
 }
 

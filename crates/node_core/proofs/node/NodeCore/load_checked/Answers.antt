@@ -1,10 +1,12 @@
-use Rattle.std.proofs.Common.{◌≡◌, ℕ, List, inr, arith, ap, sym, ◌∙◌, subst, length}
+use Rattle.std.proofs.Common.{◌≡◌, ℕ, List, [], inr, arith, ap, sym, ◌∙◌, subst, length}
 use Rattle.actions.specs.Value.{TermValue}
 use Rattle.replica_state.specs.Unions.{with_names}
 use Rattle.node_core.specs.Replicas.{state_in, value_in}
 use Rattle.node_core.specs.Outcomes.{AreTellable}
 use Rattle.node_core.specs.Steps.{operations_issued, points_read, settings_of}
-use Rattle.node_core.specs.Traces.{kept_of, last_clock}
+use Rattle.node_core.specs.Asks.{Load}
+use Rattle.node_core.specs.Traces.{IsRefusalOf, kept_of, last_clock}
+use Rattle.node_core.proofs.NamedRefusals.{load_text, passed_on, trace_refused}
 use Rattle.node_core.proofs.SettingNames.{settings_told}
 use Rattle.node_core.proofs.LoadRefusals.{Loads, too_many_names, clock_full, no_refusal, have_places}
 use Rattle.node_core.proofs.node.NodeCore.load_checked.Goals as goal
@@ -66,3 +68,13 @@ pub returns-clause-few : goal.returns-clause-few
 returns-clause-few c =
     let found = (goal.at.returns-clause-few c).After-names_together in
     rw (← c.self.view_is) (have_places (loads found) (counted found) c.if-names_together-gt-MAX_NAMES.false)
+
+pub returns-in_err-check_trace-clause-refused : goal.returns-in_err-check_trace-clause-refused
+returns-in_err-check_trace-clause-refused c =
+    passed_on (IsRefusalOf c.args.self.now (Load c.args.text.now) []) _ _ c.from_residual.ensures.0 c.from_residual.ensures.1
+    (trace_refused c.args.self.now _ _ c.in_err-check_trace.ensures.full)
+
+pub returns-in_err-points-clause-refused : goal.returns-in_err-points-clause-refused
+returns-in_err-points-clause-refused c =
+    passed_on (IsRefusalOf c.args.self.now (Load c.args.text.now) []) _ _ c.from_residual-in_err-points.ensures.0 c.from_residual-in_err-points.ensures.1
+    (load_text c.args.self.now c.args.text.now _ c.in_ok-check_trace.ensures.ok c.in_err-points.ensures.refused)

@@ -5,7 +5,8 @@ use Rattle.std.proofs.lemmas.Option.{slice_get-get_or}
 use Rattle.node_core.specs.Asks.{Asked, Call, IsPassed, Pass}
 use Rattle.node_core.specs.Lasts.{last_call, passed_at}
 use Rattle.node_core.specs.Passes.{pass_reply}
-use Rattle.node_core.specs.Traces.{Kept, after_call, entry_for, state_known}
+use Rattle.node_core.specs.Traces.{IsRefusalOf, Kept, after_call, entry_for, state_known}
+use Rattle.node_core.proofs.NamedRefusals.{passed_on, trace_refused, name_refused}
 use Rattle.node_core.proofs.node.NodeCore.record_pass.Goals as goal
 
 last_of-push : (calls : List Call) (call : Call) → last_call (calls ++ call ∷ []) ≡ Some call
@@ -29,3 +30,13 @@ returns-clause-last c =
     ap (λ o. option_map (λ p. IsPassed p) (passed_at o)) (last_after c.args.self.now c.pass.new.self (Pass c.in_ok-point.point) c.new-given.result.words.now accepted.2)
     ∙ ap (λ words. Some (IsPassed (pass_reply c.args.self.now.config.node (state_known c.args.self.now) c.in_ok-point.point words))) given
     ∙ ap (λ name. Some (IsPassed (pass_reply c.args.self.now.config.node (state_known c.args.self.now) name c.args.words.now))) named.1
+
+pub returns-in_err-check_trace-clause-refused : goal.returns-in_err-check_trace-clause-refused
+returns-in_err-check_trace-clause-refused c =
+    passed_on (IsRefusalOf c.args.self.now (Pass c.args.name.now) c.args.words.now) _ _ c.from_residual.ensures.0 c.from_residual.ensures.1
+    (trace_refused c.args.self.now _ _ c.in_err-check_trace.ensures.full)
+
+pub returns-in_err-point-clause-refused : goal.returns-in_err-point-clause-refused
+returns-in_err-point-clause-refused c =
+    passed_on (IsRefusalOf c.args.self.now (Pass c.args.name.now) c.args.words.now) _ _ c.from_residual-in_err-point.ensures.0 c.from_residual-in_err-point.ensures.1
+    (name_refused c.args.self.now c.args.name.now _ _ c.in_ok-check_trace.ensures.ok c.in_err-point.ensures.refused)

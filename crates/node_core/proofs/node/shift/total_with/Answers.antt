@@ -1,19 +1,14 @@
-use Rattle.std.proofs.Common.{◌≡◌, ℕ, ◌+◌, ◌<◌, Bool, false, IsTrue, ◌∙◌, Option, Some, None, sym, ap, refl, subst, ⊎_elim, arith, rules, FitsSigned}
+use Rattle.std.proofs.Common.{◌≡◌, ℕ, ◌+◌, ◌<◌, Bool, false, IsTrue, ◌∙◌, sym, ap, refl, subst, ⊎_elim, arith, rules, FitsSigned}
 use Rattle.std.proofs.lemmas.Bool.{true≢false, cases_lt}
 use Rattle.std.proofs.lemmas.Int.{ints, to_z-of_z}
 use Rattle.std.specs.Prelude.{ℤ, pos, negsuc, ◌≤ℤ◌}
 use Rattle.std.specs.Int.{w128}
 use Rattle.std.proofs.Math.IntN.{nat_abs}
-use Rattle.std.specs.Option.{SomeIff}
 use Rattle.actions.specs.Value.{term_value}
 use Rattle.stamp_register.specs.Keys.{key_value}
 use Rattle.node_core.specs.Replicas.{state_in}
-use Rattle.node_core.proofs.ShiftRefusals.{is_other, is_none_other, bad_node, zero_amount, too_few_rights, cell_full, no_refusal, past_most, upto_most}
+use Rattle.node_core.proofs.ShiftRefusals.{is_other, is_none_other, bad_node, zero_amount, too_few_rights, cell_full, no_refusal, not_set, no_such_term, not_counted, past_most, upto_most, some, no_sum}
 use Rattle.node_core.proofs.node.shift.total_with.Goals as goal
-
--- an amount that isn't 0
-some : (n : ℕ) → (n ≡ 0 → ⊥) → 0 < n
-some n not = omega (arith, not)
 
 lack : (b : Bool) (P : Type 0) → b ≡ false → (P → IsTrue b) → P → ⊥
 lack b P e f h = true≢false (sym (f h) ∙ e)
@@ -25,11 +20,6 @@ whole (negsuc n) h = absurd (omega (arith, ints, h))
 
 fewer : (z : ℤ) (n amount : ℕ) → z ≡ pos n → (pos amount ≤ℤ z → ⊥) → n < amount
 fewer z n amount e not = ⊎_elim (λ less. less) (λ more. absurd (not (subst (λ (y : ℤ). pos amount ≤ℤ y) (sym e) (omega (arith, ints, more))))) (cases_lt n amount)
-
--- a sum that isn't there doesn't fit
-no_sum : (o : Option ℕ) (P : Type 0) (n : ℕ) → o ≡ None → SomeIff o P n → P → ⊥
-no_sum None P n e h = h
-no_sum (Some m) P n e h = absurd (let impossible : ◌≡◌ {A = Option ℕ} (Some m) None = e in cc)
 
 pub returns-then-to-config-clause-refused : goal.returns-then-to-config-clause-refused
 returns-then-to-config-clause-refused c =
@@ -68,3 +58,16 @@ returns-then-not-has_rights-clause-refused c =
     too_few_rights c.args.config (state_in c.args.state.now) c.args.name.now c.args.term c.args.to c.args.amount (key_value c.in-Some.field-0-0.now) c.in-Some.actions.now (term_value c.in-Some-term.found.now) c.in-Some-count.field-0
     c.in-Some.ensures.value (sym c.in-Some-term.ensures) c.in-Some-count.is (is_other c.args.config c.args.to c.if-to-config.false c.if-to-config-2.false)
     (some c.args.amount c.if-amount-eq0.false) _ (sym have ∙ is) (fewer _ _ c.args.amount (sym have ∙ is) not)
+
+pub returns-in_default-clause-refused : goal.returns-in_default-clause-refused
+returns-in_default-clause-refused c = not_set c.args.config (state_in c.args.state.now) c.args.name.now c.args.term c.args.to c.args.amount c.in_default.ensures.value
+
+pub returns-in_default-term-clause-refused : goal.returns-in_default-term-clause-refused
+returns-in_default-term-clause-refused c =
+    no_such_term c.args.config (state_in c.args.state.now) c.args.name.now c.args.term c.args.to c.args.amount (key_value c.in-Some.field-0-0.now) c.in-Some.actions.now
+    c.in-Some.ensures.value c.in_default-term.ensures
+
+pub returns-in_default-count-clause-refused : goal.returns-in_default-count-clause-refused
+returns-in_default-count-clause-refused c =
+    not_counted c.args.config (state_in c.args.state.now) c.args.name.now c.args.term c.args.to c.args.amount (key_value c.in-Some.field-0-0.now) c.in-Some.actions.now
+    c.in-Some.ensures.value (term_value c.in-Some-term.found.now) (sym c.in-Some-term.ensures) c.in_default-count.is
