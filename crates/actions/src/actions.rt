@@ -62,7 +62,7 @@ pub fn parse_actions(alloc: Global, text: &str) -> Result<Actions, ActionFault>
     // Each refusal is the first one.
     ensures exact { Gives (λ a. a) result (reading text.now) }
 
-    // A text that is too long, and else one with a bad byte, is never refused for want of memory.
+    // A text that is too long, and else one with a bad byte, is never refused as out of memory.
     ensures long { 1024 < length text.now → result ≡ Err ActionFault.TooLong }
     ensures bad_byte { length text.now ≤ 1024
         → IfSome (position is_bad_byte text.now) (λ i. result ≡ Err (ActionFault.BadByte i)) }
@@ -124,7 +124,8 @@ impl Actions {
         &self.text
     }
 
-    /// How many words `decide` takes: one for each term whose chance is below 100%, so at most 16.
+    /// How many random draws `decide` takes: one for each term whose chance is below 100%, so at
+    /// most 16.
     pub fn words_needed(&self) -> u8
         ensures value { result ≡ words_needed self.now }
         ensures few { result ≤ 16 }

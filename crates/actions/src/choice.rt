@@ -8,16 +8,16 @@ use crate::actions::Actions;
 use crate::percent::ALL_PARTS;
 use crate::task::Term;
 
-/// How many 32-bit words there are.
+/// How many values a random draw of 32 bits has.
 const ALL_WORDS: u64 = 1 << 32;
 
 /// The number of the term that is triggered: the first whose chance passes and which is uncounted
 /// or may run, as `may` says of each term by its number.
 ///
-/// `words` are random words, as many as `words_needed`: one for each term whose chance is below
+/// `words` are random draws, as many as `words_needed`: one for each term whose chance is below
 /// 100%, in the order of the terms, whether or not that term is reached. A term of `ppm` parts per
-/// million passes by the word `w` where `w / 2^32` is below `ppm / 1_000_000`. One of 100% takes no
-/// word and passes.
+/// million passes by the draw `w` where `w / 2^32` is below `ppm / 1_000_000`. One of 100% takes no
+/// random draw and passes.
 pub fn decide(actions: &Actions, words: &[u32], may: [bool; 16]) -> Option<u8>
     requires { length words.now ≡ words_needed actions.now }
     ensures { result ≡ choice actions.now words.now (λ k. slice_index_or may k false) }
@@ -44,7 +44,8 @@ fn first_triggered(terms: &[Term], words: &[u32], may: &[bool]) -> Option<u8>
     None
 }
 
-/// Whether a term triggers, where it may run or not. One that takes a word has that at `next`.
+/// Whether a term triggers, where it may run or not. One that takes a random draw has that at
+/// `next`.
 fn is_triggered(term: &Term, words: &[u32], next: usize, may: bool) -> bool
     requires { takes_word (term_value term.now) ≡ true → next < length words.now }
     ensures { result ≡ can_trigger (term_value term.now) (slice_index words.now next) may }

@@ -1,4 +1,4 @@
-//! What the definitions promise of all texts, values and words. Nothing here runs.
+//! What the definitions promise of all texts, values and random draws. Nothing here runs.
 
 ghost use Rattle.std.specs.Prelude.{◌≡◌, ◌≤◌, ◌↔◌, ℕ, Bool, Option, List, length};
 ghost use Rattle.actions.specs.Value.{TermValue};

@@ -6,8 +6,8 @@
 //!
 //! ```rust
 //! let actions = parse_actions(alloc, "20%3*print(still alive!)->panic")?;
-//! // One word, for the term of 20%. The first term may run as long as it has rights.
-//! let chosen = decide(&actions, &[word], may);
+//! // One random draw, for the term of 20%. The first term may run as long as it has rights.
+//! // One random draw, for the term of 20%. The first term may run as long as it has rights.
 //! ```
 #![tactic(auto)]
 

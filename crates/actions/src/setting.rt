@@ -32,7 +32,7 @@ pub fn parse_setting(alloc: Global, text: &str) -> Result<Vec<(Name, Actions)>, 
     // Each refusal is the first one.
     ensures exact { Gives (λ v. v.items) result (setting_reading text.now) }
     ensures few { IfOk result (λ points. length points.items < 2 ^ 16) }
-    // A text that is too long is never refused for want of memory.
+    // A text that is too long is never refused as out of memory.
     ensures long { 65536 < length text.now → result ≡ Err SettingFault.TooLong }
 {
     if text.len() > MAX_SETTING {

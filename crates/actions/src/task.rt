@@ -131,7 +131,7 @@ impl Term {
         })
     }
 
-    /// Whether a choice takes a word for the term, as for each that isn't certain.
+    /// Whether a choice takes a random draw for the term, as for each that isn't certain.
     pub(crate) fn takes_word(&self) -> bool
         ensures { result ≡ takes_word (term_value self.now) }
     {

@@ -1,4 +1,4 @@
--- The audit says yes wherever it may, want of memory aside.
+-- The audit says yes wherever it may, out of memory aside.
 use Rattle.std.proofs.Common.{◌≡◌, ℕ, ◌+◌, ◌<◌, ◌≤◌, ◌↔◌, List, length, arith, subst, refl, Result, Ok, Err, Vec}
 use Rattle.std.proofs.lemmas.Option.{slice_get_within, get_or_from_slice_get}
 use Rattle.std.specs.declared.alloc.Global.{Global}

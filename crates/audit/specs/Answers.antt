@@ -46,12 +46,12 @@ IsAudited nodes traces lists (Err (OutOfOrder list place)) =
 abbrev pub events_in : ℕ → Traces → List (ℕ × ℕ) → List Event
 events_in nodes traces order = events_of nodes (steps_at traces (reverse order))
 
--- yes, or want of memory
+-- yes, or out of memory
 abbrev pub IsYesOrRefused : Result AuditYes AuditFault → Type 0
 IsYesOrRefused (Ok found) = Unit {0}
 IsYesOrRefused (Err fault) = fault ≡ OutOfMemory
 
--- wherever an audit may say yes, it does, want of memory aside
+-- wherever an audit may say yes, it does, out of memory aside
 abbrev pub YesWhen : Type 0
 YesWhen = (nodes : ℕ) (traces : Traces) (lists : Lists) (result : Result AuditYes AuditFault) →
     IsAudited nodes traces lists result → IsAuditable nodes traces lists → IsYesOrRefused result

@@ -31,7 +31,7 @@ pub struct AuditYes {
 /// nodes, and whether the receipts are their entries: each once and none missing, in each list those
 /// of one node in their order. A list holds what one caller was given, in the order of its calls.
 ///
-/// It says yes exactly where there is such a schedule and these are the receipts, want of memory
+/// It says yes exactly where there is such a schedule and these are the receipts, out of memory
 /// aside (`laws::yes_when`), and answers one.
 pub fn audit(
     alloc: Global,
@@ -67,7 +67,7 @@ pub fn audit(
     }
 }
 
-// A yes with the totals of a tally. The only error is want of memory.
+// A yes with the totals of a tally. The only error is out of memory.
 fn answer(alloc: Global, order: Vec<(u8, u32)>, tally: Tally) -> Result<AuditYes, AuditFault>
     ensures order { IfOk result (λ found. found.order ≡ order) }
     ensures totals { IfOk result (λ found. AreTotalsIn tally found.totals.items) }

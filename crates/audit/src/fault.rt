@@ -3,7 +3,7 @@
 use std::error::Error;
 use std::fmt;
 
-/// Why an audit says no: the first that applies, in this order, but that want of memory may stand in
+/// Why an audit says no: the first that applies, in this order, but that out of memory may stand in
 /// the place of any other but the first.
 ///
 /// `Display` shows the number, the variant's name and each field as `field=value`.

@@ -14,7 +14,7 @@ pub fn stuck_place()
     ensures { StuckPlaceIsOne }
 {}
 
-/// Wherever an audit may say yes, it does, want of memory aside.
+/// Wherever an audit may say yes, it does, out of memory aside.
 pub fn yes_when()
     ensures { YesWhen }
 {}

@@ -38,8 +38,8 @@ fn is_want_of_memory(fault: NodeFault) -> bool
     matches!(fault, NodeFault::OutOfMemory)
 }
 
-// Whether a node gives an entry as its next one. It has made the call then. The only error is want of
-// memory.
+// Whether a node gives an entry as its next one. It has made the call then. The only error is out
+// of memory.
 fn gives(alloc: Global, core: &mut NodeCore, entry: &Entry) -> Result<bool, NodeFault>
     requires legal { IsLegalKept core.old }
     ensures legal { IfOk result (λ given. OnTrue given (IsLegalKept core.new)) }
@@ -94,7 +94,7 @@ fn first_wrong(
 }
 
 /// The least node that doesn't give its trace, if there is one, and the first entry that it doesn't
-/// give; else the tally is that of all traces. The only error is want of memory.
+/// give; else the tally is that of all traces. The only error is out of memory.
 pub(crate) fn least_wrong(
     alloc: Global,
     nodes: u8,

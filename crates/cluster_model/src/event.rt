@@ -23,7 +23,7 @@ pub enum Event<'a> {
         node: u8,
         text: &'a str,
     },
-    /// Passes a point, with a word for each of its terms whose chance is below 100%.
+    /// Passes a point, with a random draw for each of its terms whose chance is below 100%.
     Pass {
         node: u8,
         name: &'a str,

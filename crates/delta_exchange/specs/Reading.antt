@@ -27,7 +27,7 @@ abbrev pub is_want_of_memory : WireFault → Bool
 is_want_of_memory faults.OutOfMemory = true
 is_want_of_memory fault = false
 
--- what is read is this fault; a want of memory says nothing of that
+-- what is read is this fault; out of memory says nothing of that
 abbrev pub Fails : {Y : Type 0} → WireFault → Result Y WireFault → Type 0
 Fails = FailsUnless is_want_of_memory
 

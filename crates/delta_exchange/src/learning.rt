@@ -110,7 +110,7 @@ fn learn_entry<R: Replica>(
 }
 
 /// A replica that knows just what a message tells. The message's nodes are those of some cluster,
-/// as after `decode`. Only want of memory is an error.
+/// as after `decode`. Only out of memory is an error.
 pub fn replica_of<R: Replica>(alloc: Global, message: &Message) -> Result<R, AllocError>
     requires { (nodes : ℕ) × IsMessage nodes (message_value message.now) }
     ensures { IfOk result

@@ -219,7 +219,7 @@ impl<R: Replica> Versioned<R> {
     /// another: of each name with a key of which anything did its key, and the cells that did and
     /// aren't 0. Its base is that version.
     ///
-    /// Of at most 32 nodes and 256 names it is never too long to be written. Only want of memory is
+    /// Of at most 32 nodes and 256 names it is never too long to be written. Only out of memory is
     /// an error. The names that have marks are walked once, in their order. Of a name of which
     /// nothing changed one mark alone is looked at, and of others the cells that have a mark.
     pub fn changed_since(

@@ -129,8 +129,8 @@ fn put_entries(out: &mut Vec<u8>, form: Form, entries: &[NameEntry]) -> Result<(
 
 /// The bytes of a message, at most 67108864, from which `decode` gives it again.
 ///
-/// Its nodes are those of some cluster, of at most 256, its texts canonical, and its names and cells
-/// in order. Only want of memory is an error.
+/// Its nodes are those of some cluster, of at most 256, its texts canonical, and its names and
+/// cells in order. Only out of memory is an error.
 pub fn encode(alloc: Global, message: &Message) -> Result<Vec<u8>, AllocError>
     requires { HasSpelling (message_value message.now) }
     ensures { IfOk result (λ b. b.items ≡ message_bytes (message_value message.now)) }

@@ -152,7 +152,7 @@ fn push_word(values: &mut Vec<Value>, word: u32) -> Result<(), AllocError>
     Ok(())
 }
 
-/// The words of a pass.
+/// The random draws of a pass.
 pub(crate) fn words_value(alloc: Global, words: &[u32]) -> Result<Value, AllocError>
     ensures value { IfOk result (λ value. view value ≡ words_data words.now) }
     ensures fits { OnOk result (WordsFit words.now) }

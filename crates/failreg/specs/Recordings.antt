@@ -24,8 +24,8 @@ pub record IsRecorded {D O : Type 0} (plan : PlanValue) (kept : D → Option (Li
   pub reads_back : drill_in (drill_text (drill_told traces lists)) ≡ Ok (drill_told traces lists)
   pub printed : Writes contents old new text
 
--- what an audit says of a drill was written, of the one that the bytes are where these are known; more than 255
--- traces are as few as those, and too many; want of memory is no verdict
+-- what an audit says of a drill was written, of the one that the bytes are where these are known; more than 255 traces
+-- are as few as those, and too many; out of memory is no verdict
 abbrev pub SaysVerdict : {O : Type 0} → Option (List ℕ) → Bool → (O → Option (List ℕ)) → Watched O → Watched O → Type 0
 SaysVerdict bytes explained contents old new =
     (traces : Traces) × (lists : Lists) × (verdict : Result AuditYes AuditFault)

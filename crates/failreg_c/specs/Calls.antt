@@ -80,7 +80,7 @@ IsPassedDrawing name act k l =
 abbrev pub IsSaid : List ℕ → Registry → Registry → Type 0
 IsSaid text k l = (l.said.items ≡ text) × (l ≡ record k { said = l.said })
 
--- why an ask of UTF-8 texts isn't answered by 0: want of memory, where it is needed, or the first refusal
+-- why an ask of UTF-8 texts isn't answered by 0: out of memory, where it is needed, or the first refusal
 abbrev pub IsRefused : Kept → Asked → List ℕ → Type 0 → ℕ → Type 0
 IsRefused k ask words needs status =
     ((status ≡ no_memory) × needs) ⊎ MatchOption (refusal k ask words) ⊥ (λ f. status ≡ number f)

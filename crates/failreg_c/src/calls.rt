@@ -23,8 +23,8 @@ pub(crate) const CLOSED: u32 = 31;
 /// What an open is answered that finds the node open.
 const OPEN: u32 = 32;
 
-/// Opens a closed node as a node of a cluster, which accepts so many calls in its life and draws
-/// its words from the seed. Answers 0, or why not.
+/// Opens a closed node as a node of a cluster, which accepts so many calls in its life and takes
+/// its random draws from the seed. Answers 0, or why not.
 #[unsafe(no_mangle)]
 pub extern "C" fn failreg_open(
     alloc: Global,
@@ -152,8 +152,8 @@ pub extern "C" fn failreg_load(
     status
 }
 
-/// Passes a point, with the next words of the node's generator. The text of its task, and the
-/// words, are then to be fetched.
+/// Passes a point, with the next random draws of the node's generator. The text of its task, and
+/// the random draws, are then to be fetched.
 #[unsafe(no_mangle)]
 pub extern "C" fn failreg_pass(alloc: Global, node: &mut Node, name: &[u8], act: &mut Act) -> u32
     ensures ok { result ≡ 0 → Both node.old.handle.kept node.new.handle.kept
@@ -175,7 +175,7 @@ pub extern "C" fn failreg_pass(alloc: Global, node: &mut Node, name: &[u8], act:
     status
 }
 
-/// Passes a point with words that C gives, one for each term whose chance is below 100%.
+/// Passes a point with random draws that C gives, one for each term whose chance is below 100%.
 #[unsafe(no_mangle)]
 pub extern "C" fn failreg_pass_with(
     alloc: Global,

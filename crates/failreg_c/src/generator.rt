@@ -1,4 +1,4 @@
-//! The generator of a node's words, the same that a registry of Rattle's has.
+//! The generator of a node's random draws, the same that a registry of Rattle's has.
 
 ghost use Rattle.std.specs.Prelude.{◌≡◌, ◌⊎◌, ◌+◌, ◌<◌, ◌^◌, ◌%◌, vec_len, IfOk, IfErr, IsErrOf, OnErr, OnOk};
 ghost use Rattle.rand_chacha.specs.ChaCha.{ChaCha, key_of};
@@ -16,8 +16,8 @@ use rand_core::utils::NextWord;
 use std::alloc::{AllocError, Global};
 use std::marker::Model;
 
-/// The generator of a node's words: ChaCha8 of a seed, on the stream of the node's number.
-/// Contracts see its key, its stream, and the place of its next word, counted from 0.
+/// The generator of a node's random draws: ChaCha8 of a seed, on the stream of the node's number.
+/// Contracts see its key, its stream, and the place of its next random draw, counted from 0.
 #[derive(Drop)]
 pub struct Generator {
     stream: ChaCha8Rng,
@@ -29,7 +29,8 @@ impl Model for Generator {
     ghost view = { λ g. g.stream };
 }
 
-// A stream has 2^68 words. Each pass takes 16 at most, and a node accepts fewer than 2^32 calls.
+// A stream has 2^68 random draws. Each pass takes 16 at most, and a node accepts fewer than 2^32
+// calls.
 const LAST_PLACE: u128 = 147_573_952_589_676_412_928;
 
 impl Generator {
@@ -42,7 +43,7 @@ impl Generator {
         Generator { stream: words }
     }
 
-    // The place of the next word.
+    // The place of the next random draw.
     fn place(&self) -> u128
         ensures place { result ≡ self.now.word_pos }
         ensures bound { result < 2 ^ 68 }
@@ -75,7 +76,7 @@ impl WordSource for Generator {
     }
 }
 
-// The next words of the generator, so many.
+// The next random draws of the generator, so many.
 fn draw(alloc: Global, generator: &mut ChaCha8Rng, count: u8) -> Result<Vec<u32>, AllocError>
     requires { generator.old.word_pos + count < 2 ^ 68 }
     ensures words { IfOk result (λ words. words.items ≡ words_next generator.old count) }
@@ -90,8 +91,8 @@ fn draw(alloc: Global, generator: &mut ChaCha8Rng, count: u8) -> Result<Vec<u32>
     Ok(words)
 }
 
-/// Passes a point with the generator's next words, as many as it needs, and answers these beside
-/// the reply. The words of a refused pass are put back.
+/// Passes a point with the generator's next random draws, as many as it needs, and answers these
+/// beside the reply. The random draws of a refused pass are put back.
 pub(crate) fn pass_drawing(
     core: &mut NodeCore,
     generator: &mut Generator,

@@ -243,8 +243,8 @@ pub extern "C" fn failreg_fetch(alloc: Global, node: &mut Node, into: &mut [u8])
     length
 }
 
-/// Copies the words that the last `failreg_pass` drew, as many as there is room for, and answers how
-/// many there are.
+/// Copies the random draws that the last `failreg_pass` drew, as many as there is room for, and
+/// answers how many there are.
 #[unsafe(no_mangle)]
 pub extern "C" fn failreg_words(alloc: Global, node: &mut Node, into: &mut [u32]) -> usize
     ensures words { MatchOption node.old.handle.kept ((result ≡ 0) × (into.new ≡ into.old)) (λ k.

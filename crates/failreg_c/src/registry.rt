@@ -18,8 +18,8 @@ use node_core::{NodeCore, NodeFault};
 use stamp_register::Stamp;
 use std::alloc::Global;
 
-/// A node with the generator of its words, the bytes of the last answer that are to be fetched, the
-/// words that the last pass drew, and the last refusal.
+/// A node with the generator of its random draws, the bytes of the last answer that are to be
+/// fetched, the random draws that the last pass drew, and the last refusal.
 #[derive(Drop)]
 pub struct Registry {
     pub core: NodeCore,
@@ -343,8 +343,8 @@ impl Registry {
         length
     }
 
-    /// Copies the words that the last pass drew, as many as there is room for, and answers how many
-    /// there are.
+    /// Copies the random draws that the last pass drew, as many as there is room for, and answers
+    /// how many there are.
     pub(crate) fn fetch_words(&self, into: &mut [u32]) -> usize
         ensures length { result ≡ length self.now.words.items }
         ensures words { FillsFront self.now.words.items into.old into.new }

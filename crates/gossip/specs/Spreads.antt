@@ -34,15 +34,15 @@ shifts_in config name shares terms =
 abbrev pub shifts_of : Kept → List ℕ → List Asked
 shifts_of k name = shifts_in k.config name (shares_of k name) 16
 
--- the calls were shifts of the shares of what a lawful node had at one time, in order, and but for want of
--- memory each shift was made or refused
+-- the calls were shifts of the shares of what a lawful node had at one time, in order, and but for out of memory each
+-- shift was made or refused
 abbrev pub Spreads : Config → List ℕ → GossipReport → Type 0
 Spreads config name r =
     (c : Cell) × IsLawfulAt config c
     × IsPartOf (own_asks_in config r.receipts.items) (shifts_of c.node name)
     × (r.ended ≡ Done → length r.receipts.items + r.refused ≡ length (shifts_of c.node name))
 
--- no call was made, for want of memory or since the name is none
+-- no call was made: out of memory, or the name is none
 abbrev pub SpreadsNothing : List ℕ → GossipReport → Type 0
 SpreadsNothing name r =
     (r.receipts.items ≡ []) × (r.refused ≡ 0) × ((r.ended ≡ OutOfMemory) ⊎ (is_name name ≡ false))

@@ -23,7 +23,7 @@ pub struct GossipReport {
     pub lost: u64,
     /// How many messages were taken in.
     pub delivered: u64,
-    /// How many calls the node refused, otherwise than for want of memory.
+    /// How many calls the node refused, otherwise than as out of memory.
     pub refused: u64,
     /// The receipts of the accepted calls, in the order of the calls.
     pub receipts: Vec<Receipt>,
@@ -83,7 +83,7 @@ impl GossipReport {
         self.receipts.push_reserved(receipt);
     }
 
-    /// Counts a refusal; the only error is want of memory, which isn't counted.
+    /// Counts a refusal; the only error is out of memory, which isn't counted.
     pub(crate) fn refuse(&mut self, fault: NodeFault) -> Result<(), AllocError>
         requires { self.old.refused + 1 < 2 ^ 64 }
         ensures receipts { self.new.receipts.items ≡ self.old.receipts.items }

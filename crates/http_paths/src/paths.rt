@@ -19,7 +19,7 @@ pub struct Routes {
 }
 
 impl Routes {
-    /// The routes. The only error is want of memory: each can be read, and none stands in the way of
+    /// The routes. The only error is out of memory: each can be read, and none stands in the way of
     /// another.
     pub fn new(alloc: Global) -> Result<Routes, AllocError> {
         let router = filled(alloc)?;
@@ -55,7 +55,8 @@ impl Routes {
     }
 }
 
-// Adds a route that can be read and that stands in the way of none. The only error is want of memory.
+// Adds a route that can be read and that stands in the way of none. The only error is out of
+// memory.
 fn add(router: &mut Router<Place>, route: &str, place: Place) -> Result<(), AllocError>
     requires { IsFree (parse_route route.now) router.old }
     ensures { OnOk result (router.new ≡ with_route (parse_route route.now) place router.old) }

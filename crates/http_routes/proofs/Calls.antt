@@ -72,7 +72,7 @@ done_by k new ask given (Err f) made refused kept told why = for_some (ask_value
     let same : ask_value_first n ask ≡ asked_of n a = asked_first_is n ask a is in
     inl (inr (record { fault = f; refused = subst (λ x. IsRefusalOf k x [] f) same refused; kept = kept; told = why })))
 
--- nothing was asked for want of memory
+-- nothing was asked, as memory was out
 pub unasked : (k new : Kept) (ask : Ask) (given : ReplyValue) → new ≡ k → given ≡ no_memory → IfSome (ask_value ask) (λ a. Answers k (call a) new given)
 unasked k new ask given kept told = for_some (ask_value ask) _ (λ a is. inr (kept, told))
 

@@ -42,7 +42,7 @@ fn call(core: &mut NodeCore, alloc: Global, ask: &Ask) -> HttpReply
 
 /// Answers a request at a node: what it wants is done, or refused without a change, and the reply
 /// says which. Room for the reply is made before the node is called, so that an accepted call is
-/// always answered as such, and never by want of memory.
+/// always answered as such, and never as out of memory.
 pub fn answer(
     core: &mut NodeCore,
     alloc: Global,

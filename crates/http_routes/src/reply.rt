@@ -60,7 +60,7 @@ impl HttpReply {
 }
 
 /// Room for the reply to a call, which is made before the call: so an accepted call is never
-/// answered by want of memory.
+/// answered as out of memory.
 #[derive(Drop)]
 pub struct ReplyRoom {
     text: String,
@@ -69,7 +69,7 @@ pub struct ReplyRoom {
 }
 
 impl ReplyRoom {
-    /// Room for a reply. The only error is want of memory.
+    /// Room for a reply. The only error is out of memory.
     pub fn new(alloc: Global) -> Result<ReplyRoom, AllocError> {
         Ok(ReplyRoom {
             text: String::with_capacity(alloc, ROOM)?,

@@ -37,6 +37,6 @@ refused_by config ask given f refused told = for_some (ask_value ask) _ (λ a is
     let same : ask_value_first n ask ≡ asked_of n a = asked_first_is n ask a is in
     inl (inr (record { fault = f; refused = subst (λ x. registry.IsRefused config x f) same refused; told = told })))
 
--- nothing was asked for want of memory
+-- nothing was asked, as memory was out
 pub unasked : (config : Config) (ask : Ask) (given : ReplyValue) → given ≡ no_memory → IfSome (ask_value ask) (λ a. IsServed config (call a) given)
 unasked config ask given told = for_some (ask_value ask) _ (λ a is. inr told)

@@ -43,7 +43,7 @@ pub struct Desk<L: Label> {
 }
 
 impl<L: Label> Desk<L> {
-    /// The only error is want of memory.
+    /// The only error is out of memory.
     pub fn new(
         alloc: Global,
         registry: &Arc<Registry<L>>,

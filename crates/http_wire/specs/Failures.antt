@@ -3,6 +3,6 @@ use Rattle.std.specs.Prelude.{◌≡◌, ◌⊎◌}
 use Rattle.gossip.specs.declared.wire.WireError.{WireError}
 use Rattle.gossip.specs.declared.wire.WireError.TheVariants.{Failed, OutOfMemory}
 
--- want of memory by its name, or a call that failed otherwise
+-- out of memory by its name, or a call that failed otherwise
 abbrev pub IsFailure : WireError → Type 0
 IsFailure e = (e ≡ Failed) ⊎ (e ≡ OutOfMemory)

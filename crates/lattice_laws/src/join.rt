@@ -19,7 +19,7 @@ pub trait Join: Drop + Sized {
     /// Means the least value.
     ghost bottom: { Self };
 
-    /// The least value above both. The only error is want of memory.
+    /// The least value above both. The only error is out of memory.
     fn joined(&self, alloc: Global, other: &Self) -> Result<Self, AllocError>
         ensures { IfOk result (IsJoin admitted order self.now other.now) };
 
@@ -34,7 +34,7 @@ pub trait Join: Drop + Sized {
         ensures value { IsTrue result ↔ order self.now bottom }
         ensures admitted_self { admitted self.now };
 
-    /// A value of its own that means the same. The only error is want of memory.
+    /// A value of its own that means the same. The only error is out of memory.
     fn copied(&self, alloc: Global) -> Result<Self, AllocError>
         ensures { IfOk result (IsCopy admitted order self.now) };
 
@@ -54,7 +54,7 @@ pub trait Join: Drop + Sized {
 
 /// Keys of maps and of values that are held under them.
 pub trait Held: Ord + Drop {
-    /// An equal key of its own. The only error is want of memory.
+    /// An equal key of its own. The only error is out of memory.
     fn copied(&self, alloc: Global) -> Result<Self, AllocError>
         ensures { IfOk result (λ copy. Self.cmp copy self.now ≡ Equal) };
 }

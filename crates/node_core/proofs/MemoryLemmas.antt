@@ -1,4 +1,4 @@
--- What a want of memory says of the bytes that were read.
+-- What out of memory says of the bytes that were read.
 use Rattle.std.proofs.Common.{◌≡◌, ◌≢◌, ℕ, List, length, Bool, true, false, cond, Result, Ok, Err, IsOk, IfErr, ◌∷◌, [], rules}
 use Rattle.std.specs.Prelude.{nat_le, nat_lt, not, ◌==◌}
 use Rattle.std.specs.Int.{w64, byte_len}
@@ -10,7 +10,7 @@ use Rattle.delta_exchange.specs.Reading.{wants, offset, bytes_at, number_at, byt
 use Rattle.node_core.specs.declared.fault.NodeFault.TheVariants as faults
 use Rattle.node_core.specs.Refusals.{wire_refusal}
 
--- what was read is no want of memory
+-- what was read isn't out of memory
 abbrev NoWant : {A : Type 0} → Result A WireFault → Type 0
 NoWant (Ok x) = Unit {0}
 NoWant (Err fault) = wire_refusal fault ≢ faults.OutOfMemory

@@ -88,7 +88,7 @@ ok_first_of_three A Q R (Err f) h = tt
 some_is : (a b : NodeFault) → Some a ≡ Some b → a ≡ b
 some_is a b h = cc
 
--- no fault of a message is a full trace, too many names or want of memory
+-- no fault of a message is a full trace, too many names or out of memory
 OfMessage : Option NodeFault → Type 0
 OfMessage None = Unit {0}
 OfMessage (Some fault) = delivery_refused_with fault ≡ faults.BadWords 0

@@ -167,7 +167,7 @@ abbrev pub bad_message : Result Message WireFault → Option NodeFault
 bad_message (Ok message) = None
 bad_message (Err fault) = Some (faults.BadMessage fault)
 
--- want of memory is want of memory, wherever it was met
+-- out of memory is out of memory, wherever it was met
 abbrev pub wire_refusal : WireFault → NodeFault
 wire_refusal wires.OutOfMemory = faults.OutOfMemory
 wire_refusal fault = faults.BadMessage fault

@@ -61,7 +61,7 @@ abbrev pub Accepts : Kept → Kept → Asked → List ℕ → Answered → Type 
 Accepts k new ask words answer =
     (refusal k ask words ≡ None) × (reply_to k ask words ≡ answer) × (new ≡ after_call k ask words)
 
--- an ask is refused so: by its first refusal, or for want of memory
+-- an ask is refused so: by its first refusal, or as out of memory
 abbrev pub IsRefusalOf : Kept → Asked → List ℕ → NodeFault → Type 0
 IsRefusalOf k ask words fault = (fault ≡ OutOfMemory) ⊎ (refusal k ask words ≡ Some fault)
 

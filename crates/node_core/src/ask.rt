@@ -50,7 +50,7 @@ pub enum Ask {
 }
 
 impl Ask {
-    /// A value of its own that asks the same. The only error is want of memory.
+    /// A value of its own that asks the same. The only error is out of memory.
     pub fn copied(&self, alloc: Global) -> Result<Ask, AllocError>
         ensures same { IfOk result (λ copy. (nodes : ℕ) (reply : Reply)
             → ask_value nodes copy reply ≡ ask_value nodes self.now reply) }

@@ -32,9 +32,9 @@ impl fmt::Display for TextFault {
 impl Error for TextFault {}
 
 /// Why a call is refused. Where several refusals apply, the first of them in this order is the
-/// answer, but that want of memory may stand in the place of any other, and that
-/// `TooManyPoints` of a delivery comes behind all else that refuses its message. After a refusal
-/// the node is as it was.
+/// answer, but that out of memory may stand in the place of any other, and that `TooManyPoints` of
+/// a delivery comes behind all else that refuses its message. After a refusal the node is as it
+/// was.
 ///
 /// `Display` shows the number, the variant's name and each field as `field=value`, or the text of
 /// the fault that it holds.
@@ -64,7 +64,7 @@ pub enum NodeFault {
     TooFewRights { have: u64 },
     /// The total would be above 2^64 - 1.
     CellFull,
-    /// A pass of this point needs another number of words.
+    /// A pass of this point needs another number of random draws.
     BadWords { need: u8 },
     /// The bytes are no message.
     BadMessage(WireFault),

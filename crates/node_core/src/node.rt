@@ -82,7 +82,7 @@ impl NodeCore {
         self.config
     }
 
-    /// How many words a pass of a point takes, 0 where it isn't set.
+    /// How many random draws a pass of a point takes, 0 where it isn't set.
     pub fn words_needed(&self, name: &Name) -> u8
         ensures { result ≡ words_for (state_known self.now) name.now }
     {

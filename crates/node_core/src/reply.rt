@@ -19,7 +19,7 @@ pub enum PassReply {
 }
 
 impl PassReply {
-    /// A value of its own that says the same. The only error is want of memory.
+    /// A value of its own that says the same. The only error is out of memory.
     pub fn copied(&self, alloc: Global) -> Result<PassReply, AllocError>
         ensures { IfOk result (λ copy. passed copy ≡ passed self.now) }
     {

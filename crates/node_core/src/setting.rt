@@ -29,7 +29,7 @@ pub(crate) fn setting_at<'a>(state: &'a State, name: &Name) -> Option<(&'a Key, 
     }
 }
 
-/// How many words a pass of a point takes.
+/// How many random draws a pass of a point takes.
 pub(crate) fn words_needed(state: &State, name: &Name) -> u8
     ensures { result ≡ words_for (state_in state.now) name.now }
 {

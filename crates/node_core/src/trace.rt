@@ -3,7 +3,7 @@
 use crate::ask::Ask;
 use crate::reply::Reply;
 
-/// An accepted call: what was asked, the words that a pass was given, and the answer.
+/// An accepted call: what was asked, the random draws that a pass was given, and the answer.
 #[derive(Debug, Drop)]
 pub struct Entry {
     pub ask: Ask,

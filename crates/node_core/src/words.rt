@@ -1,4 +1,4 @@
-//! The random words of passes.
+//! The random draws of passes.
 
 ghost use Rattle.std.specs.Prelude.{◌≡◌, ◌⊎◌, vec_len, Some, IfOk, IfErr, OnOk, OnErr};
 ghost use Rattle.node_core.specs.Refusals.{bad_words};
@@ -6,18 +6,20 @@ ghost use Rattle.node_core.specs.Refusals.{bad_words};
 use crate::fault::NodeFault;
 use std::alloc::Global;
 
-/// A source of random words, from which a pass draws as many as its point needs.
+/// A source of random draws, from which a pass draws as many as its point needs.
 pub trait WordSource {
     ghost use Rattle.std.specs.Prelude.{ℕ, List};
 
-    // Whether it has the words of any pass; the next words, so many; and the source after them.
+    // Whether it has the random draws of any pass; the next random draws, so many; and the source
+    // after them.
     ghost can_draw: { Self → Type 0 };
 
     ghost next_words: { Self → ℕ → List ℕ };
 
     ghost after_words: { Self → ℕ → Self };
 
-    /// The next words, so many. Where they aren't so many that is the refusal, and nothing is drawn.
+    /// The next random draws, so many. Where they aren't so many that is the refusal, and nothing
+    /// is drawn.
     fn draw(&mut self, alloc: Global, count: u8) -> Result<Vec<u32>, NodeFault>
         requires { can_draw self.old }
         ensures words { IfOk result (λ words. words.items ≡ next_words self.old count) }

@@ -32,7 +32,7 @@ pub is_since : (c : Cell) (calls : ℕ) (r : Result Receipt NodeFault) → IfOk 
 is_since c calls (Ok x) is since = let index : x.index ≡ length c.node.trace = ap (λ (y : Receipt). y.index) is in omega arith
 is_since c calls (Err f) is since = tt
 
--- want of memory before the lock is taken: any lawful cell may answer that, as a new one
+-- out of memory before the lock is taken: any lawful cell may answer that, as a new one
 pub memory_refused : {T : Type 0} (config : Config) (ask : Asked) (r : Result T NodeFault) → IsErrAnd r (λ fault. fault ≡ OutOfMemory) → IfErr r (IsRefused config ask)
 memory_refused config ask r h =
     let e = err_from_is_err_and r h in

@@ -1,4 +1,4 @@
-//! A node with the generator of its words.
+//! A node with the generator of its random draws.
 
 ghost use Rattle.std.specs.Prelude.{◌≡◌, map, IfOk, IfErr, OnErr, OnOk, IsTrue, false};
 ghost use Rattle.node_core.specs.Asks.{ask_value_first, call};
@@ -12,9 +12,9 @@ use node_core::{Ask, Config, Entry, NodeCore, NodeFault, Trace};
 use std::alloc::Global;
 use std::marker::Model;
 
-/// A node with the generator of the words that its passes are given: ChaCha8 of a seed, on the
-/// stream of the node's number. Contracts see the node, the generator's key, and the place of its
-/// next word, counted from 0.
+/// A node with the generator of the random draws that its passes are given: ChaCha8 of a seed, on
+/// the stream of the node's number. Contracts see the node, the generator's key, and the place of
+/// its next random draw, counted from 0.
 #[derive(Drop)]
 pub struct NodeCell {
     core: NodeCore,
@@ -43,7 +43,8 @@ impl NodeCell {
         Ok(NodeCell { core, generator })
     }
 
-    /// The node. Its trace is legal, and its passes were given the words of the stream in order.
+    /// The node. Its trace is legal, and its passes were given the random draws of the stream in
+    /// order.
     pub fn core(&self) -> &NodeCore
         ensures core { result.now ≡ self.now.node }
         ensures lawful { IsLawful self.now }
@@ -52,15 +53,16 @@ impl NodeCell {
         &self.core
     }
 
-    /// The place of the next word.
+    /// The place of the next random draw.
     pub fn place(&self) -> u128
         ensures { result ≡ self.now.place }
     {
         self.generator.place()
     }
 
-    /// Makes a call, a pass with the next words of the stream, as many as its point needs, and
-    /// answers a copy of the entry that the trace has for it. A refused call draws no word.
+    /// Makes a call, a pass with the next random draws of the stream, as many as its point needs,
+    /// and answers a copy of the entry that the trace has for it. A refused call makes no random
+    /// draw.
     pub fn enter(&mut self, alloc: Global, ask: &Ask) -> Result<Entry, NodeFault>
         ensures asked { IfOk result (IsEntryFor self.old.node.config.nodes ask.now) }
         ensures ok { IfOk result (Enters self.old self.new) }

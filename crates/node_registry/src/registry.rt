@@ -172,7 +172,7 @@ impl<L: Label> Registry<L> {
         self.enter_owned(rt, alloc, seat, ask)
     }
 
-    /// Passes a point, with the next words of the node's stream, as many as the point needs.
+    /// Passes a point, with the next random draws of the node's stream, as many as the point needs.
     pub fn pass<R: Wait>(
         &self,
         rt: &R,
@@ -286,7 +286,7 @@ impl<L: Label> Registry<L> {
     }
 
     /// Lends the node under the lock, and answers what is answered there. The node is the label's,
-    /// its trace is legal, and its passes were given the words of the stream in order.
+    /// its trace is legal, and its passes were given the random draws of the stream in order.
     pub fn with<R: Wait, T, F: FnOnce(&NodeCore) -> T>(&self, rt: &R, f: F) -> T
         requires { F.IsAlwaysCallable f }
         ensures { (c : Cell) × IsLawfulAt L.config c × FnOnceReturnsAt F.FnOnce f c.node result }

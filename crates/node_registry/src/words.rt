@@ -1,4 +1,4 @@
-//! The generator of a node's words, and passes with them.
+//! The generator of a node's random draws, and passes with them.
 
 ghost use Rattle.std.specs.Prelude.{◌≡◌, ◌+◌, ◌<◌, ◌^◌, ◌%◌, [], vec_len, IfOk, IfErr, OnErr, OnOk, false};
 ghost use Rattle.rand_chacha.specs.ChaCha.{ChaCha, key_of};
@@ -16,8 +16,8 @@ use rand_core::utils::NextWord;
 use std::alloc::{AllocError, Global};
 use std::marker::Model;
 
-/// The generator of a node's words: ChaCha8. Contracts see its key, its stream, and the place of its
-/// next word, counted from 0.
+/// The generator of a node's random draws: ChaCha8. Contracts see its key, its stream, and the
+/// place of its next random draw, counted from 0.
 #[derive(Drop)]
 pub(crate) struct Generator {
     stream: ChaCha8Rng,
@@ -39,7 +39,7 @@ impl Generator {
         Generator { stream: words }
     }
 
-    // The place of the next word.
+    // The place of the next random draw.
     pub(crate) fn place(&self) -> u128
         ensures place { result ≡ self.now.word_pos }
         ensures bound { result < 2 ^ 68 }
@@ -70,7 +70,7 @@ impl WordSource for Generator {
     }
 }
 
-// The next words of the generator, so many.
+// The next random draws of the generator, so many.
 fn draw(alloc: Global, generator: &mut ChaCha8Rng, count: u8) -> Result<Vec<u32>, AllocError>
     requires { generator.old.word_pos + count < 2 ^ 68 }
     ensures words { IfOk result (λ words. words.items ≡ words_next generator.old count) }
@@ -85,8 +85,8 @@ fn draw(alloc: Global, generator: &mut ChaCha8Rng, count: u8) -> Result<Vec<u32>
     Ok(words)
 }
 
-// Passes a point with the generator's next words, as many as it needs, and answers these beside the
-// reply. The words of a refused pass are put back.
+// Passes a point with the generator's next random draws, as many as it needs, and answers these
+// beside the reply. The random draws of a refused pass are put back.
 fn pass(
     core: &mut NodeCore,
     generator: &mut Generator,
@@ -113,7 +113,7 @@ fn pass(
     passed
 }
 
-// Makes a call that is no pass, which takes no words.
+// Makes a call that is no pass, which takes no random draws.
 fn call(core: &mut NodeCore, alloc: Global, ask: &Ask) -> Result<(Vec<u32>, Reply), NodeFault>
     requires { is_pass ask.now ≡ false }
     ensures ok { IfOk result (λ r. Accepts core.old core.new
@@ -132,8 +132,8 @@ fn call(core: &mut NodeCore, alloc: Global, ask: &Ask) -> Result<(Vec<u32>, Repl
     Ok((words, reply))
 }
 
-/// Makes a call with the generator's next words, as many as it needs, and answers these beside the
-/// reply.
+/// Makes a call with the generator's next random draws, as many as it needs, and answers these
+/// beside the reply.
 pub(crate) fn call_with_words(
     core: &mut NodeCore,
     generator: &mut Generator,

@@ -14,8 +14,8 @@ abbrev pub ◌>>=◌ : {F A B : Type 0} → Result A F → (A → Result B F) �
 (Ok x) >>= f = f x
 (Err fault) >>= f = Err fault
 
--- What a function returned, against what a definition reads. A definition knows no want of memory:
--- a function that met it says nothing of what is read. `is_want_of_memory` tells such faults.
+-- What a function returned, against what a definition reads. A definition knows no out of memory: a function that met
+-- it says nothing of what is read. `is_want_of_memory` tells such faults.
 module _ {F : Type 0} (is_want_of_memory : F → Bool) where
   -- what is read is this fault, unless memory was refused
   abbrev pub FailsUnless : {Y : Type 0} → F → Result Y F → Type 0

@@ -32,7 +32,7 @@ pub trait Replica: Join {
         ensures { state result ≡ fold [] };
 
     /// Learns an operation: where the state was that of some set, it is then that of the set with
-    /// the operation. On want of memory the state is as it was.
+    /// the operation. Where memory is out, the state is as it was.
     fn add(&mut self, alloc: Global, op: &Op) -> Result<(), AllocError>
         requires formed { IsWellFormed (operation op.now) }
         requires other { ShiftsToAnother op.now }
@@ -41,8 +41,8 @@ pub trait Replica: Join {
 
     /// Learns an operation of a point without a copy of its key being made for it: its setting or,
     /// with a count, what is counted of the point, which of a hit is under no key. Where the state
-    /// was that of some set, it is then that of the set with the operation. On want of memory the
-    /// state is as it was.
+    /// was that of some set, it is then that of the set with the operation. Where memory is out,
+    /// the state is as it was.
     fn learn(
         &mut self,
         alloc: Global,
@@ -55,8 +55,8 @@ pub trait Replica: Join {
             (operation_told name.now (key_value key.now) count)) }
         ensures err { OnErr result (state self.new ≡ state self.old) };
 
-    /// Learns what is counted of a point that has a key, which isn't compared with any: a hit, or else
-    /// what is counted under that key. On want of memory the state is as it was.
+    /// Learns what is counted of a point that has a key, which isn't compared with any: a hit, or
+    /// else what is counted under that key. Where memory is out, the state is as it was.
     fn learn_count(&mut self, alloc: Global, name: &Name, count: Count) -> Result<(), AllocError>
         requires { MayLearnCount (state self.old) name.now count }
         ensures ok { OnOk result (LearnsCount (state self.old) (state self.new) name.now count) }
@@ -112,7 +112,7 @@ pub trait Replica: Join {
         ensures err { OnErr result (state self.new ≡ state self.old) };
 
     /// Learns all that another replica knows: where both states were those of some sets, this one
-    /// is then that of both sets together. On want of memory it is as it was.
+    /// is then that of both sets together. Where memory is out, it is as it was.
     fn merge(&mut self, alloc: Global, other: Self) -> Result<(), AllocError>
         ensures ok { OnOk result (IsUnion (state self.old) (state other) (state self.new)) }
         ensures err { OnErr result (state self.new ≡ state self.old) };

@@ -79,7 +79,7 @@ fn words_in(alloc: Global, text: &str) -> Result<Option<Vec<u32>>, AllocError>
     Ok(Some(words))
 }
 
-// A pass of this name, which has no space, where the words could be read.
+// A pass of this name, which has no space, where the random draws could be read.
 fn pass_of(node: u8, name: &str, words: Option<Vec<u32>>) -> Option<Command<'_>>
     requires { has_space name.now ≡ false }
     ensures { option_map command_value result ≡

@@ -61,7 +61,7 @@ pub fn byte(text: &str) -> Option<u8>
     Some(value as u8)
 }
 
-/// A trace's limit, or a random word.
+/// A trace's limit, or a random draw.
 pub fn word(text: &str) -> Option<u32>
     ensures { result ≡ word_of text.now }
 {

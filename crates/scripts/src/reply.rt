@@ -48,7 +48,7 @@ pub fn print_reply(out: &mut String, reply: &Reply, messages: usize) -> Result<(
     }
 }
 
-/// Why something is refused; want of memory is no reply.
+/// Why something is refused; out of memory is no reply.
 fn refusal_of(fault: WorldFault) -> Result<WorldFault, AllocError>
     ensures reply { IfOk result (λ refusal. (refusal ≡ fault) × (fault ≢ Refused OutOfMemory)) }
     ensures any { fault ≢ Refused OutOfMemory → IsOk result }

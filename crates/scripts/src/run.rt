@@ -15,7 +15,7 @@ use std::io::{Read, Write};
 
 /// Runs the script that a reader gives, and writes what it prints.
 ///
-/// The whole text is known before the first byte is written, so that want of memory writes none.
+/// The whole text is known before the first byte is written, so that out of memory writes none.
 pub fn run_script<R: Read, W: Write>(
     alloc: Global,
     reader: &mut Watched<R>,
@@ -56,7 +56,7 @@ pub fn run_script<R: Read, W: Write>(
 /// before what a line prints stands the line itself, behind `> `. Lines that are skipped are left
 /// out.
 ///
-/// The whole text is known before the first byte is written, so that want of memory writes none.
+/// The whole text is known before the first byte is written, so that out of memory writes none.
 pub fn run_script_echoing<R: Read, W: Write>(
     alloc: Global,
     reader: &mut Watched<R>,

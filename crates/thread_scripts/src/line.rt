@@ -16,7 +16,7 @@ use std::alloc::{AllocError, Global};
 pub enum Line<'a> {
     /// There are so many nodes, each of which accepts so many calls.
     Nodes { count: u8, trace_cap: u32 },
-    /// The seed of the words that passes are given.
+    /// The seed of the random draws that passes are given.
     Seed([u8; 32]),
     /// A node does this before the workers start.
     Start { node: u8, start: Start<'a> },

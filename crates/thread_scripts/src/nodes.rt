@@ -105,7 +105,7 @@ fn run_registry<L: Label + Send + Sync, R: Threads + Wait + Sync>(
 {
     let NodeJob { config, gossip } = job;
     let started = Registry::<L>::start(rt, alloc, blank, config, plan.seed, seats);
-    // A good configuration is refused for want of memory alone.
+    // A good configuration is refused as out of memory alone.
     let Ok((registry, seats)) = started else {
         return Err(AllocError);
     };

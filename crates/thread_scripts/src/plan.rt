@@ -37,9 +37,9 @@ pub struct StartLine<'a> {
     pub start: Start<'a>,
 }
 
-/// The plan of a run: its nodes, the seed of the words that their passes are given, what is done
-/// before the workers start, how many rounds of gossip the nodes do beside them, if any, and the
-/// workers' blocks, of which a node has 250 at most.
+/// The plan of a run: its nodes, the seed of the random draws that their passes are given, what is
+/// done before the workers start, how many rounds of gossip the nodes do beside them, if any, and
+/// the workers' blocks, of which a node has 250 at most.
 #[derive(Drop)]
 pub struct ThreadPlan<'a> {
     pub size: Size,

@@ -5,8 +5,8 @@ ghost use Rattle.std.specs.Prelude.{◌≡◌, ◌+◌, length, OnOk, OnErr};
 use node_core::{NodeCore, NodeFault, PassReply};
 use std::alloc::Global;
 
-/// Passes a point whose terms draw no words. An accepted pass is one more entry of the trace, and
-/// so counts towards the node's cap. A refused one leaves the node as it was.
+/// Passes a point whose terms take no random draws. An accepted pass is one more entry of the
+/// trace, and so counts towards the node's cap. A refused one leaves the node as it was.
 pub fn pass_and_count(
     alloc: Global,
     node: &mut NodeCore,

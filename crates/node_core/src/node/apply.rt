@@ -13,8 +13,8 @@ use crate::reply::Reply;
 use crate::trace::Entry;
 use std::alloc::Global;
 
-// Why an ask that takes no words is refused with some: for what it is refused without them, or else
-// for the words.
+// Why an ask that takes no random draws is refused with some: for what it is refused without them,
+// or else for the random draws.
 fn with_words<T: Drop>(checked: Result<T, NodeFault>) -> NodeFault
     ensures ok { OnOk checked (result ≡ NodeFault.BadWords 0) }
     ensures err { IfErr checked (λ f. result ≡ f) }
@@ -25,7 +25,7 @@ fn with_words<T: Drop>(checked: Result<T, NodeFault>) -> NodeFault
     }
 }
 
-// The refusal of a delivery with words, which are looked at before its message.
+// The refusal of a delivery with random draws, which are looked at before its message.
 fn delivery_with_words(checked: Result<Delivery, NodeFault>) -> NodeFault
     ensures ok { OnOk checked (result ≡ NodeFault.BadWords 0) }
     ensures err { IfErr checked (λ f. result ≡ delivery_refused_with f) }
@@ -39,8 +39,8 @@ fn delivery_with_words(checked: Result<Delivery, NodeFault>) -> NodeFault
 }
 
 impl NodeCore {
-    /// Makes a call that is given as a value, and answers a copy of the entry that the trace has for
-    /// it. The words are those of a pass; with any other ask they are refused.
+    /// Makes a call that is given as a value, and answers a copy of the entry that the trace has
+    /// for it. The random draws are those of a pass; with any other ask they are refused.
     pub fn apply(&mut self, alloc: Global, ask: &Ask, words: &[u32]) -> Result<Entry, NodeFault>
         ensures asked { IfOk result (λ e.
             (call_of self.old e).ask ≡ ask_value self.old.config.nodes ask.now e.reply) }
@@ -64,7 +64,7 @@ impl NodeCore {
         })
     }
 
-    // Makes the call, with words for a pass alone.
+    // Makes the call, with random draws for a pass alone.
     fn answer(&mut self, alloc: Global, ask: &Ask, words: &[u32]) -> Result<Reply, NodeFault>
         requires { is_pass ask.now ≡ false → words.now ≡ [] }
         ensures ok { IfOk result (λ r. Accepts self.old self.new
@@ -93,7 +93,7 @@ impl NodeCore {
         })
     }
 
-    // Why an ask is refused that is no pass and has words.
+    // Why an ask is refused that is no pass and has random draws.
     fn refuse_words(&self, alloc: Global, ask: &Ask) -> NodeFault
         requires { is_pass ask.now ≡ false }
         ensures { (w : ℕ) (ws : List ℕ)

@@ -34,7 +34,7 @@ use stamp_register::{Key, Stamp};
 use std::alloc::{AllocError, Global};
 
 impl NodeCore {
-    /// Passes a point, with a random word for each of its terms whose chance is below 100%.
+    /// Passes a point, with a random draw for each of its terms whose chance is below 100%.
     pub fn pass_with(
         &mut self,
         alloc: Global,
@@ -61,8 +61,8 @@ impl NodeCore {
         }
     }
 
-    /// Passes a point with the next words of a source, as many as it needs, and answers these beside
-    /// the reply. A pass that is refused may have drawn them.
+    /// Passes a point with the next random draws of a source, as many as it needs, and answers
+    /// these beside the reply. A pass that is refused may have drawn them.
     pub fn pass_drawing<S: WordSource>(
         &mut self,
         alloc: Global,
@@ -119,7 +119,8 @@ impl NodeCore {
         Ok(())
     }
 
-    // Passes a point whose name was read, with the next words of a source, and answers what is wanted.
+    // Passes a point whose name was read, with the next random draws of a source, and answers what
+    // is wanted.
     #[inline(always)]
     fn pass<S: WordSource>(
         &mut self,
@@ -161,7 +162,7 @@ impl NodeCore {
         Ok((copy, answer))
     }
 
-    // Counts a pass and puts it into the trace: its words, and what it comes to.
+    // Counts a pass and puts it into the trace: its random draws, and what it comes to.
     fn record(
         &mut self,
         alloc: Global,
@@ -205,7 +206,7 @@ struct Wanted {
     reply: bool,
 }
 
-/// The reply of a pass, and copies of the words and of it where they are wanted.
+/// The reply of a pass, and copies of the random draws and of it where they are wanted.
 #[derive(Drop)]
 struct Copies {
     words: Option<Vec<u32>>,
@@ -213,7 +214,7 @@ struct Copies {
     reply: PassReply,
 }
 
-/// A copy of the words where it is wanted.
+/// A copy of the random draws where it is wanted.
 fn copied_if(alloc: Global, words: &[u32], is_wanted: bool) -> Result<Option<Vec<u32>>, AllocError>
     ensures { IfOk result (λ copy. option_map (λ v. v.items) copy ≡ then_some is_wanted words.now) }
 {
@@ -224,8 +225,8 @@ fn copied_if(alloc: Global, words: &[u32], is_wanted: bool) -> Result<Option<Vec
     }
 }
 
-/// What a point is set to, with the term that a pass of it by node `me` triggers with the next words
-/// of a source, beside these; or why they are refused.
+/// What a point is set to, with the term that a pass of it by node `me` triggers with the next
+/// random draws of a source, beside these; or why they are refused.
 fn choice_at<'a, S: WordSource>(
     alloc: Global,
     state: &'a State,
@@ -298,7 +299,7 @@ struct Outcome<'a> {
 }
 
 impl Outcome<'_> {
-    /// The reply, with a task of its own. Only want of memory is an error.
+    /// The reply, with a task of its own. Only out of memory is an error.
     fn reply(self, alloc: Global) -> Result<PassReply, AllocError>
         ensures { IfOk result (λ r. passed r ≡ outcome_reply self.entry.stamp self.entry.term
             (option_map (λ task. task_value task.now) self.entry.task)) }
@@ -329,7 +330,7 @@ impl Outcome<'_> {
         }
     }
 
-    /// The reply, and what is wanted of it and of the words.
+    /// The reply, and what is wanted of it and of the random draws.
     fn copies(self, alloc: Global, words: &[u32], wanted: Wanted) -> Result<Copies, AllocError>
         ensures words { IfOk result (λ c. option_map (λ v. v.items) c.words
             ≡ then_some wanted.words words.now) }
@@ -371,8 +372,8 @@ fn count(
     Ok(())
 }
 
-/// What a pass of a point by node `me` comes to with the next words of a source, beside these; or why
-/// they are refused.
+/// What a pass of a point by node `me` comes to with the next random draws of a source, beside
+/// these; or why they are refused.
 fn outcome_of<'a, S: WordSource>(
     alloc: Global,
     state: &'a State,

@@ -178,8 +178,8 @@ fn read_actions(alloc: Global, text: &str) -> Result<Actions, NodeFault>
     }
 }
 
-// Why a setting is refused whose name is refused so. What refuses the text stands before a want of
-// memory for the name.
+// Why a setting is refused whose name is refused so. What refuses the text stands before out of
+// memory at the name.
 fn setting_refusal(alloc: Global, fault: NodeFault, text: &str) -> NodeFault
     ensures name { fault ≢ NodeFault.OutOfMemory → result ≡ fault }
     ensures text { fault ≡ NodeFault.OutOfMemory

@@ -2,7 +2,7 @@
 
 use super::*;
 
-// A word for a term whose chance is 20%, which comes then.
+// A random draw for a term whose chance is 20%, which comes then.
 const TRIGGERS: u32 = 858_993_459;
 
 // What the events are answered, each as it begins in print: of a message that is enough.

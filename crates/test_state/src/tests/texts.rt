@@ -44,7 +44,7 @@ fn count_points(alloc: Global, text: &str) -> Result<String, SettingFault> {
     Ok(format!(in alloc; "{points}")?)
 }
 
-/// What was read, or the fault where it isn't want of memory.
+/// What was read, or the fault where it isn't out of memory.
 fn outcome<E: Display + PartialEq + Drop>(
     alloc: Global,
     read: Result<String, E>,
@@ -320,7 +320,7 @@ fn term_text(alloc: Global, term: &Term) -> Result<String, AllocError> {
     format!(in alloc; "{ppm} {count:?} {copy} {task} {task:?};")
 }
 
-/// How many words a choice needs, and each term.
+/// How many random draws a choice needs, and each term.
 fn terms_text(alloc: Global, actions: &Actions) -> Result<String, AllocError> {
     let words = actions.words_needed();
     let mut text = format!(in alloc; "{words}: ")?;
@@ -438,7 +438,7 @@ fn orders(rt: HostRuntime) -> Result<(), Fail> {
     Ok(())
 }
 
-/// A word that fails at each chance below 100%.
+/// A random draw that fails at each chance below 100%.
 const HIGHEST: u32 = 4294967295;
 
 /// Which terms a node has a right to.
@@ -473,7 +473,8 @@ fn choice(alloc: Global, text: &str, words: &[u32], rights: Rights) -> Result<Op
 
 const THREE_TERMS: &str = "50%off->1*yield->50%panic";
 
-/// Chances at their edges, one word for each uncertain term, and counted terms that need a right.
+/// Chances at their edges, one random draw for each uncertain term, and counted terms that need a
+/// right.
 const CHOICES: &[(&str, &[u32], Rights, Option<u8>)] = &[
     ("20%off", &[858993459], Rights::All, Some(0)),
     ("20%off", &[858993460], Rights::All, None),

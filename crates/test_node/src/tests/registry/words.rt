@@ -5,9 +5,9 @@ ghost use Rattle.std.specs.Prelude.{◌≡◌};
 
 use super::*;
 
-// The first words of ChaCha8 with the key 00 01 02 .. 1f on stream 1. They are those of a program
-// written from the cipher's definition, whose first block for the key of zeros is the published
-// one: 3e00ef2f 895f40d6 7f5bb8e8 1f09a5a1 ..
+// The first random draws of ChaCha8 with the key 00 01 02 .. 1f on stream 1. They are those of a
+// program written from the cipher's definition, whose first block for the key of zeros is the
+// published one: 3e00ef2f 895f40d6 7f5bb8e8 1f09a5a1 ..
 const FIRST_WORDS: [u32; 4] = [4011706191, 3171865337, 2462398529, 2436282966];
 
 const SEED: [u8; 32] = [
@@ -48,7 +48,7 @@ fn entered<L: Label, R: Wait>(
     }
 }
 
-/// Ends the test where four passes don't draw the first words of the stream.
+/// Ends the test where four passes don't draw the first random draws of the stream.
 fn draws<L: Label, R: Abort + Wait>(
     rt: &R,
     alloc: Global,
@@ -64,7 +64,7 @@ fn draws<L: Label, R: Abort + Wait>(
     Ok(())
 }
 
-// Whether a trace is a setting, and a pass for each of the stream's first words.
+// Whether a trace is a setting, and a pass for each of the stream's first random draws.
 fn has_first_words(trace: &[Entry]) -> bool {
     let mut passes = trace.iter().skip(1).zip(FIRST_WORDS.iter());
     trace.len() == 5 && passes.all(|(entry, word)| entry.words.as_slice() == [*word].as_slice())
