@@ -1,32 +1,28 @@
-//! Times and tries what the program doesn't reach by scripts: `bench/run.py` and
-//! `tools/refused-growths` run it. Each word of its command line is one command.
+//! Times what the program doesn't reach by scripts: `bench/run.py` runs it. Each word of its command
+//! line is one command.
 #![tactic(auto)]
 
 mod audits;
 mod baton;
 mod calls;
 mod figures;
-mod growths;
 mod maps;
 mod messages;
 mod passes;
 mod rounds;
 
 use figures::Figures;
-use scripts::{Watched, read_script};
 use std::process::ExitCode;
 use std::sync::Wait;
 use std::thread::Threads;
 use std::time::Clock;
 
-const USAGE: &str = "bench COMMAND.. < INPUT, where a COMMAND is one word of
+const USAGE: &str = "bench COMMAND.., where a COMMAND is one word of
 maps build|raise|join|take KEYS
 messages decode|encode plain|grants NAMES TIMES
 passes core|registry|threads|nodes uncounted|counted|chance PASSES drop|keep
 rounds NODES CHANGED ROUNDS, of 1 to 32 nodes, and of 256 points at most
-audits passes|forwards|backwards ENTRIES make|audit
-growths run, of events behind a line `run` of a script
-growths answer|reply_of METHOD PATH, of a request with the input as its body";
+audits passes|forwards|backwards ENTRIES make|audit";
 
 // What a command asks for.
 #[derive(Clone, Copy)]
@@ -69,11 +65,10 @@ fn figures_of<R: AllocGlobal + Clock + Threads + Wait + Sync>(
 fn obey<R: AllocGlobal + Clock + Eprint + Print + Threads + Wait + Sync>(
     rt: &R,
     command: &str,
-    input: &[u8],
 ) -> anyhow::Result<bool> {
     let words: Vec<&str> = command.split(' ').collect(rt.alloc())?;
     let Some(work) = work_of(&words) else {
-        return growths::obey(rt, &words, input);
+        return Ok(false);
     };
     let found = figures_of(rt, work)?;
     println!(rt;
@@ -86,10 +81,9 @@ fn obey<R: AllocGlobal + Clock + Eprint + Print + Threads + Wait + Sync>(
 
 fn main(rt: HostRuntime) -> anyhow::Result<ExitCode> {
     let commands: Vec<String> = std::env::args(&rt)?.skip(1).collect(rt.alloc())?;
-    let input = read_script(rt.alloc(), &mut Watched::new(rt.reader()))?;
     let mut is_done = !commands.is_empty();
     for command in &commands {
-        is_done = is_done && obey(&rt, command.as_str(), &input)?;
+        is_done = is_done && obey(&rt, command.as_str())?;
     }
     if is_done {
         return Ok(ExitCode::SUCCESS);
