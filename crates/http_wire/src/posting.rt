@@ -5,6 +5,7 @@ ghost use Rattle.http_wire.specs.Failures.{IsFailure};
 ghost use Rattle.std.specs.IoError.{error_kind};
 
 use bytes::Bytes;
+use futures::Future;
 use futures::future::join;
 use gossip::WireError;
 use http_body_util::Full;
@@ -51,6 +52,27 @@ fn request(alloc: Global, message: &[u8]) -> Result<Request<Full<Bytes>>, WireEr
     }
 }
 
+// What a future gives, which has until the deadline to end.
+fn output_of<R, F>(
+    rt: &R,
+    runtime: &mut LocalRuntime,
+    future: F,
+    deadline: Instant,
+) -> Result<F::Output, WireError>
+where
+    R: Wait + Clock + RandomSource + AllocGlobal,
+    F: Future + Drop,
+    F::Output: Drop,
+    requires { F.can_poll future }
+    ensures { IfErr result IsFailure }
+{
+    let timed = runtime.handle().time().timeout_at(deadline, future)?;
+    match runtime.block_on(rt, timed).map_err(failed)? {
+        Ok(output) => Ok(output),
+        Err(_elapsed) => Err(WireError::Failed),
+    }
+}
+
 // A connection to a port of this machine.
 fn connected<R>(
     rt: &R,
@@ -64,11 +86,7 @@ where
 {
     let address = SocketAddr::from(([127, 0, 0, 1], port));
     let connecting = TcpStream::connect(rt, address, runtime.handle().reactor());
-    let connecting = runtime.handle().time().timeout_at(deadline, connecting)?;
-    match runtime.block_on(rt, connecting).map_err(failed)? {
-        Ok(socket) => socket.map_err(failed),
-        Err(_elapsed) => Err(WireError::Failed),
-    }
+    output_of(rt, runtime, connecting, deadline)?.map_err(failed)
 }
 
 // Sends a request over a connection, and waits for the reply's status.
@@ -90,19 +108,10 @@ where
     };
     let reply = sender.send_request(request);
     drop(sender);
-    let both = runtime
-        .handle()
-        .time()
-        .timeout_at(deadline, join(reply, connection))?;
-    match runtime.block_on(rt, both).map_err(failed)? {
-        Ok(ended) => {
-            let (reply, _connection) = ended;
-            match reply {
-                Ok(reply) => Ok(reply.status()),
-                Err(_) => Err(WireError::Failed),
-            }
-        }
-        Err(_elapsed) => Err(WireError::Failed),
+    let (reply, _connection) = output_of(rt, runtime, join(reply, connection), deadline)?;
+    match reply {
+        Ok(reply) => Ok(reply.status()),
+        Err(_) => Err(WireError::Failed),
     }
 }
 
