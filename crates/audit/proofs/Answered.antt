@@ -1,7 +1,7 @@
 -- What a yes comes to.
 use Rattle.std.proofs.Common.{◌≡◌, ℕ, map, sym, ◌∙◌, ap, subst, IfOk, IfErr, Result, Ok, Err, Vec}
 use Rattle.std.specs.declared.alloc.Global.{Global}
-use Rattle.node_core.specs.Asks.{call}
+use Rattle.node_calls.specs.Asks.{call}
 use Rattle.cluster_model.specs.Laws.{EscrowHolds}
 use Rattle.cluster_model.proofs.Closed.{deltas_are_schedules}
 use Rattle.audit.specs.declared.auditing.AuditYes.{AuditYes}

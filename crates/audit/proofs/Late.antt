@@ -2,7 +2,7 @@
 use Rattle.std.proofs.Common.{◌≡◌, ◌≢◌, ℕ, ◌+◌, ◌<◌, ◌≤◌, List, length, slice_index, slice_set, slice_get, Some, sym, ◌∙◌, ap, arith, inl, inr, get_or-set_same, get_or-set_other}
 use Rattle.std.proofs.lemmas.Bool.Decides.{eqb_tells}
 use Rattle.std.proofs.lemmas.List.{length-set}
-use Rattle.node_core.specs.declared.receipt.Receipt.{Receipt}
+use Rattle.node_calls.specs.declared.receipt.Receipt.{Receipt}
 use Rattle.audit.specs.Receipts.{IsLate}
 
 -- before a place of the list, next has for each node the index above those so far

@@ -5,10 +5,10 @@ use Rattle.std.specs.Bool.{then_some}
 use Rattle.std.proofs.lemmas.Bool.Decides.{nat_tests}
 use Rattle.refusals.specs.Refusals.{first_fault}
 use Rattle.node_core.specs.declared.config.Config.{Config}
-use Rattle.node_core.specs.declared.fault.NodeFault.{NodeFault}
-use Rattle.node_core.specs.declared.fault.NodeFault.TheVariants as faults
-use Rattle.node_core.specs.Asks.{Asked, Call}
-use Rattle.node_core.specs.Asks as asks
+use Rattle.node_calls.specs.declared.fault.NodeFault.{NodeFault}
+use Rattle.node_calls.specs.declared.fault.NodeFault.TheVariants as faults
+use Rattle.node_calls.specs.Asks.{Asked, Call}
+use Rattle.node_calls.specs.Asks as asks
 use Rattle.node_core.specs.Nodes.{Node}
 use Rattle.node_core.specs.Steps.{after, reply}
 use Rattle.node_core.specs.Refusals.{refusal_at, is_full}

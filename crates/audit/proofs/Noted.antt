@@ -19,12 +19,12 @@ use Rattle.stamp_register.specs.Keys.{KeyValue, stamp_of, key_le, terms_set}
 use Rattle.replica_state.specs.Operations.{Operation, Set, count_of, count_under}
 use Rattle.replica_state.specs.States.{State, with_name}
 use Rattle.replica_state.specs.Folds.{fold, greater}
-use Rattle.node_core.specs.declared.ask.Ask.TheVariants as code
+use Rattle.node_calls.specs.declared.ask.Ask.TheVariants as code
 use Rattle.node_core.specs.declared.config.Config.{Config}
-use Rattle.node_core.specs.declared.fault.NodeFault.TheVariants as faults
-use Rattle.node_core.specs.declared.trace.Entry.{Entry}
-use Rattle.node_core.specs.Asks.{Asked, Call, ask_value}
-use Rattle.node_core.specs.Asks as asks
+use Rattle.node_calls.specs.declared.fault.NodeFault.TheVariants as faults
+use Rattle.node_calls.specs.declared.trace.Entry.{Entry}
+use Rattle.node_calls.specs.Asks.{Asked, Call, ask_value}
+use Rattle.node_calls.specs.Asks as asks
 use Rattle.node_core.specs.Nodes.{Node, start, state_shown}
 use Rattle.node_core.specs.Outcomes.{state_set}
 use Rattle.node_core.specs.Refusals.{refusal_at, no_entry, no_name, no_place, no_clock, bad_actions, grant_refusal, spare_words}

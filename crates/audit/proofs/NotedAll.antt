@@ -5,8 +5,8 @@ use Rattle.std.proofs.lemmas.List.Sums.{sum_by-cons}
 use Rattle.std.specs.Map.{lookup}
 use Rattle.stamp_register.specs.declared.key.Stamp.{Stamp}
 use Rattle.node_core.specs.declared.config.Config.{Config}
-use Rattle.node_core.specs.declared.trace.Entry.{Entry}
-use Rattle.node_core.specs.Asks.{Call, call}
+use Rattle.node_calls.specs.declared.trace.Entry.{Entry}
+use Rattle.node_calls.specs.Asks.{Call, call}
 use Rattle.node_core.specs.Nodes.{Node, start}
 use Rattle.node_core.specs.Traces.{Kept, node_of, call_of, replay_from}
 use Rattle.cluster_model.specs.Histories.{keys_by, acts}

@@ -6,23 +6,23 @@ use Rattle.std.proofs.lemmas.List.{reverse-reverse, map-append, length-map}
 use Rattle.refusals.specs.Refusals.{first_fault}
 use Rattle.counters.specs.Sums.{node_numbers}
 use Rattle.replica_state.specs.Operations.{IsIn}
-use Rattle.delta_exchange.specs.declared.fault.WireFault.{WireFault}
-use Rattle.node_core.specs.declared.ask.Ask.{Ask}
-use Rattle.node_core.specs.declared.ask.Ask.TheVariants as asked
+use Rattle.message_format.specs.declared.fault.WireFault.{WireFault}
+use Rattle.node_calls.specs.declared.ask.Ask.{Ask}
+use Rattle.node_calls.specs.declared.ask.Ask.TheVariants as asked
 use Rattle.node_core.specs.declared.config.Config.{Config}
-use Rattle.node_core.specs.declared.fault.NodeFault.{NodeFault}
-use Rattle.node_core.specs.declared.reply.Reply.{Reply}
-use Rattle.node_core.specs.declared.reply.Reply.TheVariants as replies
-use Rattle.node_core.specs.declared.trace.Entry.{Entry}
-use Rattle.node_core.specs.Asks.{Asked, Answered, Call, Message, call, ask_value, emit_asked, emit_of, message_read, reply_value}
-use Rattle.node_core.specs.Asks as asks
+use Rattle.node_calls.specs.declared.fault.NodeFault.{NodeFault}
+use Rattle.node_calls.specs.declared.reply.Reply.{Reply}
+use Rattle.node_calls.specs.declared.reply.Reply.TheVariants as replies
+use Rattle.node_calls.specs.declared.trace.Entry.{Entry}
+use Rattle.node_calls.specs.Asks.{Asked, Answered, Call, Message, call, ask_value, emit_asked, emit_of, message_read, reply_value}
+use Rattle.node_calls.specs.Asks as asks
 use Rattle.node_core.specs.Nodes.{Node, start}
 use Rattle.node_core.specs.Steps.{message_in}
 use Rattle.node_core.specs.Refusals.{refusal_at, no_entry, too_many_told, spare_words, faults_of_message}
 use Rattle.node_core.specs.Traces.{Kept, replay, SendsDelta, IsLegal}
 use Rattle.cluster_model.specs.Worlds.{Cluster, World, Event, cluster_of, config_of, accepted, world}
 use Rattle.cluster_model.specs.Schedules.{AllowsDelta, IsDeltaSchedule}
-use Rattle.delta_exchange.specs.Limits.{max_nodes}
+use Rattle.message_format.specs.Limits.{max_nodes}
 use Rattle.cluster_model.specs.Laws.{EscrowHolds}
 use Rattle.cluster_model.proofs.Closed.{deltas_are_schedules}
 use Rattle.cluster_model.proofs.Conserved.{conserved}

@@ -7,8 +7,8 @@ use Rattle.std.specs.Prelude.{option_map}
 use Rattle.audit.specs.Told.{Told, told}
 use Rattle.std.specs.BTreeSet.{contains}
 use Rattle.std.specs.declared.alloc.Global.{Global}
-use Rattle.node_core.specs.declared.receipt.Receipt.{Receipt}
-use Rattle.node_core.specs.declared.trace.Entry.{Entry}
+use Rattle.node_calls.specs.declared.receipt.Receipt.{Receipt}
+use Rattle.node_calls.specs.declared.trace.Entry.{Entry}
 use Rattle.audit.specs.declared.receipts.Seen.{Seen}
 use Rattle.audit.specs.Receipts.{times_seen, given_all, GivenOnce, GivenAll}
 use Rattle.audit.specs.Traces.{Traces, trace_of, entry_at}

@@ -9,8 +9,8 @@ use Rattle.stamp_register.specs.declared.key.Stamp.{Stamp}
 use Rattle.stamp_register.specs.Keys.{KeyValue, stamp_of}
 use Rattle.replica_state.specs.Operations.{Operation, Set, IsIn}
 use Rattle.replica_state.proofs.Sets.{IsIn-append_left, IsIn-append_right, IsIn-append_cases}
-use Rattle.node_core.specs.Asks.{Asked, Call, call}
-use Rattle.node_core.specs.Asks as asks
+use Rattle.node_calls.specs.Asks.{Asked, Call, call}
+use Rattle.node_calls.specs.Asks as asks
 use Rattle.node_core.specs.Nodes.{Node, start, state_shown}
 use Rattle.node_core.specs.Steps.{after, reply}
 use Rattle.node_core.specs.Traces.{replay_from}

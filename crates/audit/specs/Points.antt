@@ -4,8 +4,8 @@ use Rattle.actions.specs.Value.{TermValue}
 use Rattle.actions.specs.Names.{is_name}
 use Rattle.actions.specs.Reading.{reading}
 use Rattle.actions.specs.declared.fault.ActionFault.{ActionFault}
-use Rattle.node_core.specs.Asks.{Asked}
-use Rattle.node_core.specs.Asks as asks
+use Rattle.node_calls.specs.Asks.{Asked}
+use Rattle.node_calls.specs.Asks as asks
 use Rattle.node_core.specs.Steps.{points_in}
 
 abbrev pub Points : Type 0

@@ -1,6 +1,6 @@
 -- A node with one call more.
 use Rattle.std.specs.Prelude.{[], ◌∷◌, ◌++◌}
-use Rattle.node_core.specs.Asks.{Call}
+use Rattle.node_calls.specs.Asks.{Call}
 use Rattle.node_core.specs.Traces.{Kept, IsLegal}
 
 abbrev pub IsLegalKept : Kept → Type 0

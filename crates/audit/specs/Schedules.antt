@@ -1,7 +1,7 @@
 -- Schedules of the cluster, and which of them fit traces.
 use Rattle.std.specs.Prelude.{◌≡◌, ◌⊎◌, ℕ, ◌==◌, ◌<◌, ◌^◌, if◌then◌else◌, List, [], ◌∷◌, ◌++◌, map, Some}
-use Rattle.node_core.specs.declared.trace.Entry.{Entry}
-use Rattle.node_core.specs.Asks.{call}
+use Rattle.node_calls.specs.declared.trace.Entry.{Entry}
+use Rattle.node_calls.specs.Asks.{call}
 use Rattle.cluster_model.specs.Worlds.{Cluster, Event, cluster_of, world}
 use Rattle.cluster_model.specs.Schedules.{IsDeltaSchedule}
 use Rattle.audit.specs.Told.{bytes_emitted, bytes_delivered}

@@ -4,9 +4,9 @@ use Rattle.counters.specs.Sums.{sum_below}
 use Rattle.stamp_register.specs.declared.key.Stamp.{Stamp}
 use Rattle.stamp_register.specs.Keys.{KeyValue, stamp_of}
 use Rattle.replica_state.specs.Operations.{Operation}
-use Rattle.node_core.specs.declared.trace.Entry.{Entry}
-use Rattle.node_core.specs.Asks.{Asked, Call, call}
-use Rattle.node_core.specs.Asks as asks
+use Rattle.node_calls.specs.declared.trace.Entry.{Entry}
+use Rattle.node_calls.specs.Asks.{Asked, Call, call}
+use Rattle.node_calls.specs.Asks as asks
 use Rattle.node_core.specs.Nodes.{Node, start, state_shown}
 use Rattle.node_core.specs.Steps.{after}
 use Rattle.node_core.specs.Traces.{Kept, call_of}

@@ -1,12 +1,12 @@
 -- What an entry of a trace tells, to the byte, without where it lies in memory.
 use Rattle.std.specs.Prelude.{ℕ, Bool, List, string_bytes, Option, Some, None}
 use Rattle.stamp_register.specs.declared.key.Stamp.{Stamp}
-use Rattle.node_core.specs.declared.ask.Ask.{Ask}
-use Rattle.node_core.specs.declared.ask.Ask.TheVariants as asks
-use Rattle.node_core.specs.declared.reply.Reply.{Reply}
-use Rattle.node_core.specs.declared.reply.Reply.TheVariants as replies
-use Rattle.node_core.specs.declared.trace.Entry.{Entry}
-use Rattle.node_core.specs.Asks.{Passed, passed}
+use Rattle.node_calls.specs.declared.ask.Ask.{Ask}
+use Rattle.node_calls.specs.declared.ask.Ask.TheVariants as asks
+use Rattle.node_calls.specs.declared.reply.Reply.{Reply}
+use Rattle.node_calls.specs.declared.reply.Reply.TheVariants as replies
+use Rattle.node_calls.specs.declared.trace.Entry.{Entry}
+use Rattle.node_calls.specs.Asks.{Passed, passed}
 
 -- what was asked
 pub data AskTold : Type 0 where

@@ -2,8 +2,8 @@
 
 ghost use Rattle.std.specs.Prelude.{◌≡◌, ℕ, true, false, [], IfOk, IfSome, IfNone};
 ghost use Rattle.actions.specs.Names.{is_name};
-ghost use Rattle.node_core.specs.Asks.{ask_value};
-ghost use Rattle.node_core.specs.declared.reply.Reply.{Reply};
+ghost use Rattle.node_calls.specs.Asks.{ask_value};
+ghost use Rattle.node_calls.specs.declared.reply.Reply.{Reply};
 ghost use Rattle.node_core.specs.Steps.{points_in};
 ghost use Rattle.audit.specs.Points.{point_in, points_set};
 

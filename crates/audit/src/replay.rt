@@ -2,8 +2,8 @@
 
 ghost use Rattle.std.specs.Prelude.{◌≡◌, ℕ, ◌+◌, ◌-◌, ◌^◌, ◌<◌, ◌≤◌, ◌++◌, ◌∷◌, [], List, length, map, IfOk, IfErr, IfSome, IfNone, IsTrue, ◌↔◌};
 ghost use Rattle.std.specs.Bool.{OnTrue, OnFalse};
-ghost use Rattle.delta_exchange.specs.Limits.{max_nodes};
-ghost use Rattle.node_core.specs.Asks.{call};
+ghost use Rattle.message_format.specs.Limits.{max_nodes};
+ghost use Rattle.node_calls.specs.Asks.{call};
 ghost use Rattle.node_core.specs.Traces.{Kept, IsLegal, call_of};
 ghost use Rattle.cluster_model.specs.Laws.{IsLegalEmit};
 ghost use Rattle.cluster_model.specs.Worlds.{config_of};

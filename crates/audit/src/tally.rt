@@ -2,7 +2,7 @@
 
 ghost use Rattle.std.specs.Prelude.{◌≡◌, ℕ, ◌+◌, ◌-◌, ◌≤◌, ◌^◌, [], ◌∷◌, length, slice_get, option_map, option_and_then, IfOk, OnOk, Some, if◌then◌else◌};
 ghost use Rattle.stamp_register.specs.declared.key.Stamp.{Stamp};
-ghost use Rattle.node_core.specs.Asks.{reply_value};
+ghost use Rattle.node_calls.specs.Asks.{reply_value};
 ghost use Rattle.stamp_register.specs.Keys.{stamp_of};
 ghost use Rattle.node_core.specs.Traces.{Kept, call_of, node_of, state_known};
 ghost use Rattle.cluster_model.specs.Histories.{acts, keys_by};

@@ -3,10 +3,10 @@ use Rattle.std.proofs.Common.{◌≡◌, ℕ, ◌≤◌, ◌==◌, ◌&&◌, max
 use Rattle.std.proofs.lemmas.Bool.{eqb-true, and_parts, ltb-true, not-false}
 use Rattle.replica_state.specs.Operations.{IsIn}
 use Rattle.replica_state.proofs.Sets.{IsIn-append_cases}
-use Rattle.delta_exchange.specs.declared.fault.WireFault.{WireFault}
+use Rattle.message_format.specs.declared.fault.WireFault.{WireFault}
 use Rattle.delta_exchange.specs.Versions.{known_raised}
-use Rattle.node_core.specs.Asks.{Asked, Message}
-use Rattle.node_core.specs.Asks as asks
+use Rattle.node_calls.specs.Asks.{Asked, Message}
+use Rattle.node_calls.specs.Asks as asks
 use Rattle.node_core.specs.Nodes.{Node}
 use Rattle.node_core.specs.Steps.{after, message_in}
 use Rattle.node_core.specs.Refusals.{faults_of}

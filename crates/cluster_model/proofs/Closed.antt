@@ -9,8 +9,8 @@ use Rattle.replica_state.specs.Deltas.{IsTold, TellSameOf, IsInDelta, IsDelta}
 use Rattle.replica_state.proofs.Orders.{same_cell-true}
 use Rattle.replica_state.proofs.Sets.{IsIn-append_cases, KeyUpto, key_of-is_in}
 use Rattle.replica_state.proofs.KnownSets.{own_name}
-use Rattle.node_core.specs.Asks.{Asked, Message}
-use Rattle.node_core.specs.Asks as asks
+use Rattle.node_calls.specs.Asks.{Asked, Message}
+use Rattle.node_calls.specs.Asks as asks
 use Rattle.node_core.specs.Nodes.{Node, Marks, state_shown}
 use Rattle.node_core.specs.Steps.{settings, operations_issued, shift_under, message_in}
 use Rattle.node_core.specs.Traces.{versions_told}

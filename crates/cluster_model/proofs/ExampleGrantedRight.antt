@@ -12,8 +12,8 @@ use Rattle.replica_state.specs.Operations.{Hits, Execs, Shifts, Operation, Set, 
 use Rattle.replica_state.specs.States.{granted_in, rights_of, spent_of}
 use Rattle.replica_state.specs.Folds.{fold}
 use Rattle.replica_state.specs.Deltas.{IsTold, IsDelta}
-use Rattle.node_core.specs.Asks.{Message, NoTerm, Act}
-use Rattle.node_core.specs.Asks as asks
+use Rattle.node_calls.specs.Asks.{Message, NoTerm, Act}
+use Rattle.node_calls.specs.Asks as asks
 use Rattle.node_core.specs.Steps.{after}
 use Rattle.cluster_model.specs.Worlds.{Event}
 use Rattle.cluster_model.specs.Schedules.{IsDeltaSchedule}

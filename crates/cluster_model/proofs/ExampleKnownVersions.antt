@@ -15,8 +15,8 @@ use Rattle.replica_state.specs.Folds.{fold, clock_of}
 use Rattle.replica_state.specs.Deltas.{TellSameOf, IsInDelta, IsDelta}
 use Rattle.replica_state.proofs.FoldSteps.{fold_key}
 use Rattle.replica_state.proofs.Orders.{bytes_eq-refl, bytes_eq-true}
-use Rattle.node_core.specs.Asks.{Message}
-use Rattle.node_core.specs.Asks as asks
+use Rattle.node_calls.specs.Asks.{Message}
+use Rattle.node_calls.specs.Asks as asks
 use Rattle.node_core.specs.Nodes.{Node, start}
 use Rattle.node_core.specs.Steps.{after}
 use Rattle.node_core.specs.Refusals.{refusal_at}

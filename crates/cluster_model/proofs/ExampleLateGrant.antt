@@ -12,9 +12,9 @@ use Rattle.stamp_register.specs.Keys.{KeyValue, terms_in_text}
 use Rattle.replica_state.specs.Operations.{Shifts, Operation, Set, Count, IsIn, count_of, same_cell}
 use Rattle.replica_state.specs.States.{State, granted_in}
 use Rattle.replica_state.specs.Folds.{fold}
-use Rattle.node_core.specs.declared.fault.NodeFault.TheVariants as faults
-use Rattle.node_core.specs.Asks.{Message, Act}
-use Rattle.node_core.specs.Asks as asks
+use Rattle.node_calls.specs.declared.fault.NodeFault.TheVariants as faults
+use Rattle.node_calls.specs.Asks.{Message, Act}
+use Rattle.node_calls.specs.Asks as asks
 use Rattle.node_core.specs.Steps.{after}
 use Rattle.node_core.specs.Refusals.{refusal_at}
 use Rattle.cluster_model.specs.Worlds.{Event, config_of, world}

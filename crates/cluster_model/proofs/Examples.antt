@@ -11,7 +11,7 @@ use Rattle.replica_state.specs.Deltas.{IsTold, IsDelta}
 use Rattle.replica_state.proofs.Orders.{bytes_eq-true, same_key-true, same_cell-refl}
 use Rattle.replica_state.proofs.Sets.{key_of-found}
 use Rattle.replica_state.proofs.Telling.{all_differs}
-use Rattle.node_core.specs.Asks.{Asked, Answered, Message, Versions}
+use Rattle.node_calls.specs.Asks.{Asked, Answered, Message, Versions}
 use Rattle.node_core.specs.Nodes.{Marks}
 use Rattle.node_core.specs.Steps.{reply}
 use Rattle.cluster_model.specs.Worlds.{Cluster, World, Event, accepted, world}

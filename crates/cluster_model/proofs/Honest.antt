@@ -17,10 +17,10 @@ use Rattle.replica_state.proofs.Sets.{IsIn-append_cases, number_at-mono}
 use Rattle.replica_state.proofs.KnownSets.{knows_member}
 use Rattle.replica_state.proofs.Changes.{false_any}
 use Rattle.replica_state.proofs.Knowing.{set_knows}
-use Rattle.node_core.specs.declared.fault.NodeFault.{NodeFault}
-use Rattle.node_core.specs.declared.fault.NodeFault.TheVariants as faults
-use Rattle.node_core.specs.Asks.{Asked, Message}
-use Rattle.node_core.specs.Asks as asks
+use Rattle.node_calls.specs.declared.fault.NodeFault.{NodeFault}
+use Rattle.node_calls.specs.declared.fault.NodeFault.TheVariants as faults
+use Rattle.node_calls.specs.Asks.{Asked, Message}
+use Rattle.node_calls.specs.Asks as asks
 use Rattle.node_core.specs.Nodes.{setting_of, terms_in}
 use Rattle.refusals.specs.Refusals.{first_fault}
 use Rattle.std.specs.Bool.{then_some}

@@ -2,8 +2,8 @@
 use Rattle.std.proofs.Common.{◌≡◌, ℕ, ◌≤◌, List, [], length, sym, subst, Some, Ok}
 use Rattle.counters.specs.Sums.{node_numbers}
 use Rattle.replica_state.specs.Operations.{IsIn}
-use Rattle.node_core.specs.Asks.{Message, message_read}
-use Rattle.node_core.specs.Asks as asks
+use Rattle.node_calls.specs.Asks.{Message, message_read}
+use Rattle.node_calls.specs.Asks as asks
 use Rattle.node_core.specs.Nodes.{Node}
 use Rattle.node_core.specs.Refusals.{refusal_at}
 use Rattle.node_core.specs.Traces.{refusal, delivery_of}

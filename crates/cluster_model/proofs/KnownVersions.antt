@@ -9,10 +9,10 @@ use Rattle.replica_state.specs.StateOrder.{IsBelow, below-refl, below-trans}
 use Rattle.replica_state.specs.Deltas.{IsDelta}
 use Rattle.replica_state.proofs.Sets.{IsIn-append_cases}
 use Rattle.replica_state.proofs.KnownSets.{union_above_right}
-use Rattle.delta_exchange.specs.declared.fault.WireFault.{WireFault}
+use Rattle.message_format.specs.declared.fault.WireFault.{WireFault}
 use Rattle.node_core.specs.declared.config.Config.{Config}
-use Rattle.node_core.specs.Asks.{Asked, Message, Versions}
-use Rattle.node_core.specs.Asks as asks
+use Rattle.node_calls.specs.Asks.{Asked, Message, Versions}
+use Rattle.node_calls.specs.Asks as asks
 use Rattle.node_core.specs.Nodes.{Node, state_shown}
 use Rattle.node_core.specs.Steps.{after, operations_added, message_in, message_to}
 use Rattle.node_core.specs.Refusals.{faults_of, refusal_at}

@@ -1,13 +1,13 @@
 -- An emit is the last call of a legal trace exactly where its bytes tell what differs at the end of a legal trace.
 use Rattle.std.proofs.Common.{◌≡◌, ℕ, ◌+◌, ◌≤◌, ◌^◌, List, [], ◌∷◌, ◌++◌, length, ◌↔◌, refl, sym, ◌∙◌, ap, subst, arith, None, Result, Ok, Err}
 use Rattle.replica_state.specs.Deltas.{IsDelta}
-use Rattle.delta_exchange.specs.declared.fault.WireFault.{WireFault}
-use Rattle.delta_exchange.specs.Messages.{MessageValue}
-use Rattle.delta_exchange.specs.Reading.{message_at}
-use Rattle.delta_exchange.proofs.Fields.{IsBytes}
-use Rattle.delta_exchange.proofs.MessageLemmas.{message_takes}
+use Rattle.message_format.specs.declared.fault.WireFault.{WireFault}
+use Rattle.message_format.specs.Messages.{MessageValue}
+use Rattle.message_format.specs.Reading.{message_at}
+use Rattle.message_format.proofs.Fields.{IsBytes}
+use Rattle.message_format.proofs.MessageLemmas.{message_takes}
 use Rattle.node_core.specs.declared.config.Config.{Config}
-use Rattle.node_core.specs.Asks.{Message, Call, IsEmitted, message_of, read_of, message_read, bare_emit, emit_of}
+use Rattle.node_calls.specs.Asks.{Message, Call, IsEmitted, message_of, read_of, message_read, bare_emit, emit_of}
 use Rattle.node_core.specs.Nodes.{Node, start}
 use Rattle.node_core.specs.Steps.{after, reply, message_to}
 use Rattle.node_core.specs.Refusals.{refusal_at}

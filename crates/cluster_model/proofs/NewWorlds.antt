@@ -5,7 +5,7 @@ use Rattle.std.specs.List.{range_with_len}
 use Rattle.std.proofs.lemmas.List.FromFn.{length-map-range_with_len, get_or-map-range_with_len}
 use Rattle.std.proofs.lemmas.Option.{slice_get-get_or}
 use Rattle.counters.specs.Sums.{node_numbers}
-use Rattle.delta_exchange.specs.Limits.{max_nodes}
+use Rattle.message_format.specs.Limits.{max_nodes}
 use Rattle.node_core.specs.Traces.{Kept}
 use Rattle.cluster_model.specs.declared.world.Place.{Place}
 use Rattle.cluster_model.specs.Worlds.{Cluster}

@@ -3,7 +3,7 @@ use Rattle.std.proofs.Common.{◌≡◌, ◌≢◌, ℕ, ◌<◌, ◌⊎◌, inl
 use Rattle.std.proofs.lemmas.Bool.{cases_eq}
 use Rattle.std.proofs.lemmas.List.{length-set}
 use Rattle.std.specs.Prelude.{slice_get, slice_set, option_and_then}
-use Rattle.node_core.specs.Asks.{Asked, Message, Call, IsEmitted}
+use Rattle.node_calls.specs.Asks.{Asked, Message, Call, IsEmitted}
 use Rattle.node_core.specs.Traces.{Kept, after_call, entry_for}
 use Rattle.cluster_model.specs.declared.world.Place.{Place}
 use Rattle.cluster_model.specs.Places.{IsEmitOf, IsPlace, IsWorld, call_at, message_at, message_of_call, message_told}

@@ -9,9 +9,9 @@ use Rattle.replica_state.specs.Folds.{fold}
 use Rattle.replica_state.specs.StateOrder.{IsBelow}
 use Rattle.replica_state.proofs.KnownSets.{union_least, union_above_left, union_above_right}
 use Rattle.node_core.specs.declared.config.Config.{Config}
-use Rattle.node_core.specs.declared.fault.NodeFault.{NodeFault}
-use Rattle.node_core.specs.Asks.{Asked, Message, Call}
-use Rattle.node_core.specs.Asks as asks
+use Rattle.node_calls.specs.declared.fault.NodeFault.{NodeFault}
+use Rattle.node_calls.specs.Asks.{Asked, Message, Call}
+use Rattle.node_calls.specs.Asks as asks
 use Rattle.node_core.specs.Nodes.{Node, start}
 use Rattle.node_core.specs.Steps.{after, reply}
 use Rattle.node_core.specs.Traces.{Kept, replay, replay_from, SendsDelta, IsLegal}

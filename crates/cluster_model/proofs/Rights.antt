@@ -13,8 +13,8 @@ use Rattle.replica_state.specs.States.{State, budget}
 use Rattle.replica_state.specs.Folds.{fold, key_in, key_of, number_at, at_key}
 use Rattle.replica_state.proofs.Orders.{bytes_eq-true, same_key-refl, same_key-true}
 use Rattle.replica_state.proofs.Sets.{IsIn-append_cases, number_at-mono, KeyUpto, KeyUpto-antisym, KeyUpto-same, key_of-is_in, key_of-least, key_of-mono}
-use Rattle.node_core.specs.Asks.{Asked, Passed}
-use Rattle.node_core.specs.Asks as asks
+use Rattle.node_calls.specs.Asks.{Asked, Passed}
+use Rattle.node_calls.specs.Asks as asks
 use Rattle.node_core.specs.Nodes.{Node, state_shown}
 use Rattle.node_core.specs.Passes.{has_rights_of}
 use Rattle.node_core.specs.Steps.{after}

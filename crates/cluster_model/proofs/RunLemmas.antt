@@ -9,10 +9,10 @@ use Rattle.replica_state.specs.Operations.{IsIn}
 use Rattle.replica_state.specs.Folds.{fold}
 use Rattle.replica_state.proofs.KnownSets.{same_fold}
 use Rattle.stamp_register.specs.declared.key.Stamp.{Stamp}
-use Rattle.node_core.specs.declared.fault.NodeFault.{NodeFault}
-use Rattle.node_core.specs.declared.fault.NodeFault.TheVariants.{OutOfMemory}
-use Rattle.node_core.specs.Asks.{Asked, Answered, Message, Call}
-use Rattle.node_core.specs.Asks as asks
+use Rattle.node_calls.specs.declared.fault.NodeFault.{NodeFault}
+use Rattle.node_calls.specs.declared.fault.NodeFault.TheVariants.{OutOfMemory}
+use Rattle.node_calls.specs.Asks.{Asked, Answered, Message, Call}
+use Rattle.node_calls.specs.Asks as asks
 use Rattle.node_core.specs.Nodes.{state_shown}
 use Rattle.node_core.specs.Traces.{Kept, after_call, refusal, reply_to, state_known}
 use Rattle.cluster_model.specs.declared.fault.WorldFault.TheVariants.{Refused}

@@ -12,8 +12,8 @@ use Rattle.replica_state.specs.States.{State}
 use Rattle.replica_state.specs.Folds.{fold, key_in}
 use Rattle.replica_state.proofs.Orders.{bytes_eq-true}
 use Rattle.replica_state.proofs.Sets.{IsIn-append_left, IsIn-append_right, IsIn-append_cases, Carries, key_of-found}
-use Rattle.node_core.specs.Asks.{Asked, Message}
-use Rattle.node_core.specs.Asks as asks
+use Rattle.node_calls.specs.Asks.{Asked, Message}
+use Rattle.node_calls.specs.Asks as asks
 use Rattle.node_core.specs.Nodes.{Node, state_shown}
 use Rattle.node_core.specs.Steps.{after, settings, operations_issued, new_key, points_in, shift_under}
 use Rattle.cluster_model.specs.Worlds.{Cluster, World, Event, accepted, node_after, world}

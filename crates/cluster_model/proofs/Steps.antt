@@ -9,10 +9,10 @@ use Rattle.replica_state.specs.States.{State}
 use Rattle.replica_state.specs.Folds.{fold}
 use Rattle.replica_state.proofs.Sets.{IsIn-append_left, IsIn-append_right, IsIn-append_cases}
 use Rattle.replica_state.proofs.KnownSets.{same_members}
-use Rattle.delta_exchange.specs.declared.fault.WireFault.{WireFault}
-use Rattle.node_core.specs.declared.fault.NodeFault.{NodeFault}
-use Rattle.node_core.specs.Asks.{Asked, Message, Versions}
-use Rattle.node_core.specs.Asks as asks
+use Rattle.message_format.specs.declared.fault.WireFault.{WireFault}
+use Rattle.node_calls.specs.declared.fault.NodeFault.{NodeFault}
+use Rattle.node_calls.specs.Asks.{Asked, Message, Versions}
+use Rattle.node_calls.specs.Asks as asks
 use Rattle.node_core.specs.Nodes.{Node, state_shown, setting_of}
 use Rattle.node_core.specs.Passes.{ops_of_pass, triggered_term, execs_of_choice, execs_of_term, next_hit}
 use Rattle.node_core.specs.Steps.{after, operations_added, settings, operations_issued, shift_under, message_in}

@@ -2,8 +2,8 @@
 use Rattle.std.proofs.Common.{◌≡◌, ℕ, inl, inr, List, [], ◌∷◌, ◌++◌, length, map, refl, sym, ◌∙◌, ap, subst, Option, Some, None, Ok, Err}
 use Rattle.std.proofs.lemmas.List.{append-nil, map-append}
 use Rattle.std.specs.Prelude.{slice_get, slice_set}
-use Rattle.node_core.specs.declared.fault.NodeFault.{NodeFault}
-use Rattle.node_core.specs.Asks.{Asked, Message, emit_of, message_of}
+use Rattle.node_calls.specs.declared.fault.NodeFault.{NodeFault}
+use Rattle.node_calls.specs.Asks.{Asked, Message, emit_of, message_of}
 use Rattle.node_core.specs.Deliveries.{TellsDelta}
 use Rattle.node_core.specs.Traces.{Kept, IsRefusalOf, after_call, entry_for, node_of, refusal, reply_to, emission_of, SendsDelta}
 use Rattle.node_core.proofs.DeltaBytes.{delta_message_is}

@@ -4,12 +4,12 @@ use Rattle.std.proofs.lemmas.Bool.{true≢false}
 use Rattle.std.proofs.lemmas.List.{length_push}
 use Rattle.std.proofs.lemmas.Option.{slice_get-map, slice_get_past, slice_get_read}
 use Rattle.std.specs.Prelude.{slice_get, slice_set, option_map, option_and_then, get_or}
-use Rattle.node_core.specs.declared.fault.NodeFault.{NodeFault}
-use Rattle.node_core.specs.declared.reply.Reply.{Reply}
-use Rattle.node_core.specs.Asks.{Asked, Answered, Call, Message, reply_value, emit_of, message_read, bare_emit, IsEmitted}
-use Rattle.node_core.specs.Asks as asks
+use Rattle.node_calls.specs.declared.fault.NodeFault.{NodeFault}
+use Rattle.node_calls.specs.declared.reply.Reply.{Reply}
+use Rattle.node_calls.specs.Asks.{Asked, Answered, Call, Message, reply_value, emit_of, message_read, bare_emit, IsEmitted}
+use Rattle.node_calls.specs.Asks as asks
 use Rattle.node_core.specs.Lasts.{last_call}
-use Rattle.node_core.specs.declared.fault.NodeFault.TheVariants.{OutOfMemory}
+use Rattle.node_calls.specs.declared.fault.NodeFault.TheVariants.{OutOfMemory}
 use Rattle.node_core.specs.Deliveries.{TellsDelta}
 use Rattle.node_core.specs.Traces.{Kept, entry_for, Accepts, Emits, IsRefusalOf, after_call, delivery_of, emission_of, refusal, reply_to}
 use Rattle.cluster_model.specs.declared.world.Place.{Place}

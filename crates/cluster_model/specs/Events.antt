@@ -1,10 +1,10 @@
 -- A world as its callers see it, what they ask of it, what it answers, and the world after that.
 use Rattle.std.specs.Prelude.{ℕ, List, [], ◌∷◌, ◌++◌, map, Option, Some, None, option_map, option_and_then, Result, Ok, Err, slice_get, slice_set}
 use Rattle.std.specs.List.{range_with_len}
-use Rattle.node_core.specs.declared.fault.NodeFault.{NodeFault}
-use Rattle.node_core.specs.declared.reply.Reply.{Reply}
-use Rattle.node_core.specs.Asks.{Asked, Answered, Call, Message, emit_of, message_of, reply_value}
-use Rattle.node_core.specs.Asks as asks
+use Rattle.node_calls.specs.declared.fault.NodeFault.{NodeFault}
+use Rattle.node_calls.specs.declared.reply.Reply.{Reply}
+use Rattle.node_calls.specs.Asks.{Asked, Answered, Call, Message, emit_of, message_of, reply_value}
+use Rattle.node_calls.specs.Asks as asks
 use Rattle.node_core.specs.Emissions.{message_emitted}
 use Rattle.node_core.specs.Lasts.{last_call}
 use Rattle.node_core.specs.Traces.{Kept, after_call, node_of, refusal, reply_to}

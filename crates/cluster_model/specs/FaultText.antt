@@ -1,6 +1,6 @@
 -- What a fault of a world prints.
 use Rattle.std.specs.Prelude.{ℕ, List, codes}
-use Rattle.node_core.specs.Texts.{node_fault_text}
+use Rattle.node_calls.specs.FaultText.{node_fault_text}
 use Rattle.cluster_model.specs.declared.fault.WorldFault.{WorldFault}
 use Rattle.cluster_model.specs.declared.fault.WorldFault.TheVariants.{NoNode, NoMessage, Refused}
 

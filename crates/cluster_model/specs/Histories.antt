@@ -8,8 +8,8 @@ use Rattle.stamp_register.specs.declared.key.Stamp.{Stamp}
 use Rattle.stamp_register.specs.Keys.{KeyValue, same_key}
 use Rattle.replica_state.specs.Operations.{Operation, Set, IsIn}
 use Rattle.replica_state.specs.States.{State, budget}
-use Rattle.node_core.specs.Asks.{Asked, Answered, Passed, Act, Call}
-use Rattle.node_core.specs.Asks as asks
+use Rattle.node_calls.specs.Asks.{Asked, Answered, Passed, Act, Call}
+use Rattle.node_calls.specs.Asks as asks
 use Rattle.node_core.specs.Nodes.{Node, state_shown}
 use Rattle.node_core.specs.Steps.{operations_added, settings, operations_issued, message_in}
 use Rattle.cluster_model.specs.Worlds.{Cluster, Event, accepted, world}

@@ -4,7 +4,7 @@ use Rattle.counters.specs.Sums.{node_numbers}
 use Rattle.stamp_register.specs.declared.key.Stamp.{Stamp}
 use Rattle.replica_state.specs.Knowledge.{KnowsAll}
 use Rattle.replica_state.specs.Folds.{fold}
-use Rattle.node_core.specs.declared.fault.NodeFault.TheVariants.{OutOfMemory}
+use Rattle.node_calls.specs.declared.fault.NodeFault.TheVariants.{OutOfMemory}
 use Rattle.node_core.specs.Traces.{Kept, state_known}
 use Rattle.cluster_model.specs.declared.fault.WorldFault.TheVariants.{Refused}
 use Rattle.cluster_model.specs.Worlds.{Cluster, Event, world}

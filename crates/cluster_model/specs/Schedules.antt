@@ -3,8 +3,8 @@ use Rattle.std.specs.Prelude.{◌≡◌, ℕ, ◌≤◌, List, [], ◌∷◌, Op
 use Rattle.stamp_register.specs.Keys.{KeyValue}
 use Rattle.replica_state.specs.Operations.{Cell, Hits, Operation, Set, Count, IsIn}
 use Rattle.replica_state.specs.Folds.{key_in}
-use Rattle.node_core.specs.Asks.{Asked, Versions}
-use Rattle.node_core.specs.Asks as asks
+use Rattle.node_calls.specs.Asks.{Asked, Versions}
+use Rattle.node_calls.specs.Asks as asks
 use Rattle.node_core.specs.Nodes.{Marks}
 use Rattle.node_core.specs.Steps.{message_in}
 use Rattle.node_core.specs.Traces.{SendsDelta}

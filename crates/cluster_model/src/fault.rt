@@ -48,7 +48,7 @@ impl From<NodeFault> for WorldFault {
 
 impl From<AllocError> for WorldFault {
     ghost use Rattle.std.specs.Prelude.{◌≡◌};
-    ghost use Rattle.node_core.specs.declared.fault.NodeFault.TheVariants.{OutOfMemory};
+    ghost use Rattle.node_calls.specs.declared.fault.NodeFault.TheVariants.{OutOfMemory};
     ghost use Rattle.cluster_model.specs.declared.fault.WorldFault.TheVariants.{Refused};
 
     ghost from_gives = { λ _ e. e ≡ Refused OutOfMemory };

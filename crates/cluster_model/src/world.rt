@@ -1,9 +1,9 @@
 //! A cluster in one program: its nodes, and the messages between them.
 
 ghost use Rattle.std.specs.Prelude.{◌≡◌, ◌≢◌, ◌<◌, ◌≤◌, [], false, true, length, option_map, IfOk, IfErr, IfSome, IsSome, OnOk, OnErr, IsTrue, Ok, Err, Some, slice_get};
-ghost use Rattle.node_core.specs.Asks.{Message, message_read, reply_value};
+ghost use Rattle.node_calls.specs.Asks.{Message, message_read, reply_value};
 ghost use Rattle.node_core.specs.Traces.{Accepts, IsRefusalOf};
-ghost use Rattle.node_core.specs.declared.fault.NodeFault.TheVariants.{OutOfMemory};
+ghost use Rattle.node_calls.specs.declared.fault.NodeFault.TheVariants.{OutOfMemory};
 ghost use Rattle.cluster_model.specs.Events.{event_value, passes, emits, delivers, own_ask, words_given, new_world, node_asked, answer, answer_value, world_after, scheduled, last_reply};
 ghost use Rattle.cluster_model.specs.Places.{IsEmit, IsEmitOf};
 ghost use Rattle.cluster_model.specs.Runs.{IsAnswer, after_answer, happened, Continues, HasHistory};

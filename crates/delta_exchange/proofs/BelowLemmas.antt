@@ -13,9 +13,9 @@ use Rattle.std.proofs.lemmas.List.Concat.{flat_map-cons}
 use Rattle.replica_state.specs.Operations.{IsIn}
 use Rattle.replica_state.proofs.Sets.{IsIn-append_left, IsIn-append_right, IsIn-append_cases}
 use Rattle.replica_state.proofs.Names.{IsAscending}
-use Rattle.delta_exchange.specs.Spelling.{Ascend}
+use Rattle.message_format.specs.Spelling.{Ascend}
 use Rattle.delta_exchange.specs.Cells.{each_below}
-use Rattle.delta_exchange.proofs.Members.{all_of, mapped_from}
+use Rattle.message_format.proofs.Members.{all_of, mapped_from}
 
 -- ---- the order of places
 
@@ -85,11 +85,3 @@ module _ {C : Type 0} (f : ℕ → List C) where
       let d = mapped_from place (f n) y b in
       let r = below_in n c.0 c.1 in
       subst (λ z. slice_cmp nat_cmp z y ≡ Less) (sym c.2) (subst (λ z. slice_cmp nat_cmp (place c.0) z ≡ Less) (sym d.2) (across r.0 n c.0 d.0 r.1 r.2 d.1))))
-
--- at most so many, where each has at most so many
-pub length_flat : {A B : Type 0} (f : A → List B) (k : ℕ) (xs : List A) → ((x : A) → IsIn x xs → length (f x) ≤ k) → length (flat_map f xs) ≤ length xs * k
-length_flat f k [] h = omega arith
-length_flat f k (x ∷ xs) h =
-    let one = h x (inl refl) in
-    let rest = length_flat f k xs (λ y i. h y (inr i)) in
-    rw (flat_map-cons f x xs) (simp length-append (omega (arith, one, rest)))

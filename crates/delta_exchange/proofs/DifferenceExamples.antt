@@ -11,7 +11,7 @@ use Rattle.replica_state.specs.States.{State}
 use Rattle.replica_state.specs.Folds.{fold}
 use Rattle.delta_exchange.specs.Cells.{each_below, hit_cells, exec_cells, shift_cells, grant_cells, entry_of, entries_of}
 use Rattle.delta_exchange.specs.Differences.{tells_hits, tells_execs, tells_shifts, tells_grants, untold_entry, untold_entries, difference_of}
-use Rattle.delta_exchange.proofs.Members.{flat_none, flat_same}
+use Rattle.message_format.proofs.Members.{flat_none, flat_same}
 use Rattle.delta_exchange.proofs.HeldEntries.{entry_member}
 use Rattle.delta_exchange.proofs.Differences.{tells_its_key, tells_its_hits, tells_its_execs, tells_its_shifts, tells_its_grants, hit_held, exec_held, shift_held, grant_held}
 use Rattle.delta_exchange.proofs.Filters.{passes_not, filter_all, filter_none}

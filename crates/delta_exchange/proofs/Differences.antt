@@ -12,18 +12,18 @@ use Rattle.replica_state.specs.Folds.{fold, name_in, names_of}
 use Rattle.replica_state.specs.Deltas.{IsTold, IsInDelta, IsDelta, TellSameOf}
 use Rattle.replica_state.proofs.Names.{IsAscending, names_of-ascending, holds-names_of, key_named}
 use Rattle.replica_state.proofs.Orders.{same_key-true, same_key-refl}
-use Rattle.delta_exchange.specs.Messages.{EntryValue, MessageValue, operations_of, operations_in}
-use Rattle.delta_exchange.specs.Spelling.{hit_place, exec_place, shift_place, IsHit, IsExec, IsShift, IsGrant, IsEntry, AreEntries, IsMessage}
+use Rattle.message_format.specs.Messages.{EntryValue, MessageValue, operations_of, operations_in}
+use Rattle.message_format.specs.Spelling.{hit_place, exec_place, shift_place, IsHit, IsExec, IsShift, IsGrant, IsEntry, AreEntries, IsMessage}
 use Rattle.delta_exchange.specs.Cells.{hit_cells, exec_cells, shift_cells, grant_cells, entry_of, entries_of}
 use Rattle.delta_exchange.specs.Since.{tells_cells}
 use Rattle.delta_exchange.specs.Differences.{holds_key, tells_key, tells_hits, tells_execs, tells_shifts, tells_grants, untold_cells, untold_entry, untold_entries, difference_of}
-use Rattle.delta_exchange.proofs.Members.{flat_in, in_flat, mapped_from, mapped_in, one_of}
-use Rattle.delta_exchange.proofs.LawfulLemmas.{hit_told, exec_told, shift_told, grant_told}
+use Rattle.message_format.proofs.Members.{flat_in, in_flat, mapped_from, mapped_in, one_of}
+use Rattle.message_format.proofs.LawfulLemmas.{hit_told, exec_told, shift_told, grant_told}
 use Rattle.delta_exchange.proofs.BelowLemmas.{ascends}
 use Rattle.delta_exchange.proofs.HeldCells.{hit_member, member_hit, hits_ascend, term_member, member_term, terms_ascend, shift_member, member_shift, shifts_ascend}
 use Rattle.delta_exchange.proofs.HeldEntries.{term_below, entry_member, member_entry, entries_ascend}
 use Rattle.delta_exchange.proofs.Filters.{not_both, passes_not, in_filter, filter_in, filter_ascends}
-use Rattle.delta_exchange.proofs.OneMessage.{one_there, same_list, set_of, hit_of, exec_of, shift_of, grant_of, moves_on, hit_in, exec_in, shift_in, grant_in}
+use Rattle.message_format.proofs.OneMessage.{one_there, same_list, set_of, hit_of, exec_of, shift_of, grant_of, moves_on, hit_in, exec_in, shift_in, grant_in}
 use Rattle.delta_exchange.proofs.TellsCells.{either, hits_tell, execs_tell, shifts_tell, grants_tell, cell_told}
 
 -- ---- what a state has it tells

@@ -7,7 +7,7 @@ use Rattle.std.specs.Cmp.Lexicographic.{slice_cmp}
 use Rattle.std.specs.declared.cmp.Ordering.TheVariants.{Less}
 use Rattle.replica_state.specs.Operations.{IsIn}
 use Rattle.replica_state.proofs.Names.{IsAscending}
-use Rattle.delta_exchange.proofs.Members.{mapped_from, mapped_in}
+use Rattle.message_format.proofs.Members.{mapped_from, mapped_in}
 
 -- ---- what passes a test
 

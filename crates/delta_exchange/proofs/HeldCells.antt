@@ -6,8 +6,8 @@ use Rattle.stamp_register.specs.Keys.{KeyValue}
 use Rattle.replica_state.specs.Operations.{IsIn, count_of}
 use Rattle.replica_state.specs.States.{State}
 use Rattle.replica_state.proofs.Names.{IsAscending}
-use Rattle.delta_exchange.specs.Limits.{max_nodes}
-use Rattle.delta_exchange.specs.Spelling.{hit_place, exec_place, shift_place}
+use Rattle.message_format.specs.Limits.{max_nodes}
+use Rattle.message_format.specs.Spelling.{hit_place, exec_place, shift_place}
 use Rattle.delta_exchange.specs.Cells.{cell_of, hit_cells, term_row, term_row_of, term_cells, shift_cell, shift_row, shift_rows, shift_rows_of, shift_cells}
 use Rattle.delta_exchange.proofs.BelowLemmas.{by_first, by_rest, below_in, in_below, length_below, ascending_below}
 

@@ -15,13 +15,11 @@ use Rattle.stamp_register.specs.Keys.{KeyValue, terms_read, terms_in_text, terms
 use Rattle.replica_state.specs.Operations.{IsIn, count_in, count_under, count_of}
 use Rattle.replica_state.specs.States.{State}
 use Rattle.replica_state.proofs.Names.{IsAscending}
-use Rattle.delta_exchange.specs.Limits.{max_nodes}
-use Rattle.delta_exchange.specs.declared.wire.Form.{Form}
-use Rattle.delta_exchange.specs.declared.wire.Form.TheVariants.{Plain, WithGrants}
-use Rattle.delta_exchange.specs.Messages.{EntryValue}
-use Rattle.delta_exchange.specs.Spelling.{IsBody, IsKey, IsEntry, hit_bytes, exec_bytes, shift_bytes, grants_bytes, body_bytes, entry_bytes}
+use Rattle.message_format.specs.Limits.{max_nodes}
+use Rattle.message_format.specs.Messages.{EntryValue}
+use Rattle.message_format.specs.Spelling.{IsBody, IsKey, IsEntry, hit_bytes, exec_bytes, shift_bytes, grants_bytes, body_bytes, entry_bytes}
 use Rattle.delta_exchange.specs.Cells.{entry_of, entry_under, entry_at, entries_of}
-use Rattle.delta_exchange.proofs.BelowLemmas.{below_in, in_below, ascending_below, length_flat}
+use Rattle.delta_exchange.proofs.BelowLemmas.{below_in, in_below, ascending_below}
 
 -- ---- names by their places
 
@@ -122,34 +120,3 @@ module _ (v : State) (nodes : ℕ) where
       let a = in_place (slice_get v.names i) c k in
       let b = in_place (slice_get v.names j) d l in
       rw (a.is, b.is) (get_less v.names i j a.name b.name h lt a.found b.found))
-
--- ---- in how many bytes
-
-body_short : (body : Option (List ℕ)) → IsBody body → length (body_bytes body) ≤ 1027
-body_short None h = omega arith
-body_short (Some text) h =
-    let short = h.2.short in
-    simp length-append (omega (arith, short))
-
-name_short : (name : List ℕ) → IsTrue (is_name name) → length name ≤ 128
-name_short name h =
-    let size = and_parts (nat_lt 0 (length name) && nat_le (length name) max_name) (list_all is_name_byte name) h in
-    let most = and_parts (nat_lt 0 (length name)) (nat_le (length name) max_name) size.0 in
-    let e : nat_le (length name) 128 ≡ true = most.1 in
-    grind (arith, nat_tests)
-
-grants_short : (form : Form) (cells : List (ℕ × ℕ × ℕ)) → length cells ≤ 512 → length (grants_bytes form cells) ≤ 5122
-grants_short Plain cells few = omega arith
-grants_short WithGrants cells few =
-    let all = length_flat exec_bytes 10 cells (λ c i. omega arith) in
-    simp length-append (omega (arith, all, few))
-
-pub entry_short : (nodes : ℕ) (e : EntryValue) → IsEntry nodes e → length e.hits ≤ max_nodes → length e.execs ≤ 512 → length e.shifts ≤ 16384 → length e.grants ≤ 512 → (form : Form) → length (entry_bytes form e) ≤ 191924
-entry_short nodes e h hits execs shifts grants form =
-    let name = name_short e.name h.name in
-    let body = body_short e.key.body h.key.body in
-    let a = length_flat hit_bytes 9 e.hits (λ c i. omega arith) in
-    let b = length_flat exec_bytes 10 e.execs (λ c i. omega arith) in
-    let d = length_flat shift_bytes 11 e.shifts (λ c i. omega arith) in
-    let last = grants_short form e.grants grants in
-    simp length-append (omega (arith, name, body, a, b, d, last, hits, execs, shifts))

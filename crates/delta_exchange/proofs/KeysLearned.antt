@@ -16,13 +16,13 @@ use Rattle.replica_state.proofs.KnownSets.{own_name}
 use Rattle.replica_state.proofs.Names.{never_less}
 use Rattle.replica_state.proofs.Orders.{bytes_eq-true}
 use Rattle.replica_state.proofs.Sets.{key_of-found}
-use Rattle.delta_exchange.specs.declared.message.NameEntry.{NameEntry}
-use Rattle.delta_exchange.specs.Messages.{EntryValue, entry_value, operations_of}
-use Rattle.delta_exchange.specs.Spelling.{Ascend}
+use Rattle.message_format.specs.declared.message.NameEntry.{NameEntry}
+use Rattle.message_format.specs.Messages.{EntryValue, entry_value, operations_of}
+use Rattle.message_format.specs.Spelling.{Ascend}
 use Rattle.delta_exchange.specs.Told.{HasKeyOf, HasLearned}
-use Rattle.delta_exchange.proofs.Members.{in_flat, mapped_from}
-use Rattle.delta_exchange.proofs.LawfulLemmas.{IsTold, told_of}
-use Rattle.delta_exchange.proofs.OneMessage.{first_below}
+use Rattle.message_format.proofs.Members.{in_flat, mapped_from}
+use Rattle.message_format.proofs.LawfulLemmas.{IsTold, told_of}
+use Rattle.message_format.proofs.OneMessage.{first_below}
 
 -- ---- a key that stays
 

@@ -20,7 +20,7 @@ use Rattle.replica_state.specs.declared.point.Counted.TheVariants.{Hits, Execs, 
 use Rattle.replica_state.proofs.Names.{IsAscending}
 use Rattle.delta_exchange.specs.Marks.{cell_change}
 use Rattle.delta_exchange.specs.Since.{later}
-use Rattle.delta_exchange.proofs.Members.{flat_in, in_flat}
+use Rattle.message_format.proofs.Members.{flat_in, in_flat}
 use Rattle.delta_exchange.proofs.SinceMaps.{found_in, value_at, flat_ascends}
 
 -- ---- the order of what is counted

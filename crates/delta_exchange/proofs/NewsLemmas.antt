@@ -6,8 +6,8 @@ use Rattle.std.proofs.lemmas.List.Elements.{filter-append}
 use Rattle.std.proofs.Math.Seq.{take-suc}
 use Rattle.replica_state.specs.Operations.{Operation}
 use Rattle.replica_state.specs.States.{State}
-use Rattle.delta_exchange.specs.declared.message.NameEntry.{NameEntry}
-use Rattle.delta_exchange.specs.Messages.{entry_value, operations_of}
+use Rattle.message_format.specs.declared.message.NameEntry.{NameEntry}
+use Rattle.message_format.specs.Messages.{entry_value, operations_of}
 use Rattle.delta_exchange.specs.News.{brings_key, unknown_in, news_in}
 use Rattle.delta_exchange.proofs.ToldSteps.{next_entry}
 use Rattle.std.proofs.lemmas.Bool.{true≢false}

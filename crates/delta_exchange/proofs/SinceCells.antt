@@ -15,17 +15,17 @@ use Rattle.replica_state.specs.Points.{counted_cmp, is_hits}
 use Rattle.replica_state.specs.declared.point.Counted.{Counted}
 use Rattle.replica_state.specs.declared.point.Counted.TheVariants.{Hits, Execs, Shifts}
 use Rattle.replica_state.proofs.Names.{IsAscending}
-use Rattle.delta_exchange.specs.Limits.{max_nodes}
+use Rattle.message_format.specs.Limits.{max_nodes}
 use Rattle.delta_exchange.specs.declared.marks.NameMarks.{NameMarks}
 use Rattle.delta_exchange.specs.declared.marks.Marks.{Marks}
 use Rattle.delta_exchange.specs.Marks as kept
 use Rattle.delta_exchange.specs.Marks.{marks_at, marks_value, last_changes, cell_in, cell_change}
 use Rattle.delta_exchange.specs.Changes.{LastChanges, IsChangedCell}
-use Rattle.delta_exchange.specs.Spelling.{hit_place, exec_place, shift_place}
+use Rattle.message_format.specs.Spelling.{hit_place, exec_place, shift_place}
 use Rattle.delta_exchange.specs.Cells.{cell_of, hit_cells, exec_cells, shift_cells, grant_cells}
 use Rattle.delta_exchange.specs.Since.{hit_of, exec_of, shift_of, grant_of, hits_since, execs_since, shifts_since, grants_since}
-use Rattle.delta_exchange.proofs.Members.{mapped_from, mapped_in}
-use Rattle.delta_exchange.proofs.LawfulStates.{IsLawfulState}
+use Rattle.message_format.proofs.Members.{mapped_from, mapped_in}
+use Rattle.message_format.proofs.LawfulStates.{IsLawfulState}
 use Rattle.delta_exchange.proofs.HeldCells.{in_cell, cell_in as one_cell_in, cell_ascends, in_if, if_in, if_ascends, unless_ascends, shift_in_cell, cell_in_shift, member_hit, hits_ascend, few_hits, member_term, terms_ascend, few_terms, member_shift, shifts_ascend, few_shifts}
 use Rattle.delta_exchange.proofs.HeldEntries.{term_below}
 use Rattle.delta_exchange.proofs.LaterCells.{later_member, member_later, later_ascends, part_is_short}

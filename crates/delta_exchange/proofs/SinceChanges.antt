@@ -11,17 +11,17 @@ use Rattle.replica_state.specs.Points.{counted_cmp, is_hits}
 use Rattle.replica_state.specs.Cells as state
 use Rattle.replica_state.specs.declared.point.Counted.{Counted}
 use Rattle.replica_state.specs.declared.point.Counted.TheVariants.{Hits, Execs, Shifts}
-use Rattle.delta_exchange.specs.Limits.{max_nodes}
+use Rattle.message_format.specs.Limits.{max_nodes}
 use Rattle.delta_exchange.specs.declared.marks.NameMarks.{NameMarks}
 use Rattle.delta_exchange.specs.declared.marks.Marks.{Marks}
 use Rattle.delta_exchange.specs.Marks.{marks_at, latest_of, marks_value, last_changes, cell_change, AreUpto}
 use Rattle.delta_exchange.specs.Changes.{IsChangedCell, IsUnchangedSince}
-use Rattle.delta_exchange.specs.Messages.{EntryValue}
-use Rattle.delta_exchange.specs.Spelling.{IsHit, IsExec, IsShift, IsGrant, IsEntry}
+use Rattle.message_format.specs.Messages.{EntryValue}
+use Rattle.message_format.specs.Spelling.{IsHit, IsExec, IsShift, IsGrant, IsEntry}
 use Rattle.delta_exchange.specs.Cells.{EntryFits}
 use Rattle.delta_exchange.specs.Since.{hits_since, execs_since, shifts_since, grants_since, entry_since, tells_cells}
-use Rattle.delta_exchange.proofs.Members.{all_of, one_of}
-use Rattle.delta_exchange.proofs.LawfulStates.{IsLawfulState}
+use Rattle.message_format.proofs.Members.{all_of, one_of}
+use Rattle.message_format.proofs.LawfulStates.{IsLawfulState}
 use Rattle.delta_exchange.proofs.BelowLemmas.{ascends}
 use Rattle.delta_exchange.proofs.SinceCells.{changes_of, key_change, hit_changed, changed_hit, hits_since_ascend, few_hits_since, exec_changed, changed_exec, execs_since_ascend, few_execs_since, shift_changed, changed_shift, shifts_since_ascend, few_shifts_since, grant_changed, changed_grant, grants_since_ascend, few_grants_since}
 use Rattle.delta_exchange.proofs.TellsCells.{either, hits_tell, execs_tell, shifts_tell, grants_tell, cell_told}

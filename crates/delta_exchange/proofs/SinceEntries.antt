@@ -17,9 +17,9 @@ use Rattle.replica_state.proofs.Names.{IsAscending}
 use Rattle.delta_exchange.specs.declared.marks.NameMarks.{NameMarks}
 use Rattle.delta_exchange.specs.declared.marks.Marks.{Marks}
 use Rattle.delta_exchange.specs.Marks.{marks_at}
-use Rattle.delta_exchange.specs.Messages.{EntryValue}
+use Rattle.message_format.specs.Messages.{EntryValue}
 use Rattle.delta_exchange.specs.Since.{entry_since, tells_cells, entry_told, entry_under, entry_marked, entries_since, AreCellsOrdered}
-use Rattle.delta_exchange.proofs.Members.{flat_in, in_flat, mapped_from, one_of}
+use Rattle.message_format.proofs.Members.{flat_in, in_flat, mapped_from, one_of}
 use Rattle.delta_exchange.proofs.SinceMaps.{found_in, value_at, flat_ascends}
 use Rattle.delta_exchange.proofs.LaterCells.{part_is_short}
 

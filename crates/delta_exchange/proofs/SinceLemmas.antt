@@ -7,30 +7,24 @@ use Rattle.stamp_register.specs.Keys.{KeyValue}
 use Rattle.replica_state.specs.Operations.{Operation, Set, Count, Hits, Execs, Shifts, IsIn}
 use Rattle.replica_state.specs.States.{State}
 use Rattle.replica_state.specs.declared.point.Counted.TheVariants as counted
-use Rattle.delta_exchange.specs.Limits.{max_nodes}
+use Rattle.message_format.specs.Limits.{max_nodes}
 use Rattle.delta_exchange.specs.declared.marks.Marks.{Marks}
-use Rattle.delta_exchange.specs.declared.wire.Form.{Form}
-use Rattle.delta_exchange.specs.declared.wire.Form.TheVariants.{Plain, WithGrants}
 use Rattle.delta_exchange.specs.Marks.{marks_value, AreUpto}
 use Rattle.delta_exchange.specs.Changes.{IsChangeSince, IsChangedCell, IsUnchangedSince}
-use Rattle.delta_exchange.specs.Messages.{EntryValue, MessageValue, operations_of}
-use Rattle.delta_exchange.specs.Spelling.{IsEntry, IsMessage, magic, form_of, entry_bytes, message_bytes, max_message}
+use Rattle.message_format.specs.Messages.{EntryValue, MessageValue, operations_of}
+use Rattle.message_format.specs.Spelling.{IsEntry, IsMessage, magic, form_of, entry_bytes, message_bytes, max_message}
 use Rattle.delta_exchange.specs.Cells.{EntryFits, EntriesFit}
 use Rattle.delta_exchange.specs.Versions.{VersionedValue}
 use Rattle.delta_exchange.specs.Since.{CanBeTold, IsMessageSince, entry_since}
-use Rattle.delta_exchange.proofs.Members.{all_of, flat_in, in_flat, one_of}
-use Rattle.delta_exchange.proofs.LawfulLemmas.{IsTold, told_of}
-use Rattle.delta_exchange.proofs.OneMessage.{hit_in, exec_in, shift_in, grant_in}
-use Rattle.delta_exchange.proofs.LawfulStates.{IsLawfulState, lawful_state}
-use Rattle.delta_exchange.proofs.BelowLemmas.{ascends, length_flat}
-use Rattle.delta_exchange.proofs.HeldEntries.{entry_short}
+use Rattle.message_format.proofs.Members.{all_of, flat_in, in_flat, one_of}
+use Rattle.message_format.proofs.LawfulLemmas.{IsTold, told_of}
+use Rattle.message_format.proofs.OneMessage.{hit_in, exec_in, shift_in, grant_in}
+use Rattle.message_format.proofs.LawfulStates.{IsLawfulState, lawful_state}
+use Rattle.message_format.proofs.Sizes.{IsShort, length_flat, magic_short, entry_short}
+use Rattle.delta_exchange.proofs.BelowLemmas.{ascends}
 use Rattle.delta_exchange.proofs.SinceCells.{changes_of, hit_changed, changed_hit, few_hits_since, exec_changed, changed_exec, few_execs_since, shift_changed, changed_shift, few_shifts_since, grant_changed, changed_grant, few_grants_since}
 use Rattle.delta_exchange.proofs.SinceEntries.{all_since, AreOrdered, IsEntrySince, entry_member, few_entries, entries_ascend}
 use Rattle.delta_exchange.proofs.SinceChanges.{told_change, entry_is, entry_changed}
-
-magic_short : (form : Form) → length (magic form) ≤ 4
-magic_short Plain = omega arith
-magic_short WithGrants = omega arith
 
 some_key : (o : Option KeyValue) → IsTrue (is_some o) → (key : KeyValue) × (o ≡ Some key)
 some_key None h = absurd cc
@@ -99,7 +93,7 @@ module _ (v : State) (nodes : ℕ) (lawful : IsLawfulState nodes v) (few : nodes
   -- ---- it can be written
 
   module _ (fit : EntriesFit entries) (names : length v.names ≤ 256) where
-    each_is : (e : EntryValue) → IsIn e entries → IsEntry nodes e × ((form : Form) → length (entry_bytes form e) ≤ 191924)
+    each_is : (e : EntryValue) → IsIn e entries → IsEntry nodes e × IsShort e
     each_is e h =
         let r = entry_member v base m ordered e h in
         let s = entry_since v r.name r.key base r.marks in
@@ -109,7 +103,7 @@ module _ (v : State) (nodes : ℕ) (lawful : IsLawfulState nodes v) (few : nodes
         let execs = few_execs_since v nodes lawful few m base r.name r.marks r.at r.ordered r.key r.keyed in
         let shifts = few_shifts_since v nodes lawful few m base r.name r.marks r.at r.ordered r.key r.keyed in
         let grants = few_grants_since v nodes lawful few m base r.name r.marks r.at r.ordered r.key r.keyed in
-        subst (λ x. IsEntry nodes x × ((form : Form) → length (entry_bytes form x) ≤ 191924)) (sym r.is) (is, entry_short nodes s is hits execs shifts grants)
+        subst (λ x. IsEntry nodes x × IsShort x) (sym r.is) (is, entry_short nodes s is hits execs shifts grants)
 
     pub is_spelled : (n : MessageValue) → n.entries ≡ entries → n.from < nodes → n.to < nodes → n.to ≢ n.from → n.base < 2 ^ 64 → n.upto < 2 ^ 64 → n.ack < 2 ^ 64 → IsMessage nodes n
     is_spelled n same lt less apart b u a =

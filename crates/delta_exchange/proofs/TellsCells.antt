@@ -4,7 +4,7 @@ use Rattle.std.specs.Prelude.{nat_lt, IsTrue}
 use Rattle.std.proofs.lemmas.Bool.{or_left, or_right}
 use Rattle.std.proofs.lemmas.Bool.Decides.{nat_tests}
 use Rattle.replica_state.specs.Operations.{IsIn}
-use Rattle.delta_exchange.specs.Messages.{EntryValue}
+use Rattle.message_format.specs.Messages.{EntryValue}
 use Rattle.delta_exchange.specs.Since.{tells_cells}
 
 some_in : {A : Type 0} (xs : List A) (x : A) → IsIn x xs → IsTrue (nat_lt 0 (length xs))

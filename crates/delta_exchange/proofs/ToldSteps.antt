@@ -10,8 +10,8 @@ use Rattle.replica_state.specs.States.{State}
 use Rattle.replica_state.specs.Folds.{fold}
 use Rattle.replica_state.proofs.Sets.{IsIn-append_left, IsIn-append_right, IsIn-append_cases}
 use Rattle.replica_state.proofs.KnownSets.{same_members}
-use Rattle.delta_exchange.specs.declared.message.NameEntry.{NameEntry}
-use Rattle.delta_exchange.specs.Messages.{EntryValue, entry_value, hits_in, execs_in, shifts_in, grants_in, operations_of}
+use Rattle.message_format.specs.declared.message.NameEntry.{NameEntry}
+use Rattle.message_format.specs.Messages.{EntryValue, entry_value, hits_in, execs_in, shifts_in, grants_in, operations_of}
 use Rattle.delta_exchange.specs.Told.{HasLearned}
 
 -- what was learned last may stand behind what was learned before

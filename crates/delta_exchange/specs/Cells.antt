@@ -5,7 +5,7 @@ use Rattle.actions.specs.Limits.{max_terms}
 use Rattle.stamp_register.specs.Keys.{KeyValue}
 use Rattle.replica_state.specs.Operations.{count_of}
 use Rattle.replica_state.specs.States.{State, granted_in}
-use Rattle.delta_exchange.specs.Messages.{EntryValue}
+use Rattle.message_format.specs.Messages.{EntryValue}
 
 -- the lists of the numbers below one, one after the other
 unfoldable pub each_below : {C : Type 0} → (ℕ → List C) → ℕ → List C

@@ -3,7 +3,7 @@ use Rattle.std.specs.Prelude.{ℕ, ◌==◌, ◌&&◌, ◌||◌, not, Bool, fals
 use Rattle.std.specs.List.{filter, flat_map}
 use Rattle.stamp_register.specs.Keys.{KeyValue, same_key}
 use Rattle.replica_state.specs.States.{State, granted_in}
-use Rattle.delta_exchange.specs.Messages.{EntryValue, MessageValue}
+use Rattle.message_format.specs.Messages.{EntryValue, MessageValue}
 use Rattle.delta_exchange.specs.Cells.{entries_of}
 use Rattle.delta_exchange.specs.Since.{tells_cells}
 

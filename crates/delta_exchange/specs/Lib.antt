@@ -1,9 +1,3 @@
-pub mod FaultText
-pub mod Limits
-pub mod Messages
-pub mod Spelling
-pub mod Reading
-pub mod Wholes
 pub mod Told
 pub mod Cells
 pub mod Changes

@@ -13,11 +13,11 @@ use Rattle.replica_state.specs.declared.point.Counted.TheVariants.{Hits, Execs, 
 use Rattle.delta_exchange.specs.declared.marks.NameMarks.{NameMarks}
 use Rattle.delta_exchange.specs.declared.marks.Marks.{Marks}
 use Rattle.delta_exchange.specs.Marks.{cell_change}
-use Rattle.delta_exchange.specs.Messages.{EntryValue, MessageValue, operations_in}
-use Rattle.delta_exchange.specs.Spelling.{IsMessage, message_bytes, max_message}
+use Rattle.message_format.specs.Messages.{EntryValue, MessageValue, operations_in}
+use Rattle.message_format.specs.Spelling.{IsMessage, message_bytes, max_message}
 use Rattle.delta_exchange.specs.Cells.{cell_of}
-use Rattle.delta_exchange.specs.Limits.{max_nodes, max_names}
-use Rattle.delta_exchange.specs.Wholes.{AreLawful}
+use Rattle.message_format.specs.Limits.{max_nodes, max_names}
+use Rattle.message_format.specs.Wholes.{AreLawful}
 use Rattle.delta_exchange.specs.Changes.{IsChangeSince}
 use Rattle.delta_exchange.specs.Versions.{VersionedValue}
 

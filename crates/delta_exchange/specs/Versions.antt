@@ -12,7 +12,7 @@ use Rattle.replica_state.specs.Knowledge.{changes}
 use Rattle.delta_exchange.specs.declared.versions.NodeVersions.{NodeVersions}
 use Rattle.delta_exchange.specs.declared.versioned.Versioned.{Versioned}
 use Rattle.delta_exchange.specs.Marks.{marks_value, last_changes}
-use Rattle.delta_exchange.specs.Messages.{MessageValue, operations_in}
+use Rattle.message_format.specs.Messages.{MessageValue, operations_in}
 use Rattle.delta_exchange.specs.Told.{HasLearned}
 use Rattle.delta_exchange.specs.Changes.{LastChanges, ChangesAt}
 

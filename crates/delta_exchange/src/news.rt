@@ -13,10 +13,10 @@ ghost use Rattle.replica_state.specs.Folds.{fold};
 ghost use Rattle.delta_exchange.specs.Marks.{marks_value};
 ghost use Rattle.delta_exchange.specs.Told.{HasLearned};
 ghost use Rattle.delta_exchange.specs.News.{counted_of, is_new, news_in, news_of, operation_of, with_news, HaveRoom, StandsIn};
-ghost use Rattle.delta_exchange.specs.Messages.{entry_value, message_value, hits_in, execs_in, shifts_in, grants_in, operations_of, operations_in};
+ghost use Rattle.message_format.specs.Messages.{entry_value, message_value, hits_in, execs_in, shifts_in, grants_in, operations_of, operations_in};
 
 use crate::marks::Marks;
-use crate::message::{Message, NameEntry};
+use message_format::{Message, NameEntry};
 use actions::Name;
 use replica_state::{Count, Counted, Op, Replica};
 use stamp_register::Key;

@@ -7,13 +7,13 @@ ghost use Rattle.std.specs.Ordering.{nat_cmp};
 ghost use Rattle.std.specs.Cmp.Lexicographic.{slice_cmp};
 ghost use Rattle.stamp_register.specs.Keys.{key_value};
 ghost use Rattle.replica_state.specs.Points.{counted_cmp};
-ghost use Rattle.delta_exchange.specs.Messages.{entry_value, message_value};
+ghost use Rattle.message_format.specs.Messages.{entry_value, message_value};
 ghost use Rattle.delta_exchange.specs.Cells.{HitsFit, ExecsFit, ShiftsFit, EntryFits, EntriesFit};
 ghost use Rattle.delta_exchange.specs.Versions.{value_of};
 ghost use Rattle.delta_exchange.specs.Since.{CanBeTold, IsMessageSince, AreCellsOrdered, hits_since, execs_since, shifts_since, grants_since, entry_since, entry_under, entries_since, tells_cells};
 
 use crate::marks::{Marks, NameMarks};
-use crate::message::{Message, NameEntry};
+use message_format::{Message, NameEntry};
 use crate::versioned::Versioned;
 use actions::Name;
 use replica_state::{Counted, Replica};

@@ -9,13 +9,13 @@ ghost use Rattle.replica_state.specs.Operations.{Operation, IsWellFormed, Shifts
 ghost use Rattle.replica_state.specs.Folds.{fold};
 ghost use Rattle.replica_state.specs.Knowledge.{is_upto, changes};
 ghost use Rattle.replica_state.specs.declared.point.Counted.TheVariants.{Execs};
-ghost use Rattle.delta_exchange.specs.Messages.{message_value, operations_in};
-ghost use Rattle.delta_exchange.specs.Spelling.{IsMessage};
+ghost use Rattle.message_format.specs.Messages.{message_value, operations_in};
+ghost use Rattle.message_format.specs.Spelling.{IsMessage};
 ghost use Rattle.delta_exchange.specs.Marks.{marks_value, AreUpto};
 
 use crate::learning::replica_of;
 use crate::marks::Marks;
-use crate::message::Message;
+use message_format::Message;
 use crate::news::{Told, learned, make_room, mark_all, news_of_message, news_of_ops};
 use crate::versions::NodeVersions;
 use actions::Name;

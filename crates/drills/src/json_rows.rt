@@ -3,7 +3,7 @@
 ghost use Rattle.std.specs.Prelude.{◌≡◌, ◌∷◌, ◌++◌, [], map, option_map, codes, string_bytes, true, false, IfOk, OnOk};
 ghost use Rattle.serde_json.specs.View.{view};
 ghost use Rattle.actions.specs.Value.{task_value};
-ghost use Rattle.node_core.specs.Asks.{passed};
+ghost use Rattle.node_calls.specs.Asks.{passed};
 ghost use Rattle.audit.specs.Told.{ask_told, reply_told};
 ghost use Rattle.hex.specs.Hex.{IsBytes};
 ghost use Rattle.drills.specs.Fits.{AskFits, PassFits, ReplyFits, StampFits, WordsFit};

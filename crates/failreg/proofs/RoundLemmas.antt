@@ -4,7 +4,7 @@ use Rattle.std.specs.List.{count_by, filter}
 use Rattle.std.proofs.lemmas.List.{append-nil, length-map}
 use Rattle.std.proofs.lemmas.List.Sums.{sum_by-cons}
 use Rattle.node_core.specs.declared.config.Config.{Config}
-use Rattle.node_core.specs.Asks.{Asked, bare_emit}
+use Rattle.node_calls.specs.Asks.{Asked, bare_emit}
 use Rattle.gossip.specs.declared.report.GossipReport.{GossipReport}
 use Rattle.gossip.specs.Parts.{IsPartOf, none, kept, left_out}
 use Rattle.gossip.specs.Reports.{IsTold, asked_in, asks_in, calls_of, emits_below, emits_of_rounds, is_delivery, is_emit, others_below, own_asks_in}

@@ -73,15 +73,31 @@ where
     ensures status { IfOk result (λ code. (exit_status code ≡ 0) ⊎ (exit_status code ≡ 1)) }
     ensures bad { IsTrue (is_bad_config config) → HasStatus result 1 }
 {
-    let (registry, mut seat, telling_seat) = match opened::<L, R>(rt, rt.alloc(), blank, config) {
-        Ok(opened) => opened,
-        Err(fault) => return refuse(rt, fault),
-    };
+    match opened::<L, R>(rt, rt.alloc(), blank, config) {
+        Ok((registry, seat, telling_seat)) => {
+            serve_opened(rt, &registry, seat, telling_seat, options)
+        }
+        Err(fault) => refuse(rt, fault),
+    }
+}
+
+// Listens for the node, sets its first points, and lets clients in.
+fn serve_opened<L, R>(
+    rt: &R,
+    registry: &Arc<Registry<L>>,
+    mut seat: Seat<L>,
+    telling_seat: Seat<L>,
+    options: ServeOptions<'_>,
+) -> anyhow::Result<ExitCode>
+where
+    L: Label + Send + Sync,
+    R: Host + Print + Eprint,
+    ensures { IfOk result (λ code. (exit_status code ≡ 0) ⊎ (exit_status code ≡ 1)) }
+{
     let Ok((mut runtime, listener, port)) = listen(rt, options.port) else {
         return refuse(rt, ServeFault::BindFailed);
     };
-    println!(rt; "listening {port}")?;
-    io::writer(rt).flush()?;
+    say_where(rt, port)?;
     if let Some(text) = options.failpoints
         && let Err(fault) = registry.load(rt, rt.alloc(), &mut seat, text)
     {
@@ -89,7 +105,7 @@ where
     }
     let serving = Serving {
         runtime: &mut runtime,
-        registry: &registry,
+        registry,
         seat,
         listener,
         requests: options.requests,
@@ -98,6 +114,12 @@ where
         rt,
         serve_and_tell(rt, serving, telling_seat, options.telling),
     )
+}
+
+// Says on which port the node is served, so that whoever started it needn't wait.
+fn say_where<R: Print>(rt: &R, port: u16) -> io::Result<()> {
+    println!(rt; "listening {port}")?;
+    io::writer(rt).flush()
 }
 
 // The registry of a node, with the two seats from which it is called.

@@ -6,10 +6,11 @@ ghost use Rattle.failreg.specs.Rounds.{most_calls, peer_of};
 
 use crate::host::Host;
 use command_line::{NamedPeer, Telling};
-use gossip::{WireError, gossip_rounds};
+use gossip::{Wire, WireError, gossip_rounds};
 use http_serve::{ServeFault, serve};
 use http_wire::{HttpWire, Peer};
 use node_registry::{Label, Registry, Seat};
+use std::alloc::{AllocError, AllocGlobal, Global};
 use std::sync::atomic::{AtomicBool, Ordering};
 use std::sync::{Arc, Wait};
 use std::thread;
@@ -58,50 +59,70 @@ impl Service {
     }
 }
 
-// A wire to these peers.
-fn wire_to<R: Host>(rt: &R, named: &[NamedPeer]) -> Result<HttpWire<R>, WireError>
-    ensures { IfOk result (λ wire. wire.peers.items ≡ map peer_of named.now) }
+// The peers of a wire.
+fn peers_of(alloc: Global, named: &[NamedPeer]) -> Result<Vec<Peer>, AllocError>
+    ensures { IfOk result (λ peers. peers.items ≡ map peer_of named.now) }
 {
-    let mut peers = Vec::new(rt.alloc());
+    let mut peers = Vec::new(alloc);
     for peer in named {
         peers.push(Peer {
             node: peer.node,
             port: peer.port,
         })?;
     }
+    Ok(peers)
+}
+
+// A wire to these peers.
+fn wire_to<R: Host>(rt: &R, named: &[NamedPeer]) -> Result<HttpWire<R>, WireError>
+    ensures { IfOk result (λ wire. wire.peers.items ≡ map peer_of named.now) }
+{
+    let peers = peers_of(rt.alloc(), named)?;
     HttpWire::new(*rt, peers)
 }
 
-// Does one round after the other, with a rest between two, until all are done or the service has
-// ended. Where the wire can't be made there is none.
-fn keep_telling<L, R>(
+// Does one round after the other over a wire, with a rest between two, until all are done or the
+// service has ended.
+fn keep_telling<L, R, W>(
     rt: &R,
     registry: &Registry<L>,
     seat: &mut Seat<L>,
-    telling: Telling,
+    wire: &mut W,
+    telling: &Telling,
+    service: &Service,
+)
+where
+    L: Label,
+    R: Wait + AllocGlobal,
+    W: Wire,
+    ensures { seat.new ≤ seat.old + telling.now.rounds * most_calls L.config }
+{
+    for round in 0..telling.rounds {
+        if round > 0 {
+            service.rest(rt, telling.every);
+        }
+        if service.has_ended() {
+            return;
+        }
+        gossip_rounds(rt, rt.alloc(), registry, seat, wire, 1);
+    }
+}
+
+// Tells the peers over HTTP. Where the wire can't be made, none is told.
+fn tell_over_http<L, R>(
+    rt: &R,
+    registry: &Registry<L>,
+    seat: &mut Seat<L>,
+    telling: &Telling,
     service: &Service,
 )
 where
     L: Label,
     R: Host,
-    ensures { seat.new ≤ seat.old + telling.rounds * most_calls L.config }
+    ensures { seat.new ≤ seat.old + telling.now.rounds * most_calls L.config }
 {
-    let Telling {
-        peers,
-        rounds,
-        every,
-    } = telling;
-    let Ok(mut wire) = wire_to(rt, &peers) else {
-        return;
-    };
-    for round in 0..rounds {
-        if round > 0 {
-            service.rest(rt, every);
-        }
-        if service.has_ended() {
-            return;
-        }
-        gossip_rounds(rt, rt.alloc(), registry, seat, &mut wire, 1);
+    if let Ok(mut wire) = wire_to(rt, &telling.peers) {
+        keep_telling(rt, registry, seat, &mut wire, telling, service);
     }
 }
 
@@ -139,7 +160,7 @@ where
     ensures err { IfErr result (λ f. (f ≡ AcceptFailed) ⊎ (f ≡ OutOfMemory)) }
 {
     let registry: &'s Registry<L> = serving.registry;
-    let thread = scope.spawn(move || keep_telling(rt, registry, &mut seat, telling, service));
+    let thread = scope.spawn(move || tell_over_http(rt, registry, &mut seat, &telling, service));
     let served = serve_alone(rt, serving);
     service.end();
     if let Ok(thread) = thread {

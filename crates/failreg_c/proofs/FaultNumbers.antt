@@ -1,8 +1,8 @@
 -- The text of a fault begins with its number.
 use Rattle.std.proofs.Common.{refl}
 use Rattle.std.specs.Fmt.{digits}
-use Rattle.node_core.specs.declared.fault.NodeFault.{NodeFault}
-use Rattle.node_core.specs.declared.fault.NodeFault.TheVariants as faults
+use Rattle.node_calls.specs.declared.fault.NodeFault.{NodeFault}
+use Rattle.node_calls.specs.declared.fault.NodeFault.TheVariants as faults
 use Rattle.failreg_c.specs.Numbers.{IsNumbered}
 
 pub numbered : (fault : NodeFault) → IsNumbered fault

@@ -3,9 +3,9 @@ use Rattle.std.specs.Prelude.{◌≡◌, ◌⊎◌, ℕ, List, [], ◌++◌, len
 use Rattle.rand_chacha.specs.ChaCha.{key_of}
 use Rattle.actions.specs.Names.{is_name}
 use Rattle.node_core.specs.declared.config.Config.{Config}
-use Rattle.node_core.specs.declared.fault.NodeFault.TheVariants.{BadConfig, BadName}
-use Rattle.node_core.specs.Asks.{Asked, Answered}
-use Rattle.node_core.specs.Asks as asks
+use Rattle.node_calls.specs.declared.fault.NodeFault.TheVariants.{BadConfig, BadName}
+use Rattle.node_calls.specs.Asks.{Asked, Answered}
+use Rattle.node_calls.specs.Asks as asks
 use Rattle.node_core.specs.Deliveries.{TellsDelta}
 use Rattle.node_core.specs.Passes.{words_for}
 use Rattle.node_core.specs.Refusals.{is_bad_config}

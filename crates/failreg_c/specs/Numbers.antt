@@ -2,9 +2,9 @@
 -- one of these; stamps, and numbers that don't fit.
 use Rattle.std.specs.Prelude.{◌≡◌, ℕ, ℤ, ◌+◌, ◌*◌, ◌^◌, ◌≤ℤ◌, pos, neg_ℤ, List, ◌++◌, codes, decimal}
 use Rattle.stamp_register.specs.declared.key.Stamp.{Stamp}
-use Rattle.node_core.specs.declared.fault.NodeFault.{NodeFault}
-use Rattle.node_core.specs.declared.fault.NodeFault.TheVariants as faults
-use Rattle.node_core.specs.Texts.{node_fault_text}
+use Rattle.node_calls.specs.declared.fault.NodeFault.{NodeFault}
+use Rattle.node_calls.specs.declared.fault.NodeFault.TheVariants as faults
+use Rattle.node_calls.specs.FaultText.{node_fault_text}
 use Rattle.failreg_c.specs.declared.numbers.Stamped.{Stamped}
 use Rattle.failreg_c.specs.declared.numbers.Wide.{Wide}
 

@@ -2,8 +2,8 @@
 use Rattle.std.specs.Prelude.{◌≡◌, ℕ, List, [], length, Option, Some, None, is_some, false}
 use Rattle.actions.specs.Value.{TaskValue}
 use Rattle.actions.specs.Value as tasks
-use Rattle.node_core.specs.Asks.{Passed, Answered}
-use Rattle.node_core.specs.Asks as asks
+use Rattle.node_calls.specs.Asks.{Passed, Answered}
+use Rattle.node_calls.specs.Asks as asks
 use Rattle.failreg_c.specs.declared.act.Act.{Act}
 
 -- the number, the time and the text of a task

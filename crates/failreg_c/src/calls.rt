@@ -1,8 +1,8 @@
 //! The calls that change a node.
 
 ghost use Rattle.std.specs.Prelude.{◌≡◌, ◌≢◌, [], false, IsSome, IsUtf8, MatchOption};
-ghost use Rattle.node_core.specs.Asks as asks;
-ghost use Rattle.node_core.specs.Asks.{bare_emit};
+ghost use Rattle.node_calls.specs.Asks as asks;
+ghost use Rattle.node_calls.specs.Asks.{bare_emit};
 ghost use Rattle.node_core.specs.Memory.{DeliveryNeedsMemory, EmitNeedsMemory, LoadNeedsMemory, NameNeedsMemory, SetNeedsMemory};
 ghost use Rattle.node_core.specs.Traces.{delivery_of};
 ghost use Rattle.failreg_c.specs.Numbers.{already_open, closed, no_stamp, stamp_in};

@@ -1,10 +1,11 @@
 //! A node with its generator, and what C is told of its last call.
 
 ghost use Rattle.std.specs.Prelude.{◌≡◌, ◌≢◌, [], Some, None, false, length, option_map, IfOk, IfErr, IsUtf8};
-ghost use Rattle.node_core.specs.Asks as asks;
-ghost use Rattle.node_core.specs.Asks.{bare_emit};
+ghost use Rattle.node_calls.specs.Asks as asks;
+ghost use Rattle.node_calls.specs.Asks.{bare_emit};
 ghost use Rattle.node_core.specs.Memory.{DeliveryNeedsMemory, EmitNeedsMemory, LoadNeedsMemory, NameNeedsMemory, SetNeedsMemory};
-ghost use Rattle.node_core.specs.Texts.{list_text, node_fault_text};
+ghost use Rattle.node_calls.specs.FaultText.{node_fault_text};
+ghost use Rattle.node_core.specs.Texts.{list_text};
 ghost use Rattle.node_core.specs.Traces.{delivery_of, state_known};
 ghost use Rattle.failreg_c.specs.Numbers.{IsNumbered, no_memory, not_text, number};
 ghost use Rattle.failreg_c.specs.Told.{no_act, text_or_none};

@@ -1,12 +1,12 @@
 -- What receipts ask.
 use Rattle.std.proofs.Common.{◌≡◌, ℕ, List, Bool, true, false, Ok, Err, Result, refl, ap, ◌∙◌, sym, true≢false}
-use Rattle.delta_exchange.specs.declared.fault.WireFault.{WireFault}
-use Rattle.node_core.specs.declared.ask.Ask.{Ask}
-use Rattle.node_core.specs.declared.ask.Ask.TheVariants as asks
-use Rattle.node_core.specs.declared.reply.Reply.{Reply}
-use Rattle.node_core.specs.declared.reply.Reply.TheVariants as replies
-use Rattle.node_core.specs.Asks as asked
-use Rattle.node_core.specs.Asks.{Asked, Message, ask_value, ask_value_first, bare_emit, emit_asked, emit_of, message_read}
+use Rattle.message_format.specs.declared.fault.WireFault.{WireFault}
+use Rattle.node_calls.specs.declared.ask.Ask.{Ask}
+use Rattle.node_calls.specs.declared.ask.Ask.TheVariants as asks
+use Rattle.node_calls.specs.declared.reply.Reply.{Reply}
+use Rattle.node_calls.specs.declared.reply.Reply.TheVariants as replies
+use Rattle.node_calls.specs.Asks as asked
+use Rattle.node_calls.specs.Asks.{Asked, Message, ask_value, ask_value_first, bare_emit, emit_asked, emit_of, message_read}
 use Rattle.node_core.specs.Applied.{TellsIfEmit}
 use Rattle.node_core.specs.Traces.{Kept}
 use Rattle.gossip.specs.Reports.{is_emit}

@@ -5,9 +5,9 @@ use Rattle.std.proofs.lemmas.List.{map-append, append-nil}
 use Rattle.std.proofs.lemmas.List.Elements.{filter-append}
 use Rattle.std.proofs.lemmas.List.Sums.{sum_by-append}
 use Rattle.node_core.specs.declared.config.Config.{Config}
-use Rattle.node_core.specs.declared.receipt.Receipt.{Receipt}
-use Rattle.delta_exchange.specs.declared.fault.WireFault.{WireFault}
-use Rattle.node_core.specs.Asks.{Asked, Message, Shift, Deliver, ask_value, bare_emit, emit_asked}
+use Rattle.node_calls.specs.declared.receipt.Receipt.{Receipt}
+use Rattle.message_format.specs.declared.fault.WireFault.{WireFault}
+use Rattle.node_calls.specs.Asks.{Asked, Message, Shift, Deliver, ask_value, bare_emit, emit_asked}
 use Rattle.node_registry.specs.Receipts.{IsGiven}
 use Rattle.gossip.specs.declared.report.GossipReport.{GossipReport}
 use Rattle.gossip.specs.Parts.{IsPartOf}

@@ -1,12 +1,12 @@
 -- What a call comes to, by its outcome.
 use Rattle.std.proofs.Common.{◌≡◌, ℕ, [], Option, Result, Ok, Err, None, Some, inl, inr, refl, sym, ap, ◌∙◌, subst, IfOk, IfErr, IfSome, OnErr, option_map}
-use Rattle.node_core.specs.declared.ask.Ask.{Ask}
-use Rattle.node_core.specs.declared.ask.Ask.TheVariants as asks
-use Rattle.node_core.specs.declared.fault.NodeFault.{NodeFault}
-use Rattle.node_core.specs.declared.reply.Reply.{Reply}
-use Rattle.node_core.specs.declared.trace.Entry.{Entry}
-use Rattle.node_core.specs.Asks.{Asked, Call, ask_value_first}
-use Rattle.node_core.specs.Asks as nodes
+use Rattle.node_calls.specs.declared.ask.Ask.{Ask}
+use Rattle.node_calls.specs.declared.ask.Ask.TheVariants as asks
+use Rattle.node_calls.specs.declared.fault.NodeFault.{NodeFault}
+use Rattle.node_calls.specs.declared.reply.Reply.{Reply}
+use Rattle.node_calls.specs.declared.trace.Entry.{Entry}
+use Rattle.node_calls.specs.Asks.{Asked, Call, ask_value_first}
+use Rattle.node_calls.specs.Asks as nodes
 use Rattle.node_core.specs.Traces.{Kept, Accepts, IsRefusalOf, Records, call_of}
 use Rattle.http_routes.specs.Replies.{ReplyValue, IsReply, acceptance_value, no_memory, refusal_value}
 use Rattle.http_routes.specs.Requests.{AskValue, WantedValue, IsWanted, ask_value, call}

@@ -1,8 +1,8 @@
 -- What a request comes to at a node: the reply, and the node after it.
 use Rattle.std.specs.Prelude.{◌≡◌, ◌⊎◌, ℕ, [], None}
-use Rattle.node_core.specs.declared.fault.NodeFault.{NodeFault}
-use Rattle.node_core.specs.Asks.{Asked, message_read}
-use Rattle.node_core.specs.Asks as nodes
+use Rattle.node_calls.specs.declared.fault.NodeFault.{NodeFault}
+use Rattle.node_calls.specs.Asks.{Asked, message_read}
+use Rattle.node_calls.specs.Asks as nodes
 use Rattle.node_core.specs.Traces.{Kept, IsRefusalOf, after_call, refusal, reply_to, state_known}
 use Rattle.node_core.specs.Texts.{list_text}
 use Rattle.report_text.specs.Json.{report_json_text}

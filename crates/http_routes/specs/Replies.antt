@@ -1,11 +1,11 @@
 -- Replies: a status and the bytes of a body.
 use Rattle.std.specs.Prelude.{◌≡◌, ◌⊎◌, ℕ, true, false, List, [], Result, Ok, Err, codes, decimal}
 use Rattle.stamp_register.specs.Keys.{stamp_text}
-use Rattle.node_core.specs.Asks.{Answered, IsSet, IsRemoved, IsLoaded, IsPassed, IsShifted, IsGranted, IsEmitted, IsDelivered, reply_value}
-use Rattle.node_core.specs.declared.fault.NodeFault.{NodeFault}
-use Rattle.node_core.specs.declared.fault.NodeFault.TheVariants as faults
-use Rattle.node_core.specs.declared.reply.Reply.{Reply}
-use Rattle.node_core.specs.Texts.{node_fault_text}
+use Rattle.node_calls.specs.Asks.{Answered, IsSet, IsRemoved, IsLoaded, IsPassed, IsShifted, IsGranted, IsEmitted, IsDelivered, reply_value}
+use Rattle.node_calls.specs.declared.fault.NodeFault.{NodeFault}
+use Rattle.node_calls.specs.declared.fault.NodeFault.TheVariants as faults
+use Rattle.node_calls.specs.declared.reply.Reply.{Reply}
+use Rattle.node_calls.specs.FaultText.{node_fault_text}
 use Rattle.http_routes.specs.declared.reply.HttpReply.{HttpReply}
 
 pub record ReplyValue : Type 0 where

@@ -1,9 +1,9 @@
 -- What a request wants, by its method, its path and its body.
 use Rattle.std.specs.Prelude.{◌≡◌, ◌⊎◌, ◌||◌, ℕ, Bool, not, nat_lt, if◌then◌else◌, List, length, Option, Some, None, option_map, codes, string_bytes}
-use Rattle.delta_exchange.specs.Spelling.{max_message}
+use Rattle.message_format.specs.Spelling.{max_message}
 use Rattle.std.specs.Str.{is_utf8, bytes_eq}
-use Rattle.node_core.specs.declared.ask.Ask.{Ask}
-use Rattle.node_core.specs.declared.ask.Ask.TheVariants as asks
+use Rattle.node_calls.specs.declared.ask.Ask.{Ask}
+use Rattle.node_calls.specs.declared.ask.Ask.TheVariants as asks
 use Rattle.http_paths.specs.Paths.{TargetValue, target_of}
 use Rattle.http_paths.specs.Paths as paths
 use Rattle.http_routes.specs.Numbers.{number_of}

@@ -1,8 +1,8 @@
 //! Requests at a node.
 
 ghost use Rattle.std.specs.Prelude.{◌≡◌, [], IfOk, IfErr, IfSome, OnErr};
-ghost use Rattle.node_core.specs.Asks.{ask_value_first};
-ghost use Rattle.node_core.specs.Asks as nodes;
+ghost use Rattle.node_calls.specs.Asks.{ask_value_first};
+ghost use Rattle.node_calls.specs.Asks as nodes;
 ghost use Rattle.node_core.specs.Traces.{Accepts, IsRefusalOf};
 ghost use Rattle.http_routes.specs.Replies.{http_value};
 ghost use Rattle.http_routes.specs.Requests.{ask_value, call, wanted};

@@ -3,7 +3,7 @@
 ghost use Rattle.std.specs.Prelude.{◌≡◌, ◌≤◌, ◌+◌, ◌++◌, ℕ, [], length, decimal};
 ghost use Rattle.std.specs.Prelude.{IfOk, IfErr, string_bytes, string_len, string_capacity};
 ghost use Rattle.stamp_register.specs.Keys.{stamp_text};
-ghost use Rattle.node_core.specs.Asks.{reply_value};
+ghost use Rattle.node_calls.specs.Asks.{reply_value};
 ghost use Rattle.http_routes.specs.Replies.{acceptance_value, answered_text, http_value, no_memory};
 ghost use Rattle.http_routes.specs.Replies.{outcome_value, refusal_value, status_of, text_reply, IsReply};
 

@@ -1,7 +1,7 @@
 //! What a request wants.
 
 ghost use Rattle.std.specs.Prelude.{◌≡◌, ◌<◌, ℕ, List, length, Some, IfOk, OnErr, option_map};
-ghost use Rattle.delta_exchange.specs.Spelling.{max_message};
+ghost use Rattle.message_format.specs.Spelling.{max_message};
 ghost use Rattle.http_paths.specs.Targets.{target_value};
 ghost use Rattle.http_routes.specs.Numbers.{number_of};
 ghost use Rattle.http_routes.specs.Replies.{http_value, no_memory, text_reply};

@@ -1,11 +1,11 @@
 -- What a call from the desk comes to, by its outcome.
 use Rattle.std.proofs.Common.{◌≡◌, inl, inr, ◌∙◌, subst, IfSome}
-use Rattle.node_core.specs.declared.ask.Ask.{Ask}
+use Rattle.node_calls.specs.declared.ask.Ask.{Ask}
 use Rattle.node_core.specs.declared.config.Config.{Config}
-use Rattle.node_core.specs.declared.fault.NodeFault.{NodeFault}
-use Rattle.node_core.specs.declared.receipt.Receipt.{Receipt}
-use Rattle.node_core.specs.Asks.{ask_value_first}
-use Rattle.node_core.specs.Asks as nodes
+use Rattle.node_calls.specs.declared.fault.NodeFault.{NodeFault}
+use Rattle.node_calls.specs.declared.receipt.Receipt.{Receipt}
+use Rattle.node_calls.specs.Asks.{ask_value_first}
+use Rattle.node_calls.specs.Asks as nodes
 use Rattle.node_registry.specs.Receipts.{IsEntryFor, IsGiven}
 use Rattle.node_registry.specs.Receipts as registry
 use Rattle.http_routes.specs.Answers.{asked_of}

@@ -1,9 +1,9 @@
 -- What a served node answers to a request.
 use Rattle.std.specs.Prelude.{◌≡◌, ◌⊎◌}
 use Rattle.node_core.specs.declared.config.Config.{Config}
-use Rattle.node_core.specs.declared.fault.NodeFault.{NodeFault}
-use Rattle.node_core.specs.declared.receipt.Receipt.{Receipt}
-use Rattle.node_core.specs.Asks.{Asked, reply_value}
+use Rattle.node_calls.specs.declared.fault.NodeFault.{NodeFault}
+use Rattle.node_calls.specs.declared.receipt.Receipt.{Receipt}
+use Rattle.node_calls.specs.Asks.{Asked, reply_value}
 use Rattle.node_core.specs.Traces.{state_known}
 use Rattle.node_core.specs.Texts.{list_text}
 use Rattle.node_registry.specs.Cells.{Cell, IsLawfulAt}

@@ -1,8 +1,8 @@
 //! Who answers the requests of all connections.
 
 ghost use Rattle.std.specs.Prelude.{◌≡◌, ◌<◌, ℕ, List, length, Some, IfOk, IfErr, IfSome};
-ghost use Rattle.delta_exchange.specs.Spelling.{max_message};
-ghost use Rattle.node_core.specs.Asks.{ask_value_first};
+ghost use Rattle.message_format.specs.Spelling.{max_message};
+ghost use Rattle.node_calls.specs.Asks.{ask_value_first};
 ghost use Rattle.node_registry.specs.Receipts.{IsEntryFor, IsGiven};
 ghost use Rattle.node_registry.specs.Receipts as receipts;
 ghost use Rattle.http_routes.specs.Replies.{http_value};

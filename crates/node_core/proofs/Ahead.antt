@@ -13,8 +13,8 @@ use Rattle.replica_state.specs.Operations.{Operation, Set, Count, Hits, Execs, S
 use Rattle.replica_state.specs.States.{State, granted_in}
 use Rattle.replica_state.specs.Knowledge.{knows_count}
 use Rattle.replica_state.specs.Points.{key_standing}
-use Rattle.delta_exchange.specs.declared.message.NameEntry.{NameEntry}
-use Rattle.delta_exchange.specs.Messages.{EntryValue, entry_value, operations_of, hits_in, execs_in, shifts_in, grants_in}
+use Rattle.message_format.specs.declared.message.NameEntry.{NameEntry}
+use Rattle.message_format.specs.Messages.{EntryValue, entry_value, operations_of, hits_in, execs_in, shifts_in, grants_in}
 use Rattle.node_core.specs.Refusals.{is_ahead}
 use Rattle.node_core.specs.Deliveries.{ahead_by, are_hits_ahead, are_execs_ahead, are_shifts_ahead, are_grants_ahead}
 

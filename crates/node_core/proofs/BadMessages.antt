@@ -1,11 +1,11 @@
 -- Bytes that are refused.
 use Rattle.std.proofs.Common.{◌≡◌, ◌⊎◌, inl, inr, Result, Some, refl, ap}
-use Rattle.delta_exchange.specs.declared.fault.WireFault.{WireFault}
-use Rattle.delta_exchange.specs.declared.fault.WireFault.TheVariants as wires
-use Rattle.delta_exchange.specs.Messages.{MessageValue}
-use Rattle.delta_exchange.specs.Reading.{Fails}
-use Rattle.node_core.specs.declared.fault.NodeFault.TheVariants as faults
-use Rattle.node_core.specs.Asks.{read_of}
+use Rattle.message_format.specs.declared.fault.WireFault.{WireFault}
+use Rattle.message_format.specs.declared.fault.WireFault.TheVariants as wires
+use Rattle.message_format.specs.Messages.{MessageValue}
+use Rattle.message_format.specs.Reading.{Fails}
+use Rattle.node_calls.specs.declared.fault.NodeFault.TheVariants as faults
+use Rattle.node_calls.specs.Asks.{read_of}
 use Rattle.node_core.specs.Refusals.{bad_message, wire_refusal}
 
 -- the refusal is the fault that was read, or out of memory

@@ -18,7 +18,7 @@ use Rattle.replica_state.proofs.KnownSets.{union_above_right}
 use Rattle.replica_state.proofs.Changes.{changes_is_change}
 use Rattle.delta_exchange.specs.Changes.{LastChanges, IsSameKey, IsSameCell, IsChangedAt, ChangesAt, TellsChanges, IsUnchangedSince, IsChangeSince}
 use Rattle.delta_exchange.specs.Versions.{no_changes}
-use Rattle.node_core.specs.Asks.{Asked}
+use Rattle.node_calls.specs.Asks.{Asked}
 use Rattle.node_core.specs.Nodes.{Node, start, state_shown}
 use Rattle.node_core.specs.Steps.{after, operations_added, past_with}
 use Rattle.node_core.proofs.Pasts.{IsHistory, HasHistory, next_version, past_now, past_same}

@@ -8,15 +8,15 @@ use Rattle.counters.specs.Sums.{node_numbers}
 use Rattle.replica_state.specs.States.{State}
 use Rattle.replica_state.specs.Folds.{fold, clock_of}
 use Rattle.replica_state.specs.Unions.{with_names}
-use Rattle.delta_exchange.specs.declared.message.NameEntry.{NameEntry}
-use Rattle.delta_exchange.specs.Messages.{MessageValue, entry_value, operations_of, operations_in}
-use Rattle.delta_exchange.specs.Spelling.{IsMessage}
-use Rattle.delta_exchange.proofs.LawfulLemmas.{told_lawful}
-use Rattle.delta_exchange.specs.declared.fault.WireFault.{WireFault}
+use Rattle.message_format.specs.declared.message.NameEntry.{NameEntry}
+use Rattle.message_format.specs.Messages.{MessageValue, entry_value, operations_of, operations_in}
+use Rattle.message_format.specs.Spelling.{IsMessage}
+use Rattle.message_format.proofs.LawfulLemmas.{told_lawful}
+use Rattle.message_format.specs.declared.fault.WireFault.{WireFault}
 use Rattle.node_core.specs.declared.config.Config.{Config}
-use Rattle.node_core.specs.declared.fault.NodeFault.{NodeFault}
-use Rattle.node_core.specs.declared.fault.NodeFault.TheVariants as faults
-use Rattle.node_core.specs.Asks.{Message, Deliver, message_of, message_read}
+use Rattle.node_calls.specs.declared.fault.NodeFault.{NodeFault}
+use Rattle.node_calls.specs.declared.fault.NodeFault.TheVariants as faults
+use Rattle.node_calls.specs.Asks.{Message, Deliver, message_of, message_read}
 use Rattle.node_core.specs.Nodes.{Node, state_shown}
 use Rattle.node_core.specs.Refusals.{is_ahead, overspends, too_many, refusal_at, bad_message}
 use Rattle.node_core.specs.Room.{HasRoom}

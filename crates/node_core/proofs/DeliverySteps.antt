@@ -2,9 +2,9 @@
 use Rattle.std.proofs.Common.{◌≡◌, ℕ, ◌+◌, ◌<◌, ◌≤◌, max, [], ◌++◌, Result, Ok, Err, sym, ap, subst, arith}
 use Rattle.replica_state.specs.States.{State}
 use Rattle.replica_state.specs.Folds.{fold, clock_of}
-use Rattle.delta_exchange.specs.declared.fault.WireFault.{WireFault}
+use Rattle.message_format.specs.declared.fault.WireFault.{WireFault}
 use Rattle.node_core.specs.declared.config.Config.{Config}
-use Rattle.node_core.specs.Asks.{Message, Deliver, emit_of}
+use Rattle.node_calls.specs.Asks.{Message, Deliver, emit_of}
 use Rattle.node_core.specs.Nodes.{Node}
 use Rattle.node_core.specs.Steps.{after, message_in}
 use Rattle.node_core.specs.Holds.{Holds}

@@ -3,11 +3,11 @@ use Rattle.std.proofs.Common.{◌≡◌, ℕ, ◌==◌, Bool, true, false, cond,
 use Rattle.replica_state.specs.Folds.{fold}
 use Rattle.replica_state.specs.StateOrder.{IsBelow, below-refl, below-trans}
 use Rattle.replica_state.proofs.KnownSets.{union_above_right}
-use Rattle.delta_exchange.specs.Messages.{MessageValue}
-use Rattle.delta_exchange.specs.Spelling.{message_bytes}
+use Rattle.message_format.specs.Messages.{MessageValue}
+use Rattle.message_format.specs.Spelling.{message_bytes}
 use Rattle.delta_exchange.specs.Differences.{difference_of}
 use Rattle.delta_exchange.proofs.Differences.{is_difference}
-use Rattle.node_core.specs.Asks.{Asked, Call, Versions}
+use Rattle.node_calls.specs.Asks.{Asked, Call, Versions}
 use Rattle.node_core.specs.Nodes.{Node, start}
 use Rattle.node_core.specs.Steps.{after, operations_added, version_after}
 use Rattle.node_core.specs.Traces.{Kept, replay, replay_from, node_of, state_known}

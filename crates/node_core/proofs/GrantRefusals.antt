@@ -10,8 +10,8 @@ use Rattle.replica_state.specs.Operations.{count_at, count_in}
 use Rattle.replica_state.specs.States.{State, granted_in}
 use Rattle.refusals.specs.Refusals.{first_fault}
 use Rattle.node_core.specs.declared.config.Config.{Config}
-use Rattle.node_core.specs.declared.fault.NodeFault.{NodeFault}
-use Rattle.node_core.specs.declared.fault.NodeFault.TheVariants as faults
+use Rattle.node_calls.specs.declared.fault.NodeFault.{NodeFault}
+use Rattle.node_calls.specs.declared.fault.NodeFault.TheVariants as faults
 use Rattle.node_core.specs.Nodes.{setting_of}
 use Rattle.node_core.specs.Refusals.{faults_of_grant_under, faults_of_grant}
 use Rattle.node_core.proofs.ShiftRefusals.{below_length, past_length}

@@ -8,12 +8,12 @@ use Rattle.replica_state.specs.States.{State, with_key, with_shifts, rights_of}
 use Rattle.replica_state.specs.Operations.{Operation}
 use Rattle.replica_state.specs.Folds.{fold}
 use Rattle.replica_state.specs.Knowledge.{changes}
-use Rattle.delta_exchange.specs.declared.fault.WireFault.{WireFault}
-use Rattle.delta_exchange.specs.Spelling.{IsBody}
+use Rattle.message_format.specs.declared.fault.WireFault.{WireFault}
+use Rattle.message_format.specs.Spelling.{IsBody}
 use Rattle.delta_exchange.specs.Told.{HasLearned}
 use Rattle.node_core.specs.declared.config.Config.{Config}
-use Rattle.node_core.specs.declared.trace.Entry.{Entry}
-use Rattle.node_core.specs.Asks.{Asked, Call, Message, Load, Pass, Deliver, call, emit_of}
+use Rattle.node_calls.specs.declared.trace.Entry.{Entry}
+use Rattle.node_calls.specs.Asks.{Asked, Call, Message, Load, Pass, Deliver, call, emit_of}
 use Rattle.node_core.specs.Outcomes.{AreTellable, HasKey, ops_done, state_done, state_loaded}
 use Rattle.node_core.specs.Passes.{pass_ops}
 use Rattle.node_core.specs.Room.{HasRoom, HasClocks, HasPlace, HavePlaces}

@@ -8,10 +8,10 @@ use Rattle.stamp_register.specs.Keys.{KeyValue}
 use Rattle.replica_state.specs.States.{State, with_key, with_shifts, rights_of}
 use Rattle.replica_state.specs.Operations.{Operation}
 use Rattle.replica_state.specs.Folds.{fold}
-use Rattle.delta_exchange.specs.declared.fault.WireFault.{WireFault}
+use Rattle.message_format.specs.declared.fault.WireFault.{WireFault}
 use Rattle.delta_exchange.specs.Told.{HasLearned}
 use Rattle.node_core.specs.declared.config.Config.{Config}
-use Rattle.node_core.specs.Asks.{Asked, Call, Message, Load, Pass, Deliver, emit_of}
+use Rattle.node_calls.specs.Asks.{Asked, Call, Message, Load, Pass, Deliver, emit_of}
 use Rattle.node_core.specs.Nodes.{Node, state_shown, setting_of}
 use Rattle.node_core.specs.Passes.{ops_of_pass}
 use Rattle.node_core.specs.Outcomes.{ops_done, state_done, state_set, IsHeld}

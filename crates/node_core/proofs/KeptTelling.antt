@@ -13,12 +13,12 @@ use Rattle.replica_state.specs.Operations.{count_of}
 use Rattle.replica_state.specs.Folds.{fold, clock_of}
 use Rattle.replica_state.specs.Knowledge.{changes}
 use Rattle.replica_state.specs.Unions.{with_names}
-use Rattle.delta_exchange.specs.declared.fault.WireFault.{WireFault}
-use Rattle.delta_exchange.specs.Spelling.{IsBody}
-use Rattle.delta_exchange.specs.Wholes.{AreLawful}
-use Rattle.delta_exchange.proofs.LawfulLemmas.{lawful_together}
+use Rattle.message_format.specs.declared.fault.WireFault.{WireFault}
+use Rattle.message_format.specs.Spelling.{IsBody}
+use Rattle.message_format.specs.Wholes.{AreLawful}
+use Rattle.message_format.proofs.LawfulLemmas.{lawful_together}
 use Rattle.node_core.specs.declared.config.Config.{Config}
-use Rattle.node_core.specs.Asks.{Asked, Call, Message, Load, Pass, Deliver, emit_of}
+use Rattle.node_calls.specs.Asks.{Asked, Call, Message, Load, Pass, Deliver, emit_of}
 use Rattle.node_core.specs.Nodes.{Node, state_shown, setting_of}
 use Rattle.node_core.specs.Passes.{ops_of_pass}
 use Rattle.node_core.specs.Outcomes.{ops_done, state_done, state_set, AreTellable, IsHeld}

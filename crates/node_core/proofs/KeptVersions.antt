@@ -10,14 +10,14 @@ use Rattle.replica_state.specs.Folds.{fold, clock_of}
 use Rattle.replica_state.specs.Knowledge.{changes}
 use Rattle.replica_state.specs.Deltas.{IsDelta}
 use Rattle.replica_state.proofs.Changes.{changes_is_change}
-use Rattle.delta_exchange.specs.declared.fault.WireFault.{WireFault}
+use Rattle.message_format.specs.declared.fault.WireFault.{WireFault}
 use Rattle.delta_exchange.specs.Changes.{ChangesAt, IsChangeSince}
-use Rattle.delta_exchange.specs.Messages.{MessageValue, operations_in}
+use Rattle.message_format.specs.Messages.{MessageValue, operations_in}
 use Rattle.delta_exchange.specs.Since.{IsMessageSince}
-use Rattle.delta_exchange.specs.Spelling.{SpellsMessage, message_bytes}
+use Rattle.message_format.specs.Spelling.{SpellsMessage, message_bytes}
 use Rattle.delta_exchange.specs.Versions.{VersionedValue, nothing_known, known_raised, acked_raised, ChangesTo, LearnsAll, Issues, Receives}
-use Rattle.node_core.specs.Asks.{Asked, Call, Message, message_of, emit_of}
-use Rattle.node_core.specs.Asks as asks
+use Rattle.node_calls.specs.Asks.{Asked, Call, Message, message_of, emit_of}
+use Rattle.node_calls.specs.Asks as asks
 use Rattle.node_core.specs.Nodes.{Node, start, state_shown}
 use Rattle.node_core.specs.Outcomes.{ops_done}
 use Rattle.node_core.specs.Passes.{pass_ops}

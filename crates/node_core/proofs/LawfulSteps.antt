@@ -18,9 +18,9 @@ use Rattle.replica_state.specs.Knowledge.{is_upto, knows, knows_count, changes}
 use Rattle.replica_state.proofs.Orders.{same_key-refl}
 use Rattle.replica_state.proofs.Sets.{IsIn-append_right, IsIn-append_cases, key_of-found}
 use Rattle.replica_state.proofs.FoldSteps.{is_later, all_later, later_some}
-use Rattle.delta_exchange.specs.Spelling.{IsBody, IsKey}
-use Rattle.delta_exchange.specs.Wholes.{IsLawful, AreLawful}
-use Rattle.delta_exchange.proofs.LawfulLemmas.{keyed_with_more}
+use Rattle.message_format.specs.Spelling.{IsBody, IsKey}
+use Rattle.message_format.specs.Wholes.{IsLawful, AreLawful}
+use Rattle.message_format.proofs.LawfulLemmas.{keyed_with_more}
 use Rattle.node_core.specs.Outcomes.{execs_done, ops_done}
 use Rattle.node_core.specs.Passes.{next_hit, next_exec}
 use Rattle.node_core.specs.Steps.{new_key, operations_issued, shift_under}

@@ -1,7 +1,7 @@
 -- Legal traces.
 use Rattle.std.proofs.Common.{◌≡◌, ℕ, ◌+◌, List, [], ◌∷◌, ◌++◌, length, None, refl, subst, arith}
 use Rattle.node_core.specs.declared.config.Config.{Config}
-use Rattle.node_core.specs.Asks.{Asked, Call}
+use Rattle.node_calls.specs.Asks.{Asked, Call}
 use Rattle.node_core.specs.Nodes.{Node}
 use Rattle.node_core.specs.Steps.{after, reply}
 use Rattle.node_core.specs.Refusals.{refusal_at}

@@ -16,10 +16,10 @@ use Rattle.stamp_register.specs.Keys.{KeyValue, terms_read, terms_in_text, terms
 use Rattle.replica_state.specs.Operations.{Operation, IsIn}
 use Rattle.replica_state.specs.States.{State}
 use Rattle.replica_state.specs.Folds.{fold}
-use Rattle.delta_exchange.specs.Spelling.{IsBody}
-use Rattle.delta_exchange.specs.Wholes.{AreLawful}
-use Rattle.delta_exchange.proofs.LawfulStates.{lawful_state}
-use Rattle.node_core.specs.Asks.{Load}
+use Rattle.message_format.specs.Spelling.{IsBody}
+use Rattle.message_format.specs.Wholes.{AreLawful}
+use Rattle.message_format.proofs.LawfulStates.{lawful_state}
+use Rattle.node_calls.specs.Asks.{Load}
 use Rattle.node_core.specs.Nodes.{setting_in}
 use Rattle.node_core.specs.Steps.{points_read, settings, settings_of}
 use Rattle.node_core.specs.Texts.{list_entry, list_text, point_listed, points_listed, setting_listed, settings_listed}

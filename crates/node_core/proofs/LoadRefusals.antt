@@ -7,8 +7,8 @@ use Rattle.actions.specs.SettingReading.{setting_reading}
 use Rattle.replica_state.specs.States.{State}
 use Rattle.replica_state.specs.Folds.{fold}
 use Rattle.replica_state.specs.Unions.{with_names}
-use Rattle.node_core.specs.declared.fault.NodeFault.TheVariants as faults
-use Rattle.node_core.specs.Asks.{Load}
+use Rattle.node_calls.specs.declared.fault.NodeFault.TheVariants as faults
+use Rattle.node_calls.specs.Asks.{Load}
 use Rattle.node_core.specs.Nodes.{Node, state_shown}
 use Rattle.node_core.specs.Outcomes.{state_loaded, state_set}
 use Rattle.refusals.specs.Refusals.{first_fault}

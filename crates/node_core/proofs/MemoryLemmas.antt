@@ -2,12 +2,12 @@
 use Rattle.std.proofs.Common.{◌≡◌, ◌≢◌, ℕ, List, length, Bool, true, false, cond, Result, Ok, Err, IsOk, IfErr, ◌∷◌, [], rules}
 use Rattle.std.specs.Prelude.{nat_le, nat_lt, not, ◌==◌}
 use Rattle.std.specs.Int.{w64, byte_len}
-use Rattle.delta_exchange.specs.declared.fault.WireFault.{WireFault}
-use Rattle.delta_exchange.specs.declared.fault.WireFault.TheVariants as wires
-use Rattle.delta_exchange.specs.Spelling.{max_message}
+use Rattle.message_format.specs.declared.fault.WireFault.{WireFault}
+use Rattle.message_format.specs.declared.fault.WireFault.TheVariants as wires
+use Rattle.message_format.specs.Spelling.{max_message}
 use Rattle.refusals.specs.Refusals.{◌>>=◌}
-use Rattle.delta_exchange.specs.Reading.{wants, offset, bytes_at, number_at, byte_at, node_at, other_node_at, magic_at, versions_at, header_at, header_of}
-use Rattle.node_core.specs.declared.fault.NodeFault.TheVariants as faults
+use Rattle.message_format.specs.Reading.{wants, offset, bytes_at, number_at, byte_at, node_at, other_node_at, magic_at, versions_at, header_at, header_of}
+use Rattle.node_calls.specs.declared.fault.NodeFault.TheVariants as faults
 use Rattle.node_core.specs.Refusals.{wire_refusal}
 
 -- what was read isn't out of memory

@@ -14,9 +14,9 @@ use Rattle.replica_state.specs.Unions.{key_order, number_both, with_names, union
 use Rattle.replica_state.proofs.Sets.{number_at-least}
 use Rattle.replica_state.proofs.SetJoins.{fold-unites}
 use Rattle.replica_state.proofs.StateOrders.{stands_above, stands_equal, stands_below}
-use Rattle.delta_exchange.specs.declared.message.NameEntry.{NameEntry}
-use Rattle.delta_exchange.specs.Messages.{EntryValue, entry_value, operations_of, hits_in, execs_in, shifts_in, grants_in}
-use Rattle.delta_exchange.specs.Wholes.{IsLawful, AreLawful}
+use Rattle.message_format.specs.declared.message.NameEntry.{NameEntry}
+use Rattle.message_format.specs.Messages.{EntryValue, entry_value, operations_of, hits_in, execs_in, shifts_in, grants_in}
+use Rattle.message_format.specs.Wholes.{IsLawful, AreLawful}
 use Rattle.node_core.specs.Nodes.{setting_of, setting_in, terms_in}
 use Rattle.node_core.specs.Refusals.{any_below, exceeds_count, is_overspent, overspends}
 use Rattle.node_core.specs.Deliveries.{terms_both, execs_both, granted_both, is_overspent_below}

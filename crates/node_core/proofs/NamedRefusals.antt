@@ -4,15 +4,15 @@ use Rattle.std.proofs.lemmas.Bool.Decides.{nat_tests}
 use Rattle.std.specs.Prelude.{nat_le, IfErr}
 use Rattle.std.specs.Result.{IsErr, IsErrAnd}
 use Rattle.actions.specs.Names.{is_name}
-use Rattle.node_core.specs.declared.fault.NodeFault.{NodeFault}
-use Rattle.node_core.specs.declared.fault.NodeFault.TheVariants as faults
+use Rattle.node_calls.specs.declared.fault.NodeFault.{NodeFault}
+use Rattle.node_calls.specs.declared.fault.NodeFault.TheVariants as faults
 use Rattle.refusals.specs.Refusals.{first_fault}
 use Rattle.actions.specs.Reading.{reading}
 use Rattle.actions.specs.SettingReading.{setting_reading}
 use Rattle.actions.specs.Value.{TermValue}
 use Rattle.counters.specs.Cells.{is_too_great}
 use Rattle.replica_state.specs.States.{with_name}
-use Rattle.node_core.specs.Asks.{Set, Remove, Load, Shift, Grant}
+use Rattle.node_calls.specs.Asks.{Set, Remove, Load, Shift, Grant}
 use Rattle.node_core.specs.Refusals.{bad_actions, bad_setting, key_refusal, no_entry, no_name, no_place, no_clock, shift_refusal, grant_refusal}
 use Rattle.node_core.specs.Room.{HasClocks, HasPlace, HasRoom}
 use Rattle.node_core.specs.Traces.{IsRefusalOf, Kept, node_of, refusal, state_known}

@@ -1,12 +1,12 @@
 -- Bytes that are read as one message are the same bytes.
 use Rattle.std.proofs.Common.{◌≡◌, ℕ, ◌≤◌, ◌^◌, List, Result, Ok, Err, refl, sym, ◌∙◌, ap}
 use Rattle.refusals.proofs.StepLemmas.{ok_is}
-use Rattle.delta_exchange.specs.declared.fault.WireFault.{WireFault}
-use Rattle.delta_exchange.specs.Messages.{MessageValue, TellSame}
-use Rattle.delta_exchange.specs.Reading.{message_at}
-use Rattle.delta_exchange.proofs.Fields.{IsBytes}
-use Rattle.delta_exchange.proofs.EntriesAgain.{same_bytes}
-use Rattle.node_core.specs.Asks.{Message, message_of, read_of, message_read}
+use Rattle.message_format.specs.declared.fault.WireFault.{WireFault}
+use Rattle.message_format.specs.Messages.{MessageValue, TellSame}
+use Rattle.message_format.specs.Reading.{message_at}
+use Rattle.message_format.proofs.Fields.{IsBytes}
+use Rattle.message_format.proofs.EntriesAgain.{same_bytes}
+use Rattle.node_calls.specs.Asks.{Message, message_of, read_of, message_read}
 
 -- the message with its entries
 with_entries : (read : Result MessageValue WireFault) (m : Message) → read_of read ≡ Ok m → (v : MessageValue) × (read ≡ Ok v) × (message_of v ≡ m)

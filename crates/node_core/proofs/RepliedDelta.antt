@@ -2,11 +2,11 @@
 -- determined.
 use Rattle.std.proofs.Common.{◌≡◌, ℕ, List, [], Ok, sym, ◌∙◌, ap, subst}
 use Rattle.replica_state.specs.Deltas.{IsDelta}
-use Rattle.delta_exchange.specs.Messages.{operations_in}
-use Rattle.delta_exchange.specs.Spelling.{message_bytes}
-use Rattle.delta_exchange.proofs.MessageLemmas.{message_again}
-use Rattle.delta_exchange.proofs.OneMessage.{one_message}
-use Rattle.node_core.specs.Asks.{Message, Versions, IsEmitted, message_of, read_of, message_read, emit_of}
+use Rattle.message_format.specs.Messages.{operations_in}
+use Rattle.message_format.specs.Spelling.{message_bytes}
+use Rattle.message_format.proofs.MessageLemmas.{message_again}
+use Rattle.message_format.proofs.OneMessage.{one_message}
+use Rattle.node_calls.specs.Asks.{Message, Versions, IsEmitted, message_of, read_of, message_read, emit_of}
 use Rattle.node_core.specs.Steps.{message_to}
 use Rattle.node_core.specs.Traces.{Kept, node_of, state_known, reply_to, emission_of, SendsDelta}
 use Rattle.node_core.specs.Deliveries.{TellsDelta, versions_in}

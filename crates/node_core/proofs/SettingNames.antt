@@ -5,8 +5,8 @@ use Rattle.actions.specs.Names.{is_name}
 use Rattle.actions.specs.SettingGrammar.{Entry, blank, setting, SetEach, SpellsSetting}
 use Rattle.actions.specs.Canonical.{canonical}
 use Rattle.replica_state.specs.Operations.{IsIn}
-use Rattle.delta_exchange.specs.Spelling.{IsBody}
-use Rattle.delta_exchange.proofs.Members.{mapped_from}
+use Rattle.message_format.specs.Spelling.{IsBody}
+use Rattle.message_format.proofs.Members.{mapped_from}
 
 each_named : (es : List Entry) (points : List (List ℕ × List TermValue)) → SetEach es points → (s : List ℕ × List TermValue) → IsIn s points → IsTrue (is_name s.0)
 each_named [] [] h s k = absurd k

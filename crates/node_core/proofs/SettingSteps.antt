@@ -12,8 +12,8 @@ use Rattle.replica_state.proofs.KnownSets.{same_members}
 use Rattle.replica_state.proofs.Sets.{IsIn-append_left, IsIn-append_right, IsIn-append_cases}
 use Rattle.replica_state.proofs.SetJoins.{fold-unites}
 use Rattle.node_core.specs.declared.config.Config.{Config}
-use Rattle.node_core.specs.Asks.{Asked}
-use Rattle.node_core.specs.Asks as asks
+use Rattle.node_calls.specs.Asks.{Asked}
+use Rattle.node_calls.specs.Asks as asks
 use Rattle.node_core.specs.Nodes.{Node}
 use Rattle.node_core.specs.Outcomes.{state_set}
 use Rattle.node_core.specs.Steps.{after, operations_added, clock_after, settings, operations_issued, new_key, points_in}

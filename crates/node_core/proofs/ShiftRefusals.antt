@@ -11,8 +11,8 @@ use Rattle.replica_state.specs.States.{State, budget, rights_of}
 use Rattle.std.specs.Option.{option_map_or, SomeIff}
 use Rattle.std.specs.Prelude.{option_map}
 use Rattle.node_core.specs.declared.config.Config.{Config}
-use Rattle.node_core.specs.declared.fault.NodeFault.{NodeFault}
-use Rattle.node_core.specs.declared.fault.NodeFault.TheVariants as faults
+use Rattle.node_calls.specs.declared.fault.NodeFault.{NodeFault}
+use Rattle.node_calls.specs.declared.fault.NodeFault.TheVariants as faults
 use Rattle.node_core.specs.Nodes.{setting_of}
 use Rattle.refusals.specs.Refusals.{first_fault}
 use Rattle.counters.specs.Cells.{most}

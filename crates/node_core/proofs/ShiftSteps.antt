@@ -15,7 +15,7 @@ use Rattle.replica_state.specs.States.{State, with_name, with_shifts, budget, bu
 use Rattle.replica_state.specs.Folds.{fold, clock_of, names_of, key_of, number_at, at_key}
 use Rattle.replica_state.proofs.FoldSteps.{fold_shifts}
 use Rattle.node_core.specs.declared.config.Config.{Config}
-use Rattle.node_core.specs.Asks.{Asked, Shift, Grant}
+use Rattle.node_calls.specs.Asks.{Asked, Shift, Grant}
 use Rattle.node_core.specs.Nodes.{Node, state_shown}
 use Rattle.node_core.specs.Outcomes.{IsHeld}
 use Rattle.node_core.specs.Steps.{after, operations_added, clock_after, known_after, acked_after, shift_under}

@@ -7,10 +7,10 @@ use Rattle.actions.specs.SettingReading.{setting_reading}
 use Rattle.replica_state.specs.States.{with_name}
 use Rattle.replica_state.specs.Folds.{fold}
 use Rattle.replica_state.specs.Unions.{with_names}
-use Rattle.delta_exchange.specs.declared.fault.WireFault.{WireFault}
-use Rattle.node_core.specs.declared.fault.NodeFault.{NodeFault}
-use Rattle.node_core.specs.declared.fault.NodeFault.TheVariants as faults
-use Rattle.node_core.specs.Asks.{Message, Versions, Set, Remove, Load, Shift, Grant, Emit, Deliver}
+use Rattle.message_format.specs.declared.fault.WireFault.{WireFault}
+use Rattle.node_calls.specs.declared.fault.NodeFault.{NodeFault}
+use Rattle.node_calls.specs.declared.fault.NodeFault.TheVariants as faults
+use Rattle.node_calls.specs.Asks.{Message, Versions, Set, Remove, Load, Shift, Grant, Emit, Deliver}
 use Rattle.node_core.specs.Nodes.{state_shown}
 use Rattle.node_core.specs.Steps.{points_in, message_in}
 use Rattle.refusals.specs.Refusals.{first_fault}

@@ -5,10 +5,10 @@ use Rattle.stamp_register.specs.Keys.{KeyValue}
 use Rattle.replica_state.specs.States.{State, with_name, with_key, with_hits, with_execs, with_shifts}
 use Rattle.replica_state.specs.Folds.{fold}
 use Rattle.replica_state.specs.Knowledge.{changes}
-use Rattle.delta_exchange.specs.Wholes.{AreLawful}
-use Rattle.delta_exchange.proofs.LawfulLemmas.{lawful_none}
+use Rattle.message_format.specs.Wholes.{AreLawful}
+use Rattle.message_format.proofs.LawfulLemmas.{lawful_none}
 use Rattle.node_core.specs.declared.config.Config.{Config}
-use Rattle.node_core.specs.Asks.{Asked, Call}
+use Rattle.node_calls.specs.Asks.{Asked, Call}
 use Rattle.node_core.specs.Nodes.{Node, start, state_shown}
 use Rattle.node_core.specs.Outcomes.{state_done}
 use Rattle.node_core.specs.Steps.{after, operations_added}

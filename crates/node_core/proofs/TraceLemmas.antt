@@ -8,9 +8,9 @@ use Rattle.replica_state.specs.Operations.{Operation, Count, Hits, Execs, same_c
 use Rattle.replica_state.specs.States.{State, with_name, with_hits, with_execs, with_pass, rights_of}
 use Rattle.replica_state.specs.Folds.{fold, clock_of, names_of, key_of, number_at, at_key}
 use Rattle.replica_state.proofs.FoldSteps.{fold_hits, fold_execs, max_zero, is_later, all_later, later_some, either_way}
-use Rattle.delta_exchange.specs.Limits.{max_nodes}
+use Rattle.message_format.specs.Limits.{max_nodes}
 use Rattle.node_core.specs.declared.config.Config.{Config}
-use Rattle.node_core.specs.Asks.{Call, Pass}
+use Rattle.node_calls.specs.Asks.{Call, Pass}
 use Rattle.node_core.specs.Nodes.{Node, start, state_shown, setting_of}
 use Rattle.node_core.specs.Passes.{next_hit, ops_of_pass}
 use Rattle.node_core.specs.Outcomes.{execs_done, ops_done, state_done, IsHeld}

@@ -10,15 +10,15 @@ use Rattle.replica_state.specs.Operations.{Operation}
 use Rattle.replica_state.specs.Folds.{fold, clock_of}
 use Rattle.replica_state.specs.Knowledge.{is_upto, changes}
 use Rattle.replica_state.proofs.Unions.{fold-union}
-use Rattle.delta_exchange.specs.declared.fault.WireFault.{WireFault}
-use Rattle.delta_exchange.specs.Messages.{MessageValue, operations_in}
+use Rattle.message_format.specs.declared.fault.WireFault.{WireFault}
+use Rattle.message_format.specs.Messages.{MessageValue, operations_in}
 use Rattle.delta_exchange.specs.Since.{CanBeTold}
-use Rattle.delta_exchange.specs.Spelling.{IsBody}
+use Rattle.message_format.specs.Spelling.{IsBody}
 use Rattle.delta_exchange.specs.Told.{HasLearned}
 use Rattle.delta_exchange.specs.Versions.{VersionedValue, nothing_known, ChangesTo, Issues, MayPass, Receives}
 use Rattle.node_core.specs.declared.config.Config.{Config}
-use Rattle.node_core.specs.declared.trace.Entry.{Entry}
-use Rattle.node_core.specs.Asks.{Asked, Call, Message, Load, Pass, Deliver, call, emit_of, message_of}
+use Rattle.node_calls.specs.declared.trace.Entry.{Entry}
+use Rattle.node_calls.specs.Asks.{Asked, Call, Message, Load, Pass, Deliver, call, emit_of, message_of}
 use Rattle.node_core.specs.Deliveries.{IsDelivery}
 use Rattle.node_core.specs.Holds.{IsInStep, CanTell}
 use Rattle.node_core.specs.KeptVersions.{KeepsVersions, IsInStepWith}

@@ -1,10 +1,10 @@
 -- Calls that are given as values.
-use Rattle.node_core.specs.declared.fault.NodeFault.{NodeFault}
-use Rattle.node_core.specs.declared.fault.NodeFault.TheVariants as faults
-use Rattle.node_core.specs.declared.ask.Ask.{Ask}
-use Rattle.node_core.specs.declared.ask.Ask.TheVariants as asks
-use Rattle.node_core.specs.declared.reply.Reply.{Reply}
-use Rattle.node_core.specs.declared.reply.Reply.TheVariants as replies
+use Rattle.node_calls.specs.declared.fault.NodeFault.{NodeFault}
+use Rattle.node_calls.specs.declared.fault.NodeFault.TheVariants as faults
+use Rattle.node_calls.specs.declared.ask.Ask.{Ask}
+use Rattle.node_calls.specs.declared.ask.Ask.TheVariants as asks
+use Rattle.node_calls.specs.declared.reply.Reply.{Reply}
+use Rattle.node_calls.specs.declared.reply.Reply.TheVariants as replies
 use Rattle.node_core.specs.Traces.{Kept}
 use Rattle.node_core.specs.Deliveries.{TellsDelta}
 

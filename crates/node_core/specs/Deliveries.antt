@@ -10,15 +10,15 @@ use Rattle.replica_state.specs.States.{State, granted_in}
 use Rattle.replica_state.specs.Unions.{key_order, number_both}
 use Rattle.replica_state.specs.Folds.{fold, clock_of}
 use Rattle.replica_state.specs.Deltas.{IsDelta}
-use Rattle.delta_exchange.specs.declared.fault.WireFault.{WireFault}
-use Rattle.delta_exchange.specs.Limits.{max_names}
-use Rattle.delta_exchange.specs.Messages.{MessageValue, message_value, operations_in}
-use Rattle.delta_exchange.specs.Spelling.{IsMessage, SpellsMessage}
-use Rattle.delta_exchange.specs.Wholes.{AreLawful}
+use Rattle.message_format.specs.declared.fault.WireFault.{WireFault}
+use Rattle.message_format.specs.Limits.{max_names}
+use Rattle.message_format.specs.Messages.{MessageValue, message_value, operations_in}
+use Rattle.message_format.specs.Spelling.{IsMessage, SpellsMessage}
+use Rattle.message_format.specs.Wholes.{AreLawful}
 use Rattle.node_core.specs.declared.config.Config.{Config}
 use Rattle.node_core.specs.declared.delivery.Delivery.{Delivery}
 use Rattle.node_core.specs.Replicas.{state_in}
-use Rattle.node_core.specs.Asks.{Message, Versions, message_of, message_read}
+use Rattle.node_calls.specs.Asks.{Message, Versions, message_of, message_read}
 use Rattle.node_core.specs.Nodes.{Node, state_shown, setting_of, terms_in}
 use Rattle.node_core.specs.Refusals.{any_below, exceeds_count, says_more}
 use Rattle.node_core.specs.Steps.{message_in}

@@ -1,6 +1,6 @@
 -- The message that a node makes to another, as a function of the node.
 use Rattle.std.specs.Prelude.{ℕ}
-use Rattle.delta_exchange.specs.Messages.{MessageValue}
+use Rattle.message_format.specs.Messages.{MessageValue}
 use Rattle.delta_exchange.specs.Differences.{difference_of}
 use Rattle.node_core.specs.Traces.{Kept, node_of, state_known, versions_told}
 

@@ -3,8 +3,8 @@ use Rattle.std.specs.Prelude.{◌≡◌, ℕ, ◌<◌, ◌≤◌, ◌^◌, List,
 use Rattle.replica_state.specs.States.{State, rights_of}
 use Rattle.replica_state.specs.Folds.{clock_of}
 use Rattle.node_core.specs.declared.config.Config.{Config}
-use Rattle.delta_exchange.specs.Limits.{max_nodes, max_names}
-use Rattle.delta_exchange.specs.Wholes.{AreLawful}
+use Rattle.message_format.specs.Limits.{max_nodes, max_names}
+use Rattle.message_format.specs.Wholes.{AreLawful}
 use Rattle.node_core.specs.Nodes.{Node, state_shown}
 use Rattle.node_core.specs.Traces.{Kept, node_of}
 

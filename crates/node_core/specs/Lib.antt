@@ -1,4 +1,3 @@
-pub mod Asks
 pub mod Replicas
 pub mod Nodes
 pub mod Stamps

@@ -4,7 +4,7 @@
 use Rattle.std.specs.Prelude.{◌≡◌, ◌≢◌, ℕ, ◌≤◌, ◌<◌, List, length, position, true, IsOk, None}
 use Rattle.actions.specs.Names.{is_name}
 use Rattle.actions.specs.Reading.{is_bad_byte}
-use Rattle.delta_exchange.specs.Reading.{header_of}
+use Rattle.message_format.specs.Reading.{header_of}
 use Rattle.node_core.specs.Traces.{Kept}
 use Rattle.node_core.specs.Room.{HasRoom}
 

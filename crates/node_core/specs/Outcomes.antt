@@ -8,10 +8,10 @@ use Rattle.stamp_register.specs.declared.key.Stamp.{Stamp}
 use Rattle.replica_state.specs.Operations.{Operation, IsIn, count_at}
 use Rattle.replica_state.specs.Folds.{fold}
 use Rattle.replica_state.specs.States.{State, with_name, with_key, with_pass}
-use Rattle.delta_exchange.specs.Spelling.{IsBody}
+use Rattle.message_format.specs.Spelling.{IsBody}
 use Rattle.node_core.specs.Passes.{next_hit, next_exec}
 use Rattle.node_core.specs.Steps.{new_key, settings}
-use Rattle.node_core.specs.Asks.{Load, Passed, Unset, NoTerm, Act}
+use Rattle.node_calls.specs.Asks.{Load, Passed, Unset, NoTerm, Act}
 use Rattle.node_core.specs.Traces.{Kept, last_clock}
 
 -- the task of a term, and none is that which does nothing

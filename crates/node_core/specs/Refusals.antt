@@ -21,14 +21,14 @@ use Rattle.replica_state.specs.Folds.{fold, name_in}
 use Rattle.replica_state.specs.Knowledge.{knows}
 use Rattle.replica_state.specs.Unions.{with_names}
 use Rattle.node_core.specs.declared.config.Config.{Config}
-use Rattle.node_core.specs.declared.fault.NodeFault.{NodeFault}
-use Rattle.node_core.specs.declared.fault.NodeFault.TheVariants as faults
-use Rattle.node_core.specs.declared.fault.TextFault.TheVariants as texts
-use Rattle.delta_exchange.specs.Limits.{max_nodes, max_names}
-use Rattle.delta_exchange.specs.declared.fault.WireFault.{WireFault}
-use Rattle.delta_exchange.specs.declared.fault.WireFault.TheVariants as wires
-use Rattle.node_core.specs.Asks.{Asked, Message}
-use Rattle.node_core.specs.Asks as asks
+use Rattle.node_calls.specs.declared.fault.NodeFault.{NodeFault}
+use Rattle.node_calls.specs.declared.fault.NodeFault.TheVariants as faults
+use Rattle.node_calls.specs.declared.fault.TextFault.TheVariants as texts
+use Rattle.message_format.specs.Limits.{max_nodes, max_names}
+use Rattle.message_format.specs.declared.fault.WireFault.{WireFault}
+use Rattle.message_format.specs.declared.fault.WireFault.TheVariants as wires
+use Rattle.node_calls.specs.Asks.{Asked, Message}
+use Rattle.node_calls.specs.Asks as asks
 use Rattle.node_core.specs.Nodes.{Node, state_shown, setting_of, terms_in}
 use Rattle.node_core.specs.Passes.{has_rights_of, words_for}
 use Rattle.node_core.specs.Steps.{points_in, message_in}

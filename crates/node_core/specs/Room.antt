@@ -2,7 +2,7 @@
 use Rattle.std.specs.Prelude.{◌≡◌, ℕ, ◌+◌, ◌^◌, ◌<◌, ◌≤◌, List, length, false}
 use Rattle.replica_state.specs.States.{with_name}
 use Rattle.replica_state.specs.Unions.{with_names}
-use Rattle.delta_exchange.specs.Limits.{max_names}
+use Rattle.message_format.specs.Limits.{max_names}
 use Rattle.node_core.specs.Refusals.{too_many}
 use Rattle.node_core.specs.Traces.{Kept, last_clock, state_known}
 

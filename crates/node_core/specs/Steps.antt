@@ -11,10 +11,10 @@ use Rattle.replica_state.specs.Operations.{Operation, Set, Count, Shifts}
 use Rattle.replica_state.specs.States.{State, granted_in}
 use Rattle.replica_state.specs.Folds.{fold, clock_of}
 use Rattle.replica_state.specs.Knowledge.{changes}
-use Rattle.delta_exchange.specs.declared.fault.WireFault.{WireFault}
+use Rattle.message_format.specs.declared.fault.WireFault.{WireFault}
 use Rattle.delta_exchange.specs.Versions.{known_raised, acked_raised}
-use Rattle.node_core.specs.Asks.{Asked, Answered, Message, Versions}
-use Rattle.node_core.specs.Asks as asks
+use Rattle.node_calls.specs.Asks.{Asked, Answered, Message, Versions}
+use Rattle.node_calls.specs.Asks as asks
 use Rattle.node_core.specs.Nodes.{Node, Marks, state_shown}
 use Rattle.node_core.specs.Passes.{pass_ops, pass_reply}
 

@@ -3,11 +3,11 @@ use Rattle.std.specs.Prelude.{◌≡◌, ◌⊎◌, ℕ, ◌+◌, List, [], ◌�
 use Rattle.replica_state.specs.Deltas.{IsDelta}
 use Rattle.replica_state.specs.States.{State}
 use Rattle.node_core.specs.declared.config.Config.{Config}
-use Rattle.node_core.specs.declared.fault.NodeFault.{NodeFault}
-use Rattle.node_core.specs.declared.fault.NodeFault.TheVariants.{OutOfMemory}
-use Rattle.node_core.specs.declared.trace.Entry.{Entry}
-use Rattle.node_core.specs.Asks.{Asked, Answered, Call, Versions, bare_emit, call, emit_of, message_read}
-use Rattle.node_core.specs.Asks as asks
+use Rattle.node_calls.specs.declared.fault.NodeFault.{NodeFault}
+use Rattle.node_calls.specs.declared.fault.NodeFault.TheVariants.{OutOfMemory}
+use Rattle.node_calls.specs.declared.trace.Entry.{Entry}
+use Rattle.node_calls.specs.Asks.{Asked, Answered, Call, Versions, bare_emit, call, emit_of, message_read}
+use Rattle.node_calls.specs.Asks as asks
 use Rattle.node_core.specs.Nodes.{Node, Marks, start, state_shown}
 use Rattle.node_core.specs.Steps.{after, reply}
 use Rattle.node_core.specs.Refusals.{refusal_at}

@@ -4,8 +4,8 @@ ghost use Rattle.std.specs.Prelude.{◌≡◌, [], length, ◌≤◌, ◌⊎◌,
 ghost use Rattle.actions.specs.Names.{is_name};
 ghost use Rattle.node_core.specs.Replicas.{state_in};
 ghost use Rattle.replica_state.specs.States.{rights_of, spent_of, total_hits};
-ghost use Rattle.delta_exchange.specs.Wholes.{AreLawful};
-ghost use Rattle.node_core.specs.Asks.{call};
+ghost use Rattle.message_format.specs.Wholes.{AreLawful};
+ghost use Rattle.node_calls.specs.Asks.{call};
 ghost use Rattle.node_core.specs.Passes.{words_for};
 ghost use Rattle.node_core.specs.Refusals.{is_bad_config};
 ghost use Rattle.node_core.specs.Room.{HasRoom};
@@ -24,12 +24,11 @@ mod shift;
 
 use crate::State;
 use crate::config::Config;
-use crate::fault::NodeFault;
 use crate::list::list_of;
 use crate::setting::words_needed;
-use crate::trace::Trace;
 use actions::{Name, NameFault};
 use delta_exchange::{MAX_NODES, Versioned};
+use node_calls::{NodeFault, Trace};
 use replica_state::Replica;
 use stamp_register::Stamp;
 use std::alloc::{AllocError, Global};

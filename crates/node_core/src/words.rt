@@ -3,7 +3,7 @@
 ghost use Rattle.std.specs.Prelude.{◌≡◌, ◌⊎◌, vec_len, Some, IfOk, IfErr, OnOk, OnErr};
 ghost use Rattle.node_core.specs.Refusals.{bad_words};
 
-use crate::fault::NodeFault;
+use node_calls::NodeFault;
 use std::alloc::Global;
 
 /// A source of random draws, from which a pass draws as many as its point needs.

@@ -1,15 +1,15 @@
 -- From a call of a node and of its generator to a call of the cell.
 use Rattle.std.proofs.Common.{◌≡◌, ℕ, ◌+◌, ◌<◌, ◌^◌, Bool, true, false, List, [], None, refl, sym, ap, ◌∙◌, subst, arith}
 use Rattle.rand_chacha.specs.ChaCha.{ChaCha, key_of}
-use Rattle.node_core.specs.declared.ask.Ask.{Ask}
-use Rattle.node_core.specs.declared.ask.Ask.TheVariants as asked
+use Rattle.node_calls.specs.declared.ask.Ask.{Ask}
+use Rattle.node_calls.specs.declared.ask.Ask.TheVariants as asked
 use Rattle.node_core.specs.declared.config.Config.{Config}
-use Rattle.node_core.specs.declared.fault.NodeFault.{NodeFault}
-use Rattle.node_core.specs.declared.reply.Reply.{Reply}
-use Rattle.node_core.specs.declared.reply.Reply.TheVariants as replies
-use Rattle.node_core.specs.declared.trace.Entry.{Entry}
+use Rattle.node_calls.specs.declared.fault.NodeFault.{NodeFault}
+use Rattle.node_calls.specs.declared.reply.Reply.{Reply}
+use Rattle.node_calls.specs.declared.reply.Reply.TheVariants as replies
+use Rattle.node_calls.specs.declared.trace.Entry.{Entry}
 use Rattle.node_core.specs.Applied.{TellsIfEmit}
-use Rattle.node_core.specs.Asks.{Asked, Call, ask_value, ask_value_first, is_pass, reply_value}
+use Rattle.node_calls.specs.Asks.{Asked, Call, ask_value, ask_value_first, is_pass, reply_value}
 use Rattle.node_core.specs.Traces.{Kept, Accepts, IsRefusalOf, Records, call_of}
 use Rattle.node_registry.specs.Words.{words_from, words_next, place_after, words_taken}
 use Rattle.node_registry.specs.Cells.{Cell, cell_of, next_words, Enters, IsRefusedBy, IsLawful, IsWithinBounds}

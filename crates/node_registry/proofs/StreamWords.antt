@@ -2,7 +2,7 @@
 use Rattle.std.proofs.Common.{◌≡◌, ℕ, zero, suc, ◌+◌, ◌<◌, ◌^◌, ◌%◌, List, [], ◌∷◌, ◌++◌, refl, sym, ap, ◌∙◌, arith, append_assoc, append-nil}
 use Rattle.std.proofs.Math.Nat.{mod-eq_of_lt}
 use Rattle.rand_chacha.specs.ChaCha.{ChaCha, word_at}
-use Rattle.node_core.specs.Asks.{Call}
+use Rattle.node_calls.specs.Asks.{Call}
 use Rattle.node_registry.specs.Words.{word, words_from, words_next, place_after, words_of}
 
 pub words_from-add : (key : List ℕ) (stream place m n : ℕ) → words_from key stream place (m + n) ≡ words_from key stream place m ++ words_from key stream (place + m) n

@@ -5,7 +5,7 @@ use Rattle.std.specs.List.{AllZip}
 use Rattle.std.specs.Prelude.{All, map, reverse, Result, Ok, Err, MatchResult}
 use Rattle.std.proofs.lemmas.List.{reverse-append}
 use Rattle.std.proofs.lemmas.List.Elements.{All-push}
-use Rattle.node_core.specs.declared.receipt.Receipt.{Receipt}
+use Rattle.node_calls.specs.declared.receipt.Receipt.{Receipt}
 use Rattle.node_registry.specs.Workers.{IsDone}
 
 pub one_more : (node was seat now : ℕ) (rs : List Receipt) (r : Receipt) → IsDone node was seat rs → now ≡ seat + 1 → r.node ≡ node → seat ≤ r.index → IsDone node was now (rs ++ r ∷ [])

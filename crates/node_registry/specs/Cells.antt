@@ -2,10 +2,10 @@
 use Rattle.std.specs.Prelude.{◌≡◌, ℕ, ◌+◌, ◌*◌, ◌≤◌, ◌<◌, ◌^◌, List, [], length}
 use Rattle.rand_chacha.specs.ChaCha.{ChaCha, key_of}
 use Rattle.node_core.specs.declared.config.Config.{Config}
-use Rattle.node_core.specs.declared.fault.NodeFault.{NodeFault}
-use Rattle.node_core.specs.declared.trace.Entry.{Entry}
+use Rattle.node_calls.specs.declared.fault.NodeFault.{NodeFault}
+use Rattle.node_calls.specs.declared.trace.Entry.{Entry}
 use Rattle.node_core.specs.Applied.{TellsIfEmit}
-use Rattle.node_core.specs.Asks.{Asked}
+use Rattle.node_calls.specs.Asks.{Asked}
 use Rattle.node_core.specs.Traces.{Kept, IsLegal, IsRefusalOf, Records, call_of}
 use Rattle.node_registry.specs.Words.{words_from, words_of, words_taken}
 

@@ -1,11 +1,11 @@
 -- What a caller is told.
 use Rattle.std.specs.Prelude.{◌≡◌, ℕ, length}
-use Rattle.node_core.specs.declared.ask.Ask.{Ask}
+use Rattle.node_calls.specs.declared.ask.Ask.{Ask}
 use Rattle.node_core.specs.declared.config.Config.{Config}
-use Rattle.node_core.specs.declared.fault.NodeFault.{NodeFault}
-use Rattle.node_core.specs.declared.receipt.Receipt.{Receipt}
-use Rattle.node_core.specs.declared.trace.Entry.{Entry}
-use Rattle.node_core.specs.Asks.{Asked, ask_value, bytes_of}
+use Rattle.node_calls.specs.declared.fault.NodeFault.{NodeFault}
+use Rattle.node_calls.specs.declared.receipt.Receipt.{Receipt}
+use Rattle.node_calls.specs.declared.trace.Entry.{Entry}
+use Rattle.node_calls.specs.Asks.{Asked, ask_value, bytes_of}
 use Rattle.node_registry.specs.Cells.{Cell, Enters, IsLawfulAt, IsRefusedBy}
 
 -- an entry is of this ask, to the byte, in a cluster of so many nodes

@@ -1,8 +1,8 @@
 -- The words of a generator, and how many a call takes.
 use Rattle.std.specs.Prelude.{ℕ, zero, suc, ◌+◌, List, [], ◌∷◌, ◌++◌}
 use Rattle.rand_chacha.specs.ChaCha.{ChaCha, word_at}
-use Rattle.node_core.specs.Asks.{Asked, Call}
-use Rattle.node_core.specs.Asks as asks
+use Rattle.node_calls.specs.Asks.{Asked, Call}
+use Rattle.node_calls.specs.Asks as asks
 use Rattle.node_core.specs.Passes.{words_for}
 use Rattle.node_core.specs.Traces.{Kept, state_known}
 

@@ -1,6 +1,6 @@
 -- What a worker hands back.
 use Rattle.std.specs.Prelude.{◌≡◌, ◌≤◌, ℕ, ◌+◌, List, length, All}
-use Rattle.node_core.specs.declared.receipt.Receipt.{Receipt}
+use Rattle.node_calls.specs.declared.receipt.Receipt.{Receipt}
 
 -- a seat that had made so many calls has made as many more as there are receipts; all of these are of
 -- this node, and of calls that came after the seat's earlier ones

@@ -1,7 +1,7 @@
 //! A node with the generator of its random draws.
 
 ghost use Rattle.std.specs.Prelude.{◌≡◌, map, IfOk, IfErr, OnErr, OnOk, IsTrue, false};
-ghost use Rattle.node_core.specs.Asks.{ask_value_first, call};
+ghost use Rattle.node_calls.specs.Asks.{ask_value_first, call};
 ghost use Rattle.node_core.specs.Refusals.{is_bad_config};
 ghost use Rattle.node_registry.specs.Cells.{Cell, Enters, IsLawful, IsRefusedBy, IsWithinBounds};
 ghost use Rattle.node_registry.specs.Cells.{cell_of, new_cell};

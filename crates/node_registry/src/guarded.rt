@@ -1,7 +1,7 @@
 //! What lies under a registry's lock, and the seats from which it is called.
 
 ghost use Rattle.std.specs.Prelude.{◌≡◌, ℕ, ◌+◌, ◌≤◌, ◌<◌, ◌⊎◌, length, map, sum, vec_len, All, IfOk, IfErr, OnErr, OnOk, IsTrue, false};
-ghost use Rattle.node_core.specs.Asks.{ask_value_first, call};
+ghost use Rattle.node_calls.specs.Asks.{ask_value_first, call};
 ghost use Rattle.node_core.specs.Refusals.{is_bad_config};
 ghost use Rattle.node_core.specs.Traces.{IsLegal};
 ghost use Rattle.node_registry.specs.Cells.{Cell, Enters, IsLawfulAt, IsRefusedBy, new_cell};

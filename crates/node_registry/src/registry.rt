@@ -2,9 +2,9 @@
 
 ghost use Rattle.std.specs.Prelude.{◌≡◌, ℕ, ◌+◌, ◌≤◌, ◌<◌, ◌⊎◌, length, map, sum, vec_len, All, IfOk, IfErr, OnErr, OnOk, IsTrue, false};
 ghost use Rattle.std.specs.Fn.{FnOnceReturnsAt};
-ghost use Rattle.node_core.specs.Asks as asks;
-ghost use Rattle.node_core.specs.Asks.{ask_value_first, bare_emit, bytes_of, call};
-ghost use Rattle.node_core.specs.Asks.{emit_asked, message_read};
+ghost use Rattle.node_calls.specs.Asks as asks;
+ghost use Rattle.node_calls.specs.Asks.{ask_value_first, bare_emit, bytes_of, call};
+ghost use Rattle.node_calls.specs.Asks.{emit_asked, message_read};
 ghost use Rattle.node_core.specs.Refusals.{is_bad_config};
 ghost use Rattle.node_core.specs.Traces.{IsLegal};
 ghost use Rattle.node_registry.specs.Cells.{Cell, IsLawfulAt};

@@ -3,8 +3,8 @@
 ghost use Rattle.std.specs.Prelude.{◌≡◌, ◌+◌, ◌<◌, ◌^◌, ◌%◌, [], vec_len, IfOk, IfErr, OnErr, OnOk, false};
 ghost use Rattle.rand_chacha.specs.ChaCha.{ChaCha, key_of};
 ghost use Rattle.node_core.specs.Applied.{TellsIfEmit};
-ghost use Rattle.node_core.specs.Asks as asks;
-ghost use Rattle.node_core.specs.Asks.{ask_value, ask_value_first, is_pass, passed, reply_value};
+ghost use Rattle.node_calls.specs.Asks as asks;
+ghost use Rattle.node_calls.specs.Asks.{ask_value, ask_value_first, is_pass, passed, reply_value};
 ghost use Rattle.node_core.specs.Passes.{words_for};
 ghost use Rattle.node_core.specs.Traces.{Accepts, IsRefusalOf, refusal, state_known};
 ghost use Rattle.node_registry.specs.Words.{words_next, place_after, words_taken};

@@ -1,11 +1,11 @@
 //! The report as JSON.
 
-ghost use Rattle.std.specs.Prelude.{◌≡◌, ◌++◌, ◌∷◌, [], decimal, map, IfOk, OnOk, string_bytes};
+ghost use Rattle.std.specs.Prelude.{◌≡◌, ◌≢◌, ◌++◌, ◌∷◌, [], decimal, map, IfOk, OnOk, string_bytes};
 ghost use Rattle.std.specs.Fmt.{signed_decimal};
 ghost use Rattle.serde_json.specs.Data.{string};
 ghost use Rattle.serde_json.specs.View.{view};
 ghost use Rattle.stamp_register.specs.Keys.{body_value, key_value};
-ghost use Rattle.replica_state.specs.States.{rights_of};
+ghost use Rattle.replica_state.specs.States.{granted_of, rights_of};
 ghost use Rattle.report_text.specs.Report.{by_node, counted_row, keyed_row, term_rows};
 ghost use Rattle.report_text.specs.Json.{actions_data, hits_data, list_data, point_data, report_data, report_json_text, rights_data, term_data};
 
@@ -32,6 +32,13 @@ fn push_value(values: &mut Vec<Value>, value: Value) -> Result<(), AllocError>
     Ok(())
 }
 
+/// A number, as the text of its digits.
+fn number_value(alloc: Global, number: u128) -> Result<Value, AllocError>
+    ensures { IfOk result (λ value. view value ≡ string (decimal number)) }
+{
+    Ok(Value::String(format!(in alloc; "{number}")?))
+}
+
 /// The hits of a point at a node.
 fn hits_at<R: Replica>(
     alloc: Global,
@@ -42,7 +49,7 @@ fn hits_at<R: Replica>(
     ensures { IfOk result (λ value. view value
         ≡ string (decimal ((R.state replica.now).hits name.now node))) }
 {
-    Ok(Value::String(format!(in alloc; "{}", replica.hits(name, node))?))
+    number_value(alloc, u128::from(replica.hits(name, node)))
 }
 
 /// The hits of a point at each node.
@@ -94,6 +101,49 @@ fn rights_value<R: Replica>(
     Ok(list_value(values))
 }
 
+/// A counted term of which nothing was granted.
+fn plain_term_value<R: Replica>(
+    alloc: Global,
+    replica: &R,
+    nodes: u8,
+    name: &Name,
+    term: u8,
+    count: u64,
+) -> Result<Value, AllocError>
+    requires { granted_of (R.state replica.now) name.now term ≡ 0 }
+    ensures { IfOk result (λ value. view value
+        ≡ term_data (counted_row (R.state replica.now) nodes name.now term count)) }
+{
+    json!(in alloc; {
+        "count": number_value(alloc, u128::from(count))?,
+        "rights": rights_value(alloc, replica, nodes, name, term)?,
+        "spent": number_value(alloc, replica.spent(name, term))?,
+        "term": number_value(alloc, u128::from(term))?
+    })
+}
+
+/// A counted term of which some was granted.
+fn granted_term_value<R: Replica>(
+    alloc: Global,
+    replica: &R,
+    nodes: u8,
+    name: &Name,
+    term: u8,
+    count: u64,
+) -> Result<Value, AllocError>
+    requires { granted_of (R.state replica.now) name.now term ≢ 0 }
+    ensures { IfOk result (λ value. view value
+        ≡ term_data (counted_row (R.state replica.now) nodes name.now term count)) }
+{
+    json!(in alloc; {
+        "count": number_value(alloc, u128::from(count))?,
+        "granted": number_value(alloc, replica.total_granted(name, term))?,
+        "rights": rights_value(alloc, replica, nodes, name, term)?,
+        "spent": number_value(alloc, replica.spent(name, term))?,
+        "term": number_value(alloc, u128::from(term))?
+    })
+}
+
 /// A counted term.
 fn term_value<R: Replica>(
     alloc: Global,
@@ -106,18 +156,11 @@ fn term_value<R: Replica>(
     ensures { IfOk result (λ value. view value
         ≡ term_data (counted_row (R.state replica.now) nodes name.now term count)) }
 {
-    let granted = replica.total_granted(name, term);
-    let rights = rights_value(alloc, replica, nodes, name, term)?;
-    let spent = format!(in alloc; "{}", replica.spent(name, term))?;
-    let count = format!(in alloc; "{count}")?;
-    let term = format!(in alloc; "{term}")?;
-    if granted == 0 {
-        return json!(in alloc; {"count": count, "rights": rights, "spent": spent, "term": term});
+    if replica.total_granted(name, term) == 0 {
+        plain_term_value(alloc, replica, nodes, name, term, count)
+    } else {
+        granted_term_value(alloc, replica, nodes, name, term, count)
     }
-    let granted = format!(in alloc; "{granted}")?;
-    json!(in alloc; {
-        "count": count, "granted": granted, "rights": rights, "spent": spent, "term": term
-    })
 }
 
 /// Each term that a key counts.
@@ -164,12 +207,12 @@ fn point_value<R: Replica>(
     ensures { IfOk result (λ value. view value ≡ point_data
         (keyed_row (R.state replica.now) nodes name.now (key_value key.now))) }
 {
-    let actions = actions_value(alloc, &key.body)?;
-    let hits = hits_value(alloc, replica, nodes, name)?;
-    let stamp = format!(in alloc; "{}", key.stamp())?;
-    let terms = terms_value(alloc, replica, nodes, name, key)?;
     json!(in alloc; {
-        "actions": actions, "hits": hits, "name": name.text(), "stamp": stamp, "terms": terms
+        "actions": actions_value(alloc, &key.body)?,
+        "hits": hits_value(alloc, replica, nodes, name)?,
+        "name": name.text(),
+        "stamp": format!(in alloc; "{}", key.stamp())?,
+        "terms": terms_value(alloc, replica, nodes, name, key)?
     })
 }
 

@@ -2,7 +2,7 @@
 -- before it left.
 use Rattle.std.specs.Prelude.{ℕ, Bool, ◌==◌, ◌||◌, List, [], ◌∷◌, ◌++◌, length, slice_index, if◌then◌else◌, Option, Some, None, codes}
 use Rattle.std.specs.Str.{is_utf8}
-use Rattle.node_core.specs.declared.fault.NodeFault.TheVariants.{BadConfig}
+use Rattle.node_calls.specs.declared.fault.NodeFault.TheVariants.{BadConfig}
 use Rattle.cluster_model.specs.declared.fault.WorldFault.TheVariants.{Refused}
 use Rattle.cluster_model.specs.Worlds.{is_cluster_size}
 use Rattle.cluster_model.specs.Events.{WorldValue, EventValue, new_world, answer}

@@ -1,6 +1,6 @@
 -- The calls that a script of threads asks for.
 use Rattle.std.specs.Prelude.{ℕ, List, Option, Some, None}
-use Rattle.node_core.specs.Asks.{Asked, Set, Remove, Load, Pass, Shift, Grant}
+use Rattle.node_calls.specs.Asks.{Asked, Set, Remove, Load, Pass, Shift, Grant}
 use Rattle.cluster_model.specs.Events.{sets, removes, loads, passes, shifts, grants, emits, delivers}
 use Rattle.scripts.specs.Fields.{◌>>=◌, field_of, amount_of, field_cut_of, byte_cut_of}
 use Rattle.scripts.specs.Commands.{CommandValue, nodes, event, question}

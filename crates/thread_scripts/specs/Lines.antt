@@ -3,7 +3,7 @@ use Rattle.std.specs.Prelude.{ℕ, List, Option, Some, None, option_map, Result,
 use Rattle.std.specs.Str.{bytes_eq}
 use Rattle.hex.specs.Hex.{decode_sized}
 use Rattle.hex.specs.declared.error.FromHexError.{FromHexError}
-use Rattle.node_core.specs.Asks.{Asked, Pass}
+use Rattle.node_calls.specs.Asks.{Asked, Pass}
 use Rattle.scripts.specs.Fields.{◌>>=◌, cut_of, byte_of, word_of, number_of, field_of, field_cut_of, byte_cut_of}
 use Rattle.scripts.specs.Commands.{command_of}
 use Rattle.scripts.specs.Script.{text_in}

@@ -3,7 +3,7 @@ use Rattle.std.specs.Prelude.{ℕ, ◌+◌, ◌-◌, ◌^◌, Bool, ◌&&◌, �
 use Rattle.std.specs.List.{sum_by}
 use Rattle.std.specs.Option.{is_none}
 use Rattle.cluster_model.specs.Worlds.{is_cluster_size}
-use Rattle.node_core.specs.Asks.{Asked}
+use Rattle.node_calls.specs.Asks.{Asked}
 use Rattle.scripts.specs.Fields.{newline, lines_of}
 use Rattle.scripts.specs.Script.{is_skipped}
 use Rattle.thread_scripts.specs.declared.plan.Block.{Block}

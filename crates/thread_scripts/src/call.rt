@@ -1,7 +1,7 @@
 //! A call that a script asks for.
 
 ghost use Rattle.std.specs.Prelude.{◌≡◌, ℕ, option_map, IfOk};
-ghost use Rattle.node_core.specs.Asks.{ask_value_first};
+ghost use Rattle.node_calls.specs.Asks.{ask_value_first};
 ghost use Rattle.scripts.specs.Commands.{command_value};
 ghost use Rattle.thread_scripts.specs.Calls.{call_value, grant_in, load_in, remove_in, set_in, shift_in, start_of};
 

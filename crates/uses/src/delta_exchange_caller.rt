@@ -1,15 +1,19 @@
 //! A caller of `delta_exchange`.
 
 ghost use Rattle.std.specs.Prelude.{◌≡◌, IfOk};
+ghost use Rattle.delta_exchange.specs.Versions.{value_of};
 
-use delta_exchange::{WireFault, decode, encode};
-use std::alloc::Global;
+use actions::Name;
+use delta_exchange::Versioned;
+use replica_state::Matrix;
+use stamp_register::Key;
+use std::alloc::{AllocError, Global};
 
-/// Reads a message and writes it again: there is one way to write it.
-pub fn written_again(alloc: Global, nodes: u8, bytes: &[u8]) -> Result<Vec<u8>, WireFault>
-    ensures { IfOk result (λ written. written.items ≡ bytes.now) }
+/// A replica that knows of one setting, which is its first change.
+pub fn first_change(alloc: Global, name: Name, key: Key) -> Result<Versioned<Matrix>, AllocError>
+    ensures { IfOk result (λ replica. (value_of Matrix.state replica).version ≡ 1) }
 {
-    let message = decode(alloc, nodes, bytes)?;
-    let written = encode(alloc, &message)?;
-    Ok(written)
+    let mut replica = Versioned::new(alloc);
+    replica.set_key(alloc, name, key)?;
+    Ok(replica)
 }

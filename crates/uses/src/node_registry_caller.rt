@@ -1,7 +1,7 @@
 //! A caller of `node_registry`.
 
 ghost use Rattle.std.specs.Prelude.{◌≡◌, length, map, vec_len, IfOk};
-ghost use Rattle.node_core.specs.Asks.{call};
+ghost use Rattle.node_calls.specs.Asks.{call};
 ghost use Rattle.node_core.specs.Traces.{IsLegal};
 
 use node_core::{Ask, Config, NodeFault};

@@ -1,16 +1,13 @@
 //! Calls as values: what a node is asked, and the entry that it adds to its trace.
 
 ghost use Rattle.std.specs.Prelude.{◌≡◌, ◌∷◌, false, ℕ, List, [], IfOk, IfErr, OnOk, OnErr};
-ghost use Rattle.node_core.specs.Asks.{ask_value, ask_value_first, reply_value, is_pass};
+ghost use Rattle.node_calls.specs.Asks.{ask_value, ask_value_first, reply_value, is_pass};
 ghost use Rattle.node_core.specs.Applied.{delivery_refused_with, TellsIfEmit};
 ghost use Rattle.node_core.specs.Traces.{Accepts, IsRefusalOf, Records, call_of};
 
 use super::NodeCore;
-use crate::ask::Ask;
 use crate::delivery::Delivery;
-use crate::fault::NodeFault;
-use crate::reply::Reply;
-use crate::trace::Entry;
+use node_calls::{Ask, Entry, NodeFault, Reply};
 use std::alloc::Global;
 
 // Why an ask that takes no random draws is refused with some: for what it is refused without them,

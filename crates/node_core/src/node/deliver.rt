@@ -1,8 +1,8 @@
 //! Taking in a message of another node.
 
 ghost use Rattle.std.specs.Prelude.{◌≡◌, [], IfOk, IfErr, OnOk, OnErr, IsErrOf, IsOk, None};
-ghost use Rattle.delta_exchange.specs.Reading.{header_of};
-ghost use Rattle.node_core.specs.Asks as asks;
+ghost use Rattle.message_format.specs.Reading.{header_of};
+ghost use Rattle.node_calls.specs.Asks as asks;
 ghost use Rattle.node_core.specs.Deliveries.{DeliversAs};
 ghost use Rattle.node_core.specs.Memory.{DeliveryNeedsMemory};
 ghost use Rattle.node_core.specs.Room.{HasRoom};
@@ -10,12 +10,9 @@ ghost use Rattle.node_core.specs.Traces.{Accepts, IsRefusalOf, after_call, deliv
 
 use super::NodeCore;
 use crate::State;
-use crate::ask::Ask;
 use crate::delivery::{Delivery, is_any_overspent, is_message_ahead, latest_clock, read_message};
-use crate::fault::NodeFault;
-use crate::reply::Reply;
-use crate::trace::Entry;
 use delta_exchange::{MAX_NAMES, replica_of};
+use node_calls::{Ask, Entry, NodeFault, Reply};
 use replica_state::Replica;
 use std::alloc::{AllocError, Global};
 

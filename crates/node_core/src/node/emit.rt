@@ -1,19 +1,16 @@
 //! Making a message to another node.
 
 ghost use Rattle.std.specs.Prelude.{◌≡◌, ◌≢◌, [], ◌<◌, IfOk, IfErr, OnOk, OnErr, IsErrOf, Some, None};
-ghost use Rattle.node_core.specs.Asks as asks;
-ghost use Rattle.node_core.specs.Asks.{bare_emit, message_read};
+ghost use Rattle.node_calls.specs.Asks as asks;
+ghost use Rattle.node_calls.specs.Asks.{bare_emit, message_read};
 ghost use Rattle.node_core.specs.Deliveries.{TellsDelta};
 ghost use Rattle.node_core.specs.Memory.{EmitNeedsMemory};
 ghost use Rattle.node_core.specs.Room.{HasRoom};
 ghost use Rattle.node_core.specs.Traces.{Emits, IsRefusalOf, after_call, emission_of, refusal, reply_to};
 
 use super::NodeCore;
-use crate::ask::Ask;
-use crate::fault::NodeFault;
-use crate::reply::Reply;
-use crate::trace::Entry;
 use delta_exchange::encode;
+use node_calls::{Ask, Entry, NodeFault, Reply};
 use std::alloc::{AllocError, Global};
 
 impl NodeCore {

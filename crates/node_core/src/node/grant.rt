@@ -3,7 +3,7 @@
 ghost use Rattle.std.specs.Prelude.{◌≡◌, [], ◌+◌, ◌<◌, IfOk, IfErr, OnOk, OnErr, IsErrOf, IsSome, Some, None};
 ghost use Rattle.node_core.specs.Replicas.{state_in};
 ghost use Rattle.replica_state.specs.States.{budget_of, granted_in};
-ghost use Rattle.node_core.specs.Asks as asks;
+ghost use Rattle.node_calls.specs.Asks as asks;
 ghost use Rattle.node_core.specs.Memory.{NameNeedsMemory};
 ghost use Rattle.node_core.specs.Outcomes.{HasKey};
 ghost use Rattle.node_core.specs.Refusals.{grant_refusal};
@@ -12,13 +12,10 @@ ghost use Rattle.node_core.specs.Traces.{Accepts, IsRefusalOf, after_call, refus
 
 use super::{NodeCore, read_name};
 use crate::State;
-use crate::ask::Ask;
 use crate::config::Config;
-use crate::fault::NodeFault;
-use crate::reply::Reply;
 use crate::setting::setting_at;
-use crate::trace::Entry;
 use actions::Name;
+use node_calls::{Ask, Entry, NodeFault, Reply};
 use replica_state::Replica;
 use std::alloc::{AllocError, Global};
 

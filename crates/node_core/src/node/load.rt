@@ -8,8 +8,8 @@ ghost use Rattle.actions.specs.SettingReading.{setting_reading};
 ghost use Rattle.stamp_register.specs.Keys.{body_value};
 ghost use Rattle.replica_state.specs.Operations.{IsIn, operation};
 ghost use Rattle.replica_state.specs.Unions.{with_names};
-ghost use Rattle.delta_exchange.specs.Spelling.{IsBody};
-ghost use Rattle.node_core.specs.Asks as asks;
+ghost use Rattle.message_format.specs.Spelling.{IsBody};
+ghost use Rattle.node_calls.specs.Asks as asks;
 ghost use Rattle.node_core.specs.Memory.{LoadNeedsMemory};
 ghost use Rattle.node_core.specs.Outcomes.{AreTellable, state_loaded};
 ghost use Rattle.node_core.specs.Refusals.{bad_setting};
@@ -20,12 +20,9 @@ ghost use Rattle.node_core.specs.Traces.{Accepts, IsRefusalOf, after_call, last_
 
 use super::NodeCore;
 use crate::State;
-use crate::ask::Ask;
-use crate::fault::{NodeFault, TextFault};
-use crate::reply::Reply;
-use crate::trace::Entry;
 use actions::{Actions, Name, SettingFault, parse_setting};
 use delta_exchange::MAX_NAMES;
+use node_calls::{Ask, Entry, NodeFault, Reply, TextFault};
 use replica_state::{Op, Replica};
 use stamp_register::{Body, Key};
 use std::alloc::{AllocError, Global};

@@ -9,8 +9,8 @@ ghost use Rattle.node_core.specs.Replicas.{state_in, value_in};
 ghost use Rattle.delta_exchange.specs.Versions.{ChangesTo, MayPass};
 ghost use Rattle.std.specs.Prelude.{false};
 ghost use Rattle.replica_state.specs.States.{rights_of, with_pass};
-ghost use Rattle.node_core.specs.Asks as asks;
-ghost use Rattle.node_core.specs.Asks.{passed};
+ghost use Rattle.node_calls.specs.Asks as asks;
+ghost use Rattle.node_calls.specs.Asks.{passed};
 ghost use Rattle.node_core.specs.Lasts.{last_passed};
 ghost use Rattle.node_core.specs.Memory.{NameNeedsMemory};
 ghost use Rattle.node_core.specs.Nodes.{setting_of};
@@ -22,13 +22,10 @@ ghost use Rattle.node_core.specs.Traces.{Accepts, IsRefusalOf, after_call, reply
 
 use super::{NodeCore, read_name};
 use crate::State;
-use crate::ask::Ask;
-use crate::fault::NodeFault;
-use crate::reply::{PassReply, Reply};
-use crate::trace::Entry;
 use crate::words::{GivenWords, WordSource};
 use actions::{Actions, Name, Task, decide};
 use delta_exchange::Versioned;
+use node_calls::{Ask, Entry, NodeFault, PassReply, Reply};
 use replica_state::Replica;
 use stamp_register::{Key, Stamp};
 use std::alloc::{AllocError, Global};

@@ -4,8 +4,8 @@ ghost use Rattle.std.specs.Prelude.{◌≡◌, ◌≢◌, [], ◌∷◌, ◌⊎�
 ghost use Rattle.actions.specs.Names.{is_name};
 ghost use Rattle.actions.specs.Reading.{reading};
 ghost use Rattle.stamp_register.specs.Keys.{body_value};
-ghost use Rattle.delta_exchange.specs.Spelling.{IsBody};
-ghost use Rattle.node_core.specs.Asks as asks;
+ghost use Rattle.message_format.specs.Spelling.{IsBody};
+ghost use Rattle.node_calls.specs.Asks as asks;
 ghost use Rattle.node_core.specs.Memory.{IsReadable, SetNeedsMemory, NameNeedsMemory};
 ghost use Rattle.node_core.specs.Refusals.{bad_actions, key_refusal};
 ghost use Rattle.node_core.specs.Room.{HasRoom, HasClocks, HasPlace};
@@ -14,12 +14,9 @@ ghost use Rattle.node_core.specs.Traces.{Accepts, IsRefusalOf, after_call, call_
 
 use super::load::set_to;
 use super::{NodeCore, read_name};
-use crate::ask::Ask;
-use crate::fault::{NodeFault, TextFault};
-use crate::reply::Reply;
-use crate::trace::Entry;
 use actions::{ActionFault, Actions, Name, parse_actions};
 use delta_exchange::MAX_NAMES;
+use node_calls::{Ask, Entry, NodeFault, Reply, TextFault};
 use replica_state::Replica;
 use stamp_register::{Body, Key, Stamp};
 use std::alloc::{AllocError, Global};

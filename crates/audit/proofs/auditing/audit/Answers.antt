@@ -1,5 +1,5 @@
 use Rattle.std.proofs.Common.{◌≡◌, ◌≤◌, length, sym, subst, arith, IfSome, IfNone, Err}
-use Rattle.delta_exchange.specs.Limits.{max_nodes}
+use Rattle.message_format.specs.Limits.{max_nodes}
 use Rattle.audit.specs.Answers.{IsAudited}
 use Rattle.audit.specs.Boards.{IsPlacing}
 use Rattle.audit.specs.Places.{Fits}

@@ -1,6 +1,6 @@
 use Rattle.std.proofs.Common.{ℕ, ◌<◌, get_or, Vec, All}
 use Rattle.std.specs.declared.alloc.Global.{Global}
-use Rattle.node_core.specs.declared.receipt.Receipt.{Receipt}
+use Rattle.node_calls.specs.declared.receipt.Receipt.{Receipt}
 use Rattle.audit.specs.Receipts.{IsReceiptOf}
 use Rattle.audit.proofs.receipts.all_match.Given as goal
 

@@ -1,6 +1,6 @@
 use Rattle.std.proofs.Common.{◌<◌, ℕ, Vec, get_or}
 use Rattle.std.specs.declared.alloc.Global.{Global}
-use Rattle.node_core.specs.declared.receipt.Receipt.{Receipt}
+use Rattle.node_calls.specs.declared.receipt.Receipt.{Receipt}
 use Rattle.audit.specs.Receipts.{Ascends}
 use Rattle.audit.proofs.receipts.first_list_late.Given as goal
 

@@ -1,12 +1,12 @@
 use Rattle.std.proofs.Common.{◌≡◌, ◌≤◌, List, length, map, Some, sym, refl, subst, arith, slice_get}
 use Rattle.std.proofs.lemmas.Option.{slice_get_read}
 use Rattle.std.specs.Bool.{OnTrue, OnFalse}
-use Rattle.node_core.specs.declared.trace.Entry.{Entry}
+use Rattle.node_calls.specs.declared.trace.Entry.{Entry}
 use Rattle.node_core.specs.Traces.{call_of}
 use Rattle.node_core.proofs.LegalTraces.{nothing_legal}
 use Rattle.audit.specs.Replays.{IsLegalKept, with_call}
 use Rattle.audit.proofs.Replayed.{first_wrong_at, index_small, replayed_more}
-use Rattle.node_core.specs.Asks.{call}
+use Rattle.node_calls.specs.Asks.{call}
 use Rattle.node_core.specs.Nodes.{start}
 use Rattle.audit.specs.Tallies.{Notes}
 use Rattle.audit.proofs.NotedAll.{notes_none, entry_noted, calls_taken, take_over}

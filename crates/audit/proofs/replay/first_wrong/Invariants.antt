@@ -1,5 +1,5 @@
 use Rattle.std.proofs.Common.{◌≡◌, map, take}
-use Rattle.node_core.specs.Asks.{call}
+use Rattle.node_calls.specs.Asks.{call}
 use Rattle.node_core.specs.Nodes.{start}
 use Rattle.audit.specs.Tallies.{Notes}
 use Rattle.audit.specs.Replays.{IsLegalKept}

@@ -1,7 +1,7 @@
 use Rattle.std.proofs.Common.{◌≡◌, true, false, ap, sym, ◌∙◌, subst}
 use Rattle.std.proofs.lemmas.Bool.{OnTrue_from, OnFalse_from}
 use Rattle.node_core.specs.declared.config.Config.{Config}
-use Rattle.node_core.specs.Asks.{ask_value_first}
+use Rattle.node_calls.specs.Asks.{ask_value_first}
 use Rattle.node_core.specs.Traces.{Records, IsRefusalOf, call_of}
 use Rattle.audit.proofs.Replayed.{given_legal, not_given, not_accepted}
 use Rattle.audit.proofs.replay.gives.Goals as goal

@@ -1,11 +1,11 @@
 use Rattle.std.proofs.Common.{◌≡◌, ◌<◌, ◌≤◌, List, length, map, sym, subst, arith, below_more, IfSome, IfNone}
-use Rattle.node_core.specs.declared.trace.Entry.{Entry}
+use Rattle.node_calls.specs.declared.trace.Entry.{Entry}
 use Rattle.cluster_model.specs.Worlds.{config_of}
 use Rattle.audit.specs.Traces.{audited, IsLegalAlone, IsFirstWrong}
 use Rattle.audit.proofs.Runs.{trace_read}
 use Rattle.audit.proofs.Replayed.{legal_everywhere}
-use Rattle.delta_exchange.specs.Limits.{max_nodes}
-use Rattle.node_core.specs.Asks.{call}
+use Rattle.message_format.specs.Limits.{max_nodes}
+use Rattle.node_calls.specs.Asks.{call}
 use Rattle.node_core.specs.Nodes.{start}
 use Rattle.audit.specs.Traces.{trace_of}
 use Rattle.audit.specs.Tallies.{Notes, IsTallied}

@@ -2,7 +2,7 @@ use Rattle.std.proofs.Common.{ℕ, refl}
 use Rattle.stamp_register.specs.Keys.{key_value}
 use Rattle.replica_state.specs.Operations.{Count, Hits, Execs, Shifts}
 use Rattle.replica_state.proofs.Learned.{on_ok}
-use Rattle.delta_exchange.specs.Messages.{entry_value}
+use Rattle.message_format.specs.Messages.{entry_value}
 use Rattle.delta_exchange.proofs.KeysLearned.{has_now, has_still, by_its_key}
 use Rattle.delta_exchange.proofs.ToldSteps.{learned_entry}
 use Rattle.delta_exchange.proofs.learning.learn_entry.Goals as goal

@@ -3,7 +3,7 @@ use Rattle.stamp_register.specs.Keys.{key_value}
 use Rattle.replica_state.specs.Operations.{Count, Hits, IsWellFormed}
 use Rattle.replica_state.specs.Cells.{operation_told}
 use Rattle.replica_state.specs.declared.point.Count.{Count as Counting}
-use Rattle.delta_exchange.specs.Spelling.{IsHit}
+use Rattle.message_format.specs.Spelling.{IsHit}
 use Rattle.delta_exchange.proofs.KeysLearned.{has_still, formed_at}
 use Rattle.delta_exchange.proofs.ToldSteps.{learned_next}
 use Rattle.delta_exchange.proofs.learning.learn_hits.Goals as goal

@@ -1,10 +1,10 @@
 use Rattle.std.proofs.Common.{sym, subst}
 use Rattle.std.proofs.lemmas.List.Elements.{All-from_recursion}
-use Rattle.delta_exchange.specs.declared.message.NameEntry.{NameEntry}
-use Rattle.delta_exchange.specs.Messages.{entry_value, operations_of}
-use Rattle.delta_exchange.specs.Spelling.{IsEntry}
+use Rattle.message_format.specs.declared.message.NameEntry.{NameEntry}
+use Rattle.message_format.specs.Messages.{entry_value, operations_of}
+use Rattle.message_format.specs.Spelling.{IsEntry}
 use Rattle.delta_exchange.specs.Told.{HasLearned}
-use Rattle.delta_exchange.proofs.Entries.{each_is}
+use Rattle.message_format.proofs.Entries.{each_is}
 use Rattle.delta_exchange.proofs.KeysLearned.{not_told_yet}
 use Rattle.delta_exchange.proofs.ToldSteps.{learned_next_entry}
 use Rattle.delta_exchange.proofs.learning.replica_of.Goals as goal

@@ -1,6 +1,6 @@
 use Rattle.std.proofs.Common.{map, take}
 use Rattle.std.specs.List.{flat_map}
-use Rattle.delta_exchange.specs.Messages.{entry_value, operations_of}
+use Rattle.message_format.specs.Messages.{entry_value, operations_of}
 use Rattle.delta_exchange.specs.Told.{HasLearned}
 use Rattle.delta_exchange.proofs.learning.replica_of.Given as goal
 

@@ -1,6 +1,6 @@
 use Rattle.std.proofs.Common.{◌≡◌, map, take}
 use Rattle.std.specs.List.{flat_map}
-use Rattle.delta_exchange.specs.Messages.{entry_value, operations_of}
+use Rattle.message_format.specs.Messages.{entry_value, operations_of}
 use Rattle.delta_exchange.specs.News.{news_in, news_of}
 use Rattle.delta_exchange.proofs.news.news_of_message.Given as goal
 

@@ -3,7 +3,7 @@ use Rattle.stamp_register.specs.Keys.{key_value}
 use Rattle.replica_state.specs.Operations.{Operation, Set}
 use Rattle.replica_state.specs.Cells.{operation_told}
 use Rattle.replica_state.proofs.Learned.{on_ok}
-use Rattle.delta_exchange.specs.Messages.{hits_in, execs_in, shifts_in, grants_in}
+use Rattle.message_format.specs.Messages.{hits_in, execs_in, shifts_in, grants_in}
 use Rattle.delta_exchange.specs.News.{news_in, news_of}
 use Rattle.delta_exchange.proofs.NewsLemmas.{news_both}
 use Rattle.delta_exchange.proofs.news.push_entry.Goals as goal

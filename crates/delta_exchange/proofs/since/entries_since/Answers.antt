@@ -1,7 +1,7 @@
 use Rattle.std.proofs.Common.{ℕ, ◌<◌, ◌≤◌, List, map, arith}
 use Rattle.std.specs.List.{flat_map}
 use Rattle.delta_exchange.specs.declared.marks.NameMarks.{NameMarks}
-use Rattle.delta_exchange.specs.Messages.{entry_value}
+use Rattle.message_format.specs.Messages.{entry_value}
 use Rattle.delta_exchange.specs.Since.{entry_marked, entries_since}
 use Rattle.delta_exchange.proofs.SinceEntries.{passed_over, looked_at}
 use Rattle.delta_exchange.proofs.since.entries_since.Goals as goal

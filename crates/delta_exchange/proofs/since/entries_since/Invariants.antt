@@ -1,6 +1,6 @@
 use Rattle.std.proofs.Common.{◌≡◌, ◌++◌, map}
 use Rattle.std.specs.List.{AllByRecursion, flat_map}
-use Rattle.delta_exchange.specs.Messages.{entry_value}
+use Rattle.message_format.specs.Messages.{entry_value}
 use Rattle.delta_exchange.specs.Cells.{EntriesFit}
 use Rattle.delta_exchange.specs.Since.{AreCellsOrdered, entry_marked, entries_since}
 use Rattle.delta_exchange.proofs.since.entries_since.Given as goal

@@ -4,7 +4,7 @@ use Rattle.replica_state.specs.States.{State}
 use Rattle.replica_state.specs.declared.point.Counted.TheVariants.{Shifts}
 use Rattle.delta_exchange.specs.Cells.{cell_of}
 use Rattle.delta_exchange.specs.Since.{shift_of, shifts_since}
-use Rattle.delta_exchange.proofs.Lists.{all_and_one}
+use Rattle.message_format.proofs.Lists.{all_and_one}
 use Rattle.delta_exchange.proofs.HeldCells.{cell_alone}
 use Rattle.delta_exchange.proofs.LaterCells.{one_more}
 use Rattle.delta_exchange.proofs.since.shifts_since.Goals as goal

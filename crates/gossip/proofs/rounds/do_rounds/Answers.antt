@@ -1,5 +1,5 @@
 use Rattle.std.proofs.Common.{◌≤◌, ◌+◌, refl, arith, length}
-use Rattle.node_core.specs.Asks.{bare_emit}
+use Rattle.node_calls.specs.Asks.{bare_emit}
 use Rattle.gossip.specs.Reports.{emits_below}
 use Rattle.gossip.proofs.RangeLemmas.{length_but}
 use Rattle.gossip.proofs.StepLemmas.{adds_none, adds_turn, adds_turns, length_over, length_turn, length_turns}

@@ -1,6 +1,6 @@
 use Rattle.std.proofs.Common.{arith}
 use Rattle.std.proofs.lemmas.List.{append-nil}
-use Rattle.node_core.specs.Asks.{bare_emit}
+use Rattle.node_calls.specs.Asks.{bare_emit}
 use Rattle.gossip.proofs.RangeLemmas.{length_but}
 use Rattle.gossip.proofs.StepLemmas.{adds_as, adds_then}
 use Rattle.gossip.proofs.rounds.round.Goals as goal

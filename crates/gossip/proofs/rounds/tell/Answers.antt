@@ -1,5 +1,5 @@
 use Rattle.std.proofs.Common.{◌≡◌, ◌≢◌, ◌≤◌, ◌+◌, refl, arith}
-use Rattle.node_core.specs.Asks.{bare_emit}
+use Rattle.node_calls.specs.Asks.{bare_emit}
 use Rattle.gossip.proofs.RangeLemmas.{length_but}
 use Rattle.gossip.proofs.StepLemmas.{adds_itself, adds_next, adds_none, adds_up_to, length_itself, length_next, length_up_to}
 use Rattle.gossip.proofs.rounds.tell.Goals as goal

@@ -1,6 +1,6 @@
 use Rattle.std.proofs.Common.{◌≤◌, ℕ, ◌+◌, List, ◌∙◌, refl, arith}
 use Rattle.std.specs.List.{slice_index}
-use Rattle.node_core.specs.Asks.{Asked}
+use Rattle.node_calls.specs.Asks.{Asked}
 use Rattle.gossip.specs.Spreads.{shifts_below, shifts_in}
 use Rattle.gossip.proofs.StepLemmas.{adds_none, adds_turn, adds_turns, length_turn}
 use Rattle.gossip.proofs.spreading.shift_all.Goals as goal

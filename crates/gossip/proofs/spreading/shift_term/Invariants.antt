@@ -1,5 +1,5 @@
 use Rattle.std.proofs.Common.{◌≡◌, ◌≤◌, ◌+◌, length, map}
-use Rattle.node_core.specs.Asks.{Shift}
+use Rattle.node_calls.specs.Asks.{Shift}
 use Rattle.gossip.specs.Reports.{others_below}
 use Rattle.gossip.specs.Steps.{Adds}
 use Rattle.gossip.proofs.spreading.shift_term.Given as goal

@@ -1,7 +1,7 @@
 use Rattle.std.proofs.Common.{sym, ◌∙◌, refl, ap, true, false}
 use Rattle.std.specs.List.{list_any}
 use Rattle.node_core.specs.Replicas.{state_in}
-use Rattle.delta_exchange.specs.Messages.{entry_value}
+use Rattle.message_format.specs.Messages.{entry_value}
 use Rattle.node_core.proofs.Ahead.{ahead_is}
 use Rattle.node_core.proofs.delivery.is_entry_ahead.Goals as goal
 

@@ -1,8 +1,8 @@
 use Rattle.std.proofs.Common.{sym, ◌∙◌, ap, List, map}
 use Rattle.std.specs.List.{list_any, flat_map}
 use Rattle.node_core.specs.Replicas.{state_in}
-use Rattle.delta_exchange.specs.declared.message.NameEntry.{NameEntry}
-use Rattle.delta_exchange.specs.Messages.{entry_value, operations_of}
+use Rattle.message_format.specs.declared.message.NameEntry.{NameEntry}
+use Rattle.message_format.specs.Messages.{entry_value, operations_of}
 use Rattle.node_core.specs.Refusals.{is_ahead}
 use Rattle.node_core.proofs.Ahead.{any_told}
 use Rattle.node_core.proofs.delivery.is_message_ahead.Goals as goal

@@ -1,12 +1,12 @@
 use Rattle.std.proofs.Common.{◌≡◌, ◌⊎◌, Some, Ok, Err, sym, ap, subst}
-use Rattle.delta_exchange.specs.Reading.{message_at}
-use Rattle.node_core.specs.declared.fault.NodeFault.{NodeFault}
-use Rattle.node_core.specs.declared.fault.NodeFault.TheVariants as faults
-use Rattle.node_core.specs.Asks.{message_read, read_of}
+use Rattle.message_format.specs.Reading.{message_at}
+use Rattle.node_calls.specs.declared.fault.NodeFault.{NodeFault}
+use Rattle.node_calls.specs.declared.fault.NodeFault.TheVariants as faults
+use Rattle.node_calls.specs.Asks.{message_read, read_of}
 use Rattle.node_core.specs.Refusals.{bad_message}
 use Rattle.node_core.proofs.BadMessages.{refused_so}
 use Rattle.node_core.proofs.MemoryLemmas.{header_is_ok}
-use Rattle.delta_exchange.specs.declared.message.Message.{Message}
+use Rattle.message_format.specs.declared.message.Message.{Message}
 use Rattle.node_core.proofs.delivery.read_message.Goals as goal
 
 pub returns-in-Ok-clause-ok : goal.returns-in-Ok-clause-ok

@@ -1,8 +1,8 @@
 use Rattle.std.proofs.Common.{arith, ◌∙◌, ap, sym, inr}
 use Rattle.std.specs.Prelude.{slice_get}
 use Rattle.std.proofs.lemmas.Result.{err_from_is_err_and}
-use Rattle.node_core.specs.Asks as asks
-use Rattle.node_core.specs.Asks.{message_read}
+use Rattle.node_calls.specs.Asks as asks
+use Rattle.node_calls.specs.Asks.{message_read}
 use Rattle.cluster_model.proofs.Lists.{get_below}
 use Rattle.cluster_model.proofs.WorldClauses.{emit_at, read_there, read_at, taken_at, refused_at, delivery_called, delivery_refused, no_message}
 use Rattle.cluster_model.proofs.world.World.deliver.Goals as goal

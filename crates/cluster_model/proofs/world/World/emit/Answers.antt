@@ -1,7 +1,7 @@
 use Rattle.std.proofs.Common.{◌∙◌, ap, sym, inr, length, ◌++◌, ◌∷◌, []}
 use Rattle.std.proofs.lemmas.List.{length-map}
 use Rattle.std.proofs.lemmas.Result.{err_from_is_err_and}
-use Rattle.node_core.specs.Asks.{call}
+use Rattle.node_calls.specs.Asks.{call}
 use Rattle.cluster_model.proofs.WorldClauses.{emission_called, emission_refused}
 use Rattle.cluster_model.proofs.world.World.emit.Goals as goal
 

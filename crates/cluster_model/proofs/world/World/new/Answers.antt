@@ -3,7 +3,7 @@ use Rattle.std.proofs.lemmas.Grind.{common_steps}
 use Rattle.std.proofs.lemmas.Bool.Decides.{nat_tests}
 use Rattle.std.proofs.lemmas.List.FromFn.{map-range_with_len_more}
 use Rattle.std.specs.List.{range_with_len}
-use Rattle.delta_exchange.specs.Limits.{max_nodes}
+use Rattle.message_format.specs.Limits.{max_nodes}
 use Rattle.cluster_model.specs.Worlds.{Cluster}
 use Rattle.cluster_model.specs.Events.{new_node}
 use Rattle.cluster_model.proofs.NewWorlds.{new_is_world, new_is, new_history}

@@ -1,6 +1,6 @@
 use Rattle.std.proofs.Common.{◌≡◌, ◌<◌, ◌≤◌, map}
 use Rattle.std.specs.List.{range_with_len}
-use Rattle.delta_exchange.specs.Limits.{max_nodes}
+use Rattle.message_format.specs.Limits.{max_nodes}
 use Rattle.cluster_model.specs.Events.{new_node}
 use Rattle.cluster_model.proofs.world.World.new.Given as goal
 

@@ -1,6 +1,6 @@
 use Rattle.std.proofs.Common.{◌<◌, ◌≤◌, arith, subst, length, refl}
 use Rattle.std.proofs.lemmas.Result.{err_from_is_err_and}
-use Rattle.node_core.specs.Asks as asks
+use Rattle.node_calls.specs.Asks as asks
 use Rattle.node_core.specs.Traces.{reply_to}
 use Rattle.cluster_model.specs.Events.{WorldValue, passes}
 use Rattle.cluster_model.specs.Places.{world_of}

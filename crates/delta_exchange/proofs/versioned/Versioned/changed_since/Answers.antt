@@ -1,6 +1,6 @@
 use Rattle.std.proofs.Common.{refl, subst}
 use Rattle.delta_exchange.specs.Cells.{EntriesFit}
-use Rattle.delta_exchange.specs.Messages.{message_value}
+use Rattle.message_format.specs.Messages.{message_value}
 use Rattle.delta_exchange.specs.Versions.{value_of}
 use Rattle.delta_exchange.proofs.SinceLemmas.{is_message_since}
 use Rattle.delta_exchange.proofs.versioned.Versioned.changed_since.Goals as goal

@@ -1,5 +1,5 @@
 use Rattle.std.proofs.Common.{◌≡◌, List, map, sym, subst, ap, ◌∙◌}
-use Rattle.delta_exchange.specs.Messages.{message_value, operations_in}
+use Rattle.message_format.specs.Messages.{message_value, operations_in}
 use Rattle.delta_exchange.specs.declared.news.Told.{Told}
 use Rattle.delta_exchange.specs.News.{operation_of, news_of, BringsNews}
 use Rattle.delta_exchange.specs.Versions.{value_of, version_of, known_raised, acked_raised}

@@ -3,7 +3,7 @@ use Rattle.std.specs.Option.{IsSome}
 use Rattle.replica_state.specs.States.{State, budget_of}
 use Rattle.node_core.proofs.ShiftSteps.{grant_moves, may_grant}
 use Rattle.node_core.proofs.VersionsInStep.{entries_with, moved_with}
-use Rattle.node_core.specs.Asks.{Grant}
+use Rattle.node_calls.specs.Asks.{Grant}
 use Rattle.node_core.specs.Traces.{kept_of, state_known}
 use Rattle.node_core.specs.Replicas.{value_in}
 use Rattle.node_core.proofs.node.NodeCore.add_rights.Goals as goal

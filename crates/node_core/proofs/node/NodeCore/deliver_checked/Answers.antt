@@ -2,8 +2,8 @@ use Rattle.std.proofs.Common.{List, inr, ap, ◌∙◌, refl, map}
 use Rattle.std.specs.List.{list_any, flat_map}
 use Rattle.node_core.specs.Replicas.{state_in, value_in}
 use Rattle.replica_state.specs.Folds.{clock_of}
-use Rattle.delta_exchange.specs.declared.message.NameEntry.{NameEntry}
-use Rattle.delta_exchange.specs.Messages.{message_value, entry_value, operations_of}
+use Rattle.message_format.specs.declared.message.NameEntry.{NameEntry}
+use Rattle.message_format.specs.Messages.{message_value, entry_value, operations_of}
 use Rattle.node_core.specs.Traces.{kept_of}
 use Rattle.node_core.proofs.DeliverRefusals.{Checked, FindsOwn, FindsExecutions, refused_ahead, refused_ack, refused_overspent, refused_many, delivery_accepted, delivery_is, reached}
 use Rattle.node_core.proofs.node.NodeCore.deliver_checked.Goals as goal

@@ -1,7 +1,7 @@
 use Rattle.std.proofs.Common.{refl}
-use Rattle.delta_exchange.specs.Messages.{message_value}
+use Rattle.message_format.specs.Messages.{message_value}
 use Rattle.node_core.proofs.VersionsInStep.{entries_with, deliver_with}
-use Rattle.node_core.specs.Asks.{message_read}
+use Rattle.node_calls.specs.Asks.{message_read}
 use Rattle.node_core.specs.Traces.{kept_of}
 use Rattle.node_core.specs.Replicas.{value_in}
 use Rattle.node_core.proofs.node.NodeCore.learn.Goals as goal

@@ -4,7 +4,7 @@ use Rattle.replica_state.specs.Unions.{with_names}
 use Rattle.node_core.specs.Replicas.{state_in, value_in}
 use Rattle.node_core.specs.Outcomes.{AreTellable}
 use Rattle.node_core.specs.Steps.{operations_issued, points_read, settings_of}
-use Rattle.node_core.specs.Asks.{Load}
+use Rattle.node_calls.specs.Asks.{Load}
 use Rattle.node_core.specs.Traces.{IsRefusalOf, kept_of, last_clock}
 use Rattle.node_core.proofs.NamedRefusals.{load_text, passed_on, trace_refused}
 use Rattle.node_core.proofs.SettingNames.{settings_told}

@@ -1,5 +1,5 @@
 use Rattle.std.proofs.Common.{ℕ, List, refl, sym, subst, IfOk, Result, Ok, Err}
-use Rattle.delta_exchange.specs.Messages.{message_value}
+use Rattle.message_format.specs.Messages.{message_value}
 use Rattle.node_core.specs.Deliveries.{TellsDelta}
 use Rattle.node_core.specs.Replicas.{value_in}
 use Rattle.node_core.specs.Traces.{Kept, kept_of}

@@ -4,7 +4,7 @@ use Rattle.replica_state.specs.States.{State, budget_of}
 use Rattle.node_core.proofs.Rights.{counted_by_rights}
 use Rattle.node_core.proofs.ShiftSteps.{shift_moves, may_shift}
 use Rattle.node_core.proofs.VersionsInStep.{entries_with, moved_with}
-use Rattle.node_core.specs.Asks.{Shift}
+use Rattle.node_calls.specs.Asks.{Shift}
 use Rattle.node_core.specs.Traces.{kept_of, state_known}
 use Rattle.node_core.specs.Replicas.{value_in}
 use Rattle.node_core.proofs.node.NodeCore.move_rights.Goals as goal

@@ -1,4 +1,4 @@
-use Rattle.node_core.specs.Asks.{Pass}
+use Rattle.node_calls.specs.Asks.{Pass}
 use Rattle.node_core.specs.Traces.{IsRefusalOf}
 use Rattle.node_core.proofs.NamedRefusals.{passed_on, trace_refused, name_refused}
 use Rattle.node_core.proofs.node.NodeCore.pass_with.Goals as goal

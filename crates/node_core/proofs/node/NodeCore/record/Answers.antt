@@ -3,7 +3,7 @@ use Rattle.std.specs.Option.{IfSome}
 use Rattle.std.specs.Prelude.{pos, ◌≤ℤ◌, Some}
 use Rattle.replica_state.specs.States.{State, rights_of}
 use Rattle.node_core.proofs.VersionsInStep.{entries_with, may_pass, pass_with}
-use Rattle.node_core.specs.Asks.{Pass}
+use Rattle.node_calls.specs.Asks.{Pass}
 use Rattle.node_core.specs.Outcomes.{HasKey, ops_done}
 use Rattle.node_core.specs.Passes.{pass_ops}
 use Rattle.node_core.specs.Traces.{kept_of}

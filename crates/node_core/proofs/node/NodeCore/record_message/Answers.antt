@@ -1,6 +1,6 @@
 use Rattle.std.proofs.Common.{refl}
 use Rattle.node_core.proofs.VersionsInStep.{entries_with, emit_with}
-use Rattle.node_core.specs.Asks.{message_read}
+use Rattle.node_calls.specs.Asks.{message_read}
 use Rattle.node_core.specs.Traces.{kept_of}
 use Rattle.node_core.specs.Replicas.{value_in}
 use Rattle.node_core.proofs.node.NodeCore.record_message.Goals as goal

@@ -2,7 +2,7 @@ use Rattle.std.specs.Prelude.{◌≡◌, ◌<◌, ◌+◌, ◌-◌, ℕ, ◌++�
 use Rattle.std.proofs.Common.{◌∙◌, ap, arith, refl, rules}
 use Rattle.std.proofs.lemmas.List.{length_push, get_or_push}
 use Rattle.std.proofs.lemmas.Option.{slice_get-get_or}
-use Rattle.node_core.specs.Asks.{Asked, Call, IsPassed, Pass}
+use Rattle.node_calls.specs.Asks.{Asked, Call, IsPassed, Pass}
 use Rattle.node_core.specs.Lasts.{last_call, passed_at}
 use Rattle.node_core.specs.Passes.{pass_reply}
 use Rattle.node_core.specs.Traces.{IsRefusalOf, Kept, after_call, entry_for, state_known}

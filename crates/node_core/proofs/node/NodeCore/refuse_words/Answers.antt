@@ -1,5 +1,5 @@
 use Rattle.std.proofs.Common.{◌∙◌, ◌∷◌, sym}
-use Rattle.node_core.specs.Asks.{message_read, Set, Remove, Load, Shift, Grant}
+use Rattle.node_calls.specs.Asks.{message_read, Set, Remove, Load, Shift, Grant}
 use Rattle.node_core.specs.Traces.{refusal}
 use Rattle.node_core.proofs.SpareWords.{set_spare, remove_spare, load_spare, shift_spare, grant_spare, spare_result, ok_first, ok_first_of_three, deliver_spare}
 use Rattle.node_core.proofs.node.NodeCore.refuse_words.Goals as goal

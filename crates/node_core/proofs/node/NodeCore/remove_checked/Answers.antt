@@ -1,5 +1,5 @@
 use Rattle.std.proofs.Common.{[], ℕ, List, ap, inr, sym, subst, ◌∙◌}
-use Rattle.node_core.specs.Asks.{Remove}
+use Rattle.node_calls.specs.Asks.{Remove}
 use Rattle.node_core.specs.Refusals.{key_refusal}
 use Rattle.node_core.specs.Room.{HasPlace}
 use Rattle.node_core.specs.Traces.{IsRefusalOf, node_of}

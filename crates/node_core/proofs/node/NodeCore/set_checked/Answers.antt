@@ -1,5 +1,5 @@
 use Rattle.std.proofs.Common.{[], ℕ, List, ap, inl, inr, sym, subst, ◌∙◌, ⊎_elim}
-use Rattle.node_core.specs.Asks.{Set}
+use Rattle.node_calls.specs.Asks.{Set}
 use Rattle.node_core.specs.Refusals.{key_refusal}
 use Rattle.node_core.specs.Room.{HasPlace}
 use Rattle.node_core.specs.Traces.{IsRefusalOf, node_of}

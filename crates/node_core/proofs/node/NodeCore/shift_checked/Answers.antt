@@ -1,6 +1,6 @@
 use Rattle.std.proofs.Common.{[], ℕ, ◌+◌, List, ap, inr, sym, ◌∙◌}
 use Rattle.replica_state.specs.States.{State}
-use Rattle.node_core.specs.Asks.{Shift}
+use Rattle.node_calls.specs.Asks.{Shift}
 use Rattle.node_core.specs.Refusals.{shift_refusal}
 use Rattle.node_core.specs.Replicas.{value_in}
 use Rattle.node_core.specs.Traces.{IsRefusalOf, Kept, kept_of, state_known}

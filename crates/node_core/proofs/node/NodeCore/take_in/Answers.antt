@@ -3,7 +3,7 @@ use Rattle.std.specs.List.{AllByRecursion}
 use Rattle.replica_state.specs.Operations.{Operation, IsWellFormed, operation}
 use Rattle.node_core.proofs.LoadSteps.{issued_formed, issued_stay}
 use Rattle.node_core.proofs.VersionsInStep.{entries_with, load_with}
-use Rattle.node_core.specs.Asks.{Load}
+use Rattle.node_calls.specs.Asks.{Load}
 use Rattle.node_core.specs.Outcomes.{state_loaded}
 use Rattle.node_core.specs.Steps.{operations_issued, settings}
 use Rattle.node_core.specs.Traces.{kept_of, last_clock}

@@ -6,7 +6,7 @@ use Rattle.replica_state.specs.declared.op.Op.{Op}
 use Rattle.replica_state.specs.declared.op.Op.TheVariants as ops
 use Rattle.replica_state.specs.Operations.{Operation, Set, operation}
 use Rattle.replica_state.proofs.Sets.{IsIn-append_cases}
-use Rattle.delta_exchange.specs.Spelling.{IsBody}
+use Rattle.message_format.specs.Spelling.{IsBody}
 use Rattle.node_core.specs.Steps.{operations_issued}
 use Rattle.node_core.proofs.LoadSteps.{issued-more}
 use Rattle.node_core.proofs.node.load.settings_issued.Goals as goal

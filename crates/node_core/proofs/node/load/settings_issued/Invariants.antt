@@ -3,7 +3,7 @@ use Rattle.std.specs.Prelude.{vec_len, vec_capacity}
 use Rattle.actions.specs.Value.{TermValue}
 use Rattle.actions.specs.Canonical.{canonical}
 use Rattle.replica_state.specs.Operations.{IsIn, operation}
-use Rattle.delta_exchange.specs.Spelling.{IsBody}
+use Rattle.message_format.specs.Spelling.{IsBody}
 use Rattle.node_core.specs.Steps.{operations_issued}
 use Rattle.node_core.proofs.node.load.settings_issued.Given as goal
 

@@ -1,5 +1,5 @@
 use Rattle.rand_chacha.specs.ChaCha.{ChaCha}
-use Rattle.node_core.specs.declared.trace.Entry.{Entry}
+use Rattle.node_calls.specs.declared.trace.Entry.{Entry}
 use Rattle.node_core.specs.Traces.{Kept}
 use Rattle.node_registry.proofs.EnteredCells.{Draws, entered, stays, refused_cell}
 use Rattle.node_registry.proofs.cell.NodeCell.enter_owned.Goals as goal

@@ -1,6 +1,6 @@
 use Rattle.std.proofs.Common.{refl}
-use Rattle.node_core.specs.declared.ask.Ask.TheVariants as calls
-use Rattle.node_core.specs.Asks.{ask_value_first, bare_emit, emit_asked}
+use Rattle.node_calls.specs.declared.ask.Ask.TheVariants as calls
+use Rattle.node_calls.specs.Asks.{ask_value_first, bare_emit, emit_asked}
 use Rattle.node_registry.proofs.GivenReceipts.{receipt_is_by, refused_as}
 use Rattle.node_registry.proofs.registry.Registry.emit.Goals as goal
 

@@ -1,5 +1,5 @@
 use Rattle.std.proofs.Common.{subst, IfErr}
-use Rattle.node_core.specs.Asks.{ask_value_first}
+use Rattle.node_calls.specs.Asks.{ask_value_first}
 use Rattle.node_registry.specs.Receipts.{IsRefused}
 use Rattle.node_registry.proofs.EnteredCells.{same_first}
 use Rattle.node_registry.proofs.GivenReceipts.{memory_refused}

@@ -1,6 +1,6 @@
-use Rattle.node_core.specs.declared.ask.Ask.TheVariants as calls
-use Rattle.node_core.specs.Asks as asks
-use Rattle.node_core.specs.Asks.{ask_value_first}
+use Rattle.node_calls.specs.declared.ask.Ask.TheVariants as calls
+use Rattle.node_calls.specs.Asks as asks
+use Rattle.node_calls.specs.Asks.{ask_value_first}
 use Rattle.node_registry.proofs.GivenReceipts.{memory_refused, receipt_is_of, refused_as}
 use Rattle.node_registry.proofs.registry.Registry.grant.Goals as goal
 

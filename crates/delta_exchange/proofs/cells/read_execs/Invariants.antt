@@ -1,8 +1,0 @@
-use Rattle.std.proofs.Common.{◌≡◌}
-use Rattle.stamp_register.specs.Keys.{key_value}
-use Rattle.delta_exchange.specs.Reading.{exec_at, execs_at}
-use Rattle.delta_exchange.proofs.Loop.{progress}
-use Rattle.delta_exchange.proofs.cells.read_execs.Given as goal
-
-abbrev pub invariant-loop : goal.invariant-loop
-invariant-loop l = progress (exec_at l.whole.len l.whole.nodes (key_value l.key)) l.execs.items l.count l.counter l.rest ≡ execs_at l.whole.len l.whole.nodes (key_value l.key) l.bytes

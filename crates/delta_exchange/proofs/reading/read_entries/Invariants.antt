@@ -1,9 +1,0 @@
-use Rattle.std.proofs.Common.{◌≡◌, map}
-use Rattle.delta_exchange.specs.Messages.{entry_value}
-use Rattle.delta_exchange.specs.Reading.{entry_at, entries_at}
-use Rattle.delta_exchange.proofs.Loop.{progress}
-use Rattle.delta_exchange.proofs.reading.read_entries.Given as goal
-
-abbrev pub invariant-loop : goal.invariant-loop
-invariant-loop l =
-    progress (entry_at l.whole.len l.whole.nodes l.form) (map entry_value l.entries.items) l.count l.counter l.rest ≡ entries_at l.whole.len l.whole.nodes l.form l.bytes

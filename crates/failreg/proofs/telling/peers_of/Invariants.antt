@@ -1,0 +1,6 @@
+use Rattle.std.proofs.Common.{◌≡◌, map, take}
+use Rattle.failreg.specs.Rounds.{peer_of}
+use Rattle.failreg.proofs.telling.peers_of.Given as goal
+
+abbrev pub invariant-loop-peer : goal.invariant-loop-peer
+invariant-loop-peer g l = l.peers.items ≡ map peer_of (take l.peer-index l.fn.named)

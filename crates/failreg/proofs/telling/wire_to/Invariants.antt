@@ -1,6 +1,0 @@
-use Rattle.std.proofs.Common.{◌≡◌, map, take}
-use Rattle.failreg.specs.Rounds.{peer_of}
-use Rattle.failreg.proofs.telling.wire_to.Given as goal
-
-abbrev pub invariant-loop-peer : goal.invariant-loop-peer
-invariant-loop-peer g l = l.peers.items ≡ map peer_of (take l.peer-index l.fn.named)

@@ -1,0 +1,6 @@
+pub mod FaultText
+pub mod Limits
+pub mod Messages
+pub mod Spelling
+pub mod Reading
+pub mod Wholes

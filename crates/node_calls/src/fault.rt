@@ -1,0 +1,139 @@
+//! Why a node refuses.
+
+use actions::{ActionFault, SettingFault};
+use message_format::WireFault;
+use std::alloc::{AllocError, AllocFailed};
+use std::error::Error;
+use std::fmt;
+
+/// Why a text is refused. `Display` shows the text of the fault that it holds.
+#[derive(Clone, Copy, Debug, PartialEq, Eq)]
+pub enum TextFault {
+    /// As an action text.
+    Actions(ActionFault),
+    /// As a setting text.
+    Setting(SettingFault),
+}
+
+impl fmt::Display for TextFault {
+    ghost use Rattle.std.specs.Prelude.{Some};
+    ghost use Rattle.node_calls.specs.FaultText.{text_fault_text};
+
+    ghost output = { λ e. Some (text_fault_text e) };
+
+    fn fmt<W: fmt::Write>(&self, f: &mut fmt::Formatter<W>) -> fmt::Result {
+        match self {
+            TextFault::Actions(fault) => write!(f, "{fault}"),
+            TextFault::Setting(fault) => write!(f, "{fault}"),
+        }
+    }
+}
+
+impl Error for TextFault {}
+
+/// Why a call is refused. Where several refusals apply, the first of them in this order is the
+/// answer, but that out of memory may stand in the place of any other, and that `TooManyPoints` of
+/// a delivery comes behind all else that refuses its message. After a refusal the node is as it
+/// was.
+///
+/// `Display` shows the number, the variant's name and each field as `field=value`, or the text of
+/// the fault that it holds.
+#[derive(Clone, Copy, Debug, PartialEq, Eq)]
+pub enum NodeFault {
+    /// The trace has as many entries as the configuration allows.
+    TraceFull,
+    /// The name isn't 1 to 128 bytes of ASCII letters, digits, `_`, `-`, `.` and `:`.
+    BadName,
+    /// The action text is refused, or the setting text for another reason than a name.
+    BadActions(TextFault),
+    /// More than 256 names would be held, removed ones counted.
+    TooManyPoints,
+    /// The clock would pass 2^64 - 1.
+    ClockFull,
+    /// The point isn't set here.
+    NotSet,
+    /// The point has no such term.
+    NoSuchTerm,
+    /// The term has no count.
+    NotCounted,
+    /// The other node isn't a node of the cluster, or is this one.
+    BadNode,
+    /// The amount is 0.
+    ZeroAmount,
+    /// The node has only so many rights.
+    TooFewRights { have: u64 },
+    /// The total would be above 2^64 - 1.
+    CellFull,
+    /// A pass of this point needs another number of random draws.
+    BadWords { need: u8 },
+    /// The bytes are no message.
+    BadMessage(WireFault),
+    /// The message is for another node.
+    NotForMe,
+    /// The message says more of this node than the node knows itself.
+    OwnAhead,
+    /// The message knows a version of this node that there isn't yet.
+    AckAhead,
+    /// With the message a term would have more executions than its count and what was granted.
+    Overspent,
+    /// The cluster hasn't 1 to 32 nodes, or the node isn't one of them.
+    BadConfig,
+    /// Memory was refused.
+    OutOfMemory,
+}
+
+impl fmt::Display for NodeFault {
+    ghost use Rattle.std.specs.Prelude.{Some};
+    ghost use Rattle.node_calls.specs.FaultText.{node_fault_text};
+
+    ghost output = { λ e. Some (node_fault_text e) };
+
+    fn fmt<W: fmt::Write>(&self, f: &mut fmt::Formatter<W>) -> fmt::Result {
+        match self {
+            NodeFault::TraceFull => f.write_str("N1 TraceFull"),
+            NodeFault::BadName => f.write_str("N2 BadName"),
+            NodeFault::BadActions(fault) => write!(f, "N3 BadActions {fault}"),
+            NodeFault::TooManyPoints => f.write_str("N4 TooManyPoints"),
+            NodeFault::ClockFull => f.write_str("N5 ClockFull"),
+            NodeFault::NotSet => f.write_str("N6 NotSet"),
+            NodeFault::NoSuchTerm => f.write_str("N7 NoSuchTerm"),
+            NodeFault::NotCounted => f.write_str("N8 NotCounted"),
+            NodeFault::BadNode => f.write_str("N9 BadNode"),
+            NodeFault::ZeroAmount => f.write_str("N10 ZeroAmount"),
+            NodeFault::TooFewRights { have } => write!(f, "N11 TooFewRights have={have}"),
+            NodeFault::CellFull => f.write_str("N12 CellFull"),
+            NodeFault::BadWords { need } => write!(f, "N14 BadWords need={need}"),
+            NodeFault::BadMessage(fault) => write!(f, "N16 BadMessage {fault}"),
+            NodeFault::NotForMe => f.write_str("N17 NotForMe"),
+            NodeFault::OwnAhead => f.write_str("N18 OwnAhead"),
+            NodeFault::AckAhead => f.write_str("N19 AckAhead"),
+            NodeFault::Overspent => f.write_str("N20 Overspent"),
+            NodeFault::BadConfig => f.write_str("N21 BadConfig"),
+            NodeFault::OutOfMemory => f.write_str("N22 OutOfMemory"),
+        }
+    }
+}
+
+impl Error for NodeFault {}
+
+impl From<AllocError> for NodeFault {
+    ghost use Rattle.std.specs.Prelude.{◌≡◌};
+    ghost use Rattle.node_calls.specs.declared.fault.NodeFault.TheVariants.{OutOfMemory};
+
+    ghost from_gives = { λ _ e. e ≡ OutOfMemory };
+
+    fn from(_e: AllocError) -> NodeFault {
+        NodeFault::OutOfMemory
+    }
+}
+
+impl<T: Drop> From<AllocFailed<T>> for NodeFault {
+    ghost use Rattle.std.specs.Prelude.{◌≡◌};
+    ghost use Rattle.node_calls.specs.declared.fault.NodeFault.TheVariants.{OutOfMemory};
+
+    ghost from_gives = { λ _ e. e ≡ OutOfMemory };
+
+    fn from(_e: AllocFailed<T>) -> NodeFault {
+        NodeFault::OutOfMemory
+    }
+}

@@ -1,0 +1,19 @@
+//! The calls of a node as values: what it is asked, what it answers, why it refuses, and the entry of
+//! its trace that an accepted call leaves.
+//!
+//! ```rust
+//! let again = ask.copied(alloc)?;
+//! ```
+#![tactic(auto)]
+
+mod ask;
+mod fault;
+mod receipt;
+mod reply;
+mod trace;
+
+pub use ask::Ask;
+pub use fault::{NodeFault, TextFault};
+pub use receipt::Receipt;
+pub use reply::{PassReply, Reply};
+pub use trace::{Entry, Trace};

@@ -1,5 +1,0 @@
-use Rattle.std.proofs.Common.{sym, ◌∙◌}
-use Rattle.uses.proofs.delta_exchange_caller.written_again.Goals as goal
-
-pub returns : goal.returns
-returns c = c.in_ok-written.ensures ∙ sym c.in_ok-message.ensures.found.1
