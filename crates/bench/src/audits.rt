@@ -5,7 +5,7 @@ ghost use Rattle.std.specs.Prelude.{◌≡◌};
 use crate::calls::call_all;
 use crate::figures::Figures;
 use audit::{AuditFault, audit};
-use node_core::{Ask, Config, Entry, NodeCore, NodeFault, Receipt, Reply, Trace};
+use node_core::{Ask, Config, NodeCore, NodeFault, Receipt, Reply, Trace};
 use node_registry::{Closed, Label, Registry};
 use std::alloc::{AllocError, Global};
 use std::marker::Brand;
@@ -78,12 +78,7 @@ impl Rehearsal {
         let Some(core) = self.nodes.get_mut(usize::from(node)) else {
             return Ok(());
         };
-        let Entry {
-            ask: _,
-            words: _,
-            reply,
-        } = core.apply(alloc, ask, &[])?;
-        match reply {
+        match core.answer(alloc, ask, &[])? {
             Reply::Emit(message) => self.message = Some(message),
             _ => {}
         }

@@ -1,9 +1,6 @@
 //! Requests at a node.
 
-ghost use Rattle.std.specs.Prelude.{◌≡◌, [], IfOk, IfErr, IfSome, OnErr};
-ghost use Rattle.node_calls.specs.Asks.{ask_value_first};
-ghost use Rattle.node_calls.specs.Asks as nodes;
-ghost use Rattle.node_core.specs.Traces.{Accepts, IsRefusalOf};
+ghost use Rattle.std.specs.Prelude.{IfSome};
 ghost use Rattle.http_routes.specs.Replies.{http_value};
 ghost use Rattle.http_routes.specs.Requests.{ask_value, call, wanted};
 ghost use Rattle.http_routes.specs.Answers.{Answers};
@@ -11,22 +8,9 @@ ghost use Rattle.http_routes.specs.Answers.{Answers};
 use crate::reply::{HttpReply, ReplyRoom};
 use crate::wanted::{Wanted, route};
 use http_paths::Routes;
-use node_core::{Ask, NodeCore, NodeFault, Reply};
+use node_core::{Ask, NodeCore};
 use report_text::report_json;
 use std::alloc::Global;
-
-// Makes a call, and gives its reply alone.
-fn enter(core: &mut NodeCore, alloc: Global, ask: &Ask) -> Result<Reply, NodeFault>
-    ensures ok { IfOk result (λ r. Accepts core.old core.new
-        (nodes.ask_value core.old.config.nodes ask.now r) []
-        (nodes.reply_value core.old.config.nodes r)) }
-    ensures refused { IfErr result
-        (IsRefusalOf core.old (ask_value_first core.old.config.nodes ask.now) []) }
-    ensures err { OnErr result (core.new ≡ core.old) }
-{
-    let entry = core.apply(alloc, ask, &[])?;
-    Ok(entry.reply)
-}
 
 // Makes a call once there is room for its reply.
 fn call(core: &mut NodeCore, alloc: Global, ask: &Ask) -> HttpReply
@@ -36,7 +20,7 @@ fn call(core: &mut NodeCore, alloc: Global, ask: &Ask) -> HttpReply
     let Ok(room) = ReplyRoom::new(alloc) else {
         return HttpReply::no_memory(alloc);
     };
-    let outcome = enter(core, alloc, ask);
+    let outcome = core.answer(alloc, ask, &[]);
     room.reply(&outcome)
 }
 

@@ -9,7 +9,7 @@ ghost use Rattle.node_core.specs.Passes.{words_for};
 ghost use Rattle.node_core.specs.Traces.{Accepts, IsRefusalOf, refusal, state_known};
 ghost use Rattle.node_registry.specs.Words.{words_next, place_after, words_taken};
 
-use node_core::{Ask, Entry, NodeCore, NodeFault, PassReply, Reply, WordSource};
+use node_core::{Ask, NodeCore, NodeFault, PassReply, Reply, WordSource};
 use rand_chacha::ChaCha8Rng;
 use rand_core::SeedableRng;
 use rand_core::utils::NextWord;
@@ -124,12 +124,8 @@ fn call(core: &mut NodeCore, alloc: Global, ask: &Ask) -> Result<(Vec<u32>, Repl
         (IsRefusalOf core.old (ask_value_first core.old.config.nodes ask.now) []) }
     ensures err { OnErr result (core.new ≡ core.old) }
 {
-    let Entry {
-        ask: _,
-        words,
-        reply,
-    } = core.apply(alloc, ask, &[])?;
-    Ok((words, reply))
+    let reply = core.answer(alloc, ask, &[])?;
+    Ok((Vec::new(alloc), reply))
 }
 
 /// Makes a call with the generator's next random draws, as many as it needs, and answers these

@@ -48,9 +48,6 @@ impl NodeCore {
             (ask_value_first self.old.config.nodes ask.now) words.now) }
         ensures err { OnErr result (self.new ≡ self.old) }
     {
-        if !words.is_empty() && !ask.is_pass() {
-            return Err(self.refuse_words(alloc, ask));
-        }
         let copy = ask.copied(alloc)?;
         let recorded = Vec::from_slice(alloc, words)?;
         let reply = self.answer(alloc, ask, words)?;
@@ -61,8 +58,25 @@ impl NodeCore {
         })
     }
 
+    /// Makes a call that is given as a value, as `apply` does, and answers its reply alone, so that
+    /// nothing is copied but what the trace keeps.
+    pub fn answer(&mut self, alloc: Global, ask: &Ask, words: &[u32]) -> Result<Reply, NodeFault>
+        ensures ok { IfOk result (λ r. Accepts self.old self.new
+            (ask_value self.old.config.nodes ask.now r) words.now (reply_value self.old.config.nodes r)) }
+        // What an emit tells.
+        ensures delta { IfOk result (λ r. TellsIfEmit self.old ask.now r) }
+        ensures refused { IfErr result (IsRefusalOf self.old
+            (ask_value_first self.old.config.nodes ask.now) words.now) }
+        ensures err { OnErr result (self.new ≡ self.old) }
+    {
+        if !words.is_empty() && !ask.is_pass() {
+            return Err(self.refuse_words(alloc, ask));
+        }
+        self.answer_with(alloc, ask, words)
+    }
+
     // Makes the call, with random draws for a pass alone.
-    fn answer(&mut self, alloc: Global, ask: &Ask, words: &[u32]) -> Result<Reply, NodeFault>
+    fn answer_with(&mut self, alloc: Global, ask: &Ask, words: &[u32]) -> Result<Reply, NodeFault>
         requires { is_pass ask.now ≡ false → words.now ≡ [] }
         ensures ok { IfOk result (λ r. Accepts self.old self.new
             (ask_value self.old.config.nodes ask.now r) words.now (reply_value self.old.config.nodes r)) }
