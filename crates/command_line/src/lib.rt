@@ -10,6 +10,7 @@ mod help;
 mod numbers;
 mod peers;
 mod reading;
+mod subcommands;
 
 pub use peers::{NamedPeer, PeerFault, PeersFault, read_peer, read_peers};
 pub use reading::{Invocation, ServeOptions, Telling, read_command_line};
