@@ -3,7 +3,7 @@
 use crate::help;
 use crate::help::{Extent, extent_of};
 use crate::peers::{NamedPeer, PeersFault, read_peers};
-use crate::subcommands::{Kind, SERVE, kind_of, with_subcommands};
+use crate::subcommands::{SUBCOMMANDS, Subcommand};
 use clap::error::ErrorKind;
 use clap::{ArgMatches, Command, Error};
 use std::alloc::{AllocError, Global};
@@ -54,12 +54,15 @@ pub struct ServeOptions<'a> {
 
 // The words of a command line live as long as the texts of its command.
 fn whole_command<'a>(alloc: Global, extent: Extent) -> Result<Command<'a>, AllocError> {
-    let command = Command::new(alloc, "failreg")
+    let mut command = Command::new(alloc, "failreg")
         .version(VERSION)
         .about("Failpoints of a cluster, with shared budgets")
         .after_help(help::EXAMPLE)
         .subcommand_required(true);
-    with_subcommands(alloc, command, extent)
+    for subcommand in SUBCOMMANDS {
+        command = command.subcommand(subcommand.command(alloc, extent)?)?;
+    }
+    Ok(command)
 }
 
 // What is given where the values of a serve command have passed their parsers. The peers haven't yet.
@@ -96,33 +99,33 @@ fn bad_peers(alloc: Global, fault: PeersFault<'_>) -> Result<Error, AllocError> 
 }
 
 fn bad_value_of_serve(alloc: Global, message: &str) -> Result<Error, AllocError> {
-    SERVE
+    Subcommand::Serve
         .command(alloc, Extent::Whole)?
         .bin_name("failreg serve")?
         .error(ErrorKind::ValueValidation, message)
 }
 
 // The subcommand that is asked for, and what it is given.
-fn asked<'a, 'm>(matches: &'m ArgMatches<'a>) -> Option<(Kind, &'m ArgMatches<'a>)> {
+fn asked<'a, 'm>(matches: &'m ArgMatches<'a>) -> Option<(Subcommand, &'m ArgMatches<'a>)> {
     let (name, matches) = matches.subcommand()?;
-    Some((kind_of(name)?, matches))
+    Some((Subcommand::named(name)?, matches))
 }
 
 fn read_matches<'a>(alloc: Global, matches: &ArgMatches<'a>) -> Result<Invocation<'a>, Error> {
-    // No words match without a subcommand, and each that is offered has its kind.
-    let Some((kind, matches)) = asked(matches) else {
+    // No words match without a subcommand, and each that is offered is found by its name.
+    let Some((subcommand, matches)) = asked(matches) else {
         return Ok(Invocation::Sim { echo: false });
     };
-    Ok(match kind {
-        Kind::Parse => Invocation::Parse(matches.get_str("text").unwrap_or("")),
-        Kind::Sim => Invocation::Sim {
+    Ok(match subcommand {
+        Subcommand::Parse => Invocation::Parse(matches.get_str("text").unwrap_or("")),
+        Subcommand::Sim => Invocation::Sim {
             echo: matches.get_flag("echo"),
         },
-        Kind::Threads => Invocation::Threads {
+        Subcommand::Threads => Invocation::Threads {
             record: matches.get_str("record"),
         },
-        Kind::Audit => Invocation::Audit(matches.get_str("file").unwrap_or("")),
-        Kind::Serve => Invocation::Serve(serve_options(alloc, matches)?),
+        Subcommand::Audit => Invocation::Audit(matches.get_str("file").unwrap_or("")),
+        Subcommand::Serve => Invocation::Serve(serve_options(alloc, matches)?),
     })
 }
 

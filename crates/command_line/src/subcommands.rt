@@ -20,7 +20,8 @@ struct Argument {
     default: &'static [&'static str],
     // How many values it takes, at least and at most: a flag takes none.
     values: (usize, usize),
-    parser: ValueParser<'static>,
+    // The greatest number that it takes; or it takes any text.
+    most: Option<i64>,
     takes_hyphens: bool,
 }
 
@@ -33,19 +34,172 @@ impl Argument {
             .required(self.required)
             .default_values(self.default)
             .num_args(least..=most)
-            .value_parser(self.parser)
             .allow_hyphen_values(self.takes_hyphens);
-        if self.by_name {
+        let arg = if self.by_name {
             arg.long(self.name)
         } else {
             arg
+        };
+        match self.most {
+            Some(most) => arg.value_parser(ValueParser::signed(0, most)),
+            None => arg,
         }
     }
 }
 
-/// Which subcommand it is.
+const PARSE: &[Argument] = &[Argument {
+    name: "text",
+    by_name: false,
+    value: "text",
+    help: "An action text, which may begin with `-`",
+    required: true,
+    default: &[],
+    values: (1, 1),
+    most: None,
+    takes_hyphens: true,
+}];
+
+const SIM: &[Argument] = &[Argument {
+    name: "echo",
+    by_name: true,
+    value: "echo",
+    help: "Writes each line of the script before what it prints",
+    required: false,
+    default: &[],
+    values: (0, 0),
+    most: None,
+    takes_hyphens: false,
+}];
+
+const THREADS: &[Argument] = &[Argument {
+    name: "record",
+    by_name: true,
+    value: "file",
+    help: "Keeps the drill in this file, for `failreg audit`",
+    required: false,
+    default: &[],
+    values: (1, 1),
+    most: None,
+    takes_hyphens: false,
+}];
+
+const AUDIT: &[Argument] = &[Argument {
+    name: "file",
+    by_name: false,
+    value: "file",
+    help: "A drill that `failreg threads --record` kept",
+    required: true,
+    default: &[],
+    values: (1, 1),
+    most: None,
+    takes_hyphens: false,
+}];
+
+const SERVE: &[Argument] = &[
+    Argument {
+        name: "node",
+        by_name: true,
+        value: "n",
+        help: "The number of the node, from 0",
+        required: true,
+        default: &[],
+        values: (1, 1),
+        most: Some(255),
+        takes_hyphens: false,
+    },
+    Argument {
+        name: "nodes",
+        by_name: true,
+        value: "m",
+        help: "How many nodes the cluster has, 32 at most",
+        required: true,
+        default: &[],
+        values: (1, 1),
+        most: Some(255),
+        takes_hyphens: false,
+    },
+    Argument {
+        name: "port",
+        by_name: true,
+        value: "p",
+        help: "The port to listen on, or 0 for any",
+        required: true,
+        default: &[],
+        values: (1, 1),
+        most: Some(65535),
+        takes_hyphens: false,
+    },
+    Argument {
+        name: "cap",
+        by_name: true,
+        value: "c",
+        help: "How many calls the node accepts",
+        required: false,
+        default: &["1000000"],
+        values: (1, 1),
+        most: Some(4_294_967_295),
+        takes_hyphens: false,
+    },
+    Argument {
+        name: "requests",
+        by_name: true,
+        value: "r",
+        help: "How many clients are served",
+        required: false,
+        default: &["1000000"],
+        values: (1, 1),
+        most: Some(4_294_967_295),
+        takes_hyphens: false,
+    },
+    Argument {
+        name: "failpoints",
+        by_name: true,
+        value: "text",
+        help: "Points that are set first, as `a=off;b=panic`",
+        required: false,
+        default: &[],
+        values: (1, 1),
+        most: None,
+        takes_hyphens: false,
+    },
+    Argument {
+        name: "rounds",
+        by_name: true,
+        value: "k",
+        help: "How many rounds of gossip the node does with its peers",
+        required: false,
+        default: &["0"],
+        values: (1, 1),
+        most: Some(4_294_967_295),
+        takes_hyphens: false,
+    },
+    Argument {
+        name: "every",
+        by_name: true,
+        value: "ms",
+        help: "How many milliseconds it rests between two rounds",
+        required: false,
+        default: &["100"],
+        values: (1, 1),
+        most: Some(4_294_967_295),
+        takes_hyphens: false,
+    },
+    Argument {
+        name: "peer",
+        by_name: false,
+        value: "node:port",
+        help: "Where another node is served on 127.0.0.1, as `1:7071`",
+        required: false,
+        default: &[],
+        values: (0, usize::MAX),
+        most: None,
+        takes_hyphens: false,
+    },
+];
+
+/// A subcommand of the program.
 #[derive(Clone, Copy, Drop)]
-pub enum Kind {
+pub enum Subcommand {
     Parse,
     Sim,
     Threads,
@@ -53,224 +207,73 @@ pub enum Kind {
     Serve,
 }
 
-/// A subcommand of the program.
-#[derive(Clone, Copy, Drop)]
-pub struct Subcommand {
-    kind: Kind,
-    name: &'static str,
-    about: &'static str,
-    // What stands behind the options in its short help, and in its whole one.
-    short_help: &'static str,
-    help: &'static str,
-    // In the order in which the help has them.
-    arguments: &'static [Argument],
-}
-
-const PARSE: Subcommand = Subcommand {
-    kind: Kind::Parse,
-    name: "parse",
-    about: "Prints the canonical spelling of an action text",
-    short_help: help::PARSE_SHORT,
-    help: help::PARSE,
-    arguments: &[Argument {
-        name: "text",
-        by_name: false,
-        value: "text",
-        help: "An action text, which may begin with `-`",
-        required: true,
-        default: &[],
-        values: (1, 1),
-        parser: ValueParser::String,
-        takes_hyphens: true,
-    }],
-};
-
-const SIM: Subcommand = Subcommand {
-    kind: Kind::Sim,
-    name: "sim",
-    about: "Runs the script on standard input, and prints what its lines answer",
-    short_help: help::SIM_SHORT,
-    help: help::SIM,
-    arguments: &[Argument {
-        name: "echo",
-        by_name: true,
-        value: "echo",
-        help: "Writes each line of the script before what it prints",
-        required: false,
-        default: &[],
-        values: (0, 0),
-        parser: ValueParser::Bool,
-        takes_hyphens: false,
-    }],
-};
-
-const THREADS: Subcommand = Subcommand {
-    kind: Kind::Threads,
-    name: "threads",
-    about: "Runs the script on standard input with workers in threads, and counts their calls",
-    short_help: help::THREADS_SHORT,
-    help: help::THREADS,
-    arguments: &[Argument {
-        name: "record",
-        by_name: true,
-        value: "file",
-        help: "Keeps the drill in this file, for `failreg audit`",
-        required: false,
-        default: &[],
-        values: (1, 1),
-        parser: ValueParser::String,
-        takes_hyphens: false,
-    }],
-};
-
-const AUDIT: Subcommand = Subcommand {
-    kind: Kind::Audit,
-    name: "audit",
-    about: "Audits a drill that `threads --record` kept",
-    short_help: help::AUDIT_SHORT,
-    help: help::AUDIT,
-    arguments: &[Argument {
-        name: "file",
-        by_name: false,
-        value: "file",
-        help: "A drill that `failreg threads --record` kept",
-        required: true,
-        default: &[],
-        values: (1, 1),
-        parser: ValueParser::String,
-        takes_hyphens: false,
-    }],
-};
-
-/// Serves a node.
-pub const SERVE: Subcommand = Subcommand {
-    kind: Kind::Serve,
-    name: "serve",
-    about: "Serves a node over HTTP on 127.0.0.1",
-    short_help: help::SERVE_SHORT,
-    help: help::SERVE,
-    arguments: &[
-        Argument {
-            name: "node",
-            by_name: true,
-            value: "n",
-            help: "The number of the node, from 0",
-            required: true,
-            default: &[],
-            values: (1, 1),
-            parser: ValueParser::Signed(0, 255),
-            takes_hyphens: false,
-        },
-        Argument {
-            name: "nodes",
-            by_name: true,
-            value: "m",
-            help: "How many nodes the cluster has, 32 at most",
-            required: true,
-            default: &[],
-            values: (1, 1),
-            parser: ValueParser::Signed(0, 255),
-            takes_hyphens: false,
-        },
-        Argument {
-            name: "port",
-            by_name: true,
-            value: "p",
-            help: "The port to listen on, or 0 for any",
-            required: true,
-            default: &[],
-            values: (1, 1),
-            parser: ValueParser::Signed(0, 65535),
-            takes_hyphens: false,
-        },
-        Argument {
-            name: "cap",
-            by_name: true,
-            value: "c",
-            help: "How many calls the node accepts",
-            required: false,
-            default: &["1000000"],
-            values: (1, 1),
-            parser: ValueParser::Signed(0, 4_294_967_295),
-            takes_hyphens: false,
-        },
-        Argument {
-            name: "requests",
-            by_name: true,
-            value: "r",
-            help: "How many clients are served",
-            required: false,
-            default: &["1000000"],
-            values: (1, 1),
-            parser: ValueParser::Signed(0, 4_294_967_295),
-            takes_hyphens: false,
-        },
-        Argument {
-            name: "failpoints",
-            by_name: true,
-            value: "text",
-            help: "Points that are set first, as `a=off;b=panic`",
-            required: false,
-            default: &[],
-            values: (1, 1),
-            parser: ValueParser::String,
-            takes_hyphens: false,
-        },
-        Argument {
-            name: "rounds",
-            by_name: true,
-            value: "k",
-            help: "How many rounds of gossip the node does with its peers",
-            required: false,
-            default: &["0"],
-            values: (1, 1),
-            parser: ValueParser::Signed(0, 4_294_967_295),
-            takes_hyphens: false,
-        },
-        Argument {
-            name: "every",
-            by_name: true,
-            value: "ms",
-            help: "How many milliseconds it rests between two rounds",
-            required: false,
-            default: &["100"],
-            values: (1, 1),
-            parser: ValueParser::Signed(0, 4_294_967_295),
-            takes_hyphens: false,
-        },
-        Argument {
-            name: "peer",
-            by_name: false,
-            value: "node:port",
-            help: "Where another node is served on 127.0.0.1, as `1:7071`",
-            required: false,
-            default: &[],
-            values: (0, usize::MAX),
-            parser: ValueParser::String,
-            takes_hyphens: false,
-        },
-    ],
-};
-
-// In the order in which the help has them.
-const SUBCOMMANDS: [Subcommand; 5] = [PARSE, SIM, THREADS, AUDIT, SERVE];
+/// In the order in which the help has them.
+pub const SUBCOMMANDS: [Subcommand; 5] = [
+    Subcommand::Parse,
+    Subcommand::Sim,
+    Subcommand::Threads,
+    Subcommand::Audit,
+    Subcommand::Serve,
+];
 
 impl Subcommand {
-    /// As clap has it, with its arguments.
-    pub fn command<'a>(&self, alloc: Global, extent: Extent) -> Result<Command<'a>, AllocError> {
-        let command = Command::new(alloc, self.name)
-            .about(self.about)
-            .after_help(extent.pick(self.short_help, self.help));
-        with_arguments(alloc, command, self.arguments)
+    /// The subcommand of this name.
+    pub fn named(name: &str) -> Option<Subcommand> {
+        SUBCOMMANDS
+            .into_iter()
+            .find(|subcommand| subcommand.name() == name)
     }
 
-    fn added_to<'a>(
-        &self,
-        command: Command<'a>,
-        alloc: Global,
-        extent: Extent,
-    ) -> Result<Command<'a>, AllocError> {
-        command.subcommand(self.command(alloc, extent)?)
+    fn name<'a>(self) -> &'a str {
+        match self {
+            Subcommand::Parse => "parse",
+            Subcommand::Sim => "sim",
+            Subcommand::Threads => "threads",
+            Subcommand::Audit => "audit",
+            Subcommand::Serve => "serve",
+        }
+    }
+
+    fn about<'a>(self) -> &'a str {
+        match self {
+            Subcommand::Parse => "Prints the canonical spelling of an action text",
+            Subcommand::Sim =>
+                "Runs the script on standard input, and prints what its lines answer",
+            Subcommand::Threads =>
+                "Runs the script on standard input with workers in threads, and counts their calls",
+            Subcommand::Audit => "Audits a drill that `threads --record` kept",
+            Subcommand::Serve => "Serves a node over HTTP on 127.0.0.1",
+        }
+    }
+
+    // What stands behind the options in its help.
+    fn after_help<'a>(self, extent: Extent) -> &'a str {
+        match self {
+            Subcommand::Parse => extent.pick(help::PARSE_SHORT, help::PARSE),
+            Subcommand::Sim => extent.pick(help::SIM_SHORT, help::SIM),
+            Subcommand::Threads => extent.pick(help::THREADS_SHORT, help::THREADS),
+            Subcommand::Audit => extent.pick(help::AUDIT_SHORT, help::AUDIT),
+            Subcommand::Serve => extent.pick(help::SERVE_SHORT, help::SERVE),
+        }
+    }
+
+    // In the order in which the help has them.
+    fn arguments(self) -> &'static [Argument] {
+        match self {
+            Subcommand::Parse => PARSE,
+            Subcommand::Sim => SIM,
+            Subcommand::Threads => THREADS,
+            Subcommand::Audit => AUDIT,
+            Subcommand::Serve => SERVE,
+        }
+    }
+
+    /// As clap has it, with its arguments.
+    pub fn command<'a>(self, alloc: Global, extent: Extent) -> Result<Command<'a>, AllocError> {
+        let command = Command::new(alloc, self.name())
+            .about(self.about())
+            .after_help(self.after_help(extent));
+        with_arguments(alloc, command, self.arguments())
     }
 }
 
@@ -283,24 +286,4 @@ fn with_arguments<'a>(
         command = command.arg(argument.arg(alloc))?;
     }
     Ok(command)
-}
-
-/// The command with all subcommands of the program.
-pub fn with_subcommands<'a>(
-    alloc: Global,
-    mut command: Command<'a>,
-    extent: Extent,
-) -> Result<Command<'a>, AllocError> {
-    for subcommand in &SUBCOMMANDS {
-        command = subcommand.added_to(command, alloc, extent)?;
-    }
-    Ok(command)
-}
-
-/// The kind of the subcommand of this name.
-pub fn kind_of(name: &str) -> Option<Kind> {
-    let subcommand = SUBCOMMANDS
-        .iter()
-        .find(|subcommand| subcommand.name == name)?;
-    Some(subcommand.kind)
 }
