@@ -1,10 +1,11 @@
 //! What an entry tells as JSON.
 
 ghost use Rattle.std.specs.Prelude.{◌≡◌, ◌∷◌, ◌++◌, [], map, option_map, codes, string_bytes, true, false, IfOk, OnOk};
+ghost use Rattle.serde_json.specs.Data.{string};
 ghost use Rattle.serde_json.specs.View.{view};
 ghost use Rattle.actions.specs.Value.{task_value};
 ghost use Rattle.node_calls.specs.Asks.{passed};
-ghost use Rattle.audit.specs.Told.{ask_told, reply_told};
+ghost use Rattle.audit.specs.Told.{ask_told, grants, reply_told, sets, shifts};
 ghost use Rattle.hex.specs.Hex.{IsBytes};
 ghost use Rattle.drills.specs.Fits.{AskFits, PassFits, ReplyFits, StampFits, WordsFit};
 ghost use Rattle.drills.specs.Rows.{bytes_data, text_data, count_data, row, words_data, task_data, ask_data, pass_data, reply_data, list_data};
@@ -34,13 +35,37 @@ fn text_value(alloc: Global, text: &Option<String>) -> Result<Value, AllocError>
     }
 }
 
+// A word with a value.
+fn with_value(alloc: Global, word: &str, value: Value) -> Result<Value, AllocError>
+    ensures { IfOk result (λ all. view all ≡ row word.now (view value ∷ [])) }
+{
+    json!(in alloc; [word, value])
+}
+
+// A word with bytes.
+fn with_bytes(alloc: Global, word: &str, bytes: &[u8]) -> Result<Value, AllocError>
+    ensures value { IfOk result (λ value. view value
+        ≡ row word.now (bytes_data bytes.now ∷ [])) }
+    ensures fits { OnOk result (IsBytes bytes.now) }
+{
+    let bytes = bytes_value(alloc, bytes)?;
+    with_value(alloc, word, bytes)
+}
+
+// A word with a text.
+fn with_text(alloc: Global, word: &str, text: &str) -> Result<Value, AllocError>
+    ensures { IfOk result (λ value. view value ≡ row word.now (string text.now ∷ [])) }
+{
+    json!(in alloc; [word, text])
+}
+
 // A task's word with its text.
 fn texted(alloc: Global, word: &str, text: &Option<String>) -> Result<Value, AllocError>
     ensures { IfOk result (λ value. view value
         ≡ row word.now (text_data (option_map string_bytes text.now) ∷ [])) }
 {
     let text = text_value(alloc, text)?;
-    json!(in alloc; [word, text])
+    with_value(alloc, word, text)
 }
 
 // A word alone.
@@ -72,30 +97,49 @@ fn task_value(alloc: Global, task: &Task) -> Result<Value, AllocError>
     }
 }
 
+fn set_value(alloc: Global, name: &str, text: &str) -> Result<Value, AllocError>
+    ensures { IfOk result (λ value. view value ≡ ask_data (sets name.now text.now)) }
+{
+    json!(in alloc; ["set", name, text])
+}
+
+fn shift_value(
+    alloc: Global,
+    name: &str,
+    term: u8,
+    to: u8,
+    amount: u64,
+) -> Result<Value, AllocError>
+    ensures { IfOk result (λ value. view value ≡ ask_data (shifts name.now term to amount)) }
+{
+    json!(in alloc; ["shift", name, term, to, amount])
+}
+
+fn grant_value(alloc: Global, name: &str, term: u8, amount: u64) -> Result<Value, AllocError>
+    ensures { IfOk result (λ value. view value ≡ ask_data (grants name.now term amount)) }
+{
+    json!(in alloc; ["grant", name, term, amount])
+}
+
 /// What was asked.
 pub(crate) fn ask_value(alloc: Global, ask: &Ask) -> Result<Value, AllocError>
     ensures value { IfOk result (λ value. view value ≡ ask_data (ask_told ask.now)) }
     ensures fits { OnOk result (AskFits (ask_told ask.now)) }
 {
     match ask {
-        Ask::Set { name, text } => json!(in alloc; ["set", name.as_str(), text.as_str()]),
-        Ask::Remove { name } => json!(in alloc; ["remove", name.as_str()]),
-        Ask::Load { text } => json!(in alloc; ["load", text.as_str()]),
-        Ask::Pass { name } => json!(in alloc; ["pass", name.as_str()]),
+        Ask::Set { name, text } => set_value(alloc, name, text),
+        Ask::Remove { name } => with_text(alloc, "remove", name),
+        Ask::Load { text } => with_text(alloc, "load", text),
+        Ask::Pass { name } => with_text(alloc, "pass", name),
         Ask::Shift {
             name,
             term,
             to,
             amount,
-        } => json!(in alloc; ["shift", name.as_str(), *term, *to, *amount]),
-        Ask::Grant { name, term, amount } => {
-            json!(in alloc; ["grant", name.as_str(), *term, *amount])
-        }
-        Ask::Emit { to } => json!(in alloc; ["emit", *to]),
-        Ask::Deliver { message } => {
-            let message = bytes_value(alloc, message)?;
-            json!(in alloc; ["deliver", message])
-        }
+        } => shift_value(alloc, name, *term, *to, *amount),
+        Ask::Grant { name, term, amount } => grant_value(alloc, name, *term, *amount),
+        Ask::Emit { to } => counted(alloc, "emit", u64::from(*to)),
+        Ask::Deliver { message } => with_bytes(alloc, "deliver", message),
     }
 }
 
@@ -116,8 +160,7 @@ fn pass_value(alloc: Global, reply: &PassReply) -> Result<Value, AllocError>
         PassReply::Unset => alone(alloc, "unset"),
         PassReply::NoTerm { stamp } => stamped(alloc, "none", *stamp),
         PassReply::Act { term, stamp, task } => {
-            let task = task_value(alloc, task)?;
-            json!(in alloc; ["act", stamp.clock, stamp.node, *term, task])
+            json!(in alloc; ["act", stamp.clock, stamp.node, *term, task_value(alloc, task)?])
         }
     }
 }
@@ -134,10 +177,7 @@ pub(crate) fn reply_value(alloc: Global, reply: &Reply) -> Result<Value, AllocEr
         Reply::Pass(reply) => pass_value(alloc, reply),
         Reply::Shift(total) => counted(alloc, "shifted", *total),
         Reply::Grant(total) => counted(alloc, "granted", *total),
-        Reply::Emit(message) => {
-            let message = bytes_value(alloc, message)?;
-            json!(in alloc; ["message", message])
-        }
+        Reply::Emit(message) => with_bytes(alloc, "message", message),
         Reply::Deliver(true) => alone(alloc, "changed"),
         Reply::Deliver(false) => alone(alloc, "same"),
     }

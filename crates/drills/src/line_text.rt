@@ -34,10 +34,11 @@ fn entry_value(alloc: Global, entry: &Entry) -> Result<Value, AllocError>
     ensures value { IfOk result (λ value. view value ≡ line_data (entry_line (told entry.now))) }
     ensures fits { OnOk result (LineFits (entry_line (told entry.now))) }
 {
-    let ask = ask_value(alloc, &entry.ask)?;
-    let reply = reply_value(alloc, &entry.reply)?;
-    let words = words_value(alloc, &entry.words)?;
-    json!(in alloc; {"ask": ask, "reply": reply, "words": words})
+    json!(in alloc; {
+        "ask": ask_value(alloc, &entry.ask)?,
+        "reply": reply_value(alloc, &entry.reply)?,
+        "words": words_value(alloc, &entry.words)?
+    })
 }
 
 fn receipt_value(alloc: Global, receipt: &Receipt) -> Result<Value, AllocError>
@@ -46,11 +47,12 @@ fn receipt_value(alloc: Global, receipt: &Receipt) -> Result<Value, AllocError>
     ensures fits { OnOk result (LineFits (receipt_line (receipt_told receipt.now))) }
 {
     let Receipt { node, index, entry } = receipt;
-    let ask = ask_value(alloc, &entry.ask)?;
-    let reply = reply_value(alloc, &entry.reply)?;
-    let words = words_value(alloc, &entry.words)?;
     json!(in alloc; {
-        "ask": ask, "index": *index, "node": *node, "reply": reply, "words": words
+        "ask": ask_value(alloc, &entry.ask)?,
+        "index": *index,
+        "node": *node,
+        "reply": reply_value(alloc, &entry.reply)?,
+        "words": words_value(alloc, &entry.words)?
     })
 }
 

@@ -10,7 +10,8 @@ use futures::future::join;
 use gossip::WireError;
 use http_body_util::Full;
 use hyper::client::conn::http1::handshake;
-use hyper::{Request, StatusCode, header};
+use hyper::body::Incoming;
+use hyper::{Request, Response, StatusCode, header};
 use std::alloc::{AllocGlobal, Global};
 use std::hash::RandomState;
 use std::io;
@@ -109,6 +110,13 @@ where
     let reply = sender.send_request(request);
     drop(sender);
     let (reply, _connection) = output_of(rt, runtime, join(reply, connection), deadline)?;
+    status_of(reply)
+}
+
+// The status of a reply, if there was one.
+fn status_of(reply: hyper::Result<Response<Incoming<TcpStream>>>) -> Result<StatusCode, WireError>
+    ensures { IfErr result IsFailure }
+{
     match reply {
         Ok(reply) => Ok(reply.status()),
         Err(_) => Err(WireError::Failed),
