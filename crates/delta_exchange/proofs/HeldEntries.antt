@@ -1,23 +1,18 @@
 -- The entries of a state: which they are, in which order they stand, and in how many bytes one is written.
-use Rattle.std.proofs.Common.{◌≡◌, ℕ, zero, suc, ◌<◌, ◌≤◌, ◌&&◌, true, false, List, [], ◌∷◌, length, map, ⊎_elim, inl, inr, Option, Some, None, refl, sym, ap, subst, ◌∙◌, length-append, arith}
-use Rattle.std.specs.Prelude.{is_some, IsTrue, nat_lt, nat_le, slice_get}
-use Rattle.std.specs.List.{list_all}
+use Rattle.std.proofs.Common.{◌≡◌, ℕ, zero, suc, ◌<◌, ◌≤◌, true, false, List, [], ◌∷◌, length, map, ⊎_elim, inl, inr, Option, Some, None, refl, sym, ap, subst, ◌∙◌, arith}
+use Rattle.std.specs.Prelude.{is_some, IsTrue, slice_get}
 use Rattle.std.specs.Ordering.{nat_cmp}
 use Rattle.std.specs.Cmp.Lexicographic.{slice_cmp}
 use Rattle.std.specs.declared.cmp.Ordering.TheVariants.{Less}
-use Rattle.std.proofs.lemmas.Bool.{cases_lt, and_parts}
-use Rattle.std.proofs.lemmas.Bool.Decides.{nat_tests}
+use Rattle.std.proofs.lemmas.Bool.{cases_lt}
 use Rattle.std.proofs.lemmas.Option.{slice_get_past}
-use Rattle.actions.specs.Limits.{max_name}
-use Rattle.actions.specs.Names.{is_name_byte, is_name}
 use Rattle.actions.proofs.Complete.{reading_complete}
 use Rattle.stamp_register.specs.Keys.{KeyValue, terms_read, terms_in_text, terms_set}
 use Rattle.replica_state.specs.Operations.{IsIn, count_in, count_under, count_of}
 use Rattle.replica_state.specs.States.{State}
 use Rattle.replica_state.proofs.Names.{IsAscending}
-use Rattle.message_format.specs.Limits.{max_nodes}
 use Rattle.message_format.specs.Messages.{EntryValue}
-use Rattle.message_format.specs.Spelling.{IsBody, IsKey, IsEntry, hit_bytes, exec_bytes, shift_bytes, grants_bytes, body_bytes, entry_bytes}
+use Rattle.message_format.specs.Spelling.{IsBody, IsKey}
 use Rattle.delta_exchange.specs.Cells.{entry_of, entry_under, entry_at, entries_of}
 use Rattle.delta_exchange.proofs.BelowLemmas.{below_in, in_below, ascending_below}
 

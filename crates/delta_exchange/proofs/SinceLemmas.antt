@@ -12,7 +12,7 @@ use Rattle.delta_exchange.specs.declared.marks.Marks.{Marks}
 use Rattle.delta_exchange.specs.Marks.{marks_value, AreUpto}
 use Rattle.delta_exchange.specs.Changes.{IsChangeSince, IsChangedCell, IsUnchangedSince}
 use Rattle.message_format.specs.Messages.{EntryValue, MessageValue, operations_of}
-use Rattle.message_format.specs.Spelling.{IsEntry, IsMessage, magic, form_of, entry_bytes, message_bytes, max_message}
+use Rattle.message_format.specs.Spelling.{IsEntry, IsMessage, form_of, entry_bytes, message_bytes, max_message}
 use Rattle.delta_exchange.specs.Cells.{EntryFits, EntriesFit}
 use Rattle.delta_exchange.specs.Versions.{VersionedValue}
 use Rattle.delta_exchange.specs.Since.{CanBeTold, IsMessageSince, entry_since}

@@ -18,6 +18,7 @@ mod versioned;
 mod versions;
 
 pub use learning::replica_of;
-pub use message_format::{MAX_MESSAGE, MAX_NAMES, MAX_NODES, Message, NameEntry, WireFault};
-pub use message_format::{decode, encode};
+pub use message_format::{
+    MAX_MESSAGE, MAX_NAMES, MAX_NODES, Message, NameEntry, WireFault, decode, encode,
+};
 pub use versioned::Versioned;

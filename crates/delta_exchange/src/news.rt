@@ -16,8 +16,8 @@ ghost use Rattle.delta_exchange.specs.News.{counted_of, is_new, news_in, news_of
 ghost use Rattle.message_format.specs.Messages.{entry_value, message_value, hits_in, execs_in, shifts_in, grants_in, operations_of, operations_in};
 
 use crate::marks::Marks;
-use message_format::{Message, NameEntry};
 use actions::Name;
+use message_format::{Message, NameEntry};
 use replica_state::{Count, Counted, Op, Replica};
 use stamp_register::Key;
 use std::alloc::{AllocError, Global};

@@ -13,9 +13,9 @@ ghost use Rattle.delta_exchange.specs.Versions.{value_of};
 ghost use Rattle.delta_exchange.specs.Since.{CanBeTold, IsMessageSince, AreCellsOrdered, hits_since, execs_since, shifts_since, grants_since, entry_since, entry_under, entries_since, tells_cells};
 
 use crate::marks::{Marks, NameMarks};
-use message_format::{Message, NameEntry};
 use crate::versioned::Versioned;
 use actions::Name;
+use message_format::{Message, NameEntry};
 use replica_state::{Counted, Replica};
 use stamp_register::Key;
 use std::alloc::{AllocError, Global};

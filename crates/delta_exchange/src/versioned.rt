@@ -15,10 +15,10 @@ ghost use Rattle.delta_exchange.specs.Marks.{marks_value, AreUpto};
 
 use crate::learning::replica_of;
 use crate::marks::Marks;
-use message_format::Message;
 use crate::news::{Told, learned, make_room, mark_all, news_of_message, news_of_ops};
 use crate::versions::NodeVersions;
 use actions::Name;
+use message_format::Message;
 use replica_state::{Counted, Op, Replica};
 use stamp_register::{Body, Key};
 use std::alloc::{AllocError, Global};
