@@ -5,13 +5,17 @@ ghost use Rattle.delta_exchange.specs.Versions.{value_of};
 
 use actions::Name;
 use delta_exchange::Versioned;
-use replica_state::Matrix;
+use replica_state::Replica;
 use stamp_register::Key;
 use std::alloc::{AllocError, Global};
 
 /// A replica that knows of one setting, which is its first change.
-pub fn first_change(alloc: Global, name: Name, key: Key) -> Result<Versioned<Matrix>, AllocError>
-    ensures { IfOk result (λ replica. (value_of Matrix.state replica).version ≡ 1) }
+pub fn first_change<R: Replica>(
+    alloc: Global,
+    name: Name,
+    key: Key,
+) -> Result<Versioned<R>, AllocError>
+    ensures { IfOk result (λ replica. (value_of R.state replica).version ≡ 1) }
 {
     let mut replica = Versioned::new(alloc);
     replica.set_key(alloc, name, key)?;

@@ -3,4 +3,4 @@ use Rattle.failreg.specs.Rounds.{peer_of}
 use Rattle.failreg.proofs.telling.peers_of.Given as goal
 
 abbrev pub invariant-loop-peer : goal.invariant-loop-peer
-invariant-loop-peer g l = l.peers.items ≡ map peer_of (take l.peer-index l.fn.named)
+invariant-loop-peer l = l.peers.items ≡ map peer_of (take l.peer-index l.fn.named)
