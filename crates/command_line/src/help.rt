@@ -1,5 +1,8 @@
 //! The longer texts of the help.
 
+ghost use Rattle.std.specs.Prelude.{◌≡◌};
+ghost use Rattle.command_line.specs.Help.{picked};
+
 /// How much of the help of a subcommand stands behind its options.
 #[derive(Clone, Copy, Drop)]
 pub enum Extent {
@@ -11,7 +14,9 @@ pub enum Extent {
 
 impl Extent {
     /// Of two texts the one of this extent.
-    pub fn pick<'a>(self, short: &'a str, whole: &'a str) -> &'a str {
+    pub fn pick<'a>(self, short: &'a str, whole: &'a str) -> &'a str
+        ensures { result.now ≡ picked self short.now whole.now }
+    {
         match self {
             Extent::Short => short,
             Extent::Whole => whole,
