@@ -10,7 +10,7 @@ ghost use Rattle.actions.specs.Choice.{words_needed};
 use crate::fault::ActionFault;
 use crate::reading::read_terms;
 use crate::task::Term;
-use lattice_laws::Held;
+use held_keys::Held;
 use std::alloc::{AllocError, Global};
 use std::cmp::Ordering;
 use std::fmt::Write;

@@ -26,5 +26,6 @@ pub use actions::{Actions, parse_actions};
 pub use choice::decide;
 pub use fault::{ActionFault, SettingFault};
 pub use name::{Name, NameFault};
+pub use reading::MAX_TERMS;
 pub use setting::parse_setting;
 pub use task::{Task, Term};

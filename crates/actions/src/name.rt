@@ -4,7 +4,7 @@ ghost use Rattle.std.specs.Prelude.{◌≡◌, ◌↔◌, true, false, string_by
 ghost use Rattle.std.specs.List.{list_all};
 ghost use Rattle.actions.specs.Names.{is_name_byte, is_name};
 
-use lattice_laws::Held;
+use held_keys::Held;
 use std::alloc::{AllocError, Global};
 use std::cmp::Ordering;
 use std::error::Error;

@@ -13,8 +13,8 @@ use std::alloc::{AllocError, Global};
 /// The most bytes of a text.
 const MAX_TEXT: usize = 1024;
 
-/// The most terms.
-const MAX_TERMS: usize = 16;
+/// The most terms of a text.
+pub const MAX_TERMS: u8 = 16;
 
 /// The terms of a text.
 #[tactic(auto, unfolding(crate::specs::Reading::reading))]
@@ -31,7 +31,7 @@ pub(crate) fn read_terms(alloc: Global, text: &str) -> Result<Vec<Term>, ActionF
         return Err(ActionFault::BadByte { offset });
     }
     let pieces = split_pieces(alloc, text)?;
-    if pieces.len() > MAX_TERMS {
+    if pieces.len() > usize::from(MAX_TERMS) {
         return Err(ActionFault::TooManyTerms);
     }
     parse_terms(alloc, &pieces)

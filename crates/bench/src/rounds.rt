@@ -6,6 +6,7 @@ use crate::baton::Baton;
 use crate::calls::call_all;
 use crate::figures::Figures;
 use gossip::{GossipReport, MailWire, gossip_rounds};
+use message_format::MAX_NODES;
 use node_core::{Ask, Config, Reply};
 use node_registry::{Label, Registry, Seat};
 use std::alloc::{AllocError, Global};
@@ -195,7 +196,7 @@ pub(crate) fn load_of(words: &[&str]) -> Option<Load> {
         changed: changed.parse::<u32>().ok()?,
         rounds: rounds.parse::<u32>().ok()?,
     };
-    (load.nodes >= 1 && load.nodes <= 32 && load.changed <= POINTS).then_some(load)
+    (load.nodes >= 1 && load.nodes <= MAX_NODES && load.changed <= POINTS).then_some(load)
 }
 
 /// What the rounds of all nodes came to, each of which has a thread.

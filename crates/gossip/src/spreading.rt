@@ -8,14 +8,11 @@ ghost use Rattle.gossip.specs.Steps.{Adds};
 
 use crate::caller::Caller;
 use crate::report::{Ended, GossipReport};
-use actions::{Name, NameFault};
+use actions::{MAX_TERMS, Name, NameFault};
 use node_core::{Config, NodeCore};
 use node_registry::{Label, Registry, Seat};
 use std::alloc::{AllocError, Global};
 use std::sync::Wait;
-
-/// How many terms a point has at most.
-const MOST_TERMS: u8 = 16;
 
 /// Shifts an equal share of each counted term of a point to every other node: the rights that the
 /// node has, which are read once, divided by the number of nodes and rounded down, at most 2^64 - 1.
@@ -65,7 +62,7 @@ impl Shares {
         ensures amounts { result.amounts ≡ shares_of core.now name.now }
     {
         let mut amounts = [0; 16];
-        for term in 0..MOST_TERMS {
+        for term in 0..MAX_TERMS {
             amounts[usize::from(term)] = share(core, name, term);
         }
         Shares {
@@ -105,7 +102,7 @@ fn shift_all<L: Label, R: Wait>(
         ≡ length report.old.receipts.items + report.old.refused
         + length (shifts_in L.config name.now shares.now.amounts 16)) }
 {
-    for term in 0..MOST_TERMS {
+    for term in 0..MAX_TERMS {
         shift_term(caller, seat, name, shares, term, report)?;
     }
     Ok(())

@@ -1,11 +1,9 @@
-//! What joins, and what it is held under.
+//! What joins.
 
 ghost use Rattle.std.specs.Prelude.{◌≡◌, ◌↔◌, IfOk, IsTrue, OnOk, OnErr};
-ghost use Rattle.std.specs.declared.cmp.Ordering.TheVariants.{Equal};
 ghost use Rattle.lattice_laws.specs.Order.{IsCopy, IsJoin, IsJoinOrder};
 
 use std::alloc::{AllocError, Global};
-use std::cmp::Ord;
 
 /// Values with an order on what they mean, in which any two have a least value above both. Values
 /// that are below each other mean the same.
@@ -50,17 +48,4 @@ pub trait Join: Drop + Sized {
 
     /// The order is one, and the bottom is below all.
     ghost laws: { IsJoinOrder admitted order bottom };
-}
-
-/// Keys of maps and of values that are held under them.
-pub trait Held: Ord + Drop {
-    /// An equal key of its own. The only error is out of memory.
-    fn copied(&self, alloc: Global) -> Result<Self, AllocError>
-        ensures { IfOk result (λ copy. Self.cmp copy self.now ≡ Equal) };
-}
-
-impl Held for u8 {
-    fn copied(&self, _alloc: Global) -> Result<u8, AllocError> {
-        Ok(*self)
-    }
 }

@@ -6,7 +6,8 @@ ghost use Rattle.std.specs.Fn.{FnOnceReturnsAtMut};
 ghost use Rattle.std.specs.Option.{option_map};
 ghost use Rattle.lattice_laws.specs.Lex.{ChangesHeld};
 
-use crate::join::{Held, Join};
+use crate::join::Join;
+use held_keys::Held;
 use std::alloc::{AllocError, Global};
 use std::cmp::Ordering;
 use std::marker::Model;

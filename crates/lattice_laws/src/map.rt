@@ -6,7 +6,8 @@ ghost use Rattle.std.specs.Borrow.{MutBor};
 ghost use Rattle.std.specs.Option.{option_copied, option_map};
 ghost use Rattle.lattice_laws.specs.Map.{stored_at, ChangesOnly, IsMap, JoinsAll, KeepsOtherKeys, MayBeStored, RaisesOnly};
 
-use crate::join::{Held, Join};
+use crate::join::Join;
+use held_keys::Held;
 use std::alloc::{AllocError, Global};
 use std::collections::BTreeMap;
 use std::collections::btree_map::Iter;

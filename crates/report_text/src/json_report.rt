@@ -9,8 +9,8 @@ ghost use Rattle.replica_state.specs.States.{granted_of, rights_of};
 ghost use Rattle.report_text.specs.Report.{by_node, counted_row, keyed_row, term_rows};
 ghost use Rattle.report_text.specs.Json.{actions_data, hits_data, list_data, point_data, report_data, report_json_text, rights_data, term_data};
 
-use crate::rows::{MAX_TERMS, count_of, point_at};
-use actions::Name;
+use crate::rows::{count_of, point_at};
+use actions::{MAX_TERMS, Name};
 use replica_state::Replica;
 use serde_json::{Value, json};
 use stamp_register::{Body, Key};

@@ -7,8 +7,8 @@ ghost use Rattle.replica_state.specs.States.{rights_of, total_hits};
 ghost use Rattle.report_text.specs.Report.{by_node, counted_row, keyed_row, term_rows};
 ghost use Rattle.report_text.specs.Lines.{granted_text, hits_line, node_text, point_line, point_lines, report_lines_text, rights_text, term_line};
 
-use crate::rows::{MAX_TERMS, count_of, point_at};
-use actions::Name;
+use crate::rows::{count_of, point_at};
+use actions::{MAX_TERMS, Name};
 use replica_state::Replica;
 use stamp_register::{Body, Key};
 use std::alloc::{AllocError, Global};

@@ -9,9 +9,6 @@ use actions::Name;
 use replica_state::Replica;
 use stamp_register::Key;
 
-/// How many terms an action text has at most.
-pub(crate) const MAX_TERMS: u8 = 16;
-
 /// The point at a place of the names, in byte order, if it has a key.
 pub(crate) fn point_at<R: Replica>(replica: &R, index: usize) -> Option<(&Name, &Key)>
     ensures { (nodes : ℕ) →

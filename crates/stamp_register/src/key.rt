@@ -4,7 +4,7 @@ ghost use Rattle.std.specs.Prelude.{◌≡◌, ◌≤◌, ◌+◌, ◌-◌, ◌^
 ghost use Rattle.stamp_register.specs.Keys.{KeyValue, IsLower, key_value, body_value, stamp_of, terms_set};
 
 use actions::Actions;
-use lattice_laws::Held;
+use held_keys::Held;
 use std::alloc::{AllocError, Global};
 use std::cmp::Ordering;
 use std::fmt;
