@@ -1,7 +1,7 @@
 -- What the words of a command line name as peers.
 use Rattle.std.specs.Prelude.{◌≡◌, ℕ, ◌==◌, Bool, if◌then◌else◌, nat_lt, List, ◌++◌, ◌∷◌, length, Option, Some, None, Result, Ok, Err, map, codes}
 use Rattle.std.specs.List.{position_or_len, before_first, after_first}
-use Rattle.command_line.specs.Numbers.{number_of, byte_of}
+use Rattle.decimals.specs.Decimals.{number_of, byte_of}
 use Rattle.command_line.specs.declared.peers.NamedPeer.{NamedPeer}
 use Rattle.command_line.specs.declared.peers.PeerFault.{PeerFault}
 use Rattle.command_line.specs.declared.peers.PeerFault.TheVariants.{NoColon, BadNode, BadPort, NoSuchNode}

@@ -7,10 +7,9 @@
 #![tactic(auto)]
 
 mod help;
-mod numbers;
 mod peers;
 mod reading;
 mod subcommands;
 
 pub use peers::{NamedPeer, PeerFault, PeersFault, read_peer, read_peers};
-pub use reading::{Invocation, ServeOptions, Telling, read_command_line};
+pub use reading::{GossipOptions, Invocation, ServeOptions, read_command_line};

@@ -3,7 +3,7 @@
 ghost use Rattle.std.specs.Prelude.{◌≡◌, map, Ok, IfOk};
 ghost use Rattle.command_line.specs.Peers.{IsFirstBad, peer_in};
 
-use crate::numbers::{byte, number};
+use decimals::{byte, number};
 use std::alloc::{AllocFailed, Global};
 use std::error::Error;
 use std::fmt;

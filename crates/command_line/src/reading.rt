@@ -28,7 +28,7 @@ pub enum Invocation<'a> {
 
 /// Whom a served node tells what it knows, and how often.
 #[derive(Debug, Drop)]
-pub struct Telling {
+pub struct GossipOptions {
     pub peers: Vec<NamedPeer>,
     pub rounds: u32,
     /// The rest between two rounds.
@@ -49,7 +49,7 @@ pub struct ServeOptions<'a> {
     /// The points that are set before the first request.
     pub failpoints: Option<&'a str>,
     /// Whom the node tells what it knows.
-    pub telling: Telling,
+    pub telling: GossipOptions,
 }
 
 // The words of a command line live as long as the texts of its command.
@@ -81,7 +81,7 @@ fn serve_options<'a>(alloc: Global, matches: &ArgMatches<'a>) -> Result<ServeOpt
         cap: matches.get_one::<u32>("cap").unwrap_or(0),
         requests: matches.get_one::<u32>("requests").unwrap_or(0),
         failpoints: matches.get_str("failpoints"),
-        telling: Telling {
+        telling: GossipOptions {
             peers,
             rounds: matches.get_one::<u32>("rounds").unwrap_or(0),
             every: Duration::from_millis(u64::from(every)),

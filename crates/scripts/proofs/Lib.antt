@@ -1,5 +1,4 @@
 pub mod Flows
-pub mod Numbers
 pub mod Words
 pub mod Spaces
 pub mod Texts

@@ -2,7 +2,8 @@
 use Rattle.std.proofs.Common.{◌≡◌, ℕ, ◌+◌, ◌<◌, List, [], ◌∷◌, ◌++◌, length, get_or, drop, Option, Some, None, sym, ap, ◌∙◌, append_assoc, append-nil, arith, refl}
 use Rattle.std.specs.Option.{option_map}
 use Rattle.std.proofs.lemmas.List.{at_drop_more, at_drop_all}
-use Rattle.scripts.specs.Fields.{◌>>=◌, word_of}
+use Rattle.decimals.specs.Decimals.{word_of}
+use Rattle.scripts.specs.Fields.{◌>>=◌}
 use Rattle.scripts.specs.Commands.{words_of}
 
 -- a number in front of others

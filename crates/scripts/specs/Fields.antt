@@ -1,8 +1,7 @@
--- Lines, their fields, and the numbers in them, as bytes.
-use Rattle.std.specs.Prelude.{ℕ, Bool, ◌&&◌, ◌==◌, List, length, if◌then◌else◌, nat_lt, nat_le, Option, Some, None, option_and_then}
-use Rattle.std.specs.List.{slice_split, position_or_len, before_first, after_first, list_all}
-use Rattle.std.specs.Char.{is_ascii_digit}
-use Rattle.std.specs.Str.Parse.{digits_value}
+-- Lines and their fields, as bytes.
+use Rattle.std.specs.Prelude.{ℕ, Bool, ◌==◌, List, length, if◌then◌else◌, nat_lt, Option, Some, None, option_and_then}
+use Rattle.std.specs.List.{slice_split, position_or_len, before_first, after_first}
+use Rattle.decimals.specs.Decimals.{byte_of}
 
 abbrev pub newline : ℕ
 newline = 10
@@ -37,27 +36,6 @@ cut_of text = if has_space text then Some (before_space text, after_space text) 
 -- a field: some bytes, none of which is a space
 abbrev pub field_of : List ℕ → Option (List ℕ)
 field_of text = if (length text == 0) then None else (if has_space text then None else Some text)
-
--- one or more digits, with a value up to this
-abbrev pub is_number_up_to : ℕ → List ℕ → Bool
-is_number_up_to most text =
-    nat_lt 0 (length text) && list_all is_ascii_digit text && nat_le (digits_value 10 text) most
-
--- the number that they are
-abbrev pub number_of : ℕ → List ℕ → Option ℕ
-number_of most text = if is_number_up_to most text then Some (digits_value 10 text) else None
-
--- the number of a node or a term
-abbrev pub byte_of : List ℕ → Option ℕ
-byte_of text = number_of 255 text
-
--- the number of a trace's limit, a random word, or the number of a message
-abbrev pub word_of : List ℕ → Option ℕ
-word_of text = number_of 4294967295 text
-
--- an amount of rights
-abbrev pub amount_of : List ℕ → Option ℕ
-amount_of text = number_of 18446744073709551615 text
 
 infixl 10 ◌>>=◌
 abbrev pub ◌>>=◌ : {A B : Type 0} → Option A → (A → Option B) → Option B

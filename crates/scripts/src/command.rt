@@ -5,8 +5,9 @@ ghost use Rattle.std.specs.Vec.{vec_items};
 ghost use Rattle.scripts.specs.Fields.{has_space, field_of, fields_of};
 ghost use Rattle.scripts.specs.Commands.{command_value, words_of, nodes_in, set_in, remove_in, load_in, pass_with, pass_in, shift_in, grant_in, emit_in, deliver_in, list_in, report_in, rights_in, spent_in, hits_in, command_after, command_of};
 
-use crate::fields::{amount, byte, cut, cut_byte, cut_field, field, word};
+use crate::fields::{cut, cut_byte, cut_field, field};
 use cluster_model::Event;
+use decimals::{amount, byte, word};
 use std::alloc::{AllocError, Global};
 
 /// A question about what a node shows.

@@ -1,9 +1,10 @@
-//! The fields of a line, and the numbers in them.
+//! The fields of a line.
 
-ghost use Rattle.std.specs.Prelude.{◌≡◌, ◌≤◌, option_map, IfSome};
-ghost use Rattle.std.specs.List.{list_all, position};
-ghost use Rattle.std.specs.Char.{is_ascii_digit};
-ghost use Rattle.scripts.specs.Fields.{is_space, cut_of, field_of, number_of, byte_of, word_of, amount_of, field_cut_of, byte_cut_of};
+ghost use Rattle.std.specs.Prelude.{◌≡◌, option_map};
+ghost use Rattle.std.specs.List.{position};
+ghost use Rattle.scripts.specs.Fields.{is_space, cut_of, field_of, field_cut_of, byte_cut_of};
+
+use decimals::byte;
 
 // Out of line, so that the searches of a line share one short loop.
 #[inline(never)]
@@ -30,50 +31,6 @@ pub fn field(text: &str) -> Option<&str>
     } else {
         Some(text)
     }
-}
-
-fn is_digits(text: &str) -> bool
-    ensures { result ≡ list_all is_ascii_digit text.now }
-{
-    text.bytes().all(|byte| byte.is_ascii_digit())
-}
-
-/// One or more digits, with a value up to `most`.
-pub fn number(text: &str, most: u64) -> Option<u64>
-    ensures value { result ≡ number_of most text.now }
-    ensures fits { IfSome result (λ value. value ≤ most) }
-{
-    // `parse` would take a sign.
-    if text.is_empty() || !is_digits(text) {
-        return None;
-    }
-    let Ok(value) = text.parse::<u64>() else {
-        return None;
-    };
-    (value <= most).then_some(value)
-}
-
-/// The number of a node or a term.
-pub fn byte(text: &str) -> Option<u8>
-    ensures { result ≡ byte_of text.now }
-{
-    let value = number(text, 255)?;
-    Some(value as u8)
-}
-
-/// A trace's limit, or a random draw.
-pub fn word(text: &str) -> Option<u32>
-    ensures { result ≡ word_of text.now }
-{
-    let value = number(text, 4_294_967_295)?;
-    Some(value as u32)
-}
-
-/// An amount of rights.
-pub fn amount(text: &str) -> Option<u64>
-    ensures { result ≡ amount_of text.now }
-{
-    number(text, u64::MAX)
 }
 
 /// A field before the first space, and what stands after it.

@@ -13,8 +13,9 @@ mod streams;
 mod watched;
 
 pub use command::{Command, Question, read_command};
+pub use decimals::{amount, byte, number, word};
 pub use fault::ScriptFault;
-pub use fields::{amount, byte, cut, cut_byte, cut_field, field, number, word};
+pub use fields::{cut, cut_byte, cut_field, field};
 pub use run::{run_script, run_script_echoing};
 pub use script::{is_skipped, text_of};
 pub use streams::{MOST_BYTES, read_script, write_text};

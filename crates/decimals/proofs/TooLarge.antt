@@ -1,11 +1,11 @@
--- What it means that `parse` refuses a field of digits.
+-- What it means that `parse` refuses digits.
 use Rattle.std.proofs.Common.{◌≡◌, ℕ, ◌^◌, ◌<◌, ◌≤◌, true, List, length, None, Err, arith, rules}
 use Rattle.std.specs.List.{list_all}
 use Rattle.std.specs.Char.{is_ascii_digit}
 use Rattle.std.specs.Str.Parse.{ParsesUnsigned, digits_value}
 use Rattle.std.proofs.lemmas.Str.Parse.{IsNumeralModel, numerals_by_value, parse_digits}
 use Rattle.std.proofs.lemmas.Bool.Decides.{nat_tests}
-use Rattle.scripts.specs.Fields.{number_of}
+use Rattle.decimals.specs.Decimals.{number_of}
 
 own : IsNumeralModel (λ text. list_all is_ascii_digit text ≡ true) (digits_value 10)
 own = numerals_by_value _ (search rules)

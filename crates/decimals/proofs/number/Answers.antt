@@ -1,6 +1,6 @@
 use Rattle.std.proofs.Common.{rules}
-use Rattle.scripts.proofs.Numbers.{too_large, number_of-too_large}
-use Rattle.scripts.proofs.fields.number.Goals as goal
+use Rattle.decimals.proofs.TooLarge.{too_large, number_of-too_large}
+use Rattle.decimals.proofs.number.Goals as goal
 
 pub returns-in_default-clause-value : goal.returns-in_default-clause-value
 returns-in_default-clause-value c =

@@ -1,9 +1,10 @@
-//! Numbers in a command line.
+//! Numbers in decimal digits: a text is one or more of them, with no sign and nothing round them.
+#![tactic(auto)]
 
 ghost use Rattle.std.specs.Prelude.{◌≡◌, ◌≤◌, IfSome};
 ghost use Rattle.std.specs.List.{list_all};
 ghost use Rattle.std.specs.Char.{is_ascii_digit};
-ghost use Rattle.command_line.specs.Numbers.{number_of, byte_of};
+ghost use Rattle.decimals.specs.Decimals.{number_of, byte_of, word_of, amount_of};
 
 fn is_digits(text: &str) -> bool
     ensures { result ≡ list_all is_ascii_digit text.now }
@@ -26,10 +27,25 @@ pub fn number(text: &str, most: u64) -> Option<u64>
     (value <= most).then_some(value)
 }
 
-/// The number of a node.
+/// A number of 8 bits: that of a node or a term.
 pub fn byte(text: &str) -> Option<u8>
     ensures { result ≡ byte_of text.now }
 {
     let value = number(text, 255)?;
     Some(value as u8)
+}
+
+/// A number of 32 bits: a trace's limit, or a random draw.
+pub fn word(text: &str) -> Option<u32>
+    ensures { result ≡ word_of text.now }
+{
+    let value = number(text, 4_294_967_295)?;
+    Some(value as u32)
+}
+
+/// A number of 64 bits: an amount of rights.
+pub fn amount(text: &str) -> Option<u64>
+    ensures { result ≡ amount_of text.now }
+{
+    number(text, u64::MAX)
 }
