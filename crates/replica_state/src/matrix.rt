@@ -4,12 +4,13 @@
 ghost use Rattle.std.specs.Prelude.{◌≡◌, IfOk, IfNone, IfSome, OnOk, OnErr};
 ghost use Rattle.lattice_laws.specs.Order.{IsCopy, IsJoin};
 ghost use Rattle.replica_state.specs.Folds.{IsUnion};
-ghost use Rattle.replica_state.specs.Cells.{cell_of};
+ghost use Rattle.replica_state.specs.Cells.{cell_of, held_at};
 ghost use Rattle.replica_state.specs.Reached.{IsReached};
-ghost use Rattle.replica_state.specs.Slots.{IsSlotOf, HasNoSlot, shown_slots};
+ghost use Rattle.replica_state.specs.Slots.{IsSlotOf, HasNoSlot, reader_held, shown_slots};
 
 use crate::op::Op;
 use crate::point::{Count, Counted, key_with};
+use crate::reader::PointReader;
 use crate::replica::Replica;
 use crate::slot::{self, Slot};
 use crate::slot_map::{self, Slots};
@@ -35,6 +36,13 @@ impl Matrix {
         ensures none { IfNone result (HasNoSlot (matrix_state self.now) name.now) }
     {
         slot_map::get(&self.slots, name)
+    }
+
+    /// What is held of a point, looked up once.
+    pub fn point(&self, name: &Name) -> PointReader<'_>
+        ensures { reader_held result ≡ held_at (matrix_state self.now) name.now }
+    {
+        PointReader::new(self.slot_of(name))
     }
 
     // The number of what is counted so.
