@@ -24,7 +24,7 @@ use Rattle.node_core.proofs.LegalTraces.{legal_more, nothing_legal}
 use Rattle.node_core.proofs.RepliedDelta.{delta_sends, delta_bytes}
 use Rattle.cluster_model.specs.Laws.{IsLegalEmit}
 use Rattle.cluster_model.specs.Worlds.{config_of}
-use Rattle.audit.specs.Told.{ReplyTold, was_set, was_removed, was_loaded, was_passed, was_shifted, was_granted, was_emitted, was_delivered, reply_told}
+use Rattle.node_calls.specs.Told.{ReplyTold, was_set, was_removed, was_loaded, was_passed, was_shifted, was_granted, was_emitted, was_delivered, reply_told}
 use Rattle.audit.specs.Traces.{Traces, trace_of, audited, IsLegalAlone, AllLegal, IsFirstWrong}
 use Rattle.audit.specs.Replays.{IsLegalKept, with_call}
 use Rattle.audit.proofs.LegalCalls.{IsLegalCall, legal_parts, legal_short}

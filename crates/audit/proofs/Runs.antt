@@ -7,7 +7,7 @@ use Rattle.std.proofs.Common.{Vec}
 use Rattle.std.specs.Prelude.{option_and_then}
 use Rattle.std.specs.declared.alloc.Global.{Global}
 use Rattle.node_calls.specs.declared.trace.Entry.{Entry}
-use Rattle.audit.specs.Told.{bytes_emitted, bytes_delivered}
+use Rattle.node_calls.specs.Told.{bytes_emitted, bytes_delivered}
 use Rattle.audit.specs.Traces.{Traces, trace_of, entry_at}
 use Rattle.audit.specs.Places.{count_at, emitted_at, IsSent, IsReady, IsRun, IsStuckAt, IsStuckWith}
 use Rattle.audit.specs.Boards.{IsKept, NoneFits, left}

@@ -28,7 +28,7 @@ use Rattle.cluster_model.proofs.Closed.{deltas_are_schedules}
 use Rattle.cluster_model.proofs.Conserved.{conserved}
 use Rattle.cluster_model.proofs.Replays.{node_is_replay, event_is_call, is_agreed, traces_are_legal}
 use Rattle.cluster_model.proofs.Replies.{messages_are_replies}
-use Rattle.audit.specs.Told.{bytes_emitted, emitted_in, delivered_in}
+use Rattle.node_calls.specs.Told.{bytes_emitted, emitted_in, delivered_in}
 use Rattle.audit.specs.Traces.{Traces, trace_of, entry_at, IsSized, audited, AllLegal, AreShort}
 use Rattle.audit.specs.Schedules.{event_of, events_of, SomeFits}
 use Rattle.audit.specs.Places.{count_at, emitted_at, IsSent, IsReady, IsRun, Fits, IsOrder, steps_at}

@@ -4,7 +4,7 @@ use Rattle.std.specs.Ordering.{nat_cmp, ordering_then, is_eq}
 use Rattle.std.proofs.lemmas.Bool.Decides.{eqb_tells, leb_tells, nat_tests}
 use Rattle.std.proofs.Common.{Vec, Option, None}
 use Rattle.std.specs.Prelude.{option_map}
-use Rattle.audit.specs.Told.{Told, told}
+use Rattle.node_calls.specs.Told.{Told, told}
 use Rattle.std.specs.BTreeSet.{contains}
 use Rattle.std.specs.declared.alloc.Global.{Global}
 use Rattle.node_calls.specs.declared.receipt.Receipt.{Receipt}

@@ -3,7 +3,7 @@ use Rattle.std.proofs.Common.{◌≡◌, ◌≢◌, ◌⊎◌, inl, inr, ℕ, ze
 use Rattle.std.specs.Prelude.{option_and_then}
 use Rattle.std.proofs.lemmas.Bool.Decides.{eqb_tells}
 use Rattle.node_calls.specs.declared.trace.Entry.{Entry}
-use Rattle.audit.specs.Told.{bytes_emitted}
+use Rattle.node_calls.specs.Told.{bytes_emitted}
 use Rattle.audit.specs.Traces.{Traces, trace_of, entry_at}
 use Rattle.audit.specs.Schedules.{Step, entries_at, WasEmitted, AreFed}
 use Rattle.audit.specs.Places.{count_at, emitted_at, IsSent, IsReady, IsRun, step_with, steps_at}

@@ -1,4 +1,3 @@
-pub mod Told
 pub mod Traces
 pub mod Schedules
 pub mod Places

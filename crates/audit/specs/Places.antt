@@ -1,7 +1,7 @@
 -- Orders of the entries of traces, as places: a node, and an index of its trace.
 use Rattle.std.specs.Prelude.{◌≡◌, ◌⊎◌, ℕ, ◌+◌, ◌<◌, ◌==◌, if◌then◌else◌, List, [], ◌∷◌, ◌++◌, length, reverse, Option, Some, None, option_and_then}
 use Rattle.node_calls.specs.declared.trace.Entry.{Entry}
-use Rattle.audit.specs.Told.{bytes_emitted, bytes_delivered}
+use Rattle.node_calls.specs.Told.{bytes_emitted, bytes_delivered}
 use Rattle.audit.specs.Traces.{Traces, trace_of, entry_at, audited}
 use Rattle.audit.specs.Schedules.{Step, FitsTraces}
 

@@ -5,7 +5,7 @@ use Rattle.std.specs.BTreeSet.{contains}
 use Rattle.std.specs.declared.alloc.Global.{Global}
 use Rattle.node_calls.specs.declared.receipt.Receipt.{Receipt}
 use Rattle.audit.specs.declared.receipts.Seen.{Seen}
-use Rattle.audit.specs.Told.{told}
+use Rattle.node_calls.specs.Told.{told}
 use Rattle.audit.specs.Traces.{Traces, trace_of, entry_at}
 
 -- each list holds those of one caller, in the order of its calls

@@ -4,7 +4,7 @@ use Rattle.node_calls.specs.declared.trace.Entry.{Entry}
 use Rattle.node_calls.specs.Asks.{call}
 use Rattle.cluster_model.specs.Worlds.{Cluster, Event, cluster_of, world}
 use Rattle.cluster_model.specs.Schedules.{IsDeltaSchedule}
-use Rattle.audit.specs.Told.{bytes_emitted, bytes_delivered}
+use Rattle.node_calls.specs.Told.{bytes_emitted, bytes_delivered}
 use Rattle.audit.specs.Traces.{Traces, trace_of}
 
 -- a step: a node, and the entry that it made. Of a list of steps the newest stands first

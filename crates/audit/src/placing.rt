@@ -7,7 +7,7 @@ ghost use Rattle.std.specs.Prelude.{◌≡◌, ℕ, List, length, slice_index, I
 ghost use Rattle.std.specs.Bool.{OnTrue, OnFalse};
 ghost use Rattle.audit.specs.Boards.{IsBoard, placed_on, IsPlacing, has_sent, left};
 ghost use Rattle.audit.specs.Places.{IsStuckAt};
-ghost use Rattle.audit.specs.Told.{bytes_delivered};
+ghost use Rattle.node_calls.specs.Told.{bytes_delivered};
 ghost use Rattle.audit.specs.Traces.{AreShort, entry_at, trace_of};
 
 use crate::sent::Sent;

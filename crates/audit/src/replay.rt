@@ -7,7 +7,7 @@ ghost use Rattle.node_calls.specs.Asks.{call};
 ghost use Rattle.node_core.specs.Traces.{Kept, IsLegal, call_of};
 ghost use Rattle.cluster_model.specs.Laws.{IsLegalEmit};
 ghost use Rattle.cluster_model.specs.Worlds.{config_of};
-ghost use Rattle.audit.specs.Told.{reply_told, was_emitted};
+ghost use Rattle.node_calls.specs.Told.{reply_told, was_emitted};
 ghost use Rattle.audit.specs.Traces.{IsLegalAlone, IsFirstWrong, IsLeastWrong, AllLegal, audited};
 ghost use Rattle.audit.specs.Replays.{IsLegalKept, with_call};
 ghost use Rattle.node_core.specs.Nodes.{start};

@@ -3,7 +3,7 @@
 ghost use Rattle.std.specs.Prelude.{◌≡◌, ℕ, List, OnOk, IsTrue, ◌↔◌, ◌⊎◌, Some, if◌then◌else◌, true, false};
 ghost use Rattle.std.specs.Str.{bytes_eq};
 ghost use Rattle.audit.specs.Boards.{has_sent};
-ghost use Rattle.audit.specs.Told.{bytes_emitted};
+ghost use Rattle.node_calls.specs.Told.{bytes_emitted};
 
 use crate::told::emitted;
 use node_core::Entry;

@@ -4,7 +4,7 @@ ghost use Rattle.std.specs.Prelude.{◌≡◌, ◌↔◌, IsTrue, option_map, st
 ghost use Rattle.std.specs.Option.{option_copied};
 ghost use Rattle.node_calls.specs.Asks.{passed};
 ghost use Rattle.actions.specs.Value.{task_value};
-ghost use Rattle.audit.specs.Told.{ask_told, reply_told, told, bytes_emitted, bytes_delivered};
+ghost use Rattle.node_calls.specs.Told.{ask_told, reply_told, told, bytes_emitted, bytes_delivered};
 
 use actions::Task;
 use node_core::{Ask, Entry, PassReply, Reply, Trace};

@@ -3,7 +3,7 @@ use Rattle.std.proofs.Common.{◌≡◌, ℕ, ◌+◌, ◌==◌, List, [], ◌�
 use Rattle.std.specs.Prelude.{All, option_map, option_and_then}
 use Rattle.std.proofs.lemmas.Bool.{cond-true, eq-eqb}
 use Rattle.std.proofs.lemmas.List.Elements.{All-head, All-tail}
-use Rattle.audit.specs.Told.{Told}
+use Rattle.node_calls.specs.Told.{Told}
 use Rattle.drills.specs.Lines.{LineTold, entry, receipt, ReceiptTold, line_text}
 use Rattle.drills.specs.Drills.{DrillTold, after_head, after_line, begun, drill_from, drill_in, drill_lines, drill_text, in_last, list_lines, numbered, or_line, trace_lines, with_lists, with_traces, ◌>>=◌}
 use Rattle.drills.specs.Written.{ReadsBack}

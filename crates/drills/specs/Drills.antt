@@ -1,7 +1,7 @@
 -- Recorded drills: the traces of the nodes and the lists of receipts, as lines and as bytes.
 use Rattle.std.specs.Prelude.{ℕ, ◌+◌, ◌==◌, List, [], ◌∷◌, ◌++◌, length, map, flat_map, if◌then◌else◌, Option, Some, None, option_map, option_and_then, Result, Ok, Err}
 use Rattle.audit.specs.Receipts.{Lists}
-use Rattle.audit.specs.Told.{Told, told}
+use Rattle.node_calls.specs.Told.{Told, told}
 use Rattle.audit.specs.Traces.{Traces}
 use Rattle.drills.specs.declared.drill.Drill.{Drill}
 use Rattle.drills.specs.Lines.{LineTold, head, trace, entry, list, receipt, ReceiptTold, receipt_told, line_text}

@@ -3,7 +3,7 @@ use Rattle.std.specs.Prelude.{ℕ, List, codes}
 use Rattle.serde_json.specs.Data.{Data, string, object, member, no_members}
 use Rattle.serde_json.specs.Written.{compact_text}
 use Rattle.node_calls.specs.declared.receipt.Receipt.{Receipt}
-use Rattle.audit.specs.Told.{Told, told}
+use Rattle.node_calls.specs.Told.{Told, told}
 use Rattle.drills.specs.declared.line.Line.{Line}
 use Rattle.drills.specs.declared.line.Line.TheVariants as lines
 use Rattle.drills.specs.Rows.{count_data, words_data, ask_data, reply_data}

@@ -2,7 +2,7 @@
 
 ghost use Rattle.std.specs.Prelude.{◌≡◌, option_map, IfOk};
 ghost use Rattle.serde_json.specs.View.{view};
-ghost use Rattle.audit.specs.Told.{told};
+ghost use Rattle.node_calls.specs.Told.{told};
 ghost use Rattle.drills.specs.Lines.{line_told, receipt_told};
 ghost use Rattle.drills.specs.Reading.{begin_in, head_in, line_in, line_of, members_in, receipt_in, told_in};
 

@@ -2,7 +2,7 @@
 
 ghost use Rattle.std.specs.Prelude.{◌≡◌, IfOk, OnOk, string_bytes};
 ghost use Rattle.serde_json.specs.View.{view};
-ghost use Rattle.audit.specs.Told.{told};
+ghost use Rattle.node_calls.specs.Told.{told};
 ghost use Rattle.drills.specs.Fits.{LineFits};
 ghost use Rattle.drills.specs.Lines.{entry as entry_line, head as head_line, line_data, list as list_line, receipt as receipt_line, receipt_told, trace as trace_line};
 ghost use Rattle.drills.specs.Written.{IsPrinted, SaysLine};

@@ -3,7 +3,7 @@
 ghost use Rattle.std.specs.Prelude.{◌≡◌, ◌++◌, ◌∷◌, [], ◌↔◌, ◌⊎◌, true, false, map, string_bytes, IfErr, OnOk, Ok, Err};
 ghost use Rattle.scripts.specs.Watched.{has_failed, has_unflushed};
 ghost use Rattle.scripts.specs.Streams.{Writes};
-ghost use Rattle.audit.specs.Told.{told};
+ghost use Rattle.node_calls.specs.Told.{told};
 ghost use Rattle.drills.specs.declared.fault.DrillFault.TheVariants.{OutOfMemory, WriteFailed};
 ghost use Rattle.drills.specs.Lines.{receipt_told};
 ghost use Rattle.drills.specs.Drills.{drill_in, drill_text, drill_told, list_lines, lists_told, newline, numbered, trace_lines, traces_told};

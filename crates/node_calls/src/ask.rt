@@ -1,9 +1,12 @@
 //! What a node is asked.
 
-ghost use Rattle.std.specs.Prelude.{◌≡◌, ℕ, IfOk};
+ghost use Rattle.std.specs.Prelude.{◌≡◌, ℕ, IfOk, IfErr};
+ghost use Rattle.node_calls.specs.declared.ask.Ask.TheVariants.{Deliver};
 ghost use Rattle.node_calls.specs.declared.reply.Reply.{Reply};
 ghost use Rattle.node_calls.specs.Asks.{ask_value, bytes_of, is_pass};
+ghost use Rattle.node_calls.specs.Told.{ask_ref_told, ask_told};
 
+use crate::ask_ref::AskRef;
 use std::alloc::{AllocError, Global};
 
 /// What a node is asked.
@@ -50,48 +53,67 @@ pub enum Ask {
 }
 
 impl Ask {
-    /// A value of its own that asks the same. The only error is out of memory.
-    pub fn copied(&self, alloc: Global) -> Result<Ask, AllocError>
-        ensures same { IfOk result (λ copy. (nodes : ℕ) (reply : Reply)
-            → ask_value nodes copy reply ≡ ask_value nodes self.now reply) }
-        // Also of bytes that are no message.
-        ensures bytes { IfOk result (λ copy. bytes_of copy ≡ bytes_of self.now) }
+    /// The same request, with its texts where they stand.
+    pub fn as_ref(&self) -> AskRef<'_>
+        ensures { ask_ref_told result ≡ ask_told self.now }
     {
-        Ok(match self {
-            Ask::Set { name, text } => Ask::Set {
-                name: String::from_str(alloc, name)?,
-                text: String::from_str(alloc, text)?,
+        match self {
+            Ask::Set { name, text } => AskRef::Set {
+                name: name.as_str(),
+                text: text.as_str(),
             },
-            Ask::Remove { name } => Ask::Remove {
-                name: String::from_str(alloc, name)?,
+            Ask::Remove { name } => AskRef::Remove {
+                name: name.as_str(),
             },
-            Ask::Load { text } => Ask::Load {
-                text: String::from_str(alloc, text)?,
+            Ask::Load { text } => AskRef::Load {
+                text: text.as_str(),
             },
-            Ask::Pass { name } => Ask::Pass {
-                name: String::from_str(alloc, name)?,
+            Ask::Pass { name } => AskRef::Pass {
+                name: name.as_str(),
             },
             Ask::Shift {
                 name,
                 term,
                 to,
                 amount,
-            } => Ask::Shift {
-                name: String::from_str(alloc, name)?,
+            } => AskRef::Shift {
+                name: name.as_str(),
                 term: *term,
                 to: *to,
                 amount: *amount,
             },
-            Ask::Grant { name, term, amount } => Ask::Grant {
-                name: String::from_str(alloc, name)?,
+            Ask::Grant { name, term, amount } => AskRef::Grant {
+                name: name.as_str(),
                 term: *term,
                 amount: *amount,
             },
-            Ask::Emit { to } => Ask::Emit { to: *to },
-            Ask::Deliver { message } => Ask::Deliver {
-                message: Vec::from_slice(alloc, message)?,
+            Ask::Emit { to } => AskRef::Emit { to: *to },
+            Ask::Deliver { message } => AskRef::Deliver {
+                message: message.as_slice(),
             },
-        })
+        }
+    }
+
+    /// A value of its own that asks the same, to the byte. The only error is out of memory.
+    pub fn copied(&self, alloc: Global) -> Result<Ask, AllocError>
+        ensures told { IfOk result (λ copy. ask_told copy ≡ ask_told self.now) }
+        ensures same { IfOk result (λ copy. (nodes : ℕ) (reply : Reply)
+            → ask_value nodes copy reply ≡ ask_value nodes self.now reply) }
+        // Also of bytes that are no message.
+        ensures bytes { IfOk result (λ copy. bytes_of copy ≡ bytes_of self.now) }
+    {
+        self.as_ref().copied(alloc)
+    }
+
+    /// The bytes of a delivery, or the request as it was.
+    pub fn into_message(self) -> Result<Vec<u8>, Ask>
+        ensures ok { IfOk result (λ message. self ≡ Deliver message) }
+        ensures err { IfErr result (λ ask. ask ≡ self) }
+    {
+        match self {
+            Ask::Deliver { message } => Ok(message),
+            ask => Err(ask),
+        }
     }
 
     /// Whether it asks to pass a point.

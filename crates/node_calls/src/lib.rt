@@ -7,12 +7,14 @@
 #![tactic(auto)]
 
 mod ask;
+mod ask_ref;
 mod fault;
 mod receipt;
 mod reply;
 mod trace;
 
 pub use ask::Ask;
+pub use ask_ref::AskRef;
 pub use fault::{NodeFault, TextFault};
 pub use receipt::Receipt;
 pub use reply::{PassReply, Reply};

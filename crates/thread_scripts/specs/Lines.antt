@@ -3,13 +3,14 @@ use Rattle.std.specs.Prelude.{ℕ, List, Option, Some, None, option_map, Result,
 use Rattle.std.specs.Str.{bytes_eq}
 use Rattle.hex.specs.Hex.{decode_sized}
 use Rattle.hex.specs.declared.error.FromHexError.{FromHexError}
-use Rattle.node_calls.specs.Asks.{Asked, Pass}
-use Rattle.scripts.specs.Fields.{◌>>=◌, cut_of, byte_of, word_of, number_of, field_of, field_cut_of, byte_cut_of}
+use Rattle.node_calls.specs.Told.{AskTold, ask_ref_told, passes}
+use Rattle.decimals.specs.Decimals.{byte_of, word_of, number_of}
+use Rattle.scripts.specs.Fields.{◌>>=◌, cut_of, field_of, field_cut_of, byte_cut_of}
 use Rattle.scripts.specs.Commands.{command_of}
 use Rattle.scripts.specs.Script.{text_in}
 use Rattle.thread_scripts.specs.declared.line.Line.{Line}
 use Rattle.thread_scripts.specs.declared.line.Line.TheVariants as lines
-use Rattle.thread_scripts.specs.Calls.{StartValue, makes, spreads, call_value, start_value, start_of, set_in, remove_in, load_in, shift_in, grant_in}
+use Rattle.thread_scripts.specs.Calls.{StartValue, makes, spreads, start_value, start_of, set_in, remove_in, load_in, shift_in, grant_in}
 
 -- so many nodes, each of which accepts so many calls; the seed of their words; what a node does before the workers
 -- start; so many rounds of gossip; a block of calls of one worker at a node; or a call of the worker, so many times
@@ -19,7 +20,7 @@ pub data LineValue : Type 0 where
   start_line : (node : ℕ) (start : StartValue) → LineValue
   gossip_line : (rounds : ℕ) → LineValue
   worker_line : (node : ℕ) → LineValue
-  calls_line : (call : Asked) (times : ℕ) → LineValue
+  calls_line : (call : AskTold) (times : ℕ) → LineValue
 
 -- a line of the code, without where its texts lie in memory
 abbrev pub line_value : Line → LineValue
@@ -28,7 +29,7 @@ line_value (lines.Seed bytes) = seed_line bytes
 line_value (lines.Start node start) = start_line node (start_value start)
 line_value (lines.Gossip rounds) = gossip_line rounds
 line_value (lines.Worker node) = worker_line node
-line_value (lines.Calls call times) = calls_line (call_value call) times
+line_value (lines.Calls call times) = calls_line (ask_ref_told call) times
 
 -- `nodes <n> <cap>`
 abbrev pub nodes_in : List ℕ → Option LineValue
@@ -79,7 +80,7 @@ worker_in rest = do
   node ← byte_of rest
   Some (worker_line node)
 
-abbrev pub once : Asked → LineValue
+abbrev pub once : AskTold → LineValue
 once call = calls_line call 1
 
 -- up to 65535, also 0
@@ -91,7 +92,7 @@ abbrev pub pass_in : List ℕ → Option LineValue
 pass_in rest = do
   name ← field_cut_of rest
   times ← times_of (name.1)
-  Some (calls_line (Pass (name.0)) times)
+  Some (calls_line (passes (name.0)) times)
 
 -- by the line's first word, what follows it
 abbrev pub line_after : List ℕ → List ℕ → Option LineValue

@@ -3,7 +3,7 @@ use Rattle.std.specs.Prelude.{ℕ, ◌+◌, ◌-◌, ◌^◌, Bool, ◌&&◌, �
 use Rattle.std.specs.List.{sum_by}
 use Rattle.std.specs.Option.{is_none}
 use Rattle.cluster_model.specs.Worlds.{is_cluster_size}
-use Rattle.node_calls.specs.Asks.{Asked}
+use Rattle.node_calls.specs.Told.{AskTold, ask_ref_told}
 use Rattle.scripts.specs.Fields.{newline, lines_of}
 use Rattle.scripts.specs.Script.{is_skipped}
 use Rattle.thread_scripts.specs.declared.plan.Block.{Block}
@@ -12,13 +12,13 @@ use Rattle.thread_scripts.specs.declared.plan.StartLine.{StartLine}
 use Rattle.thread_scripts.specs.declared.plan.ThreadPlan.{ThreadPlan}
 use Rattle.thread_scripts.specs.declared.stage.Stage.{Stage}
 use Rattle.thread_scripts.specs.declared.stage.Stage.TheVariants as stages
-use Rattle.thread_scripts.specs.Calls.{StartValue, call_value, start_value}
+use Rattle.thread_scripts.specs.Calls.{StartValue, start_value}
 use Rattle.thread_scripts.specs.Lines.{LineValue, nodes_line, seed_line, start_line, gossip_line, worker_line, calls_line, line_in}
 
 -- the lines of a worker: each a call, with how often it is made
 pub record BlockValue : Type 0 where
   pub node : ℕ
-  pub lines : List (Asked × ℕ)
+  pub lines : List (AskTold × ℕ)
 
 pub record PlanValue : Type 0 where
   pub nodes : ℕ
@@ -30,8 +30,8 @@ pub record PlanValue : Type 0 where
 
 -- ---- the same of the code's values
 
-abbrev pub call_line_value : CallLine → Asked × ℕ
-call_line_value l = (call_value l.call, l.times)
+abbrev pub call_line_value : CallLine → AskTold × ℕ
+call_line_value l = (ask_ref_told l.call, l.times)
 
 abbrev pub block_value : Block → BlockValue
 block_value b = record { node = b.node; lines = map call_line_value b.lines.items }
@@ -94,7 +94,7 @@ begin_block p node =
     then Some (working p (record { node = node; lines = [] })) else None
 
 -- a block has fewer than 2^32 calls
-abbrev pub add_calls : PlanValue → BlockValue → Asked → ℕ → Option StageValue
+abbrev pub add_calls : PlanValue → BlockValue → AskTold → ℕ → Option StageValue
 add_calls p b call times =
     if nat_lt (calls_in b + times) (2 ^ 32)
     then Some (working p (record b { lines = b.lines ++ (call, times) ∷ [] })) else None

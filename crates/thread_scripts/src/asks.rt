@@ -2,7 +2,6 @@
 
 ghost use Rattle.std.specs.Prelude.{◌≡◌, ◌+◌, ◌<◌, ◌^◌, vec_len, All, IfOk, OnOk};
 
-use crate::call::ask_of;
 use crate::plan::{Block, CallLine};
 use node_core::Ask;
 use node_registry::{Job, Label, Registry, Seat};
@@ -13,7 +12,7 @@ fn push_asks(alloc: Global, line: &CallLine<'_>, asks: &mut Vec<Ask>) -> Result<
     ensures { OnOk result (vec_len asks.new ≡ vec_len asks.old + line.now.times) }
 {
     for _time in 0..line.times {
-        asks.push(ask_of(alloc, &line.call)?)?;
+        asks.push(line.call.copied(alloc)?)?;
     }
     Ok(())
 }

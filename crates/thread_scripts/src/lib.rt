@@ -16,7 +16,7 @@ mod run;
 mod stage;
 mod starts;
 
-pub use call::{Call, Start};
+pub use call::Start;
 pub use output::output_of;
 pub use plan::{Block, CallLine, Size, StartLine, ThreadPlan};
 pub use played::{Played, play};

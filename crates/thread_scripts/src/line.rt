@@ -1,13 +1,12 @@
 //! What a line of a script of threads says.
 
 ghost use Rattle.std.specs.Prelude.{◌≡◌, option_map, IfOk};
-ghost use Rattle.thread_scripts.specs.Calls.{call_value};
+ghost use Rattle.node_calls.specs.Told.{ask_ref_told};
 ghost use Rattle.thread_scripts.specs.Lines.{gossip_in, line_after, line_in, line_of, line_value, nodes_in, once, pass_in, seed_in, spread_in, start_call_in, start_in, times_of, worker_in};
 
-use crate::call::{
-    Call, Start, grant_call, load_call, remove_call, set_call, shift_call, start_of,
-};
+use crate::call::{Start, grant_call, load_call, remove_call, set_call, shift_call, start_of};
 use hex::FromHex;
+use node_core::AskRef;
 use scripts::{byte, cut, cut_byte, cut_field, field, number, read_command, text_of, word};
 use std::alloc::{AllocError, Global};
 
@@ -25,7 +24,7 @@ pub enum Line<'a> {
     /// A block of calls of one worker at a node begins.
     Worker { node: u8 },
     /// The worker makes a call, so many times.
-    Calls { call: Call<'a>, times: u16 },
+    Calls { call: AskRef<'a>, times: u16 },
 }
 
 fn nodes_line(rest: &str) -> Option<Line<'_>>
@@ -94,8 +93,8 @@ fn worker_line(rest: &str) -> Option<Line<'_>>
     Some(Line::Worker { node })
 }
 
-fn once(call: Call<'_>) -> Line<'_>
-    ensures { line_value result ≡ once (call_value call.entry) }
+fn once(call: AskRef<'_>) -> Line<'_>
+    ensures { line_value result ≡ once (ask_ref_told call.entry) }
 {
     Line::Calls { call, times: 1 }
 }
@@ -112,7 +111,7 @@ fn pass_line(rest: &str) -> Option<Line<'_>>
 {
     let (name, count) = cut_field(rest)?;
     let times = times(count)?;
-    let call = Call::Pass { name };
+    let call = AskRef::Pass { name };
     Some(Line::Calls { call, times })
 }
 

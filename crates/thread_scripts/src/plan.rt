@@ -4,7 +4,8 @@ ghost use Rattle.std.specs.Prelude.{◌≡◌, ℕ, ◌<◌, ◌≤◌, ◌==◌
 ghost use Rattle.std.specs.List.{sum_by};
 ghost use Rattle.cluster_model.specs.Worlds.{is_cluster_size};
 
-use crate::call::{Call, Start};
+use crate::call::Start;
+use node_core::AskRef;
 
 /// How many nodes there are, 1 to 32, and how many calls each of them accepts.
 #[derive(Clone, Copy)]
@@ -17,7 +18,7 @@ pub struct Size {
 /// A call that is made so many times.
 #[derive(Clone, Copy)]
 pub struct CallLine<'a> {
-    pub call: Call<'a>,
+    pub call: AskRef<'a>,
     pub times: u16,
 }
 

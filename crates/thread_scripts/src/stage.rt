@@ -2,13 +2,14 @@
 
 ghost use Rattle.std.specs.Prelude.{◌≡◌, ◌<◌, ◌≤◌, ◌==◌, ◌++◌, ◌∷◌, [], count_by, option_map, true, IfOk};
 ghost use Rattle.cluster_model.specs.Worlds.{is_cluster_size};
-ghost use Rattle.thread_scripts.specs.Calls.{call_value};
+ghost use Rattle.node_calls.specs.Told.{ask_ref_told};
 ghost use Rattle.thread_scripts.specs.Lines.{line_value};
 ghost use Rattle.thread_scripts.specs.Plans.{add_calls, after_empty, after_line, after_sized, after_started, after_text, after_working, begin_block, block_value, plan_value, stage_value, whole_plan, with_block};
 
-use crate::call::Call;
 use crate::line::{Line, read_line};
 use crate::plan::{Block, CallLine, Size, StartLine, ThreadPlan, Working};
+use message_format::MAX_NODES;
+use node_core::AskRef;
 use scripts::is_skipped;
 use std::alloc::{AllocError, Global};
 
@@ -63,11 +64,11 @@ fn with_block(working: Working<'_>) -> Result<ThreadPlan<'_>, AllocError>
 // The calls behind those of the last block, where these aren't too many.
 fn add_calls<'a>(
     working: Working<'a>,
-    call: Call<'a>,
+    call: AskRef<'a>,
     times: u16,
 ) -> Result<Option<Stage<'a>>, AllocError>
     ensures { IfOk result (λ stage. option_map stage_value stage
-        ≡ add_calls (plan_value working.entry.plan) (block_value working.entry.last) (call_value call.entry) times) }
+        ≡ add_calls (plan_value working.entry.plan) (block_value working.entry.last) (ask_ref_told call.entry) times) }
 {
     let Working { plan, last } = working;
     let Block {
@@ -87,10 +88,12 @@ fn after_empty(line: Line<'_>) -> Option<Stage<'_>>
     ensures { option_map stage_value result ≡ after_empty (line_value line.entry) }
 {
     match line {
-        Line::Nodes { count, trace_cap } if 1 <= count && count <= 32 => Some(Stage::Sized(Size {
-            nodes: count,
-            trace_cap,
-        })),
+        Line::Nodes { count, trace_cap } if 1 <= count && count <= MAX_NODES => Some(Stage::Sized(
+            Size {
+                nodes: count,
+                trace_cap,
+            },
+        )),
         Line::Nodes { .. }
         | Line::Seed(_)
         | Line::Start { .. }

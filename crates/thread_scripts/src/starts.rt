@@ -2,10 +2,10 @@
 
 ghost use Rattle.std.specs.Prelude.{◌≡◌, vec_len, IfOk, OnOk};
 
-use crate::call::{Call, Start, ask_of};
+use crate::call::Start;
 use crate::plan::StartLine;
 use gossip::{Ended, spread};
-use node_core::{NodeFault, Receipt};
+use node_core::{AskRef, NodeFault, Receipt};
 use node_registry::{Label, Registry, Seat};
 use std::alloc::{AllocError, Global};
 use std::sync::Wait;
@@ -16,14 +16,14 @@ fn make_call<L: Label, R: Wait>(
     alloc: Global,
     registry: &Registry<L>,
     seat: &mut Seat<L>,
-    call: &Call<'_>,
+    call: AskRef<'_>,
     receipts: &mut Vec<Receipt>,
 ) -> Result<(), AllocError>
     requires { seat.old ≡ vec_len receipts.old }
     ensures { OnOk result (seat.new ≡ vec_len receipts.new) }
 {
-    let ask = ask_of(alloc, call)?;
-    match registry.enter(rt, alloc, seat, &ask) {
+    let ask = call.copied(alloc)?;
+    match registry.enter_owned(rt, alloc, seat, ask) {
         Ok(receipt) => {
             receipts.push(receipt)?;
             Ok(())
@@ -71,7 +71,7 @@ pub(crate) fn make_starts<L: Label, R: Wait>(
         if line.node == node {
             match &line.start {
                 Start::Call(call) => {
-                    make_call(rt, alloc, registry, &mut seat, call, &mut receipts)?;
+                    make_call(rt, alloc, registry, &mut seat, *call, &mut receipts)?;
                 }
                 Start::Spread { name } => {
                     spread_rights(rt, alloc, registry, &mut seat, name, &mut receipts)?;

@@ -1,7 +1,7 @@
 use Rattle.std.proofs.Common.{◌≡◌, Option, Some, None, ap, sym, ◌∙◌}
 use Rattle.std.specs.Prelude.{option_map}
 use Rattle.std.specs.Option.{option_copied}
-use Rattle.audit.specs.Told.{Told, told}
+use Rattle.node_calls.specs.Told.{Told, told}
 use Rattle.audit.proofs.Runs.{entry_read}
 use Rattle.audit.proofs.Seen.{told_past}
 use Rattle.audit.proofs.receipts.is_receipt_of.Goals as goal

@@ -1,4 +1,4 @@
-use Rattle.audit.specs.Told.{told}
+use Rattle.node_calls.specs.Told.{told}
 use Rattle.drills.proofs.Puts.{put_behind}
 use Rattle.drills.proofs.drill.with_entry.Goals as goal
 

@@ -1,6 +1,6 @@
 use Rattle.std.proofs.lemmas.Result.{IfOk-weaker}
 use Rattle.std.specs.String.{string_bytes}
-use Rattle.audit.specs.Told.{told}
+use Rattle.node_calls.specs.Told.{told}
 use Rattle.drills.specs.Lines.{entry}
 use Rattle.drills.proofs.Said.{said}
 use Rattle.drills.proofs.line_text.entry_text.Goals as goal

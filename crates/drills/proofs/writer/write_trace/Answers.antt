@@ -2,7 +2,7 @@ use Rattle.std.proofs.Common.{[], ◌∷◌, map, sym, ap, ◌∙◌}
 use Rattle.std.specs.String.{string_bytes}
 use Rattle.std.proofs.lemmas.List.{take_all}
 use Rattle.scripts.specs.Watched.{has_failed, inner_of}
-use Rattle.audit.specs.Told.{told}
+use Rattle.node_calls.specs.Told.{told}
 use Rattle.drills.specs.Lines.{trace, entry}
 use Rattle.drills.proofs.Growing.{both, mapped, none_yet, not_failed, one_line}
 use Rattle.drills.proofs.writer.write_trace.Goals as goal

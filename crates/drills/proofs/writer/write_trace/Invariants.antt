@@ -1,6 +1,6 @@
 use Rattle.std.proofs.Common.{◌≡◌, false, map, take}
 use Rattle.scripts.specs.Watched.{has_failed, inner_of}
-use Rattle.audit.specs.Told.{told}
+use Rattle.node_calls.specs.Told.{told}
 use Rattle.drills.specs.Lines.{entry}
 use Rattle.drills.proofs.Growing.{Holds}
 use Rattle.drills.proofs.writer.write_trace.Given as goal

@@ -1,7 +1,7 @@
 use Rattle.std.proofs.Common.{[], map, sym, ap}
 use Rattle.std.proofs.lemmas.List.{take_all}
 use Rattle.scripts.specs.Watched.{has_failed, inner_of}
-use Rattle.audit.specs.Told.{told}
+use Rattle.node_calls.specs.Told.{told}
 use Rattle.drills.specs.Drills.{trace_lines, traces_told, numbered}
 use Rattle.drills.proofs.Growing.{both, none_yet, not_failed, one_part}
 use Rattle.drills.proofs.writer.write_traces.Goals as goal

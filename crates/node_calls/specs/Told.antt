@@ -3,6 +3,8 @@ use Rattle.std.specs.Prelude.{ℕ, Bool, List, string_bytes, Option, Some, None}
 use Rattle.stamp_register.specs.declared.key.Stamp.{Stamp}
 use Rattle.node_calls.specs.declared.ask.Ask.{Ask}
 use Rattle.node_calls.specs.declared.ask.Ask.TheVariants as asks
+use Rattle.node_calls.specs.declared.ask_ref.AskRef.{AskRef}
+use Rattle.node_calls.specs.declared.ask_ref.AskRef.TheVariants as refs
 use Rattle.node_calls.specs.declared.reply.Reply.{Reply}
 use Rattle.node_calls.specs.declared.reply.Reply.TheVariants as replies
 use Rattle.node_calls.specs.declared.trace.Entry.{Entry}
@@ -28,6 +30,17 @@ ask_told (asks.Shift name term to amount) = shifts (string_bytes name) term to a
 ask_told (asks.Grant name term amount) = grants (string_bytes name) term amount
 ask_told (asks.Emit to) = emits to
 ask_told (asks.Deliver bytes) = delivers bytes.items
+
+-- the same of an ask that lies elsewhere
+abbrev pub ask_ref_told : AskRef → AskTold
+ask_ref_told (refs.Set name text) = sets name.now text.now
+ask_ref_told (refs.Remove name) = removes name.now
+ask_ref_told (refs.Load text) = loads text.now
+ask_ref_told (refs.Pass name) = passes name.now
+ask_ref_told (refs.Shift name term to amount) = shifts name.now term to amount
+ask_ref_told (refs.Grant name term amount) = grants name.now term amount
+ask_ref_told (refs.Emit to) = emits to
+ask_ref_told (refs.Deliver bytes) = delivers bytes.now
 
 -- what was answered
 pub data ReplyTold : Type 0 where
