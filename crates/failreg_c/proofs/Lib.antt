@@ -1,3 +1,2 @@
 pub mod AsBox
 mod FaultNumbers
-mod StreamWords

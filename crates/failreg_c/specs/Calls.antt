@@ -10,7 +10,7 @@ use Rattle.node_core.specs.Deliveries.{TellsDelta}
 use Rattle.node_core.specs.Passes.{words_for}
 use Rattle.node_core.specs.Refusals.{is_bad_config}
 use Rattle.node_core.specs.Traces.{Kept, Accepts, Emits, IsRefusalOf, after_call, refusal, reply_to, state_known}
-use Rattle.failreg_c.specs.Words.{place_after, words_next}
+use Rattle.node_core.specs.Words.{place_after, words_next}
 use Rattle.failreg_c.specs.Numbers.{no_memory, not_text, number}
 use Rattle.failreg_c.specs.Told.{IsPassTold}
 use Rattle.failreg_c.specs.declared.act.Act.{Act}

@@ -1,6 +1,5 @@
 pub mod Owned
 pub mod Numbers
-pub mod Words
 pub mod Told
 pub mod Calls
 pub mod Pauses

@@ -10,11 +10,10 @@ ghost use Rattle.failreg_c.specs.Told.{no_act};
 ghost use Rattle.failreg_c.specs.Calls.{Both, IsEmitted, IsLeft, IsMade, IsNotOpened, IsOpened, IsPassedDrawing, IsPassedGiven, IsRefused, IsRefusedOf, Stays, words_drawn};
 
 use crate::act::{Act, UNSET};
-use crate::generator::Generator;
 use crate::handle::Node;
 use crate::numbers::{NO_STAMP, Stamped};
 use crate::registry::{Registry, number_of};
-use node_core::{Config, NodeCore, NodeFault};
+use node_core::{Config, Generator, NodeCore, NodeFault};
 use std::alloc::Global;
 
 /// What a call of a node that is closed is answered.

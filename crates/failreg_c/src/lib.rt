@@ -4,7 +4,6 @@
 
 mod act;
 mod calls;
-mod generator;
 mod handle;
 mod numbers;
 mod parts;

@@ -12,10 +12,9 @@ ghost use Rattle.failreg_c.specs.Told.{no_act, text_or_none};
 ghost use Rattle.failreg_c.specs.Calls.{FillsFront, IsEmitted, IsLeft, IsMade, IsNoName, IsPassedDrawing, IsPassedGiven, IsRefused, IsRefusedOf, IsSaid, words_drawn};
 
 use crate::act::{Act, UNSET, act_of};
-use crate::generator::{Generator, pass_drawing};
 use crate::numbers::NO_STAMP;
 use actions::{Name, NameFault};
-use node_core::{NodeCore, NodeFault};
+use node_core::{Generator, NodeCore, NodeFault};
 use stamp_register::Stamp;
 use std::alloc::Global;
 
@@ -187,7 +186,7 @@ impl Registry {
         let Ok(name) = str::from_utf8(name) else {
             return (self.refuse_text(), UNSET);
         };
-        match pass_drawing(&mut self.core, &mut self.generator, alloc, name) {
+        match self.core.pass_generating(alloc, name, &mut self.generator) {
             Ok((words, reply)) => {
                 let (act, text) = act_of(alloc, reply);
                 self.said = text;

@@ -12,7 +12,8 @@ use Rattle.stamp_register.proofs.KeyLemmas.{same_key-true, true-same_key, same_k
 use Rattle.replica_state.specs.Operations.{Operation, Set, Count, Hits, Execs, Shifts}
 use Rattle.replica_state.specs.States.{State, granted_in}
 use Rattle.replica_state.specs.Knowledge.{knows_count}
-use Rattle.replica_state.specs.Points.{key_standing}
+use Rattle.replica_state.specs.Points.{Held, key_standing}
+use Rattle.replica_state.specs.Cells.{held_at}
 use Rattle.message_format.specs.declared.message.NameEntry.{NameEntry}
 use Rattle.message_format.specs.Messages.{EntryValue, entry_value, operations_of, hits_in, execs_in, shifts_in, grants_in}
 use Rattle.node_core.specs.Refusals.{is_ahead}
@@ -86,23 +87,23 @@ module _ (i : ℕ) (v : State) (e : EntryValue) where
   order = key_standing e.key (v.key e.name)
 
   pub entry_ahead : list_any (is_ahead i v) (operations_of e) ≡
-      ((e.key.node == i && is_gt order) || (are_hits_ahead i v e.name e.hits || (are_execs_ahead i v e.name order e.execs ||
-      (are_shifts_ahead i v e.name order e.shifts || are_grants_ahead i v e.name order e.grants))))
+      ((e.key.node == i && is_gt order) || (are_hits_ahead i (held_at v e.name) e.hits || (are_execs_ahead i (held_at v e.name) order e.execs ||
+      (are_shifts_ahead i (held_at v e.name) order e.shifts || are_grants_ahead i (held_at v e.name) order e.grants))))
   entry_ahead = λ j. (key_ahead i v e.name e.key (v.key e.name) refl j) || (cells j)
     where
-      hits : list_any (is_ahead i v) (hits_in e.name e.hits) ≡ are_hits_ahead i v e.name e.hits
+      hits : list_any (is_ahead i v) (hits_in e.name e.hits) ≡ are_hits_ahead i (held_at v e.name) e.hits
       hits = any_map (is_ahead i v) (λ c. Count (Hits e.name c.0) c.1) e.hits
           ∙ any_same _ (λ c. c.0 == i && nat_lt (v.hits e.name i) c.1) e.hits (λ c. its_own i c.0 (λ j. not (nat_le c.1 (v.hits e.name j))) ∙ ap (λ b. c.0 == i && b) (over (v.hits e.name i) c.1))
 
-      execs : list_any (is_ahead i v) (execs_in e.name e.key e.execs) ≡ are_execs_ahead i v e.name order e.execs
+      execs : list_any (is_ahead i v) (execs_in e.name e.key e.execs) ≡ are_execs_ahead i (held_at v e.name) order e.execs
       execs = any_map (is_ahead i v) (λ c. Count (Execs e.name e.key c.0 c.1) c.2) e.execs
           ∙ any_same _ (λ c. c.1 == i && ahead_by order (v.execs e.name c.0 i) c.2) e.execs (λ c. its_own i c.1 (λ j. not (knows_count e.key c.2 (v.execs e.name c.0 j) (v.key e.name))) ∙ ap (λ b. c.1 == i && b) (count_ahead e.key (v.execs e.name c.0 i) c.2 (v.key e.name)))
 
-      shifts : list_any (is_ahead i v) (shifts_in e.name e.key e.shifts) ≡ are_shifts_ahead i v e.name order e.shifts
+      shifts : list_any (is_ahead i v) (shifts_in e.name e.key e.shifts) ≡ are_shifts_ahead i (held_at v e.name) order e.shifts
       shifts = any_map (is_ahead i v) (λ c. Count (Shifts e.name e.key c.0 c.1 c.2) c.3) e.shifts
           ∙ any_same _ (λ c. c.1 == i && ahead_by order (v.shifts e.name c.0 i c.2) c.3) e.shifts (λ c. its_own i c.1 (λ j. not (knows_count e.key c.3 (v.shifts e.name c.0 j c.2) (v.key e.name))) ∙ ap (λ b. c.1 == i && b) (count_ahead e.key (v.shifts e.name c.0 i c.2) c.3 (v.key e.name)))
 
-      grants : list_any (is_ahead i v) (grants_in e.name e.key e.grants) ≡ are_grants_ahead i v e.name order e.grants
+      grants : list_any (is_ahead i v) (grants_in e.name e.key e.grants) ≡ are_grants_ahead i (held_at v e.name) order e.grants
       grants = any_map (is_ahead i v) (λ c. Count (Shifts e.name e.key c.0 c.1 c.1) c.2) e.grants
           ∙ any_same _ (λ c. c.1 == i && ahead_by order (granted_in v e.name c.0 i) c.2) e.grants
           (λ c. its_own i c.1 (λ j. not (knows_count e.key c.2 (granted_in v e.name c.0 j) (v.key e.name))) ∙ ap (λ b. c.1 == i && b) (count_ahead e.key (granted_in v e.name c.0 i) c.2 (v.key e.name)))
@@ -112,18 +113,20 @@ module _ (i : ℕ) (v : State) (e : EntryValue) where
       then_any ops rest a b h k = list_any-append (is_ahead i v) ops rest ∙ (λ j. (h j) || (k j))
 
       cells : list_any (is_ahead i v) (hits_in e.name e.hits ++ (execs_in e.name e.key e.execs ++ (shifts_in e.name e.key e.shifts ++ grants_in e.name e.key e.grants))) ≡
-          (are_hits_ahead i v e.name e.hits || (are_execs_ahead i v e.name order e.execs || (are_shifts_ahead i v e.name order e.shifts || are_grants_ahead i v e.name order e.grants)))
+          (are_hits_ahead i (held_at v e.name) e.hits || (are_execs_ahead i (held_at v e.name) order e.execs || (are_shifts_ahead i (held_at v e.name) order e.shifts || are_grants_ahead i (held_at v e.name) order e.grants)))
       cells =
           then_any (hits_in e.name e.hits) _ _ _ hits
           (then_any (execs_in e.name e.key e.execs) _ _ _ execs
           (then_any (shifts_in e.name e.key e.shifts) (grants_in e.name e.key e.grants) _ _ shifts grants))
 
-  -- the same, test by test
-  pub ahead_is : (o : Ordering) → o ≡ order → (keys hits execs shifts grants : Bool) → keys ≡ (e.key.node == i && is_gt o) → hits ≡ are_hits_ahead i v e.name e.hits →
-      execs ≡ are_execs_ahead i v e.name o e.execs → shifts ≡ are_shifts_ahead i v e.name o e.shifts → grants ≡ are_grants_ahead i v e.name o e.grants →
+  -- the same, test by test, of what is held of the name
+  pub ahead_is : (h : Held) → h ≡ held_at v e.name → (o : Ordering) → o ≡ key_standing e.key h.key → (keys hits execs shifts grants : Bool) → keys ≡ (e.key.node == i && is_gt o) → hits ≡ are_hits_ahead i h e.hits →
+      execs ≡ are_execs_ahead i h o e.execs → shifts ≡ are_shifts_ahead i h o e.shifts → grants ≡ are_grants_ahead i h o e.grants →
       (keys || (hits || (execs || (shifts || grants)))) ≡ list_any (is_ahead i v) (operations_of e)
-  ahead_is o at keys hits execs shifts grants k h x s g =
-      (λ j. (k j) || ((h j) || ((x j) || ((s j) || (g j)))))
-      ∙ (λ j. (e.key.node == i && is_gt (at j)) || (are_hits_ahead i v e.name e.hits || (are_execs_ahead i v e.name (at j) e.execs ||
-      (are_shifts_ahead i v e.name (at j) e.shifts || are_grants_ahead i v e.name (at j) e.grants))))
+  ahead_is h is o at keys hits execs shifts grants k n x s g =
+      (λ j. (k j) || ((n j) || ((x j) || ((s j) || (g j)))))
+      ∙ (λ j. (e.key.node == i && is_gt (at j)) || (are_hits_ahead i h e.hits || (are_execs_ahead i h (at j) e.execs ||
+      (are_shifts_ahead i h (at j) e.shifts || are_grants_ahead i h (at j) e.grants))))
+      ∙ ap (λ (m : Held). (e.key.node == i && is_gt (key_standing e.key m.key)) || (are_hits_ahead i m e.hits || (are_execs_ahead i m (key_standing e.key m.key) e.execs ||
+      (are_shifts_ahead i m (key_standing e.key m.key) e.shifts || are_grants_ahead i m (key_standing e.key m.key) e.grants)))) is
       ∙ sym entry_ahead

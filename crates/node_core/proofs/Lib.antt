@@ -1,3 +1,4 @@
+pub mod StreamWords
 pub mod OwnRights
 pub mod TraceLemmas
 pub mod LegalTraces

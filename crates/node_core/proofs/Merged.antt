@@ -10,6 +10,7 @@ use Rattle.stamp_register.specs.Keys.{KeyValue}
 use Rattle.replica_state.specs.Operations.{Operation, Cell, Set, Count, Hits, Execs, Shifts, count_at}
 use Rattle.replica_state.specs.States.{State, granted_in, granted_of}
 use Rattle.replica_state.specs.Folds.{fold, name_in, key_of, number_at, at_key}
+use Rattle.replica_state.specs.Cells.{held_at}
 use Rattle.replica_state.specs.Unions.{key_order, number_both, with_names, union_of}
 use Rattle.replica_state.proofs.Sets.{number_at-least}
 use Rattle.replica_state.proofs.SetJoins.{fold-unites}
@@ -37,7 +38,7 @@ module _ (v t : State) (name : List ℕ) where
   abbrev order : Ordering
   order = key_order (t.key name) (v.key name)
 
-  terms_by : (o : Ordering) → order ≡ o → terms_in (setting_of (union_of v t) name) ≡ terms_both o v t name
+  terms_by : (o : Ordering) → order ≡ o → terms_in (setting_of (union_of v t) name) ≡ terms_both o (held_at v name) (held_at t name)
   unfolding union_of
   terms_by Less e = ap (λ k. terms_in (setting_in k)) (stands_below (v.key name) (t.key name) e).1
   terms_by Equal e = ap (λ k. terms_in (setting_in k)) (stands_equal (v.key name) (t.key name) e).1
@@ -97,13 +98,13 @@ module _ (nodes : ℕ) (ops : List Operation) (lawful : AreLawful nodes ops) (no
   no_grants name term = none_under (λ key. Shifts name key term node node) (λ key n h. h.3) (key_of name ops)
 
 module _ (nodes : ℕ) (few : nodes ≤ node_numbers) (ops known : List Operation) (v t : State) (is_v : v ≡ fold known) (is_t : t ≡ fold ops) (lawful : AreLawful nodes known) (brought : AreLawful nodes ops) where
-  all_execs : (name : List ℕ) (term : ℕ) → sum_below node_numbers ((union_of v t).execs name term) ≡ execs_both nodes (key_order (t.key name) (v.key name)) v t name term
+  all_execs : (name : List ℕ) (term : ℕ) → sum_below node_numbers ((union_of v t).execs name term) ≡ execs_both nodes (key_order (t.key name) (v.key name)) (held_at v name) (held_at t name) term
   all_execs name term =
       sum_both nodes few (key_order (t.key name) (v.key name)) (v.execs name term) (t.execs name term) ((union_of v t).execs name term) (execs_united v t name term)
       (λ node high. ap (λ (s : State). s.execs name term node) is_v ∙ no_execs nodes known lawful node high name term)
       (λ node high. ap (λ (s : State). s.execs name term node) is_t ∙ no_execs nodes ops brought node high name term)
 
-  all_grants : (name : List ℕ) (term : ℕ) → granted_of (union_of v t) name term ≡ granted_both nodes (key_order (t.key name) (v.key name)) v t name term
+  all_grants : (name : List ℕ) (term : ℕ) → granted_of (union_of v t) name term ≡ granted_both nodes (key_order (t.key name) (v.key name)) (held_at v name) (held_at t name) term
   all_grants name term =
       sum_both nodes few (key_order (t.key name) (v.key name)) (granted_in v name term) (granted_in t name term) (granted_in (union_of v t) name term) (granted_united v t name term)
       (λ node high. ap (λ (s : State). granted_in s name term node) is_v ∙ no_grants nodes known lawful node high name term)
@@ -112,8 +113,8 @@ module _ (nodes : ℕ) (few : nodes ≤ node_numbers) (ops known : List Operatio
   name_overspent : (name : List ℕ) → is_overspent (union_of v t) name (terms_in (setting_of (union_of v t) name)) ≡ is_overspent_below nodes v t name
   name_overspent name =
       ap (is_overspent (union_of v t) name) (terms_by v t name (key_order (t.key name) (v.key name)) refl)
-      ∙ any_same (length (terms_both (key_order (t.key name) (v.key name)) v t name)) _ _
-      (λ term i. exceeds_count (count_at (terms_both (key_order (t.key name) (v.key name)) v t name) term) (all_grants name term i) (all_execs name term i))
+      ∙ any_same (length (terms_both (key_order (t.key name) (v.key name)) (held_at v name) (held_at t name))) _ _
+      (λ term i. exceeds_count (count_at (terms_both (key_order (t.key name) (v.key name)) (held_at v name) (held_at t name)) term) (all_grants name term i) (all_execs name term i))
 
   -- each operation of an entry is of its name
   abbrev here : List ℕ → Bool

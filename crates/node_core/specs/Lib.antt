@@ -2,6 +2,7 @@ pub mod Replicas
 pub mod Nodes
 pub mod Stamps
 pub mod Passes
+pub mod Words
 pub mod Steps
 pub mod Outcomes
 pub mod Refusals

@@ -6,6 +6,7 @@ ghost use Rattle.std.specs.Ordering.{is_gt};
 ghost use Rattle.stamp_register.specs.Keys.{key_value};
 ghost use Rattle.replica_state.specs.Folds.{clock_of};
 ghost use Rattle.replica_state.specs.Points.{key_standing};
+ghost use Rattle.replica_state.specs.Slots.{reader_held};
 ghost use Rattle.node_core.specs.Replicas.{state_in};
 ghost use Rattle.replica_state.specs.Operations.{count_at};
 ghost use Rattle.replica_state.specs.Unions.{key_order, number_both};
@@ -17,11 +18,10 @@ ghost use Rattle.node_core.specs.Refusals.{bad_message, wire_refusal, says_more}
 ghost use Rattle.node_core.specs.Deliveries.{ahead_by, are_hits_ahead, are_execs_ahead, are_shifts_ahead, are_grants_ahead, are_overspent, execs_both, granted_both, is_overspent_below, terms_both};
 
 use crate::State;
-use crate::setting::setting_at;
 use actions::{Actions, Name};
 use delta_exchange::{Message, NameEntry, WireFault, decode};
 use node_calls::NodeFault;
-use replica_state::Replica;
+use replica_state::PointReader;
 use stamp_register::Key;
 use std::alloc::Global;
 use std::cmp::Ordering;
@@ -60,11 +60,11 @@ pub(crate) fn read_message(alloc: Global, nodes: u8, bytes: &[u8]) -> Result<Mes
     }
 }
 
-/// How a key that is told of a name stands to the one that is held.
-fn standing(state: &State, name: &Name, key: &Key) -> Ordering
-    ensures { result ≡ key_standing (key_value key.now) ((state_in state.now).key name.now) }
+/// How a key that is told stands to the one that is held.
+fn standing(held: PointReader, key: &Key) -> Ordering
+    ensures { result ≡ key_standing (key_value key.now) (reader_held held.entry).key }
 {
-    match state.key(name) {
+    match held.key() {
         Some(held) => key.cmp(held),
         None => Ordering::Greater,
     }
@@ -91,75 +91,64 @@ fn is_number_ahead(order: Ordering, own: u64, other: u64) -> bool
 }
 
 /// Whether more hits of a node's own are told than it knows itself.
-fn are_hits_ahead(state: &State, me: u8, name: &Name, hits: &[(u8, u64)]) -> bool
-    ensures { result ≡ are_hits_ahead me (state_in state.now) name.now hits.now }
+fn are_hits_ahead(held: PointReader, me: u8, hits: &[(u8, u64)]) -> bool
+    ensures { result ≡ are_hits_ahead me (reader_held held.entry) hits.now }
 {
-    hits.iter().any(|(node, number)| *node == me && state.hits(name, me) < *number)
+    hits.iter()
+        .any(|(node, number)| *node == me && held.hits(me) < *number)
 }
 
 /// Whether more executions of a node's own are told, under a key that stands so, than it knows
 /// itself.
-fn are_execs_ahead(
-    state: &State,
-    me: u8,
-    name: &Name,
-    order: Ordering,
-    execs: &[(u8, u8, u64)],
-) -> bool
-    ensures { result ≡ are_execs_ahead me (state_in state.now) name.now order execs.now }
+fn are_execs_ahead(held: PointReader, me: u8, order: Ordering, execs: &[(u8, u8, u64)]) -> bool
+    ensures { result ≡ are_execs_ahead me (reader_held held.entry) order execs.now }
 {
     execs.iter().any(|(term, node, number)| *node == me
-        && is_number_ahead(order, state.exec(name, *term, me), *number))
+        && is_number_ahead(order, held.exec(*term, me), *number))
 }
 
 /// Whether it is told that a node moved more rights, under a key that stands so, than it knows
 /// itself.
 fn are_shifts_ahead(
-    state: &State,
+    held: PointReader,
     me: u8,
-    name: &Name,
     order: Ordering,
     shifts: &[(u8, u8, u8, u64)],
 ) -> bool
-    ensures { result ≡ are_shifts_ahead me (state_in state.now) name.now order shifts.now }
+    ensures { result ≡ are_shifts_ahead me (reader_held held.entry) order shifts.now }
 {
     shifts.iter().any(|(term, from, to, number)| *from == me
-        && is_number_ahead(order, state.moved(name, *term, me, *to), *number))
+        && is_number_ahead(order, held.moved(*term, me, *to), *number))
 }
 
 /// Whether it is told that a node granted itself more rights, under a key that stands so, than it
 /// knows itself.
-fn are_grants_ahead(
-    state: &State,
-    me: u8,
-    name: &Name,
-    order: Ordering,
-    grants: &[(u8, u8, u64)],
-) -> bool
-    ensures { result ≡ are_grants_ahead me (state_in state.now) name.now order grants.now }
+fn are_grants_ahead(held: PointReader, me: u8, order: Ordering, grants: &[(u8, u8, u64)]) -> bool
+    ensures { result ≡ are_grants_ahead me (reader_held held.entry) order grants.now }
 {
     grants.iter().any(|(term, node, number)| *node == me
-        && is_number_ahead(order, state.granted(name, *term, me), *number))
+        && is_number_ahead(order, held.granted(*term, me), *number))
 }
 
 /// Whether an entry says more of this node than it knows itself.
 fn is_entry_ahead(state: &State, me: u8, entry: &NameEntry) -> bool
     ensures { result ≡ says_more me (state_in state.now) (operations_of (entry_value entry.now)) }
 {
-    let order = standing(state, &entry.name, &entry.key);
+    let held = state.point(&entry.name);
+    let order = standing(held, &entry.key);
     if is_key_ahead(order, me, entry.key.node) {
         return true;
     }
-    if are_hits_ahead(state, me, &entry.name, &entry.hits) {
+    if are_hits_ahead(held, me, &entry.hits) {
         return true;
     }
-    if are_execs_ahead(state, me, &entry.name, order, &entry.execs) {
+    if are_execs_ahead(held, me, order, &entry.execs) {
         return true;
     }
-    if are_shifts_ahead(state, me, &entry.name, order, &entry.shifts) {
+    if are_shifts_ahead(held, me, order, &entry.shifts) {
         return true;
     }
-    are_grants_ahead(state, me, &entry.name, order, &entry.grants)
+    are_grants_ahead(held, me, order, &entry.grants)
 }
 
 /// Whether one of the entries says more of this node than it knows itself.
@@ -189,13 +178,13 @@ pub(crate) fn latest_clock(entries: &[NameEntry]) -> u64
 }
 
 /// How the key that another state holds of a name stands to the one that is held here.
-fn standing_of(state: &State, brought: &State, name: &Name) -> Ordering
-    ensures { result ≡ key_order ((state_in brought.now).key name.now) ((state_in state.now).key name.now) }
+fn standing_of(held: PointReader, brought: PointReader) -> Ordering
+    ensures { result ≡ key_order (reader_held brought.entry).key (reader_held held.entry).key }
 {
-    if let Some(key) = brought.key(name) {
-        return standing(state, name, key);
+    if let Some(key) = brought.key() {
+        return standing(held, key);
     }
-    match state.key(name) {
+    match held.key() {
         Some(_) => Ordering::Less,
         None => Ordering::Equal,
     }
@@ -214,21 +203,14 @@ fn number_both(order: Ordering, held: u64, other: u64) -> u64
 
 /// The executions of a term at all nodes once both states are one, where the key that is told
 /// stands so.
-fn execs_both(
-    nodes: u8,
-    order: Ordering,
-    state: &State,
-    brought: &State,
-    name: &Name,
-    term: u8,
-) -> u128
-    ensures { result ≡ execs_both nodes order (state_in state.now) (state_in brought.now) name.now term }
+fn execs_both(nodes: u8, order: Ordering, held: PointReader, brought: PointReader, term: u8) -> u128
+    ensures { result
+        ≡ execs_both nodes order (reader_held held.entry) (reader_held brought.entry) term }
 {
     let mut sum = 0u128;
     for node in 0..nodes {
-        let held = state.exec(name, term, node);
-        let other = brought.exec(name, term, node);
-        sum += u128::from(number_both(order, held, other));
+        let both = number_both(order, held.exec(term, node), brought.exec(term, node));
+        sum += u128::from(both);
     }
     sum
 }
@@ -238,20 +220,18 @@ fn execs_both(
 fn granted_both(
     nodes: u8,
     order: Ordering,
-    state: &State,
-    brought: &State,
-    name: &Name,
+    held: PointReader,
+    brought: PointReader,
     term: u8,
 ) -> u128
     ensures value { result
-        ≡ granted_both nodes order (state_in state.now) (state_in brought.now) name.now term }
+        ≡ granted_both nodes order (reader_held held.entry) (reader_held brought.entry) term }
     ensures small { result ≤ nodes * 2 ^ 64 }
 {
     let mut sum = 0u128;
     for node in 0..nodes {
-        let held = state.granted(name, term, node);
-        let other = brought.granted(name, term, node);
-        sum += u128::from(number_both(order, held, other));
+        let both = number_both(order, held.granted(term, node), brought.granted(term, node));
+        sum += u128::from(both);
     }
     sum
 }
@@ -261,20 +241,19 @@ fn granted_both(
 fn is_term_overspent(
     nodes: u8,
     order: Ordering,
-    state: &State,
-    brought: &State,
-    name: &Name,
+    held: PointReader,
+    brought: PointReader,
     actions: &Actions,
 ) -> bool
-    ensures { result
-        ≡ are_overspent nodes order (state_in state.now) (state_in brought.now) name.now actions.now }
+    ensures { result ≡ are_overspent nodes order
+        (reader_held held.entry) (reader_held brought.entry) actions.now }
 {
     for term in 0..actions.len() {
         if let Some(count) = count_at(actions, term as u8) {
-            let spent = execs_both(nodes, order, state, brought, name, term as u8);
+            let spent = execs_both(nodes, order, held, brought, term as u8);
             let count = u128::from(count);
             if spent > count
-                && spent > count + granted_both(nodes, order, state, brought, name, term as u8)
+                && spent > count + granted_both(nodes, order, held, brought, term as u8)
             {
                 return true;
             }
@@ -286,29 +265,29 @@ fn is_term_overspent(
 /// What a point is set to once both states are one, if it is set.
 fn actions_both<'a>(
     order: Ordering,
-    state: &'a State,
-    brought: &'a State,
-    name: &Name,
+    held: PointReader<'a>,
+    brought: PointReader<'a>,
 ) -> Option<&'a Actions>
     ensures { MatchOption result
-        (terms_both order (state_in state.now) (state_in brought.now) name.now ≡ [])
-        (λ a. terms_both order (state_in state.now) (state_in brought.now) name.now ≡ a.now) }
+        (terms_both order (reader_held held.entry) (reader_held brought.entry) ≡ [])
+        (λ a. terms_both order (reader_held held.entry) (reader_held brought.entry) ≡ a.now) }
 {
     let holder = match order {
-        Ordering::Less => state,
-        _ => brought,
+        Ordering::Less => held,
+        Ordering::Equal | Ordering::Greater => brought,
     };
-    let (_, actions) = setting_at(holder, name)?;
-    Some(actions)
+    holder.key()?.actions()
 }
 
 /// Whether a name would have a term that is executed more often than it is counted and granted.
 fn is_name_overspent(nodes: u8, state: &State, brought: &State, name: &Name) -> bool
     ensures { result ≡ is_overspent_below nodes (state_in state.now) (state_in brought.now) name.now }
 {
-    let order = standing_of(state, brought, name);
-    match actions_both(order, state, brought, name) {
-        Some(actions) => is_term_overspent(nodes, order, state, brought, name, actions),
+    let held = state.point(name);
+    let brought = brought.point(name);
+    let order = standing_of(held, brought);
+    match actions_both(order, held, brought) {
+        Some(actions) => is_term_overspent(nodes, order, held, brought, actions),
         None => false,
     }
 }

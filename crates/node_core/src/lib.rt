@@ -4,6 +4,7 @@
 
 mod config;
 mod delivery;
+mod generator;
 pub mod laws;
 mod list;
 mod node;
@@ -11,8 +12,9 @@ mod setting;
 mod words;
 
 pub use config::Config;
+pub use generator::Generator;
 pub use node::NodeCore;
-pub use node_calls::{Ask, Entry, NodeFault, PassReply, Receipt, Reply, TextFault, Trace};
+pub use node_calls::{Ask, AskRef, Entry, NodeFault, PassReply, Receipt, Reply, TextFault, Trace};
 pub use words::WordSource;
 
 /// What holds a node's state.

@@ -11,7 +11,8 @@ use Rattle.node_calls.specs.declared.trace.Entry.{Entry}
 use Rattle.node_core.specs.Applied.{TellsIfEmit}
 use Rattle.node_calls.specs.Asks.{Asked, Call, ask_value, ask_value_first, is_pass, reply_value}
 use Rattle.node_core.specs.Traces.{Kept, Accepts, IsRefusalOf, Records, call_of}
-use Rattle.node_registry.specs.Words.{words_from, words_next, place_after, words_taken}
+use Rattle.node_core.specs.Words.{words_from, words_next, place_after}
+use Rattle.node_registry.specs.Words.{words_taken}
 use Rattle.node_registry.specs.Cells.{Cell, cell_of, next_words, Enters, IsRefusedBy, IsLawful, IsWithinBounds}
 use Rattle.node_registry.proofs.LawfulCells.{new_lawful, taken_first, stays_lawful, stays_within}
 

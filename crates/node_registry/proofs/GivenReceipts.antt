@@ -10,14 +10,18 @@ use Rattle.node_calls.specs.declared.fault.NodeFault.TheVariants.{OutOfMemory}
 use Rattle.node_calls.specs.declared.receipt.Receipt.{Receipt}
 use Rattle.node_calls.specs.declared.reply.Reply.{Reply}
 use Rattle.node_calls.specs.Asks.{Asked, ask_value, ask_value_first, bytes_of}
-use Rattle.node_registry.specs.Cells.{Cell, Enters, IsLawfulAt, IsRefusedBy, new_cell}
-use Rattle.node_registry.specs.Receipts.{receipt_of, IsGiven, IsReceiptOf, IsRefused}
+use Rattle.node_registry.specs.Cells.{Cell, Enters, IsLawfulAt, IsRefusedBy, Submits, new_cell}
+use Rattle.node_registry.specs.Receipts.{receipt_of, IsAnswered, IsGiven, IsReceiptOf, IsRefused}
 use Rattle.node_registry.proofs.LawfulCells.{new_lawful}
 
 module _ (config : Config) (c : Cell) (lawful : IsLawfulAt config c) where
   pub is_given : (d : Cell) (r : Result Receipt NodeFault) → IfOk r (λ x. Enters c d x.entry) → IfOk r (λ x. x ≡ receipt_of c x.entry) → IfOk r (IsGiven config)
   is_given d (Ok x) enters is = (c, d, lawful, enters, is)
   is_given d (Err f) enters is = tt
+
+  pub answered : (d : Cell) (ask : Ask) (reply : Reply) → Submits c d ask reply → IsAnswered config ask reply
+  answered d ask reply (e, of, answer, enters) =
+      (receipt_of c e, ap (λ (k : Config). k.node) lawful.1, of, answer, (c, d, lawful, enters, refl))
 
   pub is_refused : (ask : Ask) (r : Result Receipt NodeFault) → IfErr r (IsRefusedBy c (ask_value_first c.node.config.nodes ask)) → IfErr r (IsRefused config (ask_value_first config.nodes ask))
   is_refused ask (Ok x) h = tt

@@ -1,5 +1,5 @@
 -- A lawful cell stays lawful.
-use Rattle.std.proofs.Common.{◌≡◌, ℕ, ◌+◌, ◌*◌, ◌<◌, ◌≤◌, ◌^◌, Bool, true, false, List, [], ◌∷◌, ◌++◌, length, Option, Some, None, Result, Ok, Err, refl, sym, ap, ◌∙◌, subst, arith, length-append}
+use Rattle.std.proofs.Common.{◌≡◌, ℕ, ◌+◌, ◌*◌, ◌<◌, ◌≤◌, ◌^◌, Bool, true, false, List, [], ◌∷◌, ◌++◌, length, Option, Some, None, Result, Ok, Err, refl, sym, ap, ◌∙◌, subst, arith, length-append, append_assoc, append-nil}
 use Rattle.std.specs.Prelude.{nat_le}
 use Rattle.std.proofs.lemmas.Bool.Decides.{nat_tests}
 use Rattle.std.specs.Bool.{then_some}
@@ -23,9 +23,15 @@ use Rattle.node_core.specs.Refusals.{refusal_at, is_full}
 use Rattle.node_core.specs.Traces.{Kept, SendsDelta, IsLegal, IsLegalFrom, Accepts, Records, node_of, refusal, entry_for, after_call, call_of, replay_from}
 use Rattle.node_core.proofs.LegalTraces.{legal_more, nothing_legal}
 use Rattle.node_core.proofs.RepliedDelta.{delta_sends}
-use Rattle.node_registry.specs.Words.{words_from, words_next, place_after, words_of, words_taken}
+use Rattle.node_core.specs.Words.{words_from, words_next, place_after}
+use Rattle.node_registry.specs.Words.{words_of, words_taken}
 use Rattle.node_registry.specs.Cells.{Cell, cell_of, new_cell, next_words, Enters, IsLawful, IsWithinBounds}
-use Rattle.node_registry.proofs.StreamWords.{words_from-add, words_of-push}
+use Rattle.node_core.proofs.StreamWords.{words_from-add}
+
+-- the random draws of a trace with a call more
+words_of-push : (cs : List Call) (c : Call) → words_of (cs ++ c ∷ []) ≡ words_of cs ++ c.words
+words_of-push [] c = append-nil c.words
+words_of-push (x ∷ cs) c = ap (λ ws. x.words ++ ws) (words_of-push cs c) ∙ sym (append_assoc x.words (words_of cs) c.words)
 
 pub new_lawful : (config : Config) (seed : List ℕ) → IsLawful (new_cell config seed)
 new_lawful config seed = record { legal = nothing_legal config; drawn = refl }

@@ -1,4 +1,3 @@
-pub mod StreamWords
 pub mod LawfulCells
 pub mod EnteredCells
 pub mod GivenReceipts

@@ -3,11 +3,14 @@ use Rattle.std.specs.Prelude.{◌≡◌, ℕ, ◌+◌, ◌*◌, ◌≤◌, ◌<�
 use Rattle.rand_chacha.specs.ChaCha.{ChaCha, key_of}
 use Rattle.node_core.specs.declared.config.Config.{Config}
 use Rattle.node_calls.specs.declared.fault.NodeFault.{NodeFault}
+use Rattle.node_calls.specs.declared.ask.Ask.{Ask}
+use Rattle.node_calls.specs.declared.reply.Reply.{Reply}
 use Rattle.node_calls.specs.declared.trace.Entry.{Entry}
 use Rattle.node_core.specs.Applied.{TellsIfEmit}
 use Rattle.node_calls.specs.Asks.{Asked}
 use Rattle.node_core.specs.Traces.{Kept, IsLegal, IsRefusalOf, Records, call_of}
-use Rattle.node_registry.specs.Words.{words_from, words_of, words_taken}
+use Rattle.node_core.specs.Words.{words_from}
+use Rattle.node_registry.specs.Words.{words_of, words_taken}
 
 -- the node; the key of its generator, whose stream is that of the node's number; and the place of the
 -- generator's next word
@@ -33,6 +36,10 @@ pub record Enters (c d : Cell) (e : Entry) : Type 0 where
   pub tells : TellsIfEmit c.node e.ask e.reply
   pub key : d.key ≡ c.key
   pub place : d.place ≡ c.place + words_taken c.node (call_of c.node e).ask
+
+-- the call of this ask is accepted with the next words and answered so, and the cell is then the second one
+abbrev pub Submits : Cell → Cell → Ask → Reply → Type 0
+Submits c d ask reply = (e : Entry) × (e.ask ≡ ask) × (e.reply ≡ reply) × Enters c d e
 
 -- an ask is refused so with the next words
 abbrev pub IsRefusedBy : Cell → Asked → NodeFault → Type 0

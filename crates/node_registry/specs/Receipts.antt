@@ -4,6 +4,7 @@ use Rattle.node_calls.specs.declared.ask.Ask.{Ask}
 use Rattle.node_core.specs.declared.config.Config.{Config}
 use Rattle.node_calls.specs.declared.fault.NodeFault.{NodeFault}
 use Rattle.node_calls.specs.declared.receipt.Receipt.{Receipt}
+use Rattle.node_calls.specs.declared.reply.Reply.{Reply}
 use Rattle.node_calls.specs.declared.trace.Entry.{Entry}
 use Rattle.node_calls.specs.Asks.{Asked, ask_value, bytes_of}
 use Rattle.node_registry.specs.Cells.{Cell, Enters, IsLawfulAt, IsRefusedBy}
@@ -25,6 +26,11 @@ IsReceiptOf config ask r = (r.node ≡ config.node) × (ask_value config.nodes r
 abbrev pub IsGiven : Config → Receipt → Type 0
 IsGiven config r =
     (c : Cell) × (d : Cell) × IsLawfulAt config c × Enters c d r.entry × (r ≡ receipt_of c r.entry)
+
+-- so is an ask answered: some receipt of it may be given that has this reply
+abbrev pub IsAnswered : Config → Ask → Reply → Type 0
+IsAnswered config ask reply =
+    (r : Receipt) × (r.node ≡ config.node) × (r.entry.ask ≡ ask) × (r.entry.reply ≡ reply) × IsGiven config r
 
 -- some lawful cell of the node refuses the ask so
 abbrev pub IsRefused : Config → Asked → NodeFault → Type 0

@@ -3,12 +3,12 @@
 ghost use Rattle.std.specs.Prelude.{◌≡◌, map, IfOk, IfErr, OnErr, OnOk, IsTrue, false};
 ghost use Rattle.node_calls.specs.Asks.{ask_value_first, call};
 ghost use Rattle.node_core.specs.Refusals.{is_bad_config};
-ghost use Rattle.node_registry.specs.Cells.{Cell, Enters, IsLawful, IsRefusedBy, IsWithinBounds};
+ghost use Rattle.node_registry.specs.Cells.{Cell, Enters, IsLawful, IsRefusedBy, IsWithinBounds, Submits};
 ghost use Rattle.node_registry.specs.Cells.{cell_of, new_cell};
 ghost use Rattle.node_registry.specs.Receipts.{IsEntryFor};
 
-use crate::words::{Generator, call_with_words};
-use node_core::{Ask, Config, Entry, NodeCore, NodeFault, Trace};
+use crate::drawing::{call_with_words, submit_with_words};
+use node_core::{Ask, Config, Entry, Generator, NodeCore, NodeFault, Reply, Trace};
 use std::alloc::Global;
 use std::marker::Model;
 
@@ -85,6 +85,19 @@ impl NodeCell {
         let NodeCell { core, generator } = self;
         let (words, reply) = call_with_words(core, generator, alloc, &ask)?;
         Ok(Entry { ask, words, reply })
+    }
+
+    /// Makes a call as `enter` does, with an ask that goes into the trace, and answers the reply
+    /// alone. The bytes of a message that is delivered aren't copied.
+    pub fn submit(&mut self, alloc: Global, ask: Ask) -> Result<Reply, NodeFault>
+        ensures ok { IfOk result (λ r. Submits self.old self.new ask r) }
+        ensures refused { IfErr result
+            (IsRefusedBy self.old (ask_value_first self.old.node.config.nodes ask)) }
+        ensures err { OnErr result (self.new ≡ self.old) }
+    {
+        let NodeCell { core, generator } = self;
+        let (_, reply) = submit_with_words(core, generator, alloc, ask)?;
+        Ok(reply)
     }
 
     /// The trace.

@@ -4,12 +4,12 @@ ghost use Rattle.std.specs.Prelude.{◌≡◌, ℕ, ◌+◌, ◌≤◌, ◌<◌,
 ghost use Rattle.node_calls.specs.Asks.{ask_value_first, call};
 ghost use Rattle.node_core.specs.Refusals.{is_bad_config};
 ghost use Rattle.node_core.specs.Traces.{IsLegal};
-ghost use Rattle.node_registry.specs.Cells.{Cell, Enters, IsLawfulAt, IsRefusedBy, new_cell};
+ghost use Rattle.node_registry.specs.Cells.{Cell, Enters, IsLawfulAt, IsRefusedBy, Submits, new_cell};
 ghost use Rattle.node_registry.specs.Receipts.{IsEntryFor, receipt_of};
 
 use crate::cell::NodeCell;
 use crate::label::Label;
-use node_core::{Ask, Config, NodeCore, NodeFault, Receipt, Trace};
+use node_core::{Ask, Config, NodeCore, NodeFault, Receipt, Reply, Trace};
 use std::alloc::{AllocError, Global};
 use std::marker::Model;
 use std::sync::ledger::{Blank, Book, Share};
@@ -144,6 +144,31 @@ impl<L: Label> Guarded<L> {
         book.add(share, 1);
         *calls += 1;
         Ok(Receipt { node, index, entry })
+    }
+
+    /// Makes a call as `NodeCell::submit` does, and counts it to the seat.
+    pub fn submit(
+        &mut self,
+        alloc: Global,
+        seat: &mut Seat<L>,
+        ask: Ask,
+    ) -> Result<Reply, NodeFault>
+        ensures ok { IfOk result (λ r. Submits self.old self.new ask r) }
+        ensures counted { OnOk result (seat.new ≡ seat.old + 1) }
+        ensures since { OnOk result (seat.old ≤ length self.old.node.trace) }
+        ensures lawful { IsLawfulAt L.config self.old }
+        ensures refused { IfErr result
+            (IsRefusedBy self.old (ask_value_first self.old.node.config.nodes ask)) }
+        ensures err { OnErr result ((self.new ≡ self.old) × (seat.new ≡ seat.old)) }
+    {
+        let Guarded { cell, book: ledger } = self;
+        let Seat { calls, share } = seat;
+        ledger.audit(share);
+        let _ = cell.core();
+        let reply = cell.submit(alloc, ask)?;
+        ledger.add(share, 1);
+        *calls += 1;
+        Ok(reply)
     }
 
     /// Takes all seats back. The trace is legal, and has as many entries as the seats made calls.

@@ -2,10 +2,10 @@
 #![tactic(auto)]
 
 mod cell;
+mod drawing;
 mod guarded;
 mod label;
 mod registry;
-mod words;
 mod workers;
 
 pub use cell::NodeCell;

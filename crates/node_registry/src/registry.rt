@@ -8,11 +8,11 @@ ghost use Rattle.node_calls.specs.Asks.{emit_asked, message_read};
 ghost use Rattle.node_core.specs.Refusals.{is_bad_config};
 ghost use Rattle.node_core.specs.Traces.{IsLegal};
 ghost use Rattle.node_registry.specs.Cells.{Cell, IsLawfulAt};
-ghost use Rattle.node_registry.specs.Receipts.{IsEntryFor, IsGiven, IsReceiptOf, IsRefused};
+ghost use Rattle.node_registry.specs.Receipts.{IsAnswered, IsEntryFor, IsGiven, IsReceiptOf, IsRefused};
 
 use crate::guarded::{Closed, Guarded, Seat};
 use crate::label::Label;
-use node_core::{Ask, Config, NodeCore, NodeFault, Receipt};
+use node_core::{Ask, Config, NodeCore, NodeFault, Receipt, Reply};
 use std::alloc::Global;
 use std::hint;
 use std::sync::ledger::Blank;
@@ -89,8 +89,8 @@ impl<L: Label> Registry<L> {
         self.enter_owned(rt, alloc, seat, copy)
     }
 
-    /// Makes a call with an ask that goes into the receipt.
-    pub(crate) fn enter_owned<R: Wait>(
+    /// Makes a call as `enter` does, with an ask that goes into the receipt and isn't copied.
+    pub fn enter_owned<R: Wait>(
         &self,
         rt: &R,
         alloc: Global,
@@ -108,6 +108,26 @@ impl<L: Label> Registry<L> {
     {
         let mut guarded = self.held(rt);
         guarded.enter_owned(alloc, seat, ask)
+    }
+
+    /// Makes a call under the lock with an ask that goes into the trace, counts it to the seat, and
+    /// answers the reply alone: there is no receipt of it. The bytes of a message that is delivered
+    /// aren't copied.
+    pub fn submit<R: Wait>(
+        &self,
+        rt: &R,
+        alloc: Global,
+        seat: &mut Seat<L>,
+        ask: Ask,
+    ) -> Result<Reply, NodeFault>
+        ensures answered { IfOk result (IsAnswered L.config ask) }
+        ensures counted { OnOk result (seat.new ≡ seat.old + 1) }
+        ensures refused { IfErr result
+            (IsRefused L.config (ask_value_first L.config.nodes ask)) }
+        ensures err { OnErr result (seat.new ≡ seat.old) }
+    {
+        let mut guarded = self.held(rt);
+        guarded.submit(alloc, seat, ask)
     }
 
     /// Sets a point to an action text.

@@ -75,6 +75,26 @@ impl NodeCore {
         self.answer_with(alloc, ask, words)
     }
 
+    /// Makes a call that is given as a value and goes into the trace, as `answer` does. The bytes of
+    /// a message that is delivered aren't copied.
+    pub fn submit(&mut self, alloc: Global, ask: Ask, words: &[u32]) -> Result<Reply, NodeFault>
+        ensures ok { IfOk result (λ r. Accepts self.old self.new
+            (ask_value self.old.config.nodes ask r) words.now (reply_value self.old.config.nodes r)) }
+        // What an emit tells.
+        ensures delta { IfOk result (λ r. TellsIfEmit self.old ask r) }
+        ensures refused { IfErr result (IsRefusalOf self.old
+            (ask_value_first self.old.config.nodes ask) words.now) }
+        ensures err { OnErr result (self.new ≡ self.old) }
+    {
+        if !words.is_empty() {
+            return self.answer(alloc, &ask, words);
+        }
+        match ask.into_message() {
+            Ok(message) => Ok(Reply::Deliver(self.deliver_owned(alloc, message)?)),
+            Err(ask) => self.answer(alloc, &ask, &[]),
+        }
+    }
+
     // Makes the call, with random draws for a pass alone.
     fn answer_with(&mut self, alloc: Global, ask: &Ask, words: &[u32]) -> Result<Reply, NodeFault>
         requires { is_pass ask.now ≡ false → words.now ≡ [] }

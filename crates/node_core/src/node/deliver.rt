@@ -32,6 +32,19 @@ impl NodeCore {
         Ok(self.learn(alloc, delivery, Vec::from_slice(alloc, message)?)?)
     }
 
+    /// Takes in a message as `deliver` does. Its bytes go into the trace, and aren't copied.
+    pub fn deliver_owned(&mut self, alloc: Global, message: Vec<u8>) -> Result<bool, NodeFault>
+        ensures ok { IfOk result (λ changed. Accepts self.old self.new
+            (delivery_of self.old message.items) [] (asks.IsDelivered changed)) }
+        ensures refused { IfErr result (IsRefusalOf self.old (delivery_of self.old message.items) []) }
+        ensures memory { IsErrOf result NodeFault.OutOfMemory
+            → DeliveryNeedsMemory self.old message.items }
+        ensures err { OnErr result (self.new ≡ self.old) }
+    {
+        let delivery = self.deliver_checked(alloc, &message)?;
+        Ok(self.learn(alloc, delivery, message)?)
+    }
+
     // What a message comes to, or the refusal.
     pub(crate) fn deliver_checked(&self, alloc: Global, bytes: &[u8]) -> Result<Delivery, NodeFault>
         ensures ok { OnOk result (refusal self.now (delivery_of self.now bytes.now) [] ≡ None) }

@@ -47,7 +47,7 @@ impl NodeCore {
         self.check_trace()?;
         let point = read_name(alloc, name)?;
         let mut given = GivenWords::new(words);
-        let wanted = Wanted {
+        let wanted = CopiesWanted {
             words: false,
             reply: true,
         };
@@ -83,7 +83,7 @@ impl NodeCore {
     {
         self.check_trace()?;
         let point = read_name(alloc, name)?;
-        let wanted = Wanted {
+        let wanted = CopiesWanted {
             words: true,
             reply: true,
         };
@@ -108,7 +108,7 @@ impl NodeCore {
         self.check_trace()?;
         let point = read_name(alloc, name)?;
         let mut given = GivenWords::new(words);
-        let wanted = Wanted {
+        let wanted = CopiesWanted {
             words: false,
             reply: false,
         };
@@ -124,7 +124,7 @@ impl NodeCore {
         alloc: Global,
         point: Name,
         source: &mut S,
-        wanted: Wanted,
+        wanted: CopiesWanted,
     ) -> Result<(Option<Vec<u32>>, Option<PassReply>), NodeFault>
         requires room { HasRoom self.old }
         requires named { IsTrue (is_name point) }
@@ -198,7 +198,7 @@ impl NodeCore {
 
 /// What a pass answers of what it puts into the trace.
 #[derive(Clone, Copy)]
-struct Wanted {
+struct CopiesWanted {
     words: bool,
     reply: bool,
 }
@@ -328,7 +328,12 @@ impl Outcome<'_> {
     }
 
     /// The reply, and what is wanted of it and of the random draws.
-    fn copies(self, alloc: Global, words: &[u32], wanted: Wanted) -> Result<Copies, AllocError>
+    fn copies(
+        self,
+        alloc: Global,
+        words: &[u32],
+        wanted: CopiesWanted,
+    ) -> Result<Copies, AllocError>
         ensures words { IfOk result (λ c. option_map (λ v. v.items) c.words
             ≡ then_some wanted.words words.now) }
         ensures answer { IfOk result (λ c. option_map passed c.answer ≡ then_some wanted.reply

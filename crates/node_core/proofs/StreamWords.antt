@@ -1,9 +1,8 @@
--- Words of a stream, one after the other.
-use Rattle.std.proofs.Common.{◌≡◌, ℕ, zero, suc, ◌+◌, ◌<◌, ◌^◌, ◌%◌, List, [], ◌∷◌, ◌++◌, refl, sym, ap, ◌∙◌, arith, append_assoc, append-nil}
+-- Random draws of a stream, one after the other.
+use Rattle.std.proofs.Common.{◌≡◌, ℕ, zero, suc, ◌+◌, ◌<◌, ◌^◌, ◌%◌, List, [], ◌∷◌, ◌++◌, refl, sym, ap, ◌∙◌, arith}
 use Rattle.std.proofs.Math.Nat.{mod-eq_of_lt}
 use Rattle.rand_chacha.specs.ChaCha.{ChaCha, word_at}
-use Rattle.node_calls.specs.Asks.{Call}
-use Rattle.node_registry.specs.Words.{word, words_from, words_next, place_after, words_of}
+use Rattle.node_core.specs.Words.{word, words_from, words_next, place_after}
 
 pub words_from-add : (key : List ℕ) (stream place m n : ℕ) → words_from key stream place (m + n) ≡ words_from key stream place m ++ words_from key stream (place + m) n
 words_from-add key s p zero n = let e : 0 + n ≡ n = omega arith in let f : p + 0 ≡ p = omega arith in rw (e, f) refl
@@ -12,15 +11,11 @@ words_from-add key s p (suc m) n =
     let f : (p + 1) + m ≡ p + suc m = omega arith in
     rw e (ap (λ ws. word key s p ∷ ws) (words_from-add key s (p + 1) m n ∙ ap (λ q. words_from key s (p + 1) m ++ words_from key s q n) f))
 
-pub words_of-push : (cs : List Call) (c : Call) → words_of (cs ++ c ∷ []) ≡ words_of cs ++ c.words
-words_of-push [] c = append-nil c.words
-words_of-push (x ∷ cs) c = ap (λ ws. x.words ++ ws) (words_of-push cs c) ∙ sym (append_assoc x.words (words_of cs) c.words)
-
-pub word-at : (key : List ℕ) (stream place : ℕ) → word_at 4 key stream place ≡ word key stream place
+word-at : (key : List ℕ) (stream place : ℕ) → word_at 4 key stream place ≡ word key stream place
 unfolding word
 word-at key s p = refl
 
-pub mod_small : (p : ℕ) → p < 2 ^ 68 → p % 2 ^ 68 ≡ p
+mod_small : (p : ℕ) → p < 2 ^ 68 → p % 2 ^ 68 ≡ p
 mod_small p h = mod-eq_of_lt h
 
 -- one word more

@@ -1,6 +1,6 @@
 use Rattle.std.proofs.Common.{◌+◌, ◌<◌, ◌^◌, ◌∙◌, arith}
-use Rattle.failreg_c.proofs.StreamWords.{drawn_one, words_next-push}
-use Rattle.failreg_c.proofs.generator.draw.Goals as goal
+use Rattle.node_core.proofs.StreamWords.{drawn_one, words_next-push}
+use Rattle.node_core.proofs.generator.draw.Goals as goal
 
 pub loop-preserved : goal.loop-preserved
 loop-preserved c =

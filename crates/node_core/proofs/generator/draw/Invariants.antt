@@ -1,6 +1,6 @@
-use Rattle.std.proofs.Common.{◌≡◌, ◌+◌, ◌≤◌, vec_len, vec_capacity}
-use Rattle.node_registry.specs.Words.{words_next, place_after}
-use Rattle.node_registry.proofs.words.draw.Given as goal
+use Rattle.std.proofs.Common.{◌≡◌, ◌≤◌, vec_len, vec_capacity}
+use Rattle.node_core.specs.Words.{words_next, place_after}
+use Rattle.node_core.proofs.generator.draw.Given as goal
 
 abbrev pub invariant-loop : goal.invariant-loop
 invariant-loop l = record {

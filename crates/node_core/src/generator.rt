@@ -1,4 +1,4 @@
-//! The generator of a node's random draws, the same that a registry of Rattle's has.
+//! The generator of a node's random draws.
 
 ghost use Rattle.std.specs.Prelude.{◌≡◌, ◌⊎◌, ◌+◌, ◌<◌, ◌^◌, ◌%◌, vec_len, IfOk, IfErr, IsErrOf, OnErr, OnOk};
 ghost use Rattle.rand_chacha.specs.ChaCha.{ChaCha, key_of};
@@ -7,9 +7,11 @@ ghost use Rattle.node_calls.specs.Asks.{passed};
 ghost use Rattle.node_core.specs.Memory.{NameNeedsMemory};
 ghost use Rattle.node_core.specs.Passes.{words_for};
 ghost use Rattle.node_core.specs.Traces.{Accepts, IsRefusalOf, state_known};
-ghost use Rattle.failreg_c.specs.Words.{words_next, place_after};
+ghost use Rattle.node_core.specs.Words.{words_next, place_after};
 
-use node_core::{NodeCore, NodeFault, PassReply, WordSource};
+use crate::node::NodeCore;
+use crate::words::WordSource;
+use node_calls::{NodeFault, PassReply};
 use rand_chacha::ChaCha8Rng;
 use rand_core::SeedableRng;
 use rand_core::utils::NextWord;
@@ -34,8 +36,8 @@ impl Model for Generator {
 const LAST_PLACE: u128 = 147_573_952_589_676_412_928;
 
 impl Generator {
-    /// At the start of a stream of the seed.
-    pub(crate) fn new(seed: [u8; 32], stream: u64) -> Generator
+    /// A generator at the start of a stream of the seed.
+    pub fn new(seed: [u8; 32], stream: u64) -> Generator
         ensures { result ≡ record { key = key_of seed; stream = stream; word_pos = 0 } }
     {
         let mut words = ChaCha8Rng::from_seed(seed);
@@ -43,8 +45,8 @@ impl Generator {
         Generator { stream: words }
     }
 
-    // The place of the next random draw.
-    fn place(&self) -> u128
+    /// The place of the next random draw.
+    pub fn place(&self) -> u128
         ensures place { result ≡ self.now.word_pos }
         ensures bound { result < 2 ^ 68 }
     {
@@ -60,7 +62,7 @@ impl Generator {
 }
 
 impl WordSource for Generator {
-    ghost use Rattle.failreg_c.specs.Words.{words_next, place_after};
+    ghost use Rattle.node_core.specs.Words.{words_next, place_after};
 
     ghost can_draw = { λ _. Unit {0} };
 
@@ -91,29 +93,32 @@ fn draw(alloc: Global, generator: &mut ChaCha8Rng, count: u8) -> Result<Vec<u32>
     Ok(words)
 }
 
-/// Passes a point with the generator's next random draws, as many as it needs, and answers these
-/// beside the reply. The random draws of a refused pass are put back.
-pub(crate) fn pass_drawing(
-    core: &mut NodeCore,
-    generator: &mut Generator,
-    alloc: Global,
-    name: &str,
-) -> Result<(Vec<u32>, PassReply), NodeFault>
-    ensures ok { IfOk result (λ r. Accepts core.old core.new
-        (asks.Pass name.now) r.0.items (asks.IsPassed (passed r.1))) }
-    ensures words { IfOk result (λ r. r.0.items
-        ≡ words_next generator.old (words_for (state_known core.old) name.now)) }
-    ensures place { OnOk result (generator.new
-        ≡ place_after generator.old (words_for (state_known core.old) name.now)) }
-    ensures refused { IfErr result (IsRefusalOf core.old (asks.Pass name.now)
-        (words_next generator.old (words_for (state_known core.old) name.now))) }
-    ensures memory { IsErrOf result NodeFault.OutOfMemory → NameNeedsMemory core.old name.now }
-    ensures err { OnErr result ((core.new ≡ core.old) × (generator.new ≡ generator.old)) }
-{
-    let place = generator.place();
-    let passed = core.pass_drawing(alloc, name, generator);
-    if passed.is_err() {
-        generator.set_place(place);
+impl NodeCore {
+    /// Passes a point with a generator's next random draws, as many as it needs, and answers these
+    /// beside the reply. The random draws of a refused pass are put back.
+    pub fn pass_generating(
+        &mut self,
+        alloc: Global,
+        name: &str,
+        generator: &mut Generator,
+    ) -> Result<(Vec<u32>, PassReply), NodeFault>
+        ensures ok { IfOk result (λ r. Accepts self.old self.new
+            (asks.Pass name.now) r.0.items (asks.IsPassed (passed r.1))) }
+        ensures words { IfOk result (λ r. r.0.items
+            ≡ words_next generator.old (words_for (state_known self.old) name.now)) }
+        ensures place { OnOk result (generator.new
+            ≡ place_after generator.old (words_for (state_known self.old) name.now)) }
+        ensures few { OnOk result (words_for (state_known self.old) name.now < 2 ^ 8) }
+        ensures refused { IfErr result (IsRefusalOf self.old (asks.Pass name.now)
+            (words_next generator.old (words_for (state_known self.old) name.now))) }
+        ensures memory { IsErrOf result NodeFault.OutOfMemory → NameNeedsMemory self.old name.now }
+        ensures err { OnErr result ((self.new ≡ self.old) × (generator.new ≡ generator.old)) }
+    {
+        let place = generator.place();
+        let passed = self.pass_drawing(alloc, name, generator);
+        if passed.is_err() {
+            generator.set_place(place);
+        }
+        passed
     }
-    passed
 }

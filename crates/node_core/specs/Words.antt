@@ -1,4 +1,4 @@
--- The words of a node's generator: those of ChaCha with 8 rounds, one after the other.
+-- The random draws of a node's generator: the words of ChaCha with 8 rounds, one after the other.
 use Rattle.std.specs.Prelude.{ℕ, zero, suc, ◌+◌, List, [], ◌∷◌}
 use Rattle.rand_chacha.specs.ChaCha.{ChaCha, word_at}
 
