@@ -9,7 +9,7 @@ use Rattle.matchit.specs.Seek.{segment, cuts}
 use Rattle.matchit.specs.Level.{IsText}
 use Rattle.std.specs.List.{ends_with}
 use Rattle.std.specs.Prelude.{ltb, nat_lt, ◌&&◌}
-use Rattle.http_paths.specs.Paths.{before_slash, after_slash, has_part}
+use Rattle.http_paths.proofs.Found.{before_slash, after_slash, has_part}
 use Rattle.matchit.proofs.CountLemmas.{some-segment}
 
 longer : (b y : ℕ) (s : List ℕ) → ends_with nat_eq (b ∷ y ∷ s) (47 ∷ []) ≡ ends_with nat_eq (y ∷ s) (47 ∷ [])

@@ -19,8 +19,9 @@
 //! ```
 #![tactic(auto)]
 
+pub mod laws;
 mod paths;
 mod targets;
 
 pub use paths::Routes;
-pub use targets::{Place, Target};
+pub use targets::{RouteId, Target};

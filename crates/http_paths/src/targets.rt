@@ -2,7 +2,7 @@
 
 /// Which route a path has.
 #[derive(Clone, Copy, Debug, PartialEq, Eq)]
-pub enum Place {
+pub enum RouteId {
     /// All points.
     Points,
     /// One point.
