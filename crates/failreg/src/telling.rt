@@ -5,7 +5,7 @@ ghost use Rattle.http_serve.specs.declared.fault.ServeFault.TheVariants.{AcceptF
 ghost use Rattle.failreg.specs.Rounds.{most_calls, peer_of};
 
 use crate::host::Host;
-use command_line::{NamedPeer, Telling};
+use command_line::{GossipOptions, NamedPeer};
 use gossip::{Wire, WireError, gossip_rounds};
 use http_serve::{ServeFault, serve};
 use http_wire::{HttpWire, Peer};
@@ -88,7 +88,7 @@ fn keep_telling<L, R, W>(
     registry: &Registry<L>,
     seat: &mut Seat<L>,
     wire: &mut W,
-    telling: &Telling,
+    telling: &GossipOptions,
     service: &Service,
 )
 where
@@ -113,7 +113,7 @@ fn tell_over_http<L, R>(
     rt: &R,
     registry: &Registry<L>,
     seat: &mut Seat<L>,
-    telling: &Telling,
+    telling: &GossipOptions,
     service: &Service,
 )
 where
@@ -150,7 +150,7 @@ fn serve_in<'s, E, L, R>(
     rt: &'s R,
     serving: Serving<'s, L>,
     mut seat: Seat<L>,
-    telling: Telling,
+    telling: GossipOptions,
     service: &'s Service,
 ) -> Result<u32, ServeFault>
 where
@@ -176,7 +176,7 @@ pub fn serve_and_tell<L, R>(
     rt: &R,
     serving: Serving<'_, L>,
     seat: Seat<L>,
-    telling: Telling,
+    telling: GossipOptions,
 ) -> Result<u32, ServeFault>
 where
     L: Label + Send + Sync,

@@ -13,14 +13,14 @@ use report_text::report_json;
 use std::alloc::Global;
 
 // Makes a call once there is room for its reply.
-fn call(core: &mut NodeCore, alloc: Global, ask: &Ask) -> HttpReply
-    ensures { IfSome (ask_value ask.now) (λ a.
+fn call(core: &mut NodeCore, alloc: Global, ask: Ask) -> HttpReply
+    ensures { IfSome (ask_value ask) (λ a.
         Answers core.old (call a) core.new (http_value result)) }
 {
     let Ok(room) = ReplyRoom::new(alloc) else {
         return HttpReply::no_memory(alloc);
     };
-    let outcome = core.answer(alloc, ask, &[]);
+    let outcome = core.submit(alloc, ask, &[]);
     room.reply(&outcome)
 }
 
@@ -38,7 +38,7 @@ pub fn answer(
     ensures { Answers core.old (wanted method.now path.now body.now) core.new (http_value result) }
 {
     match route(alloc, routes, method, path, body) {
-        Wanted::Do(ask) => call(core, alloc, &ask),
+        Wanted::Do(ask) => call(core, alloc, ask),
         Wanted::List => HttpReply::written(alloc, 200, core.list(alloc)),
         Wanted::Report => {
             let nodes = core.config().nodes;

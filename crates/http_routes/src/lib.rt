@@ -24,10 +24,9 @@
 #![tactic(auto)]
 
 mod answering;
-mod fields;
 mod reply;
 mod wanted;
 
 pub use answering::answer;
 pub use reply::{HttpReply, ReplyRoom, reply_of};
-pub use wanted::{MAX_BODY, Wanted, route, too_long};
+pub use wanted::{MAX_BODY, Wanted, route, route_owned, too_long};

@@ -180,7 +180,12 @@ fn status_of(fault: NodeFault) -> u16
         | NodeFault::NoSuchTerm
         | NodeFault::NotCounted
         | NodeFault::TooFewRights { .. } => 409,
-        _ => 503,
+        NodeFault::TraceFull
+        | NodeFault::ClockFull
+        | NodeFault::CellFull
+        | NodeFault::BadWords { .. }
+        | NodeFault::BadConfig
+        | NodeFault::OutOfMemory => 503,
     }
 }
 

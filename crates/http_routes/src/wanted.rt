@@ -1,22 +1,21 @@
 //! What a request wants.
 
-ghost use Rattle.std.specs.Prelude.{◌≡◌, ◌<◌, ℕ, List, length, Some, IfOk, OnErr, option_map};
+ghost use Rattle.std.specs.Prelude.{◌≡◌, ◌<◌, ℕ, List, length, Some, IfOk, OnErr, option_map, string_bytes};
 ghost use Rattle.message_format.specs.Spelling.{max_message};
 ghost use Rattle.http_paths.specs.Targets.{target_value};
-ghost use Rattle.http_routes.specs.Numbers.{number_of};
+ghost use Rattle.decimals.specs.Decimals.{number_of};
 ghost use Rattle.http_routes.specs.Replies.{http_value, no_memory, text_reply};
 ghost use Rattle.http_routes.specs.Requests.{answered, ask_value, call, wanted_value, IsWanted};
 ghost use Rattle.http_routes.specs.Requests.{deliver, grant, load, remove, set, shift};
 ghost use Rattle.http_routes.specs.Requests.{grant_wanted, is_allowed, shift_wanted, text_in};
 ghost use Rattle.http_routes.specs.Requests.{max_amount, texted, wanted, wanted_at};
 
-use crate::fields::number;
 use crate::reply::HttpReply;
+use decimals::number;
 use delta_exchange::MAX_MESSAGE;
 use http_paths::{Routes, Target};
 use node_core::Ask;
 use std::alloc::{AllocError, Global};
-use std::str;
 
 /// The longest body that is looked at, in bytes: that of the longest message.
 pub const MAX_BODY: usize = MAX_MESSAGE;
@@ -51,18 +50,21 @@ fn doing(alloc: Global, ask: Result<Ask, AllocError>) -> Wanted
     }
 }
 
-fn text_in(bytes: &[u8]) -> Option<&str>
-    ensures { option_map (λ text. text.now) result ≡ text_in bytes.now }
+fn text_in(bytes: Vec<u8>) -> Option<String>
+    ensures { option_map string_bytes result ≡ text_in bytes.items }
 {
-    str::from_utf8(bytes).ok()
+    match String::from_utf8(bytes) {
+        Ok(text) => Some(text),
+        Err(_) => None,
+    }
 }
 
-fn set_of(alloc: Global, name: &str, text: &str) -> Result<Ask, AllocError>
-    ensures { IfOk result (λ ask. ask_value ask ≡ Some (set name.now text.now)) }
+fn set_of(alloc: Global, name: &str, text: String) -> Result<Ask, AllocError>
+    ensures { IfOk result (λ ask. ask_value ask ≡ Some (set name.now (string_bytes text))) }
 {
     Ok(Ask::Set {
         name: String::from_str(alloc, name)?,
-        text: String::from_str(alloc, text)?,
+        text,
     })
 }
 
@@ -71,22 +73,6 @@ fn remove_of(alloc: Global, name: &str) -> Result<Ask, AllocError>
 {
     Ok(Ask::Remove {
         name: String::from_str(alloc, name)?,
-    })
-}
-
-fn load_of(alloc: Global, text: &str) -> Result<Ask, AllocError>
-    ensures { IfOk result (λ ask. ask_value ask ≡ Some (load text.now)) }
-{
-    Ok(Ask::Load {
-        text: String::from_str(alloc, text)?,
-    })
-}
-
-fn deliver_of(alloc: Global, message: &[u8]) -> Result<Ask, AllocError>
-    ensures { IfOk result (λ ask. ask_value ask ≡ Some (deliver message.now)) }
-{
-    Ok(Ask::Deliver {
-        message: Vec::from_slice(alloc, message)?,
     })
 }
 
@@ -136,8 +122,8 @@ fn grant_wanted(alloc: Global, name: &str, term: &str, amount: &str) -> Wanted
 }
 
 // A setting, if the body is a text.
-fn set_wanted(alloc: Global, name: &str, body: &[u8]) -> Wanted
-    ensures { IsWanted (texted (set name.now) body.now) (wanted_value result) }
+fn set_wanted(alloc: Global, name: &str, body: Vec<u8>) -> Wanted
+    ensures { IsWanted (texted (set name.now) body.items) (wanted_value result) }
 {
     match text_in(body) {
         Some(text) => doing(alloc, set_of(alloc, name, text)),
@@ -146,11 +132,11 @@ fn set_wanted(alloc: Global, name: &str, body: &[u8]) -> Wanted
 }
 
 // A load, if the body is a text.
-fn load_wanted(alloc: Global, body: &[u8]) -> Wanted
-    ensures { IsWanted (texted load body.now) (wanted_value result) }
+fn load_wanted(alloc: Global, body: Vec<u8>) -> Wanted
+    ensures { IsWanted (texted load body.items) (wanted_value result) }
 {
     match text_in(body) {
-        Some(text) => doing(alloc, load_of(alloc, text)),
+        Some(text) => Wanted::Do(Ask::Load { text }),
         None => refused(alloc, 400, "bad text"),
     }
 }
@@ -168,8 +154,9 @@ fn is_allowed(target: &Target<'_>, method: &str) -> bool
 }
 
 // What a request wants whose path leads here.
-fn wanted_at(alloc: Global, target: Target<'_>, method: &str, body: &[u8]) -> Wanted
-    ensures { IsWanted (wanted_at (target_value target.entry) method.now body.now) (wanted_value result) }
+fn wanted_at(alloc: Global, target: Target<'_>, method: &str, body: Vec<u8>) -> Wanted
+    ensures { IsWanted (wanted_at (target_value target.entry) method.now body.items)
+        (wanted_value result) }
 {
     if !is_allowed(&target, method) {
         return refused(alloc, 405, "bad method");
@@ -194,7 +181,7 @@ fn wanted_at(alloc: Global, target: Target<'_>, method: &str, body: &[u8]) -> Wa
             amount,
         } => shift_wanted(alloc, name, term, to, amount),
         Target::Grant { name, term, amount } => grant_wanted(alloc, name, term, amount),
-        Target::Gossip => doing(alloc, deliver_of(alloc, body)),
+        Target::Gossip => Wanted::Do(Ask::Deliver { message: body }),
         Target::Report => Wanted::Report,
     }
 }
@@ -204,6 +191,25 @@ fn wanted_at(alloc: Global, target: Target<'_>, method: &str, body: &[u8]) -> Wa
 /// one, a number of the path is none.
 pub fn route(alloc: Global, routes: &Routes, method: &str, path: &str, body: &[u8]) -> Wanted
     ensures { IsWanted (wanted method.now path.now body.now) (wanted_value result) }
+{
+    if body.len() > MAX_BODY {
+        return Wanted::Answered(too_long(alloc, routes, method, path));
+    }
+    match Vec::from_slice(alloc, body) {
+        Ok(body) => route_owned(alloc, routes, method, path, body),
+        Err(_) => Wanted::Answered(HttpReply::no_memory(alloc)),
+    }
+}
+
+/// What `route` says, with a body that goes into the call and isn't copied.
+pub fn route_owned(
+    alloc: Global,
+    routes: &Routes,
+    method: &str,
+    path: &str,
+    body: Vec<u8>,
+) -> Wanted
+    ensures { IsWanted (wanted method.now path.now body.items) (wanted_value result) }
 {
     match routes.target(path) {
         Some(target) => wanted_at(alloc, target, method, body),

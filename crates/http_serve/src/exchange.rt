@@ -5,8 +5,8 @@ ghost use Rattle.futures.specs.Poll.{OnPending};
 ghost use Rattle.futures.specs.Task.{IsArmed, Keeps};
 ghost use Rattle.tokio.specs.Locks.{CanAcquire};
 
-use crate::desk::Answers;
-use crate::seats::Seats;
+use crate::handler::Handler;
+use crate::permits::Permits;
 use bytes::Bytes;
 use futures::task::{Context, Poll};
 use futures::{Future, Stream, ready};
@@ -17,10 +17,11 @@ use hyper::body::Incoming;
 use hyper::service::Service;
 use hyper::{Method, Request, Response, StatusCode, Uri};
 use std::alloc::Global;
+use std::mem;
 use std::sync::{Arc, Wait};
 use tokio::sync::OwnedSemaphorePermit;
 
-/// The longest body that is taken in without one of the places of long ones, in bytes.
+/// The longest body that is taken in without one of the permits of long ones, in bytes.
 const SHORT_BODY: u64 = 65_536;
 
 /// How many pieces of a body one poll takes in before it lets other tasks run.
@@ -28,28 +29,28 @@ const BUDGET: u32 = 128;
 
 /// The service of one connection. It owns what it holds.
 #[derive(Drop)]
-pub struct Front<A, R> {
+pub struct ConnectionService<H, R> {
     pub alloc: Global,
     pub rt: R,
-    pub desk: Option<Arc<A>>,
-    /// The places of long bodies.
-    pub long: Option<Seats>,
+    pub handler: Option<Arc<H>>,
+    /// The permits of long bodies.
+    pub long: Option<Permits>,
 }
 
 /// A request whose body is being read.
 #[derive(Drop)]
-pub struct Exchange<I, A, R> {
+pub struct Exchange<I, H, R> {
     alloc: Global,
     rt: R,
     // There is none where memory was refused.
-    desk: Option<Arc<A>>,
+    handler: Option<Arc<H>>,
     method: Method,
     uri: Uri,
     body: Limited<Incoming<I>>,
     read: Vec<u8>,
-    // Where the body is long: the places of such, and then the body's own.
-    places: Option<Seats>,
-    place: Option<OwnedSemaphorePermit>,
+    // Where the body is long: the permits of such, and then the body's own.
+    permits: Option<Permits>,
+    permit: Option<OwnedSemaphorePermit>,
 }
 
 /// How the reading of a body ended.
@@ -61,69 +62,73 @@ enum Reading {
     Broken(hyper::Error),
 }
 
-impl<I: Drop, A: Answers, R: Wait + Copy> Service<Request<Incoming<I>>> for Front<A, R> {
+impl<I: Drop, H: Handler, R: Wait + Copy> Service<Request<Incoming<I>>>
+    for ConnectionService<H, R> {
     type Response = Response<Full<Bytes>>;
 
     type Error = hyper::Error;
 
-    type Future = Exchange<I, A, R>;
+    type Future = Exchange<I, H, R>;
 
-    fn call(&self, req: Request<Incoming<I>>) -> Exchange<I, A, R> {
+    fn call(&self, req: Request<Incoming<I>>) -> Exchange<I, H, R> {
         let (head, body) = req.into_parts();
         let is_short = match body.size_hint().upper() {
             Some(most) => most <= SHORT_BODY,
             None => false,
         };
         let long = if is_short { None } else { again(&self.long) };
-        let desk = if is_short || long.is_some() {
-            shared(&self.desk)
+        let handler = if is_short || long.is_some() {
+            shared(&self.handler)
         } else {
             None
         };
         Exchange {
             alloc: self.alloc,
             rt: self.rt,
-            desk,
+            handler,
             method: head.method,
             uri: head.uri,
             body: Limited::new(body, MAX_BODY),
             read: Vec::new(self.alloc),
-            places: long,
-            place: None,
+            permits: long,
+            permit: None,
         }
     }
 }
 
-impl<I: Drop, A: Answers, R: Wait + Copy> Exchange<I, A, R> {
+impl<I: Drop, H: Handler, R: Wait + Copy> Exchange<I, H, R> {
     // The reply, once the body was read so far.
-    fn reply(&self, reading: Reading) -> hyper::Result<HttpReply> {
+    fn reply(&mut self, reading: Reading) -> hyper::Result<HttpReply> {
+        let body = mem::replace(&mut self.read, Vec::new(self.alloc));
         let (method, path) = (self.method.as_str(), self.uri.path());
-        match (&self.desk, reading) {
-            (Some(desk), Reading::Whole) => {
-                Ok(desk.reply(&self.rt, self.alloc, method, path, self.read.as_slice()))
+        match (&self.handler, reading) {
+            (Some(handler), Reading::Whole) => {
+                Ok(handler.reply(&self.rt, self.alloc, method, path, body))
             }
-            (Some(desk), Reading::TooLong) => Ok(desk.reply_too_long(self.alloc, method, path)),
+            (Some(handler), Reading::TooLong) => Ok(handler.reply_too_long(
+                self.alloc, method, path,
+            )),
             (_, Reading::Broken(error)) => Err(error),
             _ => Ok(HttpReply::no_memory(self.alloc)),
         }
     }
 
-    // Reads the body, a long one once there is a place for it.
+    // Reads the body, a long one once there is a permit for it.
     fn poll_reading(&mut self, cx: &mut Context<'_>) -> Poll<Reading>
-        requires { IfSome self.old.places (λ places. IfSome places.waiting CanAcquire) }
-        ensures places { OnPending result
-            (IfSome self.new.places (λ places. IfSome places.waiting CanAcquire)) }
+        requires { IfSome self.old.permits (λ permits. IfSome permits.waiting CanAcquire) }
+        ensures permits { OnPending result
+            (IfSome self.new.permits (λ permits. IfSome permits.waiting CanAcquire)) }
         ensures armed { OnPending result (IsArmed cx.new) }
         ensures kept { Keeps cx.old cx.new }
     {
-        if self.desk.is_none() {
+        if self.handler.is_none() {
             return Poll::Ready(Reading::NoMemory);
         }
-        if self.place.is_none()
-            && let Some(places) = &mut self.places
+        if self.permit.is_none()
+            && let Some(permits) = &mut self.permits
         {
-            match ready!(places.poll_next(cx)) {
-                Some(place) => self.place = Some(place),
+            match ready!(permits.poll_next(cx)) {
+                Some(permit) => self.permit = Some(permit),
                 None => return Poll::Ready(Reading::NoMemory),
             }
         }
@@ -131,10 +136,10 @@ impl<I: Drop, A: Answers, R: Wait + Copy> Exchange<I, A, R> {
     }
 }
 
-impl<I: Drop, A: Answers, R: Wait + Copy> Future for Exchange<I, A, R> {
+impl<I: Drop, H: Handler, R: Wait + Copy> Future for Exchange<I, H, R> {
     type Output = hyper::Result<Response<Full<Bytes>>>;
 
-    ghost can_poll = { λ e. IfSome e.places (λ places. IfSome places.waiting CanAcquire) };
+    ghost can_poll = { λ e. IfSome e.permits (λ permits. IfSome permits.waiting CanAcquire) };
 
     fn poll(&mut self, cx: &mut Context<'_>) -> Poll<hyper::Result<Response<Full<Bytes>>>> {
         let reading = ready!(self.poll_reading(cx));
@@ -171,14 +176,14 @@ fn poll_body<I: Drop>(
     cx.yield_now()
 }
 
-// Another owner of the desk, if there is the memory.
-fn shared<A>(desk: &Option<Arc<A>>) -> Option<Arc<A>> {
-    Arc::try_clone(desk.as_ref()?).ok()
+// Another owner of the handler, if there is the memory.
+fn shared<H>(handler: &Option<Arc<H>>) -> Option<Arc<H>> {
+    Arc::try_clone(handler.as_ref()?).ok()
 }
 
-// A share of these places for another body.
-fn again(long: &Option<Seats>) -> Option<Seats>
-    ensures { IfSome result (λ places. IfSome places.waiting CanAcquire) }
+// A share of these permits for another body.
+fn again(long: &Option<Permits>) -> Option<Permits>
+    ensures { IfSome result (λ permits. IfSome permits.waiting CanAcquire) }
 {
     long.as_ref()?.again()
 }

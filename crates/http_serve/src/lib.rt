@@ -7,12 +7,12 @@
 //! one and 64 times 64 KiB, twice over while a buffer grows.
 #![tactic(auto)]
 
-mod desk;
+mod connection;
 mod exchange;
 mod fault;
-mod seats;
+mod handler;
+mod permits;
 mod serving;
-mod visit;
 
 pub use fault::ServeFault;
 pub use serving::serve;

@@ -4,11 +4,11 @@ ghost use Rattle.std.specs.Prelude.{◌≡◌, ◌⊎◌, IfOk, IfErr, IfSome};
 ghost use Rattle.http_serve.specs.declared.fault.ServeFault.TheVariants.{AcceptFailed, OutOfMemory};
 ghost use Rattle.tokio.specs.Locks.{CanAcquire};
 
-use crate::desk::{Answers, Desk};
-use crate::exchange::Front;
+use crate::connection::{Accepting, ConnectionFactory, ConnectionTask};
+use crate::exchange::ConnectionService;
 use crate::fault::ServeFault;
-use crate::seats::Seats;
-use crate::visit::{Accepting, Opens, Visit};
+use crate::handler::{Handler, NodeHandler};
+use crate::permits::Permits;
 use bytes::Bytes;
 use http_body_util::Full;
 use hyper::rt::TokioTimer;
@@ -38,34 +38,42 @@ const AT_ONCE: u32 = 64;
 /// How many long bodies are taken in at once.
 const LONG_AT_ONCE: u32 = 4;
 
-/// Makes HTTP connections, which all ask one desk.
+/// Makes HTTP connections, whose requests all go to one handler.
 #[derive(Drop)]
-struct Door<A, R> {
+struct HttpConnections<H, R> {
     alloc: Global,
     rt: R,
-    desk: Arc<A>,
-    long: Seats,
+    handler: Arc<H>,
+    long: Permits,
     http: Builder<TokioTimer<R>>,
     timers: Handle,
 }
 
-impl<A: Answers + Send + Sync, R: Wait + Clock + Send + Copy> Opens for Door<A, R> {
-    type Visit = Visit<Connection<TcpStream, Front<A, R>, Full<Bytes>, TokioTimer<R>>>;
+impl<H, R> ConnectionFactory for HttpConnections<H, R>
+where
+    H: Handler + Send + Sync,
+    R: Wait + Clock + Send + Copy,
+{
+    type Task = ConnectionTask<
+        Connection<TcpStream, ConnectionService<H, R>, Full<Bytes>, TokioTimer<R>>,
+    >;
 
     fn open(
         &self,
         socket: TcpStream,
-        seat: OwnedSemaphorePermit,
-    ) -> Option<Visit<Connection<TcpStream, Front<A, R>, Full<Bytes>, TokioTimer<R>>>> {
-        let front = Front {
+        permit: OwnedSemaphorePermit,
+    ) -> Option<
+        ConnectionTask<Connection<TcpStream, ConnectionService<H, R>, Full<Bytes>, TokioTimer<R>>>,
+    > {
+        let service = ConnectionService {
             alloc: self.alloc,
             rt: self.rt,
-            desk: Arc::try_clone(&self.desk).ok(),
+            handler: Arc::try_clone(&self.handler).ok(),
             long: self.long.again(),
         };
-        let connection = self.http.serve_connection(socket, front);
+        let connection = self.http.serve_connection(socket, service);
         let whole = Duration::from_secs(WHOLE_SECONDS);
-        Visit::new(&self.rt, &self.timers, whole, connection, seat)
+        ConnectionTask::new(&self.rt, &self.timers, whole, connection, permit)
     }
 }
 
@@ -87,39 +95,39 @@ where
     ensures ok { IfOk result (λ served. served ≡ requests) }
     ensures err { IfErr result (λ f. (f ≡ AcceptFailed) ⊎ (f ≡ OutOfMemory)) }
 {
-    let desk = Desk::new(alloc, registry, seat)?;
-    serve_desk(rt, alloc, runtime, desk, listener, requests)?;
+    let handler = NodeHandler::new(alloc, registry, seat)?;
+    serve_handler(rt, alloc, runtime, handler, listener, requests)?;
     Ok(requests)
 }
 
-// Serves clients at a desk, whoever stands there.
-fn serve_desk<A, R>(
+// Serves clients whose requests go to a handler.
+fn serve_handler<H, R>(
     rt: &R,
     alloc: Global,
     runtime: &mut Runtime,
-    desk: Arc<A>,
+    handler: Arc<H>,
     listener: TcpListener,
     requests: u32,
 ) -> Result<(), ServeFault>
 where
-    A: Answers + Send + Sync,
+    H: Handler + Send + Sync,
     R: Wait + Threads + Clock + RandomSource + AllocGlobal + Send + Sync + Copy,
     ensures { IfErr result (λ f. (f ≡ AcceptFailed) ⊎ (f ≡ OutOfMemory)) }
 {
-    let door = door_to(rt, alloc, runtime, desk)?;
-    let seats = Seats::new(alloc, AT_ONCE)?;
-    admit(rt, runtime, listener, door, seats, requests)
+    let factory = connections_to(rt, alloc, runtime, handler)?;
+    let permits = Permits::new(alloc, AT_ONCE)?;
+    admit(rt, runtime, listener, factory, permits, requests)
 }
 
-// Makes connections to a desk.
-fn door_to<A, R>(
+// Makes connections whose requests go to a handler.
+fn connections_to<H, R>(
     rt: &R,
     alloc: Global,
     runtime: &Runtime,
-    desk: Arc<A>,
-) -> Result<Door<A, R>, ServeFault>
+    handler: Arc<H>,
+) -> Result<HttpConnections<H, R>, ServeFault>
 where
-    A: Answers,
+    H: Handler,
     R: Clock + RandomSource + Copy,
     ensures { IfErr result (λ f. (f ≡ AcceptFailed) ⊎ (f ≡ OutOfMemory)) }
 {
@@ -130,29 +138,29 @@ where
     let mut http = Builder::new(alloc, keys).timer(TokioTimer::new(*rt, timers));
     http.keep_alive(false)
         .header_read_timeout(Some(Duration::from_secs(HEAD_SECONDS)));
-    Ok(Door {
+    Ok(HttpConnections {
         alloc,
         rt: *rt,
-        desk,
-        long: Seats::new(alloc, LONG_AT_ONCE)?,
+        handler,
+        long: Permits::new(alloc, LONG_AT_ONCE)?,
         http,
         timers: runtime.handle().time().clone()?,
     })
 }
 
 /// Accepts so many connections, and returns once the task of each has ended.
-fn admit<R, D>(
+fn admit<R, F>(
     rt: &R,
     runtime: &mut Runtime,
     listener: TcpListener,
-    door: D,
-    seats: Seats,
+    factory: F,
+    permits: Permits,
     requests: u32,
 ) -> Result<(), ServeFault>
 where
     R: Wait + Threads + Clock + RandomSource + AllocGlobal + Sync,
-    D: Opens,
-    requires { IfSome seats.waiting CanAcquire }
+    F: ConnectionFactory,
+    requires { IfSome permits.waiting CanAcquire }
     ensures { IfErr result (λ f. (f ≡ AcceptFailed) ⊎ (f ≡ OutOfMemory)) }
 {
     let Ok(tasks) = runtime.task_set(rt) else {
@@ -161,10 +169,10 @@ where
     let accepting = Accepting {
         tasks: &tasks,
         listener,
-        door,
-        seats,
+        factory,
+        permits,
         at_once: AT_ONCE,
-        seat: None,
+        permit: None,
         left: requests,
     };
     match runtime.block_on_with(rt, &tasks, accepting) {

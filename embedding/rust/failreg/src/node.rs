@@ -19,6 +19,17 @@ impl Drop for Node {
     }
 }
 
+// The library knows a value that this crate doesn't: they weren't built from one tree.
+fn unknown(what: &str, number: u8) -> Refused {
+    Refused {
+        status: UNKNOWN,
+        text: format!("the library answered {what} {number}, which this crate doesn't know: build both from one tree"),
+    }
+}
+
+/// The status of an answer that isn't known.
+const UNKNOWN: u32 = u32::MAX;
+
 impl Node {
     pub fn open(number: u8, nodes: u8, cap: u32, seed: &[u8; 32]) -> Result<Node, Refused> {
         let handle = sys::Handle {
@@ -143,18 +154,19 @@ impl Node {
         Ok(match act.outcome {
             0 => Passed::Unset,
             1 => Passed::NoTerm { stamp },
-            _ => Passed::Act {
+            2 => Passed::Act {
                 stamp,
                 term: act.term,
-                task: self.task_of(&act),
+                task: self.task_of(&act)?,
             },
+            other => return Err(unknown("outcome", other)),
         })
     }
 
-    fn task_of(&mut self, act: &sys::Act) -> Task {
+    fn task_of(&mut self, act: &sys::Act) -> Result<Task, Refused> {
         let text = act.has_text.then(|| self.fetch_text());
         let time = Duration::from_millis(act.millis);
-        match act.task {
+        Ok(match act.task {
             0 => Task::Off,
             1 => Task::Return(text),
             2 => Task::Sleep(time),
@@ -162,8 +174,9 @@ impl Node {
             4 => Task::Print(text),
             5 => Task::Pause,
             6 => Task::Yield,
-            _ => Task::Delay(time),
-        }
+            7 => Task::Delay(time),
+            other => return Err(unknown("task", other)),
+        })
     }
 
     pub fn is_pause_over(&mut self, name: &str, stamp: Stamp) -> Result<bool, Refused> {

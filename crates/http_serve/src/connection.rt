@@ -7,7 +7,7 @@ ghost use Rattle.tokio.specs.Timers.{IsDelayedBy, sleep_deadline, timeout_delay,
 ghost use Rattle.tokio.specs.Locks.{CanAcquire};
 
 use crate::fault::ServeFault;
-use crate::seats::Seats;
+use crate::permits::Permits;
 use futures::executor::TaskSet;
 use futures::task::{Context, Poll};
 use futures::{Future, Stream, ready};
@@ -22,49 +22,49 @@ use tokio::time::{Handle, Timeout};
 const BUDGET: u32 = 128;
 
 /// Makes the task of a connection.
-pub trait Opens: Drop {
-    type Visit: Future<Output = ()> + Send;
+pub trait ConnectionFactory: Drop {
+    type Task: Future<Output = ()> + Send;
 
     /// `None` where there is no memory.
-    fn open(&self, socket: TcpStream, seat: OwnedSemaphorePermit) -> Option<Self::Visit>
-        ensures { IfSome result Self.Visit.can_poll };
+    fn open(&self, socket: TcpStream, permit: OwnedSemaphorePermit) -> Option<Self::Task>
+        ensures { IfSome result Self.Task.can_poll };
 }
 
 /// A connection under way, which has so long to end, whatever it ends with.
 #[derive(Drop)]
-pub struct Visit<C> {
+pub struct ConnectionTask<C> {
     timed: Timeout<C>,
     // It is dropped after the connection.
-    seat: OwnedSemaphorePermit,
+    permit: OwnedSemaphorePermit,
 }
 
-impl<C: Future> Visit<C> {
+impl<C: Future> ConnectionTask<C> {
     /// `None` where there is no memory, or the clock can't be read.
     pub fn new(
         clock: &impl Clock,
         timers: &Handle,
         whole: Duration,
         connection: C,
-        seat: OwnedSemaphorePermit,
-    ) -> Option<Visit<C>>
+        permit: OwnedSemaphorePermit,
+    ) -> Option<ConnectionTask<C>>
         requires { C.can_poll connection }
-        ensures ready { IfSome result (λ visit. C.can_poll (timeout_future visit.timed)) }
-        ensures connection { IfSome result (λ visit. timeout_future visit.timed ≡ connection) }
-        ensures whole { IfSome result (λ visit.
-            IsDelayedBy whole (sleep_deadline (timeout_delay visit.timed))) }
+        ensures ready { IfSome result (λ task. C.can_poll (timeout_future task.timed)) }
+        ensures connection { IfSome result (λ task. timeout_future task.timed ≡ connection) }
+        ensures whole { IfSome result (λ task.
+            IsDelayedBy whole (sleep_deadline (timeout_delay task.timed))) }
     {
         let timed = timers.timeout(clock, whole, connection).ok()?;
-        Some(Visit { timed, seat })
+        Some(ConnectionTask { timed, permit })
     }
 }
 
-impl<C: Future> Future for Visit<C>
+impl<C: Future> Future for ConnectionTask<C>
 where
     C::Output: Drop,
 {
     type Output = ();
 
-    ghost can_poll = { λ visit. C.can_poll (timeout_future visit.timed) };
+    ghost can_poll = { λ task. C.can_poll (timeout_future task.timed) };
 
     fn poll(&mut self, cx: &mut Context<'_>) -> Poll<()> {
         let _ = ready!(self.timed.poll(cx));
@@ -74,15 +74,15 @@ where
 
 /// Accepts so many connections, and starts the task of each.
 #[derive(Drop)]
-pub struct Accepting<'a, D: Opens> {
-    pub tasks: &'a TaskSet<D::Visit>,
+pub struct Accepting<'a, F: ConnectionFactory> {
+    pub tasks: &'a TaskSet<F::Task>,
     pub listener: TcpListener,
-    pub door: D,
-    pub seats: Seats,
-    /// How many seats there are.
+    pub factory: F,
+    pub permits: Permits,
+    /// How many permits there are.
     pub at_once: u32,
-    /// The seat of the next connection.
-    pub seat: Option<OwnedSemaphorePermit>,
+    /// The permit of the next connection.
+    pub permit: Option<OwnedSemaphorePermit>,
     pub left: u32,
 }
 
@@ -97,16 +97,16 @@ fn is_gone(error: &io::Error) -> bool
     )
 }
 
-// Where no connection can be accepted, as for want of descriptors: there is a seat fewer, so the
-// next is accepted once one under way has ended. The fault comes once no seat is left, and then
+// Where no connection can be accepted, as for want of descriptors: there is a permit fewer, so the
+// next is accepted once one under way has ended. The fault comes once no permit is left, and then
 // none is under way.
-fn give_up_seat(seat: Option<OwnedSemaphorePermit>, at_once: &mut u32) -> Result<(), ServeFault>
+fn give_up_permit(permit: Option<OwnedSemaphorePermit>, at_once: &mut u32) -> Result<(), ServeFault>
     ensures fewer { (at_once.old ≡ 0) ⊎ (at_once.old ≡ at_once.new + 1) }
     ensures last { (result ≡ Err AcceptFailed) ↔ (at_once.new ≡ 0) }
     ensures err { IfErr result (λ f. f ≡ AcceptFailed) }
 {
-    if let Some(seat) = seat {
-        seat.forget();
+    if let Some(permit) = permit {
+        permit.forget();
     }
     *at_once = at_once.saturating_sub(1);
     if *at_once == 0 {
@@ -115,10 +115,10 @@ fn give_up_seat(seat: Option<OwnedSemaphorePermit>, at_once: &mut u32) -> Result
     Ok(())
 }
 
-impl<D: Opens> Future for Accepting<'_, D> {
+impl<F: ConnectionFactory> Future for Accepting<'_, F> {
     type Output = Result<(), ServeFault>;
 
-    ghost can_poll = { λ accepting. IfSome accepting.seats.waiting CanAcquire };
+    ghost can_poll = { λ accepting. IfSome accepting.permits.waiting CanAcquire };
 
     ghost gives = { λ _ ended. IfErr ended (λ f. (f ≡ AcceptFailed) ⊎ (f ≡ OutOfMemory)) };
 
@@ -127,17 +127,17 @@ impl<D: Opens> Future for Accepting<'_, D> {
             if self.left == 0 {
                 return Poll::Ready(Ok(()));
             }
-            if self.seat.is_none() {
-                let Some(seat) = ready!(self.seats.poll_next(cx)) else {
+            if self.permit.is_none() {
+                let Some(permit) = ready!(self.permits.poll_next(cx)) else {
                     return Poll::Ready(Err(ServeFault::OutOfMemory));
                 };
-                self.seat = Some(seat);
+                self.permit = Some(permit);
             }
             let socket = match ready!(self.listener.poll_accept(cx)) {
                 Ok((socket, _peer)) => socket,
                 Err(error) if is_gone(&error) => continue,
                 Err(_) => {
-                    if let Err(fault) = give_up_seat(self.seat.take(), &mut self.at_once) {
+                    if let Err(fault) = give_up_permit(self.permit.take(), &mut self.at_once) {
                         return Poll::Ready(Err(fault));
                     }
                     continue;
@@ -145,10 +145,10 @@ impl<D: Opens> Future for Accepting<'_, D> {
             };
             self.left -= 1;
             // Without memory for its task the connection is closed, and counts as served.
-            if let Some(seat) = self.seat.take()
-                && let Some(visit) = self.door.open(socket, seat)
+            if let Some(permit) = self.permit.take()
+                && let Some(task) = self.factory.open(socket, permit)
             {
-                let _ = self.tasks.spawn(visit);
+                let _ = self.tasks.spawn(task);
             }
         }
         cx.yield_now()

@@ -1,4 +1,4 @@
-//! Places of which there are only so many at once.
+//! Permits of which there are only so many at once.
 
 ghost use Rattle.std.specs.Prelude.{◌≡◌, IfOk, IfSome, None};
 ghost use Rattle.tokio.specs.Locks.{CanAcquire};
@@ -9,41 +9,41 @@ use std::alloc::{AllocError, Global};
 use std::sync::Arc;
 use tokio::sync::{AcquireOwned, OwnedSemaphorePermit, Semaphore};
 
-/// Gives each place that is free, and ends where there is no memory.
+/// Gives each permit that is free, and ends where there is no memory.
 #[derive(Drop)]
-pub struct Seats {
+pub struct Permits {
     free: Arc<Semaphore>,
     waiting: Option<AcquireOwned>,
 }
 
-impl Seats {
-    /// So many places, but at least one.
-    pub fn new(alloc: Global, at_once: u32) -> Result<Seats, AllocError>
-        ensures { IfOk result (λ seats. seats.waiting ≡ None) }
+impl Permits {
+    /// So many permits, but at least one.
+    pub fn new(alloc: Global, at_once: u32) -> Result<Permits, AllocError>
+        ensures { IfOk result (λ permits. permits.waiting ≡ None) }
     {
         let free = Arc::new(alloc, Semaphore::new(alloc, at_once.max(1) as usize)?)?;
-        Ok(Seats {
+        Ok(Permits {
             free,
             waiting: None,
         })
     }
 
-    /// A share of these places for another who waits. `None` where there is no memory.
-    pub fn again(&self) -> Option<Seats>
-        ensures { IfSome result (λ seats. seats.waiting ≡ None) }
+    /// A share of these permits for another who waits. `None` where there is no memory.
+    pub fn again(&self) -> Option<Permits>
+        ensures { IfSome result (λ permits. permits.waiting ≡ None) }
     {
         let free = Arc::try_clone(&self.free).ok()?;
-        Some(Seats {
+        Some(Permits {
             free,
             waiting: None,
         })
     }
 }
 
-impl Stream for Seats {
+impl Stream for Permits {
     type Item = OwnedSemaphorePermit;
 
-    ghost can_poll = { λ seats. IfSome seats.waiting CanAcquire };
+    ghost can_poll = { λ permits. IfSome permits.waiting CanAcquire };
 
     fn poll_next(&mut self, cx: &mut Context<'_>) -> Poll<Option<OwnedSemaphorePermit>> {
         let mut waiting = match self.waiting.take() {
@@ -54,7 +54,7 @@ impl Stream for Seats {
             },
         };
         match waiting.poll(cx) {
-            Poll::Ready(seat) => Poll::Ready(seat.ok()),
+            Poll::Ready(permit) => Poll::Ready(permit.ok()),
             Poll::Pending => {
                 self.waiting = Some(waiting);
                 Poll::Pending

@@ -3,7 +3,7 @@
 ghost use Rattle.std.specs.Prelude.{◌≡◌, ◌<◌, ℕ, List, length, Some, IfOk, IfErr, IfSome};
 ghost use Rattle.message_format.specs.Spelling.{max_message};
 ghost use Rattle.node_calls.specs.Asks.{ask_value_first};
-ghost use Rattle.node_registry.specs.Receipts.{IsEntryFor, IsGiven};
+ghost use Rattle.node_registry.specs.Receipts.{IsAnswered};
 ghost use Rattle.node_registry.specs.Receipts as receipts;
 ghost use Rattle.http_routes.specs.Replies.{http_value};
 ghost use Rattle.http_routes.specs.Requests.{IsWanted, ask_value, wanted};
@@ -11,15 +11,15 @@ ghost use Rattle.http_routes.specs.Requests as requests;
 ghost use Rattle.http_serve.specs.Served.{IsServed};
 
 use http_paths::Routes;
-use http_routes::{HttpReply, ReplyRoom, Wanted, route, too_long};
-use node_core::{Ask, NodeFault, Receipt};
+use http_routes::{HttpReply, ReplyRoom, Wanted, route_owned, too_long};
+use node_core::{Ask, NodeFault, Reply};
 use node_registry::{Label, Registry, Seat};
 use report_text::report_json;
 use std::alloc::{AllocError, Global};
 use std::sync::{Arc, Mutex, Wait};
 
-/// Whoever answers requests.
-pub trait Answers: Drop {
+/// Answers requests.
+pub trait Handler: Drop {
     /// The reply to a request whose body came whole.
     fn reply<R: Wait>(
         &self,
@@ -27,7 +27,7 @@ pub trait Answers: Drop {
         alloc: Global,
         method: &str,
         path: &str,
-        body: &[u8],
+        body: Vec<u8>,
     ) -> HttpReply;
 
     /// The reply to a request whose body is longer than the longest.
@@ -36,25 +36,25 @@ pub trait Answers: Drop {
 
 /// A node with the seat from which requests call it, and the routes of their paths.
 #[derive(Drop)]
-pub struct Desk<L: Label> {
+pub struct NodeHandler<L: Label> {
     routes: Routes,
     registry: Arc<Registry<L>>,
     seat: Mutex<Seat<L>>,
 }
 
-impl<L: Label> Desk<L> {
+impl<L: Label> NodeHandler<L> {
     /// The only error is out of memory.
     pub fn new(
         alloc: Global,
         registry: &Arc<Registry<L>>,
         seat: Seat<L>,
-    ) -> Result<Arc<Desk<L>>, AllocError> {
-        let desk = Desk {
+    ) -> Result<Arc<NodeHandler<L>>, AllocError> {
+        let handler = NodeHandler {
             routes: Routes::new(alloc)?,
             registry: Arc::try_clone(registry)?,
             seat: Mutex::new(seat),
         };
-        Ok(Arc::new(alloc, desk)?)
+        Ok(Arc::new(alloc, handler)?)
     }
 
     /// The reply to a request whose body came whole. A call is made once there is room for its
@@ -65,44 +65,37 @@ impl<L: Label> Desk<L> {
         alloc: Global,
         method: &str,
         path: &str,
-        body: &[u8],
+        body: Vec<u8>,
     ) -> HttpReply
-        ensures { IsServed L.config (wanted method.now path.now body.now) (http_value result) }
+        ensures { IsServed L.config (wanted method.now path.now body.items) (http_value result) }
     {
-        match route(alloc, &self.routes, method, path, body) {
-            Wanted::Do(ask) => self.call(rt, alloc, &ask),
+        match route_owned(alloc, &self.routes, method, path, body) {
+            Wanted::Do(ask) => self.call(rt, alloc, ask),
             Wanted::List => self.list(rt, alloc),
             Wanted::Report => self.report(rt, alloc),
             Wanted::Answered(reply) => reply,
         }
     }
 
-    fn call<R: Wait>(&self, rt: &R, alloc: Global, ask: &Ask) -> HttpReply
-        ensures { IfSome (ask_value ask.now) (λ a.
+    fn call<R: Wait>(&self, rt: &R, alloc: Global, ask: Ask) -> HttpReply
+        ensures { IfSome (ask_value ask) (λ a.
             IsServed L.config (requests.call a) (http_value result)) }
     {
         let Ok(room) = ReplyRoom::new(alloc) else {
             return HttpReply::no_memory(alloc);
         };
-        match self.enter(rt, alloc, ask) {
-            Ok(receipt) => {
-                let entry = receipt.entry;
-                room.reply(&Ok(entry.reply))
-            }
-            Err(fault) => room.reply(&Err(fault)),
-        }
+        let outcome = self.submit(rt, alloc, ask);
+        room.reply(&outcome)
     }
 
     // Makes a call from the seat, which one connection has at a time.
-    fn enter<R: Wait>(&self, rt: &R, alloc: Global, ask: &Ask) -> Result<Receipt, NodeFault>
-        ensures receipt { IfOk result (λ r.
-            (r.node ≡ L.config.node) × IsEntryFor L.config.nodes ask.now r.entry) }
-        ensures given { IfOk result (IsGiven L.config) }
+    fn submit<R: Wait>(&self, rt: &R, alloc: Global, ask: Ask) -> Result<Reply, NodeFault>
+        ensures answered { IfOk result (IsAnswered L.config ask) }
         ensures refused { IfErr result
-            (receipts.IsRefused L.config (ask_value_first L.config.nodes ask.now)) }
+            (receipts.IsRefused L.config (ask_value_first L.config.nodes ask)) }
     {
         let mut seat = self.seat.lock(rt);
-        self.registry.enter(rt, alloc, &mut seat, ask)
+        self.registry.submit(rt, alloc, &mut seat, ask)
     }
 
     fn list<R: Wait>(&self, rt: &R, alloc: Global) -> HttpReply
@@ -132,16 +125,16 @@ impl<L: Label> Desk<L> {
     }
 }
 
-impl<L: Label> Answers for Desk<L> {
+impl<L: Label> Handler for NodeHandler<L> {
     fn reply<R: Wait>(
         &self,
         rt: &R,
         alloc: Global,
         method: &str,
         path: &str,
-        body: &[u8],
+        body: Vec<u8>,
     ) -> HttpReply
-        ensures { IsServed L.config (wanted method.now path.now body.now) (http_value result) }
+        ensures { IsServed L.config (wanted method.now path.now body.items) (http_value result) }
     {
         self.answer(rt, alloc, method, path, body)
     }

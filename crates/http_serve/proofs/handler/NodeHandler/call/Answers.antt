@@ -1,0 +1,8 @@
+use Rattle.http_routes.specs.Replies.{http_value}
+use Rattle.http_serve.proofs.Calls.{called_by}
+use Rattle.http_serve.proofs.handler.NodeHandler.call.Goals as goal
+
+pub returns : goal.returns
+returns g c =
+    let made = c.submit-outcome.ensures in
+    called_by g.L.Label.config c.args.ask (http_value c.reply.result) c.submit-outcome.result made.answered made.refused c.reply.ensures.accepted c.reply.ensures.refused
