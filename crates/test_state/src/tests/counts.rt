@@ -1,6 +1,6 @@
 //! Counters of hits and budgets: calls in tables, each with its answer and what is then read.
 
-use super::joined::{expect_joins, order};
+use super::joined::expect_joins;
 use super::{expect, expect_print};
 use counters::{Budget, CounterFault, HitCounter};
 use lattice_laws::Join;
@@ -296,14 +296,9 @@ const RAISED_TWICE: &[HitCall] = &[HitCall::Raise(0, 4), HitCall::Raise(1, 7)];
 #[test]
 fn joins_hits(rt: HostRuntime) -> Result<(), Fail> {
     let alloc = rt.alloc();
-    let one = called(alloc, RAISED_ONCE)?;
-    let other = called(alloc, RAISED_TWICE)?;
-    expect(
-        &rt,
-        &(order(&one, &other), one.is_bottom()),
-        &((false, false), false),
-    );
-    expect_joins(&rt, alloc, (&one, &other), hits, &(5, 7, 12))?;
+    let both = (called(alloc, RAISED_ONCE)?, called(alloc, RAISED_TWICE)?);
+    let orders = ((false, false), false);
+    expect_joins(&rt, alloc, both, orders, hits, &(5, 7, 12))?;
     Ok(())
 }
 
@@ -323,20 +318,10 @@ const MOVED: &[Call] = &[Call::RaiseMoved(0, 1, 2), Call::RaiseMoved(1, 0, 1)];
 #[test]
 fn joins_budgets(rt: HostRuntime) -> Result<(), Fail> {
     let alloc = rt.alloc();
-    let one = taken(alloc, SPENT)?;
-    let other = taken(alloc, MOVED)?;
-    expect(
-        &rt,
-        &(order(&one, &other), one.is_bottom()),
-        &((false, false), false),
-    );
-    expect_joins(
-        &rt,
-        alloc,
-        (&one, &other),
-        seen,
-        &((1, 2, 0, 0), (0, 1, 1, 0)),
-    )?;
+    let both = (taken(alloc, SPENT)?, taken(alloc, MOVED)?);
+    let orders = ((false, false), false);
+    let wanted = ((1, 2, 0, 0), (0, 1, 1, 0));
+    expect_joins(&rt, alloc, both, orders, seen, &wanted)?;
     Ok(())
 }
 

@@ -32,18 +32,21 @@ fn join_in<J: Join>(
     Ok(())
 }
 
-/// Ends the test where what joins two values doesn't show this: in place of a copy of the first,
-/// and beside them in both directions.
+/// Ends the test where two values aren't below each other so, the first isn't the bottom or is it,
+/// or what joins them doesn't show this: in place of a copy of the first, and beside them in both
+/// directions. The values are dropped here, once for all types.
 pub(super) fn expect_joins<J: Join, V: PartialEq + Debug + Drop, F: Fn(&J) -> V>(
     rt: &impl Abort,
     alloc: Global,
-    values: (&J, &J),
+    values: (J, J),
+    orders: ((bool, bool), bool),
     show: F,
     wanted: &V,
 ) -> Result<(), AllocError>
     requires { F.IsAlwaysCallable show }
 {
-    let (one, other) = values;
+    let (one, other) = &values;
+    expect(rt, &(order(one, other), one.is_bottom()), &orders);
     let mut grown = one.copied(alloc)?;
     expect(rt, &same(&grown, one), &true);
     join_in(rt, alloc, &mut grown, other)?;

@@ -1,5 +1,5 @@
 use super::expect;
-use super::joined::{expect_joins, order};
+use super::joined::expect_joins;
 use lattice_laws::{Held, Join, LexOf, MapOf, Max, PairOf};
 use std::alloc::{AllocError, Global};
 use std::mem;
@@ -21,16 +21,16 @@ fn numbers(rt: HostRuntime) -> Result<(), Fail> {
         (4, 4, 4, (true, true)),
         (0, 7, 7, (true, false)),
     ] {
-        let (left, right) = (Max(one), Max(other));
+        let values = (Max(one), Max(other));
+        let orders = (is_below, one == 0);
         expect_joins(
             &rt,
             rt.alloc(),
-            (&left, &right),
+            values,
+            orders,
             |number| *number,
             &Max(both),
         )?;
-        expect(&rt, &order(&left, &right), &is_below);
-        expect(&rt, &left.is_bottom(), &(one == 0));
     }
     Ok(())
 }
@@ -55,10 +55,15 @@ fn pairs(rt: HostRuntime) -> Result<(), Fail> {
         ((4, 3), (5, 6), (5, 6), (true, false)),
         ((0, 0), (0, 0), (0, 0), (true, true)),
     ] {
-        let (left, right) = (pair(one), pair(other));
-        expect_joins(&rt, rt.alloc(), (&left, &right), parts, &both)?;
-        expect(&rt, &order(&left, &right), &is_below);
-        expect(&rt, &left.is_bottom(), &(one == (0, 0)));
+        let orders = (is_below, one == (0, 0));
+        expect_joins(
+            &rt,
+            rt.alloc(),
+            (pair(one), pair(other)),
+            orders,
+            parts,
+            &both,
+        )?;
     }
     Ok(())
 }
@@ -171,14 +176,9 @@ fn cells_and_len(table: &Table) -> ([u64; 4], usize) {
 #[test]
 fn maps(rt: HostRuntime) -> Result<(), Fail> {
     for (one, other, is_below, wanted) in TABLES {
-        let left = table(&rt, rt.alloc(), one)?;
-        let right = table(&rt, rt.alloc(), other)?;
-        expect(
-            &rt,
-            &(order(&left, &right), left.is_bottom()),
-            &(is_below, one.is_empty()),
-        );
-        expect_joins(&rt, rt.alloc(), (&left, &right), cells_and_len, &wanted)?;
+        let values = (table(&rt, rt.alloc(), one)?, table(&rt, rt.alloc(), other)?);
+        let orders = (is_below, one.is_empty());
+        expect_joins(&rt, rt.alloc(), values, orders, cells_and_len, &wanted)?;
     }
     Ok(())
 }
@@ -240,14 +240,9 @@ fn keys_and_values(rt: HostRuntime) -> Result<(), Fail> {
         (Some((2, 3)), Some((2, 3)), Some((2, 3)), (true, true)),
         (None, Some((1, 9)), Some((1, 9)), (true, false)),
     ] {
-        let left = keyed(rt.alloc(), one)?;
-        let right = keyed(rt.alloc(), other)?;
-        expect(
-            &rt,
-            &(order(&left, &right), left.is_bottom()),
-            &(is_below, one.is_none()),
-        );
-        expect_joins(&rt, rt.alloc(), (&left, &right), held, &both)?;
+        let values = (keyed(rt.alloc(), one)?, keyed(rt.alloc(), other)?);
+        let orders = (is_below, one.is_none());
+        expect_joins(&rt, rt.alloc(), values, orders, held, &both)?;
     }
     Ok(())
 }

@@ -68,17 +68,13 @@ const JOINS: &[Join] = &[
 fn all_joins<R: Replica>(rt: &impl Abort, alloc: Global) -> Result<(), Fail> {
     let name = name(alloc, "a")?;
     for (one, other, is_below, told) in JOINS {
-        let left: R = learned(rt, alloc, one)?;
-        let right: R = learned(rt, alloc, other)?;
-        expect(
-            rt,
-            &(order(&left, &right), left.is_bottom()),
-            &(*is_below, one.is_empty()),
-        );
+        let values: (R, R) = (learned(rt, alloc, one)?, learned(rt, alloc, other)?);
+        let orders = (*is_below, one.is_empty());
         expect_joins(
             rt,
             alloc,
-            (&left, &right),
+            values,
+            orders,
             |both| seen(both, &name),
             &wanted(*told),
         )?;
@@ -182,13 +178,9 @@ fn all_merges<R: Replica>(rt: &impl Abort, alloc: Global) -> Result<(), Fail> {
         );
         let merged = merged(rt, alloc, &left, &right)?;
         expect_names(rt, alloc, &merged, names)?;
-        expect_joins(
-            rt,
-            alloc,
-            (&left, &right),
-            |both| same(both, &merged),
-            &true,
-        )?;
+        let orders = (order(&left, &right), left.is_bottom());
+        let is_merged = |both: &R| same(both, &merged);
+        expect_joins(rt, alloc, (left, right), orders, is_merged, &true)?;
     }
     Ok(())
 }
