@@ -117,6 +117,10 @@ abbrev pub is_pass : Ask → Bool
 is_pass (asks.Pass name) = true
 is_pass _ = false
 
+abbrev pub is_delivery : Ask → Bool
+is_delivery (asks.Deliver bytes) = true
+is_delivery _ = false
+
 -- the bytes of a delivery
 abbrev pub bytes_of : Ask → List ℕ
 bytes_of (asks.Deliver bytes) = bytes.items

@@ -1,9 +1,9 @@
 //! What a node is asked.
 
-ghost use Rattle.std.specs.Prelude.{◌≡◌, ℕ, IfOk, IfErr};
+ghost use Rattle.std.specs.Prelude.{◌≡◌, ℕ, IfOk, IfErr, OnErr, false};
 ghost use Rattle.node_calls.specs.declared.ask.Ask.TheVariants.{Deliver};
 ghost use Rattle.node_calls.specs.declared.reply.Reply.{Reply};
-ghost use Rattle.node_calls.specs.Asks.{ask_value, bytes_of, is_pass};
+ghost use Rattle.node_calls.specs.Asks.{ask_value, bytes_of, is_delivery, is_pass};
 ghost use Rattle.node_calls.specs.Told.{ask_ref_told, ask_told};
 
 use crate::ask_ref::AskRef;
@@ -105,10 +105,11 @@ impl Ask {
         self.as_ref().copied(alloc)
     }
 
-    /// The bytes of a delivery, or the request as it was.
+    /// The bytes of a delivery, or any other request as it was.
     pub fn into_message(self) -> Result<Vec<u8>, Ask>
         ensures ok { IfOk result (λ message. self ≡ Deliver message) }
         ensures err { IfErr result (λ ask. ask ≡ self) }
+        ensures other { OnErr result (is_delivery self ≡ false) }
     {
         match self {
             Ask::Deliver { message } => Ok(message),

@@ -164,6 +164,7 @@ impl<L: Label> Guarded<L> {
         let Guarded { cell, book: ledger } = self;
         let Seat { calls, share } = seat;
         ledger.audit(share);
+        // The call says that the cell is lawful, and nothing else is wanted of it.
         let _ = cell.core();
         let reply = cell.submit(alloc, ask)?;
         ledger.add(share, 1);

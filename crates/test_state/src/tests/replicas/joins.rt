@@ -178,7 +178,7 @@ fn all_merges<R: Replica>(rt: &impl Abort, alloc: Global) -> Result<(), Fail> {
         );
         let merged = merged(rt, alloc, &left, &right)?;
         expect_names(rt, alloc, &merged, names)?;
-        let orders = (order(&left, &right), left.is_bottom());
+        let orders = ((one.is_empty(), other.is_empty()), one.is_empty());
         let is_merged = |both: &R| same(both, &merged);
         expect_joins(rt, alloc, (left, right), orders, is_merged, &true)?;
     }

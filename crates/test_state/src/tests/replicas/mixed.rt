@@ -193,7 +193,7 @@ fn joins_halves<R: Replica, S: Replica>(
     let orders = (order(&first, &whole), order(&second, &whole));
     expect(rt, &orders, &((true, false), (true, false)));
     let is_whole = |both: &R| same(both, &whole) && is_same(plain, both, names);
-    let orders = (order(&first, &second), first.is_bottom());
+    let orders = ((false, false), false);
     expect_joins(rt, alloc, (first, second), orders, is_whole, &true)?;
     Ok(())
 }
