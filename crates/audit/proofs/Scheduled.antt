@@ -88,21 +88,21 @@ record IsBrought (nodes : ℕ) (ask : Ask) (read : Result Message WireFault) : T
   pub is : delivered_in ask ≡ Some bytes
   pub brings : read ≡ message_read nodes bytes
 
-brought : (nodes : ℕ) (ask : Ask) (reply : Reply) (read : Result Message WireFault) → ask_value nodes ask reply ≡ asks.Deliver read → IsBrought nodes ask read
+received : (nodes : ℕ) (ask : Ask) (reply : Reply) (read : Result Message WireFault) → ask_value nodes ask reply ≡ asks.Deliver read → IsBrought nodes ask read
 unfolding is_delivery
-brought nodes (asked.Deliver bytes) reply read h =
+received nodes (asked.Deliver bytes) reply read h =
     let same : message_read nodes bytes.items ≡ read = cc in
     record { bytes = bytes.items; is = refl; brings = sym same }
-brought nodes (asked.Emit to) reply read h =
+received nodes (asked.Emit to) reply read h =
     let one : is_delivery (emit_asked nodes to reply) ≡ true = ap is_delivery h in
     let other : is_delivery (emit_asked nodes to reply) ≡ false = no_delivery nodes to reply in
     absurd (let impossible : true ≡ false = sym one ∙ other in cc)
-brought nodes (asked.Set name text) reply read h = absurd (let impossible : ⊥ = cc in impossible)
-brought nodes (asked.Remove name) reply read h = absurd (let impossible : ⊥ = cc in impossible)
-brought nodes (asked.Load text) reply read h = absurd (let impossible : ⊥ = cc in impossible)
-brought nodes (asked.Pass name) reply read h = absurd (let impossible : ⊥ = cc in impossible)
-brought nodes (asked.Shift name term to amount) reply read h = absurd (let impossible : ⊥ = cc in impossible)
-brought nodes (asked.Grant name term amount) reply read h = absurd (let impossible : ⊥ = cc in impossible)
+received nodes (asked.Set name text) reply read h = absurd (let impossible : ⊥ = cc in impossible)
+received nodes (asked.Remove name) reply read h = absurd (let impossible : ⊥ = cc in impossible)
+received nodes (asked.Load text) reply read h = absurd (let impossible : ⊥ = cc in impossible)
+received nodes (asked.Pass name) reply read h = absurd (let impossible : ⊥ = cc in impossible)
+received nodes (asked.Shift name term to amount) reply read h = absurd (let impossible : ⊥ = cc in impossible)
+received nodes (asked.Grant name term amount) reply read h = absurd (let impossible : ⊥ = cc in impossible)
 
 -- a delivery that is accepted is of a message
 read_ok : (config : Config) (entries : ℕ) (n : Node) (read : Result Message WireFault) (words : List ℕ) → refusal_at config entries n (asks.Deliver read) words ≡ None →
@@ -237,7 +237,7 @@ module _ (nodes : ℕ) (traces : Traces) (sized : IsSized nodes traces) (legal :
 
     given : (read : Result Message WireFault) → e.ask ≡ asks.Deliver read → IsIn (message_in read) (world c es).messages
     given read is =
-        let bring = brought nodes ready.entry.ask ready.entry.reply read is in
+        let bring = received nodes ready.entry.ask ready.entry.reply read is in
         let ok = read_ok config (length so_far) ((world c es).node place.0) read e.words (subst (λ a. refusal_at config (length so_far) ((world c es).node place.0) a e.words ≡ None) is agreed) in
         let sent : IsSent traces earlier bring.bytes = ready.fed bring.bytes bring.is in
         subst (λ r. IsIn (message_in r) (world c es).messages) (sym ok.1)

@@ -37,20 +37,20 @@ module _ (v : State) (told : List Operation) (ts : List Told) (e : map news_of t
   change_if_any = any_in_part (λ op. not (knows v op)) told ∙ ap (λ n. nat_lt 0 n) (sym (length-map (unknown_in v told) (λ op. (op, brings_key v op))) ∙ ap length (sym e) ∙ length-map ts news_of)
 
   -- who knows just the news brings them
-  pub news_brought : (brought : State) → brought ≡ fold (map operation_of ts ++ []) → BringsNews v brought (map operation_of ts)
-  news_brought brought knows a both f union =
+  pub news_received : (received : State) → received ≡ fold (map operation_of ts ++ []) → BringsNews v received (map operation_of ts)
+  news_received received knows a both f union =
       let news = map operation_of ts in
       union a (news ++ []) f knows ∙ ap (λ os. fold (a ++ os)) (append-nil news) ∙ same_members (a ++ news) (news ++ a) (turned a news) (turned news a)
 
   -- so does who knows all that was told
-  pub told_brought : (brought : State) → brought ≡ fold told → BringsNews v brought (map operation_of ts)
-  told_brought brought knows a both f union =
+  pub told_received : (received : State) → received ≡ fold told → BringsNews v received (map operation_of ts)
+  told_received received knows a both f union =
       union a told f knows ∙ same_members (a ++ told) (told ++ a) (turned a told) (turned told a) ∙ sym (news_suffice a told)
       ∙ ap (λ (x : State). fold (unknown_in x told ++ a)) (sym f) ∙ ap (λ os. fold (os ++ a)) (sym are_unknown)
 
   -- the state that a merge with them comes to
-  pub learned_state : (w brought : State) → BringsNews v brought (map operation_of ts) → IsUnion v brought w → (a : List Operation) → v ≡ fold a → w ≡ fold (unknown_in v told ++ a)
-  learned_state w brought brings union a f = brings a w f union ∙ ap (λ os. fold (os ++ a)) are_unknown
+  pub learned_state : (w received : State) → BringsNews v received (map operation_of ts) → IsUnion v received w → (a : List Operation) → v ≡ fold a → w ≡ fold (unknown_in v told ++ a)
+  learned_state w received brings union a f = brings a w f union ∙ ap (λ os. fold (os ++ a)) are_unknown
 
   pub learned_all : (w : State) → ((a : List Operation) → v ≡ fold a → w ≡ fold (unknown_in v told ++ a)) → HasLearned v w told
   learned_all w state a f = state a f ∙ ap (λ (x : State). fold (unknown_in x told ++ a)) f ∙ news_suffice a told

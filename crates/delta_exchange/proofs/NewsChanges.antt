@@ -158,11 +158,11 @@ carried v m n key e = by_name (bytes_eq m n) refl e
     by_name true f h = subst (λ q. KeyUpto (Some key) (v.key q)) (bytes_eq-true m n f) (upto_true (Some key) (v.key m) (not-false (is_upto (Some key) (v.key m)) h))
     by_name false f h = tt
 
-not_brought : (v : State) (n : List ℕ) (op : Operation) → changes_key v n op ≡ false → KeyUpto (key_in n op) (v.key n)
-not_brought v n (Set m key) e = carried v m n key e
-not_brought v n (Count (Hits m i) k) e = tt
-not_brought v n (Count (Execs m key t i) k) e = carried v m n key e
-not_brought v n (Count (Shifts m key t i j) k) e = carried v m n key e
+not_received : (v : State) (n : List ℕ) (op : Operation) → changes_key v n op ≡ false → KeyUpto (key_in n op) (v.key n)
+not_received v n (Set m key) e = carried v m n key e
+not_received v n (Count (Hits m i) k) e = tt
+not_received v n (Count (Execs m key t i) k) e = carried v m n key e
+not_received v n (Count (Shifts m key t i j) k) e = carried v m n key e
 
 -- where neither its key nor its cell differs, an operation is known of both or of none
 alike : (v w : State) (op : Operation) (c : Counted) → is_of (counted_of (count_told op)) c ≡ true → IsSameCell v w (name_in op) c → knows v op ≡ knows w op
@@ -183,8 +183,8 @@ module _ (base fresh : List Operation) (unknown : (op : Operation) → IsIn op f
   learned : (op : Operation) → IsIn op fresh → knows (fold (fresh ++ base)) op ≡ true
   learned op m = is_known fresh (fresh ++ base) (same_members (fresh ++ (fresh ++ base)) (fresh ++ base) (λ o h. ⊎_elim (λ k. IsIn-append_left o fresh base k) (λ k. k) (IsIn-append_cases o fresh (fresh ++ base) h)) (λ o h. IsIn-append_right o fresh (fresh ++ base) h)) op m
 
-  brought : (op : Operation) → IsIn op fresh → (n : List ℕ) → changes_key (fold base) n op ≡ true → IsSameKey (fold base) (fold (fresh ++ base)) n → ⊥
-  brought op m n e same =
+  received : (op : Operation) → IsIn op fresh → (n : List ℕ) → changes_key (fold base) n op ≡ true → IsSameKey (fold base) (fold (fresh ++ base)) n → ⊥
+  received op m n e same =
       let v = fold base in
       let w = fold (fresh ++ base) in
       let parts = and_parts (bytes_eq (name_in op) n) (brings_key v op) e in
@@ -196,7 +196,7 @@ module _ (base fresh : List Operation) (unknown : (op : Operation) → IsIn op f
   kept_key : (n : List ℕ) → list_any (changes_key (fold base) n) fresh ≡ false → IsSameKey (fold base) (fold (fresh ++ base)) n
   unfolding fold
   kept_key n e = KeyUpto-antisym _ _ (key_of-mono n base (fresh ++ base) (λ op. IsIn-append_right op fresh base))
-      (key_of-least n (key_of n base) (fresh ++ base) (λ op m. ⊎_elim (λ k. not_brought (fold base) n op (any_false (changes_key (fold base) n) fresh e op k)) (key_of-is_in n op base) (IsIn-append_cases op fresh base m)))
+      (key_of-least n (key_of n base) (fresh ++ base) (λ op m. ⊎_elim (λ k. not_received (fold base) n op (any_false (changes_key (fold base) n) fresh e op k)) (key_of-is_in n op base) (IsIn-append_cases op fresh base m)))
 
   kept_number : (c : Cell) → ((k : ℕ) → IsIn (Count c k) fresh → ⊥) → number_at c base ≡ number_at c (fresh ++ base)
   kept_number c none = le_both _ _
@@ -239,7 +239,7 @@ module _ (base fresh : List Operation) (unknown : (op : Operation) → IsIn op f
       true≢false (sym (learned op m) ∙ sym (alike (fold base) (fold (fresh ++ base)) op c parts.1 here) ∙ unknown op m)
 
   key_differs : (n : List ℕ) → list_any (changes_key (fold base) n) fresh ≡ true → IsSameKey (fold base) (fold (fresh ++ base)) n → ⊥
-  key_differs n e same = let found = some_true (changes_key (fold base) n) fresh e in brought found.0 found.1 n found.2 same
+  key_differs n e same = let found = some_true (changes_key (fold base) n) fresh e in received found.0 found.1 n found.2 same
 
   pub news_tell : Tells (fold base) (fold (fresh ++ base)) (λ n. list_any (changes_key (fold base) n) fresh) (λ n c. list_any (changes_cell n c) fresh)
   news_tell = record {

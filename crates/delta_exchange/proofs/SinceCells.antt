@@ -11,6 +11,7 @@ use Rattle.std.proofs.lemmas.List.{length-map}
 use Rattle.stamp_register.specs.Keys.{KeyValue}
 use Rattle.replica_state.specs.Operations.{IsIn}
 use Rattle.replica_state.specs.States.{State, granted_in}
+use Rattle.replica_state.specs.Cells.{held_at}
 use Rattle.replica_state.specs.Points.{counted_cmp, is_hits}
 use Rattle.replica_state.specs.declared.point.Counted.{Counted}
 use Rattle.replica_state.specs.declared.point.Counted.TheVariants.{Hits, Execs, Shifts}
@@ -64,10 +65,10 @@ module _ (v : State) (nodes : ℕ) (lawful : IsLawfulState nodes v) (few : nodes
 
   -- ---- hits
 
-  pub hit_changed : (c : ℕ × ℕ) → IsIn c (hits_since v name base w) → IsChanged (Hits c.0) c.1
-  hit_changed c h = let r = later_member (hit_of v name) w.key base w.cells.entries c ordered h in by_kind r.counted r.mark r.marked r.above r.is
+  pub hit_changed : (c : ℕ × ℕ) → IsIn c (hits_since (held_at v name) base w) → IsChanged (Hits c.0) c.1
+  hit_changed c h = let r = later_member (hit_of (held_at v name)) w.key base w.cells.entries c ordered h in by_kind r.counted r.mark r.marked r.above r.is
     where
-      by_kind : (d : Counted) (n : ℕ) → cell_in w d ≡ Some n → base < cell_change (is_hits d) n w.key → IsIn c (hit_of v name d) → IsChanged (Hits c.0) c.1
+      by_kind : (d : Counted) (n : ℕ) → cell_in w d ≡ Some n → base < cell_change (is_hits d) n w.key → IsIn c (hit_of (held_at v name) d) → IsChanged (Hits c.0) c.1
       by_kind (Hits node) n e lt k =
           let one = in_cell (v.hits name node) (node, v.hits name node) c k in
           let mark = change_is m name w at (Hits node) ∙ ap (λ o. cell_change true (unwrap_or o 0) w.key) e in
@@ -76,23 +77,23 @@ module _ (v : State) (nodes : ℕ) (lawful : IsLawfulState nodes v) (few : nodes
       by_kind (Execs term node) n e lt k = absurd k
       by_kind (Shifts term from to) n e lt k = absurd k
 
-  pub changed_hit : (node number : ℕ) → IsChanged (Hits node) number → IsIn (node, number) (hits_since v name base w)
+  pub changed_hit : (node number : ℕ) → IsChanged (Hits node) number → IsIn (node, number) (hits_since (held_at v name) base w)
   changed_hit node number d =
       let some : v.hits name node ≢ 0 = λ z. d.positive (d.is_now ∙ z) in
       let k = marked_above w.key base true (cell_in w (Hits node)) (subst (λ z. base < z) (change_is m name w at (Hits node)) d.later) in
       let cell : ℕ × ℕ = (node, v.hits name node) in
-      subst (λ n. IsIn (node, n) (hits_since v name base w)) (sym d.is_now)
-      (member_later (hit_of v name) w.key base w.cells.entries (Hits node) k.0 cell k.1 k.2 (one_cell_in (v.hits name node) cell some))
+      subst (λ n. IsIn (node, n) (hits_since (held_at v name) base w)) (sym d.is_now)
+      (member_later (hit_of (held_at v name)) w.key base w.cells.entries (Hits node) k.0 cell k.1 k.2 (one_cell_in (v.hits name node) cell some))
 
-  pub hits_since_ascend : IsAscending (map hit_place (hits_since v name base w))
-  hits_since_ascend = later_ascends (hit_of v name) w.key base hit_place each across w.cells.entries ordered
+  pub hits_since_ascend : IsAscending (map hit_place (hits_since (held_at v name) base w))
+  hits_since_ascend = later_ascends (hit_of (held_at v name)) w.key base hit_place each across w.cells.entries ordered
     where
-      each : (c : Counted) → IsAscending (map hit_place (hit_of v name c))
+      each : (c : Counted) → IsAscending (map hit_place (hit_of (held_at v name) c))
       each (Hits node) = cell_ascends hit_place (v.hits name node) (node, v.hits name node)
       each (Execs term node) = tt
       each (Shifts term from to) = tt
 
-      across : (c e : Counted) (x y : ℕ × ℕ) → counted_cmp c e ≡ Less → IsIn x (hit_of v name c) → IsIn y (hit_of v name e) → slice_cmp nat_cmp (hit_place x) (hit_place y) ≡ Less
+      across : (c e : Counted) (x y : ℕ × ℕ) → counted_cmp c e ≡ Less → IsIn x (hit_of (held_at v name) c) → IsIn y (hit_of (held_at v name) e) → slice_cmp nat_cmp (hit_place x) (hit_place y) ≡ Less
       across (Hits i) (Hits j) x y lt h k =
           let a = in_cell (v.hits name i) (i, v.hits name i) x h in
           let b = in_cell (v.hits name j) (j, v.hits name j) y k in
@@ -102,18 +103,18 @@ module _ (v : State) (nodes : ℕ) (lawful : IsLawfulState nodes v) (few : nodes
       across (Execs t i) e x y lt h k = absurd h
       across (Shifts t i o) e x y lt h k = absurd h
 
-  pub few_hits_since : length (hits_since v name base w) ≤ max_nodes
+  pub few_hits_since : length (hits_since (held_at v name) base w) ≤ max_nodes
   few_hits_since =
       let all = hit_cells v name nodes in
-      let short = part_is_short (map hit_place (hits_since v name base w)) (map hit_place all) hits_since_ascend (hits_ascend v name nodes) part in
+      let short = part_is_short (map hit_place (hits_since (held_at v name) base w)) (map hit_place all) hits_since_ascend (hits_ascend v name nodes) part in
       let most = few_hits v name nodes few in
-      let a = length-map (hits_since v name base w) hit_place in
+      let a = length-map (hits_since (held_at v name) base w) hit_place in
       let b = length-map all hit_place in
       omega (arith, short, most, a, b)
     where
-      part : (p : List ℕ) → IsIn p (map hit_place (hits_since v name base w)) → IsIn p (map hit_place (hit_cells v name nodes))
+      part : (p : List ℕ) → IsIn p (map hit_place (hits_since (held_at v name) base w)) → IsIn p (map hit_place (hit_cells v name nodes))
       part p h =
-          let r = mapped_from hit_place (hits_since v name base w) p h in
+          let r = mapped_from hit_place (hits_since (held_at v name) base w) p h in
           let d = hit_changed r.0 r.1 in
           let some : v.hits name r.0.0 ≢ 0 = λ z. d.positive (d.is_now ∙ z) in
           subst (λ q. IsIn q (map hit_place (hit_cells v name nodes))) (sym r.2)
@@ -122,10 +123,10 @@ module _ (v : State) (nodes : ℕ) (lawful : IsLawfulState nodes v) (few : nodes
   -- ---- executions
 
   module _ (key : KeyValue) (keyed : v.key name ≡ Some key) where
-    pub exec_changed : (c : ℕ × ℕ × ℕ) → IsIn c (execs_since v name base w) → IsChanged (Execs c.0 c.1) c.2
-    exec_changed c h = let r = later_member (exec_of v name) w.key base w.cells.entries c ordered h in by_kind r.counted r.mark r.marked r.above r.is
+    pub exec_changed : (c : ℕ × ℕ × ℕ) → IsIn c (execs_since (held_at v name) base w) → IsChanged (Execs c.0 c.1) c.2
+    exec_changed c h = let r = later_member (exec_of (held_at v name)) w.key base w.cells.entries c ordered h in by_kind r.counted r.mark r.marked r.above r.is
       where
-        by_kind : (d : Counted) (n : ℕ) → cell_in w d ≡ Some n → base < cell_change (is_hits d) n w.key → IsIn c (exec_of v name d) → IsChanged (Execs c.0 c.1) c.2
+        by_kind : (d : Counted) (n : ℕ) → cell_in w d ≡ Some n → base < cell_change (is_hits d) n w.key → IsIn c (exec_of (held_at v name) d) → IsChanged (Execs c.0 c.1) c.2
         by_kind (Hits node) n e lt k = absurd k
         by_kind (Execs term node) n e lt k =
             let one = in_cell (v.execs name term node) (term, node, v.execs name term node) c k in
@@ -141,23 +142,23 @@ module _ (v : State) (nodes : ℕ) (lawful : IsLawfulState nodes v) (few : nodes
         let below = term_below nodes key term (lawful.key name key keyed) where_at.0.0 in
         member_term (v.execs name) nodes key term node below where_at.0.0 where_at.1 some
 
-    pub changed_exec : (term node number : ℕ) → IsChanged (Execs term node) number → IsIn (term, node, number) (execs_since v name base w)
+    pub changed_exec : (term node number : ℕ) → IsChanged (Execs term node) number → IsIn (term, node, number) (execs_since (held_at v name) base w)
     changed_exec term node number d =
         let some : v.execs name term node ≢ 0 = λ z. d.positive (d.is_now ∙ z) in
         let k = marked_above w.key base false (cell_in w (Execs term node)) (subst (λ z. base < z) (change_is m name w at (Execs term node)) d.later) in
         let cell : ℕ × ℕ × ℕ = (term, node, v.execs name term node) in
-        subst (λ n. IsIn (term, node, n) (execs_since v name base w)) (sym d.is_now)
-        (member_later (exec_of v name) w.key base w.cells.entries (Execs term node) k.0 cell k.1 k.2 (one_cell_in (v.execs name term node) cell some))
+        subst (λ n. IsIn (term, node, n) (execs_since (held_at v name) base w)) (sym d.is_now)
+        (member_later (exec_of (held_at v name)) w.key base w.cells.entries (Execs term node) k.0 cell k.1 k.2 (one_cell_in (v.execs name term node) cell some))
 
-    pub execs_since_ascend : IsAscending (map exec_place (execs_since v name base w))
-    execs_since_ascend = later_ascends (exec_of v name) w.key base exec_place each across w.cells.entries ordered
+    pub execs_since_ascend : IsAscending (map exec_place (execs_since (held_at v name) base w))
+    execs_since_ascend = later_ascends (exec_of (held_at v name)) w.key base exec_place each across w.cells.entries ordered
       where
-        each : (c : Counted) → IsAscending (map exec_place (exec_of v name c))
+        each : (c : Counted) → IsAscending (map exec_place (exec_of (held_at v name) c))
         each (Hits node) = tt
         each (Execs term node) = cell_ascends exec_place (v.execs name term node) (term, node, v.execs name term node)
         each (Shifts term from to) = tt
 
-        across : (c e : Counted) (x y : ℕ × ℕ × ℕ) → counted_cmp c e ≡ Less → IsIn x (exec_of v name c) → IsIn y (exec_of v name e) → slice_cmp nat_cmp (exec_place x) (exec_place y) ≡ Less
+        across : (c e : Counted) (x y : ℕ × ℕ × ℕ) → counted_cmp c e ≡ Less → IsIn x (exec_of (held_at v name) c) → IsIn y (exec_of (held_at v name) e) → slice_cmp nat_cmp (exec_place x) (exec_place y) ≡ Less
         across (Execs s i) (Execs t j) x y lt h k =
             let a = in_cell (v.execs name s i) (s, i, v.execs name s i) x h in
             let b = in_cell (v.execs name t j) (t, j, v.execs name t j) y k in
@@ -167,9 +168,9 @@ module _ (v : State) (nodes : ℕ) (lawful : IsLawfulState nodes v) (few : nodes
         across (Hits i) e x y lt h k = absurd h
         across (Shifts t i o) e x y lt h k = absurd h
 
-    pub few_execs_since : length (execs_since v name base w) ≤ 512
+    pub few_execs_since : length (execs_since (held_at v name) base w) ≤ 512
     few_execs_since =
-        let since = execs_since v name base w in
+        let since = execs_since (held_at v name) base w in
         let all = exec_cells v name key nodes in
         let short = part_is_short (map exec_place since) (map exec_place all) execs_since_ascend (terms_ascend (v.execs name) nodes key) part in
         let most = few_terms (v.execs name) nodes key few in
@@ -177,9 +178,9 @@ module _ (v : State) (nodes : ℕ) (lawful : IsLawfulState nodes v) (few : nodes
         let b = length-map all exec_place in
         omega (arith, short, most, a, b)
       where
-        part : (p : List ℕ) → IsIn p (map exec_place (execs_since v name base w)) → IsIn p (map exec_place (exec_cells v name key nodes))
+        part : (p : List ℕ) → IsIn p (map exec_place (execs_since (held_at v name) base w)) → IsIn p (map exec_place (exec_cells v name key nodes))
         part p h =
-            let r = mapped_from exec_place (execs_since v name base w) p h in
+            let r = mapped_from exec_place (execs_since (held_at v name) base w) p h in
             let d = exec_changed r.0 r.1 in
             let some : v.execs name r.0.0 r.0.1 ≢ 0 = λ z. d.positive (d.is_now ∙ z) in
             subst (λ q. IsIn q (map exec_place (exec_cells v name key nodes))) (sym r.2)
@@ -187,10 +188,10 @@ module _ (v : State) (nodes : ℕ) (lawful : IsLawfulState nodes v) (few : nodes
 
     -- ---- shifts
 
-    pub shift_changed : (c : ℕ × ℕ × ℕ × ℕ) → IsIn c (shifts_since v name base w) → (c.2 ≢ c.1) × IsChanged (Shifts c.0 c.1 c.2) c.3
-    shift_changed c h = let r = later_member (shift_of v name) w.key base w.cells.entries c ordered h in by_kind r.counted r.mark r.marked r.above r.is
+    pub shift_changed : (c : ℕ × ℕ × ℕ × ℕ) → IsIn c (shifts_since (held_at v name) base w) → (c.2 ≢ c.1) × IsChanged (Shifts c.0 c.1 c.2) c.3
+    shift_changed c h = let r = later_member (shift_of (held_at v name)) w.key base w.cells.entries c ordered h in by_kind r.counted r.mark r.marked r.above r.is
       where
-        by_kind : (d : Counted) (n : ℕ) → cell_in w d ≡ Some n → base < cell_change (is_hits d) n w.key → IsIn c (shift_of v name d) → (c.2 ≢ c.1) × IsChanged (Shifts c.0 c.1 c.2) c.3
+        by_kind : (d : Counted) (n : ℕ) → cell_in w d ≡ Some n → base < cell_change (is_hits d) n w.key → IsIn c (shift_of (held_at v name) d) → (c.2 ≢ c.1) × IsChanged (Shifts c.0 c.1 c.2) c.3
         by_kind (Hits node) n e lt k = absurd k
         by_kind (Execs term node) n e lt k = absurd k
         by_kind (Shifts term from to) n e lt k =
@@ -205,25 +206,25 @@ module _ (v : State) (nodes : ℕ) (lawful : IsLawfulState nodes v) (few : nodes
         let below = term_below nodes key term (lawful.key name key keyed) where_at.0.0 in
         member_shift v name nodes key term from to below where_at.0.0 where_at.1 where_at.2 apart some
 
-    pub changed_shift : (term from to number : ℕ) → to ≢ from → IsChanged (Shifts term from to) number → IsIn (term, from, to, number) (shifts_since v name base w)
+    pub changed_shift : (term from to number : ℕ) → to ≢ from → IsChanged (Shifts term from to) number → IsIn (term, from, to, number) (shifts_since (held_at v name) base w)
     changed_shift term from to number apart d =
         let some : v.shifts name term from to ≢ 0 = λ z. d.positive (d.is_now ∙ z) in
         let k = marked_above w.key base false (cell_in w (Shifts term from to)) (subst (λ z. base < z) (change_is m name w at (Shifts term from to)) d.later) in
         let cell : ℕ × ℕ × ℕ × ℕ = (term, from, to, v.shifts name term from to) in
-        subst (λ n. IsIn (term, from, to, n) (shifts_since v name base w)) (sym d.is_now)
-        (member_later (shift_of v name) w.key base w.cells.entries (Shifts term from to) k.0 cell k.1 k.2 (cell_in_shift v name nodes term from to apart some))
+        subst (λ n. IsIn (term, from, to, n) (shifts_since (held_at v name) base w)) (sym d.is_now)
+        (member_later (shift_of (held_at v name)) w.key base w.cells.entries (Shifts term from to) k.0 cell k.1 k.2 (cell_in_shift v name nodes term from to apart some))
 
-    pub shifts_since_ascend : IsAscending (map shift_place (shifts_since v name base w))
-    shifts_since_ascend = later_ascends (shift_of v name) w.key base shift_place each across w.cells.entries ordered
+    pub shifts_since_ascend : IsAscending (map shift_place (shifts_since (held_at v name) base w))
+    shifts_since_ascend = later_ascends (shift_of (held_at v name)) w.key base shift_place each across w.cells.entries ordered
       where
-        each : (c : Counted) → IsAscending (map shift_place (shift_of v name c))
+        each : (c : Counted) → IsAscending (map shift_place (shift_of (held_at v name) c))
         each (Hits node) = tt
         each (Execs term node) = tt
         each (Shifts term from to) =
             let cell : ℕ × ℕ × ℕ × ℕ = (term, from, to, v.shifts name term from to) in
             unless_ascends shift_place (to == from) (cell_of (v.shifts name term from to) cell) (cell_ascends shift_place (v.shifts name term from to) cell)
 
-        across : (c e : Counted) (x y : ℕ × ℕ × ℕ × ℕ) → counted_cmp c e ≡ Less → IsIn x (shift_of v name c) → IsIn y (shift_of v name e) → slice_cmp nat_cmp (shift_place x) (shift_place y) ≡ Less
+        across : (c e : Counted) (x y : ℕ × ℕ × ℕ × ℕ) → counted_cmp c e ≡ Less → IsIn x (shift_of (held_at v name) c) → IsIn y (shift_of (held_at v name) e) → slice_cmp nat_cmp (shift_place x) (shift_place y) ≡ Less
         across (Shifts s i n) (Shifts t j o) x y lt h k =
             let a = shift_in_cell v name nodes s i n x h in
             let b = shift_in_cell v name nodes t j o y k in
@@ -233,9 +234,9 @@ module _ (v : State) (nodes : ℕ) (lawful : IsLawfulState nodes v) (few : nodes
         across (Hits i) e x y lt h k = absurd h
         across (Execs t i) e x y lt h k = absurd h
 
-    pub few_shifts_since : length (shifts_since v name base w) ≤ 16384
+    pub few_shifts_since : length (shifts_since (held_at v name) base w) ≤ 16384
     few_shifts_since =
-        let since = shifts_since v name base w in
+        let since = shifts_since (held_at v name) base w in
         let all = shift_cells v name key nodes in
         let short = part_is_short (map shift_place since) (map shift_place all) shifts_since_ascend (shifts_ascend v name nodes key) part in
         let most = few_shifts v name nodes key few in
@@ -243,9 +244,9 @@ module _ (v : State) (nodes : ℕ) (lawful : IsLawfulState nodes v) (few : nodes
         let b = length-map all shift_place in
         omega (arith, short, most, a, b)
       where
-        part : (p : List ℕ) → IsIn p (map shift_place (shifts_since v name base w)) → IsIn p (map shift_place (shift_cells v name key nodes))
+        part : (p : List ℕ) → IsIn p (map shift_place (shifts_since (held_at v name) base w)) → IsIn p (map shift_place (shift_cells v name key nodes))
         part p h =
-            let r = mapped_from shift_place (shifts_since v name base w) p h in
+            let r = mapped_from shift_place (shifts_since (held_at v name) base w) p h in
             let d = shift_changed r.0 r.1 in
             let some : v.shifts name r.0.0 r.0.1 r.0.2 ≢ 0 = λ z. d.1.positive (d.1.is_now ∙ z) in
             subst (λ q. IsIn q (map shift_place (shift_cells v name key nodes))) (sym r.2)
@@ -253,22 +254,22 @@ module _ (v : State) (nodes : ℕ) (lawful : IsLawfulState nodes v) (few : nodes
 
     -- ---- grants
 
-    grant_in_cell : (term from to : ℕ) (c : ℕ × ℕ × ℕ) → IsIn c (grant_of v name (Shifts term from to)) → (to ≡ from) × (granted_in v name term from ≢ 0) × (c ≡ (term, from, granted_in v name term from))
+    grant_in_cell : (term from to : ℕ) (c : ℕ × ℕ × ℕ) → IsIn c (grant_of (held_at v name) (Shifts term from to)) → (to ≡ from) × (granted_in v name term from ≢ 0) × (c ≡ (term, from, granted_in v name term from))
     grant_in_cell term from to c h =
         let cell : ℕ × ℕ × ℕ = (term, from, granted_in v name term from) in
         let r = in_if (to == from) (cell_of (granted_in v name term from) cell) c h in
         let one = in_cell (granted_in v name term from) cell c r.1 in
         (eqb-true to from r.0, one.0, one.1)
 
-    cell_in_grant : (term node : ℕ) → granted_in v name term node ≢ 0 → IsIn (term, node, granted_in v name term node) (grant_of v name (Shifts term node node))
+    cell_in_grant : (term node : ℕ) → granted_in v name term node ≢ 0 → IsIn (term, node, granted_in v name term node) (grant_of (held_at v name) (Shifts term node node))
     cell_in_grant term node some =
         let cell : ℕ × ℕ × ℕ = (term, node, granted_in v name term node) in
         if_in (node == node) (cell_of (granted_in v name term node) cell) cell (eq-eqb node node refl) (one_cell_in (granted_in v name term node) cell some)
 
-    pub grant_changed : (c : ℕ × ℕ × ℕ) → IsIn c (grants_since v name base w) → IsChanged (Shifts c.0 c.1 c.1) c.2
-    grant_changed c h = let r = later_member (grant_of v name) w.key base w.cells.entries c ordered h in by_kind r.counted r.mark r.marked r.above r.is
+    pub grant_changed : (c : ℕ × ℕ × ℕ) → IsIn c (grants_since (held_at v name) base w) → IsChanged (Shifts c.0 c.1 c.1) c.2
+    grant_changed c h = let r = later_member (grant_of (held_at v name)) w.key base w.cells.entries c ordered h in by_kind r.counted r.mark r.marked r.above r.is
       where
-        by_kind : (d : Counted) (n : ℕ) → cell_in w d ≡ Some n → base < cell_change (is_hits d) n w.key → IsIn c (grant_of v name d) → IsChanged (Shifts c.0 c.1 c.1) c.2
+        by_kind : (d : Counted) (n : ℕ) → cell_in w d ≡ Some n → base < cell_change (is_hits d) n w.key → IsIn c (grant_of (held_at v name) d) → IsChanged (Shifts c.0 c.1 c.1) c.2
         by_kind (Hits node) n e lt k = absurd k
         by_kind (Execs term node) n e lt k = absurd k
         by_kind (Shifts term from to) n e lt k =
@@ -284,25 +285,25 @@ module _ (v : State) (nodes : ℕ) (lawful : IsLawfulState nodes v) (few : nodes
         let below = term_below nodes key term (lawful.key name key keyed) where_at.0.0 in
         member_term (granted_in v name) nodes key term node below where_at.0.0 where_at.1 some
 
-    pub changed_grant : (term node number : ℕ) → IsChanged (Shifts term node node) number → IsIn (term, node, number) (grants_since v name base w)
+    pub changed_grant : (term node number : ℕ) → IsChanged (Shifts term node node) number → IsIn (term, node, number) (grants_since (held_at v name) base w)
     changed_grant term node number d =
         let some : granted_in v name term node ≢ 0 = λ z. d.positive (d.is_now ∙ z) in
         let k = marked_above w.key base false (cell_in w (Shifts term node node)) (subst (λ z. base < z) (change_is m name w at (Shifts term node node)) d.later) in
         let cell : ℕ × ℕ × ℕ = (term, node, granted_in v name term node) in
-        subst (λ n. IsIn (term, node, n) (grants_since v name base w)) (sym d.is_now)
-        (member_later (grant_of v name) w.key base w.cells.entries (Shifts term node node) k.0 cell k.1 k.2 (cell_in_grant term node some))
+        subst (λ n. IsIn (term, node, n) (grants_since (held_at v name) base w)) (sym d.is_now)
+        (member_later (grant_of (held_at v name)) w.key base w.cells.entries (Shifts term node node) k.0 cell k.1 k.2 (cell_in_grant term node some))
 
-    pub grants_since_ascend : IsAscending (map exec_place (grants_since v name base w))
-    grants_since_ascend = later_ascends (grant_of v name) w.key base exec_place each across w.cells.entries ordered
+    pub grants_since_ascend : IsAscending (map exec_place (grants_since (held_at v name) base w))
+    grants_since_ascend = later_ascends (grant_of (held_at v name)) w.key base exec_place each across w.cells.entries ordered
       where
-        each : (c : Counted) → IsAscending (map exec_place (grant_of v name c))
+        each : (c : Counted) → IsAscending (map exec_place (grant_of (held_at v name) c))
         each (Hits node) = tt
         each (Execs term node) = tt
         each (Shifts term from to) =
             let cell : ℕ × ℕ × ℕ = (term, from, granted_in v name term from) in
             if_ascends exec_place (to == from) (cell_of (granted_in v name term from) cell) (cell_ascends exec_place (granted_in v name term from) cell)
 
-        across : (c e : Counted) (x y : ℕ × ℕ × ℕ) → counted_cmp c e ≡ Less → IsIn x (grant_of v name c) → IsIn y (grant_of v name e) → slice_cmp nat_cmp (exec_place x) (exec_place y) ≡ Less
+        across : (c e : Counted) (x y : ℕ × ℕ × ℕ) → counted_cmp c e ≡ Less → IsIn x (grant_of (held_at v name) c) → IsIn y (grant_of (held_at v name) e) → slice_cmp nat_cmp (exec_place x) (exec_place y) ≡ Less
         across (Shifts s i n) (Shifts t j o) x y lt h k =
             let a = grant_in_cell s i n x h in
             let b = grant_in_cell t j o y k in
@@ -314,9 +315,9 @@ module _ (v : State) (nodes : ℕ) (lawful : IsLawfulState nodes v) (few : nodes
         across (Hits i) e x y lt h k = absurd h
         across (Execs t i) e x y lt h k = absurd h
 
-    pub few_grants_since : length (grants_since v name base w) ≤ 512
+    pub few_grants_since : length (grants_since (held_at v name) base w) ≤ 512
     few_grants_since =
-        let since = grants_since v name base w in
+        let since = grants_since (held_at v name) base w in
         let all = grant_cells v name key nodes in
         let short = part_is_short (map exec_place since) (map exec_place all) grants_since_ascend (terms_ascend (granted_in v name) nodes key) part in
         let most = few_terms (granted_in v name) nodes key few in
@@ -324,9 +325,9 @@ module _ (v : State) (nodes : ℕ) (lawful : IsLawfulState nodes v) (few : nodes
         let b = length-map all exec_place in
         omega (arith, short, most, a, b)
       where
-        part : (p : List ℕ) → IsIn p (map exec_place (grants_since v name base w)) → IsIn p (map exec_place (grant_cells v name key nodes))
+        part : (p : List ℕ) → IsIn p (map exec_place (grants_since (held_at v name) base w)) → IsIn p (map exec_place (grant_cells v name key nodes))
         part p h =
-            let r = mapped_from exec_place (grants_since v name base w) p h in
+            let r = mapped_from exec_place (grants_since (held_at v name) base w) p h in
             let d = grant_changed r.0 r.1 in
             let some : granted_in v name r.0.0 r.0.1 ≢ 0 = λ z. d.positive (d.is_now ∙ z) in
             subst (λ q. IsIn q (map exec_place (grant_cells v name key nodes))) (sym r.2)

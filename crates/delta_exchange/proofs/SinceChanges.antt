@@ -7,6 +7,7 @@ use Rattle.std.proofs.lemmas.Bool.Decides.{nat_tests}
 use Rattle.stamp_register.specs.Keys.{KeyValue}
 use Rattle.replica_state.specs.Operations.{IsIn}
 use Rattle.replica_state.specs.States.{State, granted_in}
+use Rattle.replica_state.specs.Cells.{held_at}
 use Rattle.replica_state.specs.Points.{counted_cmp, is_hits}
 use Rattle.replica_state.specs.Cells as state
 use Rattle.replica_state.specs.declared.point.Counted.{Counted}
@@ -75,7 +76,7 @@ module _ (v : State) (m : Marks) (base : ℕ) (name : List ℕ) where
 
   module _ (nodes : ℕ) (lawful : IsLawfulState nodes v) (few : nodes ≤ max_nodes) (w : NameMarks) (at : marks_at m.names.entries name ≡ Some w) (ordered : IsOrdered counted_cmp w.cells) (key : KeyValue) (keyed : v.key name ≡ Some key) where
     abbrev entry : EntryValue
-    entry = entry_since v name key base w
+    entry = entry_since (held_at v name) name key base w
 
     cell_tells : (c : Counted) → state.cell_of v name c ≢ 0 → base < (changes_of m).cell name c → IsTrue (tells_cells entry)
     cell_tells (Hits node) some lt =
@@ -168,27 +169,27 @@ module _ (v : State) (m : Marks) (base : ℕ) (name : List ℕ) where
           grants_ascend = ascends _ (grants_since_ascend v nodes lawful few m base name w at ordered key keyed);
         }
       where
-        hit_is : (c : ℕ × ℕ) → c.1 < 2 ^ 64 → IsIn c (hits_since v name base w) → IsHit nodes c
+        hit_is : (c : ℕ × ℕ) → c.1 < 2 ^ 64 → IsIn c (hits_since (held_at v name) base w) → IsHit nodes c
         hit_is c fit h =
             let d = hit_changed v nodes lawful few m base name w at ordered c h in
             let positive = d.positive in
             (lawful.hits name c.0 (λ z. d.positive (d.is_now ∙ z)), (omega (arith, positive), fit))
 
-        exec_is : (c : ℕ × ℕ × ℕ) → c.2 < 2 ^ 64 → IsIn c (execs_since v name base w) → IsExec nodes key c
+        exec_is : (c : ℕ × ℕ × ℕ) → c.2 < 2 ^ 64 → IsIn c (execs_since (held_at v name) base w) → IsExec nodes key c
         exec_is c fit h =
             let d = exec_changed v nodes lawful few m base name w at ordered key keyed c h in
             let positive = d.positive in
             let r = lawful.execs name key c.0 c.1 keyed (λ z. d.positive (d.is_now ∙ z)) in
             (r.0, r.1, (omega (arith, positive), fit))
 
-        shift_is : (c : ℕ × ℕ × ℕ × ℕ) → c.3 < 2 ^ 64 → IsIn c (shifts_since v name base w) → IsShift nodes key c
+        shift_is : (c : ℕ × ℕ × ℕ × ℕ) → c.3 < 2 ^ 64 → IsIn c (shifts_since (held_at v name) base w) → IsShift nodes key c
         shift_is c fit h =
             let d = shift_changed v nodes lawful few m base name w at ordered key keyed c h in
             let positive = d.1.positive in
             let r = lawful.shifts name key c.0 c.1 c.2 keyed (λ z. d.1.positive (d.1.is_now ∙ z)) in
             (r.0, r.1, r.2, d.0, (omega (arith, positive), fit))
 
-        grant_is : (c : ℕ × ℕ × ℕ) → c.2 < 2 ^ 64 → IsIn c (grants_since v name base w) → IsGrant nodes key c
+        grant_is : (c : ℕ × ℕ × ℕ) → c.2 < 2 ^ 64 → IsIn c (grants_since (held_at v name) base w) → IsGrant nodes key c
         grant_is c fit h =
             let d = grant_changed v nodes lawful few m base name w at ordered key keyed c h in
             let positive = d.positive in
@@ -198,7 +199,7 @@ module _ (v : State) (m : Marks) (base : ℕ) (name : List ℕ) where
 -- so each name of which something changed has its entry
 pub entry_changed : (v : State) (nodes : ℕ) (lawful : IsLawfulState nodes v) (few : nodes ≤ max_nodes) (m : Marks) (base version : ℕ) → AreUpto (marks_value m) version → AreOrdered v base m
     → (name : List ℕ) (key : KeyValue) → v.key name ≡ Some key → (IsUnchangedSince v (changes_of m) base name → ⊥)
-    → (w : NameMarks) × (marks_at m.names.entries name ≡ Some w) × IsOrdered counted_cmp w.cells × IsIn (entry_since v name key base w) (all_since v base m)
+    → (w : NameMarks) × (marks_at m.names.entries name ≡ Some w) × IsOrdered counted_cmp w.cells × IsIn (entry_since (held_at v name) name key base w) (all_since v base m)
 entry_changed v nodes lawful few m base version upto ordered name key keyed h =
     let r = marks_changed v m base name version upto h in
     let order = order_of v base m ordered name key r.0 r.1 r.2 keyed in

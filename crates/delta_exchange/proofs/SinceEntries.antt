@@ -12,6 +12,7 @@ use Rattle.std.proofs.lemmas.Map.Lookups.{exact_bytes}
 use Rattle.stamp_register.specs.Keys.{KeyValue}
 use Rattle.replica_state.specs.Operations.{IsIn}
 use Rattle.replica_state.specs.States.{State}
+use Rattle.replica_state.specs.Cells.{held_at}
 use Rattle.replica_state.specs.Points.{counted_cmp}
 use Rattle.replica_state.proofs.Names.{IsAscending}
 use Rattle.delta_exchange.specs.declared.marks.NameMarks.{NameMarks}
@@ -34,8 +35,8 @@ module _ (v : State) (base : ℕ) (m : Marks) where
     pub key : KeyValue
     pub keyed : v.key n.0 ≡ Some key
     pub later : base < n.1.latest
-    pub told : IsTrue (nat_lt base n.1.key || tells_cells (entry_since v n.0 key base n.1))
-    pub is : e ≡ entry_since v n.0 key base n.1
+    pub told : IsTrue (nat_lt base n.1.key || tells_cells (entry_since (held_at v n.0) n.0 key base n.1))
+    pub is : e ≡ entry_since (held_at v n.0) n.0 key base n.1
 
   in_told : (w : NameMarks) (s e : EntryValue) → IsIn e (entry_told base w s) → IsTrue (nat_lt base w.key || tells_cells s) × (e ≡ s)
   in_told w s e h = by_test (nat_lt base w.key || tells_cells s) refl h
@@ -48,13 +49,13 @@ module _ (v : State) (base : ℕ) (m : Marks) where
   in_marked : (n : List ℕ × NameMarks) (e : EntryValue) → IsIn e (entry_marked v base n) → IsEntryOf n e
   in_marked n e h = by_test (nat_lt base n.1.latest) refl h
     where
-      by_key : (k : Option KeyValue) → v.key n.0 ≡ k → base < n.1.latest → IsIn e (entry_under v n.0 k base n.1) → IsEntryOf n e
+      by_key : (k : Option KeyValue) → v.key n.0 ≡ k → base < n.1.latest → IsIn e (entry_under (held_at v n.0) n.0 k base n.1) → IsEntryOf n e
       by_key None keyed lt i = absurd i
       by_key (Some key) keyed lt i =
-          let r = in_told n.1 (entry_since v n.0 key base n.1) e i in
+          let r = in_told n.1 (entry_since (held_at v n.0) n.0 key base n.1) e i in
           record { key = key; keyed = keyed; later = lt; told = r.0; is = r.1 }
 
-      by_test : (b : Bool) → nat_lt base n.1.latest ≡ b → IsIn e (cond b (entry_under v n.0 (v.key n.0) base n.1) []) → IsEntryOf n e
+      by_test : (b : Bool) → nat_lt base n.1.latest ≡ b → IsIn e (cond b (entry_under (held_at v n.0) n.0 (v.key n.0) base n.1) []) → IsEntryOf n e
       by_test true t i = by_key (v.key n.0) refl (grind (arith, nat_tests)) i
       by_test false t i = absurd i
 
@@ -62,16 +63,16 @@ module _ (v : State) (base : ℕ) (m : Marks) where
   pub passed_over : (n : List ℕ × NameMarks) (told rest all : List EntryValue) → n.1.latest ≤ base → told ++ (entry_marked v base n ++ rest) ≡ all → told ++ rest ≡ all
   passed_over n told rest all le e = by_test (nat_lt base n.1.latest) refl e
     where
-      by_test : (b : Bool) → nat_lt base n.1.latest ≡ b → told ++ (cond b (entry_under v n.0 (v.key n.0) base n.1) [] ++ rest) ≡ all → told ++ rest ≡ all
+      by_test : (b : Bool) → nat_lt base n.1.latest ≡ b → told ++ (cond b (entry_under (held_at v n.0) n.0 (v.key n.0) base n.1) [] ++ rest) ≡ all → told ++ rest ≡ all
       by_test true t e = absurd (grind (arith, nat_tests))
       by_test false t e = e
 
   -- and adds what changed of another one
-  pub looked_at : (n : List ℕ × NameMarks) (told more rest all : List EntryValue) → base < n.1.latest → more ≡ told ++ entry_under v n.0 (v.key n.0) base n.1 → told ++ (entry_marked v base n ++ rest) ≡ all → more ++ rest ≡ all
+  pub looked_at : (n : List ℕ × NameMarks) (told more rest all : List EntryValue) → base < n.1.latest → more ≡ told ++ entry_under (held_at v n.0) n.0 (v.key n.0) base n.1 → told ++ (entry_marked v base n ++ rest) ≡ all → more ++ rest ≡ all
   looked_at n told more rest all lt added e = by_test (nat_lt base n.1.latest) refl e
     where
       one : List EntryValue
-      one = entry_under v n.0 (v.key n.0) base n.1
+      one = entry_under (held_at v n.0) n.0 (v.key n.0) base n.1
 
       by_test : (b : Bool) → nat_lt base n.1.latest ≡ b → told ++ (cond b one [] ++ rest) ≡ all → more ++ rest ≡ all
       by_test true t e = ap (λ es. es ++ rest) added ∙ append_assoc told one rest ∙ e
@@ -87,11 +88,11 @@ module _ (v : State) (base : ℕ) (m : Marks) where
   one_marked : (n : List ℕ × NameMarks) → IsAscending (map (λ e. e.name) (entry_marked v base n))
   one_marked n = by_test (nat_lt base n.1.latest)
     where
-      by_key : (k : Option KeyValue) → IsAscending (map (λ (e : EntryValue). e.name) (entry_under v n.0 k base n.1))
+      by_key : (k : Option KeyValue) → IsAscending (map (λ (e : EntryValue). e.name) (entry_under (held_at v n.0) n.0 k base n.1))
       by_key None = tt
-      by_key (Some key) = one_told n.1 (entry_since v n.0 key base n.1)
+      by_key (Some key) = one_told n.1 (entry_since (held_at v n.0) n.0 key base n.1)
 
-      by_test : (b : Bool) → IsAscending (map (λ (e : EntryValue). e.name) (cond b (entry_under v n.0 (v.key n.0) base n.1) []))
+      by_test : (b : Bool) → IsAscending (map (λ (e : EntryValue). e.name) (cond b (entry_under (held_at v n.0) n.0 (v.key n.0) base n.1) []))
       by_test true = by_key (v.key n.0)
       by_test false = tt
 
@@ -109,8 +110,8 @@ module _ (v : State) (base : ℕ) (m : Marks) where
     pub keyed : v.key name ≡ Some key
     pub at : marks_at m.names.entries name ≡ Some marks
     pub ordered : IsOrdered counted_cmp marks.cells
-    pub told : IsTrue (nat_lt base marks.key || tells_cells (entry_since v name key base marks))
-    pub is : e ≡ entry_since v name key base marks
+    pub told : IsTrue (nat_lt base marks.key || tells_cells (entry_since (held_at v name) name key base marks))
+    pub is : e ≡ entry_since (held_at v name) name key base marks
 
   module _ (ordered : AreOrdered) where
     order_in : (n : List ℕ × NameMarks) (key : KeyValue) → IsIn n m.names.entries → base < n.1.latest → v.key n.0 ≡ Some key → IsOrdered counted_cmp n.1.cells
@@ -129,21 +130,21 @@ module _ (v : State) (base : ℕ) (m : Marks) where
         let at = value_at (slice_cmp nat_cmp) nat_list_cmp_total exact_bytes m.names.entries r.0.0 r.0.1 ordered.names r.1 in
         record { name = r.0.0; key = one.key; marks = r.0.1; keyed = one.keyed; at = at; ordered = order_in r.0 one.key r.1 one.later one.keyed; told = one.told; is = one.is }
 
-    told_in : (n : List ℕ × NameMarks) (key : KeyValue) → v.key n.0 ≡ Some key → base < n.1.latest → IsTrue (nat_lt base n.1.key || tells_cells (entry_since v n.0 key base n.1))
-        → IsIn (entry_since v n.0 key base n.1) (entry_marked v base n)
+    told_in : (n : List ℕ × NameMarks) (key : KeyValue) → v.key n.0 ≡ Some key → base < n.1.latest → IsTrue (nat_lt base n.1.key || tells_cells (entry_since (held_at v n.0) n.0 key base n.1))
+        → IsIn (entry_since (held_at v n.0) n.0 key base n.1) (entry_marked v base n)
     told_in n key keyed later told = by_test (nat_lt base n.1.latest) refl
       where
         e : EntryValue
-        e = entry_since v n.0 key base n.1
+        e = entry_since (held_at v n.0) n.0 key base n.1
 
-        by_test : (b : Bool) → nat_lt base n.1.latest ≡ b → IsIn e (cond b (entry_under v n.0 (v.key n.0) base n.1) [])
-        by_test true t = subst (λ k. IsIn e (entry_under v n.0 k base n.1)) (sym keyed) (subst (λ t. IsIn e (cond t (e ∷ []) [])) (sym told) (inl refl))
+        by_test : (b : Bool) → nat_lt base n.1.latest ≡ b → IsIn e (cond b (entry_under (held_at v n.0) n.0 (v.key n.0) base n.1) [])
+        by_test true t = subst (λ k. IsIn e (entry_under (held_at v n.0) n.0 k base n.1)) (sym keyed) (subst (λ t. IsIn e (cond t (e ∷ []) [])) (sym told) (inl refl))
         by_test false t = absurd (grind (arith, nat_tests))
 
     pub member_entry : (name : List ℕ) (key : KeyValue) (w : NameMarks) → v.key name ≡ Some key → marks_at m.names.entries name ≡ Some w
-        → base < w.latest → IsTrue (nat_lt base w.key || tells_cells (entry_since v name key base w)) → IsIn (entry_since v name key base w) all_since
+        → base < w.latest → IsTrue (nat_lt base w.key || tells_cells (entry_since (held_at v name) name key base w)) → IsIn (entry_since (held_at v name) name key base w) all_since
     member_entry name key w keyed at later told =
-        flat_in (entry_marked v base) m.names.entries (name, w) (entry_since v name key base w) (marks_in name w at) (told_in (name, w) key keyed later told)
+        flat_in (entry_marked v base) m.names.entries (name, w) (entry_since (held_at v name) name key base w) (marks_in name w at) (told_in (name, w) key keyed later told)
 
     pub entries_ascend : IsAscending (map (λ e. e.name) all_since)
     entries_ascend = flat_ascends (slice_cmp nat_cmp) (entry_marked v base) (λ (e : EntryValue). e.name) one_marked

@@ -6,6 +6,7 @@ use Rattle.std.proofs.lemmas.Bool.{cases_eq}
 use Rattle.stamp_register.specs.Keys.{KeyValue}
 use Rattle.replica_state.specs.Operations.{Operation, Set, Count, Hits, Execs, Shifts, IsIn}
 use Rattle.replica_state.specs.States.{State}
+use Rattle.replica_state.specs.Cells.{held_at}
 use Rattle.replica_state.specs.declared.point.Counted.TheVariants as counted
 use Rattle.message_format.specs.Limits.{max_nodes}
 use Rattle.delta_exchange.specs.declared.marks.Marks.{Marks}
@@ -43,7 +44,7 @@ module _ (v : State) (nodes : ℕ) (lawful : IsLawfulState nodes v) (few : nodes
   entry_tells e r op h = by_kind (told_of s op (subst (λ x. IsIn op (operations_of x)) r.is h))
     where
       s : EntryValue
-      s = entry_since v r.name r.key base r.marks
+      s = entry_since (held_at v r.name) r.name r.key base r.marks
 
       by_kind : IsTold s op → Changes op
       by_kind (inl e) = subst Changes (sym e) (r.keyed, told_change v m base r.name nodes lawful few r.marks r.at r.ordered r.key r.keyed r.told)
@@ -68,20 +69,20 @@ module _ (v : State) (nodes : ℕ) (lawful : IsLawfulState nodes v) (few : nodes
   changed_told : (op : Operation) → Changes op → IsIn op (flat_map operations_of entries)
   changed_told (Set name key) d =
       let r = entry_changed v nodes lawful few m base version upto ordered name key d.0 d.1 in
-      flat_in operations_of entries (entry_since v name key base r.0) (Set name key) r.3 (inl refl)
+      flat_in operations_of entries (entry_since (held_at v name) name key base r.0) (Set name key) r.3 (inl refl)
   changed_told (Count (Hits name node) number) d =
       let some : v.hits name node ≢ 0 = λ z. d.positive (d.is_now ∙ z) in
       let key = some_key (v.key name) (lawful.keyed name (lawful.hit_name name node some)) in
       let r = entry_changed v nodes lawful few m base version upto ordered name key.0 key.1 (changed_name name (counted.Hits node) number d) in
-      let e = entry_since v name key.0 base r.0 in
+      let e = entry_since (held_at v name) name key.0 base r.0 in
       flat_in operations_of entries e (Count (Hits name node) number) r.3 (hit_in e (node, number) (changed_hit v nodes lawful few m base name r.0 r.1 r.2 node number d))
   changed_told (Count (Execs name key term node) number) d =
       let r = entry_changed v nodes lawful few m base version upto ordered name key d.0 (changed_name name (counted.Execs term node) number d.1) in
-      let e = entry_since v name key base r.0 in
+      let e = entry_since (held_at v name) name key base r.0 in
       flat_in operations_of entries e (Count (Execs name key term node) number) r.3 (exec_in e (term, node, number) (changed_exec v nodes lawful few m base name r.0 r.1 r.2 key d.0 term node number d.1))
   changed_told (Count (Shifts name key term from to) number) d =
       let r = entry_changed v nodes lawful few m base version upto ordered name key d.0 (changed_name name (counted.Shifts term from to) number d.1) in
-      let e = entry_since v name key base r.0 in
+      let e = entry_since (held_at v name) name key base r.0 in
       flat_in operations_of entries e (Count (Shifts name key term from to) number) r.3 (⊎_elim
       (λ same.
       let own = subst (λ o. IsChangedCell v (changes_of m) base name (counted.Shifts term from o) number) same d.1 in
@@ -96,7 +97,7 @@ module _ (v : State) (nodes : ℕ) (lawful : IsLawfulState nodes v) (few : nodes
     each_is : (e : EntryValue) → IsIn e entries → IsEntry nodes e × IsShort e
     each_is e h =
         let r = entry_member v base m ordered e h in
-        let s = entry_since v r.name r.key base r.marks in
+        let s = entry_since (held_at v r.name) r.name r.key base r.marks in
         let fits : EntryFits s = subst EntryFits r.is (one_of EntryFits entries fit e h) in
         let is = entry_is v m base r.name nodes lawful few r.marks r.at r.ordered r.key r.keyed fits in
         let hits = few_hits_since v nodes lawful few m base r.name r.marks r.at r.ordered in

@@ -1,15 +1,17 @@
 -- What a state doesn't know yet of what it is told.
-use Rattle.std.specs.Prelude.{◌≡◌, ℕ, Bool, not, false, List, [], ◌∷◌, ◌++◌, map, if◌then◌else◌, Option, Some, None, IsTrue, filter}
+use Rattle.std.specs.Prelude.{◌≡◌, ℕ, Bool, nat_le, not, false, List, [], ◌∷◌, ◌++◌, map, if◌then◌else◌, Option, Some, None, IsTrue, filter}
 use Rattle.std.specs.Ordering.{is_gt}
 use Rattle.std.specs.declared.cmp.Ordering.{Ordering}
 use Rattle.stamp_register.specs.Keys.{key_value}
 use Rattle.replica_state.specs.declared.point.Counted.{Counted}
-use Rattle.replica_state.specs.declared.point.Count.{Count}
-use Rattle.replica_state.specs.Operations.{Operation}
+use Rattle.replica_state.specs.declared.point.Counted.TheVariants.{Hits, Execs, Shifts}
+use Rattle.replica_state.specs.declared.point.Count.{Count as Counting}
+use Rattle.replica_state.specs.Operations as cells
+use Rattle.replica_state.specs.Operations.{Operation, Set, Count}
 use Rattle.replica_state.specs.States.{State}
 use Rattle.replica_state.specs.Folds.{fold, name_in, IsUnion}
-use Rattle.replica_state.specs.Knowledge.{is_upto, knows}
-use Rattle.replica_state.specs.Points.{is_hits, key_standing}
+use Rattle.replica_state.specs.Knowledge.{is_upto, knows, knows_count}
+use Rattle.replica_state.specs.Points.{Held, is_hits, order_to_held}
 use Rattle.replica_state.specs.Cells.{key_told, count_told, operation_told}
 use Rattle.delta_exchange.specs.declared.news.Told.{Told}
 use Rattle.delta_exchange.specs.declared.marks.Marks.{Marks}
@@ -26,11 +28,23 @@ unknown_in v ops = filter (λ op. not (knows v op)) ops
 abbrev pub news_in : State → List Operation → List (Operation × Bool)
 news_in v ops = map (λ op. (op, brings_key v op)) (unknown_in v ops)
 
+-- the same of operations of one name, by what is held of it
+abbrev pub knows_held : Held → Operation → Bool
+knows_held h (Set name key) = is_upto (Some key) h.key
+knows_held h (Count (cells.Hits name node) number) = nat_le number (h.number (Hits node))
+knows_held h (Count (cells.Execs name key term node) number) = knows_count key number (h.number (Execs term node)) h.key
+knows_held h (Count (cells.Shifts name key term from to) number) =
+    knows_count key number (h.number (Shifts term from to)) h.key
+
+abbrev pub news_held : Held → List Operation → List (Operation × Bool)
+news_held h ops =
+    map (λ op. (op, not (is_upto (key_told op) h.key))) (filter (λ op. not (knows_held h op)) ops)
+
 -- where a state is that of some set, together with what another brings it is that of the set with the
 -- news
 abbrev pub BringsNews : State → State → List Operation → Type 0
-BringsNews v brought news =
-    (ops : List Operation) (both : State) → v ≡ fold ops → IsUnion v brought both → both ≡ fold (news ++ ops)
+BringsNews v received news =
+    (ops : List Operation) (both : State) → v ≡ fold ops → IsUnion v received both → both ≡ fold (news ++ ops)
 
 -- ---- the same as the code has it
 
@@ -38,20 +52,20 @@ abbrev pub operation_of : Told → Operation
 operation_of told = operation_told told.name.now (key_value told.key.now) told.count
 
 -- where its key stands so, it is new unless hits are told, which belong to no key
-abbrev pub is_new : Ordering → Option Count → Bool
-is_new standing None = is_gt standing
-is_new standing (Some count) = if is_hits count.counted then false else is_gt standing
+abbrev pub is_new : Ordering → Option Counting → Bool
+is_new order None = is_gt order
+is_new order (Some count) = if is_hits count.counted then false else is_gt order
 
 abbrev pub news_of : Told → Operation × Bool
-news_of told = (operation_of told, is_new told.standing told.count)
+news_of told = (operation_of told, is_new told.order told.count)
 
-abbrev pub counted_of : Option Count → Option Counted
+abbrev pub counted_of : Option Counting → Option Counted
 counted_of None = None
 counted_of (Some count) = Some count.counted
 
--- it says how its key stands to the one that the state has of its name
-abbrev pub StandsIn : State → Told → Type 0
-StandsIn v told = told.standing ≡ key_standing (key_value told.key.now) (v.key told.name.now)
+-- it says how its key stands to the one that is held of its name
+abbrev pub HasOrderTo : Held → Told → Type 0
+HasOrderTo h told = told.order ≡ order_to_held (key_value told.key.now) h.key
 
 -- there is room for the marks of all
 abbrev pub HaveRoom : Marks → List Told → Type 0

@@ -5,9 +5,10 @@ use Rattle.std.specs.List.{flat_map}
 use Rattle.std.specs.BTreeMap.{IsOrdered}
 use Rattle.stamp_register.specs.Keys.{KeyValue}
 use Rattle.replica_state.specs.Operations.{Operation, IsIn}
-use Rattle.replica_state.specs.States.{State, granted_in}
+use Rattle.replica_state.specs.States.{State}
 use Rattle.replica_state.specs.Folds.{fold}
-use Rattle.replica_state.specs.Points.{counted_cmp, is_hits}
+use Rattle.replica_state.specs.Points.{Held, counted_cmp, is_hits}
+use Rattle.replica_state.specs.Cells.{held_at}
 use Rattle.replica_state.specs.declared.point.Counted.{Counted}
 use Rattle.replica_state.specs.declared.point.Counted.TheVariants.{Hits, Execs, Shifts}
 use Rattle.delta_exchange.specs.declared.marks.NameMarks.{NameMarks}
@@ -44,53 +45,53 @@ pub record IsMessageSince (nodes from to base : ℕ) (v : VersionedValue) (m : M
 -- ---- the same as the code has it
 
 -- what is counted, as a cell of its list, where it isn't 0
-abbrev pub hit_of : State → List ℕ → Counted → List (ℕ × ℕ)
-hit_of v name (Hits node) = cell_of (v.hits name node) (node, v.hits name node)
-hit_of v name (Execs term node) = []
-hit_of v name (Shifts term from to) = []
+abbrev pub hit_of : Held → Counted → List (ℕ × ℕ)
+hit_of h (Hits node) = cell_of (h.number (Hits node)) (node, h.number (Hits node))
+hit_of h (Execs term node) = []
+hit_of h (Shifts term from to) = []
 
-abbrev pub exec_of : State → List ℕ → Counted → List (ℕ × ℕ × ℕ)
-exec_of v name (Hits node) = []
-exec_of v name (Execs term node) = cell_of (v.execs name term node) (term, node, v.execs name term node)
-exec_of v name (Shifts term from to) = []
+abbrev pub exec_of : Held → Counted → List (ℕ × ℕ × ℕ)
+exec_of h (Hits node) = []
+exec_of h (Execs term node) = cell_of (h.number (Execs term node)) (term, node, h.number (Execs term node))
+exec_of h (Shifts term from to) = []
 
-abbrev pub shift_of : State → List ℕ → Counted → List (ℕ × ℕ × ℕ × ℕ)
-shift_of v name (Hits node) = []
-shift_of v name (Execs term node) = []
-shift_of v name (Shifts term from to) =
-    if to == from then [] else cell_of (v.shifts name term from to) (term, from, to, v.shifts name term from to)
+abbrev pub shift_of : Held → Counted → List (ℕ × ℕ × ℕ × ℕ)
+shift_of h (Hits node) = []
+shift_of h (Execs term node) = []
+shift_of h (Shifts term from to) =
+    if to == from then [] else cell_of (h.number (Shifts term from to)) (term, from, to, h.number (Shifts term from to))
 
 -- what a node moved to itself, as its grant
-abbrev pub grant_of : State → List ℕ → Counted → List (ℕ × ℕ × ℕ)
-grant_of v name (Hits node) = []
-grant_of v name (Execs term node) = []
-grant_of v name (Shifts term from to) =
-    if to == from then cell_of (granted_in v name term from) (term, from, granted_in v name term from) else []
+abbrev pub grant_of : Held → Counted → List (ℕ × ℕ × ℕ)
+grant_of h (Hits node) = []
+grant_of h (Execs term node) = []
+grant_of h (Shifts term from to) =
+    if to == from then cell_of (h.number (Shifts term from from)) (term, from, h.number (Shifts term from from)) else []
 
 -- what changed after a version, by its mark and the key's
 abbrev pub later : {C : Type 0} → ℕ → ℕ → (Counted → List C) → Counted × ℕ → List C
 later key base f c = if nat_lt base (cell_change (is_hits c.0) c.1 key) then f c.0 else []
 
-abbrev pub hits_since : State → List ℕ → ℕ → NameMarks → List (ℕ × ℕ)
-hits_since v name base marks = flat_map (later marks.key base (hit_of v name)) marks.cells.entries
+abbrev pub hits_since : Held → ℕ → NameMarks → List (ℕ × ℕ)
+hits_since h base marks = flat_map (later marks.key base (hit_of h)) marks.cells.entries
 
-abbrev pub execs_since : State → List ℕ → ℕ → NameMarks → List (ℕ × ℕ × ℕ)
-execs_since v name base marks = flat_map (later marks.key base (exec_of v name)) marks.cells.entries
+abbrev pub execs_since : Held → ℕ → NameMarks → List (ℕ × ℕ × ℕ)
+execs_since h base marks = flat_map (later marks.key base (exec_of h)) marks.cells.entries
 
-abbrev pub shifts_since : State → List ℕ → ℕ → NameMarks → List (ℕ × ℕ × ℕ × ℕ)
-shifts_since v name base marks = flat_map (later marks.key base (shift_of v name)) marks.cells.entries
+abbrev pub shifts_since : Held → ℕ → NameMarks → List (ℕ × ℕ × ℕ × ℕ)
+shifts_since h base marks = flat_map (later marks.key base (shift_of h)) marks.cells.entries
 
-abbrev pub grants_since : State → List ℕ → ℕ → NameMarks → List (ℕ × ℕ × ℕ)
-grants_since v name base marks = flat_map (later marks.key base (grant_of v name)) marks.cells.entries
+abbrev pub grants_since : Held → ℕ → NameMarks → List (ℕ × ℕ × ℕ)
+grants_since h base marks = flat_map (later marks.key base (grant_of h)) marks.cells.entries
 
-abbrev pub entry_since : State → List ℕ → KeyValue → ℕ → NameMarks → EntryValue
-entry_since v name key base marks = record {
+abbrev pub entry_since : Held → List ℕ → KeyValue → ℕ → NameMarks → EntryValue
+entry_since h name key base marks = record {
   name = name;
   key = key;
-  hits = hits_since v name base marks;
-  execs = execs_since v name base marks;
-  shifts = shifts_since v name base marks;
-  grants = grants_since v name base marks;
+  hits = hits_since h base marks;
+  execs = execs_since h base marks;
+  shifts = shifts_since h base marks;
+  grants = grants_since h base marks;
 }
 
 -- whether an entry tells a cell
@@ -103,13 +104,13 @@ tells_cells e =
 abbrev pub entry_told : ℕ → NameMarks → EntryValue → List EntryValue
 entry_told base marks e = if nat_lt base marks.key || tells_cells e then e ∷ [] else []
 
-abbrev pub entry_under : State → List ℕ → Option KeyValue → ℕ → NameMarks → List EntryValue
-entry_under v name None base marks = []
-entry_under v name (Some key) base marks = entry_told base marks (entry_since v name key base marks)
+abbrev pub entry_under : Held → List ℕ → Option KeyValue → ℕ → NameMarks → List EntryValue
+entry_under h name None base marks = []
+entry_under h name (Some key) base marks = entry_told base marks (entry_since h name key base marks)
 
 -- nothing of a name changed after the latest of its marks
 abbrev pub entry_marked : State → ℕ → List ℕ × NameMarks → List EntryValue
-entry_marked v base n = if nat_lt base n.1.latest then entry_under v n.0 (v.key n.0) base n.1 else []
+entry_marked v base n = if nat_lt base n.1.latest then entry_under (held_at v n.0) n.0 (v.key n.0) base n.1 else []
 
 abbrev pub entries_since : State → ℕ → Marks → List EntryValue
 entries_since v base marks = flat_map (entry_marked v base) marks.names.entries

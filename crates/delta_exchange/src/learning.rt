@@ -1,6 +1,6 @@
 //! What a message tells, learned by a replica.
 
-ghost use Rattle.std.specs.Prelude.{◌≡◌, ℕ, Some, None, IfOk, OnOk};
+ghost use Rattle.std.specs.Prelude.{◌≡◌, ℕ, Some, IfOk, OnOk};
 ghost use Rattle.stamp_register.specs.Keys.{key_value};
 ghost use Rattle.replica_state.specs.Folds.{fold};
 ghost use Rattle.message_format.specs.Messages.{entry_value, message_value, operations_of, operations_in, hits_in, execs_in, shifts_in, grants_in};
@@ -91,22 +91,19 @@ fn learn_grants<R: Replica>(
     Ok(())
 }
 
-// Learns an entry of a name that has no key yet.
-fn learn_entry<R: Replica>(
-    replica: &mut R,
-    alloc: Global,
-    entry: &NameEntry,
-) -> Result<(), AllocError>
-    requires entry { (nodes : ℕ) × IsEntry nodes (entry_value entry.now) }
-    requires new { HasKeyOf (R.state replica.old) entry.now.name None }
-    ensures { OnOk result (HasLearned (R.state replica.old) (R.state replica.new)
-        (operations_of (entry_value entry.now))) }
+/// A replica that knows just what an entry tells, so that each look-up of its name compares it once.
+fn replica_of_entry<R: Replica>(alloc: Global, entry: &NameEntry) -> Result<R, AllocError>
+    requires { (nodes : ℕ) × IsEntry nodes (entry_value entry.now) }
+    ensures { IfOk result
+        (λ replica. R.state replica ≡ fold (operations_of (entry_value entry.now))) }
 {
+    let mut replica = R::empty(alloc);
     replica.learn(alloc, &entry.name, &entry.key, None)?;
-    learn_hits(replica, alloc, entry)?;
-    learn_execs(replica, alloc, entry)?;
-    learn_shifts(replica, alloc, entry)?;
-    learn_grants(replica, alloc, entry)
+    learn_hits(&mut replica, alloc, entry)?;
+    learn_execs(&mut replica, alloc, entry)?;
+    learn_shifts(&mut replica, alloc, entry)?;
+    learn_grants(&mut replica, alloc, entry)?;
+    Ok(replica)
 }
 
 /// A replica that knows just what a message tells. The message's nodes are those of some cluster,
@@ -118,7 +115,8 @@ pub fn replica_of<R: Replica>(alloc: Global, message: &Message) -> Result<R, All
 {
     let mut replica = R::empty(alloc);
     for entry in &message.entries {
-        learn_entry(&mut replica, alloc, entry)?;
+        let told = replica_of_entry(alloc, entry)?;
+        replica.merge(alloc, told)?;
     }
     Ok(replica)
 }

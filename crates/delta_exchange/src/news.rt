@@ -5,20 +5,20 @@ ghost use Rattle.std.specs.Prelude.{◌≡◌, ◌++◌, ◌∷◌, [], Some, No
 ghost use Rattle.std.specs.Ordering.{match_ordering};
 ghost use Rattle.stamp_register.specs.Keys.{key_value};
 ghost use Rattle.replica_state.specs.Operations.{operation, IsWellFormed};
-ghost use Rattle.replica_state.specs.Knowledge.{knows};
-ghost use Rattle.replica_state.specs.Points.{key_standing};
+ghost use Rattle.replica_state.specs.Points.{order_to_held};
 ghost use Rattle.replica_state.specs.Cells.{operation_told};
+ghost use Rattle.replica_state.specs.Stored.{reader_held};
 ghost use Rattle.std.specs.List.{AllByRecursion};
 ghost use Rattle.replica_state.specs.Folds.{fold};
 ghost use Rattle.delta_exchange.specs.Marks.{marks_value};
 ghost use Rattle.delta_exchange.specs.Told.{HasLearned};
-ghost use Rattle.delta_exchange.specs.News.{counted_of, is_new, news_in, news_of, operation_of, with_news, HaveRoom, StandsIn};
+ghost use Rattle.delta_exchange.specs.News.{counted_of, is_new, knows_held, news_held, news_in, news_of, operation_of, with_news, HaveRoom, HasOrderTo};
 ghost use Rattle.message_format.specs.Messages.{entry_value, message_value, hits_in, execs_in, shifts_in, grants_in, operations_of, operations_in};
 
 use crate::marks::Marks;
 use actions::Name;
 use message_format::{Message, NameEntry};
-use replica_state::{Count, Counted, Op, Replica};
+use replica_state::{Count, Counted, Op, PointReader, Replica, Stored};
 use stamp_register::Key;
 use std::alloc::{AllocError, Global};
 use std::cmp::Ordering;
@@ -30,15 +30,15 @@ pub(crate) struct Told<'a> {
     pub(crate) name: &'a Name,
     pub(crate) key: &'a Key,
     // How the key stands to the one that is held.
-    pub(crate) standing: Ordering,
+    pub(crate) order: Ordering,
     pub(crate) count: Option<Count>,
 }
 
-/// How a key stands to the one that a replica has of a name. Where it has none, each is greater.
-fn standing_of<R: Replica>(replica: &R, name: &Name, key: &Key) -> Ordering
-    ensures { result ≡ key_standing (key_value key.now) ((R.state replica.now).key name.now) }
+/// How a key stands to the one that is held of a name. Where none is, each is greater.
+fn order_to_held<S: Stored>(held: PointReader<S>, key: &Key) -> Ordering
+    ensures { result ≡ order_to_held (key_value key.now) (reader_held S.held held.entry).key }
 {
-    match replica.key(name) {
+    match held.key() {
         Some(held) => key.cmp(held),
         None => Ordering::Greater,
     }
@@ -46,16 +46,16 @@ fn standing_of<R: Replica>(replica: &R, name: &Name, key: &Key) -> Ordering
 
 impl<'a> Told<'a> {
     /// A setting.
-    fn new<R: Replica>(replica: &R, name: &'a Name, key: &'a Key) -> Told<'a>
+    fn new<S: Stored>(held: PointReader<S>, name: &'a Name, key: &'a Key) -> Told<'a>
         ensures name { result.name.now ≡ name.now }
         ensures key { key_value result.key.now ≡ key_value key.now }
         ensures count { result.count ≡ None }
-        ensures standing { StandsIn (R.state replica.now) result }
+        ensures order { HasOrderTo (reader_held S.held held.entry) result }
     {
         Told {
             name,
             key,
-            standing: standing_of(replica, name, key),
+            order: order_to_held(held, key),
             count: None,
         }
     }
@@ -65,12 +65,12 @@ impl<'a> Told<'a> {
         ensures name { result.name.now ≡ self.entry.name.now }
         ensures key { key_value result.key.now ≡ key_value self.entry.key.now }
         ensures count { result.count ≡ Some count }
-        ensures standing { result.standing ≡ self.entry.standing }
+        ensures order { result.order ≡ self.entry.order }
     {
         Told {
             name: self.name,
             key: self.key,
-            standing: self.standing,
+            order: self.order,
             count: Some(count),
         }
     }
@@ -87,107 +87,111 @@ impl<'a> Told<'a> {
 
     /// Whether it brings a key above the one that was held.
     pub(crate) fn is_new_key(self) -> bool
-        ensures { result ≡ is_new self.entry.standing self.entry.count }
+        ensures { result ≡ is_new self.entry.order self.entry.count }
     {
         match self.count {
-            Some(count) => !count.counted.is_hits() && self.standing.is_gt(),
-            None => self.standing.is_gt(),
+            Some(count) => !count.counted.is_hits() && self.order.is_gt(),
+            None => self.order.is_gt(),
         }
     }
 
     // Whether a count under the key is known, where the replica has this number.
     fn is_known_to_be(self, number: u64, held: u64) -> bool
-        ensures { result ≡ match_ordering self.entry.standing true (nat_le number held) false }
+        ensures { result ≡ match_ordering self.entry.order true (nat_le number held) false }
     {
-        match self.standing {
+        match self.order {
             Ordering::Less => true,
             Ordering::Equal => number <= held,
             Ordering::Greater => false,
         }
     }
 
-    // Whether a replica knows a count under the key.
-    #[tactic(auto, using(crate::proofs::NewsLemmas::known_by_standing))]
-    fn is_count_known<R: Replica>(self, replica: &R, count: Count) -> bool
-        requires { StandsIn (R.state replica.now) self }
-        ensures { result ≡ knows (R.state replica.now)
+    // Whether a count under the key is known by what is held of the name.
+    #[tactic(auto, using(crate::proofs::NewsLemmas::known_by_order))]
+    fn is_count_known<S: Stored>(self, held: PointReader<S>, count: Count) -> bool
+        requires { HasOrderTo (reader_held S.held held) self }
+        ensures { result ≡ knows_held (reader_held S.held held.entry)
             (operation_told self.entry.name.now (key_value self.entry.key.now) (Some count)) }
     {
         match count.counted {
-            Counted::Hits { node } => count.number <= replica.hits(self.name, node),
+            Counted::Hits { node } => count.number <= held.hits(node),
             Counted::Execs { term, node } => {
-                self.is_known_to_be(count.number, replica.exec(self.name, term, node))
+                self.is_known_to_be(count.number, held.exec(term, node))
             }
             Counted::Shifts { term, from, to } => {
-                self.is_known_to_be(count.number, replica.moved(self.name, term, from, to))
+                self.is_known_to_be(count.number, held.moved(term, from, to))
             }
         }
     }
 
-    /// Whether a replica knows it.
-    fn is_known<R: Replica>(self, replica: &R) -> bool
-        requires { StandsIn (R.state replica.now) self }
-        ensures { result ≡ knows (R.state replica.now) (operation_of self.entry) }
+    /// Whether it is known by what is held of the name.
+    fn is_known<S: Stored>(self, held: PointReader<S>) -> bool
+        requires { HasOrderTo (reader_held S.held held) self }
+        ensures { result ≡ knows_held (reader_held S.held held.entry) (operation_of self.entry) }
     {
         match self.count {
-            Some(count) => self.is_count_known(replica, count),
-            None => !self.standing.is_gt(),
+            Some(count) => self.is_count_known(held, count),
+            None => !self.order.is_gt(),
         }
     }
 
-    /// Adds it to the news, unless a replica knows it.
-    fn push_news<R: Replica>(self, news: &mut Vec<Told<'a>>, replica: &R) -> Result<(), AllocError>
-        requires { StandsIn (R.state replica.now) self }
+    /// Adds it to the news, unless it is known.
+    fn push_news<S: Stored>(
+        self,
+        news: &mut Vec<Told<'a>>,
+        held: PointReader<S>,
+    ) -> Result<(), AllocError>
+        requires { HasOrderTo (reader_held S.held held) self }
         ensures { OnOk result (map news_of news.new.items ≡ map news_of news.old.items
-            ++ news_in (R.state replica.now) (operation_of self.entry ∷ [])) }
+            ++ news_held (reader_held S.held held.entry) (operation_of self.entry ∷ [])) }
     {
-        if !self.is_known(replica) {
+        if !self.is_known(held) {
             news.push(self)?;
         }
         Ok(())
     }
 
-    // Adds a count under the key to the news, unless a replica knows it.
-    fn push_count<R: Replica>(
+    // Adds a count under the key to the news, unless it is known.
+    fn push_count<S: Stored>(
         self,
         news: &mut Vec<Told<'a>>,
-        replica: &R,
+        held: PointReader<S>,
         count: Count,
     ) -> Result<(), AllocError>
-        requires { StandsIn (R.state replica.now) self }
+        requires { HasOrderTo (reader_held S.held held) self }
         ensures { OnOk result (map news_of news.new.items ≡ map news_of news.old.items
-            ++ news_in (R.state replica.now)
+            ++ news_held (reader_held S.held held.entry)
             (operation_told self.entry.name.now (key_value self.entry.key.now) (Some count) ∷ [])) }
     {
-        self.with(count).push_news(news, replica)
+        self.with(count).push_news(news, held)
     }
 
-    fn push_hits<R: Replica>(
+    fn push_hits<S: Stored>(
         self,
         news: &mut Vec<Told<'a>>,
-        replica: &R,
+        held: PointReader<S>,
         hits: &[(u8, u64)],
     ) -> Result<(), AllocError>
-        requires { StandsIn (R.state replica.now) self }
+        requires { HasOrderTo (reader_held S.held held) self }
         ensures { OnOk result (map news_of news.new.items ≡ map news_of news.old.items
-            ++ news_in (R.state replica.now) (hits_in self.entry.name.now hits.now)) }
+            ++ news_held (reader_held S.held held.entry) (hits_in self.entry.name.now hits.now)) }
     {
         for (node, number) in hits {
             let hits = Counted::Hits { node: *node };
-            self.push_count(news, replica, hits.times(*number))?;
+            self.push_count(news, held, hits.times(*number))?;
         }
         Ok(())
     }
 
-    fn push_execs<R: Replica>(
+    fn push_execs<S: Stored>(
         self,
         news: &mut Vec<Told<'a>>,
-        replica: &R,
+        held: PointReader<S>,
         execs: &[(u8, u8, u64)],
     ) -> Result<(), AllocError>
-        requires { StandsIn (R.state replica.now) self }
+        requires { HasOrderTo (reader_held S.held held) self }
         ensures { OnOk result (map news_of news.new.items ≡ map news_of news.old.items
-            ++ news_in (R.state replica.now)
+            ++ news_held (reader_held S.held held.entry)
             (execs_in self.entry.name.now (key_value self.entry.key.now) execs.now)) }
     {
         for (term, node, number) in execs {
@@ -195,20 +199,20 @@ impl<'a> Told<'a> {
                 term: *term,
                 node: *node,
             };
-            self.push_count(news, replica, execs.times(*number))?;
+            self.push_count(news, held, execs.times(*number))?;
         }
         Ok(())
     }
 
-    fn push_shifts<R: Replica>(
+    fn push_shifts<S: Stored>(
         self,
         news: &mut Vec<Told<'a>>,
-        replica: &R,
+        held: PointReader<S>,
         shifts: &[(u8, u8, u8, u64)],
     ) -> Result<(), AllocError>
-        requires { StandsIn (R.state replica.now) self }
+        requires { HasOrderTo (reader_held S.held held) self }
         ensures { OnOk result (map news_of news.new.items ≡ map news_of news.old.items
-            ++ news_in (R.state replica.now)
+            ++ news_held (reader_held S.held held.entry)
             (shifts_in self.entry.name.now (key_value self.entry.key.now) shifts.now)) }
     {
         for (term, from, to, total) in shifts {
@@ -217,20 +221,20 @@ impl<'a> Told<'a> {
                 from: *from,
                 to: *to,
             };
-            self.push_count(news, replica, shifts.times(*total))?;
+            self.push_count(news, held, shifts.times(*total))?;
         }
         Ok(())
     }
 
-    fn push_grants<R: Replica>(
+    fn push_grants<S: Stored>(
         self,
         news: &mut Vec<Told<'a>>,
-        replica: &R,
+        held: PointReader<S>,
         grants: &[(u8, u8, u64)],
     ) -> Result<(), AllocError>
-        requires { StandsIn (R.state replica.now) self }
+        requires { HasOrderTo (reader_held S.held held) self }
         ensures { OnOk result (map news_of news.new.items ≡ map news_of news.old.items
-            ++ news_in (R.state replica.now)
+            ++ news_held (reader_held S.held held.entry)
             (grants_in self.entry.name.now (key_value self.entry.key.now) grants.now)) }
     {
         for (term, node, total) in grants {
@@ -239,7 +243,7 @@ impl<'a> Told<'a> {
                 from: *node,
                 to: *node,
             };
-            self.push_count(news, replica, grants.times(*total))?;
+            self.push_count(news, held, grants.times(*total))?;
         }
         Ok(())
     }
@@ -253,12 +257,13 @@ fn push_entry<'a, R: Replica>(
     ensures { OnOk result (map news_of news.new.items ≡ map news_of news.old.items
         ++ news_in (R.state replica.now) (operations_of (entry_value entry.now))) }
 {
-    let told = Told::new(replica, &entry.name, &entry.key);
-    told.push_news(news, replica)?;
-    told.push_hits(news, replica, &entry.hits)?;
-    told.push_execs(news, replica, &entry.execs)?;
-    told.push_shifts(news, replica, &entry.shifts)?;
-    told.push_grants(news, replica, &entry.grants)
+    let held = replica.point(&entry.name);
+    let told = Told::new(held, &entry.name, &entry.key);
+    told.push_news(news, held)?;
+    told.push_hits(news, held, &entry.hits)?;
+    told.push_execs(news, held, &entry.execs)?;
+    told.push_shifts(news, held, &entry.shifts)?;
+    told.push_grants(news, held, &entry.grants)
 }
 
 /// What a replica doesn't know of what a message tells.
@@ -286,54 +291,12 @@ fn push_op<'a, R: Replica>(
     ensures { OnOk result (map news_of news.new.items ≡ map news_of news.old.items
         ++ news_in (R.state replica.now) (operation op.now ∷ [])) }
 {
-    match op {
-        Op::Set { name, key } => Told::new(replica, name, key).push_news(news, replica),
-        Op::Hit { name, node, number } => {
-            let hits = Counted::Hits { node: *node };
-            Told::new(replica, name, no_key).push_count(news, replica, hits.times(*number))
-        }
-        Op::Exec {
-            name,
-            key,
-            term,
-            node,
-            number,
-        } => {
-            let execs = Counted::Execs {
-                term: *term,
-                node: *node,
-            };
-            Told::new(replica, name, key).push_count(news, replica, execs.times(*number))
-        }
-        Op::Shift {
-            name,
-            key,
-            term,
-            from,
-            to,
-            total,
-        } => {
-            let shifts = Counted::Shifts {
-                term: *term,
-                from: *from,
-                to: *to,
-            };
-            Told::new(replica, name, key).push_count(news, replica, shifts.times(*total))
-        }
-        Op::Grant {
-            name,
-            key,
-            term,
-            node,
-            total,
-        } => {
-            let grants = Counted::Shifts {
-                term: *term,
-                from: *node,
-                to: *node,
-            };
-            Told::new(replica, name, key).push_count(news, replica, grants.times(*total))
-        }
+    let name = op.name();
+    let held = replica.point(name);
+    let told = Told::new(held, name, op.key().unwrap_or(no_key));
+    match op.count() {
+        Some(count) => told.push_count(news, held, count),
+        None => told.push_news(news, held),
     }
 }
 

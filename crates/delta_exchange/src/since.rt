@@ -7,6 +7,7 @@ ghost use Rattle.std.specs.Ordering.{nat_cmp};
 ghost use Rattle.std.specs.Cmp.Lexicographic.{slice_cmp};
 ghost use Rattle.stamp_register.specs.Keys.{key_value};
 ghost use Rattle.replica_state.specs.Points.{counted_cmp};
+ghost use Rattle.replica_state.specs.Stored.{reader_held};
 ghost use Rattle.message_format.specs.Messages.{entry_value, message_value};
 ghost use Rattle.delta_exchange.specs.Cells.{HitsFit, ExecsFit, ShiftsFit, EntryFits, EntriesFit};
 ghost use Rattle.delta_exchange.specs.Versions.{value_of};
@@ -16,29 +17,28 @@ use crate::marks::{Marks, NameMarks};
 use crate::versioned::Versioned;
 use actions::Name;
 use message_format::{Message, NameEntry};
-use replica_state::{Counted, Replica};
+use replica_state::{Counted, PointReader, Replica, Stored};
 use stamp_register::Key;
 use std::alloc::{AllocError, Global};
 
 /// The hits of a name that changed after a version, by node.
-fn hits_since<R: Replica>(
+fn hits_since<S: Stored>(
     alloc: Global,
-    replica: &R,
-    name: &Name,
+    held: PointReader<S>,
     base: u64,
     marks: &NameMarks,
 ) -> Result<Vec<(u8, u64)>, AllocError>
     ensures ordered { IfOk result (λ _. IsOrdered counted_cmp marks.now.cells) }
     ensures fit { IfOk result (λ cells. HitsFit cells.items) }
     ensures cells { IfOk result (λ cells. cells.items
-        ≡ hits_since (R.state replica.now) name.now base marks.now) }
+        ≡ hits_since (reader_held S.held held.entry) base marks.now) }
 {
     let mut hits = Vec::new(alloc);
     for (counted, mark) in marks.cells() {
         if marks.change(*counted, *mark) > base
             && let Counted::Hits { node } = *counted
         {
-            let number = replica.hits(name, node);
+            let number = held.hits(node);
             if number != 0 {
                 hits.push((node, number))?;
             }
@@ -48,23 +48,22 @@ fn hits_since<R: Replica>(
 }
 
 /// The executions of a name under its key that changed after a version, by term and node.
-fn execs_since<R: Replica>(
+fn execs_since<S: Stored>(
     alloc: Global,
-    replica: &R,
-    name: &Name,
+    held: PointReader<S>,
     base: u64,
     marks: &NameMarks,
 ) -> Result<Vec<(u8, u8, u64)>, AllocError>
     ensures fit { IfOk result (λ cells. ExecsFit cells.items) }
     ensures cells { IfOk result (λ cells. cells.items
-        ≡ execs_since (R.state replica.now) name.now base marks.now) }
+        ≡ execs_since (reader_held S.held held.entry) base marks.now) }
 {
     let mut execs = Vec::new(alloc);
     for (counted, mark) in marks.cells() {
         if marks.change(*counted, *mark) > base
             && let Counted::Execs { term, node } = *counted
         {
-            let number = replica.exec(name, term, node);
+            let number = held.exec(term, node);
             if number != 0 {
                 execs.push((term, node, number))?;
             }
@@ -75,16 +74,15 @@ fn execs_since<R: Replica>(
 
 /// What was moved of the rights to the terms of a name under its key and changed after a version,
 /// by term and both nodes.
-fn shifts_since<R: Replica>(
+fn shifts_since<S: Stored>(
     alloc: Global,
-    replica: &R,
-    name: &Name,
+    held: PointReader<S>,
     base: u64,
     marks: &NameMarks,
 ) -> Result<Vec<(u8, u8, u8, u64)>, AllocError>
     ensures fit { IfOk result (λ cells. ShiftsFit cells.items) }
     ensures cells { IfOk result (λ cells. cells.items
-        ≡ shifts_since (R.state replica.now) name.now base marks.now) }
+        ≡ shifts_since (reader_held S.held held.entry) base marks.now) }
 {
     let mut shifts = Vec::new(alloc);
     for (counted, mark) in marks.cells() {
@@ -92,7 +90,7 @@ fn shifts_since<R: Replica>(
             && let Counted::Shifts { term, from, to } = *counted
             && to != from
         {
-            let number = replica.moved(name, term, from, to);
+            let number = held.moved(term, from, to);
             if number != 0 {
                 shifts.push((term, from, to, number))?;
             }
@@ -103,16 +101,15 @@ fn shifts_since<R: Replica>(
 
 /// What was granted of the rights to the terms of a name under its key and changed after a version,
 /// by term and node.
-fn grants_since<R: Replica>(
+fn grants_since<S: Stored>(
     alloc: Global,
-    replica: &R,
-    name: &Name,
+    held: PointReader<S>,
     base: u64,
     marks: &NameMarks,
 ) -> Result<Vec<(u8, u8, u64)>, AllocError>
     ensures fit { IfOk result (λ cells. ExecsFit cells.items) }
     ensures cells { IfOk result (λ cells. cells.items
-        ≡ grants_since (R.state replica.now) name.now base marks.now) }
+        ≡ grants_since (reader_held S.held held.entry) base marks.now) }
 {
     let mut grants = Vec::new(alloc);
     for (counted, mark) in marks.cells() {
@@ -120,7 +117,7 @@ fn grants_since<R: Replica>(
             && let Counted::Shifts { term, from, to } = *counted
             && to == from
         {
-            let number = replica.granted(name, term, from);
+            let number = held.granted(term, from);
             if number != 0 {
                 grants.push((term, from, number))?;
             }
@@ -130,9 +127,9 @@ fn grants_since<R: Replica>(
 }
 
 /// What changed of a name under its key after a version.
-fn entry_since<R: Replica>(
+fn entry_since<S: Stored>(
     alloc: Global,
-    replica: &R,
+    held: PointReader<S>,
     name: &Name,
     key: &Key,
     base: u64,
@@ -141,15 +138,16 @@ fn entry_since<R: Replica>(
     ensures ordered { IfOk result (λ _. IsOrdered counted_cmp marks.now.cells) }
     ensures fits { IfOk result (λ e. EntryFits (entry_value e)) }
     ensures entry { IfOk result (λ e. entry_value e
-        ≡ entry_since (R.state replica.now) name.now (key_value key.now) base marks.now) }
+        ≡ entry_since (reader_held S.held held.entry) name.now (key_value key.now)
+        base marks.now) }
 {
     Ok(NameEntry {
         name: name.copied(alloc)?,
         key: key.copied(alloc)?,
-        hits: hits_since(alloc, replica, name, base, marks)?,
-        execs: execs_since(alloc, replica, name, base, marks)?,
-        shifts: shifts_since(alloc, replica, name, base, marks)?,
-        grants: grants_since(alloc, replica, name, base, marks)?,
+        hits: hits_since(alloc, held, base, marks)?,
+        execs: execs_since(alloc, held, base, marks)?,
+        shifts: shifts_since(alloc, held, base, marks)?,
+        grants: grants_since(alloc, held, base, marks)?,
     })
 }
 
@@ -164,27 +162,27 @@ fn tells_cells(entry: &NameEntry) -> bool
 }
 
 /// Adds what changed after a version of a name with these marks, if it has a key.
-fn push_entry_since<R: Replica>(
+fn push_entry_since<S: Stored>(
     alloc: Global,
     entries: &mut Vec<NameEntry>,
-    replica: &R,
+    held: PointReader<S>,
     name: &Name,
     base: u64,
     marks: &NameMarks,
 ) -> Result<(), AllocError>
     ensures fit { OnOk result (EntriesFit (map entry_value entries.old.items)
         → EntriesFit (map entry_value entries.new.items)) }
-    ensures ordered { OnOk result (IsSome ((R.state replica.now).key name.now)
+    ensures ordered { OnOk result (IsSome (reader_held S.held held.entry).key
         → IsOrdered counted_cmp marks.now.cells) }
     ensures entries { OnOk result (map entry_value entries.new.items
         ≡ map entry_value entries.old.items
-        ++ entry_under (R.state replica.now) name.now ((R.state replica.now).key name.now)
-        base marks.now) }
+        ++ entry_under (reader_held S.held held.entry) name.now
+        (reader_held S.held held.entry).key base marks.now) }
 {
-    let Some(key) = replica.key(name) else {
+    let Some(key) = held.key() else {
         return Ok(());
     };
-    let entry = entry_since(alloc, replica, name, key, base, marks)?;
+    let entry = entry_since(alloc, held, name, key, base, marks)?;
     if marks.key() > base || tells_cells(&entry) {
         entries.push(entry)?;
     }
@@ -208,7 +206,8 @@ fn entries_since<R: Replica>(
     let mut entries = Vec::new(alloc);
     for (name, marked) in marks.names() {
         if marked.latest() > base {
-            push_entry_since(alloc, &mut entries, replica, name, base, marked)?;
+            let held = replica.point(name);
+            push_entry_since(alloc, &mut entries, held, name, base, marked)?;
         }
     }
     Ok(entries)

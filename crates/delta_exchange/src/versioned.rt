@@ -224,18 +224,18 @@ impl<R: Replica> Versioned<R> {
             (message_value message.now) (value_of R.state self.new)) }
         ensures err { OnErr result (value_of R.state self.new ≡ value_of R.state self.old) }
     {
-        let brought = replica_of(alloc, message)?;
-        self.receive_brought(alloc, message, brought)
+        let received = replica_of(alloc, message)?;
+        self.receive_replica(alloc, message, received)
     }
 
     /// Does what `receive` does, where the replica that knows just what the message tells is at hand.
-    pub fn receive_brought(
+    pub fn receive_replica(
         &mut self,
         alloc: Global,
         message: &Message,
-        brought: R,
+        received: R,
     ) -> Result<bool, AllocError>
-        requires brought { R.state brought ≡ fold (operations_in (message_value message.now)) }
+        requires received { R.state received ≡ fold (operations_in (message_value message.now)) }
         requires version { (value_of R.state self.old).version + 1 < 2 ^ 64 }
         ensures changed { IfOk result (λ changed. changed ≡ changes
             (value_of R.state self.old).state (operations_in (message_value message.now))) }
@@ -246,7 +246,7 @@ impl<R: Replica> Versioned<R> {
         let news = news_of_message(alloc, &self.replica, message)?;
         self.known.make_room(message.from)?;
         self.acked.make_room(message.from)?;
-        let changed = self.learn(alloc, &news, brought)?;
+        let changed = self.learn(alloc, &news, received)?;
         self.known
             .raise_known(message.from, message.base, message.upto);
         self.acked.raise_acked(message.from, message.ack);
@@ -255,8 +255,8 @@ impl<R: Replica> Versioned<R> {
 
     // Learns the news that another replica brings, all at once, as one change. The answer says
     // whether there are any.
-    fn learn(&mut self, alloc: Global, news: &[Told], brought: R) -> Result<bool, AllocError>
-        requires brings { BringsNews (value_of R.state self.old).state (R.state brought)
+    fn learn(&mut self, alloc: Global, news: &[Told], received: R) -> Result<bool, AllocError>
+        requires brings { BringsNews (value_of R.state self.old).state (R.state received)
             (map operation_of news.now) }
         requires version { (value_of R.state self.old).version + 1 < 2 ^ 64 }
         ensures changed { IfOk result (λ changed. (told : List Operation)
@@ -273,7 +273,7 @@ impl<R: Replica> Versioned<R> {
             return Ok(false);
         }
         make_room(alloc, &mut self.marks, news)?;
-        self.replica.merge(alloc, brought)?;
+        self.replica.merge(alloc, received)?;
         self.version += 1;
         mark_all(&mut self.marks, news, self.version);
         Ok(true)

@@ -24,7 +24,7 @@ fn nodes_of(traces: usize) -> u8
     traces.min(255) as u8
 }
 
-// The verdict of an audit of a drill. Want of memory is none.
+// The verdict of an audit of a drill. Out of memory is none.
 fn judged(alloc: Global, drill: &Drill) -> Result<Result<AuditYes, AuditFault>, DrillFault>
     ensures audited { IfOk result (IsAudited (min (length drill.now.traces.items) 255)
         drill.now.traces.items drill.now.lists.items) }

@@ -21,7 +21,7 @@ pub const MOST_TAKEN: u8 = 64;
 /// Does so many rounds of gossip, without a pause. Each round makes a message to every other node, in
 /// the order of their numbers, and sends it; then it takes in what the wire brings, at most 64
 /// messages. A message that couldn't be sent is counted, and the round goes on; where none could be
-/// taken, the round ends; a call that the node refuses is counted. Want of memory, also of the wire,
+/// taken, the round ends; a call that the node refuses is counted. Out of memory, also on the wire,
 /// ends the rounds. Room for a receipt is made before its call.
 pub fn gossip_rounds<L: Label, W: Wire, R: Wait>(
     rt: &R,

@@ -17,7 +17,7 @@ use std::sync::Wait;
 /// Shifts an equal share of each counted term of a point to every other node: the rights that the
 /// node has, which are read once, divided by the number of nodes and rounded down, at most 2^64 - 1.
 /// Shares of 0 are left out, and of a point that isn't set there is nothing to share. A shift that
-/// the node refuses is counted, and the others go on. Want of memory ends the spread. Room for a
+/// the node refuses is counted, and the others go on. Out of memory ends the spread. Room for a
 /// receipt is made before its call.
 pub fn spread<L: Label, R: Wait>(
     rt: &R,

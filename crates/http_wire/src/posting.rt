@@ -26,7 +26,7 @@ use tokio::runtime::LocalRuntime;
 /// How many seconds a message may take, from the connection to the head of the reply.
 pub const POST_SECONDS: u64 = 2;
 
-// Want of memory by its name, and any other error as a call that failed.
+// Out of memory by its name, and any other error as a call that failed.
 pub(crate) fn failed(error: io::Error) -> WireError
     ensures failure { IsFailure result }
     ensures memory { (result ≡ WireError.OutOfMemory)

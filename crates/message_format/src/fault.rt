@@ -12,7 +12,7 @@ use std::fmt;
 /// That they are too many is tested first. Then they are read field by field, and the first fault
 /// is the answer: a field is `Short` where its bytes aren't all there, before its value is looked
 /// at. `NoGrant` is tested last. `offset` is how many bytes stand before the field or, for
-/// `CellOrder`, before the cell. Want of memory may be answered in place of any other fault.
+/// `CellOrder`, before the cell. `OutOfMemory` may be answered in place of any other fault.
 ///
 /// `Display` shows a number, the variant's name and its field as `field=value`.
 #[derive(Clone, Copy, Debug, PartialEq, Eq)]

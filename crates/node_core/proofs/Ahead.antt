@@ -12,7 +12,7 @@ use Rattle.stamp_register.proofs.KeyLemmas.{same_key-true, true-same_key, same_k
 use Rattle.replica_state.specs.Operations.{Operation, Set, Count, Hits, Execs, Shifts}
 use Rattle.replica_state.specs.States.{State, granted_in}
 use Rattle.replica_state.specs.Knowledge.{knows_count}
-use Rattle.replica_state.specs.Points.{Held, key_standing}
+use Rattle.replica_state.specs.Points.{Held, order_to_held}
 use Rattle.replica_state.specs.Cells.{held_at}
 use Rattle.message_format.specs.declared.message.NameEntry.{NameEntry}
 use Rattle.message_format.specs.Messages.{EntryValue, entry_value, operations_of, hits_in, execs_in, shifts_in, grants_in}
@@ -59,13 +59,13 @@ by_order Less s own number h = ap (λ b. not (cond b (nat_le number own) true)) 
 by_order Equal s own number h = ap (λ b. not (cond b (nat_le number own) true)) h ∙ over own number
 by_order Greater s own number h = ap (λ b. not (cond b (nat_le number own) false)) h
 
-pub count_ahead : (key : KeyValue) (own number : ℕ) (held : Option KeyValue) → not (knows_count key number own held) ≡ ahead_by (key_standing key held) own number
+pub count_ahead : (key : KeyValue) (own number : ℕ) (held : Option KeyValue) → not (knows_count key number own held) ≡ ahead_by (order_to_held key held) own number
 count_ahead key own number None = refl
-count_ahead key own number (Some other) = by_order (key_standing key (Some other)) (same_key other key) own number (same_turned other key ∙ same_key-cmp key other)
+count_ahead key own number (Some other) = by_order (order_to_held key (Some other)) (same_key other key) own number (same_turned other key ∙ same_key-cmp key other)
 
-key_ahead : (i : ℕ) (v : State) (name : List ℕ) (key : KeyValue) (held : Option KeyValue) → v.key name ≡ held → is_ahead i v (Set name key) ≡ (key.node == i && is_gt (key_standing key held))
+key_ahead : (i : ℕ) (v : State) (name : List ℕ) (key : KeyValue) (held : Option KeyValue) → v.key name ≡ held → is_ahead i v (Set name key) ≡ (key.node == i && is_gt (order_to_held key held))
 key_ahead i v name key None h = rw h refl
-key_ahead i v name key (Some other) h = rw h (ap (λ b. key.node == i && b) (of (key_standing key (Some other))))
+key_ahead i v name key (Some other) h = rw h (ap (λ b. key.node == i && b) (of (order_to_held key (Some other))))
   where
     of : (o : Ordering) → not (is_le o) ≡ is_gt o
     of Less = refl
@@ -84,7 +84,7 @@ its_own i j f = at (j == i) (eqb-true j i)
 
 module _ (i : ℕ) (v : State) (e : EntryValue) where
   abbrev order : Ordering
-  order = key_standing e.key (v.key e.name)
+  order = order_to_held e.key (v.key e.name)
 
   pub entry_ahead : list_any (is_ahead i v) (operations_of e) ≡
       ((e.key.node == i && is_gt order) || (are_hits_ahead i (held_at v e.name) e.hits || (are_execs_ahead i (held_at v e.name) order e.execs ||
@@ -120,13 +120,13 @@ module _ (i : ℕ) (v : State) (e : EntryValue) where
           (then_any (shifts_in e.name e.key e.shifts) (grants_in e.name e.key e.grants) _ _ shifts grants))
 
   -- the same, test by test, of what is held of the name
-  pub ahead_is : (h : Held) → h ≡ held_at v e.name → (o : Ordering) → o ≡ key_standing e.key h.key → (keys hits execs shifts grants : Bool) → keys ≡ (e.key.node == i && is_gt o) → hits ≡ are_hits_ahead i h e.hits →
+  pub ahead_is : (h : Held) → h ≡ held_at v e.name → (o : Ordering) → o ≡ order_to_held e.key h.key → (keys hits execs shifts grants : Bool) → keys ≡ (e.key.node == i && is_gt o) → hits ≡ are_hits_ahead i h e.hits →
       execs ≡ are_execs_ahead i h o e.execs → shifts ≡ are_shifts_ahead i h o e.shifts → grants ≡ are_grants_ahead i h o e.grants →
       (keys || (hits || (execs || (shifts || grants)))) ≡ list_any (is_ahead i v) (operations_of e)
   ahead_is h is o at keys hits execs shifts grants k n x s g =
       (λ j. (k j) || ((n j) || ((x j) || ((s j) || (g j)))))
       ∙ (λ j. (e.key.node == i && is_gt (at j)) || (are_hits_ahead i h e.hits || (are_execs_ahead i h (at j) e.execs ||
       (are_shifts_ahead i h (at j) e.shifts || are_grants_ahead i h (at j) e.grants))))
-      ∙ ap (λ (m : Held). (e.key.node == i && is_gt (key_standing e.key m.key)) || (are_hits_ahead i m e.hits || (are_execs_ahead i m (key_standing e.key m.key) e.execs ||
-      (are_shifts_ahead i m (key_standing e.key m.key) e.shifts || are_grants_ahead i m (key_standing e.key m.key) e.grants)))) is
+      ∙ ap (λ (m : Held). (e.key.node == i && is_gt (order_to_held e.key m.key)) || (are_hits_ahead i m e.hits || (are_execs_ahead i m (order_to_held e.key m.key) e.execs ||
+      (are_shifts_ahead i m (order_to_held e.key m.key) e.shifts || are_grants_ahead i m (order_to_held e.key m.key) e.grants)))) is
       ∙ sym entry_ahead

@@ -72,11 +72,11 @@ pub record FindsOwn (k : Kept) (state : State) (m : MessageValue) (ahead : Bool)
   pub is : ahead ≡ list_any (is_ahead k.config.node state) (operations_in m)
 
 -- and, in the state of what the message tells, of the executions of its names
-pub record FindsExecutions (k : Kept) (state brought : State) (m : MessageValue) (over : Bool) : Type 0 where
+pub record FindsExecutions (k : Kept) (state received : State) (m : MessageValue) (over : Bool) : Type 0 where
   pub entries : List NameEntry
   pub are : map entry_value entries ≡ m.entries
-  pub brings : brought ≡ fold (operations_in m)
-  pub is : over ≡ list_any (λ e. is_overspent_below k.config.nodes state brought e.name) entries
+  pub brings : received ≡ fold (operations_in m)
+  pub is : over ≡ list_any (λ e. is_overspent_below k.config.nodes state received e.name) entries
 
 -- the same by what the node's code finds
 module _ {k : Kept} {clock version : ℕ} {state : State} {bytes : List ℕ} {m : MessageValue} (x : Checked k clock version state bytes m) {ahead : Bool} (own : FindsOwn k state m ahead) where
@@ -99,7 +99,7 @@ module _ {k : Kept} {clock version : ℕ} {state : State} {bytes : List ℕ} {m 
         let above : nat_lt n.marks.version m.ack ≡ true = grind (arith, nat_tests, at, high) in
         ack_ahead k.config (length k.trace) n x.room (message_read k.config.nodes bytes) (message_of m) x.read mine_is (sym ahead_of ∙ behind) above
 
-    module _ (known : m.ack ≤ version) {brought : State} {over : Bool} (executions : FindsExecutions k state brought m over) where
+    module _ (known : m.ack ≤ version) {received : State} {over : Bool} (executions : FindsExecutions k state received m over) where
       known_is : nat_lt n.marks.version m.ack ≡ false
       known_is = let at = x.step.1.version_is in grind (arith, nat_tests, at, known)
 
@@ -116,15 +116,15 @@ module _ {k : Kept} {clock version : ℕ} {state : State} {bytes : List ℕ} {m 
 
       over_of : over ≡ list_any (overspends (fold (operations_in m ++ n.ops))) (operations_in m)
       over_of =
-          executions.is ∙ overspends_told k.config.nodes few_nodes (operations_in m) n.ops state brought (sym x.step.0.state_is) executions.brings x.step.1.lawful
+          executions.is ∙ overspends_told k.config.nodes few_nodes (operations_in m) n.ops state received (sym x.step.0.state_is) executions.brings x.step.1.lawful
           (told_lawful k.config.nodes m x.spelled) executions.entries (ap (flat_map operations_of) (sym executions.are))
 
       pub refused_overspent : over ≡ true → refusal k (delivery_of k bytes) [] ≡ Some faults.Overspent
       refused_overspent so = overspent k.config (length k.trace) n x.room (message_read k.config.nodes bytes) (message_of m) x.read mine_is (sym ahead_of ∙ behind) known_is (sym over_of ∙ so)
 
-      module _ (within : over ≡ false) {names : ℕ} (names_are : names ≡ length (with_names brought.names state.names)) where
+      module _ (within : over ≡ false) {names : ℕ} (names_are : names ≡ length (with_names received.names state.names)) where
         names_of_both : names ≡ length (fold (operations_in m ++ n.ops)).names
-        names_of_both = names_are ∙ merged_names (operations_in m) n.ops state brought (sym x.step.0.state_is) executions.brings
+        names_of_both = names_are ∙ merged_names (operations_in m) n.ops state received (sym x.step.0.state_is) executions.brings
 
         pub refused_many : 256 < names → refusal k (delivery_of k bytes) [] ≡ Some faults.TooManyPoints
         refused_many many =

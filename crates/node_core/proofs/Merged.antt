@@ -97,18 +97,18 @@ module _ (nodes : ℕ) (ops : List Operation) (lawful : AreLawful nodes ops) (no
   unfolding fold
   no_grants name term = none_under (λ key. Shifts name key term node node) (λ key n h. h.3) (key_of name ops)
 
-module _ (nodes : ℕ) (few : nodes ≤ node_numbers) (ops known : List Operation) (v t : State) (is_v : v ≡ fold known) (is_t : t ≡ fold ops) (lawful : AreLawful nodes known) (brought : AreLawful nodes ops) where
+module _ (nodes : ℕ) (few : nodes ≤ node_numbers) (ops known : List Operation) (v t : State) (is_v : v ≡ fold known) (is_t : t ≡ fold ops) (lawful : AreLawful nodes known) (received : AreLawful nodes ops) where
   all_execs : (name : List ℕ) (term : ℕ) → sum_below node_numbers ((union_of v t).execs name term) ≡ execs_both nodes (key_order (t.key name) (v.key name)) (held_at v name) (held_at t name) term
   all_execs name term =
       sum_both nodes few (key_order (t.key name) (v.key name)) (v.execs name term) (t.execs name term) ((union_of v t).execs name term) (execs_united v t name term)
       (λ node high. ap (λ (s : State). s.execs name term node) is_v ∙ no_execs nodes known lawful node high name term)
-      (λ node high. ap (λ (s : State). s.execs name term node) is_t ∙ no_execs nodes ops brought node high name term)
+      (λ node high. ap (λ (s : State). s.execs name term node) is_t ∙ no_execs nodes ops received node high name term)
 
   all_grants : (name : List ℕ) (term : ℕ) → granted_of (union_of v t) name term ≡ granted_both nodes (key_order (t.key name) (v.key name)) (held_at v name) (held_at t name) term
   all_grants name term =
       sum_both nodes few (key_order (t.key name) (v.key name)) (granted_in v name term) (granted_in t name term) (granted_in (union_of v t) name term) (granted_united v t name term)
       (λ node high. ap (λ (s : State). granted_in s name term node) is_v ∙ no_grants nodes known lawful node high name term)
-      (λ node high. ap (λ (s : State). granted_in s name term node) is_t ∙ no_grants nodes ops brought node high name term)
+      (λ node high. ap (λ (s : State). granted_in s name term node) is_t ∙ no_grants nodes ops received node high name term)
 
   name_overspent : (name : List ℕ) → is_overspent (union_of v t) name (terms_in (setting_of (union_of v t) name)) ≡ is_overspent_below nodes v t name
   name_overspent name =

@@ -5,8 +5,9 @@ ghost use Rattle.std.specs.List.{flat_map, list_any};
 ghost use Rattle.std.specs.Ordering.{is_gt};
 ghost use Rattle.stamp_register.specs.Keys.{key_value};
 ghost use Rattle.replica_state.specs.Folds.{clock_of};
-ghost use Rattle.replica_state.specs.Points.{key_standing};
-ghost use Rattle.replica_state.specs.Slots.{reader_held};
+ghost use Rattle.replica_state.specs.Points.{order_to_held};
+ghost use Rattle.replica_state.specs.Slots.{slot_held};
+ghost use Rattle.replica_state.specs.Stored.{reader_held};
 ghost use Rattle.node_core.specs.Replicas.{state_in};
 ghost use Rattle.replica_state.specs.Operations.{count_at};
 ghost use Rattle.replica_state.specs.Unions.{key_order, number_both};
@@ -21,7 +22,7 @@ use crate::State;
 use actions::{Actions, Name};
 use delta_exchange::{Message, NameEntry, WireFault, decode};
 use node_calls::NodeFault;
-use replica_state::PointReader;
+use replica_state::{PointReader, Replica, Slot};
 use stamp_register::Key;
 use std::alloc::Global;
 use std::cmp::Ordering;
@@ -32,7 +33,7 @@ use std::cmp::Ordering;
 pub(crate) struct Delivery {
     pub(crate) message: Message,
     pub(crate) clock: u64,
-    pub(crate) brought: State,
+    pub(crate) received: State,
 }
 
 /// How a node refuses bytes that are refused so.
@@ -61,8 +62,8 @@ pub(crate) fn read_message(alloc: Global, nodes: u8, bytes: &[u8]) -> Result<Mes
 }
 
 /// How a key that is told stands to the one that is held.
-fn standing(held: PointReader, key: &Key) -> Ordering
-    ensures { result ≡ key_standing (key_value key.now) (reader_held held.entry).key }
+fn order_to_held(held: PointReader<Slot>, key: &Key) -> Ordering
+    ensures { result ≡ order_to_held (key_value key.now) (reader_held slot_held held.entry).key }
 {
     match held.key() {
         Some(held) => key.cmp(held),
@@ -91,8 +92,8 @@ fn is_number_ahead(order: Ordering, own: u64, other: u64) -> bool
 }
 
 /// Whether more hits of a node's own are told than it knows itself.
-fn are_hits_ahead(held: PointReader, me: u8, hits: &[(u8, u64)]) -> bool
-    ensures { result ≡ are_hits_ahead me (reader_held held.entry) hits.now }
+fn are_hits_ahead(held: PointReader<Slot>, me: u8, hits: &[(u8, u64)]) -> bool
+    ensures { result ≡ are_hits_ahead me (reader_held slot_held held.entry) hits.now }
 {
     hits.iter()
         .any(|(node, number)| *node == me && held.hits(me) < *number)
@@ -100,8 +101,13 @@ fn are_hits_ahead(held: PointReader, me: u8, hits: &[(u8, u64)]) -> bool
 
 /// Whether more executions of a node's own are told, under a key that stands so, than it knows
 /// itself.
-fn are_execs_ahead(held: PointReader, me: u8, order: Ordering, execs: &[(u8, u8, u64)]) -> bool
-    ensures { result ≡ are_execs_ahead me (reader_held held.entry) order execs.now }
+fn are_execs_ahead(
+    held: PointReader<Slot>,
+    me: u8,
+    order: Ordering,
+    execs: &[(u8, u8, u64)],
+) -> bool
+    ensures { result ≡ are_execs_ahead me (reader_held slot_held held.entry) order execs.now }
 {
     execs.iter().any(|(term, node, number)| *node == me
         && is_number_ahead(order, held.exec(*term, me), *number))
@@ -110,12 +116,12 @@ fn are_execs_ahead(held: PointReader, me: u8, order: Ordering, execs: &[(u8, u8,
 /// Whether it is told that a node moved more rights, under a key that stands so, than it knows
 /// itself.
 fn are_shifts_ahead(
-    held: PointReader,
+    held: PointReader<Slot>,
     me: u8,
     order: Ordering,
     shifts: &[(u8, u8, u8, u64)],
 ) -> bool
-    ensures { result ≡ are_shifts_ahead me (reader_held held.entry) order shifts.now }
+    ensures { result ≡ are_shifts_ahead me (reader_held slot_held held.entry) order shifts.now }
 {
     shifts.iter().any(|(term, from, to, number)| *from == me
         && is_number_ahead(order, held.moved(*term, me, *to), *number))
@@ -123,8 +129,13 @@ fn are_shifts_ahead(
 
 /// Whether it is told that a node granted itself more rights, under a key that stands so, than it
 /// knows itself.
-fn are_grants_ahead(held: PointReader, me: u8, order: Ordering, grants: &[(u8, u8, u64)]) -> bool
-    ensures { result ≡ are_grants_ahead me (reader_held held.entry) order grants.now }
+fn are_grants_ahead(
+    held: PointReader<Slot>,
+    me: u8,
+    order: Ordering,
+    grants: &[(u8, u8, u64)],
+) -> bool
+    ensures { result ≡ are_grants_ahead me (reader_held slot_held held.entry) order grants.now }
 {
     grants.iter().any(|(term, node, number)| *node == me
         && is_number_ahead(order, held.granted(*term, me), *number))
@@ -135,7 +146,7 @@ fn is_entry_ahead(state: &State, me: u8, entry: &NameEntry) -> bool
     ensures { result ≡ says_more me (state_in state.now) (operations_of (entry_value entry.now)) }
 {
     let held = state.point(&entry.name);
-    let order = standing(held, &entry.key);
+    let order = order_to_held(held, &entry.key);
     if is_key_ahead(order, me, entry.key.node) {
         return true;
     }
@@ -178,11 +189,11 @@ pub(crate) fn latest_clock(entries: &[NameEntry]) -> u64
 }
 
 /// How the key that another state holds of a name stands to the one that is held here.
-fn standing_of(held: PointReader, brought: PointReader) -> Ordering
-    ensures { result ≡ key_order (reader_held brought.entry).key (reader_held held.entry).key }
+fn key_order(held: PointReader<Slot>, received: PointReader<Slot>) -> Ordering
+    ensures { result ≡ key_order (reader_held slot_held received.entry).key (reader_held slot_held held.entry).key }
 {
-    if let Some(key) = brought.key() {
-        return standing(held, key);
+    if let Some(key) = received.key() {
+        return order_to_held(held, key);
     }
     match held.key() {
         Some(_) => Ordering::Less,
@@ -203,13 +214,19 @@ fn number_both(order: Ordering, held: u64, other: u64) -> u64
 
 /// The executions of a term at all nodes once both states are one, where the key that is told
 /// stands so.
-fn execs_both(nodes: u8, order: Ordering, held: PointReader, brought: PointReader, term: u8) -> u128
+fn execs_both(
+    nodes: u8,
+    order: Ordering,
+    held: PointReader<Slot>,
+    received: PointReader<Slot>,
+    term: u8,
+) -> u128
     ensures { result
-        ≡ execs_both nodes order (reader_held held.entry) (reader_held brought.entry) term }
+        ≡ execs_both nodes order (reader_held slot_held held.entry) (reader_held slot_held received.entry) term }
 {
     let mut sum = 0u128;
     for node in 0..nodes {
-        let both = number_both(order, held.exec(term, node), brought.exec(term, node));
+        let both = number_both(order, held.exec(term, node), received.exec(term, node));
         sum += u128::from(both);
     }
     sum
@@ -220,17 +237,21 @@ fn execs_both(nodes: u8, order: Ordering, held: PointReader, brought: PointReade
 fn granted_both(
     nodes: u8,
     order: Ordering,
-    held: PointReader,
-    brought: PointReader,
+    held: PointReader<Slot>,
+    received: PointReader<Slot>,
     term: u8,
 ) -> u128
     ensures value { result
-        ≡ granted_both nodes order (reader_held held.entry) (reader_held brought.entry) term }
+        ≡ granted_both nodes order (reader_held slot_held held.entry) (reader_held slot_held received.entry) term }
     ensures small { result ≤ nodes * 2 ^ 64 }
 {
     let mut sum = 0u128;
     for node in 0..nodes {
-        let both = number_both(order, held.granted(term, node), brought.granted(term, node));
+        let both = number_both(
+            order,
+            held.granted(term, node),
+            received.granted(term, node),
+        );
         sum += u128::from(both);
     }
     sum
@@ -241,19 +262,19 @@ fn granted_both(
 fn is_term_overspent(
     nodes: u8,
     order: Ordering,
-    held: PointReader,
-    brought: PointReader,
+    held: PointReader<Slot>,
+    received: PointReader<Slot>,
     actions: &Actions,
 ) -> bool
     ensures { result ≡ are_overspent nodes order
-        (reader_held held.entry) (reader_held brought.entry) actions.now }
+        (reader_held slot_held held.entry) (reader_held slot_held received.entry) actions.now }
 {
     for term in 0..actions.len() {
         if let Some(count) = count_at(actions, term as u8) {
-            let spent = execs_both(nodes, order, held, brought, term as u8);
+            let spent = execs_both(nodes, order, held, received, term as u8);
             let count = u128::from(count);
             if spent > count
-                && spent > count + granted_both(nodes, order, held, brought, term as u8)
+                && spent > count + granted_both(nodes, order, held, received, term as u8)
             {
                 return true;
             }
@@ -265,29 +286,29 @@ fn is_term_overspent(
 /// What a point is set to once both states are one, if it is set.
 fn actions_both<'a>(
     order: Ordering,
-    held: PointReader<'a>,
-    brought: PointReader<'a>,
+    held: PointReader<'a, Slot>,
+    received: PointReader<'a, Slot>,
 ) -> Option<&'a Actions>
     ensures { MatchOption result
-        (terms_both order (reader_held held.entry) (reader_held brought.entry) ≡ [])
-        (λ a. terms_both order (reader_held held.entry) (reader_held brought.entry) ≡ a.now) }
+        (terms_both order (reader_held slot_held held.entry) (reader_held slot_held received.entry) ≡ [])
+        (λ a. terms_both order (reader_held slot_held held.entry) (reader_held slot_held received.entry) ≡ a.now) }
 {
     let holder = match order {
         Ordering::Less => held,
-        Ordering::Equal | Ordering::Greater => brought,
+        Ordering::Equal | Ordering::Greater => received,
     };
     holder.key()?.actions()
 }
 
 /// Whether a name would have a term that is executed more often than it is counted and granted.
-fn is_name_overspent(nodes: u8, state: &State, brought: &State, name: &Name) -> bool
-    ensures { result ≡ is_overspent_below nodes (state_in state.now) (state_in brought.now) name.now }
+fn is_name_overspent(nodes: u8, state: &State, received: &State, name: &Name) -> bool
+    ensures { result ≡ is_overspent_below nodes (state_in state.now) (state_in received.now) name.now }
 {
     let held = state.point(name);
-    let brought = brought.point(name);
-    let order = standing_of(held, brought);
-    match actions_both(order, held, brought) {
-        Some(actions) => is_term_overspent(nodes, order, held, brought, actions),
+    let received = received.point(name);
+    let order = key_order(held, received);
+    match actions_both(order, held, received) {
+        Some(actions) => is_term_overspent(nodes, order, held, received, actions),
         None => false,
     }
 }
@@ -307,11 +328,11 @@ fn count_at(actions: &Actions, term: u8) -> Option<u64>
 pub(crate) fn is_any_overspent(
     nodes: u8,
     state: &State,
-    brought: &State,
+    received: &State,
     entries: &[NameEntry],
 ) -> bool
     ensures { result ≡ list_any
-        (λ e. is_overspent_below nodes (state_in state.now) (state_in brought.now) e.name) entries.now }
+        (λ e. is_overspent_below nodes (state_in state.now) (state_in received.now) e.name) entries.now }
 {
-    entries.iter().any(|entry| is_name_overspent(nodes, state, brought, &entry.name))
+    entries.iter().any(|entry| is_name_overspent(nodes, state, received, &entry.name))
 }

@@ -11,7 +11,7 @@ use Rattle.replica_state.specs.declared.point.Counted.{Counted}
 use Rattle.replica_state.specs.declared.point.Counted.TheVariants.{Hits}
 use Rattle.replica_state.specs.declared.point.Count.{Count}
 use Rattle.op_set.specs.declared.point.Point.{Point}
-use Rattle.replica_state.specs.Points.{key_standing, raised_numbers, only_hits, held_after_learning, held_after_key, spending, held_after_pass, budget_in, budget_under}
+use Rattle.replica_state.specs.Points.{order_to_held, raised_numbers, only_hits, held_after_learning, held_after_key, spending, held_after_pass, budget_in, budget_under}
 use Rattle.replica_state.proofs.Learned.{held_none, held_less, held_equal, held_greater}
 use Rattle.op_set.specs.Counts.{held_of, number_of}
 
@@ -22,15 +22,15 @@ module _ (p w : Point) (ko : Option KeyValue) (count : Option Count) where
   learned_none e k f = held_none (held_of p) (held_of w) ko count e (ap (λ (o : Option Key). option_map key_value o) k) f
 
   module _ (key : KeyValue) (e : ko ≡ Some key) where
-    pub learned_less : key_standing key (option_map key_value p.key) ≡ Less → held_of p ≡ held_after_learning ko count (held_of p)
+    pub learned_less : order_to_held key (option_map key_value p.key) ≡ Less → held_of p ≡ held_after_learning ko count (held_of p)
     unfolding held_of
     learned_less s = held_less (held_of p) (held_of p) ko count key e s
 
-    pub learned_equal : key_standing key (option_map key_value p.key) ≡ Equal → w.key ≡ p.key → ((d : Counted) → number_of w.counts.items d ≡ raised_numbers count (number_of p.counts.items) d) → held_of w ≡ held_after_learning ko count (held_of p)
+    pub learned_equal : order_to_held key (option_map key_value p.key) ≡ Equal → w.key ≡ p.key → ((d : Counted) → number_of w.counts.items d ≡ raised_numbers count (number_of p.counts.items) d) → held_of w ≡ held_after_learning ko count (held_of p)
     unfolding held_of
     learned_equal s k f = held_equal (held_of p) (held_of w) ko count key e s (ap (λ (o : Option Key). option_map key_value o) k) f
 
-    pub learned_greater : key_standing key (option_map key_value p.key) ≡ Greater → (k : Key) → key_value k ≡ key → w.key ≡ Some k → ((d : Counted) → number_of w.counts.items d ≡ raised_numbers count (only_hits (number_of p.counts.items)) d) → held_of w ≡ held_after_learning ko count (held_of p)
+    pub learned_greater : order_to_held key (option_map key_value p.key) ≡ Greater → (k : Key) → key_value k ≡ key → w.key ≡ Some k → ((d : Counted) → number_of w.counts.items d ≡ raised_numbers count (only_hits (number_of p.counts.items)) d) → held_of w ≡ held_after_learning ko count (held_of p)
     unfolding held_of
     learned_greater s k copy took f = held_greater (held_of p) (held_of w) ko count key e s (ap (λ (o : Option Key). option_map key_value o) took ∙ ap (λ (a : KeyValue). Some a) copy) f
 

@@ -26,7 +26,10 @@ use Rattle.replica_state.specs.Points.{Held, empty_held, budget_under}
 use Rattle.replica_state.proofs.Shown.{with_held-same}
 use Rattle.op_set.specs.Counts.{held_of, number_of}
 use Rattle.op_set.specs.Shown.{shown, point_at, key_at, number_at}
-use Rattle.replica_state.specs.Cells.{held_at, with_held}
+use Rattle.replica_state.specs.Cells.{cell_of, held_at, with_held}
+use Rattle.replica_state.specs.Stored.{stored_held}
+use Rattle.std.specs.Borrow.{Bor}
+use Rattle.std.specs.Option.{option_copied}
 
 -- the names after an insertion
 pub names_inserted : (es : List (List ℕ × Point)) (name : List ℕ) (w : Point) → keys_of (insert_entry (slice_cmp nat_cmp) es name w) ≡ with_name name (keys_of es)
@@ -150,3 +153,15 @@ no_grants es name term none (suc n) =
 pub shown_none : shown [] ≡ fold []
 unfolding shown fold
 shown_none = refl
+
+numbers_shown : (points : List (List ℕ × Point)) (name : List ℕ) (o : Option Point) → o ≡ point_at points name → (c : Counted) → number_at o c ≡ cell_of (shown points) name c
+unfolding shown
+numbers_shown points name o e (Hits node) = ap (λ x. number_at x (Hits node)) e
+numbers_shown points name o e (Execs term node) = ap (λ x. number_at x (Execs term node)) e
+numbers_shown points name o e (Shifts term from to) = ap (λ x. number_at x (Shifts term from to)) e
+
+-- what is kept of a name is what is shown of it
+pub kept_is_shown : (points : List (List ℕ × Point)) (name : List ℕ) (o : Option (Bor Point)) → option_copied o ≡ point_at points name → stored_held held_of o ≡ held_at (shown points) name
+unfolding shown held_of empty_held
+kept_is_shown points name None e = λ i. record { key = key_at (e i); number = λ c. numbers_shown points name None e c i }
+kept_is_shown points name (Some p) e = λ i. record { key = key_at (e i); number = λ c. numbers_shown points name (Some p.now) e c i }

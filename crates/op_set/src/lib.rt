@@ -7,4 +7,5 @@ mod point;
 mod point_map;
 mod set;
 
+pub use point::Point;
 pub use set::OpSet;

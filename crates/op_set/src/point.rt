@@ -6,7 +6,7 @@ ghost use Rattle.std.specs.Option.{option_copied};
 ghost use Rattle.counters.specs.Sums.{node_numbers, sum_below};
 ghost use Rattle.counters.specs.Budgets.{rights};
 ghost use Rattle.stamp_register.specs.Keys.{key_value};
-ghost use Rattle.replica_state.specs.Points.{same_counted, is_hits, term_of, only_hits, empty_held, key_standing, held_after_learning, held_after_pass, held_after_shift, given_key, Raises, rights_of_key, spent_of_key};
+ghost use Rattle.replica_state.specs.Points.{same_counted, is_hits, term_of, only_hits, empty_held, order_to_held, held_after_learning, held_after_pass, held_after_shift, given_key, Raises, rights_of_key, spent_of_key};
 ghost use Rattle.op_set.specs.Counts.{node_bound, number_of, held_of};
 ghost use Rattle.replica_state.specs.Unions.{both_held, if_counts, IsHeldBelow};
 ghost use Rattle.replica_state.specs.Cells.{key_told, operation_told};
@@ -14,7 +14,7 @@ ghost use Rattle.replica_state.specs.declared.point.Counted.{Counted};
 ghost use Rattle.replica_state.specs.declared.point.Counted.TheVariants.{Hits, Execs, Shifts};
 
 use crate::budget::{rights_in, sum_execs, sum_grants, sum_hits};
-use replica_state::{Count, Counted, count_of};
+use replica_state::{Count, Counted, Stored, count_of};
 use stamp_register::Key;
 use std::alloc::{AllocError, Global};
 use std::cmp::Ordering;
@@ -22,7 +22,7 @@ use std::cmp::Ordering;
 /// What nothing has overtaken of one name: its key, and counts of hits and under that key. Where
 /// one thing is counted twice, the greater number holds.
 #[derive(Debug, Drop)]
-pub(crate) struct Point {
+pub struct Point {
     key: Option<Key>,
     counts: Vec<Count>,
 }
@@ -134,6 +134,20 @@ fn all_below(counts: &[Count], others: &[Count], same_key: bool) -> bool
         || c.number <= number_of(others, c.counted))
 }
 
+impl Stored for Point {
+    ghost held = { held_of };
+
+    #[tactic(auto, unfolding(crate::specs::Counts::held_of))]
+    fn key(&self) -> Option<&Key> {
+        self.key.as_ref()
+    }
+
+    #[tactic(auto, unfolding(crate::specs::Counts::held_of))]
+    fn number(&self, counted: Counted) -> u64 {
+        number_of(&self.counts, counted)
+    }
+}
+
 impl Point {
     /// What is held of a name of which nothing is known.
     pub(crate) fn empty(alloc: Global) -> Point
@@ -215,8 +229,8 @@ impl Point {
     }
 
     /// How a key stands to the one that is held. Where none is, each is greater.
-    fn standing(&self, key: &Key) -> Ordering
-        ensures { result ≡ key_standing (key_value key.now) (option_map key_value self.now.key) }
+    fn order_to_held(&self, key: &Key) -> Ordering
+        ensures { result ≡ order_to_held (key_value key.now) (option_map key_value self.now.key) }
     {
         match &self.key {
             Some(held) => key.cmp(held),
@@ -237,7 +251,7 @@ impl Point {
     {
         match key {
             None => self.count(count),
-            Some(key) => match self.standing(key) {
+            Some(key) => match self.order_to_held(key) {
                 Ordering::Less => Ok(()),
                 Ordering::Equal => self.count(count),
                 Ordering::Greater => self.replace(key.copied(alloc)?, count),
@@ -336,7 +350,7 @@ impl Point {
                 None => self.count_all(&other.counts, true),
                 Some(_) => self.count_all(&other.counts, false),
             },
-            Some(key) => match self.standing(key) {
+            Some(key) => match self.order_to_held(key) {
                 Ordering::Less => self.count_all(&other.counts, false),
                 Ordering::Equal => self.count_all(&other.counts, true),
                 Ordering::Greater => {
@@ -356,7 +370,7 @@ impl Point {
                 None => all_below(&self.counts, &other.counts, true),
                 Some(_) => all_below(&self.counts, &other.counts, false),
             },
-            Some(key) => match other.standing(key) {
+            Some(key) => match other.order_to_held(key) {
                 Ordering::Less => all_below(&self.counts, &other.counts, false),
                 Ordering::Equal => all_below(&self.counts, &other.counts, true),
                 Ordering::Greater => false,

@@ -14,7 +14,7 @@ use crate::point::Point;
 use crate::point_map::Points;
 use actions::Name;
 use lattice_laws::Join;
-use replica_state::{Count, Counted, Op, Replica, key_with};
+use replica_state::{Count, Counted, Op, PointReader, Replica, key_with};
 use stamp_register::Key;
 use std::alloc::{AllocError, Global};
 
@@ -102,6 +102,8 @@ impl Join for OpSet {
 }
 
 impl Replica for OpSet {
+    type Point = Point;
+
     ghost use Rattle.op_set.specs.SetOrder.{state_of, set_reached};
 
     ghost state = { state_of };
@@ -159,6 +161,10 @@ impl Replica for OpSet {
     fn merge(&mut self, alloc: Global, other: OpSet) -> Result<(), AllocError> {
         *self = self.joined(alloc, &other)?;
         Ok(())
+    }
+
+    fn point(&self, name: &Name) -> PointReader<'_, Point> {
+        PointReader::new(self.points.get(name))
     }
 
     fn key(&self, name: &Name) -> Option<&Key> {

@@ -15,14 +15,14 @@ use Rattle.replica_state.specs.declared.point.Counted.{Counted}
 use Rattle.replica_state.specs.Operations.{Hits, Execs, Shifts, Operation, Set, Count as Counting, same_cell, IsWellFormed}
 use Rattle.replica_state.specs.Folds.{fold, names_of, greater, key_in, key_of, number_at, at_key, name_in, holds_name}
 use Rattle.replica_state.specs.States.{State, with_name}
-use Rattle.replica_state.specs.Points.{Held, key_standing, held_after_learning, held_after_count}
+use Rattle.replica_state.specs.Points.{Held, order_to_held, held_after_learning, held_after_count}
 use Rattle.replica_state.specs.Cells.{held_at, with_held, key_told, count_told, cell_told, operation_told}
 use Rattle.replica_state.proofs.Orders.{key_le-trans, key_le-other, same_key-cmp, same_key-true, same_key-refl, bytes_eq-true}
 use Rattle.replica_state.proofs.FoldSteps.{max_zero}
 use Rattle.replica_state.proofs.Learned.{held_none, held_equal}
 
 -- a key above the greater of two is above both
-above_both : (key : KeyValue) (a b : Option KeyValue) → key_standing key (greater a b) ≡ Greater → (key_standing key a ≡ Greater) × (key_standing key b ≡ Greater)
+above_both : (key : KeyValue) (a b : Option KeyValue) → order_to_held key (greater a b) ≡ Greater → (order_to_held key a ≡ Greater) × (order_to_held key b ≡ Greater)
 above_both key None b h = (refl, h)
 above_both key (Some a) None h = (h, refl)
 above_both key (Some a) (Some b) h = by_test (key_le a b) refl h
@@ -35,27 +35,27 @@ above_both key (Some a) (Some b) h = by_test (key_le a b) refl h
     not_le : (o : Ordering) → o ≡ Greater → is_le o ≡ true → ⊥
     not_le o e k = true≢false (sym k ∙ ap is_le e)
 
-    by_test : (t : Bool) → key_le a b ≡ t → key_standing key (Some (cond t b a)) ≡ Greater → (key_standing key (Some a) ≡ Greater) × (key_standing key (Some b) ≡ Greater)
+    by_test : (t : Bool) → key_le a b ≡ t → order_to_held key (Some (cond t b a)) ≡ Greater → (order_to_held key (Some a) ≡ Greater) × (order_to_held key (Some b) ≡ Greater)
     by_test true e h = (gt _ (λ k. not_le _ h (key_le-trans key a b k e)), h)
     by_test false e h = (h, gt _ (λ k. not_le _ h (key_le-trans key b a k (key_le-other a b e))))
 
 -- under a key that is above all that a set carries it counts nothing
-off_cell : (n q : List ℕ) (a key : KeyValue) (t : Bool) (m : ℕ) → key_standing key (cond (bytes_eq n q) (Some a) None) ≡ Greater → cond (bytes_eq n q && (same_key a key && t)) m 0 ≡ 0
+off_cell : (n q : List ℕ) (a key : KeyValue) (t : Bool) (m : ℕ) → order_to_held key (cond (bytes_eq n q) (Some a) None) ≡ Greater → cond (bytes_eq n q && (same_key a key && t)) m 0 ≡ 0
 off_cell n q a key t m h = by_name (bytes_eq n q) h
   where
-    by_key : (r : Bool) → same_key a key ≡ r → key_standing key (Some a) ≡ Greater → cond (r && t) m 0 ≡ 0
+    by_key : (r : Bool) → same_key a key ≡ r → order_to_held key (Some a) ≡ Greater → cond (r && t) m 0 ≡ 0
     by_key false e h = refl
     by_key true e h =
         let same : a ≡ key = same_key-true a key e in
-        let tied : is_eq (key_standing key (Some a)) ≡ true = sym (same_key-cmp key a) ∙ ap (λ (k : KeyValue). same_key key k) same ∙ same_key-refl key in
+        let tied : is_eq (order_to_held key (Some a)) ≡ true = sym (same_key-cmp key a) ∙ ap (λ (k : KeyValue). same_key key k) same ∙ same_key-refl key in
         absurd (true≢false (sym tied ∙ ap is_eq h))
 
-    by_name : (r : Bool) → key_standing key (cond r (Some a) None) ≡ Greater → cond (r && (same_key a key && t)) m 0 ≡ 0
+    by_name : (r : Bool) → order_to_held key (cond r (Some a) None) ≡ Greater → cond (r && (same_key a key && t)) m 0 ≡ 0
     by_name false h = refl
     by_name true h = by_key (same_key a key) refl h
 
 module _ (key : KeyValue) (q : List ℕ) where
-  pub no_execs : (t j : ℕ) (ops : List Operation) → key_standing key (key_of q ops) ≡ Greater → number_at (Execs q key t j) ops ≡ 0
+  pub no_execs : (t j : ℕ) (ops : List Operation) → order_to_held key (key_of q ops) ≡ Greater → number_at (Execs q key t j) ops ≡ 0
   unfolding same_cell
   no_execs t j [] h = refl
   no_execs t j (Set n a ∷ ops) h = max_zero _ ∙ no_execs t j ops (above_both key (key_in q (Set n a)) (key_of q ops) h).1
@@ -65,7 +65,7 @@ module _ (key : KeyValue) (q : List ℕ) where
       λ x. max (off_cell n q a key (eqb k t && eqb i j) m both.0 x) (no_execs t j ops both.1 x)
   no_execs t j (Counting (Shifts n a k i o) m ∷ ops) h = max_zero _ ∙ no_execs t j ops (above_both key (key_in q (Counting (Shifts n a k i o) m)) (key_of q ops) h).1
 
-  pub no_shifts : (t j l : ℕ) (ops : List Operation) → key_standing key (key_of q ops) ≡ Greater → number_at (Shifts q key t j l) ops ≡ 0
+  pub no_shifts : (t j l : ℕ) (ops : List Operation) → order_to_held key (key_of q ops) ≡ Greater → number_at (Shifts q key t j l) ops ≡ 0
   unfolding same_cell
   no_shifts t j l [] h = refl
   no_shifts t j l (Set n a ∷ ops) h = max_zero _ ∙ no_shifts t j l ops (above_both key (key_in q (Set n a)) (key_of q ops) h).1
@@ -78,7 +78,7 @@ module _ (key : KeyValue) (q : List ℕ) where
 -- the number of a cell of the key, with an operation more that carries a key
 module _ (key : KeyValue) (f : KeyValue → ℕ) where
   -- a cell that it doesn't count
-  pub other_cell : (o : Option KeyValue) → (key_standing key o ≡ Greater → f key ≡ 0) → at_key (greater (Some key) o) (λ a. max 0 (f a)) ≡ match_ordering (key_standing key o) (at_key o f) (at_key o f) 0
+  pub other_cell : (o : Option KeyValue) → (order_to_held key o ≡ Greater → f key ≡ 0) → at_key (greater (Some key) o) (λ a. max 0 (f a)) ≡ match_ordering (order_to_held key o) (at_key o f) (at_key o f) 0
   other_cell None gone = max_zero (f key) ∙ gone refl
   other_cell (Some a) gone = by_order (slice_cmp nat_cmp (key_rank key) (key_rank a)) refl
     where
@@ -88,7 +88,7 @@ module _ (key : KeyValue) (f : KeyValue → ℕ) where
       by_order Greater e = max_zero (f key) ∙ gone e
 
   -- a cell that it may count
-  pub own_cell : (t : Bool) (m : ℕ) (o : Option KeyValue) → (key_standing key o ≡ Greater → f key ≡ 0) → at_key (greater (Some key) o) (λ a. max (cond (same_key key a && t) m 0) (f a)) ≡ match_ordering (key_standing key o) (at_key o f) (cond t (max m (at_key o f)) (at_key o f)) (cond t (max m 0) 0)
+  pub own_cell : (t : Bool) (m : ℕ) (o : Option KeyValue) → (order_to_held key o ≡ Greater → f key ≡ 0) → at_key (greater (Some key) o) (λ a. max (cond (same_key key a && t) m 0) (f a)) ≡ match_ordering (order_to_held key o) (at_key o f) (cond t (max m (at_key o f)) (at_key o f)) (cond t (max m 0) 0)
   own_cell t m None gone = fresh_cell (same_key-refl key) (gone refl) t
     where
       fresh_cell : {r : Bool} → r ≡ true → f key ≡ 0 → (t : Bool) → max (cond (r && t) m 0) (f key) ≡ cond t (max m 0) 0
@@ -157,20 +157,20 @@ module _ (ops : List Operation) where
     keys_told : (q : List ℕ) → greater (cond (bytes_eq n q) (Some key) None) (key_of q ops) ≡ cond (bytes_eq n q) (greater (Some key) (key_of n ops)) (key_of q ops)
     keys_told q = touched n q (λ p. key_of p ops) (λ b. greater (cond b (Some key) None) (key_of q ops)) (λ p. greater (Some key) (key_of p ops)) refl refl (bytes_eq n q) refl
 
-    hits_told : (q : List ℕ) (j : ℕ) → max 0 (number_at (Hits q j) ops) ≡ cond (bytes_eq n q) (match_ordering (key_standing key (key_of n ops)) (number_at (Hits n j) ops) (number_at (Hits n j) ops) (number_at (Hits n j) ops)) (number_at (Hits q j) ops)
-    hits_told q j = touched n q (λ p. number_at (Hits p j) ops) (λ b. max 0 (number_at (Hits q j) ops)) (λ p. match_ordering (key_standing key (key_of p ops)) (number_at (Hits p j) ops) (number_at (Hits p j) ops) (number_at (Hits p j) ops)) (max_zero (number_at (Hits q j) ops) ∙ always (key_standing key (key_of q ops)) (number_at (Hits q j) ops)) (max_zero (number_at (Hits q j) ops)) (bytes_eq n q) refl
+    hits_told : (q : List ℕ) (j : ℕ) → max 0 (number_at (Hits q j) ops) ≡ cond (bytes_eq n q) (match_ordering (order_to_held key (key_of n ops)) (number_at (Hits n j) ops) (number_at (Hits n j) ops) (number_at (Hits n j) ops)) (number_at (Hits q j) ops)
+    hits_told q j = touched n q (λ p. number_at (Hits p j) ops) (λ b. max 0 (number_at (Hits q j) ops)) (λ p. match_ordering (order_to_held key (key_of p ops)) (number_at (Hits p j) ops) (number_at (Hits p j) ops) (number_at (Hits p j) ops)) (max_zero (number_at (Hits q j) ops) ∙ always (order_to_held key (key_of q ops)) (number_at (Hits q j) ops)) (max_zero (number_at (Hits q j) ops)) (bytes_eq n q) refl
 
-    execs_told : (q : List ℕ) (t j : ℕ) → at_key (greater (cond (bytes_eq n q) (Some key) None) (key_of q ops)) (λ a. max 0 (number_at (Execs q a t j) ops)) ≡ cond (bytes_eq n q) (match_ordering (key_standing key (key_of n ops)) (execs_in n t j) (execs_in n t j) 0) (execs_in q t j)
-    execs_told q t j = touched n q (λ p. execs_in p t j) (λ b. at_key (greater (cond b (Some key) None) (key_of q ops)) (λ a. max 0 (number_at (Execs q a t j) ops))) (λ p. match_ordering (key_standing key (key_of p ops)) (execs_in p t j) (execs_in p t j) 0) (other_cell key (λ a. number_at (Execs q a t j) ops) (key_of q ops) (no_execs key q t j ops)) (kept_execs q t j) (bytes_eq n q) refl
+    execs_told : (q : List ℕ) (t j : ℕ) → at_key (greater (cond (bytes_eq n q) (Some key) None) (key_of q ops)) (λ a. max 0 (number_at (Execs q a t j) ops)) ≡ cond (bytes_eq n q) (match_ordering (order_to_held key (key_of n ops)) (execs_in n t j) (execs_in n t j) 0) (execs_in q t j)
+    execs_told q t j = touched n q (λ p. execs_in p t j) (λ b. at_key (greater (cond b (Some key) None) (key_of q ops)) (λ a. max 0 (number_at (Execs q a t j) ops))) (λ p. match_ordering (order_to_held key (key_of p ops)) (execs_in p t j) (execs_in p t j) 0) (other_cell key (λ a. number_at (Execs q a t j) ops) (key_of q ops) (no_execs key q t j ops)) (kept_execs q t j) (bytes_eq n q) refl
 
-    shifts_told : (q : List ℕ) (t j l : ℕ) → at_key (greater (cond (bytes_eq n q) (Some key) None) (key_of q ops)) (λ a. max 0 (number_at (Shifts q a t j l) ops)) ≡ cond (bytes_eq n q) (match_ordering (key_standing key (key_of n ops)) (shifts_in n t j l) (shifts_in n t j l) 0) (shifts_in q t j l)
-    shifts_told q t j l = touched n q (λ p. shifts_in p t j l) (λ b. at_key (greater (cond b (Some key) None) (key_of q ops)) (λ a. max 0 (number_at (Shifts q a t j l) ops))) (λ p. match_ordering (key_standing key (key_of p ops)) (shifts_in p t j l) (shifts_in p t j l) 0) (other_cell key (λ a. number_at (Shifts q a t j l) ops) (key_of q ops) (no_shifts key q t j l ops)) (kept_shifts q t j l) (bytes_eq n q) refl
+    shifts_told : (q : List ℕ) (t j l : ℕ) → at_key (greater (cond (bytes_eq n q) (Some key) None) (key_of q ops)) (λ a. max 0 (number_at (Shifts q a t j l) ops)) ≡ cond (bytes_eq n q) (match_ordering (order_to_held key (key_of n ops)) (shifts_in n t j l) (shifts_in n t j l) 0) (shifts_in q t j l)
+    shifts_told q t j l = touched n q (λ p. shifts_in p t j l) (λ b. at_key (greater (cond b (Some key) None) (key_of q ops)) (λ a. max 0 (number_at (Shifts q a t j l) ops))) (λ p. match_ordering (order_to_held key (key_of p ops)) (shifts_in p t j l) (shifts_in p t j l) 0) (other_cell key (λ a. number_at (Shifts q a t j l) ops) (key_of q ops) (no_shifts key q t j l ops)) (kept_shifts q t j l) (bytes_eq n q) refl
 
-    execs_counted : (m : ℕ) (s : Bool) (q : List ℕ) (t j : ℕ) → at_key (greater (cond (bytes_eq n q) (Some key) None) (key_of q ops)) (λ a. max (cond (bytes_eq n q && (same_key key a && s)) m 0) (number_at (Execs q a t j) ops)) ≡ cond (bytes_eq n q) (match_ordering (key_standing key (key_of n ops)) (execs_in n t j) (cond s (max m (execs_in n t j)) (execs_in n t j)) (cond s (max m 0) 0)) (execs_in q t j)
-    execs_counted m s q t j = touched n q (λ p. execs_in p t j) (λ b. at_key (greater (cond b (Some key) None) (key_of q ops)) (λ a. max (cond (b && (same_key key a && s)) m 0) (number_at (Execs q a t j) ops))) (λ p. match_ordering (key_standing key (key_of p ops)) (execs_in p t j) (cond s (max m (execs_in p t j)) (execs_in p t j)) (cond s (max m 0) 0)) (own_cell key (λ a. number_at (Execs q a t j) ops) s m (key_of q ops) (no_execs key q t j ops)) (kept_execs q t j) (bytes_eq n q) refl
+    execs_counted : (m : ℕ) (s : Bool) (q : List ℕ) (t j : ℕ) → at_key (greater (cond (bytes_eq n q) (Some key) None) (key_of q ops)) (λ a. max (cond (bytes_eq n q && (same_key key a && s)) m 0) (number_at (Execs q a t j) ops)) ≡ cond (bytes_eq n q) (match_ordering (order_to_held key (key_of n ops)) (execs_in n t j) (cond s (max m (execs_in n t j)) (execs_in n t j)) (cond s (max m 0) 0)) (execs_in q t j)
+    execs_counted m s q t j = touched n q (λ p. execs_in p t j) (λ b. at_key (greater (cond b (Some key) None) (key_of q ops)) (λ a. max (cond (b && (same_key key a && s)) m 0) (number_at (Execs q a t j) ops))) (λ p. match_ordering (order_to_held key (key_of p ops)) (execs_in p t j) (cond s (max m (execs_in p t j)) (execs_in p t j)) (cond s (max m 0) 0)) (own_cell key (λ a. number_at (Execs q a t j) ops) s m (key_of q ops) (no_execs key q t j ops)) (kept_execs q t j) (bytes_eq n q) refl
 
-    shifts_counted : (m : ℕ) (s : Bool) (q : List ℕ) (t j l : ℕ) → at_key (greater (cond (bytes_eq n q) (Some key) None) (key_of q ops)) (λ a. max (cond (bytes_eq n q && (same_key key a && s)) m 0) (number_at (Shifts q a t j l) ops)) ≡ cond (bytes_eq n q) (match_ordering (key_standing key (key_of n ops)) (shifts_in n t j l) (cond s (max m (shifts_in n t j l)) (shifts_in n t j l)) (cond s (max m 0) 0)) (shifts_in q t j l)
-    shifts_counted m s q t j l = touched n q (λ p. shifts_in p t j l) (λ b. at_key (greater (cond b (Some key) None) (key_of q ops)) (λ a. max (cond (b && (same_key key a && s)) m 0) (number_at (Shifts q a t j l) ops))) (λ p. match_ordering (key_standing key (key_of p ops)) (shifts_in p t j l) (cond s (max m (shifts_in p t j l)) (shifts_in p t j l)) (cond s (max m 0) 0)) (own_cell key (λ a. number_at (Shifts q a t j l) ops) s m (key_of q ops) (no_shifts key q t j l ops)) (kept_shifts q t j l) (bytes_eq n q) refl
+    shifts_counted : (m : ℕ) (s : Bool) (q : List ℕ) (t j l : ℕ) → at_key (greater (cond (bytes_eq n q) (Some key) None) (key_of q ops)) (λ a. max (cond (bytes_eq n q && (same_key key a && s)) m 0) (number_at (Shifts q a t j l) ops)) ≡ cond (bytes_eq n q) (match_ordering (order_to_held key (key_of n ops)) (shifts_in n t j l) (cond s (max m (shifts_in n t j l)) (shifts_in n t j l)) (cond s (max m 0) 0)) (shifts_in q t j l)
+    shifts_counted m s q t j l = touched n q (λ p. shifts_in p t j l) (λ b. at_key (greater (cond b (Some key) None) (key_of q ops)) (λ a. max (cond (b && (same_key key a && s)) m 0) (number_at (Shifts q a t j l) ops))) (λ p. match_ordering (order_to_held key (key_of p ops)) (shifts_in p t j l) (cond s (max m (shifts_in p t j l)) (shifts_in p t j l)) (cond s (max m 0) 0)) (own_cell key (λ a. number_at (Shifts q a t j l) ops) s m (key_of q ops) (no_shifts key q t j l ops)) (kept_shifts q t j l) (bytes_eq n q) refl
 
     added_key : fold (Set n key ∷ ops) ≡ with_held n (held_after_learning (Some key) None (held_at (fold ops) n)) (fold ops)
     unfolding fold with_held held_after_learning
@@ -241,8 +241,8 @@ added_told v name key told carried k h ops e = added_parts v (operation_told nam
 
 -- ---- a count under the key that is held
 
-its_standing : (key : KeyValue) → key_standing key (Some key) ≡ Equal
-its_standing key = tied (slice_cmp nat_cmp (key_rank key) (key_rank key)) (sym (same_key-cmp key key) ∙ same_key-refl key)
+own_order : (key : KeyValue) → order_to_held key (Some key) ≡ Equal
+own_order key = tied (slice_cmp nat_cmp (key_rank key) (key_rank key)) (sym (same_key-cmp key key) ∙ same_key-refl key)
   where
     tied : (o : Ordering) → is_eq o ≡ true → o ≡ Equal
     tied Less e = absurd (true≢false (sym e))
@@ -257,7 +257,7 @@ added_count v name key count here formed ops e = by_kind count.counted count.num
     of_kind c carried told h same = ap (λ (g : Held). with_held name g v) same ∙ added_told v name key (Some c) carried told h ops e
 
     under : (c : Count) → held_after_count c (held_at v name) ≡ held_after_learning (Some key) (Some c) (held_at v name)
-    under c = held_equal (held_at v name) (held_after_count c (held_at v name)) (Some key) (Some c) key refl (ap (key_standing key) here ∙ its_standing key) refl (λ d. refl)
+    under c = held_equal (held_at v name) (held_after_count c (held_at v name)) (Some key) (Some c) key refl (ap (order_to_held key) here ∙ own_order key) refl (λ d. refl)
 
     beside : (c : Count) → held_after_count c (held_at v name) ≡ held_after_learning None (Some c) (held_at v name)
     beside c = held_none (held_at v name) (held_after_count c (held_at v name)) None (Some c) refl refl (λ d. refl)

@@ -17,7 +17,7 @@ use Rattle.replica_state.specs.Operations.{Hits, Execs, Shifts, Operation, Set, 
 use Rattle.replica_state.specs.States.{State, with_name, with_key, with_hits, with_execs, with_shifts, with_pass, budget_of, budget_under, rights_of}
 use Rattle.replica_state.specs.Folds.{fold, key_of, number_at, at_key, names_of, Learns, IsUnion, clock_of}
 use Rattle.replica_state.specs.Knowledge.{is_upto}
-use Rattle.replica_state.specs.Points.{Held, key_standing, same_counted, held_after_learning, held_after_key, held_after_count, held_after_shift}
+use Rattle.replica_state.specs.Points.{Held, order_to_held, same_counted, held_after_learning, held_after_key, held_after_count, held_after_shift}
 use Rattle.replica_state.specs.Cells.{held_at, with_held}
 use Rattle.replica_state.specs.Reached.{ComeTo, ComeToWith, ComeToBoth, IsReached}
 use Rattle.replica_state.proofs.Added.{added_parts}
@@ -65,16 +65,16 @@ united v w both unites h k = ∥∥₁_map₂ h k (λ c d. record { ops = c.ops 
 
 -- ---- a greater key
 
-standing : (key : KeyValue) (held : Option KeyValue) → is_upto (Some key) held ≡ false → key_standing key held ≡ Greater
-standing key None h = refl
-standing key (Some a) h = by_order (slice_cmp nat_cmp (key_rank key) (key_rank a)) h
+above_held : (key : KeyValue) (held : Option KeyValue) → is_upto (Some key) held ≡ false → order_to_held key held ≡ Greater
+above_held key None h = refl
+above_held key (Some a) h = by_order (slice_cmp nat_cmp (key_rank key) (key_rank a)) h
   where
     by_order : (o : Ordering) → is_le o ≡ false → o ≡ Greater
     by_order Less e = absurd (true≢false e)
     by_order Equal e = absurd (true≢false e)
     by_order Greater e = refl
 
-key_learned : (key : KeyValue) (h : Held) → key_standing key h.key ≡ Greater → held_after_key key h ≡ held_after_learning (Some key) None h
+key_learned : (key : KeyValue) (h : Held) → order_to_held key h.key ≡ Greater → held_after_key key h ≡ held_after_learning (Some key) None h
 unfolding held_after_key
 key_learned key h s = held_greater h (held_after_key key h) (Some key) None key refl s refl (λ d. refl)
 
@@ -82,7 +82,7 @@ pub keyed : (name : List ℕ) (key : KeyValue) (v : State) → is_upto (Some key
 keyed name key v above h = ∥∥₁_map h (λ c. record {
   ops = Set name key ∷ c.ops;
   formed = (tt, c.formed);
-  state = sym (took name key v) ∙ ap (λ (g : Held). with_held name g v) (key_learned key (held_at v name) (standing key (v.key name) above))
+  state = sym (took name key v) ∙ ap (λ (g : Held). with_held name g v) (key_learned key (held_at v name) (above_held key (v.key name) above))
       ∙ added_parts v (Set name key) name (Some key) None refl refl refl tt c.ops c.state;
 })
 

@@ -20,7 +20,8 @@ use Rattle.replica_state.specs.States.{State, with_name, total_hits, granted_of,
 use Rattle.replica_state.specs.Points.{Held, empty_held, held_after_key, held_after_pass, held_after_count, budget_under}
 use Rattle.replica_state.specs.Cells.{cell_of, held_at, with_held}
 use Rattle.replica_state.specs.declared.slot.Slot.{Slot}
-use Rattle.replica_state.specs.Slots.{Budgets, IsSlotOf, HasNoSlot, ChangesSlot, no_slot, under_key, slot_key, slot_number, slot_held, slot_or_none, slot_rights, shown_slots}
+use Rattle.replica_state.specs.Slots.{Budgets, IsSlotOf, HasNoSlot, ChangesSlot, no_slot, under_key, slot_key, slot_number, slot_held, slot_rights, shown_slots}
+use Rattle.replica_state.specs.Stored.{stored_held}
 use Rattle.replica_state.specs.MatrixOrder.{slots_order, are_slots, slots_map}
 use Rattle.replica_state.proofs.SlotLemmas.{not_found}
 use Rattle.replica_state.proofs.Slots.{stored, keyless, hitless, no_first, name_kept, names_more, seen_number, absent_number, changed_to, unchanged_slots, added_to}
@@ -76,7 +77,7 @@ pub held_is_nothing : (v : State) (name : List ℕ) → HasNoSlot v name → emp
 unfolding empty_held
 held_is_nothing v name not = λ i. record { key = sym not.key i; number = λ c. sym (not.number c) i }
 
-pub reader_shows : (v : State) (name : List ℕ) (o : Option (Bor Slot)) → IfSome o (λ s. IsSlotOf v name s.now) → IfNone o (HasNoSlot v name) → slot_or_none o ≡ held_at v name
+pub reader_shows : (v : State) (name : List ℕ) (o : Option (Bor Slot)) → IfSome o (λ s. IsSlotOf v name s.now) → IfNone o (HasNoSlot v name) → stored_held slot_held o ≡ held_at v name
 reader_shows v name None some none = held_is_nothing v name none
 reader_shows v name (Some s) some none = held_is v name s.now some
 

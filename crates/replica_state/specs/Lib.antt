@@ -6,6 +6,7 @@ pub mod StateOrder
 pub mod Knowledge
 pub mod Deltas
 pub mod Points
+pub mod Stored
 pub mod Unions
 pub mod Cells
 pub mod Slots

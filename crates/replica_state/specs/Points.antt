@@ -76,9 +76,9 @@ unfoldable pub empty_held : Held
 empty_held = record { key = None; number = λ counted. 0 }
 
 -- how a key stands to the one that is held
-abbrev pub key_standing : KeyValue → Option KeyValue → Ordering
-key_standing key None = Greater
-key_standing key (Some held) = slice_cmp nat_cmp (key_rank key) (key_rank held)
+abbrev pub order_to_held : KeyValue → Option KeyValue → Ordering
+order_to_held key None = Greater
+order_to_held key (Some held) = slice_cmp nat_cmp (key_rank key) (key_rank held)
 
 -- with a count more, or none
 abbrev pub raised_numbers : Option Count → (Counted → ℕ) → Counted → ℕ
@@ -98,7 +98,7 @@ only_hits f (Shifts term from to) = 0
 abbrev pub number_after_learning : Option KeyValue → Option Count → Held → Counted → ℕ
 number_after_learning None count h c = raised_numbers count h.number c
 number_after_learning (Some key) count h c =
-    match_ordering (key_standing key h.key) (h.number c) (raised_numbers count h.number c) (raised_numbers count (only_hits h.number) c)
+    match_ordering (order_to_held key h.key) (h.number c) (raised_numbers count h.number c) (raised_numbers count (only_hits h.number) c)
 
 unfoldable pub held_after_learning : Option KeyValue → Option Count → Held → Held
 held_after_learning key count h = record { key = greater key h.key; number = number_after_learning key count h }

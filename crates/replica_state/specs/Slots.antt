@@ -1,6 +1,5 @@
 -- What the slots of a matrix show: of each name, in byte order, the cells that are stored of it.
 use Rattle.std.specs.Prelude.{◌≡◌, ◌≢◌, ℕ, ◌+◌, ◌≤◌, max, length, List, [], Option, Some, None, option_map, ℤ}
-use Rattle.std.specs.Borrow.{Bor}
 use Rattle.std.specs.Map.{keys_of}
 use Rattle.std.specs.Ordering.{nat_cmp}
 use Rattle.std.specs.Cmp.Lexicographic.{slice_cmp}
@@ -9,7 +8,6 @@ use Rattle.lattice_laws.specs.Pair.{pair_of}
 use Rattle.counters.specs.Cells.{Shares, cell, spent_cell, moved_cell, no_shares, WritesSpent, WritesMoved}
 use Rattle.stamp_register.specs.declared.key.Key.{Key}
 use Rattle.stamp_register.specs.Keys.{KeyValue, key_value}
-use Rattle.replica_state.specs.declared.reader.PointReader.{PointReader}
 use Rattle.replica_state.specs.declared.slot.Slot.{Slot}
 use Rattle.replica_state.specs.declared.point.Counted.{Counted}
 use Rattle.replica_state.specs.declared.point.Counted.TheVariants.{Hits, Execs, Shifts}
@@ -53,14 +51,6 @@ slot_number slot (Shifts term from to) = under_key slot.parts.first (Shifts term
 
 unfoldable pub slot_held : Slot → Held
 slot_held slot = record { key = slot_key slot; number = slot_number slot }
-
--- what is held of a name where this is stored of it, or nothing
-abbrev pub slot_or_none : Option (Bor Slot) → Held
-slot_or_none None = empty_held
-slot_or_none (Some slot) = slot_held slot.now
-
-abbrev pub reader_held : PointReader → Held
-reader_held reader = slot_or_none reader.slot
 
 -- the rights of a node, 0 where the term isn't counted
 abbrev pub slot_rights : Slot → ℕ → ℕ → ℤ

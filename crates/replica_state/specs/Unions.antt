@@ -9,7 +9,7 @@ use Rattle.replica_state.specs.declared.point.Counted.TheVariants.{Hits, Execs, 
 use Rattle.replica_state.specs.States.{State, with_name}
 use Rattle.replica_state.specs.Folds.{greater}
 use Rattle.replica_state.specs.StateOrder.{AreCellsBelow}
-use Rattle.replica_state.specs.Points.{Held, is_hits, key_standing}
+use Rattle.replica_state.specs.Points.{Held, is_hits, order_to_held}
 
 -- names more, each in its place
 abbrev pub with_names : List (List ℕ) → List (List ℕ) → List (List ℕ)
@@ -24,7 +24,7 @@ no_key_order (Some held) = Less
 -- how a key or none stands to one that is held; no key is below each
 abbrev pub key_order : Option KeyValue → Option KeyValue → Ordering
 key_order None held = no_key_order held
-key_order (Some key) held = key_standing key held
+key_order (Some key) held = order_to_held key held
 
 -- of a number that is held and another, what the greater key has, where the other's key stands so
 -- to the one that is held

@@ -16,6 +16,7 @@ mod terms;
 pub use matrix::Matrix;
 pub use op::Op;
 pub use point::{Count, Counted, key_with};
-pub use reader::PointReader;
+pub use reader::{PointReader, Stored};
 pub use replica::Replica;
+pub use slot::Slot;
 pub use terms::count_of;

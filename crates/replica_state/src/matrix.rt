@@ -4,9 +4,9 @@
 ghost use Rattle.std.specs.Prelude.{◌≡◌, IfOk, IfNone, IfSome, OnOk, OnErr};
 ghost use Rattle.lattice_laws.specs.Order.{IsCopy, IsJoin};
 ghost use Rattle.replica_state.specs.Folds.{IsUnion};
-ghost use Rattle.replica_state.specs.Cells.{cell_of, held_at};
+ghost use Rattle.replica_state.specs.Cells.{cell_of};
 ghost use Rattle.replica_state.specs.Reached.{IsReached};
-ghost use Rattle.replica_state.specs.Slots.{IsSlotOf, HasNoSlot, reader_held, shown_slots};
+ghost use Rattle.replica_state.specs.Slots.{IsSlotOf, HasNoSlot, shown_slots};
 
 use crate::op::Op;
 use crate::point::{Count, Counted, key_with};
@@ -36,13 +36,6 @@ impl Matrix {
         ensures none { IfNone result (HasNoSlot (matrix_state self.now) name.now) }
     {
         slot_map::get(&self.slots, name)
-    }
-
-    /// What is held of a point, looked up once.
-    pub fn point(&self, name: &Name) -> PointReader<'_>
-        ensures { reader_held result ≡ held_at (matrix_state self.now) name.now }
-    {
-        PointReader::new(self.slot_of(name))
     }
 
     // The number of what is counted so.
@@ -108,6 +101,8 @@ impl Join for Matrix {
 }
 
 impl Replica for Matrix {
+    type Point = Slot;
+
     ghost use Rattle.replica_state.specs.MatrixStates.{matrix_state, matrix_ordered, matrix_reached};
 
     ghost state = { matrix_state };
@@ -168,6 +163,10 @@ impl Replica for Matrix {
 
     fn merge(&mut self, alloc: Global, other: Matrix) -> Result<(), AllocError> {
         self.join_in(alloc, other)
+    }
+
+    fn point(&self, name: &Name) -> PointReader<'_, Slot> {
+        PointReader::new(self.slot_of(name))
     }
 
     fn key(&self, name: &Name) -> Option<&Key> {

@@ -8,13 +8,15 @@ ghost use Rattle.replica_state.specs.States.{State, with_name, with_key, with_pa
 ghost use Rattle.replica_state.specs.Folds.{fold, Learns, IsUnion};
 ghost use Rattle.replica_state.specs.Reached.{IsReached};
 ghost use Rattle.replica_state.specs.Knowledge.{is_upto};
-ghost use Rattle.replica_state.specs.Cells.{operation_told, MayLearnCount, LearnsCount};
+ghost use Rattle.replica_state.specs.Cells.{held_at, operation_told, MayLearnCount, LearnsCount};
+ghost use Rattle.replica_state.specs.Stored.{reader_held};
 ghost use Rattle.replica_state.specs.StateOrder.{OrdersByState};
 ghost use Rattle.replica_state.specs.Unions.{with_names};
 ghost use Rattle.replica_state.specs.Points.{given_key};
 
 use crate::op::Op;
 use crate::point::Count;
+use crate::reader::{PointReader, Stored};
 use crate::terms::{count_of, terms_of};
 use actions::Name;
 use lattice_laws::Join;
@@ -25,6 +27,9 @@ use std::alloc::{AllocError, Global};
 /// operations come to. What isn't there reads 0. Replicas are joined as the values that their
 /// states mean.
 pub trait Replica: Join {
+    /// What is stored of a point.
+    type Point: Stored;
+
     ghost state: { Self → State };
 
     /// The replica that knows nothing.
@@ -116,6 +121,10 @@ pub trait Replica: Join {
     fn merge(&mut self, alloc: Global, other: Self) -> Result<(), AllocError>
         ensures ok { OnOk result (IsUnion (state self.old) (state other) (state self.new)) }
         ensures err { OnErr result (state self.new ≡ state self.old) };
+
+    /// What is held of a point, looked up once.
+    fn point(&self, name: &Name) -> PointReader<'_, Self::Point>
+        ensures { reader_held Self.Point.held result ≡ held_at (state self.now) name.now };
 
     /// The key of a point: its last setting or removal.
     fn key(&self, name: &Name) -> Option<&Key>

@@ -5,13 +5,14 @@ ghost use Rattle.counters.specs.Sums.{node_numbers, sum_below};
 ghost use Rattle.counters.specs.Budgets.{total_spent};
 ghost use Rattle.counters.specs.Cells.{spent_cell, WritesSpent};
 ghost use Rattle.stamp_register.specs.Keys.{key_value};
-ghost use Rattle.replica_state.specs.Points.{is_hits, term_of, empty_held, key_standing, held_after_learning, held_after_key, held_after_pass, held_after_count, given_key, Raises, spent_of_key};
+ghost use Rattle.replica_state.specs.Points.{is_hits, term_of, empty_held, order_to_held, held_after_learning, held_after_key, held_after_pass, held_after_count, given_key, Raises, spent_of_key};
 ghost use Rattle.replica_state.specs.Slots.{IsShareRaised, slot_held, slot_key, slot_number, slot_rights, share_number, budgets_number};
 ghost use Rattle.replica_state.specs.States.{MarksRights};
 ghost use Rattle.replica_state.specs.declared.point.Counted.{Counted};
 ghost use Rattle.replica_state.specs.declared.point.Counted.TheVariants.{Hits, Execs, Shifts};
 
 use crate::point::{Count, Counted};
+use crate::reader::Stored;
 use crate::terms::{count_of, terms_of};
 use counters::{Budget, HitCounter};
 use lattice_laws::{Join, LexOf, MapOf, PairOf};
@@ -27,7 +28,7 @@ type Parts = PairOf<LexOf<Key, Budgets>, HitCounter>;
 
 /// A key with the budgets of its terms, and hits, which belong to no key.
 #[derive(Debug, Drop)]
-pub(crate) struct Slot {
+pub struct Slot {
     parts: Parts,
 }
 
@@ -64,6 +65,20 @@ impl Join for Slot {
     fn join_in(&mut self, alloc: Global, other: Slot) -> Result<(), AllocError> {
         let Slot { parts } = other;
         self.parts.join_in(alloc, parts)
+    }
+}
+
+impl Stored for Slot {
+    ghost held = { slot_held };
+
+    #[tactic(auto, unfolding(crate::specs::Slots::slot_held))]
+    fn key(&self) -> Option<&Key> {
+        key(self)
+    }
+
+    #[tactic(auto, unfolding(crate::specs::Slots::slot_held))]
+    fn number(&self, counted: Counted) -> u64 {
+        number(self, counted)
     }
 }
 
@@ -187,8 +202,8 @@ pub(crate) fn take(slot: &mut Slot, alloc: Global, key: Key)
 }
 
 // How a key stands to the one that is held. Where none is, each is greater.
-fn standing(slot: &Slot, key: &Key) -> Ordering
-    ensures { result ≡ key_standing (key_value key.now) (slot_key slot.now) }
+fn order_to_held(slot: &Slot, key: &Key) -> Ordering
+    ensures { result ≡ order_to_held (key_value key.now) (slot_key slot.now) }
 {
     match slot.parts.first.held() {
         Some((held, _)) => key.cmp(held),
@@ -299,7 +314,7 @@ pub(crate) fn learn(
     let Some(key) = key else {
         return raise_if_any(slot, alloc, count);
     };
-    match standing(slot, key) {
+    match order_to_held(slot, key) {
         Ordering::Less => Ok(()),
         Ordering::Equal => raise_if_any(slot, alloc, count),
         Ordering::Greater => {

@@ -65,22 +65,22 @@ impl NodeCore {
         if message.ack > self.replica.version() {
             return Err(NodeFault::AckAhead);
         }
-        let brought: State = replica_of(alloc, &message)?;
+        let received: State = replica_of(alloc, &message)?;
         if is_any_overspent(
             self.config.nodes,
             self.replica.state(),
-            &brought,
+            &received,
             &message.entries,
         ) {
             return Err(NodeFault::Overspent);
         }
-        if self.replica.state().names_together(&brought) > MAX_NAMES {
+        if self.replica.state().names_together(&received) > MAX_NAMES {
             return Err(NodeFault::TooManyPoints);
         }
         Ok(Delivery {
             clock: latest_clock(&message.entries),
             message,
-            brought,
+            received,
         })
     }
 
@@ -101,10 +101,10 @@ impl NodeCore {
         let Delivery {
             message,
             clock,
-            brought,
+            received,
         } = delivery;
         self.trace.reserve(1)?;
-        let changed = self.replica.receive_brought(alloc, &message, brought)?;
+        let changed = self.replica.receive_replica(alloc, &message, received)?;
         self.clock = self.clock.max(clock);
         let entry = Entry {
             ask: Ask::Deliver { message: bytes },

@@ -1,8 +1,10 @@
-use Rattle.std.proofs.Common.{ℕ, ◌<◌, ◌≤◌, List, map, arith}
+use Rattle.std.proofs.Common.{◌≡◌, ◌++◌, ℕ, ◌<◌, ◌≤◌, List, map, subst, IsSome, arith}
+use Rattle.std.specs.BTreeMap.{IsOrdered}
+use Rattle.replica_state.specs.Points.{Held, counted_cmp}
 use Rattle.std.specs.List.{flat_map}
 use Rattle.delta_exchange.specs.declared.marks.NameMarks.{NameMarks}
 use Rattle.message_format.specs.Messages.{entry_value}
-use Rattle.delta_exchange.specs.Since.{entry_marked, entries_since}
+use Rattle.delta_exchange.specs.Since.{entry_marked, entry_under, entries_since}
 use Rattle.delta_exchange.proofs.SinceEntries.{passed_over, looked_at}
 use Rattle.delta_exchange.proofs.since.entries_since.Goals as goal
 
@@ -29,8 +31,12 @@ loop-name-preserved-in-Continue-1 g c =
     let lt : base < n.1.latest = omega (arith, c.if-latest-base.true, c.latest.ensures) in
     let before = rw c.in-Some.ensures.steps at c.loop-name.invariant in
     let pushed = c.in_ok-push_entry_since.ensures in
+    let told = map entry_value c.loop-name.entries.items in
+    let more = map entry_value c.push_entry_since.new.entries.items in
+    let entries = subst (λ (h : Held). more ≡ told ++ entry_under h n.0 h.key base n.1) c.point-held.ensures pushed.entries in
+    let in_order = subst (λ (h : Held). IsSome h.key → IsOrdered counted_cmp n.1.cells) c.point-held.ensures pushed.ordered in
     record {
       fit = pushed.fit before.fit;
-      ordered = λ h. before.ordered (λ _ some. pushed.ordered some, h);
-      cells = looked_at v base marks n (map entry_value c.loop-name.entries.items) (map entry_value c.push_entry_since.new.entries.items) (flat_map (entry_marked v base) c.next.new.self) (entries_since v base marks) lt pushed.entries before.cells;
+      ordered = λ h. before.ordered (λ _ some. in_order some, h);
+      cells = looked_at v base marks n told more (flat_map (entry_marked v base) c.next.new.self) (entries_since v base marks) lt entries before.cells;
     }

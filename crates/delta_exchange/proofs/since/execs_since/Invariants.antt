@@ -1,5 +1,6 @@
 use Rattle.std.proofs.Common.{◌≡◌, ◌++◌}
 use Rattle.std.specs.List.{flat_map}
+use Rattle.replica_state.specs.Stored.{reader_held}
 use Rattle.delta_exchange.specs.Cells.{ExecsFit}
 use Rattle.delta_exchange.specs.Since.{exec_of, later, execs_since}
 use Rattle.delta_exchange.proofs.since.execs_since.Given as goal
@@ -7,5 +8,5 @@ use Rattle.delta_exchange.proofs.since.execs_since.Given as goal
 abbrev pub invariant-loop-counted : goal.invariant-loop-counted
 invariant-loop-counted g l = record {
   fit : ExecsFit l.execs.items;
-  cells : l.execs.items ++ flat_map (later l.marks.key l.base (exec_of (g.R.Replica.state l.replica) l.name)) l.counted-iterator ≡ execs_since (g.R.Replica.state l.replica) l.name l.base l.marks;
+  cells : l.execs.items ++ flat_map (later l.marks.key l.base (exec_of (reader_held g.S.Stored.held l.held))) l.counted-iterator ≡ execs_since (reader_held g.S.Stored.held l.held) l.base l.marks;
 }

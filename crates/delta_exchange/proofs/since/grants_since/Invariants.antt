@@ -1,5 +1,6 @@
 use Rattle.std.proofs.Common.{◌≡◌, ◌++◌}
 use Rattle.std.specs.List.{flat_map}
+use Rattle.replica_state.specs.Stored.{reader_held}
 use Rattle.delta_exchange.specs.Cells.{ExecsFit}
 use Rattle.delta_exchange.specs.Since.{grant_of, later, grants_since}
 use Rattle.delta_exchange.proofs.since.grants_since.Given as goal
@@ -7,5 +8,5 @@ use Rattle.delta_exchange.proofs.since.grants_since.Given as goal
 abbrev pub invariant-loop-counted : goal.invariant-loop-counted
 invariant-loop-counted g l = record {
   fit : ExecsFit l.grants.items;
-  cells : l.grants.items ++ flat_map (later l.marks.key l.base (grant_of (g.R.Replica.state l.replica) l.name)) l.counted-iterator ≡ grants_since (g.R.Replica.state l.replica) l.name l.base l.marks;
+  cells : l.grants.items ++ flat_map (later l.marks.key l.base (grant_of (reader_held g.S.Stored.held l.held))) l.counted-iterator ≡ grants_since (reader_held g.S.Stored.held l.held) l.base l.marks;
 }

@@ -1,7 +1,8 @@
 use Rattle.std.proofs.Common.{◌≡◌, ◌*◌, ◌≤◌, ◌^◌}
-use Rattle.replica_state.specs.Slots.{reader_held}
+use Rattle.replica_state.specs.Slots.{slot_held}
+use Rattle.replica_state.specs.Stored.{reader_held}
 use Rattle.node_core.specs.Deliveries.{execs_both}
 use Rattle.node_core.proofs.delivery.execs_both.Given as goal
 
 abbrev pub invariant-loop-node : goal.invariant-loop-node
-invariant-loop-node l = record { value : l.sum ≡ execs_both l.node l.order (reader_held l.held) (reader_held l.brought) l.term; small : l.sum ≤ l.node * 2 ^ 64 }
+invariant-loop-node l = record { value : l.sum ≡ execs_both l.node l.order (reader_held slot_held l.held) (reader_held slot_held l.received) l.term; small : l.sum ≤ l.node * 2 ^ 64 }

@@ -2,15 +2,16 @@ use Rattle.std.proofs.Common.{List, sym, ◌∙◌, ap}
 use Rattle.std.specs.declared.cmp.Ordering.{Ordering}
 use Rattle.actions.specs.Value.{TermValue}
 use Rattle.replica_state.specs.Points.{Held}
-use Rattle.replica_state.specs.Slots.{reader_held}
+use Rattle.replica_state.specs.Slots.{slot_held}
+use Rattle.replica_state.specs.Stored.{reader_held}
 use Rattle.node_core.specs.Deliveries.{are_overspent, is_held_overspent, terms_both}
 use Rattle.node_core.proofs.delivery.is_name_overspent.Goals as goal
 
 pub returns-in-Some : goal.returns-in-Some
 returns-in-Some c =
-    let held : Held = reader_held c.point-held.result in
-    let brought : Held = reader_held c.point-brought.result in
+    let held : Held = reader_held slot_held c.point-held.result in
+    let received : Held = reader_held slot_held c.point-received.result in
     c.is_term_overspent.ensures
-    ∙ ap (λ (terms : List TermValue). are_overspent c.args.nodes c.standing_of-order.result held brought terms) (sym c.in-Some.ensures)
-    ∙ ap (λ (order : Ordering). are_overspent c.args.nodes order held brought (terms_both order held brought)) c.standing_of-order.ensures
-    ∙ (λ i. is_held_overspent c.args.nodes (c.point-held.ensures i) (c.point-brought.ensures i))
+    ∙ ap (λ (terms : List TermValue). are_overspent c.args.nodes c.key_order-order.result held received terms) (sym c.in-Some.ensures)
+    ∙ ap (λ (order : Ordering). are_overspent c.args.nodes order held received (terms_both order held received)) c.key_order-order.ensures
+    ∙ (λ i. is_held_overspent c.args.nodes (c.point-held.ensures i) (c.point-received.ensures i))

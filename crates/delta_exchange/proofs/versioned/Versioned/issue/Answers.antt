@@ -4,7 +4,7 @@ use Rattle.replica_state.specs.Operations.{IsWellFormed, operation}
 use Rattle.delta_exchange.specs.declared.news.Told.{Told}
 use Rattle.delta_exchange.specs.News.{operation_of, BringsNews}
 use Rattle.delta_exchange.specs.Versions.{value_of}
-use Rattle.delta_exchange.proofs.LearnsLemmas.{news_brought, news_well_formed}
+use Rattle.delta_exchange.proofs.LearnsLemmas.{news_received, news_well_formed}
 use Rattle.delta_exchange.proofs.versioned.Versioned.issue.Goals as goal
 
 pub learned-requires : goal.learned-requires
@@ -15,6 +15,6 @@ pub learn-requires-clause-brings : goal.learn-requires-clause-brings
 unfolding value_of
 learn-requires-clause-brings g c =
     let v = g.R.Replica.state c.args.self.now.replica in
-    let brought = g.R.Replica.state c.in_ok-learned.learned in
-    subst (λ (ts : List Told). BringsNews v brought (map operation_of ts)) (sym c.deref-2.ensures.value)
-    (news_brought v (map operation c.args.ops.now) c.in_ok-news.news.items c.in_ok-news.ensures brought (rw c.deref.ensures.value at c.in_ok-learned.ensures [] refl))
+    let received = g.R.Replica.state c.in_ok-learned.learned in
+    subst (λ (ts : List Told). BringsNews v received (map operation_of ts)) (sym c.deref-2.ensures.value)
+    (news_received v (map operation c.args.ops.now) c.in_ok-news.news.items c.in_ok-news.ensures received (rw c.deref.ensures.value at c.in_ok-learned.ensures [] refl))

@@ -40,7 +40,7 @@ returns-clause-ok g c = λ told e.
     let m = marks_value c.args.self.now.marks in
     let ts = c.args.news.now in
     let marked : marks_value c.mark_all.new.marks ≡ with_news version (map news_of ts) m = c.mark_all.ensures ∙ ap (with_news version (map news_of ts)) c.in_ok-make_room.ensures.same in
-    let state = learned_state v told ts e w (g.R.Replica.state c.args.brought) c.requires.brings c.in_ok-merge.ensures.ok in
+    let state = learned_state v told ts e w (g.R.Replica.state c.args.received) c.requires.brings c.in_ok-merge.ensures.ok in
     record {
       learned = record {
         state = learned_all v told ts e w state;

@@ -36,8 +36,8 @@ returns-then-is_any_overspent-clause-refused c =
     let checked : Checked k node.clock value.version value.state c.args.bytes.now (message_value c.in_ok-message.message) =
     record { step = c.self.invariant.0; room = rw (← c.self.view_is) at c.in_ok-check_trace.ensures.ok; read = c.in_ok-message.ensures.ok; spelled = c.in_ok-message.ensures.spelled; mine = c.if-message-self.false } in
     let own : FindsOwn k value.state (message_value c.in_ok-message.message) c.is_message_ahead.result = record { is = rw c.state.ensures at c.is_message_ahead.ensures } in
-    let executions : FindsExecutions k value.state (state_in c.in_ok-brought.brought) (message_value c.in_ok-message.message) c.is_any_overspent.result =
-    record { entries = c.in_ok-message.message.entries.items; are = refl; brings = c.in_ok-brought.ensures; is = rw c.state-2.ensures at (c.is_any_overspent.ensures ∙ ap (list_any _) c.deref.ensures.value) } in
+    let executions : FindsExecutions k value.state (state_in c.in_ok-received.received) (message_value c.in_ok-message.message) c.is_any_overspent.result =
+    record { entries = c.in_ok-message.message.entries.items; are = refl; brings = c.in_ok-received.ensures; is = rw c.state-2.ensures at (c.is_any_overspent.ensures ∙ ap (list_any _) c.deref.ensures.value) } in
     inr (rw (← c.self.view_is) (refused_overspent checked own c.if-is_message_ahead.false (rw c.version.ensures at c.if-message-version.false) executions c.if-is_any_overspent.true))
 
 pub returns-then-names_together-gt-MAX_NAMES-clause-refused : goal.returns-then-names_together-gt-MAX_NAMES-clause-refused
@@ -48,8 +48,8 @@ returns-then-names_together-gt-MAX_NAMES-clause-refused c =
     let checked : Checked k node.clock value.version value.state c.args.bytes.now (message_value c.in_ok-message.message) =
     record { step = c.self.invariant.0; room = rw (← c.self.view_is) at c.in_ok-check_trace.ensures.ok; read = c.in_ok-message.ensures.ok; spelled = c.in_ok-message.ensures.spelled; mine = c.if-message-self.false } in
     let own : FindsOwn k value.state (message_value c.in_ok-message.message) c.is_message_ahead.result = record { is = rw c.state.ensures at c.is_message_ahead.ensures } in
-    let executions : FindsExecutions k value.state (state_in c.in_ok-brought.brought) (message_value c.in_ok-message.message) c.is_any_overspent.result =
-    record { entries = c.in_ok-message.message.entries.items; are = refl; brings = c.in_ok-brought.ensures; is = rw c.state-2.ensures at (c.is_any_overspent.ensures ∙ ap (list_any _) c.deref.ensures.value) } in
+    let executions : FindsExecutions k value.state (state_in c.in_ok-received.received) (message_value c.in_ok-message.message) c.is_any_overspent.result =
+    record { entries = c.in_ok-message.message.entries.items; are = refl; brings = c.in_ok-received.ensures; is = rw c.state-2.ensures at (c.is_any_overspent.ensures ∙ ap (list_any _) c.deref.ensures.value) } in
     inr (rw (← c.self.view_is) (refused_many checked own c.if-is_message_ahead.false (rw c.version.ensures at c.if-message-version.false) executions
     c.if-is_any_overspent.false (rw c.state-3.ensures at c.names_together.ensures) c.if-names_together-gt-MAX_NAMES.true))
 
@@ -61,8 +61,8 @@ returns-clause-ok c =
     let checked : Checked k node.clock value.version value.state c.args.bytes.now (message_value c.in_ok-message.message) =
     record { step = c.self.invariant.0; room = rw (← c.self.view_is) at c.in_ok-check_trace.ensures.ok; read = c.in_ok-message.ensures.ok; spelled = c.in_ok-message.ensures.spelled; mine = c.if-message-self.false } in
     let own : FindsOwn k value.state (message_value c.in_ok-message.message) c.is_message_ahead.result = record { is = rw c.state.ensures at c.is_message_ahead.ensures } in
-    let executions : FindsExecutions k value.state (state_in c.in_ok-brought.brought) (message_value c.in_ok-message.message) c.is_any_overspent.result =
-    record { entries = c.in_ok-message.message.entries.items; are = refl; brings = c.in_ok-brought.ensures; is = rw c.state-2.ensures at (c.is_any_overspent.ensures ∙ ap (list_any _) c.deref.ensures.value) } in
+    let executions : FindsExecutions k value.state (state_in c.in_ok-received.received) (message_value c.in_ok-message.message) c.is_any_overspent.result =
+    record { entries = c.in_ok-message.message.entries.items; are = refl; brings = c.in_ok-received.ensures; is = rw c.state-2.ensures at (c.is_any_overspent.ensures ∙ ap (list_any _) c.deref.ensures.value) } in
     rw (← c.self.view_is) (delivery_accepted checked own c.if-is_message_ahead.false (rw c.version.ensures at c.if-message-version.false) executions
     c.if-is_any_overspent.false (rw c.state-3.ensures at c.names_together.ensures) c.if-names_together-gt-MAX_NAMES.false)
 
@@ -74,12 +74,12 @@ returns-clause-delivery c =
     let checked : Checked k node.clock value.version value.state c.args.bytes.now (message_value c.in_ok-message.message) =
     record { step = c.self.invariant.0; room = rw (← c.self.view_is) at c.in_ok-check_trace.ensures.ok; read = c.in_ok-message.ensures.ok; spelled = c.in_ok-message.ensures.spelled; mine = c.if-message-self.false } in
     let own : FindsOwn k value.state (message_value c.in_ok-message.message) c.is_message_ahead.result = record { is = rw c.state.ensures at c.is_message_ahead.ensures } in
-    let executions : FindsExecutions k value.state (state_in c.in_ok-brought.brought) (message_value c.in_ok-message.message) c.is_any_overspent.result =
-    record { entries = c.in_ok-message.message.entries.items; are = refl; brings = c.in_ok-brought.ensures; is = rw c.state-2.ensures at (c.is_any_overspent.ensures ∙ ap (list_any _) c.deref.ensures.value) } in
+    let executions : FindsExecutions k value.state (state_in c.in_ok-received.received) (message_value c.in_ok-message.message) c.is_any_overspent.result =
+    record { entries = c.in_ok-message.message.entries.items; are = refl; brings = c.in_ok-received.ensures; is = rw c.state-2.ensures at (c.is_any_overspent.ensures ∙ ap (list_any _) c.deref.ensures.value) } in
     rw (← c.self.view_is) (record {
       is_read = c.in_ok-message.ensures.ok;
       spelled = c.in_ok-message.ensures.spelled;
-      brought = c.in_ok-brought.ensures;
+      received = c.in_ok-received.ensures;
       reached = reached checked own c.if-is_message_ahead.false (rw c.version.ensures at c.if-message-version.false) executions;
       delivery = delivery_is checked own c.if-is_message_ahead.false (rw c.version.ensures at c.if-message-version.false) executions
           c.if-is_any_overspent.false (rw c.state-3.ensures at c.names_together.ensures) c.if-names_together-gt-MAX_NAMES.false

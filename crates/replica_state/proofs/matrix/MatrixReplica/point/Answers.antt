@@ -1,7 +1,7 @@
 use Rattle.std.proofs.Common.{◌∙◌}
 use Rattle.replica_state.specs.MatrixStates.{matrix_state}
 use Rattle.replica_state.proofs.StoredSlots.{reader_shows}
-use Rattle.replica_state.proofs.matrix.Matrix.point.Goals as goal
+use Rattle.replica_state.proofs.matrix.MatrixReplica.point.Goals as goal
 
 pub returns : goal.returns
 returns c =
