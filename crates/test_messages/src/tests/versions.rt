@@ -62,9 +62,9 @@ fn receive<R: Replica>(
     let Ok(message) = decode(alloc, 2, bytes) else {
         return Err(AllocError);
     };
-    let brought: R = replica_of(alloc, &message)?;
+    let received: R = replica_of(alloc, &message)?;
     has_room(versioned).then_some(()).ok_or(AllocError)?;
-    versioned.receive_brought(alloc, &message, brought)
+    versioned.receive_replica(alloc, &message, received)
 }
 
 /// `ONE_NAME` of these versions.
