@@ -16,7 +16,7 @@ use Rattle.std.specs.declared.alloc.Global.{Global}
 use Rattle.std.specs.Prelude.{String}
 use Rattle.stamp_register.specs.declared.key.Stamp.{Stamp}
 use Rattle.stamp_register.specs.Keys.{KeyValue, stamp_of, key_le, terms_set}
-use Rattle.replica_state.specs.Operations.{Operation, Set, count_of, count_under}
+use Rattle.operations.specs.Operations.{Operation, Set, count_of, count_under}
 use Rattle.replica_state.specs.States.{State, with_name}
 use Rattle.replica_state.specs.Folds.{fold, greater}
 use Rattle.node_calls.specs.declared.ask.Ask.TheVariants as code

@@ -7,7 +7,7 @@ use Rattle.std.specs.Ordering.{nat_cmp, ordering_then}
 use Rattle.std.specs.Cmp.Lexicographic.{slice_cmp}
 use Rattle.stamp_register.specs.declared.key.Stamp.{Stamp}
 use Rattle.stamp_register.specs.Keys.{KeyValue, stamp_of}
-use Rattle.replica_state.specs.Operations.{Operation, Set, IsIn, count_of}
+use Rattle.operations.specs.Operations.{Operation, Set, IsIn, count_of}
 use Rattle.audit.specs.declared.counts.Counts.{Counts}
 use Rattle.audit.specs.Sums.{is_term}
 

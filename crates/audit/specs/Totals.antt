@@ -6,7 +6,7 @@ use Rattle.std.specs.Cmp.Lexicographic.{slice_cmp}
 use Rattle.std.specs.declared.cmp.Ordering.{Ordering}
 use Rattle.stamp_register.specs.declared.key.Stamp.{Stamp}
 use Rattle.stamp_register.specs.Keys.{KeyValue, stamp_of}
-use Rattle.replica_state.specs.Operations.{count_of}
+use Rattle.operations.specs.Operations.{count_of}
 use Rattle.cluster_model.specs.Worlds.{Cluster, Event}
 use Rattle.cluster_model.specs.Histories.{IsIssued, all_granted, all_executions}
 use Rattle.audit.specs.declared.tally.Tally.{Tally}

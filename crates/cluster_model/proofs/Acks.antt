@@ -1,8 +1,8 @@
 -- Which versions of its own a node counts on another to have, the other knows.
 use Rattle.std.proofs.Common.{◌≡◌, ℕ, ◌≤◌, ◌==◌, ◌&&◌, max, nat_le, nat_lt, Bool, true, false, cond, List, [], ◌∷◌, length, inl, inr, refl, sym, subst, arith, ⊎_elim, Option, Some, None, Result}
 use Rattle.std.proofs.lemmas.Bool.{eqb-true, and_parts, ltb-true, not-false}
-use Rattle.replica_state.specs.Operations.{IsIn}
-use Rattle.replica_state.proofs.Sets.{IsIn-append_cases}
+use Rattle.operations.specs.Operations.{IsIn}
+use Rattle.operations.proofs.Members.{IsIn-append_cases}
 use Rattle.message_format.specs.declared.fault.WireFault.{WireFault}
 use Rattle.delta_exchange.specs.Versions.{known_raised}
 use Rattle.node_calls.specs.Asks.{Asked, Message}

@@ -7,7 +7,7 @@ use Rattle.counters.specs.Budgets.{Budget, granted_by, given_to, gone_from, tota
 use Rattle.counters.proofs.Conserved.{from_to}
 use Rattle.counters.proofs.SumLemmas.{sum-le, sum-add, sum-one, sum_others-le, sum_others-same, sum_others-zero}
 use Rattle.stamp_register.specs.Keys.{KeyValue}
-use Rattle.replica_state.specs.Operations.{Execs, Shifts}
+use Rattle.operations.specs.Operations.{Execs, Shifts}
 use Rattle.replica_state.specs.States.{State, budget}
 use Rattle.node_core.proofs.UptoStates.{upto_below}
 use Rattle.cluster_model.specs.Histories.{is_key}

@@ -2,12 +2,13 @@
 use Rattle.std.proofs.Common.{◌≡◌, ◌≢◌, ℕ, ◌≤◌, ◌<◌, ◌+◌, max, Bool, true, false, cond, List, [], ◌∷◌, ◌⊎◌, inl, inr, refl, sym, ◌∙◌, ap, subst, arith, ⊎_elim, Option, Some, None}
 use Rattle.std.proofs.lemmas.Bool.{cases_lt}
 use Rattle.stamp_register.specs.Keys.{KeyValue}
-use Rattle.replica_state.specs.Operations.{Cell, Hits, Execs, Shifts, Operation, Set, Count, IsIn, same_cell}
+use Rattle.operations.specs.Operations.{Cell, Hits, Execs, Shifts, Operation, Set, Count, IsIn, same_cell}
 use Rattle.replica_state.specs.States.{State}
 use Rattle.replica_state.specs.Folds.{fold, key_in, key_of, number_in, number_at, at_key}
 use Rattle.replica_state.specs.Deltas.{IsTold, TellSameOf, IsInDelta, IsDelta}
 use Rattle.replica_state.proofs.Orders.{same_cell-true}
-use Rattle.replica_state.proofs.Sets.{IsIn-append_cases, KeyUpto, key_of-is_in}
+use Rattle.replica_state.proofs.Sets.{KeyUpto, key_of-is_in}
+use Rattle.operations.proofs.Members.{IsIn-append_cases}
 use Rattle.replica_state.proofs.KnownSets.{own_name}
 use Rattle.node_calls.specs.Asks.{Asked, Message}
 use Rattle.node_calls.specs.Asks as asks

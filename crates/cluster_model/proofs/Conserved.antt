@@ -6,7 +6,7 @@ use Rattle.std.specs.Prelude.{ℤ, pos, ◌+ℤ◌, ◌≤ℤ◌}
 use Rattle.counters.specs.Sums.{node_numbers, sum_below, int_sum_below}
 use Rattle.counters.proofs.SumLemmas.{sum-same, sum-add, sum-at, sum-swap, sum_others-is, sum-narrow, int_sum-pos}
 use Rattle.stamp_register.specs.Keys.{KeyValue, stamp_of}
-use Rattle.replica_state.specs.Operations.{Shifts, Operation, Count, count_of}
+use Rattle.operations.specs.Operations.{Shifts, Operation, Count, count_of}
 use Rattle.replica_state.specs.Folds.{fold, number_at, at_key}
 use Rattle.replica_state.proofs.Sets.{number_at-mono}
 use Rattle.cluster_model.specs.Worlds.{Cluster, Event, world}

@@ -1,6 +1,6 @@
 -- Where each node sends what differs, no node refuses a message for what it says, nor the bytes that spell one.
 use Rattle.std.proofs.Common.{◌≡◌, ℕ, false, List, [], length, sym, subst, Some, Ok}
-use Rattle.replica_state.specs.Operations.{IsIn}
+use Rattle.operations.specs.Operations.{IsIn}
 use Rattle.node_calls.specs.Asks.{Message, message_read}
 use Rattle.node_calls.specs.Asks as asks
 use Rattle.node_core.specs.Nodes.{Node}

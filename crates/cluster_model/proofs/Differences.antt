@@ -3,12 +3,13 @@
 use Rattle.std.proofs.Common.{◌≡◌, ◌≢◌, ℕ, ◌≤◌, true, List, ◌++◌, ◌⊎◌, inl, inr, refl, sym, ◌∙◌, ap, subst, arith, ⊎_elim, Option, Some, None}
 use Rattle.std.proofs.lemmas.Bool.{cases_eq}
 use Rattle.stamp_register.specs.Keys.{KeyValue}
-use Rattle.replica_state.specs.Operations.{Hits, Execs, Shifts, Operation, Set, Count, IsIn}
+use Rattle.operations.specs.Operations.{Hits, Execs, Shifts, Operation, Set, Count, IsIn, name_in}
 use Rattle.replica_state.specs.States.{State}
-use Rattle.replica_state.specs.Folds.{fold, key_in, key_of, number_at, at_key, name_in, holds_name}
+use Rattle.replica_state.specs.Folds.{fold, key_in, key_of, number_at, at_key, holds_name}
 use Rattle.replica_state.specs.StateOrder.{IsBelow, below-trans}
 use Rattle.replica_state.specs.Deltas.{IsInDelta, IsDelta}
-use Rattle.replica_state.proofs.Sets.{IsIn-append_left, number_at-is_in, KeyUpto, KeyUpto-trans, KeyUpto-antisym, key_of-is_in}
+use Rattle.replica_state.proofs.Sets.{number_at-is_in, KeyUpto, KeyUpto-trans, KeyUpto-antisym, key_of-is_in}
+use Rattle.operations.proofs.Members.{IsIn-append_left}
 use Rattle.replica_state.proofs.Names.{HoldsName, names_same, key_named, hit_named}
 use Rattle.replica_state.proofs.KnownSets.{own_name, keys_only, union_above_right}
 use Rattle.node_core.proofs.UptoStates.{IsUptoAt, cases_key, upto_below, below_upto}

@@ -1,6 +1,6 @@
 -- Bytes that tell what differs are those of an emit that a schedule allows next.
 use Rattle.std.proofs.Common.{◌≡◌, ℕ, List, [], refl, sym, ◌∙◌, ap, subst, Option, Some, None, Result, Ok, Err}
-use Rattle.replica_state.specs.Operations.{Operation}
+use Rattle.operations.specs.Operations.{Operation}
 use Rattle.message_format.specs.declared.fault.WireFault.{WireFault}
 use Rattle.node_calls.specs.Asks.{Asked, Message, Versions, message_of, message_read, emit_of}
 use Rattle.node_calls.specs.Asks as asks

@@ -9,7 +9,7 @@ use Rattle.actions.specs.Numbers.{number_at, short_number_at, decimals_at, perce
 use Rattle.actions.specs.Reading.{pieces, trimmed_text, argument_at, chance_at, count_at, time_at, task_at, term_at, terms_at, reading}
 use Rattle.counters.specs.Sums.{node_numbers, sum_below}
 use Rattle.stamp_register.specs.Keys.{KeyValue, terms_in_text}
-use Rattle.replica_state.specs.Operations.{Shifts, Operation, Set, Count, IsIn, count_of, same_cell}
+use Rattle.operations.specs.Operations.{Shifts, Operation, Set, Count, IsIn, count_of, same_cell}
 use Rattle.replica_state.specs.States.{State, granted_in}
 use Rattle.replica_state.specs.Folds.{fold}
 use Rattle.node_calls.specs.declared.fault.NodeFault.TheVariants as faults

@@ -5,7 +5,7 @@ use Rattle.std.specs.Prelude.{reverse, option_map}
 use Rattle.std.specs.Str.{bytes_eq}
 use Rattle.stamp_register.specs.declared.key.Stamp.{Stamp}
 use Rattle.stamp_register.specs.Keys.{KeyValue, same_key}
-use Rattle.replica_state.specs.Operations.{Cell, Hits, Execs, Shifts, Operation, Set, Count, IsIn, same_cell}
+use Rattle.operations.specs.Operations.{Cell, Hits, Execs, Shifts, Operation, Set, Count, IsIn, same_cell}
 use Rattle.replica_state.specs.Folds.{fold, key_in}
 use Rattle.replica_state.specs.Deltas.{IsTold, IsDelta}
 use Rattle.replica_state.proofs.Orders.{bytes_eq-true, same_key-true, same_cell-refl}

@@ -9,11 +9,12 @@ use Rattle.counters.specs.Sums.{node_numbers, sum_below}
 use Rattle.counters.proofs.SumLemmas.{sum-le, sum-narrow}
 use Rattle.stamp_register.specs.declared.key.Stamp.{Stamp}
 use Rattle.stamp_register.specs.Keys.{KeyValue, stamp_of}
-use Rattle.replica_state.specs.Operations.{Execs, Operation, Count, writer_of, IsIn, count_at, count_of, count_under}
+use Rattle.operations.specs.Operations.{Execs, Operation, Count, writer_of, IsIn, count_at, count_of, count_under, name_in}
 use Rattle.replica_state.specs.States.{State, granted_in}
-use Rattle.replica_state.specs.Folds.{fold, number_at, at_key, name_in}
+use Rattle.replica_state.specs.Folds.{fold, number_at, at_key}
 use Rattle.replica_state.specs.Knowledge.{knows}
-use Rattle.replica_state.proofs.Sets.{IsIn-append_cases, number_at-mono}
+use Rattle.replica_state.proofs.Sets.{number_at-mono}
+use Rattle.operations.proofs.Members.{IsIn-append_cases}
 use Rattle.replica_state.proofs.KnownSets.{knows_member}
 use Rattle.replica_state.proofs.Changes.{false_any}
 use Rattle.replica_state.proofs.Knowing.{set_knows}

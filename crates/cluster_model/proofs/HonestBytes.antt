@@ -1,7 +1,7 @@
 -- What is so of a message of the cluster is so of the bytes that spell one, which may be delivered.
 use Rattle.std.proofs.Common.{◌≡◌, ℕ, ◌≤◌, List, [], length, sym, subst, Some, Ok}
 use Rattle.counters.specs.Sums.{node_numbers}
-use Rattle.replica_state.specs.Operations.{IsIn}
+use Rattle.operations.specs.Operations.{IsIn}
 use Rattle.node_calls.specs.Asks.{Message, message_read}
 use Rattle.node_calls.specs.Asks as asks
 use Rattle.node_core.specs.Nodes.{Node}

@@ -1,13 +1,13 @@
 -- A node that knows a version of another is above the state that the other had at that version.
 use Rattle.std.proofs.Common.{◌≡◌, ℕ, ◌+◌, ◌≤◌, ◌==◌, ◌⊎◌, max, nat_le, Bool, true, false, cond, List, [], ◌∷◌, ◌++◌, length, inl, inr, refl, sym, ◌∙◌, ap, subst, arith, ⊎_elim, Option, Some, None, Result}
 use Rattle.std.proofs.lemmas.Bool.{eqb-true, and_parts, leb-true, ltb-false, cases_lt}
-use Rattle.replica_state.specs.Operations.{Operation, IsIn}
+use Rattle.operations.specs.Operations.{Operation, IsIn}
 use Rattle.replica_state.specs.States.{State}
 use Rattle.replica_state.specs.Folds.{fold}
 use Rattle.replica_state.specs.Knowledge.{changes}
 use Rattle.replica_state.specs.StateOrder.{IsBelow, below-refl, below-trans}
 use Rattle.replica_state.specs.Deltas.{IsDelta}
-use Rattle.replica_state.proofs.Sets.{IsIn-append_cases}
+use Rattle.operations.proofs.Members.{IsIn-append_cases}
 use Rattle.replica_state.proofs.KnownSets.{union_above_right}
 use Rattle.message_format.specs.declared.fault.WireFault.{WireFault}
 use Rattle.node_core.specs.declared.config.Config.{Config}

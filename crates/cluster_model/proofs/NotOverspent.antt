@@ -4,9 +4,9 @@ use Rattle.std.proofs.Common.{◌≡◌, ℕ, ◌+◌, ◌≤◌, List, [], ◌�
 use Rattle.counters.specs.Sums.{node_numbers, sum_below}
 use Rattle.counters.specs.Budgets.{Budget, given_to, gone_from}
 use Rattle.stamp_register.specs.Keys.{KeyValue}
-use Rattle.replica_state.specs.Operations.{Operation, IsIn, count_of}
+use Rattle.operations.specs.Operations.{Operation, IsIn, count_of, name_in}
 use Rattle.replica_state.specs.States.{State, budget, granted_in}
-use Rattle.replica_state.specs.Folds.{fold, name_in}
+use Rattle.replica_state.specs.Folds.{fold}
 use Rattle.replica_state.proofs.Changes.{false_any}
 use Rattle.node_calls.specs.Asks.{Message}
 use Rattle.node_core.specs.Refusals.{overspends}

@@ -6,7 +6,7 @@ use Rattle.std.specs.Prelude.{count_by}
 use Rattle.std.specs.Str.{bytes_eq}
 use Rattle.stamp_register.specs.declared.key.Stamp.{Stamp}
 use Rattle.stamp_register.specs.Keys.{KeyValue, stamp_of, same_key}
-use Rattle.replica_state.specs.Operations.{Cell, Execs, Shifts, Operation, Count, IsIn, same_cell, count_of, writer_of}
+use Rattle.operations.specs.Operations.{Cell, Execs, Shifts, Operation, Count, IsIn, same_cell, count_of, writer_of}
 use Rattle.replica_state.specs.States.{State}
 use Rattle.replica_state.specs.Folds.{fold, key_of, number_at, at_key}
 use Rattle.replica_state.proofs.Orders.{same_cell-refl, same_cell-true}

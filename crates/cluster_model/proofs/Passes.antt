@@ -4,7 +4,7 @@ use Rattle.std.proofs.lemmas.Bool.{or_parts, not-false, eqb-false, ltb-true}
 use Rattle.std.specs.Prelude.{slice_get}
 use Rattle.actions.specs.Value.{TaskValue, TermValue}
 use Rattle.stamp_register.specs.Keys.{KeyValue, stamp_of}
-use Rattle.replica_state.specs.Operations.{Operation, count_at, count_of, count_under}
+use Rattle.operations.specs.Operations.{Operation, count_at, count_of, count_under}
 use Rattle.replica_state.specs.States.{State}
 use Rattle.node_core.specs.declared.config.Config.{Config}
 use Rattle.node_calls.specs.declared.fault.NodeFault.{NodeFault}

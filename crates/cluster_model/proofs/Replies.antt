@@ -8,9 +8,9 @@ use Rattle.actions.specs.Choice.{choice, triggers_by, word_at}
 use Rattle.actions.proofs.ChoiceLemmas.{first_from_choice}
 use Rattle.stamp_register.specs.declared.key.Stamp.{Stamp}
 use Rattle.stamp_register.specs.Keys.{KeyValue, stamp_of, terms_set}
-use Rattle.replica_state.specs.Operations.{IsIn}
+use Rattle.operations.specs.Operations.{IsIn}
 use Rattle.replica_state.specs.States.{State}
-use Rattle.replica_state.proofs.Sets.{IsIn-append_left, IsIn-append_right, IsIn-append_cases}
+use Rattle.operations.proofs.Members.{IsIn-append_left, IsIn-append_right, IsIn-append_cases}
 use Rattle.node_calls.specs.Asks.{Asked, Answered, Message, Call, Versions, Passed, Unset, NoTerm, Act}
 use Rattle.node_calls.specs.Asks as asks
 use Rattle.node_core.specs.Nodes.{Node, state_shown, setting_of}

@@ -8,11 +8,12 @@ use Rattle.counters.specs.Sums.{node_numbers, sum_others}
 use Rattle.counters.specs.Budgets.{Budget, granted_by, given_to, gone_from}
 use Rattle.counters.proofs.SumLemmas.{sum_others-le, sum_others-add, sum_others-same, sum_others-at_most, sum_others-zero}
 use Rattle.stamp_register.specs.Keys.{KeyValue, stamp_of, same_key}
-use Rattle.replica_state.specs.Operations.{Execs, Shifts, Operation, Count, IsIn, count_of}
+use Rattle.operations.specs.Operations.{Execs, Shifts, Operation, Count, IsIn, count_of}
 use Rattle.replica_state.specs.States.{State, budget}
 use Rattle.replica_state.specs.Folds.{fold, key_in, key_of, number_at, at_key}
 use Rattle.replica_state.proofs.Orders.{bytes_eq-true, same_key-refl, same_key-true}
-use Rattle.replica_state.proofs.Sets.{IsIn-append_cases, number_at-mono, KeyUpto, KeyUpto-antisym, KeyUpto-same, key_of-is_in, key_of-least, key_of-mono}
+use Rattle.replica_state.proofs.Sets.{number_at-mono, KeyUpto, KeyUpto-antisym, KeyUpto-same, key_of-is_in, key_of-least, key_of-mono}
+use Rattle.operations.proofs.Members.{IsIn-append_cases}
 use Rattle.node_calls.specs.Asks.{Asked, Passed}
 use Rattle.node_calls.specs.Asks as asks
 use Rattle.node_core.specs.Nodes.{Node, state_shown}

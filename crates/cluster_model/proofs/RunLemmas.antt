@@ -5,7 +5,7 @@ use Rattle.std.proofs.lemmas.List.{length-set}
 use Rattle.std.proofs.lemmas.List.Sums.{sum_by_push}
 use Rattle.std.specs.Prelude.{count_by, slice_get, option_map}
 use Rattle.counters.proofs.SumLemmas.{sum-same, sum-add, sum-at}
-use Rattle.replica_state.specs.Operations.{IsIn}
+use Rattle.operations.specs.Operations.{IsIn}
 use Rattle.replica_state.specs.Folds.{fold}
 use Rattle.replica_state.proofs.KnownSets.{same_fold}
 use Rattle.stamp_register.specs.declared.key.Stamp.{Stamp}

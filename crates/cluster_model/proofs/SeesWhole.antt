@@ -1,7 +1,7 @@
 -- Of what another node wrote, a node holds at each of its versions what that other held at one of its own.
 use Rattle.std.proofs.Common.{◌≡◌, ℕ, ◌<◌, ◌≤◌, List, [], ◌∷◌, ◌++◌, ◌⊎◌, inl, inr, refl, sym, ◌∙◌, subst, arith, ⊎_elim, Option, Some, None}
 use Rattle.std.proofs.lemmas.Bool.{cases_lt, cases_eq}
-use Rattle.replica_state.specs.Operations.{Operation, Set, Count, writer_of, IsIn}
+use Rattle.operations.specs.Operations.{Operation, Set, Count, writer_of, IsIn}
 use Rattle.replica_state.specs.States.{State}
 use Rattle.replica_state.specs.Folds.{fold}
 use Rattle.replica_state.specs.StateOrder.{IsBelow}

@@ -4,10 +4,10 @@ use Rattle.std.proofs.lemmas.Bool.{eqb-true, ltb-true, and_parts}
 use Rattle.std.specs.Prelude.{is_none}
 use Rattle.actions.specs.Value.{TermValue}
 use Rattle.stamp_register.specs.Keys.{KeyValue}
-use Rattle.replica_state.specs.Operations.{Operation, writer_of, IsIn, count_at}
+use Rattle.operations.specs.Operations.{Operation, writer_of, IsIn, count_at}
 use Rattle.replica_state.specs.States.{State}
 use Rattle.replica_state.specs.Folds.{fold}
-use Rattle.replica_state.proofs.Sets.{IsIn-append_left, IsIn-append_right, IsIn-append_cases}
+use Rattle.operations.proofs.Members.{IsIn-append_left, IsIn-append_right, IsIn-append_cases}
 use Rattle.replica_state.proofs.KnownSets.{same_members}
 use Rattle.message_format.specs.declared.fault.WireFault.{WireFault}
 use Rattle.node_calls.specs.declared.fault.NodeFault.{NodeFault}

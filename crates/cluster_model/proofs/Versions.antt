@@ -1,8 +1,8 @@
 -- No node knows of a version that another hasn't reached, and no message tells of one.
 use Rattle.std.proofs.Common.{◌≡◌, ℕ, ◌≤◌, ◌==◌, Bool, true, false, cond, List, [], ◌∷◌, inl, inr, refl, sym, subst, arith, ⊎_elim, Option, Some, None}
 use Rattle.std.proofs.lemmas.Bool.{eqb-true, and_parts}
-use Rattle.replica_state.specs.Operations.{IsIn}
-use Rattle.replica_state.proofs.Sets.{IsIn-append_cases}
+use Rattle.operations.specs.Operations.{IsIn}
+use Rattle.operations.proofs.Members.{IsIn-append_cases}
 use Rattle.node_calls.specs.Asks.{Asked, Message}
 use Rattle.node_calls.specs.Asks as asks
 use Rattle.node_core.specs.Nodes.{Node}

@@ -2,12 +2,13 @@
 use Rattle.std.proofs.Common.{◌≡◌, ℕ, ◌≤◌, if◌then◌else◌, Bool, true, false, cond, List, ◌++◌, ◌⊎◌, inl, inr, refl, sym, ◌∙◌, ap, subst, arith, ⊎_elim, Some}
 use Rattle.std.proofs.lemmas.Bool.{cases_eq}
 use Rattle.stamp_register.specs.Keys.{KeyValue}
-use Rattle.replica_state.specs.Operations.{Cell, Hits, Execs, Shifts, Operation, Set, Count, writer_of_cell, writer_of, IsIn}
+use Rattle.operations.specs.Operations.{Cell, Hits, Execs, Shifts, Operation, Set, Count, writer_of_cell, writer_of, IsIn}
 use Rattle.replica_state.specs.States.{State}
 use Rattle.replica_state.specs.Folds.{fold, key_in, key_of, number_at, at_key}
 use Rattle.replica_state.specs.StateOrder.{IsBelow, below-refl, below-trans}
 use Rattle.replica_state.specs.Deltas.{HasNumber, IsTold, IsDelta}
-use Rattle.replica_state.proofs.Sets.{IsIn-append_left, IsIn-append_right, IsIn-append_cases, number_at-is_in, number_at-mono, KeyUpto, KeyUpto-antisym, key_of-is_in, key_of-mono, key_of-found}
+use Rattle.replica_state.proofs.Sets.{number_at-is_in, number_at-mono, KeyUpto, KeyUpto-antisym, key_of-is_in, key_of-mono, key_of-found}
+use Rattle.operations.proofs.Members.{IsIn-append_left, IsIn-append_right, IsIn-append_cases}
 use Rattle.replica_state.proofs.KnownSets.{keys_only, own_name}
 use Rattle.node_core.proofs.UptoStates.{upto_below}
 use Rattle.cluster_model.specs.Histories.{is_key}

@@ -6,7 +6,7 @@ use Rattle.counters.specs.Sums.{sum_below, int_sum_below}
 use Rattle.counters.specs.Budgets.{rights}
 use Rattle.stamp_register.specs.declared.key.Stamp.{Stamp}
 use Rattle.stamp_register.specs.Keys.{KeyValue, same_key}
-use Rattle.replica_state.specs.Operations.{Operation, Set, IsIn}
+use Rattle.operations.specs.Operations.{Operation, Set, IsIn}
 use Rattle.replica_state.specs.States.{State, budget}
 use Rattle.node_calls.specs.Asks.{Asked, Answered, Passed, Act, Call}
 use Rattle.node_calls.specs.Asks as asks

@@ -5,9 +5,9 @@ use Rattle.actions.specs.Value.{TermValue, TaskValue}
 use Rattle.counters.specs.Sums.{node_numbers, sum_below}
 use Rattle.stamp_register.specs.declared.key.Stamp.{Stamp}
 use Rattle.stamp_register.specs.Keys.{KeyValue, stamp_of, terms_set}
-use Rattle.replica_state.specs.Operations.{Operation, Set, Count, IsIn, count_of}
+use Rattle.operations.specs.Operations.{Operation, Set, Count, IsIn, count_of, name_in}
 use Rattle.replica_state.specs.States.{State, granted_of}
-use Rattle.replica_state.specs.Folds.{fold, name_in}
+use Rattle.replica_state.specs.Folds.{fold}
 use Rattle.replica_state.specs.Deltas.{IsDelta}
 use Rattle.replica_state.specs.StateOrder.{IsBelow}
 use Rattle.replica_state.specs.Knowledge.{KnowsAll}

@@ -1,7 +1,7 @@
 -- Which lists of events are schedules: what may be sent, and what may be delivered.
 use Rattle.std.specs.Prelude.{◌≡◌, ℕ, ◌≤◌, List, [], ◌∷◌, Option, Some}
 use Rattle.stamp_register.specs.Keys.{KeyValue}
-use Rattle.replica_state.specs.Operations.{Cell, Hits, Operation, Set, Count, IsIn}
+use Rattle.operations.specs.Operations.{Cell, Hits, Operation, Set, Count, IsIn}
 use Rattle.replica_state.specs.Folds.{key_in}
 use Rattle.node_calls.specs.Asks.{Asked, Versions}
 use Rattle.node_calls.specs.Asks as asks

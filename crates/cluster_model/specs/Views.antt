@@ -1,6 +1,6 @@
 -- What a state holds of what one node wrote.
 use Rattle.std.specs.Prelude.{◌≡◌, ℕ, ◌≤◌}
-use Rattle.replica_state.specs.Operations.{Operation, writer_of}
+use Rattle.operations.specs.Operations.{Operation, writer_of}
 use Rattle.replica_state.specs.States.{State}
 use Rattle.replica_state.specs.StateOrder.{IsBelow}
 use Rattle.replica_state.specs.Deltas.{IsTold}

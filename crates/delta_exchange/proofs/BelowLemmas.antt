@@ -8,8 +8,8 @@ use Rattle.std.specs.declared.cmp.Ordering.TheVariants.{Less, Equal}
 use Rattle.std.proofs.Math.Nat.{mul-le-mul_right}
 use Rattle.std.proofs.lemmas.Bool.{cases_lt}
 use Rattle.std.proofs.lemmas.List.{map-append}
-use Rattle.replica_state.specs.Operations.{IsIn}
-use Rattle.replica_state.proofs.Sets.{IsIn-append_left, IsIn-append_right, IsIn-append_cases}
+use Rattle.operations.specs.Operations.{IsIn}
+use Rattle.operations.proofs.Members.{IsIn-append_left, IsIn-append_right, IsIn-append_cases}
 use Rattle.replica_state.proofs.Names.{IsAscending}
 use Rattle.message_format.specs.Spelling.{Ascend}
 use Rattle.delta_exchange.specs.Cells.{each_below}

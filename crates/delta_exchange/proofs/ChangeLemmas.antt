@@ -2,8 +2,8 @@
 use Rattle.std.proofs.Common.{◌≡◌, ◌≢◌, ℕ, ◌≤◌, ◌<◌, ◌==◌, max, Bool, true, false, cond, not, ◌&&◌, ◌||◌, List, Option, refl, sym, ◌∙◌, ap, arith}
 use Rattle.std.proofs.lemmas.Bool.{true≢false, eqb-true}
 use Rattle.std.specs.Str.{bytes_eq}
-use Rattle.replica_state.specs.declared.point.Counted.{Counted}
-use Rattle.replica_state.specs.Points.{is_hits}
+use Rattle.operations.specs.declared.counted.Counted.{Counted}
+use Rattle.operations.specs.Counts.{is_hits}
 use Rattle.replica_state.specs.States.{State}
 use Rattle.replica_state.specs.Cells.{cell_of}
 use Rattle.delta_exchange.specs.Changes.{IsSameKey, IsSameCell, IsChangedAt, ChangesAt}

@@ -6,7 +6,7 @@ use Rattle.std.proofs.lemmas.Bool.{eqb-true}
 use Rattle.actions.specs.Numbers.{number_at}
 use Rattle.actions.specs.Reading.{reading, pieces, terms_at, term_at, argument_at, trimmed_text, chance_at, count_at, task_at}
 use Rattle.stamp_register.specs.Keys.{KeyValue, terms_in_text}
-use Rattle.replica_state.specs.Operations.{Operation, Set, Count, Hits, Execs, IsIn, same_cell}
+use Rattle.operations.specs.Operations.{Operation, Set, Count, Hits, Execs, IsIn, same_cell}
 use Rattle.replica_state.specs.States.{State}
 use Rattle.replica_state.specs.Folds.{fold}
 use Rattle.delta_exchange.specs.Cells.{each_below, hit_cells, exec_cells, shift_cells, grant_cells, entry_of, entries_of}

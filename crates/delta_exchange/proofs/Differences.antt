@@ -5,10 +5,10 @@ use Rattle.std.specs.List.{flat_map}
 use Rattle.std.proofs.lemmas.Bool.{true≢false, and_parts, and_from, or_left, or_right, eqb-true, eq-eqb, cases_eq}
 use Rattle.std.proofs.lemmas.List.Concat.{flat_map-cons}
 use Rattle.stamp_register.specs.Keys.{KeyValue}
-use Rattle.replica_state.specs.Operations.{Operation, Set, Count, Hits, Execs, Shifts, IsIn}
+use Rattle.operations.specs.Operations.{Operation, Set, Count, Hits, Execs, Shifts, IsIn, name_in}
 use Rattle.replica_state.specs.States.{State, granted_in}
 use Rattle.replica_state.specs.StateOrder.{IsKeyBelow, IsBelow, key_below-irrefl}
-use Rattle.replica_state.specs.Folds.{fold, name_in, names_of}
+use Rattle.replica_state.specs.Folds.{fold, names_of}
 use Rattle.replica_state.specs.Deltas.{IsTold, IsInDelta, IsDelta, TellSameOf}
 use Rattle.replica_state.proofs.Names.{IsAscending, names_of-ascending, holds-names_of, key_named}
 use Rattle.replica_state.proofs.Orders.{same_key-true, same_key-refl}
@@ -18,7 +18,7 @@ use Rattle.delta_exchange.specs.Cells.{hit_cells, exec_cells, shift_cells, grant
 use Rattle.delta_exchange.specs.Since.{tells_cells}
 use Rattle.delta_exchange.specs.Differences.{holds_key, tells_key, tells_hits, tells_execs, tells_shifts, tells_grants, untold_cells, untold_entry, untold_entries, difference_of}
 use Rattle.message_format.proofs.Members.{flat_in, in_flat, mapped_from, mapped_in, one_of}
-use Rattle.message_format.proofs.LawfulLemmas.{hit_told, exec_told, shift_told, grant_told}
+use Rattle.message_format.proofs.Told.{hit_told, exec_told, shift_told, grant_told}
 use Rattle.delta_exchange.proofs.BelowLemmas.{ascends}
 use Rattle.delta_exchange.proofs.HeldCells.{hit_member, member_hit, hits_ascend, term_member, member_term, terms_ascend, shift_member, member_shift, shifts_ascend}
 use Rattle.delta_exchange.proofs.HeldEntries.{term_below, entry_member, member_entry, entries_ascend}

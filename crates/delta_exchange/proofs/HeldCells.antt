@@ -3,7 +3,7 @@ use Rattle.std.proofs.Common.{◌≡◌, ◌≢◌, ℕ, zero, suc, ◌*◌, ◌
 use Rattle.std.specs.Prelude.{is_some, IsTrue}
 use Rattle.std.proofs.lemmas.Bool.{eqb-true, eq-eqb}
 use Rattle.stamp_register.specs.Keys.{KeyValue}
-use Rattle.replica_state.specs.Operations.{IsIn, count_of}
+use Rattle.operations.specs.Operations.{IsIn, count_of}
 use Rattle.replica_state.specs.States.{State}
 use Rattle.replica_state.proofs.Names.{IsAscending}
 use Rattle.message_format.specs.Limits.{max_nodes}

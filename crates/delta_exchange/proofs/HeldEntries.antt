@@ -8,7 +8,7 @@ use Rattle.std.proofs.lemmas.Bool.{cases_lt}
 use Rattle.std.proofs.lemmas.Option.{slice_get_past}
 use Rattle.actions.proofs.Complete.{reading_complete}
 use Rattle.stamp_register.specs.Keys.{KeyValue, terms_read, terms_in_text, terms_set}
-use Rattle.replica_state.specs.Operations.{IsIn, count_in, count_under, count_of}
+use Rattle.operations.specs.Operations.{IsIn, count_in, count_under, count_of}
 use Rattle.replica_state.specs.States.{State}
 use Rattle.replica_state.proofs.Names.{IsAscending}
 use Rattle.message_format.specs.Messages.{EntryValue}

@@ -4,7 +4,7 @@ use Rattle.std.proofs.lemmas.List.Elements.{All-from_recursion}
 use Rattle.std.specs.List.{AllByRecursion}
 use Rattle.std.specs.Str.{bytes_eq}
 use Rattle.stamp_register.specs.Keys.{KeyValue, key_le}
-use Rattle.replica_state.specs.Operations.{Operation, Set, IsWellFormed}
+use Rattle.operations.specs.Operations.{Operation, Set, IsWellFormed}
 use Rattle.replica_state.specs.States.{State}
 use Rattle.replica_state.specs.Folds.{fold, greater, key_in, key_of, Learns}
 use Rattle.replica_state.proofs.KnownSets.{own_name}

@@ -1,3 +1,6 @@
+pub mod LawfulLemmas
+pub mod LawfulStates
+pub mod StateAgain
 pub mod ToldSteps
 pub mod BelowLemmas
 pub mod HeldCells

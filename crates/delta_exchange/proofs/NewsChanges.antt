@@ -4,20 +4,21 @@ use Rattle.std.proofs.lemmas.Bool.{true≢false, and_parts, and_from, not-false}
 use Rattle.std.specs.List.{list_any, filter, AllByRecursion}
 use Rattle.std.specs.Str.{bytes_eq}
 use Rattle.stamp_register.specs.Keys.{KeyValue}
-use Rattle.replica_state.specs.declared.point.Counted.{Counted}
-use Rattle.replica_state.specs.declared.point.Counted.TheVariants as counted
-use Rattle.replica_state.specs.Points.{is_hits, same_counted}
-use Rattle.replica_state.specs.Operations.{Operation, Cell, Set, Count, Hits, Execs, Shifts, IsIn, IsWellFormed}
+use Rattle.operations.specs.declared.counted.Counted.{Counted}
+use Rattle.operations.specs.declared.counted.Counted.TheVariants as counted
+use Rattle.operations.specs.Counts.{same_counted, is_hits, key_told, count_told}
+use Rattle.operations.specs.Operations.{Operation, Cell, Set, Count, Hits, Execs, Shifts, IsIn, IsWellFormed, name_in}
 use Rattle.replica_state.specs.States.{State}
-use Rattle.replica_state.specs.Folds.{fold, name_in, key_in, key_in_cell, at_key, key_of, number_at}
-use Rattle.replica_state.specs.Cells.{cell_of, key_told, count_told}
+use Rattle.replica_state.specs.Folds.{fold, key_in, key_in_cell, at_key, key_of, number_at}
+use Rattle.replica_state.specs.Cells.{cell_of}
 use Rattle.replica_state.specs.Knowledge.{is_upto, knows, knows_count, changes}
 use Rattle.replica_state.proofs.Orders.{bytes_eq-true, bytes_eq-refl}
-use Rattle.replica_state.proofs.Sets.{IsIn-append_left, IsIn-append_right, IsIn-append_cases, number_at-is_in, number_at-least, KeyUpto, KeyUpto-antisym, key_of-is_in, key_of-least, key_of-mono}
+use Rattle.replica_state.proofs.Sets.{number_at-is_in, number_at-least, KeyUpto, KeyUpto-antisym, key_of-is_in, key_of-least, key_of-mono}
+use Rattle.operations.proofs.Members.{IsIn-append_left, IsIn-append_right, IsIn-append_cases}
 use Rattle.replica_state.proofs.KnownSets.{own_name, same_members}
 use Rattle.replica_state.proofs.Changes.{any_false, false_any, upto_true, true_upto, known_key, at_one, le_both, is_known, no_change}
 use Rattle.replica_state.proofs.Unions.{fold-union}
-use Rattle.replica_state.proofs.Counts.{same_counted-refl, same_counted-true}
+use Rattle.operations.proofs.Counts.{same_counted-refl, same_counted-true}
 use Rattle.delta_exchange.specs.Changes.{IsSameKey, IsSameCell, ChangesAt}
 use Rattle.delta_exchange.specs.Marks.{MarksValue, AreUpto, is_of, with_mark, last_changes}
 use Rattle.delta_exchange.specs.News.{brings_key, unknown_in, news_in, counted_of, with_news}

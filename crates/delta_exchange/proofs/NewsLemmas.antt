@@ -6,13 +6,13 @@ use Rattle.std.proofs.lemmas.List.Elements.{filter-append}
 use Rattle.std.proofs.Math.Seq.{take-suc}
 use Rattle.std.specs.Prelude.{filter, unwrap_or}
 use Rattle.std.specs.List.{AllByRecursion}
-use Rattle.replica_state.specs.Operations as cells
-use Rattle.replica_state.specs.Operations.{Operation, Set, Count}
+use Rattle.operations.specs.Operations as cells
+use Rattle.operations.specs.Operations.{Operation, Set, Count, name_in}
 use Rattle.replica_state.specs.States.{State}
 use Rattle.message_format.specs.declared.message.NameEntry.{NameEntry}
 use Rattle.message_format.specs.Messages.{EntryValue, entry_value, hits_in, execs_in, shifts_in, operations_of}
-use Rattle.replica_state.specs.Folds.{name_in}
-use Rattle.replica_state.specs.Cells.{held_at, count_told, key_told, operation_told}
+use Rattle.replica_state.specs.Cells.{held_at}
+use Rattle.operations.specs.Counts.{count_told, key_told, operation_told}
 use Rattle.delta_exchange.specs.News.{brings_key, knows_held, news_held, unknown_in, news_in}
 use Rattle.delta_exchange.proofs.ToldSteps.{next_entry}
 use Rattle.std.proofs.lemmas.Bool.{true≢false}

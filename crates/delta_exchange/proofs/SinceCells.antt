@@ -9,12 +9,12 @@ use Rattle.std.specs.declared.cmp.Ordering.TheVariants.{Less, Equal, Greater}
 use Rattle.std.proofs.lemmas.Bool.{eqb-true, eq-eqb}
 use Rattle.std.proofs.lemmas.List.{length-map}
 use Rattle.stamp_register.specs.Keys.{KeyValue}
-use Rattle.replica_state.specs.Operations.{IsIn}
+use Rattle.operations.specs.Operations.{IsIn}
 use Rattle.replica_state.specs.States.{State, granted_in}
 use Rattle.replica_state.specs.Cells.{held_at}
-use Rattle.replica_state.specs.Points.{counted_cmp, is_hits}
-use Rattle.replica_state.specs.declared.point.Counted.{Counted}
-use Rattle.replica_state.specs.declared.point.Counted.TheVariants.{Hits, Execs, Shifts}
+use Rattle.operations.specs.Counts.{counted_cmp, is_hits}
+use Rattle.operations.specs.declared.counted.Counted.{Counted}
+use Rattle.operations.specs.declared.counted.Counted.TheVariants.{Hits, Execs, Shifts}
 use Rattle.replica_state.proofs.Names.{IsAscending}
 use Rattle.message_format.specs.Limits.{max_nodes}
 use Rattle.delta_exchange.specs.declared.marks.NameMarks.{NameMarks}
@@ -26,7 +26,7 @@ use Rattle.message_format.specs.Spelling.{hit_place, exec_place, shift_place}
 use Rattle.delta_exchange.specs.Cells.{cell_of, hit_cells, exec_cells, shift_cells, grant_cells}
 use Rattle.delta_exchange.specs.Since.{hit_of, exec_of, shift_of, grant_of, hits_since, execs_since, shifts_since, grants_since}
 use Rattle.message_format.proofs.Members.{mapped_from, mapped_in}
-use Rattle.message_format.proofs.LawfulStates.{IsLawfulState}
+use Rattle.delta_exchange.proofs.LawfulStates.{IsLawfulState}
 use Rattle.delta_exchange.proofs.HeldCells.{in_cell, cell_in as one_cell_in, cell_ascends, in_if, if_in, if_ascends, unless_ascends, shift_in_cell, cell_in_shift, member_hit, hits_ascend, few_hits, member_term, terms_ascend, few_terms, member_shift, shifts_ascend, few_shifts}
 use Rattle.delta_exchange.proofs.HeldEntries.{term_below}
 use Rattle.delta_exchange.proofs.LaterCells.{later_member, member_later, later_ascends, part_is_short}

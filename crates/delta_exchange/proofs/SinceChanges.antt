@@ -5,13 +5,13 @@ use Rattle.std.specs.BTreeMap.{IsOrdered}
 use Rattle.std.proofs.lemmas.Bool.{true≢false, cases_lt, cases_eq}
 use Rattle.std.proofs.lemmas.Bool.Decides.{nat_tests}
 use Rattle.stamp_register.specs.Keys.{KeyValue}
-use Rattle.replica_state.specs.Operations.{IsIn}
+use Rattle.operations.specs.Operations.{IsIn}
 use Rattle.replica_state.specs.States.{State, granted_in}
 use Rattle.replica_state.specs.Cells.{held_at}
-use Rattle.replica_state.specs.Points.{counted_cmp, is_hits}
+use Rattle.operations.specs.Counts.{counted_cmp, is_hits}
 use Rattle.replica_state.specs.Cells as state
-use Rattle.replica_state.specs.declared.point.Counted.{Counted}
-use Rattle.replica_state.specs.declared.point.Counted.TheVariants.{Hits, Execs, Shifts}
+use Rattle.operations.specs.declared.counted.Counted.{Counted}
+use Rattle.operations.specs.declared.counted.Counted.TheVariants.{Hits, Execs, Shifts}
 use Rattle.message_format.specs.Limits.{max_nodes}
 use Rattle.delta_exchange.specs.declared.marks.NameMarks.{NameMarks}
 use Rattle.delta_exchange.specs.declared.marks.Marks.{Marks}
@@ -22,7 +22,7 @@ use Rattle.message_format.specs.Spelling.{IsHit, IsExec, IsShift, IsGrant, IsEnt
 use Rattle.delta_exchange.specs.Cells.{EntryFits}
 use Rattle.delta_exchange.specs.Since.{hits_since, execs_since, shifts_since, grants_since, entry_since, tells_cells}
 use Rattle.message_format.proofs.Members.{all_of, one_of}
-use Rattle.message_format.proofs.LawfulStates.{IsLawfulState}
+use Rattle.delta_exchange.proofs.LawfulStates.{IsLawfulState}
 use Rattle.delta_exchange.proofs.BelowLemmas.{ascends}
 use Rattle.delta_exchange.proofs.SinceCells.{changes_of, key_change, hit_changed, changed_hit, hits_since_ascend, few_hits_since, exec_changed, changed_exec, execs_since_ascend, few_execs_since, shift_changed, changed_shift, shifts_since_ascend, few_shifts_since, grant_changed, changed_grant, grants_since_ascend, few_grants_since}
 use Rattle.delta_exchange.proofs.TellsCells.{either, hits_tell, execs_tell, shifts_tell, grants_tell, cell_told}

@@ -10,10 +10,10 @@ use Rattle.std.proofs.lemmas.Cmp.{nat_list_cmp_total}
 use Rattle.std.proofs.lemmas.List.{length-map}
 use Rattle.std.proofs.lemmas.Map.Lookups.{exact_bytes}
 use Rattle.stamp_register.specs.Keys.{KeyValue}
-use Rattle.replica_state.specs.Operations.{IsIn}
+use Rattle.operations.specs.Operations.{IsIn}
 use Rattle.replica_state.specs.States.{State}
 use Rattle.replica_state.specs.Cells.{held_at}
-use Rattle.replica_state.specs.Points.{counted_cmp}
+use Rattle.operations.specs.Counts.{counted_cmp}
 use Rattle.replica_state.proofs.Names.{IsAscending}
 use Rattle.delta_exchange.specs.declared.marks.NameMarks.{NameMarks}
 use Rattle.delta_exchange.specs.declared.marks.Marks.{Marks}

@@ -4,10 +4,10 @@ use Rattle.std.specs.Prelude.{◌↔◌, is_some, IsTrue}
 use Rattle.std.specs.List.{flat_map}
 use Rattle.std.proofs.lemmas.Bool.{cases_eq}
 use Rattle.stamp_register.specs.Keys.{KeyValue}
-use Rattle.replica_state.specs.Operations.{Operation, Set, Count, Hits, Execs, Shifts, IsIn}
+use Rattle.operations.specs.Operations.{Operation, Set, Count, Hits, Execs, Shifts, IsIn}
 use Rattle.replica_state.specs.States.{State}
 use Rattle.replica_state.specs.Cells.{held_at}
-use Rattle.replica_state.specs.declared.point.Counted.TheVariants as counted
+use Rattle.operations.specs.declared.counted.Counted.TheVariants as counted
 use Rattle.message_format.specs.Limits.{max_nodes}
 use Rattle.delta_exchange.specs.declared.marks.Marks.{Marks}
 use Rattle.delta_exchange.specs.Marks.{marks_value, AreUpto}
@@ -18,9 +18,9 @@ use Rattle.delta_exchange.specs.Cells.{EntryFits, EntriesFit}
 use Rattle.delta_exchange.specs.Versions.{VersionedValue}
 use Rattle.delta_exchange.specs.Since.{CanBeTold, IsMessageSince, entry_since}
 use Rattle.message_format.proofs.Members.{all_of, flat_in, in_flat, one_of}
-use Rattle.message_format.proofs.LawfulLemmas.{IsTold, told_of}
+use Rattle.message_format.proofs.Told.{IsTold, told_of}
 use Rattle.message_format.proofs.OneMessage.{hit_in, exec_in, shift_in, grant_in}
-use Rattle.message_format.proofs.LawfulStates.{IsLawfulState, lawful_state}
+use Rattle.delta_exchange.proofs.LawfulStates.{IsLawfulState, lawful_state}
 use Rattle.message_format.proofs.Sizes.{IsShort, length_flat, magic_short, entry_short}
 use Rattle.delta_exchange.proofs.BelowLemmas.{ascends}
 use Rattle.delta_exchange.proofs.SinceCells.{changes_of, hit_changed, changed_hit, few_hits_since, exec_changed, changed_exec, few_execs_since, shift_changed, changed_shift, few_shifts_since, grant_changed, changed_grant, few_grants_since}

@@ -3,7 +3,7 @@ use Rattle.std.proofs.Common.{ℕ, ◌||◌, ◌⊎◌, inl, inr, Bool, true, fa
 use Rattle.std.specs.Prelude.{nat_lt, IsTrue}
 use Rattle.std.proofs.lemmas.Bool.{or_left, or_right}
 use Rattle.std.proofs.lemmas.Bool.Decides.{nat_tests}
-use Rattle.replica_state.specs.Operations.{IsIn}
+use Rattle.operations.specs.Operations.{IsIn}
 use Rattle.message_format.specs.Messages.{EntryValue}
 use Rattle.delta_exchange.specs.Since.{tells_cells}
 

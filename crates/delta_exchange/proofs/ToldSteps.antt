@@ -5,10 +5,10 @@ use Rattle.std.proofs.lemmas.List.{map-append, append-nil}
 use Rattle.std.proofs.lemmas.List.Concat.{flat_map-cons}
 use Rattle.std.proofs.lemmas.Grind.{flat_map-append}
 use Rattle.std.proofs.Math.Seq.{take-suc}
-use Rattle.replica_state.specs.Operations.{Operation, Set, IsIn}
+use Rattle.operations.specs.Operations.{Operation, Set, IsIn}
 use Rattle.replica_state.specs.States.{State}
 use Rattle.replica_state.specs.Folds.{fold}
-use Rattle.replica_state.proofs.Sets.{IsIn-append_left, IsIn-append_right, IsIn-append_cases}
+use Rattle.operations.proofs.Members.{IsIn-append_left, IsIn-append_right, IsIn-append_cases}
 use Rattle.replica_state.proofs.KnownSets.{same_members}
 use Rattle.message_format.specs.declared.message.NameEntry.{NameEntry}
 use Rattle.message_format.specs.Messages.{EntryValue, entry_value, hits_in, execs_in, shifts_in, grants_in, operations_of}

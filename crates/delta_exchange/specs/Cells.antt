@@ -3,7 +3,7 @@ use Rattle.std.specs.Prelude.{ℕ, zero, suc, ◌==◌, ◌<◌, ◌^◌, List, 
 use Rattle.std.specs.List.{AllByRecursion}
 use Rattle.actions.specs.Limits.{max_terms}
 use Rattle.stamp_register.specs.Keys.{KeyValue}
-use Rattle.replica_state.specs.Operations.{count_of}
+use Rattle.operations.specs.Operations.{count_of}
 use Rattle.replica_state.specs.States.{State, granted_in}
 use Rattle.message_format.specs.Messages.{EntryValue}
 

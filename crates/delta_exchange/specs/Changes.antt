@@ -1,12 +1,12 @@
 -- When each key and each cell of a state last changed, by versions, and what changed since one.
 use Rattle.std.specs.Prelude.{◌≡◌, ◌≢◌, ℕ, List, ◌≤◌, ◌<◌, ◌↔◌, Some, false}
-use Rattle.replica_state.specs.Operations.{Operation, Set, Count}
-use Rattle.replica_state.specs.Operations as cells
+use Rattle.operations.specs.Operations.{Operation, Set, Count}
+use Rattle.operations.specs.Operations as cells
 use Rattle.replica_state.specs.States.{State}
-use Rattle.replica_state.specs.Points.{is_hits}
+use Rattle.operations.specs.Counts.{is_hits}
 use Rattle.replica_state.specs.Cells.{cell_of}
-use Rattle.replica_state.specs.declared.point.Counted.{Counted}
-use Rattle.replica_state.specs.declared.point.Counted.TheVariants.{Hits, Execs, Shifts}
+use Rattle.operations.specs.declared.counted.Counted.{Counted}
+use Rattle.operations.specs.declared.counted.Counted.TheVariants.{Hits, Execs, Shifts}
 
 -- of each name the version that last changed its key, and of each of its cells. Of a cell that is 0 it
 -- says nothing

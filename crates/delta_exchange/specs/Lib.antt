@@ -1,3 +1,4 @@
+pub mod Wholes
 pub mod Told
 pub mod Cells
 pub mod Changes

@@ -6,8 +6,8 @@ use Rattle.std.specs.Map.{lookup}
 use Rattle.std.specs.BTreeMap.{is_at}
 use Rattle.std.specs.Ordering.{nat_cmp}
 use Rattle.std.specs.Cmp.Lexicographic.{slice_cmp}
-use Rattle.replica_state.specs.declared.point.Counted.{Counted}
-use Rattle.replica_state.specs.Points.{is_hits, same_counted, counted_cmp}
+use Rattle.operations.specs.declared.counted.Counted.{Counted}
+use Rattle.operations.specs.Counts.{same_counted, counted_cmp, is_hits}
 use Rattle.delta_exchange.specs.declared.marks.NameMarks.{NameMarks}
 use Rattle.delta_exchange.specs.declared.marks.Marks.{Marks}
 use Rattle.delta_exchange.specs.Changes.{LastChanges}

@@ -3,16 +3,16 @@ use Rattle.std.specs.Prelude.{◌≡◌, ℕ, Bool, nat_le, not, false, List, []
 use Rattle.std.specs.Ordering.{is_gt}
 use Rattle.std.specs.declared.cmp.Ordering.{Ordering}
 use Rattle.stamp_register.specs.Keys.{key_value}
-use Rattle.replica_state.specs.declared.point.Counted.{Counted}
-use Rattle.replica_state.specs.declared.point.Counted.TheVariants.{Hits, Execs, Shifts}
-use Rattle.replica_state.specs.declared.point.Count.{Count as Counting}
-use Rattle.replica_state.specs.Operations as cells
-use Rattle.replica_state.specs.Operations.{Operation, Set, Count}
+use Rattle.operations.specs.declared.counted.Counted.{Counted}
+use Rattle.operations.specs.declared.counted.Counted.TheVariants.{Hits, Execs, Shifts}
+use Rattle.operations.specs.declared.counted.Count.{Count as Counting}
+use Rattle.operations.specs.Operations as cells
+use Rattle.operations.specs.Operations.{Operation, Set, Count, name_in}
 use Rattle.replica_state.specs.States.{State}
-use Rattle.replica_state.specs.Folds.{fold, name_in, IsUnion}
+use Rattle.replica_state.specs.Folds.{fold, IsUnion}
 use Rattle.replica_state.specs.Knowledge.{is_upto, knows, knows_count}
-use Rattle.replica_state.specs.Points.{Held, is_hits, order_to_held}
-use Rattle.replica_state.specs.Cells.{key_told, count_told, operation_told}
+use Rattle.replica_state.specs.Points.{Held, order_to_held}
+use Rattle.operations.specs.Counts.{is_hits, key_told, count_told, operation_told}
 use Rattle.delta_exchange.specs.declared.news.Told.{Told}
 use Rattle.delta_exchange.specs.declared.marks.Marks.{Marks}
 use Rattle.delta_exchange.specs.Marks.{MarksValue, has_room, with_mark}

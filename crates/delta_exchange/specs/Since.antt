@@ -4,13 +4,14 @@ use Rattle.std.specs.Prelude.{◌≡◌, ◌≢◌, ℕ, ◌<◌, ◌≤◌, ◌
 use Rattle.std.specs.List.{flat_map}
 use Rattle.std.specs.BTreeMap.{IsOrdered}
 use Rattle.stamp_register.specs.Keys.{KeyValue}
-use Rattle.replica_state.specs.Operations.{Operation, IsIn}
+use Rattle.operations.specs.Operations.{Operation, IsIn}
 use Rattle.replica_state.specs.States.{State}
 use Rattle.replica_state.specs.Folds.{fold}
-use Rattle.replica_state.specs.Points.{Held, counted_cmp, is_hits}
+use Rattle.replica_state.specs.Points.{Held}
+use Rattle.operations.specs.Counts.{counted_cmp, is_hits}
 use Rattle.replica_state.specs.Cells.{held_at}
-use Rattle.replica_state.specs.declared.point.Counted.{Counted}
-use Rattle.replica_state.specs.declared.point.Counted.TheVariants.{Hits, Execs, Shifts}
+use Rattle.operations.specs.declared.counted.Counted.{Counted}
+use Rattle.operations.specs.declared.counted.Counted.TheVariants.{Hits, Execs, Shifts}
 use Rattle.delta_exchange.specs.declared.marks.NameMarks.{NameMarks}
 use Rattle.delta_exchange.specs.declared.marks.Marks.{Marks}
 use Rattle.delta_exchange.specs.Marks.{cell_change}
@@ -18,7 +19,7 @@ use Rattle.message_format.specs.Messages.{EntryValue, MessageValue, operations_i
 use Rattle.message_format.specs.Spelling.{IsMessage, message_bytes, max_message}
 use Rattle.delta_exchange.specs.Cells.{cell_of}
 use Rattle.message_format.specs.Limits.{max_nodes, max_names}
-use Rattle.message_format.specs.Wholes.{AreLawful}
+use Rattle.delta_exchange.specs.Wholes.{AreLawful}
 use Rattle.delta_exchange.specs.Changes.{IsChangeSince}
 use Rattle.delta_exchange.specs.Versions.{VersionedValue}
 

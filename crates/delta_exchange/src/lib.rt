@@ -10,6 +10,7 @@
 //! callers of replicas with versions.
 #![tactic(auto)]
 
+pub mod laws;
 mod learning;
 mod marks;
 mod news;

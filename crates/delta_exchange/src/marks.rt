@@ -5,8 +5,8 @@ ghost use Rattle.std.specs.Prelude.{◌≡◌, IsTrue, ℕ, List, [], Option, So
 ghost use Rattle.std.specs.BTreeMap.{IsOrdered};
 ghost use Rattle.std.specs.Ordering.{nat_cmp};
 ghost use Rattle.std.specs.Cmp.Lexicographic.{slice_cmp};
-ghost use Rattle.replica_state.specs.Points.{counted_cmp, is_hits};
-ghost use Rattle.replica_state.specs.declared.point.Counted.{Counted};
+ghost use Rattle.operations.specs.Counts.{counted_cmp, is_hits};
+ghost use Rattle.operations.specs.declared.counted.Counted.{Counted};
 ghost use Rattle.delta_exchange.specs.Marks.{KeepsRoom, cell_change, cell_of, has_cell, has_room, is_of, marks_value, with_mark, with_new_key};
 
 use actions::Name;

@@ -4,9 +4,9 @@
 ghost use Rattle.std.specs.Prelude.{◌≡◌, ◌++◌, ◌∷◌, [], Some, None, true, false, nat_le, map, IfOk, OnOk};
 ghost use Rattle.std.specs.Ordering.{match_ordering};
 ghost use Rattle.stamp_register.specs.Keys.{key_value};
-ghost use Rattle.replica_state.specs.Operations.{operation, IsWellFormed};
+ghost use Rattle.operations.specs.Operations.{operation, IsWellFormed};
 ghost use Rattle.replica_state.specs.Points.{order_to_held};
-ghost use Rattle.replica_state.specs.Cells.{operation_told};
+ghost use Rattle.operations.specs.Counts.{operation_told};
 ghost use Rattle.replica_state.specs.Stored.{reader_held};
 ghost use Rattle.std.specs.List.{AllByRecursion};
 ghost use Rattle.replica_state.specs.Folds.{fold};

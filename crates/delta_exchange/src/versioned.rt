@@ -5,10 +5,10 @@ ghost use Rattle.std.specs.Prelude.{◌≡◌, ◌≢◌, ◌+◌, ◌<◌, ◌^
 ghost use Rattle.stamp_register.specs.Keys.{key_value};
 ghost use Rattle.replica_state.specs.States.{budget_of, with_key, with_pass, with_shifts};
 ghost use Rattle.std.specs.List.{AllByRecursion};
-ghost use Rattle.replica_state.specs.Operations.{Operation, IsWellFormed, ShiftsToAnother, operation};
+ghost use Rattle.operations.specs.Operations.{Operation, IsWellFormed, ShiftsToAnother, operation};
 ghost use Rattle.replica_state.specs.Folds.{fold};
 ghost use Rattle.replica_state.specs.Knowledge.{is_upto, changes};
-ghost use Rattle.replica_state.specs.declared.point.Counted.TheVariants.{Execs};
+ghost use Rattle.operations.specs.declared.counted.Counted.TheVariants.{Execs};
 ghost use Rattle.message_format.specs.Messages.{message_value, operations_in};
 ghost use Rattle.message_format.specs.Spelling.{IsMessage};
 ghost use Rattle.delta_exchange.specs.Marks.{marks_value, AreUpto};

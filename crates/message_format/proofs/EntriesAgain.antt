@@ -4,7 +4,7 @@ use Rattle.std.specs.List.{flat_map, AllByRecursion}
 use Rattle.std.proofs.lemmas.Bool.{eq-eqb, ne_eqb}
 use Rattle.std.proofs.lemmas.List.Concat.{flat_map-cons}
 use Rattle.stamp_register.specs.Keys.{KeyValue}
-use Rattle.replica_state.specs.Operations.{Cell, Hits, Execs, Shifts, Operation, Set, Count}
+use Rattle.operations.specs.Operations.{Cell, Hits, Execs, Shifts, Operation, Set, Count}
 use Rattle.message_format.specs.Messages.{EntryValue, MessageValue, MovesToOthers, TellSame, hits_in, execs_in, shifts_in, grants_in, operations_of}
 use Rattle.message_format.specs.Spelling.{IsShift, IsEntry, IsMessage, message_bytes}
 use Rattle.message_format.specs.Reading.{message_at}

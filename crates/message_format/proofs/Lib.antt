@@ -11,9 +11,7 @@ pub mod Examples
 pub mod EntriesAgain
 pub mod ToldLemmas
 pub mod Members
-pub mod LawfulLemmas
+pub mod Told
 pub mod Entries
-pub mod LawfulStates
-pub mod StateAgain
 pub mod OneMessage
 pub mod Sizes

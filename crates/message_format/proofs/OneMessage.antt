@@ -7,13 +7,13 @@ use Rattle.std.specs.Ordering.{nat_cmp}
 use Rattle.std.specs.Cmp.Lexicographic.{slice_cmp}
 use Rattle.std.specs.declared.cmp.Ordering.TheVariants.{Less}
 use Rattle.stamp_register.specs.Keys.{KeyValue}
-use Rattle.replica_state.specs.Operations.{Hits, Execs, Shifts, Operation, Set, Count, IsIn}
-use Rattle.replica_state.proofs.Sets.{IsIn-append_left, IsIn-append_right}
-use Rattle.replica_state.proofs.Names.{never_less}
+use Rattle.operations.specs.Operations.{Hits, Execs, Shifts, Operation, Set, Count, IsIn}
+use Rattle.operations.proofs.Members.{IsIn-append_left, IsIn-append_right}
+use Rattle.operations.proofs.Order.{never_less}
 use Rattle.message_format.specs.Messages.{EntryValue, MessageValue, operations_of, operations_in}
 use Rattle.message_format.specs.Spelling.{hit_place, exec_place, shift_place, grant_place, Ascend, IsShift, IsEntry, AreEntries, IsMessage}
 use Rattle.message_format.proofs.Members.{flat_in, in_flat, mapped_in, one_of}
-use Rattle.message_format.proofs.LawfulLemmas.{hit_told, exec_told, shift_told, grant_told, IsTold, told_of}
+use Rattle.message_format.proofs.Told.{hit_told, exec_told, shift_told, grant_told, IsTold, told_of}
 
 -- ---- lists in the order of their places
 

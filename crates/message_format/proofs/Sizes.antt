@@ -7,7 +7,7 @@ use Rattle.std.proofs.lemmas.Bool.Decides.{nat_tests}
 use Rattle.std.proofs.lemmas.List.Concat.{flat_map-cons}
 use Rattle.actions.specs.Limits.{max_name}
 use Rattle.actions.specs.Names.{is_name_byte, is_name}
-use Rattle.replica_state.specs.Operations.{IsIn}
+use Rattle.operations.specs.Operations.{IsIn}
 use Rattle.message_format.specs.Limits.{max_nodes}
 use Rattle.message_format.specs.Messages.{EntryValue}
 use Rattle.message_format.specs.Spelling.{IsBody, IsEntry, magic, hit_bytes, exec_bytes, shift_bytes, grants_bytes, body_bytes, entry_bytes}

@@ -2,7 +2,7 @@
 use Rattle.std.proofs.Common.{ℕ, List, [], ◌∷◌, ◌++◌, map, sym, subst, arith}
 use Rattle.std.specs.List.{flat_map, AllByRecursion}
 use Rattle.std.proofs.lemmas.List.Concat.{flat_map-cons}
-use Rattle.replica_state.specs.Operations.{Operation, Count, Hits, Execs, Shifts, IsWellFormed}
+use Rattle.operations.specs.Operations.{Operation, Count, Hits, Execs, Shifts, IsWellFormed}
 use Rattle.message_format.specs.Messages.{EntryValue, operations_of}
 use Rattle.message_format.specs.Spelling.{IsHit, IsExec, IsShift, IsEntry}
 

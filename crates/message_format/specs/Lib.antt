@@ -3,4 +3,3 @@ pub mod Limits
 pub mod Messages
 pub mod Spelling
 pub mod Reading
-pub mod Wholes

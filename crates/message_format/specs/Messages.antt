@@ -2,7 +2,7 @@
 use Rattle.std.specs.Prelude.{◌≡◌, ◌≢◌, ℕ, List, ◌∷◌, ◌++◌, map}
 use Rattle.std.specs.List.{flat_map, AllByRecursion}
 use Rattle.stamp_register.specs.Keys.{KeyValue, key_value}
-use Rattle.replica_state.specs.Operations.{Operation, Set, Count, Hits, Execs, Shifts}
+use Rattle.operations.specs.Operations.{Operation, Set, Count, Hits, Execs, Shifts}
 use Rattle.message_format.specs.declared.message.NameEntry.{NameEntry}
 use Rattle.message_format.specs.declared.message.Message.{Message}
 

@@ -14,7 +14,7 @@ use Rattle.actions.specs.Names.{is_name}
 use Rattle.actions.specs.Reading.{reading}
 use Rattle.actions.specs.declared.fault.ActionFault.{ActionFault}
 use Rattle.stamp_register.specs.Keys.{KeyValue}
-use Rattle.replica_state.specs.Operations.{count_of}
+use Rattle.operations.specs.Operations.{count_of}
 use Rattle.message_format.specs.declared.fault.WireFault.{WireFault}
 use Rattle.message_format.specs.declared.fault.WireFault.TheVariants as faults
 use Rattle.message_format.specs.declared.wire.Form.{Form}

@@ -11,7 +11,7 @@ use Rattle.actions.specs.Grammar.{SpellsActions}
 use Rattle.actions.specs.Canonical.{canonical}
 use Rattle.actions.specs.Names.{is_name}
 use Rattle.stamp_register.specs.Keys.{KeyValue}
-use Rattle.replica_state.specs.Operations.{count_of}
+use Rattle.operations.specs.Operations.{count_of}
 use Rattle.message_format.specs.declared.wire.Form.{Form}
 use Rattle.message_format.specs.declared.wire.Form.TheVariants.{Plain, WithGrants}
 use Rattle.message_format.specs.Messages.{EntryValue, MessageValue}

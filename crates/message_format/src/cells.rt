@@ -2,7 +2,7 @@
 
 ghost use Rattle.std.specs.Prelude.{◌≡◌, is_some};
 ghost use Rattle.stamp_register.specs.Keys.{key_value};
-ghost use Rattle.replica_state.specs.Operations.{count_of};
+ghost use Rattle.operations.specs.Operations.{count_of};
 ghost use Rattle.message_format.specs.Reading.{Gives, value_at, term_at, hit_at, exec_at, shift_at, hits_at, execs_at, shifts_at, grants_at};
 
 use crate::fault::WireFault;

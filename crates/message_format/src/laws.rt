@@ -2,13 +2,10 @@
 
 ghost use Rattle.std.specs.Prelude.{◌≡◌, ◌≤◌, ℕ, List, length, Ok};
 ghost use Rattle.std.specs.List.{AllByRecursion};
-ghost use Rattle.replica_state.specs.Operations.{Operation, IsWellFormed};
-ghost use Rattle.replica_state.specs.Deltas.{IsAllTold};
-ghost use Rattle.replica_state.specs.Folds.{fold};
+ghost use Rattle.operations.specs.Operations.{IsWellFormed};
 ghost use Rattle.message_format.specs.Messages.{MessageValue, MovesToOthers, TellSame, operations_in};
 ghost use Rattle.message_format.specs.Spelling.{IsMessage, SpellsMessage, message_bytes, max_message};
 ghost use Rattle.message_format.specs.Reading.{message_at};
-ghost use Rattle.message_format.specs.Wholes.{AreLawful};
 
 /// Bytes are of at most one message, whatever the number of nodes.
 pub fn bytes_spell_one_message()
@@ -37,11 +34,4 @@ pub fn decoded_again()
 pub fn told_operations_are_well_formed()
     ensures { (nodes : ℕ) (m : MessageValue) → IsMessage nodes m
         → AllByRecursion IsWellFormed (operations_in m) }
-{}
-
-/// A message that tells all of what lawful operations come to tells operations that come to the
-/// same.
-pub fn whole_is_learned()
-    ensures { (nodes : ℕ) (ops : List Operation) (m : MessageValue) → AreLawful nodes ops
-        → IsAllTold (fold ops) (operations_in m) → fold (operations_in m) ≡ fold ops }
 {}

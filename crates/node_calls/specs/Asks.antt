@@ -2,7 +2,7 @@
 use Rattle.std.specs.Prelude.{ℕ, Bool, true, false, List, [], string_bytes, Result, Ok, Err}
 use Rattle.actions.specs.Value.{TaskValue, task_value}
 use Rattle.stamp_register.specs.declared.key.Stamp.{Stamp}
-use Rattle.replica_state.specs.Operations.{Operation}
+use Rattle.operations.specs.Operations.{Operation}
 use Rattle.message_format.specs.declared.fault.WireFault.{WireFault}
 use Rattle.message_format.specs.Messages.{MessageValue, operations_in}
 use Rattle.message_format.specs.Reading.{message_at}

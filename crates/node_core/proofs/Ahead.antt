@@ -9,7 +9,7 @@ use Rattle.std.specs.declared.cmp.Ordering.{Ordering}
 use Rattle.std.specs.declared.cmp.Ordering.TheVariants.{Less, Equal, Greater}
 use Rattle.stamp_register.specs.Keys.{KeyValue, same_key}
 use Rattle.stamp_register.proofs.KeyLemmas.{same_key-true, true-same_key, same_key-cmp}
-use Rattle.replica_state.specs.Operations.{Operation, Set, Count, Hits, Execs, Shifts}
+use Rattle.operations.specs.Operations.{Operation, Set, Count, Hits, Execs, Shifts}
 use Rattle.replica_state.specs.States.{State, granted_in}
 use Rattle.replica_state.specs.Knowledge.{knows_count}
 use Rattle.replica_state.specs.Points.{Held, order_to_held}

@@ -2,14 +2,14 @@
 use Rattle.std.proofs.Common.{◌≡◌, ◌≢◌, ℕ, ◌≤◌, ◌<◌, ◌+◌, Bool, true, false, cond, List, ◌++◌, ◌⊎◌, inl, inr, ◌↔◌, refl, sym, ◌∙◌, ap, subst, arith, ⊎_elim, Option, Some, None}
 use Rattle.std.proofs.lemmas.Bool.{true≢false, cases_eq, cases_lt}
 use Rattle.stamp_register.specs.Keys.{KeyValue}
-use Rattle.replica_state.specs.declared.point.Counted.{Counted}
-use Rattle.replica_state.specs.declared.point.Counted.TheVariants.{Hits, Execs, Shifts}
-use Rattle.replica_state.specs.Operations.{Operation, Set, Count}
-use Rattle.replica_state.specs.Operations as cells
-use Rattle.replica_state.specs.Points.{is_hits}
+use Rattle.operations.specs.declared.counted.Counted.{Counted}
+use Rattle.operations.specs.declared.counted.Counted.TheVariants.{Hits, Execs, Shifts}
+use Rattle.operations.specs.Operations.{Operation, Set, Count, name_in}
+use Rattle.operations.specs.Operations as cells
+use Rattle.operations.specs.Counts.{is_hits}
 use Rattle.replica_state.specs.Cells.{cell_of}
 use Rattle.replica_state.specs.States.{State}
-use Rattle.replica_state.specs.Folds.{fold, key_of, at_key, name_in}
+use Rattle.replica_state.specs.Folds.{fold, key_of, at_key}
 use Rattle.replica_state.specs.Knowledge.{changes}
 use Rattle.replica_state.specs.StateOrder.{IsBelow}
 use Rattle.replica_state.specs.Deltas.{IsTold, TellSameOf, IsInDelta}

@@ -11,7 +11,7 @@ use Rattle.replica_state.specs.Unions.{with_names}
 use Rattle.message_format.specs.declared.message.NameEntry.{NameEntry}
 use Rattle.message_format.specs.Messages.{MessageValue, entry_value, operations_of, operations_in}
 use Rattle.message_format.specs.Spelling.{IsMessage}
-use Rattle.message_format.proofs.LawfulLemmas.{told_lawful}
+use Rattle.delta_exchange.proofs.LawfulLemmas.{told_lawful}
 use Rattle.message_format.specs.declared.fault.WireFault.{WireFault}
 use Rattle.node_core.specs.declared.config.Config.{Config}
 use Rattle.node_calls.specs.declared.fault.NodeFault.{NodeFault}

@@ -6,7 +6,7 @@ use Rattle.std.specs.Bool.{then_some}
 use Rattle.actions.specs.Value.{TermValue}
 use Rattle.counters.specs.Cells.{most}
 use Rattle.stamp_register.specs.Keys.{KeyValue}
-use Rattle.replica_state.specs.Operations.{count_at, count_in}
+use Rattle.operations.specs.Operations.{count_at, count_in}
 use Rattle.replica_state.specs.States.{State, granted_in}
 use Rattle.refusals.specs.Refusals.{first_fault}
 use Rattle.node_core.specs.declared.config.Config.{Config}

@@ -5,7 +5,7 @@ use Rattle.std.specs.Int.{from_bool}
 use Rattle.std.specs.Prelude.{pos, ◌≤ℤ◌}
 use Rattle.actions.specs.Names.{is_name}
 use Rattle.replica_state.specs.States.{State, with_key, with_shifts, rights_of}
-use Rattle.replica_state.specs.Operations.{Operation}
+use Rattle.operations.specs.Operations.{Operation}
 use Rattle.replica_state.specs.Folds.{fold}
 use Rattle.replica_state.specs.Knowledge.{changes}
 use Rattle.message_format.specs.declared.fault.WireFault.{WireFault}

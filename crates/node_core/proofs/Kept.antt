@@ -6,7 +6,7 @@ use Rattle.std.proofs.lemmas.Bool.{true≢false}
 use Rattle.std.specs.Prelude.{pos, ◌≤ℤ◌}
 use Rattle.stamp_register.specs.Keys.{KeyValue}
 use Rattle.replica_state.specs.States.{State, with_key, with_shifts, rights_of}
-use Rattle.replica_state.specs.Operations.{Operation}
+use Rattle.operations.specs.Operations.{Operation}
 use Rattle.replica_state.specs.Folds.{fold}
 use Rattle.message_format.specs.declared.fault.WireFault.{WireFault}
 use Rattle.delta_exchange.specs.Told.{HasLearned}

@@ -9,14 +9,14 @@ use Rattle.std.specs.Int.{from_bool}
 use Rattle.actions.specs.Names.{is_name}
 use Rattle.stamp_register.specs.Keys.{KeyValue}
 use Rattle.replica_state.specs.States.{State, with_name, with_shifts, budget, budget_under, budget_of, rights_of}
-use Rattle.replica_state.specs.Operations.{count_of}
+use Rattle.operations.specs.Operations.{count_of}
 use Rattle.replica_state.specs.Folds.{fold, clock_of}
 use Rattle.replica_state.specs.Knowledge.{changes}
 use Rattle.replica_state.specs.Unions.{with_names}
 use Rattle.message_format.specs.declared.fault.WireFault.{WireFault}
 use Rattle.message_format.specs.Spelling.{IsBody}
-use Rattle.message_format.specs.Wholes.{AreLawful}
-use Rattle.message_format.proofs.LawfulLemmas.{lawful_together}
+use Rattle.delta_exchange.specs.Wholes.{AreLawful}
+use Rattle.delta_exchange.proofs.LawfulLemmas.{lawful_together}
 use Rattle.node_core.specs.declared.config.Config.{Config}
 use Rattle.node_calls.specs.Asks.{Asked, Call, Message, Load, Pass, Deliver, emit_of}
 use Rattle.node_core.specs.Nodes.{Node, state_shown, setting_of}

@@ -11,16 +11,17 @@ use Rattle.std.specs.Str.{bytes_eq}
 use Rattle.actions.specs.Names.{is_name}
 use Rattle.counters.specs.Budgets.{Budget, rights}
 use Rattle.stamp_register.specs.Keys.{KeyValue, key_le}
-use Rattle.replica_state.specs.Operations.{Cell, Operation, Set, Count, Hits, Execs, Shifts, IsIn, count_of}
+use Rattle.operations.specs.Operations.{Cell, Operation, Set, Count, Hits, Execs, Shifts, IsIn, count_of}
 use Rattle.replica_state.specs.States.{State, budget, budget_under, rights_of}
 use Rattle.replica_state.specs.Folds.{fold, key_in, key_of, clock_of}
 use Rattle.replica_state.specs.Knowledge.{is_upto, knows, knows_count, changes}
 use Rattle.replica_state.proofs.Orders.{same_key-refl}
-use Rattle.replica_state.proofs.Sets.{IsIn-append_right, IsIn-append_cases, key_of-found}
+use Rattle.replica_state.proofs.Sets.{key_of-found}
+use Rattle.operations.proofs.Members.{IsIn-append_right, IsIn-append_cases}
 use Rattle.replica_state.proofs.FoldSteps.{is_later, all_later, later_some}
 use Rattle.message_format.specs.Spelling.{IsBody, IsKey}
-use Rattle.message_format.specs.Wholes.{IsLawful, AreLawful}
-use Rattle.message_format.proofs.LawfulLemmas.{keyed_with_more}
+use Rattle.delta_exchange.specs.Wholes.{IsLawful, AreLawful}
+use Rattle.delta_exchange.proofs.LawfulLemmas.{keyed_with_more}
 use Rattle.node_core.specs.Outcomes.{execs_done, ops_done}
 use Rattle.node_core.specs.Passes.{next_hit, next_exec}
 use Rattle.node_core.specs.Steps.{new_key, operations_issued, shift_under}

@@ -13,12 +13,12 @@ use Rattle.actions.proofs.Complete.{reading_complete}
 use Rattle.actions.proofs.EndLemmas.{canonical_ends_bare}
 use Rattle.actions.proofs.SettingComplete.{setting_complete}
 use Rattle.stamp_register.specs.Keys.{KeyValue, terms_read, terms_in_text, terms_set}
-use Rattle.replica_state.specs.Operations.{Operation, IsIn}
+use Rattle.operations.specs.Operations.{Operation, IsIn}
 use Rattle.replica_state.specs.States.{State}
 use Rattle.replica_state.specs.Folds.{fold}
 use Rattle.message_format.specs.Spelling.{IsBody}
-use Rattle.message_format.specs.Wholes.{AreLawful}
-use Rattle.message_format.proofs.LawfulStates.{lawful_state}
+use Rattle.delta_exchange.specs.Wholes.{AreLawful}
+use Rattle.delta_exchange.proofs.LawfulStates.{lawful_state}
 use Rattle.node_calls.specs.Asks.{Load}
 use Rattle.node_core.specs.Nodes.{setting_in}
 use Rattle.node_core.specs.Steps.{points_read, settings, settings_of}

@@ -4,9 +4,9 @@ use Rattle.std.specs.List.{AllByRecursion}
 use Rattle.std.proofs.lemmas.List.{map-append, take_more}
 use Rattle.actions.specs.Value.{TermValue}
 use Rattle.stamp_register.specs.Keys.{KeyValue, key_value}
-use Rattle.replica_state.specs.declared.op.Op.{Op}
-use Rattle.replica_state.specs.declared.op.Op.TheVariants as kinds
-use Rattle.replica_state.specs.Operations.{Operation, Shifts, Set, Count, IsWellFormed, ShiftsToAnother, operation}
+use Rattle.operations.specs.declared.op.Op.{Op}
+use Rattle.operations.specs.declared.op.Op.TheVariants as kinds
+use Rattle.operations.specs.Operations.{Operation, Shifts, Set, Count, IsWellFormed, ShiftsToAnother, operation}
 use Rattle.replica_state.specs.States.{State, with_name}
 use Rattle.replica_state.specs.Folds.{fold, Learns}
 use Rattle.replica_state.specs.Unions.{with_names}

@@ -7,9 +7,9 @@ use Rattle.std.specs.declared.cmp.Ordering.{Ordering}
 use Rattle.std.specs.declared.cmp.Ordering.TheVariants.{Less, Equal, Greater}
 use Rattle.counters.specs.Sums.{node_numbers, sum_below}
 use Rattle.stamp_register.specs.Keys.{KeyValue}
-use Rattle.replica_state.specs.Operations.{Operation, Cell, Set, Count, Hits, Execs, Shifts, count_at}
+use Rattle.operations.specs.Operations.{Operation, Cell, Set, Count, Hits, Execs, Shifts, count_at, name_in}
 use Rattle.replica_state.specs.States.{State, granted_in, granted_of}
-use Rattle.replica_state.specs.Folds.{fold, name_in, key_of, number_at, at_key}
+use Rattle.replica_state.specs.Folds.{fold, key_of, number_at, at_key}
 use Rattle.replica_state.specs.Cells.{held_at}
 use Rattle.replica_state.specs.Unions.{key_order, number_both, with_names, union_of}
 use Rattle.replica_state.proofs.Sets.{number_at-least}
@@ -17,7 +17,7 @@ use Rattle.replica_state.proofs.SetJoins.{fold-unites}
 use Rattle.replica_state.proofs.StateOrders.{stands_above, stands_equal, stands_below}
 use Rattle.message_format.specs.declared.message.NameEntry.{NameEntry}
 use Rattle.message_format.specs.Messages.{EntryValue, entry_value, operations_of, hits_in, execs_in, shifts_in, grants_in}
-use Rattle.message_format.specs.Wholes.{IsLawful, AreLawful}
+use Rattle.delta_exchange.specs.Wholes.{IsLawful, AreLawful}
 use Rattle.node_core.specs.Nodes.{setting_of, setting_in, terms_in}
 use Rattle.node_core.specs.Refusals.{any_below, exceeds_count, is_overspent, overspends}
 use Rattle.node_core.specs.Deliveries.{terms_both, execs_both, granted_both, is_overspent_below}

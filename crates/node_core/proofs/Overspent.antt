@@ -4,7 +4,7 @@ use Rattle.std.specs.List.{flat_map}
 use Rattle.std.specs.Prelude.{slice_index_or}
 use Rattle.std.proofs.lemmas.List.{take_more, map-append}
 use Rattle.std.proofs.lemmas.List.Concat.{flat_map-append}
-use Rattle.replica_state.specs.Operations.{Operation, Count, Hits, Execs, Shifts}
+use Rattle.operations.specs.Operations.{Operation, Count, Hits, Execs, Shifts}
 use Rattle.replica_state.specs.Folds.{clock_in, clock_of}
 use Rattle.message_format.specs.declared.message.NameEntry.{NameEntry}
 use Rattle.message_format.specs.Messages.{EntryValue, entry_value, operations_of, hits_in, execs_in, shifts_in, grants_in}

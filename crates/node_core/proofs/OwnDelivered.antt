@@ -9,12 +9,13 @@ use Rattle.counters.specs.Sums.{node_numbers, sum_others}
 use Rattle.counters.specs.Budgets.{Budget, rights}
 use Rattle.counters.proofs.SumLemmas.{sum_others-le, sum_others-zero}
 use Rattle.stamp_register.specs.Keys.{KeyValue, key_le, same_key}
-use Rattle.replica_state.specs.Operations.{Operation, writer_of, Count, Hits, Execs, Shifts, IsIn, count_of}
+use Rattle.operations.specs.Operations.{Operation, writer_of, Count, Hits, Execs, Shifts, IsIn, count_of}
 use Rattle.replica_state.specs.States.{State, budget, budget_under, rights_of}
 use Rattle.replica_state.specs.Knowledge.{knows_count, knows}
 use Rattle.replica_state.specs.Folds.{fold, key_of, number_at, at_key}
 use Rattle.replica_state.proofs.Orders.{key_le-antisym, same_key-refl, same_key-true}
-use Rattle.replica_state.proofs.Sets.{IsIn-append_right, IsIn-append_cases, number_at-is_in, number_at-least, number_at-mono, KeyUpto, key_of-mono, no_cell_above}
+use Rattle.replica_state.proofs.Sets.{number_at-is_in, number_at-least, number_at-mono, KeyUpto, key_of-mono, no_cell_above}
+use Rattle.operations.proofs.Members.{IsIn-append_right, IsIn-append_cases}
 use Rattle.replica_state.proofs.KnownSets.{Kind, exec_kind, shift_kind, value_of}
 use Rattle.replica_state.proofs.Changes.{any_false, count_known}
 use Rattle.node_core.specs.Refusals.{is_ahead}

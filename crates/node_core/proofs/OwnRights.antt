@@ -10,7 +10,7 @@ use Rattle.counters.specs.Sums.{node_numbers, sum_others}
 use Rattle.counters.specs.Budgets.{Budget, rights, given_to, gone_from}
 use Rattle.counters.proofs.SumLemmas.{sum_others-zero}
 use Rattle.stamp_register.specs.Keys.{KeyValue}
-use Rattle.replica_state.specs.Operations.{count_of}
+use Rattle.operations.specs.Operations.{count_of}
 use Rattle.replica_state.specs.States.{State, with_key, with_hits, with_execs, budget, budget_under, rights_of}
 use Rattle.replica_state.specs.Folds.{fold}
 use Rattle.node_core.specs.Outcomes.{state_done}

@@ -8,7 +8,7 @@ use Rattle.actions.specs.Value.{TermValue}
 use Rattle.actions.specs.Choice.{choice, first_below, triggers, triggers_by, word_at}
 use Rattle.counters.specs.Budgets.{Budget, rights, given_to, gone_from}
 use Rattle.stamp_register.specs.Keys.{KeyValue, terms_set}
-use Rattle.replica_state.specs.Operations.{count_at, count_in, count_under}
+use Rattle.operations.specs.Operations.{count_at, count_in, count_under}
 use Rattle.replica_state.specs.States.{State, budget, budget_under, budget_of, rights_of}
 use Rattle.node_core.specs.Nodes.{setting_in, setting_of}
 use Rattle.actions.proofs.ChoiceLemmas.{first_from_choice}

@@ -4,7 +4,7 @@ use Rattle.actions.specs.Value.{TermValue}
 use Rattle.actions.specs.Names.{is_name}
 use Rattle.actions.specs.SettingGrammar.{Entry, blank, setting, SetEach, SpellsSetting}
 use Rattle.actions.specs.Canonical.{canonical}
-use Rattle.replica_state.specs.Operations.{IsIn}
+use Rattle.operations.specs.Operations.{IsIn}
 use Rattle.message_format.specs.Spelling.{IsBody}
 use Rattle.message_format.proofs.Members.{mapped_from}
 

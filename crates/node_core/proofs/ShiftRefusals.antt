@@ -6,7 +6,7 @@ use Rattle.std.specs.Prelude.{slice_get, nat_le, not, pos, ◌≤ℤ◌, ℤ}
 use Rattle.actions.specs.Value.{TermValue}
 use Rattle.counters.specs.Budgets.{Budget, has_rights, given_to, gone_from, rights}
 use Rattle.stamp_register.specs.Keys.{KeyValue}
-use Rattle.replica_state.specs.Operations.{count_at, count_in}
+use Rattle.operations.specs.Operations.{count_at, count_in}
 use Rattle.replica_state.specs.States.{State, budget, rights_of}
 use Rattle.std.specs.Option.{option_map_or, SomeIff}
 use Rattle.std.specs.Prelude.{option_map}

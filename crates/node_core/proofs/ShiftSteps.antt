@@ -10,7 +10,7 @@ use Rattle.counters.specs.Sums.{node_numbers, sum_others}
 use Rattle.counters.specs.Budgets.{Budget, rights}
 use Rattle.counters.proofs.SumLemmas.{sum-same, sum_others-le, sum_others-add, sum_others-at_most, sum_others-same}
 use Rattle.stamp_register.specs.Keys.{KeyValue}
-use Rattle.replica_state.specs.Operations.{Operation, Count, Shifts, count_of}
+use Rattle.operations.specs.Operations.{Operation, Count, Shifts, count_of}
 use Rattle.replica_state.specs.States.{State, with_name, with_shifts, budget, budget_under, budget_of, rights_of}
 use Rattle.replica_state.specs.Folds.{fold, clock_of, names_of, key_of, number_at, at_key}
 use Rattle.replica_state.proofs.FoldSteps.{fold_shifts}

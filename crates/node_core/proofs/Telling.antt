@@ -5,8 +5,8 @@ use Rattle.stamp_register.specs.Keys.{KeyValue}
 use Rattle.replica_state.specs.States.{State, with_name, with_key, with_hits, with_execs, with_shifts}
 use Rattle.replica_state.specs.Folds.{fold}
 use Rattle.replica_state.specs.Knowledge.{changes}
-use Rattle.message_format.specs.Wholes.{AreLawful}
-use Rattle.message_format.proofs.LawfulLemmas.{lawful_none}
+use Rattle.delta_exchange.specs.Wholes.{AreLawful}
+use Rattle.delta_exchange.proofs.LawfulLemmas.{lawful_none}
 use Rattle.node_core.specs.declared.config.Config.{Config}
 use Rattle.node_calls.specs.Asks.{Asked, Call}
 use Rattle.node_core.specs.Nodes.{Node, start, state_shown}

@@ -4,7 +4,7 @@ use Rattle.std.specs.Str.{bytes_eq}
 use Rattle.std.specs.Option.{IsSome}
 use Rattle.std.specs.Prelude.{pos, ◌≤ℤ◌}
 use Rattle.stamp_register.specs.Keys.{KeyValue}
-use Rattle.replica_state.specs.Operations.{Operation, Count, Hits, Execs, same_cell}
+use Rattle.operations.specs.Operations.{Operation, Count, Hits, Execs, same_cell}
 use Rattle.replica_state.specs.States.{State, with_name, with_hits, with_execs, with_pass, rights_of}
 use Rattle.replica_state.specs.Folds.{fold, clock_of, names_of, key_of, number_at, at_key}
 use Rattle.replica_state.proofs.FoldSteps.{fold_hits, fold_execs, max_zero, is_later, all_later, later_some, either_way}

@@ -6,7 +6,7 @@ use Rattle.std.specs.Option.{IfSome, IsSome}
 use Rattle.std.specs.Prelude.{pos, ◌≤ℤ◌}
 use Rattle.actions.specs.Names.{is_name}
 use Rattle.replica_state.specs.States.{State, with_key, with_pass, with_shifts, budget_of, rights_of}
-use Rattle.replica_state.specs.Operations.{Operation}
+use Rattle.operations.specs.Operations.{Operation}
 use Rattle.replica_state.specs.Folds.{fold, clock_of}
 use Rattle.replica_state.specs.Knowledge.{is_upto, changes}
 use Rattle.replica_state.proofs.Unions.{fold-union}

@@ -5,8 +5,8 @@ use Rattle.std.specs.Ordering.{match_ordering}
 use Rattle.std.specs.declared.cmp.Ordering.{Ordering}
 use Rattle.counters.specs.Sums.{sum_below}
 use Rattle.actions.specs.Value.{TermValue}
-use Rattle.replica_state.specs.Operations.{count_at}
-use Rattle.replica_state.specs.declared.point.Counted.TheVariants.{Hits, Execs, Shifts}
+use Rattle.operations.specs.Operations.{count_at}
+use Rattle.operations.specs.declared.counted.Counted.TheVariants.{Hits, Execs, Shifts}
 use Rattle.replica_state.specs.States.{State}
 use Rattle.replica_state.specs.Points.{Held}
 use Rattle.replica_state.specs.Cells.{held_at}
@@ -17,7 +17,7 @@ use Rattle.message_format.specs.declared.fault.WireFault.{WireFault}
 use Rattle.message_format.specs.Limits.{max_names}
 use Rattle.message_format.specs.Messages.{MessageValue, message_value, operations_in}
 use Rattle.message_format.specs.Spelling.{IsMessage, SpellsMessage}
-use Rattle.message_format.specs.Wholes.{AreLawful}
+use Rattle.delta_exchange.specs.Wholes.{AreLawful}
 use Rattle.node_core.specs.declared.config.Config.{Config}
 use Rattle.node_core.specs.declared.delivery.Delivery.{Delivery}
 use Rattle.node_core.specs.Replicas.{state_in}

@@ -4,7 +4,7 @@ use Rattle.replica_state.specs.States.{State, rights_of}
 use Rattle.replica_state.specs.Folds.{clock_of}
 use Rattle.node_core.specs.declared.config.Config.{Config}
 use Rattle.message_format.specs.Limits.{max_nodes, max_names}
-use Rattle.message_format.specs.Wholes.{AreLawful}
+use Rattle.delta_exchange.specs.Wholes.{AreLawful}
 use Rattle.node_core.specs.Nodes.{Node, state_shown}
 use Rattle.node_core.specs.Traces.{Kept, node_of}
 

@@ -5,7 +5,7 @@ use Rattle.actions.specs.Value.{TaskValue, TermValue, off}
 use Rattle.actions.specs.Names.{is_name}
 use Rattle.stamp_register.specs.Keys.{KeyValue}
 use Rattle.stamp_register.specs.declared.key.Stamp.{Stamp}
-use Rattle.replica_state.specs.Operations.{Operation, IsIn, count_at}
+use Rattle.operations.specs.Operations.{Operation, IsIn, count_at}
 use Rattle.replica_state.specs.Folds.{fold}
 use Rattle.replica_state.specs.States.{State, with_name, with_key, with_pass}
 use Rattle.message_format.specs.Spelling.{IsBody}

@@ -4,7 +4,7 @@ use Rattle.actions.specs.Value.{TaskValue, TermValue, off}
 use Rattle.actions.specs.Choice.{choice, words_needed}
 use Rattle.counters.specs.Budgets.{has_rights}
 use Rattle.stamp_register.specs.Keys.{KeyValue, stamp_of}
-use Rattle.replica_state.specs.Operations.{Operation, Count, Hits, Execs, count_at}
+use Rattle.operations.specs.Operations.{Operation, Count, Hits, Execs, count_at}
 use Rattle.replica_state.specs.States.{State, budget}
 use Rattle.node_core.specs.Nodes.{setting_of, terms_in}
 use Rattle.node_calls.specs.Asks.{Passed, Unset, NoTerm, Act}

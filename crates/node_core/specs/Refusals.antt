@@ -15,9 +15,9 @@ use Rattle.counters.specs.Sums.{node_numbers, sum_below}
 use Rattle.counters.specs.Budgets.{given_to, gone_from}
 use Rattle.counters.specs.Cells.{is_too_great}
 use Rattle.stamp_register.specs.Keys.{KeyValue}
-use Rattle.replica_state.specs.Operations.{Operation, writer_of, count_at}
+use Rattle.operations.specs.Operations.{Operation, writer_of, count_at, name_in}
 use Rattle.replica_state.specs.States.{State, with_name, budget, granted_in, granted_of}
-use Rattle.replica_state.specs.Folds.{fold, name_in}
+use Rattle.replica_state.specs.Folds.{fold}
 use Rattle.replica_state.specs.Knowledge.{knows}
 use Rattle.replica_state.specs.Unions.{with_names}
 use Rattle.node_core.specs.declared.config.Config.{Config}

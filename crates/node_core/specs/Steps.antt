@@ -7,7 +7,7 @@ use Rattle.actions.specs.SettingReading.{setting_reading}
 use Rattle.actions.specs.declared.fault.ActionFault.{ActionFault}
 use Rattle.actions.specs.declared.fault.SettingFault.{SettingFault}
 use Rattle.stamp_register.specs.Keys.{KeyValue}
-use Rattle.replica_state.specs.Operations.{Operation, Set, Count, Shifts}
+use Rattle.operations.specs.Operations.{Operation, Set, Count, Shifts}
 use Rattle.replica_state.specs.States.{State, granted_in}
 use Rattle.replica_state.specs.Folds.{fold, clock_of}
 use Rattle.replica_state.specs.Knowledge.{changes}

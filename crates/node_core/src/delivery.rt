@@ -9,7 +9,7 @@ ghost use Rattle.replica_state.specs.Points.{order_to_held};
 ghost use Rattle.replica_state.specs.Slots.{slot_held};
 ghost use Rattle.replica_state.specs.Stored.{reader_held};
 ghost use Rattle.node_core.specs.Replicas.{state_in};
-ghost use Rattle.replica_state.specs.Operations.{count_at};
+ghost use Rattle.operations.specs.Operations.{count_at};
 ghost use Rattle.replica_state.specs.Unions.{key_order, number_both};
 ghost use Rattle.message_format.specs.Messages.{entry_value, message_value, operations_of, operations_in};
 ghost use Rattle.message_format.specs.Reading.{header_of};

@@ -4,7 +4,7 @@ ghost use Rattle.std.specs.Prelude.{◌≡◌, [], length, ◌≤◌, ◌⊎◌,
 ghost use Rattle.actions.specs.Names.{is_name};
 ghost use Rattle.node_core.specs.Replicas.{state_in};
 ghost use Rattle.replica_state.specs.States.{rights_of, spent_of, total_hits};
-ghost use Rattle.message_format.specs.Wholes.{AreLawful};
+ghost use Rattle.delta_exchange.specs.Wholes.{AreLawful};
 ghost use Rattle.node_calls.specs.Asks.{call};
 ghost use Rattle.node_core.specs.Passes.{words_for};
 ghost use Rattle.node_core.specs.Refusals.{is_bad_config};

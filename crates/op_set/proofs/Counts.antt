@@ -3,11 +3,12 @@ use Rattle.std.proofs.Common.{◌≡◌, ℕ, ◌<◌, max, Bool, true, false, c
 use Rattle.std.proofs.lemmas.List.Quantifiers.{position-Some}
 use Rattle.std.proofs.lemmas.List.{get_or_read}
 use Rattle.std.specs.List.{position, filter}
-use Rattle.replica_state.specs.declared.point.Counted.{Counted}
-use Rattle.replica_state.specs.declared.point.Counted.TheVariants.{Hits, Execs, Shifts}
-use Rattle.replica_state.specs.declared.point.Count.{Count}
-use Rattle.replica_state.specs.Points.{same_counted, is_hits, raised_numbers, only_hits}
-use Rattle.replica_state.proofs.Counts.{same_counted-true}
+use Rattle.operations.specs.declared.counted.Counted.{Counted}
+use Rattle.operations.specs.declared.counted.Counted.TheVariants.{Hits, Execs, Shifts}
+use Rattle.operations.specs.declared.counted.Count.{Count}
+use Rattle.replica_state.specs.Points.{raised_numbers, only_hits}
+use Rattle.operations.specs.Counts.{same_counted, is_hits}
+use Rattle.operations.proofs.Counts.{same_counted-true}
 use Rattle.op_set.specs.Counts.{number_of}
 
 -- a count at the end

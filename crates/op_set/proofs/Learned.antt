@@ -3,13 +3,13 @@ use Rattle.std.proofs.Common.{◌≡◌, ℕ, ◌+◌, List, Option, Some, None,
 use Rattle.std.specs.Prelude.{pos}
 use Rattle.std.specs.Option.{option_map_or}
 use Rattle.counters.specs.Budgets.{rights}
-use Rattle.replica_state.specs.Operations.{count_of}
+use Rattle.operations.specs.Operations.{count_of}
 use Rattle.std.specs.declared.cmp.Ordering.TheVariants.{Less, Equal, Greater}
 use Rattle.stamp_register.specs.Keys.{KeyValue, key_value}
 use Rattle.stamp_register.specs.declared.key.Key.{Key}
-use Rattle.replica_state.specs.declared.point.Counted.{Counted}
-use Rattle.replica_state.specs.declared.point.Counted.TheVariants.{Hits}
-use Rattle.replica_state.specs.declared.point.Count.{Count}
+use Rattle.operations.specs.declared.counted.Counted.{Counted}
+use Rattle.operations.specs.declared.counted.Counted.TheVariants.{Hits}
+use Rattle.operations.specs.declared.counted.Count.{Count}
 use Rattle.op_set.specs.declared.point.Point.{Point}
 use Rattle.replica_state.specs.Points.{order_to_held, raised_numbers, only_hits, held_after_learning, held_after_key, spending, held_after_pass, budget_in, budget_under}
 use Rattle.replica_state.proofs.Learned.{held_none, held_less, held_equal, held_greater}

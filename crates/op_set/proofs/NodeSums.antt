@@ -5,11 +5,11 @@ use Rattle.std.proofs.Math.Seq.{take-suc}
 use Rattle.std.proofs.lemmas.Bool.{cases_eq}
 use Rattle.counters.specs.Sums.{node_numbers, sum_below, sum_others}
 use Rattle.counters.proofs.SumLemmas.{sum-narrow}
-use Rattle.replica_state.specs.declared.point.Counted.{Counted}
-use Rattle.replica_state.specs.declared.point.Count.{Count}
-use Rattle.replica_state.specs.Points.{same_counted}
+use Rattle.operations.specs.declared.counted.Counted.{Counted}
+use Rattle.operations.specs.declared.counted.Count.{Count}
+use Rattle.operations.specs.Counts.{same_counted}
 use Rattle.op_set.specs.Counts.{node_bound, number_of}
-use Rattle.replica_state.proofs.Counts.{same_counted-true}
+use Rattle.operations.proofs.Counts.{same_counted-true}
 
 -- what isn't 0 is below a number that is above all nodes
 pub bound_of : (n : ℕ) (cs : List Count) → AllByRecursion (λ x. node_bound x.counted ≤ n) cs → (c : Counted) → number_of cs c ≢ 0 → node_bound c ≤ n

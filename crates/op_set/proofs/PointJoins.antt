@@ -6,16 +6,17 @@ use Rattle.std.specs.declared.cmp.Ordering.{Ordering}
 use Rattle.std.specs.declared.cmp.Ordering.TheVariants.{Less, Equal, Greater}
 use Rattle.stamp_register.specs.Keys.{KeyValue, key_value}
 use Rattle.stamp_register.specs.declared.key.Key.{Key}
-use Rattle.replica_state.specs.declared.point.Counted.{Counted}
-use Rattle.replica_state.specs.declared.point.Counted.TheVariants.{Hits, Execs, Shifts}
-use Rattle.replica_state.specs.declared.point.Count.{Count}
+use Rattle.operations.specs.declared.counted.Counted.{Counted}
+use Rattle.operations.specs.declared.counted.Counted.TheVariants.{Hits, Execs, Shifts}
+use Rattle.operations.specs.declared.counted.Count.{Count}
 use Rattle.op_set.specs.declared.point.Point.{Point}
 use Rattle.replica_state.specs.Folds.{greater}
-use Rattle.replica_state.specs.Points.{Held, is_hits, same_counted, only_hits}
+use Rattle.replica_state.specs.Points.{Held, only_hits}
+use Rattle.operations.specs.Counts.{same_counted, is_hits}
 use Rattle.op_set.specs.Counts.{held_of, number_of}
 use Rattle.replica_state.specs.StateOrder.{IsKeyBelow, key_below-irrefl, key_below-trans}
 use Rattle.replica_state.specs.Unions.{key_order, number_both, numbers_both, both_held, if_counts, IsHeldBelow}
-use Rattle.replica_state.proofs.Counts.{same_counted-true, same_counted-refl}
+use Rattle.operations.proofs.Counts.{same_counted-true, same_counted-refl}
 use Rattle.replica_state.proofs.StateOrders.{stands_above, stands_equal, stands_below}
 
 -- ---- counts that are learned one after the other

@@ -11,8 +11,8 @@ use Rattle.std.specs.Str.{bytes_eq}
 use Rattle.std.specs.Cmp.Lexicographic.{slice_cmp}
 use Rattle.lattice_laws.proofs.Turns.{none_after}
 use Rattle.stamp_register.specs.Keys.{KeyValue}
-use Rattle.replica_state.specs.declared.point.Counted.{Counted}
-use Rattle.replica_state.specs.declared.point.Counted.TheVariants as kinds
+use Rattle.operations.specs.declared.counted.Counted.{Counted}
+use Rattle.operations.specs.declared.counted.Counted.TheVariants as kinds
 use Rattle.op_set.specs.declared.point.Point.{Point}
 use Rattle.replica_state.specs.States.{State, with_name}
 use Rattle.replica_state.specs.Folds.{fold, greater}

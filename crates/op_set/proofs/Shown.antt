@@ -8,6 +8,7 @@ use Rattle.std.specs.Ordering.{nat_cmp, match_ordering, is_eq}
 use Rattle.std.specs.declared.cmp.Ordering.{Ordering}
 use Rattle.std.specs.declared.cmp.Ordering.TheVariants.{Less, Equal, Greater}
 use Rattle.std.specs.Cmp.Lexicographic.{slice_cmp}
+use Rattle.std.specs.List.{AllByRecursion}
 use Rattle.std.specs.List.Sorted.{IsStrictlySortedBy}
 use Rattle.std.proofs.lemmas.Map.Text.{is_eq-slice_cmp}
 use Rattle.std.proofs.lemmas.Cmp.{nat_list_cmp_total}
@@ -16,14 +17,15 @@ use Rattle.std.proofs.lemmas.Map.Entries.{none_below_head, lookup_head, lookup_t
 use Rattle.std.proofs.lemmas.Map.Keys.{sorted_tail}
 use Rattle.counters.specs.Sums.{sum_below}
 use Rattle.stamp_register.specs.Keys.{KeyValue, key_value}
-use Rattle.replica_state.specs.declared.point.Counted.{Counted}
-use Rattle.replica_state.specs.declared.point.Counted.TheVariants.{Hits, Execs, Shifts}
+use Rattle.operations.specs.declared.counted.Counted.{Counted}
+use Rattle.operations.specs.declared.counted.Counted.TheVariants.{Hits, Execs, Shifts}
 use Rattle.op_set.specs.declared.point.Point.{Point}
 use Rattle.replica_state.specs.States.{State, with_name, with_key, with_hits, with_execs, with_shifts, with_pass, budget_of}
 use Rattle.replica_state.specs.States as states
 use Rattle.replica_state.specs.Folds.{fold}
 use Rattle.replica_state.specs.Points.{Held, empty_held, budget_under}
 use Rattle.replica_state.proofs.Shown.{with_held-same}
+use Rattle.replica_state.proofs.Listed.{all_stored}
 use Rattle.op_set.specs.Counts.{held_of, number_of}
 use Rattle.op_set.specs.Shown.{shown, point_at, key_at, number_at}
 use Rattle.replica_state.specs.Cells.{cell_of, held_at, with_held}
@@ -161,7 +163,19 @@ numbers_shown points name o e (Execs term node) = ap (λ x. number_at x (Execs t
 numbers_shown points name o e (Shifts term from to) = ap (λ x. number_at x (Shifts term from to)) e
 
 -- what is kept of a name is what is shown of it
+kept_at : (points : List (List ℕ × Point)) (name : List ℕ) (p : Point) → Some p ≡ point_at points name → held_of p ≡ held_at (shown points) name
+unfolding shown held_of
+kept_at points name p e = λ i. record { key = key_at (e i); number = λ c. numbers_shown points name (Some p) e c i }
+
 pub kept_is_shown : (points : List (List ℕ × Point)) (name : List ℕ) (o : Option (Bor Point)) → option_copied o ≡ point_at points name → stored_held held_of o ≡ held_at (shown points) name
-unfolding shown held_of empty_held
+unfolding shown empty_held
 kept_is_shown points name None e = λ i. record { key = key_at (e i); number = λ c. numbers_shown points name None e c i }
-kept_is_shown points name (Some p) e = λ i. record { key = key_at (e i); number = λ c. numbers_shown points name (Some p.now) e c i }
+kept_is_shown points name (Some p) e = kept_at points name p.now e
+
+-- of each point that is kept what it holds is what is shown of its name
+pub points_listed : (points : List (List ℕ × Point)) → IsStrictlySortedBy (slice_cmp nat_cmp) (keys_of points) → AllByRecursion (λ e. held_of e.1 ≡ held_at (shown points) e.0) points
+points_listed points sorted = each points (all_stored points sorted)
+  where
+    each : (xs : List (List ℕ × Point)) → AllByRecursion (λ e. point_at points e.0 ≡ Some e.1) xs → AllByRecursion (λ e. held_of e.1 ≡ held_at (shown points) e.0) xs
+    each [] h = tt
+    each (x ∷ xs) h = (kept_at points x.0 x.1 (sym h.0), each xs h.1)

@@ -1,10 +1,11 @@
 -- What the plain replica holds of one name.
 use Rattle.std.specs.Prelude.{ℕ, ◌+◌, max, List, [], ◌∷◌, if◌then◌else◌, option_map}
 use Rattle.stamp_register.specs.Keys.{key_value}
-use Rattle.replica_state.specs.declared.point.Counted.{Counted}
-use Rattle.replica_state.specs.declared.point.Counted.TheVariants.{Hits, Execs, Shifts}
-use Rattle.replica_state.specs.declared.point.Count.{Count}
-use Rattle.replica_state.specs.Points.{Held, same_counted}
+use Rattle.operations.specs.declared.counted.Counted.{Counted}
+use Rattle.operations.specs.declared.counted.Counted.TheVariants.{Hits, Execs, Shifts}
+use Rattle.operations.specs.declared.counted.Count.{Count}
+use Rattle.replica_state.specs.Points.{Held}
+use Rattle.operations.specs.Counts.{same_counted}
 use Rattle.op_set.specs.declared.point.Point.{Point}
 
 -- a number above those of its nodes

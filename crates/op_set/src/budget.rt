@@ -4,11 +4,11 @@ ghost use Rattle.std.specs.Prelude.{◌≡◌, ◌≢◌, ◌*◌, ◌<◌, ◌�
 ghost use Rattle.stamp_register.specs.Keys.{key_value};
 ghost use Rattle.counters.specs.Sums.{node_numbers, sum_below, sum_others};
 ghost use Rattle.counters.specs.Budgets.{rights};
-ghost use Rattle.replica_state.specs.Operations.{count_of};
+ghost use Rattle.operations.specs.Operations.{count_of};
 ghost use Rattle.op_set.specs.Counts.{number_of, node_bound};
 ghost use Rattle.replica_state.specs.Points.{budget_in};
-ghost use Rattle.replica_state.specs.declared.point.Counted.{Counted};
-ghost use Rattle.replica_state.specs.declared.point.Counted.TheVariants.{Hits, Execs, Shifts};
+ghost use Rattle.operations.specs.declared.counted.Counted.{Counted};
+ghost use Rattle.operations.specs.declared.counted.Counted.TheVariants.{Hits, Execs, Shifts};
 
 use crate::point::{node_bound, number_of};
 use replica_state::{Count, Counted};

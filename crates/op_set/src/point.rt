@@ -6,12 +6,12 @@ ghost use Rattle.std.specs.Option.{option_copied};
 ghost use Rattle.counters.specs.Sums.{node_numbers, sum_below};
 ghost use Rattle.counters.specs.Budgets.{rights};
 ghost use Rattle.stamp_register.specs.Keys.{key_value};
-ghost use Rattle.replica_state.specs.Points.{same_counted, is_hits, term_of, only_hits, empty_held, order_to_held, held_after_learning, held_after_pass, held_after_shift, given_key, Raises, rights_of_key, spent_of_key};
+ghost use Rattle.replica_state.specs.Points.{only_hits, empty_held, order_to_held, held_after_learning, held_after_pass, held_after_shift, Raises, rights_of_key, spent_of_key};
+ghost use Rattle.operations.specs.Counts.{same_counted, is_hits, term_of, given_key, key_told, operation_told};
 ghost use Rattle.op_set.specs.Counts.{node_bound, number_of, held_of};
 ghost use Rattle.replica_state.specs.Unions.{both_held, if_counts, IsHeldBelow};
-ghost use Rattle.replica_state.specs.Cells.{key_told, operation_told};
-ghost use Rattle.replica_state.specs.declared.point.Counted.{Counted};
-ghost use Rattle.replica_state.specs.declared.point.Counted.TheVariants.{Hits, Execs, Shifts};
+ghost use Rattle.operations.specs.declared.counted.Counted.{Counted};
+ghost use Rattle.operations.specs.declared.counted.Counted.TheVariants.{Hits, Execs, Shifts};
 
 use crate::budget::{rights_in, sum_execs, sum_grants, sum_hits};
 use replica_state::{Count, Counted, Stored, count_of};

@@ -17,6 +17,7 @@ use lattice_laws::Join;
 use replica_state::{Count, Counted, Op, PointReader, Replica, key_with};
 use stamp_register::Key;
 use std::alloc::{AllocError, Global};
+use std::collections::btree_map;
 
 /// The plain replica: of each name it keeps the operations that no other has overtaken, and each
 /// reader looks through those.
@@ -240,5 +241,9 @@ impl Replica for OpSet {
 
     fn name_at(&self, index: usize) -> Option<&Name> {
         self.points.name_at(index)
+    }
+
+    fn points(&self) -> btree_map::Iter<'_, Name, Point> {
+        self.points.iter()
     }
 }

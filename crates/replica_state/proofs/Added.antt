@@ -9,14 +9,15 @@ use Rattle.std.specs.Cmp.Lexicographic.{slice_cmp}
 use Rattle.std.specs.declared.cmp.Ordering.{Ordering}
 use Rattle.std.specs.declared.cmp.Ordering.TheVariants.{Less, Equal, Greater}
 use Rattle.stamp_register.specs.Keys.{KeyValue, key_le, same_key, key_rank}
-use Rattle.replica_state.specs.declared.point.Counted.TheVariants as kinds
-use Rattle.replica_state.specs.declared.point.Count.{Count}
-use Rattle.replica_state.specs.declared.point.Counted.{Counted}
-use Rattle.replica_state.specs.Operations.{Hits, Execs, Shifts, Operation, Set, Count as Counting, same_cell, IsWellFormed}
-use Rattle.replica_state.specs.Folds.{fold, names_of, greater, key_in, key_of, number_at, at_key, name_in, holds_name}
+use Rattle.operations.specs.declared.counted.Counted.TheVariants as kinds
+use Rattle.operations.specs.declared.counted.Count.{Count}
+use Rattle.operations.specs.declared.counted.Counted.{Counted}
+use Rattle.operations.specs.Operations.{Hits, Execs, Shifts, Operation, Set, Count as Counting, same_cell, IsWellFormed, name_in}
+use Rattle.replica_state.specs.Folds.{fold, names_of, greater, key_in, key_of, number_at, at_key, holds_name}
 use Rattle.replica_state.specs.States.{State, with_name}
 use Rattle.replica_state.specs.Points.{Held, order_to_held, held_after_learning, held_after_count}
-use Rattle.replica_state.specs.Cells.{held_at, with_held, key_told, count_told, cell_told, operation_told}
+use Rattle.replica_state.specs.Cells.{held_at, with_held}
+use Rattle.operations.specs.Counts.{key_told, count_told, cell_told, operation_told}
 use Rattle.replica_state.proofs.Orders.{key_le-trans, key_le-other, same_key-cmp, same_key-true, same_key-refl, bytes_eq-true}
 use Rattle.replica_state.proofs.FoldSteps.{max_zero}
 use Rattle.replica_state.proofs.Learned.{held_none, held_equal}

@@ -5,13 +5,14 @@ use Rattle.std.specs.List.{list_any}
 use Rattle.std.specs.Str.{bytes_eq}
 use Rattle.std.proofs.lemmas.Slice.Eq.{bytes_eq-Decides}
 use Rattle.stamp_register.specs.Keys.{KeyValue, key_le, same_key}
-use Rattle.replica_state.specs.Operations.{Cell, Hits, Execs, Shifts, Operation, Set, Count, IsIn}
-use Rattle.replica_state.specs.Folds.{fold, key_in, key_of, number_at, at_key, names_of, name_in, holds_name}
+use Rattle.operations.specs.Operations.{Cell, Hits, Execs, Shifts, Operation, Set, Count, IsIn, name_in}
+use Rattle.replica_state.specs.Folds.{fold, key_in, key_of, number_at, at_key, names_of, holds_name}
 use Rattle.replica_state.specs.States.{State}
 use Rattle.replica_state.specs.Knowledge.{is_upto, knows_count, knows, changes}
 use Rattle.replica_state.proofs.Names.{HoldsName, names_same, key_named, hit_named}
 use Rattle.replica_state.proofs.Orders.{key_le-refl, same_key-true, same_key-refl}
-use Rattle.replica_state.proofs.Sets.{IsIn-append_left, IsIn-append_right, IsIn-append_cases, number_at-is_in, number_at-least, KeyUpto, KeyUpto-antisym, key_of-is_in, key_of-least, key_of-mono}
+use Rattle.replica_state.proofs.Sets.{number_at-is_in, number_at-least, KeyUpto, KeyUpto-antisym, key_of-is_in, key_of-least, key_of-mono}
+use Rattle.operations.proofs.Members.{IsIn-append_left, IsIn-append_right, IsIn-append_cases}
 use Rattle.replica_state.proofs.KnownSets.{own_name}
 
 pub upto_true : (a b : Option KeyValue) → is_upto a b ≡ true → KeyUpto a b

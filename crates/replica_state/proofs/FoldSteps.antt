@@ -5,7 +5,7 @@ use Rattle.std.specs.Str.{bytes_eq}
 use Rattle.std.proofs.lemmas.Slice.Eq.{bytes_eq-Decides}
 use Rattle.std.proofs.lemmas.Bool.Decides.{nat_tests}
 use Rattle.stamp_register.specs.Keys.{KeyValue, key_le, same_key, key_rank}
-use Rattle.replica_state.specs.Operations.{Hits, Execs, Shifts, Operation, Set, Count, same_cell}
+use Rattle.operations.specs.Operations.{Hits, Execs, Shifts, Operation, Set, Count, same_cell}
 use Rattle.replica_state.specs.Folds.{fold, names_of, greater, key_of, number_at, at_key, clock_of}
 use Rattle.replica_state.specs.Knowledge.{is_upto}
 use Rattle.replica_state.specs.States.{with_name, with_hits, with_execs, with_shifts, with_key}

@@ -2,7 +2,7 @@
 use Rattle.std.proofs.Common.{◌≡◌, ℕ, ◌≤◌, Bool, true, false, List, ◌⊎◌, inl, inr, ◌↔◌, ⊎_elim, Option, Some, None, refl, sym, ◌∙◌, ap, subst, arith}
 use Rattle.std.proofs.lemmas.Bool.{true≢false, leb-true, le-leb}
 use Rattle.stamp_register.specs.Keys.{KeyValue, key_le, same_key, IsLower}
-use Rattle.replica_state.specs.Operations.{Cell, Hits, Execs, Shifts, Operation, Set, Count, IsWellFormed}
+use Rattle.operations.specs.Operations.{Cell, Hits, Execs, Shifts, Operation, Set, Count, IsWellFormed}
 use Rattle.replica_state.specs.Folds.{fold, key_in, key_of, number_at, at_key}
 use Rattle.replica_state.specs.Knowledge.{HoldsLater, HoldsKey, Knows, knows_count, knows}
 use Rattle.replica_state.proofs.Orders.{same_key-true, same_key-refl}

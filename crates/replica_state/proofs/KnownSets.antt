@@ -3,14 +3,15 @@ use Rattle.std.proofs.Common.{◌≡◌, ◌≢◌, ℕ, ◌≤◌, Bool, true, 
 use Rattle.std.proofs.lemmas.Bool.{true≢false}
 use Rattle.std.specs.Str.{bytes_eq}
 use Rattle.stamp_register.specs.Keys.{KeyValue, key_le}
-use Rattle.replica_state.specs.Operations.{Cell, Hits, Execs, Shifts, Operation, Set, Count, IsIn}
+use Rattle.operations.specs.Operations.{Cell, Hits, Execs, Shifts, Operation, Set, Count, IsIn}
 use Rattle.replica_state.specs.Folds.{fold, key_in_cell, key_in, key_of, number_at, at_key}
 use Rattle.replica_state.specs.States.{State}
 use Rattle.replica_state.specs.StateOrder.{IsKeyBelow, IsBelowAt, IsBelow}
 use Rattle.replica_state.specs.Knowledge.{HoldsLater, HoldsKey, Knows, KnowsAll}
 use Rattle.replica_state.proofs.Names.{names_known}
 use Rattle.replica_state.proofs.Orders.{key_le-refl, key_le-antisym, bytes_eq-refl, bytes_eq-true}
-use Rattle.replica_state.proofs.Sets.{IsIn-append_left, IsIn-append_right, IsIn-append_cases, number_at-is_in, number_at-least, number_at-mono, number_at-append, KeyUpto, KeyUpto-trans, KeyUpto-antisym, KeyUpto-same, key_of-is_in, key_of-least, key_of-mono, no_cell_above}
+use Rattle.replica_state.proofs.Sets.{number_at-is_in, number_at-least, number_at-mono, number_at-append, KeyUpto, KeyUpto-trans, KeyUpto-antisym, KeyUpto-same, key_of-is_in, key_of-least, key_of-mono, no_cell_above}
+use Rattle.operations.proofs.Members.{IsIn-append_left, IsIn-append_right, IsIn-append_cases}
 
 -- the cells of one kind: one for each key, which carries it for the name
 pub record Kind (name : List ℕ) : Type 0 where

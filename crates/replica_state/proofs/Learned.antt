@@ -4,8 +4,8 @@ use Rattle.std.specs.Ordering.{is_le, match_ordering}
 use Rattle.std.specs.declared.cmp.Ordering.{Ordering}
 use Rattle.std.specs.declared.cmp.Ordering.TheVariants.{Less, Equal, Greater}
 use Rattle.stamp_register.specs.Keys.{KeyValue}
-use Rattle.replica_state.specs.declared.point.Counted.{Counted}
-use Rattle.replica_state.specs.declared.point.Count.{Count}
+use Rattle.operations.specs.declared.counted.Counted.{Counted}
+use Rattle.operations.specs.declared.counted.Count.{Count}
 use Rattle.replica_state.specs.Folds.{greater}
 use Rattle.replica_state.specs.Points.{Held, order_to_held, raised_numbers, only_hits, held_after_learning, held_after_count}
 

@@ -1,5 +1,4 @@
 pub mod FoldSteps
-pub mod Counts
 pub mod Orders
 pub mod Added
 pub mod Shown
@@ -21,3 +20,4 @@ pub mod Marks
 pub mod StoredSlots
 pub mod Reaching
 pub mod NamesHeld
+pub mod Listed

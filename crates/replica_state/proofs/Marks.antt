@@ -10,7 +10,7 @@ use Rattle.std.specs.List.{list_all}
 use Rattle.std.specs.Option.{option_map_or}
 use Rattle.counters.specs.Budgets.{Budget, rights}
 use Rattle.stamp_register.specs.Keys.{KeyValue}
-use Rattle.replica_state.specs.Operations.{count_of}
+use Rattle.operations.specs.Operations.{count_of}
 use Rattle.replica_state.specs.States.{State, budget, budget_under, rights_of, MarksRights}
 use Rattle.replica_state.specs.Points as points
 use Rattle.replica_state.specs.Points.{budget_in}

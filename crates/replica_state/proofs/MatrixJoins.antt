@@ -24,9 +24,9 @@ use Rattle.stamp_register.specs.declared.key.Key.{Key}
 use Rattle.stamp_register.specs.Keys.{key_value, key_rank}
 use Rattle.stamp_register.specs.contracts.key.KeyOrd.TheImpl.Laws as key_laws
 use Rattle.stamp_register.proofs.KeyLemmas.{same_rank}
-use Rattle.replica_state.specs.declared.point.Counted.{Counted}
-use Rattle.replica_state.specs.declared.point.Counted.TheVariants.{Hits, Execs, Shifts}
-use Rattle.replica_state.specs.Operations.{Operation, IsIn}
+use Rattle.operations.specs.declared.counted.Counted.{Counted}
+use Rattle.operations.specs.declared.counted.Counted.TheVariants.{Hits, Execs, Shifts}
+use Rattle.operations.specs.Operations.{Operation, IsIn}
 use Rattle.replica_state.specs.Folds.{fold, greater}
 use Rattle.replica_state.specs.Points.{Held}
 use Rattle.replica_state.specs.Unions.{union_of, both_held, with_names, key_order, number_both}

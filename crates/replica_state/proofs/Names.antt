@@ -10,9 +10,10 @@ use Rattle.std.specs.Cmp.Lexicographic.{slice_cmp}
 use Rattle.std.specs.declared.cmp.Ordering.{Ordering}
 use Rattle.std.specs.declared.cmp.Ordering.TheVariants.{Less, Equal, Greater}
 use Rattle.stamp_register.specs.Keys.{KeyValue}
-use Rattle.replica_state.specs.Operations.{Hits, Execs, Shifts, Operation, Set, Count, IsIn, same_cell}
+use Rattle.operations.specs.Operations.{Hits, Execs, Shifts, Operation, Set, Count, IsIn, same_cell, name_in, name_in_cell}
+use Rattle.operations.proofs.Order.{never_less}
 use Rattle.replica_state.specs.States.{with_name}
-use Rattle.replica_state.specs.Folds.{key_in, key_of, number_at, names_of, name_in, name_in_cell, is_counted_cell, holds_name}
+use Rattle.replica_state.specs.Folds.{key_in, key_of, number_at, names_of, is_counted_cell, holds_name}
 use Rattle.replica_state.specs.Knowledge.{HoldsKey, Knows, KnowsAll}
 use Rattle.replica_state.proofs.Orders.{bytes_eq-true, same_cell-true}
 use Rattle.replica_state.proofs.Sets.{key_of-found}
@@ -22,9 +23,6 @@ tied a b e = bytes_eq-true a b (sym (is_eq-slice_cmp a b) ∙ ap is_eq e)
 
 turned : (a b : List ℕ) → slice_cmp nat_cmp a b ≡ Greater → slice_cmp nat_cmp b a ≡ Less
 turned a b e = nat_list_cmp_total.antisymm b a ∙ ap ordering_reverse e
-
-pub never_less : (a : List ℕ) → slice_cmp nat_cmp a a ≡ Less → ⊥
-never_less a e = let same : slice_cmp nat_cmp a a ≡ Equal = tied_itself nat_list_cmp_total a in cc
 
 never_both : (a b : List ℕ) → slice_cmp nat_cmp a b ≡ Less → slice_cmp nat_cmp b a ≡ Less → ⊥
 never_both a b e f = never_less a (nat_list_cmp_total.trans a b a e f)

@@ -13,9 +13,9 @@ use Rattle.std.specs.Cmp.Lexicographic.{slice_cmp}
 use Rattle.std.specs.declared.cmp.Ordering.TheVariants.{Less}
 use Rattle.std.specs.Coded.{×_prop, Π_prop}
 use Rattle.stamp_register.specs.Keys.{KeyValue}
-use Rattle.replica_state.specs.Operations.{Hits, Execs, Shifts, Operation, Set, Count, IsIn}
+use Rattle.operations.specs.Operations.{Hits, Execs, Shifts, Operation, Set, Count, IsIn, name_in}
 use Rattle.replica_state.specs.States.{State}
-use Rattle.replica_state.specs.Folds.{fold, key_in, key_of, number_at, names_of, name_in, holds_name}
+use Rattle.replica_state.specs.Folds.{fold, key_in, key_of, number_at, names_of, holds_name}
 use Rattle.replica_state.specs.Reached.{IsReached, AreNamesHeld}
 use Rattle.replica_state.proofs.Orders.{bytes_eq-refl}
 use Rattle.replica_state.proofs.Sets.{KeyUpto, key_of-is_in, number_at-is_in}

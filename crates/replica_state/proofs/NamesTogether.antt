@@ -4,7 +4,7 @@ use Rattle.std.proofs.lemmas.Bool.{true≢false}
 use Rattle.std.specs.Map.{keys_of}
 use Rattle.std.specs.Ordering.{nat_cmp}
 use Rattle.std.specs.Cmp.Lexicographic.{slice_cmp}
-use Rattle.replica_state.specs.Operations.{IsIn}
+use Rattle.operations.specs.Operations.{IsIn}
 use Rattle.replica_state.specs.States.{with_name}
 use Rattle.replica_state.specs.Unions.{with_names}
 use Rattle.replica_state.proofs.Names.{IsAscending, with_name-cases, with_name-old, with_name-ascending, same_ascending, never_less}

@@ -8,7 +8,7 @@ use Rattle.std.specs.Cmp.Lexicographic.{slice_cmp}
 use Rattle.std.specs.declared.cmp.Ordering.{Ordering}
 use Rattle.stamp_register.specs.Keys.{KeyValue, key_rank}
 pub use Rattle.stamp_register.proofs.KeyLemmas.{same_key-true, same_key-refl, same_key-cmp, key_le-refl, key_le-trans, key_le-antisym, key_le-other}
-use Rattle.replica_state.specs.Operations.{Cell, Hits, Execs, Shifts, same_cell}
+use Rattle.operations.specs.Operations.{Cell, Hits, Execs, Shifts, same_cell}
 
 pub rank_cmp : KeyValue → KeyValue → Ordering
 rank_cmp a b = slice_cmp nat_cmp (key_rank a) (key_rank b)

@@ -12,12 +12,13 @@ use Rattle.std.specs.declared.cmp.Ordering.{Ordering}
 use Rattle.std.specs.declared.cmp.Ordering.TheVariants.{Less, Equal, Greater}
 use Rattle.counters.specs.Budgets.{Budget, rights}
 use Rattle.stamp_register.specs.Keys.{KeyValue, key_rank}
-use Rattle.replica_state.specs.declared.point.Counted.TheVariants as kinds
-use Rattle.replica_state.specs.Operations.{Hits, Execs, Shifts, Operation, Set, Count, IsIn, IsWellFormed, count_of}
+use Rattle.operations.specs.declared.counted.Counted.TheVariants as kinds
+use Rattle.operations.specs.Operations.{Hits, Execs, Shifts, Operation, Set, Count, IsIn, IsWellFormed, count_of}
 use Rattle.replica_state.specs.States.{State, with_name, with_key, with_hits, with_execs, with_shifts, with_pass, budget_of, budget_under, rights_of}
 use Rattle.replica_state.specs.Folds.{fold, key_of, number_at, at_key, names_of, Learns, IsUnion, clock_of}
 use Rattle.replica_state.specs.Knowledge.{is_upto}
-use Rattle.replica_state.specs.Points.{Held, order_to_held, same_counted, held_after_learning, held_after_key, held_after_count, held_after_shift}
+use Rattle.replica_state.specs.Points.{Held, order_to_held, held_after_learning, held_after_key, held_after_count, held_after_shift}
+use Rattle.operations.specs.Counts.{same_counted}
 use Rattle.replica_state.specs.Cells.{held_at, with_held}
 use Rattle.replica_state.specs.Reached.{ComeTo, ComeToWith, ComeToBoth, IsReached}
 use Rattle.replica_state.proofs.Added.{added_parts}

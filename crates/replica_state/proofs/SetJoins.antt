@@ -8,7 +8,7 @@ use Rattle.std.specs.Cmp.Lexicographic.{slice_cmp}
 use Rattle.std.specs.declared.cmp.Ordering.{Ordering}
 use Rattle.std.specs.declared.cmp.Ordering.TheVariants.{Less, Equal, Greater}
 use Rattle.stamp_register.specs.Keys.{KeyValue, same_key}
-use Rattle.replica_state.specs.Operations.{Operation, Hits, Execs, Shifts, IsIn}
+use Rattle.operations.specs.Operations.{Operation, Hits, Execs, Shifts, IsIn}
 use Rattle.replica_state.specs.States.{State, with_name}
 use Rattle.replica_state.specs.Folds.{fold, greater, key_of, at_key, number_at, names_of}
 use Rattle.replica_state.specs.Unions.{with_names, key_order, number_both, union_of}

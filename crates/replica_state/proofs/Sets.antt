@@ -2,25 +2,9 @@
 use Rattle.std.proofs.Common.{◌≡◌, ◌≢◌, ℕ, ◌<◌, ◌≤◌, max, Bool, true, false, cond, List, [], ◌∷◌, ◌++◌, ◌⊎◌, inl, inr, refl, sym, ◌∙◌, ap, subst, arith, ⊎_elim, Option, Some, None}
 use Rattle.std.proofs.lemmas.Bool.{true≢false, cases_lt}
 use Rattle.stamp_register.specs.Keys.{KeyValue, key_le}
-use Rattle.replica_state.specs.Operations.{Cell, Operation, Set, Count, IsIn, same_cell}
+use Rattle.operations.specs.Operations.{Cell, Operation, Set, Count, IsIn, same_cell}
 use Rattle.replica_state.specs.Folds.{greater, key_in_cell, key_in, key_of, number_in, number_at}
 use Rattle.replica_state.proofs.Orders.{key_le-refl, key_le-trans, key_le-antisym, key_le-other, same_cell-refl, same_cell-true}
-
--- ---- members
-
-pub IsIn-append_left : {A : Type 0} (x : A) (xs ys : List A) → IsIn x xs → IsIn x (xs ++ ys)
-IsIn-append_left x [] ys h = absurd h
-IsIn-append_left x (y ∷ xs) ys (inl e) = inl e
-IsIn-append_left x (y ∷ xs) ys (inr h) = inr (IsIn-append_left x xs ys h)
-
-pub IsIn-append_right : {A : Type 0} (x : A) (xs ys : List A) → IsIn x ys → IsIn x (xs ++ ys)
-IsIn-append_right x [] ys h = h
-IsIn-append_right x (y ∷ xs) ys h = inr (IsIn-append_right x xs ys h)
-
-pub IsIn-append_cases : {A : Type 0} (x : A) (xs ys : List A) → IsIn x (xs ++ ys) → IsIn x xs ⊎ IsIn x ys
-IsIn-append_cases x [] ys h = inr h
-IsIn-append_cases x (y ∷ xs) ys (inl e) = inl (inl e)
-IsIn-append_cases x (y ∷ xs) ys (inr h) = ⊎_elim (λ k. inl (inr k)) (λ k. inr k) (IsIn-append_cases x xs ys h)
 
 -- ---- cells
 

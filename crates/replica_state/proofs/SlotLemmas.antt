@@ -9,19 +9,20 @@ use Rattle.std.proofs.lemmas.Int.{ints}
 use Rattle.counters.specs.Sums.{node_numbers}
 use Rattle.counters.specs.Budgets.{Budget, rights, total_spent}
 use Rattle.counters.proofs.SumLemmas.{sum_others-zero, sum-zero}
-use Rattle.replica_state.specs.Operations.{count_of}
+use Rattle.operations.specs.Operations.{count_of}
 use Rattle.std.specs.Ordering.{nat_cmp}
 use Rattle.std.specs.declared.cmp.Ordering.TheVariants.{Equal}
 use Rattle.lattice_laws.specs.Order.{IsCopy, IsJoin, Same}
 use Rattle.lattice_laws.specs.Map.{stored_at, value_at, PutsOnly, RaisesOnly, put_same}
 use Rattle.lattice_laws.proofs.Joins.{copy_from_bottom}
 use Rattle.counters.specs.Cells.{Cells, Shares, cell, row_cell, spent_cell, moved_cell, no_shares, budget_of, WritesCell}
-use Rattle.replica_state.specs.declared.point.Counted.{Counted}
-use Rattle.replica_state.specs.declared.point.Counted.TheVariants.{Hits, Execs, Shifts}
-use Rattle.replica_state.specs.declared.point.Count.{Count}
+use Rattle.operations.specs.declared.counted.Counted.{Counted}
+use Rattle.operations.specs.declared.counted.Counted.TheVariants.{Hits, Execs, Shifts}
+use Rattle.operations.specs.declared.counted.Count.{Count}
 use Rattle.stamp_register.specs.declared.key.Key.{Key}
 use Rattle.stamp_register.specs.Keys.{key_value}
-use Rattle.replica_state.specs.Points.{Held, empty_held, is_hits, term_of, same_counted, raised_numbers, only_hits, held_after_key, spending, held_after_pass, budget_in, budget_under}
+use Rattle.replica_state.specs.Points.{Held, empty_held, raised_numbers, only_hits, held_after_key, spending, held_after_pass, budget_in, budget_under}
+use Rattle.operations.specs.Counts.{same_counted, is_hits, term_of}
 use Rattle.replica_state.specs.MatrixStates.{share_upto, cell_upto}
 use Rattle.replica_state.specs.MatrixOrder.{cells_order, are_cells, shares_order, are_shares, shares_laws}
 use Rattle.replica_state.specs.declared.slot.Slot.{Slot}

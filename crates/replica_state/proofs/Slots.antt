@@ -24,13 +24,14 @@ use Rattle.stamp_register.specs.declared.key.Key.{Key}
 use Rattle.stamp_register.specs.Keys.{KeyValue, key_value, key_le}
 use Rattle.stamp_register.specs.contracts.key.KeyOrd.TheImpl.Laws as key_laws
 use Rattle.stamp_register.proofs.KeyLemmas.{same_rank}
-use Rattle.replica_state.specs.declared.point.Count.{Count}
+use Rattle.operations.specs.declared.counted.Count.{Count}
 use Rattle.replica_state.specs.Folds.{fold, greater}
-use Rattle.replica_state.specs.declared.point.Counted.{Counted}
-use Rattle.replica_state.specs.declared.point.Counted.TheVariants.{Hits, Execs, Shifts}
-use Rattle.replica_state.specs.Operations.{IsIn}
+use Rattle.operations.specs.declared.counted.Counted.{Counted}
+use Rattle.operations.specs.declared.counted.Counted.TheVariants.{Hits, Execs, Shifts}
+use Rattle.operations.specs.Operations.{IsIn}
 use Rattle.replica_state.specs.States.{with_name}
-use Rattle.replica_state.specs.Points.{Held, empty_held, is_hits, same_counted, raised_numbers, held_after_learning}
+use Rattle.replica_state.specs.Points.{Held, empty_held, raised_numbers, held_after_learning}
+use Rattle.operations.specs.Counts.{same_counted, is_hits}
 use Rattle.replica_state.specs.Cells.{cell_of, held_at, with_held}
 use Rattle.replica_state.specs.declared.slot.Slot.{Slot}
 use Rattle.replica_state.specs.Slots.{Budgets, SaysSomething, no_slot, under_key, slot_key, slot_number, slot_held, slot_at, shown_slots}

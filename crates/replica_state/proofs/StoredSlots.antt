@@ -12,9 +12,9 @@ use Rattle.counters.specs.Budgets.{Budget, rights, total_spent}
 use Rattle.counters.proofs.SumLemmas.{sum-zero}
 use Rattle.stamp_register.specs.declared.key.Key.{Key}
 use Rattle.stamp_register.specs.Keys.{KeyValue}
-use Rattle.replica_state.specs.declared.point.Count.{Count}
-use Rattle.replica_state.specs.declared.point.Counted.{Counted}
-use Rattle.replica_state.specs.declared.point.Counted.TheVariants.{Hits, Execs, Shifts}
+use Rattle.operations.specs.declared.counted.Count.{Count}
+use Rattle.operations.specs.declared.counted.Counted.{Counted}
+use Rattle.operations.specs.declared.counted.Counted.TheVariants.{Hits, Execs, Shifts}
 use Rattle.replica_state.specs.States as states
 use Rattle.replica_state.specs.States.{State, with_name, total_hits, granted_of, budget_of, rights_of, spent_of}
 use Rattle.replica_state.specs.Points.{Held, empty_held, held_after_key, held_after_pass, held_after_count, budget_under}

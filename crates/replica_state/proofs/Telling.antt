@@ -1,6 +1,6 @@
 -- What differs from the state of nothing is all that a state tells.
 use Rattle.std.proofs.Common.{List, [], ◌↔◌, refl, sym}
-use Rattle.replica_state.specs.Operations.{Hits, Execs, Shifts, Operation, Set, Count}
+use Rattle.operations.specs.Operations.{Hits, Execs, Shifts, Operation, Set, Count}
 use Rattle.replica_state.specs.Folds.{fold}
 use Rattle.replica_state.specs.States.{State}
 use Rattle.replica_state.specs.Deltas.{IsTold, IsAllTold, IsInDelta, IsDelta}

@@ -2,11 +2,12 @@
 use Rattle.std.proofs.Common.{◌≡◌, ℕ, max, if◌then◌else◌, Bool, true, false, cond, List, ◌++◌, ◌⊎◌, inl, inr, refl, sym, ◌∙◌, ap, subst, ⊎_elim, Option, Some, None}
 use Rattle.std.proofs.lemmas.Bool.{true≢false}
 use Rattle.stamp_register.specs.Keys.{KeyValue, same_key}
-use Rattle.replica_state.specs.Operations.{Hits, Operation, IsIn}
+use Rattle.operations.specs.Operations.{Hits, Operation, IsIn}
 use Rattle.replica_state.specs.States.{State}
 use Rattle.replica_state.specs.Folds.{fold, greater, key_of, number_at, at_key, names_of}
 use Rattle.replica_state.proofs.Orders.{key_le-antisym, same_key-true, same_key-refl}
-use Rattle.replica_state.proofs.Sets.{IsIn-append_left, IsIn-append_right, IsIn-append_cases, number_at-append, KeyUpto, KeyUpto-antisym, greater-left, greater-right, greater-least, key_of-mono, no_cell_above}
+use Rattle.replica_state.proofs.Sets.{number_at-append, KeyUpto, KeyUpto-antisym, greater-left, greater-right, greater-least, key_of-mono, no_cell_above}
+use Rattle.operations.proofs.Members.{IsIn-append_left, IsIn-append_right, IsIn-append_cases}
 use Rattle.replica_state.proofs.KnownSets.{Kind, exec_kind, shift_kind, value_of, key_of-append_le}
 use Rattle.replica_state.proofs.Names.{HoldsName, names_of-holds, holds-names_of, names_same}
 

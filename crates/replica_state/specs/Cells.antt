@@ -2,11 +2,12 @@
 use Rattle.std.specs.Prelude.{◌≡◌, ℕ, List, if◌then◌else◌, Option, Some, None}
 use Rattle.std.specs.Str.{bytes_eq}
 use Rattle.stamp_register.specs.Keys.{KeyValue}
-use Rattle.replica_state.specs.declared.point.Counted.{Counted}
-use Rattle.replica_state.specs.declared.point.Counted.TheVariants.{Hits, Execs, Shifts}
-use Rattle.replica_state.specs.declared.point.Count.{Count as Counting}
-use Rattle.replica_state.specs.Operations as cells
-use Rattle.replica_state.specs.Operations.{Operation, Set, Count, IsWellFormed}
+use Rattle.operations.specs.declared.counted.Counted.{Counted}
+use Rattle.operations.specs.declared.counted.Counted.TheVariants.{Hits, Execs, Shifts}
+use Rattle.operations.specs.declared.counted.Count.{Count as Counting}
+use Rattle.operations.specs.Operations as cells
+use Rattle.operations.specs.Operations.{Operation, Set, Count, IsWellFormed}
+use Rattle.operations.specs.Counts.{operation_told}
 use Rattle.replica_state.specs.States.{State, with_name}
 use Rattle.replica_state.specs.Folds.{Learns}
 use Rattle.replica_state.specs.Points.{Held}
@@ -34,30 +35,6 @@ with_held name h v =
 -- the state in which a name holds what this makes of what it held
 abbrev pub with_change : List ℕ → (Held → Held) → State → State
 with_change name f v = with_held name (f (held_at v name)) v
-
--- what an operation tells its name
-abbrev pub key_told : Operation → Option KeyValue
-key_told (Set n key) = Some key
-key_told (Count (cells.Hits n node) number) = None
-key_told (Count (cells.Execs n key term node) number) = Some key
-key_told (Count (cells.Shifts n key term from to) number) = Some key
-
-abbrev pub count_told : Operation → Option Counting
-count_told (Set n key) = None
-count_told (Count (cells.Hits n node) number) = Some (record { counted = Hits node; number = number })
-count_told (Count (cells.Execs n key term node) number) = Some (record { counted = Execs term node; number = number })
-count_told (Count (cells.Shifts n key term from to) number) =
-    Some (record { counted = Shifts term from to; number = number })
-
--- the operation of a name and its key that a setting or a count tells
-abbrev pub cell_told : List ℕ → KeyValue → Counted → cells.Cell
-cell_told name key (Hits node) = cells.Hits name node
-cell_told name key (Execs term node) = cells.Execs name key term node
-cell_told name key (Shifts term from to) = cells.Shifts name key term from to
-
-abbrev pub operation_told : List ℕ → KeyValue → Option Counting → Operation
-operation_told name key None = Set name key
-operation_told name key (Some told) = Count (cell_told name key told.counted) told.number
 
 -- a count can be learned of a name under the key that it has
 abbrev pub MayLearnCount : State → List ℕ → Counting → Type 0

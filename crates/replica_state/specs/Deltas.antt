@@ -1,9 +1,8 @@
 -- What a state tells, as operations; and what differs between two states of one node, which it sends to
 -- a node that has the first.
 use Rattle.std.specs.Prelude.{◌≡◌, ◌≢◌, ℕ, List, ◌↔◌, Some}
-use Rattle.replica_state.specs.Operations.{Cell, Hits, Execs, Shifts, Operation, Set, Count, IsIn}
+use Rattle.operations.specs.Operations.{Cell, Hits, Execs, Shifts, Operation, Set, Count, IsIn, name_in}
 use Rattle.replica_state.specs.States.{State}
-use Rattle.replica_state.specs.Folds.{name_in}
 
 -- a state has this number in a cell: of a key, where that is its key of the name
 abbrev pub HasNumber : State → Cell → ℕ → Type 0

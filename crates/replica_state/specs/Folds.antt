@@ -3,17 +3,8 @@
 use Rattle.std.specs.Prelude.{◌≡◌, ℕ, max, Bool, true, nat_lt, List, [], ◌∷◌, ◌++◌, if◌then◌else◌, Option, Some, None}
 use Rattle.std.specs.Str.{bytes_eq}
 use Rattle.stamp_register.specs.Keys.{KeyValue, key_le}
-use Rattle.replica_state.specs.Operations.{Cell, Hits, Execs, Shifts, Operation, Set, Count, same_cell}
+use Rattle.operations.specs.Operations.{Cell, Hits, Execs, Shifts, Operation, Set, Count, name_in, same_cell}
 use Rattle.replica_state.specs.States.{State, with_name}
-
-abbrev pub name_in_cell : Cell → List ℕ
-name_in_cell (Hits n node) = n
-name_in_cell (Execs n key term node) = n
-name_in_cell (Shifts n key term from to) = n
-
-abbrev pub name_in : Operation → List ℕ
-name_in (Set n key) = n
-name_in (Count cell number) = name_in_cell cell
 
 -- a hit numbered 0 is none, and holds no name
 abbrev pub is_counted_cell : Cell → ℕ → Bool

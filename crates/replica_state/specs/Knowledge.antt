@@ -3,7 +3,7 @@
 use Rattle.std.specs.Prelude.{◌≡◌, ℕ, ◌≤◌, nat_le, not, Bool, true, false, List, ◌⊎◌, if◌then◌else◌, Option, Some, None}
 use Rattle.std.specs.List.{list_any}
 use Rattle.stamp_register.specs.Keys.{KeyValue, key_le, same_key, IsLower}
-use Rattle.replica_state.specs.Operations.{Cell, Hits, Execs, Shifts, Operation, Set, Count, IsIn}
+use Rattle.operations.specs.Operations.{Cell, Hits, Execs, Shifts, Operation, Set, Count, IsIn}
 use Rattle.replica_state.specs.States.{State}
 use Rattle.replica_state.specs.Folds.{key_in}
 

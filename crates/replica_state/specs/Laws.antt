@@ -2,7 +2,7 @@
 use Rattle.std.specs.Prelude.{◌≡◌, ℕ, ◌+◌, ◌<◌, List, ◌++◌, ◌↔◌, true, false, Some, pos, ◌+ℤ◌}
 use Rattle.counters.specs.Sums.{node_numbers}
 use Rattle.counters.specs.Budgets.{Budget, remaining_rights, total_granted, total_spent}
-use Rattle.replica_state.specs.Operations.{Operation, IsIn, IsWellFormed}
+use Rattle.operations.specs.Operations.{Operation, IsIn, IsWellFormed}
 use Rattle.replica_state.specs.States.{State, budget_of}
 use Rattle.replica_state.specs.Folds.{fold, Learns, IsUnion}
 use Rattle.replica_state.specs.Reached.{ComeToWith, ComeToBoth, IsReached, AreNamesHeld}

@@ -1,4 +1,3 @@
-pub mod Operations
 pub mod States
 pub mod Folds
 pub mod Reached
@@ -13,3 +12,4 @@ pub mod Slots
 pub mod MatrixOrder
 pub mod MatrixStates
 pub mod Laws
+pub mod Terms

@@ -12,8 +12,8 @@ use Rattle.counters.specs.Cells.{Cells, Shares, cell, row_cell}
 use Rattle.stamp_register.specs.Keys.{KeyValue, key_value, key_rank}
 use Rattle.stamp_register.proofs.KeyLemmas.{key_le-antisym}
 use Rattle.replica_state.specs.declared.matrix.Matrix.{Matrix}
-use Rattle.replica_state.specs.declared.point.Counted.{Counted}
-use Rattle.replica_state.specs.declared.point.Counted.TheVariants.{Hits, Execs, Shifts}
+use Rattle.operations.specs.declared.counted.Counted.{Counted}
+use Rattle.operations.specs.declared.counted.Counted.TheVariants.{Hits, Execs, Shifts}
 use Rattle.replica_state.specs.States.{State}
 use Rattle.replica_state.specs.StateOrder.{IsKeyBelow, AreCellsBelow, OrdersByState, key_below-irrefl, key_below-trans}
 use Rattle.replica_state.specs.Reached.{IsReached}

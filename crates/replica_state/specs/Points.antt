@@ -9,38 +9,12 @@ use Rattle.std.specs.Cmp.Lexicographic.{slice_cmp}
 use Rattle.stamp_register.specs.Keys.{KeyValue, key_value, key_rank}
 use Rattle.counters.specs.Budgets.{Budget, rights, total_spent}
 use Rattle.stamp_register.specs.declared.key.Key.{Key}
-use Rattle.replica_state.specs.Operations.{count_of}
-use Rattle.replica_state.specs.declared.point.Counted.{Counted}
-use Rattle.replica_state.specs.declared.point.Counted.TheVariants.{Hits, Execs, Shifts}
-use Rattle.replica_state.specs.declared.point.Count.{Count}
+use Rattle.operations.specs.Operations.{count_of}
+use Rattle.operations.specs.declared.counted.Counted.{Counted}
+use Rattle.operations.specs.declared.counted.Counted.TheVariants.{Hits, Execs, Shifts}
+use Rattle.operations.specs.declared.counted.Count.{Count}
+use Rattle.operations.specs.Counts.{same_counted}
 use Rattle.replica_state.specs.Folds.{greater}
-
-abbrev pub same_counted : Counted → Counted → Bool
-same_counted (Hits i) (Hits j) = i == j
-same_counted (Execs k i) (Execs l j) = (k == l) && (i == j)
-same_counted (Shifts k i o) (Shifts l j p) = (k == l) && ((i == j) && (o == p))
-same_counted _ _ = false
-
-abbrev pub is_hits : Counted → Bool
-is_hits (Hits node) = true
-is_hits (Execs term node) = false
-is_hits (Shifts term from to) = false
-
--- what is counted, as numbers: first hits, then executions, then shifts, and each by its own numbers
-abbrev pub place_of_counted : Counted → List ℕ
-place_of_counted (Hits node) = 0 ∷ node ∷ 0 ∷ 0 ∷ []
-place_of_counted (Execs term node) = 1 ∷ term ∷ node ∷ 0 ∷ []
-place_of_counted (Shifts term from to) = 2 ∷ term ∷ from ∷ to ∷ []
-
--- the order of what is counted
-abbrev pub counted_cmp : Counted → Counted → Ordering
-counted_cmp = on place_of_counted (slice_cmp nat_cmp)
-
--- the term of which something is counted
-abbrev pub term_of : Counted → Option ℕ
-term_of (Hits node) = None
-term_of (Execs term node) = Some term
-term_of (Shifts term from to) = Some term
 
 -- the budget of a term in a name's numbers, if there is a key that counts it
 abbrev pub budget_in : (Counted → ℕ) → ℕ → ℕ → ℕ → Budget
@@ -62,10 +36,6 @@ rights_of_key key f term node = option_map_or (λ b. rights b node) (budget_unde
 
 abbrev pub spent_of_key : Option KeyValue → (Counted → ℕ) → ℕ → ℕ
 spent_of_key key f term = option_map_or total_spent (budget_under key f term) 0
-
--- a key that is there or not
-abbrev pub given_key : Option (Bor Key) → Option KeyValue
-given_key key = option_map key_value (option_copied key)
 
 -- a key or none, and the number of each thing that is counted
 pub record Held : Type 0 where

@@ -9,9 +9,9 @@ use Rattle.counters.specs.Cells.{Shares, cell, spent_cell, moved_cell, no_shares
 use Rattle.stamp_register.specs.declared.key.Key.{Key}
 use Rattle.stamp_register.specs.Keys.{KeyValue, key_value}
 use Rattle.replica_state.specs.declared.slot.Slot.{Slot}
-use Rattle.replica_state.specs.declared.point.Counted.{Counted}
-use Rattle.replica_state.specs.declared.point.Counted.TheVariants.{Hits, Execs, Shifts}
-use Rattle.replica_state.specs.declared.point.Count.{Count}
+use Rattle.operations.specs.declared.counted.Counted.{Counted}
+use Rattle.operations.specs.declared.counted.Counted.TheVariants.{Hits, Execs, Shifts}
+use Rattle.operations.specs.declared.counted.Count.{Count}
 use Rattle.replica_state.specs.States.{State, with_name}
 use Rattle.replica_state.specs.Points.{Held, empty_held, rights_of_key}
 use Rattle.replica_state.specs.Cells.{cell_of, with_held}

@@ -4,12 +4,13 @@ use Rattle.std.specs.Ordering.{match_ordering}
 use Rattle.std.specs.declared.cmp.Ordering.{Ordering}
 use Rattle.std.specs.declared.cmp.Ordering.TheVariants.{Less, Equal}
 use Rattle.stamp_register.specs.Keys.{KeyValue}
-use Rattle.replica_state.specs.declared.point.Counted.{Counted}
-use Rattle.replica_state.specs.declared.point.Counted.TheVariants.{Hits, Execs, Shifts}
+use Rattle.operations.specs.declared.counted.Counted.{Counted}
+use Rattle.operations.specs.declared.counted.Counted.TheVariants.{Hits, Execs, Shifts}
 use Rattle.replica_state.specs.States.{State, with_name}
 use Rattle.replica_state.specs.Folds.{greater}
 use Rattle.replica_state.specs.StateOrder.{AreCellsBelow}
-use Rattle.replica_state.specs.Points.{Held, is_hits, order_to_held}
+use Rattle.replica_state.specs.Points.{Held, order_to_held}
+use Rattle.operations.specs.Counts.{is_hits}
 
 -- names more, each in its place
 abbrev pub with_names : List (List ℕ) → List (List ℕ) → List (List ℕ)

@@ -2,21 +2,18 @@
 //! comes to. Which operations came first, and how often, makes no difference.
 #![tactic(auto)]
 
-mod counted_order;
 pub mod laws;
 mod matrix;
-mod op;
-mod point;
 mod reader;
 mod replica;
 mod slot;
 mod slot_map;
+mod term_reader;
 mod terms;
 
 pub use matrix::Matrix;
-pub use op::Op;
-pub use point::{Count, Counted, key_with};
+pub use operations::{Count, Counted, Op, count_of, key_with};
 pub use reader::{PointReader, Stored};
 pub use replica::Replica;
 pub use slot::Slot;
-pub use terms::count_of;
+pub use term_reader::TermReader;

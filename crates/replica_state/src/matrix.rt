@@ -8,16 +8,16 @@ ghost use Rattle.replica_state.specs.Cells.{cell_of};
 ghost use Rattle.replica_state.specs.Reached.{IsReached};
 ghost use Rattle.replica_state.specs.Slots.{IsSlotOf, HasNoSlot, shown_slots};
 
-use crate::op::Op;
-use crate::point::{Count, Counted, key_with};
 use crate::reader::PointReader;
 use crate::replica::Replica;
 use crate::slot::{self, Slot};
 use crate::slot_map::{self, Slots};
 use actions::Name;
 use lattice_laws::{Join, MapOf};
+use operations::{Count, Counted, Op, key_with};
 use stamp_register::Key;
 use std::alloc::{AllocError, Global};
+use std::collections::btree_map;
 
 /// The replica that nodes run: of each name its key with the budgets of its terms, and its hits,
 /// each number in a cell of its own. What is written changes its cell in place.
@@ -249,5 +249,9 @@ impl Replica for Matrix {
     fn name_at(&self, index: usize) -> Option<&Name> {
         let (name, _) = self.slots.at(index)?;
         Some(name)
+    }
+
+    fn points(&self) -> btree_map::Iter<'_, Name, Slot> {
+        self.slots.iter()
     }
 }

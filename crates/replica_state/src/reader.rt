@@ -2,11 +2,12 @@
 #![tactic(auto, unfolding(crate::specs::Points::empty_held))]
 
 ghost use Rattle.std.specs.Prelude.{◌≡◌};
-ghost use Rattle.replica_state.specs.Points.{given_key, Held};
+ghost use Rattle.replica_state.specs.Points.{Held};
+ghost use Rattle.operations.specs.Counts.{given_key};
 ghost use Rattle.replica_state.specs.Stored.{stored_held, reader_held};
-ghost use Rattle.replica_state.specs.declared.point.Counted.TheVariants.{Hits, Execs, Shifts};
+ghost use Rattle.operations.specs.declared.counted.Counted.TheVariants.{Hits, Execs, Shifts};
 
-use crate::point::Counted;
+use operations::Counted;
 use stamp_register::Key;
 use std::alloc::AllocError;
 
@@ -25,7 +26,7 @@ pub trait Stored {
 
 /// What a replica has of a point that was looked up once. What isn't there reads 0.
 pub struct PointReader<'a, S> {
-    stored: Option<&'a S>,
+    pub(crate) stored: Option<&'a S>,
 }
 
 impl<'a, S> Clone for PointReader<'a, S> {

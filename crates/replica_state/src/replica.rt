@@ -1,27 +1,28 @@
 //! What a node needs of the thing that holds its state.
 
-ghost use Rattle.std.specs.Prelude.{◌≡◌, ◌+◌, ◌<◌, ◌≤◌, ◌^◌, [], ◌↔◌, length, slice_get, false, option_map, Some, IfSome, IsSome, IsTrue, OnOk, OnErr};
+ghost use Rattle.std.specs.Prelude.{◌≡◌, ◌+◌, ◌<◌, ◌≤◌, ◌^◌, [], ◌↔◌, length, slice_get, false, option_map, map, Some, IfSome, IsSome, IsTrue, OnOk, OnErr};
+ghost use Rattle.std.specs.List.{AllByRecursion};
 ghost use Rattle.std.specs.Option.{option_copied};
 ghost use Rattle.stamp_register.specs.Keys.{key_value};
-ghost use Rattle.replica_state.specs.Operations.{operation, IsWellFormed, ShiftsToAnother};
+ghost use Rattle.operations.specs.Operations.{operation, IsWellFormed, ShiftsToAnother};
 ghost use Rattle.replica_state.specs.States.{State, with_name, with_key, with_pass, with_shifts, total_hits, granted_in, granted_of, budget_of, rights_of, spent_of, MarksRights};
 ghost use Rattle.replica_state.specs.Folds.{fold, Learns, IsUnion};
 ghost use Rattle.replica_state.specs.Reached.{IsReached};
 ghost use Rattle.replica_state.specs.Knowledge.{is_upto};
-ghost use Rattle.replica_state.specs.Cells.{held_at, operation_told, MayLearnCount, LearnsCount};
+ghost use Rattle.replica_state.specs.Cells.{held_at, MayLearnCount, LearnsCount};
+ghost use Rattle.operations.specs.Counts.{operation_told, given_key};
 ghost use Rattle.replica_state.specs.Stored.{reader_held};
 ghost use Rattle.replica_state.specs.StateOrder.{OrdersByState};
 ghost use Rattle.replica_state.specs.Unions.{with_names};
-ghost use Rattle.replica_state.specs.Points.{given_key};
 
-use crate::op::Op;
-use crate::point::Count;
 use crate::reader::{PointReader, Stored};
-use crate::terms::{count_of, terms_of};
+use crate::terms::terms_of;
 use actions::Name;
 use lattice_laws::Join;
+use operations::{Count, Op, count_of};
 use stamp_register::Key;
 use std::alloc::{AllocError, Global};
+use std::collections::btree_map;
 
 /// A replica of the cluster's points: each value stands for the state that some well-formed
 /// operations come to. What isn't there reads 0. Replicas are joined as the values that their
@@ -212,6 +213,13 @@ pub trait Replica: Join {
     /// The name at a place, in byte order.
     fn name_at(&self, index: usize) -> Option<&Name>
         ensures { option_copied result ≡ slice_get (state self.now).names index };
+
+    /// The points that have a key or a hit, in byte order of their names, each with what is stored
+    /// of it.
+    fn points(&self) -> btree_map::Iter<'_, Name, Self::Point>
+        ensures names { map (λ e. e.0) result ≡ (state self.now).names }
+        ensures held { AllByRecursion
+            (λ e. Self.Point.held e.1 ≡ held_at (state self.now) e.0) result };
 
     /// One value is below another where its state knows no more.
     ghost ordered: { OrdersByState Self.admitted Self.order state };

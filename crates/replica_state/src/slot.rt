@@ -5,17 +5,18 @@ ghost use Rattle.counters.specs.Sums.{node_numbers, sum_below};
 ghost use Rattle.counters.specs.Budgets.{total_spent};
 ghost use Rattle.counters.specs.Cells.{spent_cell, WritesSpent};
 ghost use Rattle.stamp_register.specs.Keys.{key_value};
-ghost use Rattle.replica_state.specs.Points.{is_hits, term_of, empty_held, order_to_held, held_after_learning, held_after_key, held_after_pass, held_after_count, given_key, Raises, spent_of_key};
+ghost use Rattle.replica_state.specs.Points.{empty_held, order_to_held, held_after_learning, held_after_key, held_after_pass, held_after_count, Raises, spent_of_key};
+ghost use Rattle.operations.specs.Counts.{is_hits, term_of, given_key};
 ghost use Rattle.replica_state.specs.Slots.{IsShareRaised, slot_held, slot_key, slot_number, slot_rights, share_number, budgets_number};
 ghost use Rattle.replica_state.specs.States.{MarksRights};
-ghost use Rattle.replica_state.specs.declared.point.Counted.{Counted};
-ghost use Rattle.replica_state.specs.declared.point.Counted.TheVariants.{Hits, Execs, Shifts};
+ghost use Rattle.operations.specs.declared.counted.Counted.{Counted};
+ghost use Rattle.operations.specs.declared.counted.Counted.TheVariants.{Hits, Execs, Shifts};
 
-use crate::point::{Count, Counted};
 use crate::reader::Stored;
-use crate::terms::{count_of, terms_of};
+use crate::terms::terms_of;
 use counters::{Budget, HitCounter};
 use lattice_laws::{Join, LexOf, MapOf, PairOf};
+use operations::{Count, Counted, count_of};
 use stamp_register::Key;
 use std::alloc::{AllocError, Global};
 use std::cmp::Ordering;
@@ -103,7 +104,7 @@ pub(crate) fn key(slot: &Slot) -> Option<&Key>
 }
 
 // The budget of a term under the key, where anything of it was spent or moved.
-fn budget(slot: &Slot, term: u8) -> Option<&Budget>
+pub(crate) fn budget(slot: &Slot, term: u8) -> Option<&Budget>
     ensures some { IfSome result (λ b. (c : Counted) → term_of c ≡ Some term
         → slot_number slot.now c ≡ share_number b.now c) }
     ensures none { IfNone result ((c : Counted) → term_of c ≡ Some term

@@ -5,17 +5,18 @@ ghost use Rattle.std.specs.Prelude.{◌≡◌, ◌≢◌, ◌+◌, ◌<◌, ◌�
 ghost use Rattle.std.specs.Borrow.{MutBor};
 ghost use Rattle.std.specs.Fn.{FnOnceReturnsAtMut};
 ghost use Rattle.stamp_register.specs.Keys.{key_value};
-ghost use Rattle.replica_state.specs.Points.{is_hits, empty_held, held_after_learning, held_after_key, held_after_pass, held_after_count, given_key};
+ghost use Rattle.replica_state.specs.Points.{empty_held, held_after_learning, held_after_key, held_after_pass, held_after_count};
+ghost use Rattle.operations.specs.Counts.{is_hits, given_key};
 ghost use Rattle.replica_state.specs.Cells.{with_held, with_change};
 ghost use Rattle.replica_state.specs.States.{with_name, with_key, with_pass, with_shifts};
 ghost use Rattle.replica_state.specs.Slots.{IsSlotOf, HasNoSlot, ChangesSlot, SaysSomething, slot_held, slot_key, slot_number, shown_slots};
 ghost use Rattle.replica_state.specs.MatrixOrder.{slots_map};
-ghost use Rattle.replica_state.specs.declared.point.Counted.TheVariants.{Hits, Execs};
+ghost use Rattle.operations.specs.declared.counted.Counted.TheVariants.{Hits, Execs};
 
-use crate::point::{Count, Counted};
 use crate::slot::{self, Slot};
 use actions::Name;
 use lattice_laws::{Join, MapOf};
+use operations::{Count, Counted};
 use stamp_register::Key;
 use std::alloc::{AllocError, Global};
 

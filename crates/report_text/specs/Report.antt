@@ -4,7 +4,7 @@ use Rattle.std.specs.List.{filter_map, range_with_len}
 use Rattle.actions.specs.Limits.{max_terms}
 use Rattle.stamp_register.specs.Keys.{KeyValue, stamp_of}
 use Rattle.stamp_register.specs.declared.key.Stamp.{Stamp}
-use Rattle.replica_state.specs.Operations.{count_of}
+use Rattle.operations.specs.Operations.{count_of}
 use Rattle.replica_state.specs.States.{State, total_hits, granted_of, rights_of, spent_of}
 
 -- a counted term: its number, its count, what all nodes granted themselves beyond it, how often it

@@ -2,7 +2,7 @@
 
 ghost use Rattle.std.specs.Prelude.{◌≡◌, ℕ, option_map, option_and_then, slice_get};
 ghost use Rattle.stamp_register.specs.Keys.{key_value};
-ghost use Rattle.replica_state.specs.Operations.{count_of};
+ghost use Rattle.operations.specs.Operations.{count_of};
 ghost use Rattle.report_text.specs.Report.{keyed_row, point_row};
 
 use actions::Name;

@@ -2,7 +2,7 @@
 
 ghost use Rattle.std.specs.Prelude.{◌≡◌, ℕ, ◌+◌, ◌≤◌, List, [], Some, IfOk, count_by};
 ghost use Rattle.stamp_register.specs.Keys.{KeyValue, stamp_of};
-ghost use Rattle.replica_state.specs.Operations.{count_of};
+ghost use Rattle.operations.specs.Operations.{count_of};
 ghost use Rattle.cluster_model.specs.Events.{Answer, new_world};
 ghost use Rattle.cluster_model.specs.Worlds as worlds;
 ghost use Rattle.cluster_model.specs.Worlds.{Cluster, cluster_of};

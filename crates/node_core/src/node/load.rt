@@ -6,7 +6,7 @@ ghost use Rattle.actions.specs.Names.{is_name};
 ghost use Rattle.actions.specs.Canonical.{canonical};
 ghost use Rattle.actions.specs.SettingReading.{setting_reading};
 ghost use Rattle.stamp_register.specs.Keys.{body_value};
-ghost use Rattle.replica_state.specs.Operations.{IsIn, operation};
+ghost use Rattle.operations.specs.Operations.{IsIn, operation};
 ghost use Rattle.replica_state.specs.Unions.{with_names};
 ghost use Rattle.message_format.specs.Spelling.{IsBody};
 ghost use Rattle.node_calls.specs.Asks as asks;

@@ -1,6 +1,6 @@
 use Rattle.std.proofs.Common.{map, take}
 use Rattle.stamp_register.specs.Keys.{key_value}
-use Rattle.replica_state.specs.Operations.{Count, Shifts}
+use Rattle.operations.specs.Operations.{Count, Shifts}
 use Rattle.delta_exchange.specs.Told.{HasLearned}
 use Rattle.delta_exchange.proofs.learning.learn_grants.Given as goal
 

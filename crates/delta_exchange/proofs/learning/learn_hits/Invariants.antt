@@ -1,5 +1,5 @@
 use Rattle.std.proofs.Common.{map, take}
-use Rattle.replica_state.specs.Operations.{Count, Hits}
+use Rattle.operations.specs.Operations.{Count, Hits}
 use Rattle.delta_exchange.specs.Told.{HasLearned}
 use Rattle.delta_exchange.proofs.learning.learn_hits.Given as goal
 

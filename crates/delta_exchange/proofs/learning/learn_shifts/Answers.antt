@@ -1,8 +1,8 @@
 use Rattle.std.proofs.Common.{ℕ, Some, sym, subst, take, arith}
 use Rattle.stamp_register.specs.Keys.{key_value}
-use Rattle.replica_state.specs.Operations.{Count, Shifts, IsWellFormed}
-use Rattle.replica_state.specs.Cells.{operation_told}
-use Rattle.replica_state.specs.declared.point.Count.{Count as Counting}
+use Rattle.operations.specs.Operations.{Count, Shifts, IsWellFormed}
+use Rattle.operations.specs.Counts.{operation_told}
+use Rattle.operations.specs.declared.counted.Count.{Count as Counting}
 use Rattle.message_format.specs.Spelling.{IsShift}
 use Rattle.delta_exchange.proofs.KeysLearned.{by_its_key, has_still, formed_at}
 use Rattle.delta_exchange.proofs.ToldSteps.{learned_next}

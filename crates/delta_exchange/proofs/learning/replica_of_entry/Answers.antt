@@ -1,7 +1,7 @@
 use Rattle.std.proofs.Common.{ℕ, [], refl, ap, ◌∙◌}
 use Rattle.std.proofs.lemmas.List.{append-nil}
 use Rattle.stamp_register.specs.Keys.{key_value}
-use Rattle.replica_state.specs.Operations.{Count, Hits, Execs, Shifts}
+use Rattle.operations.specs.Operations.{Count, Hits, Execs, Shifts}
 use Rattle.replica_state.specs.Folds.{fold}
 use Rattle.message_format.specs.Messages.{entry_value, operations_of}
 use Rattle.delta_exchange.proofs.KeysLearned.{nothing_held, has_now, has_still, by_its_key}

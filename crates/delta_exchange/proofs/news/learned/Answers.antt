@@ -1,6 +1,6 @@
 use Rattle.std.proofs.Common.{◌≡◌, List, ◌∷◌, sym, subst}
 use Rattle.std.proofs.lemmas.List.Elements.{All-from_recursion}
-use Rattle.replica_state.specs.Operations.{Operation, IsWellFormed}
+use Rattle.operations.specs.Operations.{Operation, IsWellFormed}
 use Rattle.replica_state.specs.Folds.{fold}
 use Rattle.delta_exchange.specs.declared.news.Told.{Told}
 use Rattle.delta_exchange.specs.News.{operation_of}

@@ -1,5 +1,5 @@
 use Rattle.std.proofs.Common.{◌∙◌, subst, IsTrue, Option}
-use Rattle.replica_state.specs.declared.point.Counted.{Counted}
+use Rattle.operations.specs.declared.counted.Counted.{Counted}
 use Rattle.delta_exchange.specs.declared.news.Told.{Told}
 use Rattle.delta_exchange.specs.Marks.{has_room}
 use Rattle.delta_exchange.specs.News.{counted_of}

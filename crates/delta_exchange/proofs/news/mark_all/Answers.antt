@@ -1,7 +1,7 @@
 use Rattle.std.proofs.Common.{◌≡◌, ◌+◌, ◌∙◌, ◌∷◌, map, drop, ap, sym, subst}
 use Rattle.stamp_register.specs.Keys.{key_value}
-use Rattle.replica_state.specs.Folds.{name_in}
-use Rattle.replica_state.specs.Cells.{count_told}
+use Rattle.operations.specs.Operations.{name_in}
+use Rattle.operations.specs.Counts.{count_told}
 use Rattle.delta_exchange.specs.Marks.{marks_value, with_mark}
 use Rattle.delta_exchange.specs.News.{news_of, operation_of, is_new, counted_of, with_news, HaveRoom}
 use Rattle.delta_exchange.proofs.RoomLemmas.{drop_first, room_kept, name_told, counted_told}

@@ -1,5 +1,5 @@
 use Rattle.std.proofs.Common.{◌≡◌, map, take}
-use Rattle.replica_state.specs.Operations.{operation}
+use Rattle.operations.specs.Operations.{operation}
 use Rattle.delta_exchange.specs.News.{news_in, news_of}
 use Rattle.delta_exchange.proofs.news.news_of_ops.Given as goal
 

@@ -1,7 +1,7 @@
 use Rattle.std.proofs.Common.{◌≡◌, ◌++◌, ◌∷◌, [], List, Bool, map, ap, ◌∙◌}
 use Rattle.stamp_register.specs.Keys.{key_value}
-use Rattle.replica_state.specs.Operations.{Operation, Set}
-use Rattle.replica_state.specs.Cells.{operation_told}
+use Rattle.operations.specs.Operations.{Operation, Set}
+use Rattle.operations.specs.Counts.{operation_told}
 use Rattle.replica_state.specs.Stored.{reader_held}
 use Rattle.replica_state.proofs.Learned.{on_ok}
 use Rattle.message_format.specs.Messages.{entry_value, operations_of, hits_in, execs_in, shifts_in, grants_in}

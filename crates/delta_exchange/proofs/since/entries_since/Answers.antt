@@ -1,6 +1,7 @@
 use Rattle.std.proofs.Common.{◌≡◌, ◌++◌, ℕ, ◌<◌, ◌≤◌, List, map, subst, IsSome, arith}
 use Rattle.std.specs.BTreeMap.{IsOrdered}
-use Rattle.replica_state.specs.Points.{Held, counted_cmp}
+use Rattle.replica_state.specs.Points.{Held}
+use Rattle.operations.specs.Counts.{counted_cmp}
 use Rattle.std.specs.List.{flat_map}
 use Rattle.delta_exchange.specs.declared.marks.NameMarks.{NameMarks}
 use Rattle.message_format.specs.Messages.{entry_value}

@@ -1,7 +1,7 @@
 use Rattle.std.proofs.Common.{◌≡◌, ◌≢◌, ℕ, ◌<◌, ◌^◌, [], ◌∷◌, rules, sym, ap, ◌∙◌}
 use Rattle.replica_state.specs.Points.{Held}
 use Rattle.replica_state.specs.Stored.{reader_held}
-use Rattle.replica_state.specs.declared.point.Counted.TheVariants.{Execs}
+use Rattle.operations.specs.declared.counted.Counted.TheVariants.{Execs}
 use Rattle.delta_exchange.specs.Cells.{cell_of}
 use Rattle.delta_exchange.specs.Since.{exec_of, execs_since}
 use Rattle.message_format.proofs.Lists.{all_and_one}

@@ -2,7 +2,7 @@ use Rattle.std.proofs.Common.{◌≡◌, ◌≢◌, ℕ, ◌<◌, ◌^◌, Bool,
 use Rattle.std.proofs.lemmas.Bool.{ne_eqb}
 use Rattle.replica_state.specs.Points.{Held}
 use Rattle.replica_state.specs.Stored.{reader_held}
-use Rattle.replica_state.specs.declared.point.Counted.TheVariants.{Shifts}
+use Rattle.operations.specs.declared.counted.Counted.TheVariants.{Shifts}
 use Rattle.delta_exchange.specs.Cells.{cell_of}
 use Rattle.delta_exchange.specs.Since.{shift_of, shifts_since}
 use Rattle.message_format.proofs.Lists.{all_and_one}

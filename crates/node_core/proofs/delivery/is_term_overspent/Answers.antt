@@ -1,6 +1,6 @@
 use Rattle.std.proofs.Common.{◌≡◌, ℕ, ◌+◌, Bool, true, nat_lt, sym, ◌∙◌, ap, arith}
 use Rattle.std.proofs.lemmas.Bool.Decides.{nat_tests}
-use Rattle.replica_state.specs.Operations.{count_at}
+use Rattle.operations.specs.Operations.{count_at}
 use Rattle.replica_state.specs.Slots.{slot_held}
 use Rattle.replica_state.specs.Stored.{reader_held}
 use Rattle.node_core.specs.Refusals.{exceeds_count}

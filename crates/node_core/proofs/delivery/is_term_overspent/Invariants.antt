@@ -1,5 +1,5 @@
 use Rattle.std.proofs.Common.{◌≡◌, false}
-use Rattle.replica_state.specs.Operations.{count_at}
+use Rattle.operations.specs.Operations.{count_at}
 use Rattle.replica_state.specs.Slots.{slot_held}
 use Rattle.replica_state.specs.Stored.{reader_held}
 use Rattle.node_core.specs.Refusals.{any_below, exceeds_count}

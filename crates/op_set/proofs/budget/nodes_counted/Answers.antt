@@ -2,8 +2,8 @@ use Rattle.std.proofs.Common.{◌≤◌, List, subst, arith}
 use Rattle.std.specs.List.{AllByRecursion}
 use Rattle.std.proofs.lemmas.List.{take_all}
 use Rattle.op_set.specs.Counts.{node_bound}
-use Rattle.replica_state.specs.declared.point.Count.{Count}
-use Rattle.replica_state.specs.declared.point.Counted.TheVariants.{Hits}
+use Rattle.operations.specs.declared.counted.Count.{Count}
+use Rattle.operations.specs.declared.counted.Counted.TheVariants.{Hits}
 use Rattle.op_set.proofs.NodeSums.{bound_of, bounds_next}
 use Rattle.op_set.proofs.budget.nodes_counted.Goals as goal
 

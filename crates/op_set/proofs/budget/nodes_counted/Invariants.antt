@@ -1,7 +1,7 @@
 use Rattle.std.proofs.Common.{◌≤◌, take}
 use Rattle.std.specs.List.{AllByRecursion}
 use Rattle.op_set.specs.Counts.{node_bound}
-use Rattle.replica_state.specs.declared.point.Count.{Count}
+use Rattle.operations.specs.declared.counted.Count.{Count}
 use Rattle.op_set.proofs.budget.nodes_counted.Given as goal
 
 abbrev pub invariant-loop-count : goal.invariant-loop-count

@@ -1,7 +1,7 @@
 use Rattle.std.proofs.Common.{◌≡◌, ℕ, ap, ◌∙◌, arith}
 use Rattle.counters.specs.Sums.{sum_others}
 use Rattle.op_set.specs.Counts.{number_of}
-use Rattle.replica_state.specs.declared.point.Counted.TheVariants.{Shifts}
+use Rattle.operations.specs.declared.counted.Counted.TheVariants.{Shifts}
 use Rattle.op_set.proofs.NodeSums.{others_counted}
 use Rattle.op_set.proofs.budget.sum_from.Goals as goal
 

@@ -1,7 +1,7 @@
 use Rattle.std.proofs.Common.{◌≡◌, ◌*◌, ◌≤◌, ◌^◌}
 use Rattle.counters.specs.Sums.{sum_below}
 use Rattle.op_set.specs.Counts.{number_of}
-use Rattle.replica_state.specs.declared.point.Counted.TheVariants.{Hits}
+use Rattle.operations.specs.declared.counted.Counted.TheVariants.{Hits}
 use Rattle.op_set.proofs.budget.sum_hits.Given as goal
 
 abbrev pub invariant-loop-node : goal.invariant-loop-node

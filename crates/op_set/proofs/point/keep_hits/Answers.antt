@@ -1,6 +1,6 @@
 use Rattle.std.proofs.Common.{rules}
 use Rattle.std.proofs.lemmas.List.Elements.{filter_from_retain}
-use Rattle.replica_state.specs.Points.{is_hits}
+use Rattle.operations.specs.Counts.{is_hits}
 use Rattle.op_set.proofs.point.keep_hits.Goals as goal
 
 pub returns-clause-items : goal.returns-clause-items

@@ -1,9 +1,9 @@
 use Rattle.std.proofs.Common.{◌≡◌, ℕ, true, List, Option, Some, None, ap, ◌∙◌, subst, sym}
 use Rattle.std.specs.Option.{is_some}
 use Rattle.std.specs.List.{position}
-use Rattle.replica_state.specs.declared.point.Count.{Count}
+use Rattle.operations.specs.declared.counted.Count.{Count}
 use Rattle.op_set.specs.Counts.{number_of}
-use Rattle.replica_state.specs.Points.{same_counted}
+use Rattle.operations.specs.Counts.{same_counted}
 use Rattle.op_set.proofs.Counts.{number_of-raised, number_of-append}
 use Rattle.op_set.proofs.point.raise.Goals as goal
 

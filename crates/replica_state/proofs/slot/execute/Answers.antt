@@ -2,9 +2,9 @@ use Rattle.std.specs.Prelude.{◌≡◌, ◌+◌, ℕ, OnOk, Option, Some}
 use Rattle.std.proofs.Common.{◌∙◌, ap, refl, rules, sym}
 use Rattle.lattice_laws.specs.Pair.{pair_of}
 use Rattle.stamp_register.specs.declared.key.Key.{Key}
-use Rattle.replica_state.specs.declared.point.Counted.{Counted}
-use Rattle.replica_state.specs.declared.point.Counted.TheVariants.{Hits, Execs, Shifts}
-use Rattle.replica_state.specs.declared.point.Count.{Count}
+use Rattle.operations.specs.declared.counted.Counted.{Counted}
+use Rattle.operations.specs.declared.counted.Counted.TheVariants.{Hits, Execs, Shifts}
+use Rattle.operations.specs.declared.counted.Count.{Count}
 use Rattle.replica_state.specs.Points.{Raises, raised_numbers}
 use Rattle.replica_state.specs.declared.slot.Slot.{Slot}
 use Rattle.replica_state.specs.Slots.{Budgets, budgets_number, slot_number, under_key}

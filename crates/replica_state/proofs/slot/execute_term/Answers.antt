@@ -1,7 +1,7 @@
 use Rattle.std.specs.Prelude.{◌≡◌, ◌+◌, ℕ, max, OnOk}
 use Rattle.std.proofs.Common.{◌∙◌, arith, refl, rules, subst, sym}
 use Rattle.counters.specs.Cells.{Shares, WritesSpent, cell, no_shares, spent_cell}
-use Rattle.replica_state.specs.declared.point.Counted.TheVariants.{Execs}
+use Rattle.operations.specs.declared.counted.Counted.TheVariants.{Execs}
 use Rattle.replica_state.specs.Slots.{IsShareRaised, budgets_number}
 use Rattle.replica_state.proofs.Learned.{on_ok}
 use Rattle.replica_state.proofs.SlotLemmas.{put_raised, new_raised, absent_at, found_at, not_found}

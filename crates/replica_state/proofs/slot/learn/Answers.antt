@@ -2,7 +2,7 @@ use Rattle.std.proofs.Common.{◌≡◌, Some, ap, subst, sym, ◌∙◌}
 use Rattle.std.specs.Prelude.{IfSome, is_none}
 use Rattle.std.specs.Option.{option_map, option_copied}
 use Rattle.stamp_register.specs.Keys.{key_value}
-use Rattle.replica_state.specs.Points.{is_hits}
+use Rattle.operations.specs.Counts.{is_hits}
 use Rattle.replica_state.specs.Slots.{slot_held}
 use Rattle.replica_state.proofs.Learned.{on_ok, held_none, held_less, held_equal, held_greater}
 use Rattle.replica_state.proofs.SlotLemmas.{replaced}

@@ -1,7 +1,7 @@
 use Rattle.std.specs.Prelude.{◌<◌, ◌^◌, Result, Ok, Err, OnErr}
 use Rattle.std.specs.declared.alloc.AllocError.{AllocError}
 use Rattle.std.proofs.Common.{◌+◌, Some, ap, sym, subst, ◌∙◌}
-use Rattle.replica_state.specs.declared.point.Counted.TheVariants.{Hits, Execs}
+use Rattle.operations.specs.declared.counted.Counted.TheVariants.{Hits, Execs}
 use Rattle.replica_state.specs.Points.{raised_numbers}
 use Rattle.replica_state.specs.Slots.{slot_held, slot_number}
 use Rattle.replica_state.proofs.Learned.{on_ok}

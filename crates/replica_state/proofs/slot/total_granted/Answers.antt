@@ -3,7 +3,7 @@ use Rattle.counters.specs.Sums.{node_numbers}
 use Rattle.counters.specs.Cells.{granted_cell}
 use Rattle.counters.proofs.SumLemmas.{sum-same, sum-zero}
 use Rattle.replica_state.specs.Slots.{slot_number}
-use Rattle.replica_state.specs.declared.point.Counted.TheVariants.{Shifts}
+use Rattle.operations.specs.declared.counted.Counted.TheVariants.{Shifts}
 use Rattle.replica_state.proofs.slot.total_granted.Goals as goal
 
 pub returns-in-Some : goal.returns-in-Some

@@ -2,7 +2,7 @@ use Rattle.std.specs.Prelude.{OnOk}
 use Rattle.std.proofs.Common.{◌≡◌, ◌+◌, ◌<◌, ◌^◌, subst, sym, ◌∙◌, rules}
 use Rattle.std.specs.Option.{IsSome}
 use Rattle.std.proofs.lemmas.Option.{IfSome_then}
-use Rattle.replica_state.specs.declared.point.Counted.TheVariants.{Hits, Execs}
+use Rattle.operations.specs.declared.counted.Counted.TheVariants.{Hits, Execs}
 use Rattle.replica_state.specs.Points.{held_after_pass}
 use Rattle.replica_state.specs.Slots.{shown_slots, slot_held}
 use Rattle.replica_state.proofs.Learned.{on_ok}

@@ -2,8 +2,8 @@
 
 ghost use Rattle.std.specs.Prelude.{◌≡◌, ℕ, List, true, false, Some};
 ghost use Rattle.stamp_register.specs.Keys.{key_value};
-ghost use Rattle.replica_state.specs.Operations.{IsWellFormed, count_of};
-ghost use Rattle.replica_state.specs.Cells.{operation_told};
+ghost use Rattle.operations.specs.Operations.{IsWellFormed, count_of};
+ghost use Rattle.operations.specs.Counts.{operation_told};
 ghost use Rattle.replica_state.specs.Knowledge.{is_upto};
 
 use super::*;

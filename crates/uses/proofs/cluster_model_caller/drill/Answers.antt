@@ -1,6 +1,6 @@
 use Rattle.std.proofs.Common.{◌≡◌, ℕ, ◌+◌, ◌≤◌, arith, List, [], subst, Some, count_by}
 use Rattle.stamp_register.specs.Keys.{KeyValue, stamp_of}
-use Rattle.replica_state.specs.Operations.{count_of}
+use Rattle.operations.specs.Operations.{count_of}
 use Rattle.cluster_model.specs.Events.{WorldValue, new_world}
 use Rattle.cluster_model.specs.Worlds.{Cluster}
 use Rattle.cluster_model.specs.Histories.{IsIssued, all_executions, all_granted}

@@ -1,5 +1,5 @@
 use Rattle.std.proofs.Common.{◌≡◌, ◌≤◌, length, ◌+◌, sym, ◌∙◌, subst, arith, Some, None}
-use Rattle.replica_state.specs.Operations.{count_of}
+use Rattle.operations.specs.Operations.{count_of}
 use Rattle.audit.specs.declared.counts.Counts.{Counts}
 use Rattle.audit.proofs.CountsKept.{AreCountsUpto, upto_none, upto_more, upto_same, key_added}
 use Rattle.audit.proofs.counts.Counts.add_key.Goals as goal

@@ -1,7 +1,7 @@
 use Rattle.std.proofs.Common.{◌≡◌, List, Some}
 use Rattle.actions.specs.Canonical.{canonical}
 use Rattle.stamp_register.specs.Keys.{KeyValue, stamp_of}
-use Rattle.replica_state.specs.Operations.{Operation}
+use Rattle.operations.specs.Operations.{Operation}
 use Rattle.audit.specs.Counts.{AreCountsOf}
 use Rattle.audit.proofs.CountsKept.{AreCountsUpto}
 use Rattle.audit.proofs.counts.Counts.add_key.Given as goal

@@ -2,7 +2,7 @@ use Rattle.std.proofs.Common.{◌≡◌, ◌+◌, ◌-◌, ◌++◌, ◌∷◌, 
 use Rattle.actions.specs.Value.{TermValue}
 use Rattle.actions.specs.Canonical.{canonical}
 use Rattle.stamp_register.specs.Keys.{KeyValue}
-use Rattle.replica_state.specs.Operations.{Operation, Set}
+use Rattle.operations.specs.Operations.{Operation, Set}
 use Rattle.node_core.specs.Steps.{new_key, operations_issued, settings_of}
 use Rattle.audit.specs.Counts.{AddsKeys}
 use Rattle.audit.proofs.CountsKept.{adds_behind, issued_one_more}

@@ -1,5 +1,5 @@
 use Rattle.std.proofs.Common.{cond, Option, ap, ◌∙◌, sym}
-use Rattle.replica_state.specs.Points.{is_hits}
+use Rattle.operations.specs.Counts.{is_hits}
 use Rattle.delta_exchange.specs.declared.marks.NameMarks.{NameMarks}
 use Rattle.delta_exchange.specs.Marks.{cell_of}
 use Rattle.delta_exchange.proofs.MarkLemmas.{renewed, hits_only, lent_at}

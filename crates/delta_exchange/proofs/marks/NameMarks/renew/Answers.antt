@@ -1,7 +1,7 @@
 use Rattle.std.proofs.Common.{ℕ, rules}
 use Rattle.std.proofs.lemmas.Map.Entries.{filter_from_retain_pairs}
-use Rattle.replica_state.specs.declared.point.Counted.{Counted}
-use Rattle.replica_state.specs.Points.{is_hits}
+use Rattle.operations.specs.declared.counted.Counted.{Counted}
+use Rattle.operations.specs.Counts.{is_hits}
 use Rattle.delta_exchange.proofs.marks.NameMarks.renew.Goals as goal
 
 pub returns-clause-cells : goal.returns-clause-cells

@@ -1,6 +1,6 @@
 use Rattle.std.proofs.Common.{◌≡◌, ◌++◌, map, take}
 use Rattle.stamp_register.specs.Keys.{key_value}
-use Rattle.replica_state.specs.Operations.{Count, Execs}
+use Rattle.operations.specs.Operations.{Count, Execs}
 use Rattle.replica_state.specs.Stored.{reader_held}
 use Rattle.delta_exchange.specs.News.{news_held, news_of}
 use Rattle.delta_exchange.proofs.news.Told.push_execs.Given as goal

@@ -1,5 +1,5 @@
 use Rattle.std.proofs.Common.{◌≡◌, ◌++◌, map, take}
-use Rattle.replica_state.specs.Operations.{Count, Hits}
+use Rattle.operations.specs.Operations.{Count, Hits}
 use Rattle.replica_state.specs.Stored.{reader_held}
 use Rattle.delta_exchange.specs.News.{news_held, news_of}
 use Rattle.delta_exchange.proofs.news.Told.push_hits.Given as goal

@@ -1,7 +1,7 @@
 use Rattle.std.proofs.Common.{false, ◌+◌, cond, Some, Option, option_map, ap, sym, refl, ◌∙◌, subst, arith}
 use Rattle.replica_state.specs.States.{State, with_pass}
-use Rattle.replica_state.specs.declared.point.Counted.{Counted}
-use Rattle.replica_state.specs.declared.point.Counted.TheVariants.{Hits, Execs}
+use Rattle.operations.specs.declared.counted.Counted.{Counted}
+use Rattle.operations.specs.declared.counted.Counted.TheVariants.{Hits, Execs}
 use Rattle.replica_state.proofs.Learned.{always_err}
 use Rattle.delta_exchange.specs.Changes.{ChangesAt}
 use Rattle.delta_exchange.specs.Marks.{MarksValue, marks_value, last_changes, with_mark, is_of, AreUpto}

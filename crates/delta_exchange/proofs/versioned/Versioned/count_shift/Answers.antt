@@ -1,9 +1,9 @@
 use Rattle.std.proofs.Common.{◌+◌, ◌≡◌, ◌&&◌, false, Some, ap, sym, refl, ◌∙◌, subst, arith, Option}
 use Rattle.std.specs.Str.{bytes_eq}
 use Rattle.replica_state.specs.States.{State, with_shifts}
-use Rattle.replica_state.specs.Points.{same_counted}
-use Rattle.replica_state.specs.declared.point.Counted.{Counted}
-use Rattle.replica_state.specs.declared.point.Counted.TheVariants.{Shifts}
+use Rattle.operations.specs.Counts.{same_counted}
+use Rattle.operations.specs.declared.counted.Counted.{Counted}
+use Rattle.operations.specs.declared.counted.Counted.TheVariants.{Shifts}
 use Rattle.delta_exchange.specs.Changes.{ChangesAt}
 use Rattle.delta_exchange.specs.Marks.{MarksValue, marks_value, last_changes, with_mark, AreUpto}
 use Rattle.delta_exchange.specs.Versions.{value_of}

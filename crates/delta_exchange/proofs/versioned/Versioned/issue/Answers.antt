@@ -1,6 +1,6 @@
 use Rattle.std.proofs.Common.{List, [], map, refl, sym, subst}
 use Rattle.std.specs.List.{AllByRecursion}
-use Rattle.replica_state.specs.Operations.{IsWellFormed, operation}
+use Rattle.operations.specs.Operations.{IsWellFormed, operation}
 use Rattle.delta_exchange.specs.declared.news.Told.{Told}
 use Rattle.delta_exchange.specs.News.{operation_of, BringsNews}
 use Rattle.delta_exchange.specs.Versions.{value_of}

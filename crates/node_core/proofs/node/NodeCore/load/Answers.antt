@@ -1,7 +1,7 @@
 use Rattle.std.proofs.Common.{subst, sym, ℕ, List, Option}
 use Rattle.actions.specs.Names.{is_name}
 use Rattle.std.specs.Prelude.{IsTrue}
-use Rattle.replica_state.specs.Operations.{IsIn}
+use Rattle.operations.specs.Operations.{IsIn}
 use Rattle.message_format.specs.Spelling.{IsBody}
 use Rattle.node_calls.specs.Asks.{Load}
 use Rattle.node_core.specs.Steps.{settings}

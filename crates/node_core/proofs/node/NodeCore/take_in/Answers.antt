@@ -1,6 +1,6 @@
 use Rattle.std.proofs.Common.{refl, sym, subst, string_bytes, ◌∙◌, ap, map, List}
 use Rattle.std.specs.List.{AllByRecursion}
-use Rattle.replica_state.specs.Operations.{Operation, IsWellFormed, operation}
+use Rattle.operations.specs.Operations.{Operation, IsWellFormed, operation}
 use Rattle.node_core.proofs.LoadSteps.{issued_formed, issued_stay}
 use Rattle.node_core.proofs.VersionsInStep.{entries_with, load_with}
 use Rattle.node_calls.specs.Asks.{Load}

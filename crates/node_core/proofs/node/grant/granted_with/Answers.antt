@@ -1,7 +1,7 @@
 use Rattle.std.proofs.Common.{◌+◌, sym, ◌∙◌, ap}
 use Rattle.actions.specs.Value.{term_value}
 use Rattle.stamp_register.specs.Keys.{key_value}
-use Rattle.replica_state.specs.Operations.{count_in}
+use Rattle.operations.specs.Operations.{count_in}
 use Rattle.node_core.specs.Replicas.{state_in}
 use Rattle.node_core.proofs.GrantRefusals.{not_set, no_such_term, not_counted, zero_amount, cell_full, no_refusal}
 use Rattle.node_core.proofs.Rights.{counted_budget}

@@ -2,10 +2,10 @@ use Rattle.std.proofs.Common.{◌++◌, ◌∷◌, [], ℕ, List, Option, Some, 
 use Rattle.std.proofs.lemmas.List.{map-append, length-map}
 use Rattle.actions.specs.Value.{TermValue}
 use Rattle.actions.specs.Canonical.{canonical}
-use Rattle.replica_state.specs.declared.op.Op.{Op}
-use Rattle.replica_state.specs.declared.op.Op.TheVariants as ops
-use Rattle.replica_state.specs.Operations.{Operation, Set, operation}
-use Rattle.replica_state.proofs.Sets.{IsIn-append_cases}
+use Rattle.operations.specs.declared.op.Op.{Op}
+use Rattle.operations.specs.declared.op.Op.TheVariants as ops
+use Rattle.operations.specs.Operations.{Operation, Set, operation}
+use Rattle.operations.proofs.Members.{IsIn-append_cases}
 use Rattle.message_format.specs.Spelling.{IsBody}
 use Rattle.node_core.specs.Steps.{operations_issued}
 use Rattle.node_core.proofs.LoadSteps.{issued-more}

@@ -2,7 +2,7 @@ use Rattle.std.proofs.Common.{◌≡◌, ◌+◌, ◌++◌, ℕ, List, Some, len
 use Rattle.std.specs.Prelude.{vec_len, vec_capacity}
 use Rattle.actions.specs.Value.{TermValue}
 use Rattle.actions.specs.Canonical.{canonical}
-use Rattle.replica_state.specs.Operations.{IsIn, operation}
+use Rattle.operations.specs.Operations.{IsIn, operation}
 use Rattle.message_format.specs.Spelling.{IsBody}
 use Rattle.node_core.specs.Steps.{operations_issued}
 use Rattle.node_core.proofs.node.load.settings_issued.Given as goal

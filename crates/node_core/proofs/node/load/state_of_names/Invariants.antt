@@ -1,5 +1,5 @@
 use Rattle.std.proofs.Common.{◌≡◌, List, [], map, take}
-use Rattle.replica_state.specs.Operations.{Operation}
+use Rattle.operations.specs.Operations.{Operation}
 use Rattle.replica_state.specs.Folds.{fold}
 use Rattle.replica_state.specs.Unions.{with_names}
 use Rattle.node_core.specs.Replicas.{state_in}

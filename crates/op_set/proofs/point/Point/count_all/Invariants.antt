@@ -1,5 +1,5 @@
 use Rattle.std.proofs.Common.{◌≡◌, max, drop}
-use Rattle.replica_state.specs.declared.point.Counted.{Counted}
+use Rattle.operations.specs.declared.counted.Counted.{Counted}
 use Rattle.op_set.specs.Counts.{number_of}
 use Rattle.replica_state.specs.Unions.{if_counts}
 use Rattle.op_set.proofs.point.Point.count_all.Given as goal

@@ -2,7 +2,7 @@ use Rattle.std.proofs.Common.{◌+◌, ◌<◌, ◌^◌, Option, IfSome, subst, 
 use Rattle.op_set.specs.declared.point.Point.{Point}
 use Rattle.replica_state.specs.Points.{held_after_pass}
 use Rattle.op_set.specs.Shown.{shown, number_at}
-use Rattle.replica_state.specs.declared.point.Counted.TheVariants.{Execs}
+use Rattle.operations.specs.declared.counted.Counted.TheVariants.{Execs}
 use Rattle.replica_state.proofs.Learned.{on_ok, on_err}
 use Rattle.op_set.proofs.Shown.{lent_step, kept_step, names_kept}
 use Rattle.replica_state.proofs.Shown.{pass_seen}

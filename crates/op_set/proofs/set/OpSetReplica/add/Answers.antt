@@ -1,5 +1,5 @@
 use Rattle.std.proofs.Common.{◌∙◌}
-use Rattle.replica_state.specs.Operations.{operation}
+use Rattle.operations.specs.Operations.{operation}
 use Rattle.op_set.specs.Shown.{shown}
 use Rattle.op_set.specs.SetOrder.{state_of}
 use Rattle.replica_state.proofs.Learned.{on_ok}

@@ -1,7 +1,7 @@
 use Rattle.std.proofs.Common.{◌∙◌}
 use Rattle.stamp_register.specs.Keys.{key_value}
 use Rattle.op_set.specs.Shown.{shown}
-use Rattle.replica_state.specs.Cells.{operation_told}
+use Rattle.operations.specs.Counts.{operation_told}
 use Rattle.op_set.specs.SetOrder.{state_of}
 use Rattle.replica_state.proofs.Learned.{on_ok}
 use Rattle.replica_state.proofs.Added.{added_told}

@@ -1,5 +1,5 @@
 use Rattle.std.proofs.Common.{◌∙◌}
-use Rattle.replica_state.specs.Operations.{operation}
+use Rattle.operations.specs.Operations.{operation}
 use Rattle.replica_state.specs.Slots.{shown_slots}
 use Rattle.replica_state.specs.MatrixStates.{matrix_state}
 use Rattle.replica_state.proofs.Learned.{on_ok}

@@ -1,6 +1,6 @@
 use Rattle.std.proofs.Common.{◌∙◌}
 use Rattle.stamp_register.specs.Keys.{key_value}
-use Rattle.replica_state.specs.Cells.{operation_told}
+use Rattle.operations.specs.Counts.{operation_told}
 use Rattle.replica_state.specs.Slots.{shown_slots}
 use Rattle.replica_state.specs.MatrixStates.{matrix_state}
 use Rattle.replica_state.proofs.Learned.{on_ok}

@@ -1,6 +1,6 @@
 use Rattle.std.proofs.Common.{◌∙◌, Some, subst}
-use Rattle.replica_state.specs.Operations.{IsWellFormed}
-use Rattle.replica_state.specs.Cells.{operation_told}
+use Rattle.operations.specs.Operations.{IsWellFormed}
+use Rattle.operations.specs.Counts.{operation_told}
 use Rattle.replica_state.specs.Slots.{shown_slots}
 use Rattle.replica_state.specs.MatrixStates.{matrix_state}
 use Rattle.replica_state.proofs.Learned.{on_ok}

@@ -1,7 +1,7 @@
 use Rattle.std.specs.Prelude.{OnOk}
 use Rattle.std.proofs.Common.{◌≡◌, List, ◌++◌, Result, refl, subst, sym}
 use Rattle.replica_state.specs.declared.matrix.Matrix.{Matrix}
-use Rattle.replica_state.specs.Operations.{Operation}
+use Rattle.operations.specs.Operations.{Operation}
 use Rattle.replica_state.specs.Folds.{fold}
 use Rattle.replica_state.specs.States.{State}
 use Rattle.replica_state.specs.MatrixStates.{matrix_state}

@@ -3,7 +3,7 @@ use Rattle.std.proofs.lemmas.Bool.{true≢false}
 use Rattle.std.specs.Prelude.{is_some, option_map}
 use Rattle.std.specs.Option.{IsSome}
 use Rattle.stamp_register.specs.Keys.{KeyValue, key_value}
-use Rattle.replica_state.specs.Operations.{count_of}
+use Rattle.operations.specs.Operations.{count_of}
 use Rattle.replica_state.specs.States.{State, budget_of, budget_under}
 use Rattle.replica_state.proofs.replica.Replica.is_counted.Goals as goal
 

@@ -3,15 +3,15 @@ use Rattle.std.proofs.Common.{◌≡◌, ◌≢◌, ℕ, ◌<◌, Bool, true, fa
 use Rattle.std.specs.Prelude.{is_some, IsTrue}
 use Rattle.actions.specs.Names.{is_name}
 use Rattle.stamp_register.specs.Keys.{KeyValue}
-use Rattle.replica_state.specs.Operations.{Operation, Set, Count, Hits, Execs, Shifts, IsIn}
+use Rattle.operations.specs.Operations.{Operation, Set, Count, Hits, Execs, Shifts, IsIn, name_in}
 use Rattle.replica_state.specs.States.{State}
-use Rattle.replica_state.specs.Folds.{fold, key_in, key_of, name_in, number_at, names_of, at_key}
+use Rattle.replica_state.specs.Folds.{fold, key_in, key_of, number_at, names_of, at_key}
 use Rattle.replica_state.proofs.KnownSets.{own_name}
 use Rattle.replica_state.proofs.Sets.{number_held, key_of-found}
 use Rattle.replica_state.proofs.Names.{IsAscending, names_of-ascending, names_of-holds, holds-names_of, HoldsName, key_named, hit_named}
 use Rattle.message_format.specs.Spelling.{IsKey, IsCountedTerm}
-use Rattle.message_format.specs.Wholes.{IsLawful, AreLawful}
-use Rattle.message_format.proofs.LawfulLemmas.{set_is_keyed, is_keyed}
+use Rattle.delta_exchange.specs.Wholes.{IsLawful, AreLawful}
+use Rattle.delta_exchange.proofs.LawfulLemmas.{set_is_keyed, is_keyed}
 
 -- ---- the key that an operation carries
 

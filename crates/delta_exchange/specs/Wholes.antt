@@ -1,7 +1,7 @@
 -- Which operations a node of a cluster may know, so that messages can tell them.
 use Rattle.std.specs.Prelude.{ℕ, ◌<◌, List, IsTrue, is_some}
 use Rattle.actions.specs.Names.{is_name}
-use Rattle.replica_state.specs.Operations.{Operation, Set, Count, Hits, Execs, Shifts, IsIn}
+use Rattle.operations.specs.Operations.{Operation, Set, Count, Hits, Execs, Shifts, IsIn}
 use Rattle.replica_state.specs.Folds.{key_of}
 use Rattle.message_format.specs.Spelling.{IsKey, IsCountedTerm}
 

@@ -2,14 +2,16 @@
 use Rattle.std.proofs.Common.{◌≡◌, ℕ, List, [], ◌++◌, map, ◌⊎◌, inl, inr, ⊎_elim, Option, Some, None, refl, sym, ap, subst}
 use Rattle.std.specs.Prelude.{is_some, IsTrue}
 use Rattle.stamp_register.specs.Keys.{KeyValue}
-use Rattle.replica_state.specs.Operations.{Operation, Set, Count, Hits, Execs, Shifts, IsIn}
+use Rattle.operations.specs.Operations.{Operation, Set, Count, Hits, Execs, Shifts, IsIn}
 use Rattle.replica_state.specs.Folds.{key_in, key_of}
 use Rattle.replica_state.proofs.KnownSets.{own_name}
-use Rattle.replica_state.proofs.Sets.{IsIn-append_left, IsIn-append_right, IsIn-append_cases, KeyUpto, key_of-is_in, key_of-mono}
+use Rattle.replica_state.proofs.Sets.{KeyUpto, key_of-is_in, key_of-mono}
+use Rattle.operations.proofs.Members.{IsIn-append_left, IsIn-append_right, IsIn-append_cases}
 use Rattle.message_format.specs.Messages.{EntryValue, MessageValue, operations_of, operations_in}
 use Rattle.message_format.specs.Spelling.{IsHit, IsExec, IsShift, IsEntry, IsMessage}
-use Rattle.message_format.specs.Wholes.{IsLawful, AreLawful}
-use Rattle.message_format.proofs.Members.{flat_in, in_flat, mapped_from, one_of}
+use Rattle.delta_exchange.specs.Wholes.{IsLawful, AreLawful}
+use Rattle.message_format.proofs.Members.{flat_in, in_flat, one_of}
+use Rattle.message_format.proofs.Told.{IsTold, told_of}
 
 -- ---- keys
 
@@ -47,32 +49,6 @@ lawful_together nodes a b h k = record {
 -- ---- what a message tells
 
 module _ (e : EntryValue) where
-  abbrev pub hit_told : ℕ × ℕ → Operation
-  hit_told c = Count (Hits e.name c.0) c.1
-
-  abbrev pub exec_told : ℕ × ℕ × ℕ → Operation
-  exec_told c = Count (Execs e.name e.key c.0 c.1) c.2
-
-  abbrev pub shift_told : ℕ × ℕ × ℕ × ℕ → Operation
-  shift_told c = Count (Shifts e.name e.key c.0 c.1 c.2) c.3
-
-  abbrev pub grant_told : ℕ × ℕ × ℕ → Operation
-  grant_told c = Count (Shifts e.name e.key c.0 c.1 c.1) c.2
-
-  -- an operation of the entry is its setting or that of one of its cells
-  abbrev pub IsTold : Operation → Type 0
-  IsTold op = (op ≡ Set e.name e.key) ⊎ (((c : ℕ × ℕ) × IsIn c e.hits × (op ≡ hit_told c))
-      ⊎ (((c : ℕ × ℕ × ℕ) × IsIn c e.execs × (op ≡ exec_told c))
-      ⊎ (((c : ℕ × ℕ × ℕ × ℕ) × IsIn c e.shifts × (op ≡ shift_told c))
-      ⊎ ((c : ℕ × ℕ × ℕ) × IsIn c e.grants × (op ≡ grant_told c)))))
-
-  pub told_of : (op : Operation) → IsIn op (operations_of e) → IsTold op
-  told_of op (inl h) = inl h
-  told_of op (inr h) = inr (⊎_elim
-      (λ l. inl (mapped_from hit_told e.hits op l))
-      (λ l. inr (⊎_elim (λ k. inl (mapped_from exec_told e.execs op k)) (λ k. inr (⊎_elim (λ j. inl (mapped_from shift_told e.shifts op j)) (λ j. inr (mapped_from grant_told e.grants op j)) (IsIn-append_cases op (map shift_told e.shifts) (map grant_told e.grants) k))) (IsIn-append_cases op (map exec_told e.execs) (map shift_told e.shifts ++ map grant_told e.grants) l)))
-      (IsIn-append_cases op (map hit_told e.hits) (map exec_told e.execs ++ (map shift_told e.shifts ++ map grant_told e.grants)) h))
-
   entry_lawful : (nodes : ℕ) → IsEntry nodes e → (op : Operation) → IsIn op (operations_of e) → IsLawful nodes op
   entry_lawful nodes h op k = by_kind (told_of op k)
     where

@@ -2,7 +2,7 @@
 use Rattle.std.proofs.Common.{◌≡◌, ◌≢◌, ℕ, Bool, true, false, List, ◌⊎◌, inl, inr, Option, Some, None, refl, sym, ap, subst, ◌∙◌, arith}
 use Rattle.std.proofs.lemmas.Bool.{true≢false}
 use Rattle.stamp_register.specs.Keys.{KeyValue, key_le, same_key}
-use Rattle.replica_state.specs.Operations.{Cell, Operation, Set, Count, Hits, Execs, Shifts, IsIn}
+use Rattle.operations.specs.Operations.{Cell, Operation, Set, Count, Hits, Execs, Shifts, IsIn}
 use Rattle.replica_state.specs.Folds.{fold, key_in, key_of, number_at, at_key}
 use Rattle.replica_state.specs.Knowledge.{HoldsLater, HoldsKey, KnowsAll}
 use Rattle.replica_state.specs.Deltas.{IsAllTold}
@@ -10,7 +10,7 @@ use Rattle.replica_state.proofs.KnownSets.{own_name, same_fold}
 use Rattle.replica_state.proofs.Orders.{same_key-true, same_key-refl, key_le-refl}
 use Rattle.replica_state.proofs.Sets.{number_at-is_in, number_held, KeyUpto, key_of-is_in, key_of-found}
 use Rattle.message_format.specs.Messages.{MessageValue, operations_in}
-use Rattle.message_format.specs.Wholes.{AreLawful}
+use Rattle.delta_exchange.specs.Wholes.{AreLawful}
 
 -- a number that a set has is known by it
 has_later : (ops : List Operation) (cell : Cell) (number : ℕ) → number ≡ number_at cell ops → number ≢ 0 → HoldsLater ops cell number

@@ -1,12 +1,10 @@
 //! Operations.
 
 ghost use Rattle.std.specs.Prelude.{◌≡◌, ◌↔◌, IsTrue};
-ghost use Rattle.replica_state.specs.Operations.{operation, IsWellFormed, ShiftsToAnother};
-ghost use Rattle.replica_state.specs.Folds.{name_in};
-ghost use Rattle.replica_state.specs.Cells.{key_told, count_told};
-ghost use Rattle.replica_state.specs.Points.{given_key};
+ghost use Rattle.operations.specs.Operations.{operation, IsWellFormed, ShiftsToAnother, name_in};
+ghost use Rattle.operations.specs.Counts.{key_told, count_told, given_key};
 
-use crate::point::{Count, Counted};
+use crate::counted::{Count, Counted};
 use crate::terms::count_of;
 use actions::Name;
 use stamp_register::Key;

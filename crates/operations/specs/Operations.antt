@@ -4,8 +4,8 @@ use Rattle.std.specs.Prelude.{◌≡◌, ◌≢◌, ℕ, ◌≤◌, Bool, false,
 use Rattle.std.specs.Str.{bytes_eq}
 use Rattle.actions.specs.Value.{TermValue}
 use Rattle.stamp_register.specs.Keys.{KeyValue, key_value, same_key, terms_set}
-use Rattle.replica_state.specs.declared.op.Op.{Op}
-use Rattle.replica_state.specs.declared.op.Op.TheVariants as ops
+use Rattle.operations.specs.declared.op.Op.{Op}
+use Rattle.operations.specs.declared.op.Op.TheVariants as ops
 
 -- what a hit, an execution or a shift counts: all of it but its number. What a node granted itself
 -- beyond a count is what it shifted to itself
@@ -37,6 +37,16 @@ writer_of_cell (Shifts name key term from to) = from
 abbrev pub writer_of : Operation → ℕ
 writer_of (Set name key) = key.node
 writer_of (Count cell number) = writer_of_cell cell
+
+-- the name that it tells of
+abbrev pub name_in_cell : Cell → List ℕ
+name_in_cell (Hits n node) = n
+name_in_cell (Execs n key term node) = n
+name_in_cell (Shifts n key term from to) = n
+
+abbrev pub name_in : Operation → List ℕ
+name_in (Set n key) = n
+name_in (Count cell number) = name_in_cell cell
 
 -- a set of operations is a list of which neither the order nor repeats matter
 abbrev pub IsIn : {A : Type 0} → A → List A → Type 0

@@ -2,8 +2,7 @@
 
 ghost use Rattle.std.specs.Prelude.{◌≡◌, ℕ, List};
 ghost use Rattle.stamp_register.specs.Keys.{key_value};
-ghost use Rattle.replica_state.specs.Points.{is_hits, term_of, given_key};
-ghost use Rattle.replica_state.specs.Cells.{key_told, operation_told};
+ghost use Rattle.operations.specs.Counts.{is_hits, term_of, given_key, key_told, operation_told};
 
 use stamp_register::Key;
 
@@ -37,7 +36,7 @@ impl Counted {
     }
 
     /// The term of which something is counted, if it is.
-    pub(crate) fn term(self) -> Option<u8>
+    pub fn term(self) -> Option<u8>
         ensures { result ≡ term_of self }
     {
         match self {

@@ -1,9 +1,9 @@
 -- What is counted is compared by its kind and its numbers.
 use Rattle.std.proofs.Common.{◌≡◌, true, ◌&&◌, eqb, refl, sym}
 use Rattle.std.proofs.lemmas.Bool.{true≢false, and_parts, and_from, eqb-true, eq-eqb}
-use Rattle.replica_state.specs.declared.point.Counted.{Counted}
-use Rattle.replica_state.specs.declared.point.Counted.TheVariants.{Hits, Execs, Shifts}
-use Rattle.replica_state.specs.Points.{same_counted}
+use Rattle.operations.specs.declared.counted.Counted.{Counted}
+use Rattle.operations.specs.declared.counted.Counted.TheVariants.{Hits, Execs, Shifts}
+use Rattle.operations.specs.Counts.{same_counted}
 
 pub same_counted-true : (a b : Counted) → same_counted a b ≡ true → a ≡ b
 same_counted-true (Hits i) (Hits j) h = let e = eqb-true i j h in cc

@@ -1,11 +1,9 @@
 //! The order of what is counted: hits by node, then executions by term and node, then shifts by
 //! term and both nodes.
-#![tactic(auto)]
-
 ghost use Rattle.std.specs.Prelude.{◌≡◌};
-ghost use Rattle.replica_state.specs.Points.{place_of_counted};
+ghost use Rattle.operations.specs.Counts.{place_of_counted};
 
-use crate::point::Counted;
+use crate::counted::Counted;
 use std::cmp::Ordering;
 
 impl Counted {
@@ -26,7 +24,7 @@ impl PartialEq for Counted {
     ghost use Rattle.std.proofs.Common.{rules};
     ghost use Rattle.std.specs.Cmp.Rules.{comparing};
     ghost use Rattle.std.specs.Ordering.{on};
-    ghost use Rattle.replica_state.specs.Points.{place_of_counted};
+    ghost use Rattle.operations.specs.Counts.{place_of_counted};
 
     ghost eq = { on place_of_counted bytes_eq };
 
@@ -47,7 +45,7 @@ impl Eq for Counted {
 impl Ord for Counted {
     ghost use Rattle.std.proofs.Common.{rules};
     ghost use Rattle.std.specs.Cmp.Rules.{comparing};
-    ghost use Rattle.replica_state.specs.Points.{counted_cmp};
+    ghost use Rattle.operations.specs.Counts.{counted_cmp};
 
     ghost cmp = { counted_cmp };
 
@@ -67,7 +65,7 @@ impl PartialOrd for Counted {
     ghost use Rattle.std.specs.Cmp.{partial_order_from_own_ties};
     ghost use Rattle.std.specs.Cmp.Rules.{comparing};
     ghost use Rattle.std.specs.Ordering.{as_partial_cmp};
-    ghost use Rattle.replica_state.specs.Points.{counted_cmp};
+    ghost use Rattle.operations.specs.Counts.{counted_cmp};
 
     ghost partial_cmp = { as_partial_cmp counted_cmp };
 
