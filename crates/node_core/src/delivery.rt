@@ -6,9 +6,7 @@ ghost use Rattle.std.specs.Ordering.{is_gt};
 ghost use Rattle.stamp_register.specs.Keys.{key_value};
 ghost use Rattle.replica_state.specs.Folds.{clock_of};
 ghost use Rattle.replica_state.specs.Points.{order_to_held};
-ghost use Rattle.replica_state.specs.Slots.{slot_held};
-ghost use Rattle.replica_state.specs.Stored.{reader_held};
-ghost use Rattle.node_core.specs.Replicas.{state_in};
+ghost use Rattle.node_core.specs.Replicas.{state_in, point_held};
 ghost use Rattle.operations.specs.Operations.{count_at};
 ghost use Rattle.replica_state.specs.Unions.{key_order, number_both};
 ghost use Rattle.message_format.specs.Messages.{entry_value, message_value, operations_of, operations_in};
@@ -63,7 +61,7 @@ pub(crate) fn read_message(alloc: Global, nodes: u8, bytes: &[u8]) -> Result<Mes
 
 /// How a key that is told stands to the one that is held.
 fn order_to_held(held: PointReader<Slot>, key: &Key) -> Ordering
-    ensures { result ≡ order_to_held (key_value key.now) (reader_held slot_held held.entry).key }
+    ensures { result ≡ order_to_held (key_value key.now) (point_held held.entry).key }
 {
     match held.key() {
         Some(held) => key.cmp(held),
@@ -93,7 +91,7 @@ fn is_number_ahead(order: Ordering, own: u64, other: u64) -> bool
 
 /// Whether more hits of a node's own are told than it knows itself.
 fn are_hits_ahead(held: PointReader<Slot>, me: u8, hits: &[(u8, u64)]) -> bool
-    ensures { result ≡ are_hits_ahead me (reader_held slot_held held.entry) hits.now }
+    ensures { result ≡ are_hits_ahead me (point_held held.entry) hits.now }
 {
     hits.iter()
         .any(|(node, number)| *node == me && held.hits(me) < *number)
@@ -107,7 +105,7 @@ fn are_execs_ahead(
     order: Ordering,
     execs: &[(u8, u8, u64)],
 ) -> bool
-    ensures { result ≡ are_execs_ahead me (reader_held slot_held held.entry) order execs.now }
+    ensures { result ≡ are_execs_ahead me (point_held held.entry) order execs.now }
 {
     execs.iter().any(|(term, node, number)| *node == me
         && is_number_ahead(order, held.exec(*term, me), *number))
@@ -121,7 +119,7 @@ fn are_shifts_ahead(
     order: Ordering,
     shifts: &[(u8, u8, u8, u64)],
 ) -> bool
-    ensures { result ≡ are_shifts_ahead me (reader_held slot_held held.entry) order shifts.now }
+    ensures { result ≡ are_shifts_ahead me (point_held held.entry) order shifts.now }
 {
     shifts.iter().any(|(term, from, to, number)| *from == me
         && is_number_ahead(order, held.moved(*term, me, *to), *number))
@@ -135,7 +133,7 @@ fn are_grants_ahead(
     order: Ordering,
     grants: &[(u8, u8, u64)],
 ) -> bool
-    ensures { result ≡ are_grants_ahead me (reader_held slot_held held.entry) order grants.now }
+    ensures { result ≡ are_grants_ahead me (point_held held.entry) order grants.now }
 {
     grants.iter().any(|(term, node, number)| *node == me
         && is_number_ahead(order, held.granted(*term, me), *number))
@@ -190,7 +188,7 @@ pub(crate) fn latest_clock(entries: &[NameEntry]) -> u64
 
 /// How the key that another state holds of a name stands to the one that is held here.
 fn key_order(held: PointReader<Slot>, received: PointReader<Slot>) -> Ordering
-    ensures { result ≡ key_order (reader_held slot_held received.entry).key (reader_held slot_held held.entry).key }
+    ensures { result ≡ key_order (point_held received.entry).key (point_held held.entry).key }
 {
     if let Some(key) = received.key() {
         return order_to_held(held, key);
@@ -222,11 +220,13 @@ fn execs_both(
     term: u8,
 ) -> u128
     ensures { result
-        ≡ execs_both nodes order (reader_held slot_held held.entry) (reader_held slot_held received.entry) term }
+        ≡ execs_both nodes order (point_held held.entry) (point_held received.entry) term }
 {
+    let own = held.term(term);
+    let other = received.term(term);
     let mut sum = 0u128;
     for node in 0..nodes {
-        let both = number_both(order, held.exec(term, node), received.exec(term, node));
+        let both = number_both(order, own.exec(node), other.exec(node));
         sum += u128::from(both);
     }
     sum
@@ -242,16 +242,14 @@ fn granted_both(
     term: u8,
 ) -> u128
     ensures value { result
-        ≡ granted_both nodes order (reader_held slot_held held.entry) (reader_held slot_held received.entry) term }
+        ≡ granted_both nodes order (point_held held.entry) (point_held received.entry) term }
     ensures small { result ≤ nodes * 2 ^ 64 }
 {
+    let own = held.term(term);
+    let other = received.term(term);
     let mut sum = 0u128;
     for node in 0..nodes {
-        let both = number_both(
-            order,
-            held.granted(term, node),
-            received.granted(term, node),
-        );
+        let both = number_both(order, own.granted(node), other.granted(node));
         sum += u128::from(both);
     }
     sum
@@ -267,7 +265,7 @@ fn is_term_overspent(
     actions: &Actions,
 ) -> bool
     ensures { result ≡ are_overspent nodes order
-        (reader_held slot_held held.entry) (reader_held slot_held received.entry) actions.now }
+        (point_held held.entry) (point_held received.entry) actions.now }
 {
     for term in 0..actions.len() {
         if let Some(count) = count_at(actions, term as u8) {
@@ -290,8 +288,8 @@ fn actions_both<'a>(
     received: PointReader<'a, Slot>,
 ) -> Option<&'a Actions>
     ensures { MatchOption result
-        (terms_both order (reader_held slot_held held.entry) (reader_held slot_held received.entry) ≡ [])
-        (λ a. terms_both order (reader_held slot_held held.entry) (reader_held slot_held received.entry) ≡ a.now) }
+        (terms_both order (point_held held.entry) (point_held received.entry) ≡ [])
+        (λ a. terms_both order (point_held held.entry) (point_held received.entry) ≡ a.now) }
 {
     let holder = match order {
         Ordering::Less => held,

@@ -54,10 +54,8 @@ pub(crate) fn list_of(alloc: Global, state: &State) -> Result<String, AllocError
 {
     let mut text = String::new(alloc);
     let mut is_first = true;
-    for index in 0..state.names() {
-        if let Some(name) = state.name_at(index) {
-            is_first = push_entry(&mut text, state, name, is_first)?;
-        }
+    for (name, _) in state.points() {
+        is_first = push_entry(&mut text, state, name, is_first)?;
     }
     Ok(text)
 }

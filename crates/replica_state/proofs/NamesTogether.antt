@@ -7,7 +7,8 @@ use Rattle.std.specs.Cmp.Lexicographic.{slice_cmp}
 use Rattle.operations.specs.Operations.{IsIn}
 use Rattle.replica_state.specs.States.{with_name}
 use Rattle.replica_state.specs.Unions.{with_names}
-use Rattle.replica_state.proofs.Names.{IsAscending, with_name-cases, with_name-old, with_name-ascending, same_ascending, never_less}
+use Rattle.replica_state.proofs.Names.{IsAscending, with_name-cases, with_name-old, with_name-ascending, same_ascending}
+use Rattle.operations.proofs.Order.{never_less}
 use Rattle.replica_state.proofs.Slots.{name_added, stored_name, name_missing}
 use Rattle.lattice_laws.specs.Map.{stored_at}
 use Rattle.std.specs.Prelude.{is_some, Option, Some, None}

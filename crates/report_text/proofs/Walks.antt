@@ -19,15 +19,6 @@ first_more n =
     let same : 0 + n ≡ n = omega arith in
     rw add-one (range_more 0 n ∙ ap (λ m. range_with_len 0 n ++ m ∷ []) same)
 
-take_more : {X : Type 0} (xs : List X) (i : ℕ) → take (i + 1) xs ≡ take i xs ++ cons_option (slice_get xs i) []
-take_more xs i = rw add-one (by_place xs i)
-  where
-    by_place : {X : Type 0} (xs : List X) (i : ℕ) → take (suc i) xs ≡ take i xs ++ cons_option (slice_get xs i) []
-    by_place [] zero = refl
-    by_place [] (suc i) = refl
-    by_place (x ∷ xs) zero = refl
-    by_place (x ∷ xs) (suc i) = ap (λ ys. x ∷ ys) (by_place xs i)
-
 -- the text and the data of a list with what an option holds behind it
 text_more : {X : Type 0} (g : X → List ℕ) (xs : List X) (o : Option X) → flat_map g (xs ++ cons_option o []) ≡ flat_map g xs ++ option_map_or g o []
 text_more g xs None = flat_map-append g xs []
@@ -59,24 +50,27 @@ pub data_of_number : {X Y : Type 0} (g : X → Y) (h : ℕ → Option X) (n : �
     → map g (filter_map h (range_with_len 0 n)) ++ option_map_or (λ x. g x ∷ []) o [] ≡ map g (filter_map h (range_with_len 0 (n + 1)))
 data_of_number g h n o row = sym (ap (λ xs. map g xs) (number_rows h n o row) ∙ data_more g (filter_map h (range_with_len 0 n)) o)
 
--- of the first names that have a row
-row_of_option : {X Y : Type 0} (h : X → Option Y) (o : Option X) → filter_map h (cons_option o []) ≡ cons_option (option_and_then h o) []
-row_of_option h None = refl
-row_of_option h (Some x) = refl
+-- of the names that are left, with the first of them
+text_of_option : {Y : Type 0} (g : Y → List ℕ) (o : Option Y) (ys : List Y) → flat_map g (cons_option o ys) ≡ option_map_or g o [] ++ flat_map g ys
+text_of_option g None ys = refl
+text_of_option g (Some y) ys = refl
 
-name_rows : {X Y : Type 0} (h : X → Option Y) (xs : List X) (i : ℕ) (o : Option Y) → option_and_then h (slice_get xs i) ≡ o
-    → filter_map h (take (i + 1) xs) ≡ filter_map h (take i xs) ++ cons_option o []
-name_rows h xs i o row =
-    ap (λ ys. filter_map h ys) (take_more xs i) ∙ filter_map-append h (take i xs) (cons_option (slice_get xs i) [])
-    ∙ ap (λ ys. filter_map h (take i xs) ++ ys) (row_of_option h (slice_get xs i) ∙ ap (λ r. cons_option r []) row)
+pub text_of_name : {X Y : Type 0} (g : Y → List ℕ) (h : X → Option Y) (x : X) (xs : List X) (o : Option Y) → h x ≡ o
+    → flat_map g (filter_map h (x ∷ xs)) ≡ option_map_or g o [] ++ flat_map g (filter_map h xs)
+text_of_name g h x xs o row = ap (λ r. flat_map g (cons_option r (filter_map h xs))) row ∙ text_of_option g o (filter_map h xs)
 
-pub text_of_name : {X Y : Type 0} (g : Y → List ℕ) (h : X → Option Y) (xs : List X) (i : ℕ) (o : Option Y) → option_and_then h (slice_get xs i) ≡ o
-    → flat_map g (filter_map h (take i xs)) ++ option_map_or g o [] ≡ flat_map g (filter_map h (take (i + 1) xs))
-text_of_name g h xs i o row = sym (ap (λ ys. flat_map g ys) (name_rows h xs i o row) ∙ text_more g (filter_map h (take i xs)) o)
+data_of_option : {Y Z : Type 0} (g : Y → Z) (o : Option Y) (ys : List Y) → map g (cons_option o ys) ≡ option_map_or (λ y. g y ∷ []) o [] ++ map g ys
+data_of_option g None ys = refl
+data_of_option g (Some y) ys = refl
 
-pub data_of_name : {X Y Z : Type 0} (g : Y → Z) (h : X → Option Y) (xs : List X) (i : ℕ) (o : Option Y) → option_and_then h (slice_get xs i) ≡ o
-    → map g (filter_map h (take i xs)) ++ option_map_or (λ y. g y ∷ []) o [] ≡ map g (filter_map h (take (i + 1) xs))
-data_of_name g h xs i o row = sym (ap (λ ys. map g ys) (name_rows h xs i o row) ∙ data_more g (filter_map h (take i xs)) o)
+pub data_of_name : {X Y Z : Type 0} (g : Y → Z) (h : X → Option Y) (x : X) (xs : List X) (o : Option Y) → h x ≡ o
+    → map g (filter_map h (x ∷ xs)) ≡ option_map_or (λ y. g y ∷ []) o [] ++ map g (filter_map h xs)
+data_of_name g h x xs o row = ap (λ r. map g (cons_option r (filter_map h xs))) row ∙ data_of_option g o (filter_map h xs)
+
+-- what a step adds, before what is left to tell
+pub told_before : {A : Type 0} {new old left rest whole : List A} (part : List A) → new ≡ old ++ part → old ++ left ≡ whole → left ≡ part ++ rest → new ++ rest ≡ whole
+told_before {old = old} {rest = rest} part h k l =
+    ap (λ text. text ++ rest) h ∙ append_assoc old part rest ∙ ap (λ text. old ++ text) (sym l) ∙ k
 
 -- what a step adds to what was told before it, from the start of the text or from where the walk began
 pub told : {A : Type 0} {new old before after : List A} (part : List A) → new ≡ old ++ part → old ≡ before → before ++ part ≡ after → new ≡ after

@@ -9,8 +9,8 @@ ghost use Rattle.replica_state.specs.States.{granted_of, rights_of};
 ghost use Rattle.report_text.specs.Report.{by_node, counted_row, keyed_row, term_rows};
 ghost use Rattle.report_text.specs.Json.{actions_data, hits_data, list_data, point_data, report_data, report_json_text, rights_data, term_data};
 
-use crate::rows::{count_of, point_at};
 use actions::{MAX_TERMS, Name};
+use operations::count_of;
 use replica_state::Replica;
 use serde_json::{Value, json};
 use stamp_register::{Body, Key};
@@ -221,8 +221,8 @@ fn report_value<R: Replica>(alloc: Global, replica: &R, nodes: u8) -> Result<Val
     ensures { IfOk result (λ value. view value ≡ report_data (R.state replica.now) nodes) }
 {
     let mut values = Vec::new(alloc);
-    for index in 0..replica.names() {
-        if let Some((name, key)) = point_at(replica, index) {
+    for (name, _) in replica.points() {
+        if let Some(key) = replica.key(name) {
             push_value(&mut values, point_value(alloc, replica, nodes, name, key)?)?;
         }
     }

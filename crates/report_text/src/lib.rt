@@ -5,7 +5,6 @@
 mod json_report;
 pub mod laws;
 mod lines_report;
-mod rows;
 
 pub use json_report::report_json;
 pub use lines_report::report_lines;

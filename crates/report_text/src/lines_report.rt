@@ -7,8 +7,8 @@ ghost use Rattle.replica_state.specs.States.{rights_of, total_hits};
 ghost use Rattle.report_text.specs.Report.{by_node, counted_row, keyed_row, term_rows};
 ghost use Rattle.report_text.specs.Lines.{granted_text, hits_line, node_text, point_line, point_lines, report_lines_text, rights_text, term_line};
 
-use crate::rows::{count_of, point_at};
 use actions::{MAX_TERMS, Name};
+use operations::count_of;
 use replica_state::Replica;
 use stamp_register::{Body, Key};
 use std::alloc::{AllocError, Global};
@@ -163,8 +163,8 @@ pub fn report_lines<R: Replica>(alloc: Global, replica: &R, nodes: u8) -> Result
         (λ text. string_bytes text ≡ report_lines_text (R.state replica.now) nodes) }
 {
     let mut text = String::new(alloc);
-    for index in 0..replica.names() {
-        if let Some((name, key)) = point_at(replica, index) {
+    for (name, _) in replica.points() {
+        if let Some(key) = replica.key(name) {
             push_point(&mut text, replica, nodes, name, key)?;
         }
     }

@@ -1,8 +1,7 @@
 use Rattle.std.proofs.Common.{◌≡◌, ℕ, ◌+◌, Bool, true, nat_lt, sym, ◌∙◌, ap, arith}
 use Rattle.std.proofs.lemmas.Bool.Decides.{nat_tests}
 use Rattle.operations.specs.Operations.{count_at}
-use Rattle.replica_state.specs.Slots.{slot_held}
-use Rattle.replica_state.specs.Stored.{reader_held}
+use Rattle.node_core.specs.Replicas.{point_held}
 use Rattle.node_core.specs.Refusals.{exceeds_count}
 use Rattle.node_core.specs.Deliveries.{execs_both, granted_both}
 use Rattle.node_core.proofs.Overspent.{any_true}
@@ -10,8 +9,8 @@ use Rattle.node_core.proofs.delivery.is_term_overspent.Goals as goal
 
 pub returns-then-spent-count-2 : goal.returns-then-spent-count-2
 returns-then-spent-count-2 c =
-    let granted : ℕ → ℕ = granted_both c.args.nodes c.args.order (reader_held slot_held c.args.held) (reader_held slot_held c.args.received) in
-    let sum : ℕ → ℕ = execs_both c.args.nodes c.args.order (reader_held slot_held c.args.held) (reader_held slot_held c.args.received) in
+    let granted : ℕ → ℕ = granted_both c.args.nodes c.args.order (point_held c.args.held) (point_held c.args.received) in
+    let sum : ℕ → ℕ = execs_both c.args.nodes c.args.order (point_held c.args.held) (point_held c.args.received) in
     let test : ℕ → Bool = λ term. exceeds_count (count_at c.args.actions.now term) (granted term) (sum term) in
     let low = c.if-spent-count-2.true in
     let same = c.from-count.ensures in

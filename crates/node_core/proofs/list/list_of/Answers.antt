@@ -1,28 +1,25 @@
-use Rattle.std.proofs.Common.{◌&&◌, List, [], ℕ, Bool, sym, ◌∙◌, ap, arith, string_bytes}
-use Rattle.std.specs.Prelude.{is_none}
+use Rattle.std.proofs.Common.{List, ℕ, map, sym, ◌∙◌, string_bytes}
 use Rattle.node_core.specs.Replicas.{state_in}
 use Rattle.replica_state.specs.States.{State}
-use Rattle.node_core.specs.Texts.{list_entry, entry_after}
-use Rattle.node_core.proofs.Listing.{none_yet, joined_step, empty_step, present, all_entries}
+use Rattle.node_core.proofs.Listing.{grown, grown_step, grown_end, all_grown}
 use Rattle.node_core.proofs.list.list_of.Goals as goal
-use Rattle.node_core.proofs.list.list_of.Goals.{in-Some+in_ok-is_first, in_default}
 
-pub loop-index-init : goal.loop-index-init
-loop-index-init c = record { text = c.new-text.ensures.bytes; first = sym (none_yet (state_in c.args.state.now) []) }
-
-pub loop-index-preserved : goal.loop-index-preserved
-loop-index-preserved c =
+pub loop-name-init : goal.loop-name-init
+loop-name-init c =
     let v : State = state_in c.args.state.now in
-    let so_far = c.loop-index.invariant in
-    elim c.match-name_at.branch [
-      | in-Some+in_ok-is_first w ↦
-          let name : List ℕ = w.in-Some.name.now in
-          record {
-            text = ap string_bytes w.text-is ∙ w.in_ok-is_first.ensures.text ∙ (λ i. entry_after (so_far.first i) (list_entry v name) (so_far.text i)) ∙ sym (joined_step v v.names c.loop-index.index name (sym w.in-Some.ensures));
-            first = w.is_first-is ∙ w.in_ok-is_first.ensures.first ∙ ap (λ (b : Bool). b && is_none (list_entry v name)) so_far.first ∙ sym (empty_step v v.names c.loop-index.index name (sym w.in-Some.ensures));
-          }
-      | in_default w ↦ absurd (present v.names c.loop-index.index (omega arith) w.in_default.ensures)
-    ]
+    rw c.into_iter-name-iterator.ensures.into_iter_gives
+    ((λ i. grown v true (c.new-text.ensures.bytes i) (c.points-name-items.ensures.names i)) ∙ all_grown v)
+
+pub loop-name-preserved : goal.loop-name-preserved
+loop-name-preserved c =
+    let v : State = state_in c.args.state.now in
+    let name : List ℕ = c.in-Some.name.now in
+    let before = rw c.in-Some.ensures.steps at c.loop-name.invariant in
+    let told = c.in_ok-is_first.ensures in
+    (λ i. grown v (told.first i) (told.text i) (map (λ e. e.0) c.next.new.self))
+    ∙ sym (grown_step v c.loop-name.is_first (string_bytes c.loop-name.text) name (map (λ e. e.0) c.next.new.self)) ∙ before
 
 pub returns : goal.returns
-returns c = c.loop-index.invariant.text ∙ all_entries (state_in c.args.state.now) c.loop-index.index (omega arith)
+returns c =
+    let before = rw c.in-None.ensures.steps.0 at c.loop-name.invariant in
+    sym (grown_end (state_in c.args.state.now) c.loop-name.is_first (string_bytes c.loop-name.text)) ∙ before

@@ -1,25 +1,35 @@
-use Rattle.std.proofs.Common.{◌≤◌, ap, sym, ◌∙◌, length, flat_map, string_bytes, arith}
+use Rattle.std.proofs.Common.{List, ℕ, ap, sym, ◌∙◌, map, flat_map, string_bytes}
+use Rattle.std.specs.Prelude.{option_map}
 use Rattle.std.specs.List.{filter_map}
-use Rattle.std.proofs.lemmas.List.{take_all}
-use Rattle.report_text.specs.Report.{point_row}
+use Rattle.std.proofs.lemmas.List.{append-nil}
+use Rattle.report_text.specs.Report.{keyed_row, point_row}
 use Rattle.report_text.specs.Lines.{point_lines, report_lines_text}
-use Rattle.report_text.proofs.Walks.{text_of_name, told, none_told}
+use Rattle.report_text.proofs.Walks.{text_of_name, told_before, none_told}
 use Rattle.report_text.proofs.lines_report.report_lines.Goals as goal
 use Rattle.report_text.proofs.lines_report.report_lines.Goals.{in-Some+in_ok-push_point, in_default}
 
-pub loop-index-preserved : goal.loop-index-preserved
-loop-index-preserved g c =
+pub loop-name-init : goal.loop-name-init
+unfolding report_lines_text
+loop-name-init g c =
     let v = g.R.Replica.state c.args.replica.now in
-    let next = text_of_name point_lines (point_row v c.args.nodes) v.names c.loop-index.index in
-    elim c.match-point_at.branch [
+    rw c.into_iter-name-iterator.ensures.into_iter_gives
+    (λ i. c.new-text.ensures.bytes i ++ flat_map point_lines (filter_map (point_row v c.args.nodes) (c.points-name-items.ensures.names i)))
+
+pub loop-name-preserved : goal.loop-name-preserved
+loop-name-preserved g c =
+    let v = g.R.Replica.state c.args.replica.now in
+    let before = rw c.in-Some.ensures.steps at c.loop-name.invariant in
+    let left = text_of_name point_lines (point_row v c.args.nodes) c.in-Some.name.now (map (λ e. e.0) c.next.new.self) in
+    elim c.match-key.branch [
       | in-Some+in_ok-push_point w ↦
-          told _ (ap string_bytes w.text-is ∙ w.in_ok-push_point.ensures) c.loop-index.invariant (next _ (sym (w.in-Some.ensures c.args.nodes)))
-      | in_default w ↦ told _ (none_told (ap string_bytes w.text-is)) c.loop-index.invariant (next _ (sym (w.in_default.ensures c.args.nodes)))
+          told_before _ (ap string_bytes w.text-is ∙ w.in_ok-push_point.ensures) before
+          (left _ (ap (option_map (keyed_row v c.args.nodes c.in-Some.name.now)) (sym w.in-Some.ensures.value)))
+      | in_default w ↦
+          told_before _ (none_told (ap string_bytes w.text-is)) before
+          (left _ (ap (option_map (keyed_row v c.args.nodes c.in-Some.name.now)) (sym w.in_default.ensures.value)))
     ]
 
 pub returns : goal.returns
-unfolding report_lines_text
 returns g c =
-    let v = g.R.Replica.state c.args.replica.now in
-    let all : length v.names ≤ c.loop-index.index = omega (arith, c.loop-index-test.false, c.names-index-end.ensures) in
-    c.loop-index.invariant ∙ ap (λ names. flat_map point_lines (filter_map (point_row v c.args.nodes) names)) (take_all c.loop-index.index v.names all)
+    let before = rw c.in-None.ensures.steps.0 at c.loop-name.invariant in
+    sym (append-nil (string_bytes c.loop-name.text)) ∙ before
