@@ -10,3 +10,4 @@ pub mod Choice
 pub mod Names
 pub mod SettingGrammar
 pub mod SettingReading
+pub mod Spelled

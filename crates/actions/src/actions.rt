@@ -3,6 +3,7 @@
 ghost use Rattle.std.specs.Prelude.{◌≡◌, ◌≤◌, ◌<◌, List, length, map, slice_get, option_map, position, string_bytes, IfOk, IfSome, Ok};
 ghost use Rattle.actions.specs.Value.{TermValue, term_value};
 ghost use Rattle.actions.specs.Grammar.{SpellsActions};
+ghost use Rattle.actions.specs.Spelled.{terms_of};
 ghost use Rattle.actions.specs.Canonical.{canonical};
 ghost use Rattle.actions.specs.Reading.{Gives, is_bad_byte, reading};
 ghost use Rattle.actions.specs.Choice.{words_needed};
@@ -15,13 +16,20 @@ use std::alloc::{AllocError, Global};
 use std::cmp::Ordering;
 use std::fmt::Write;
 use std::marker::Model;
+use std::sync::Arc;
 
 /// What an action text says: 1 to 16 terms, and their canonical text.
 ///
 /// Two are equal where their canonical texts are, and ordered as those are, byte by byte. Their
-/// terms are then the same too.
+/// terms are then the same too. They never change, so copies share them.
 #[derive(Debug, Drop)]
 pub struct Actions {
+    spelled: Arc<Spelled>,
+}
+
+// The terms, and their canonical text.
+#[derive(Debug, Drop)]
+struct Spelled {
     terms: Vec<Term>,
     text: String,
 }
@@ -32,15 +40,12 @@ impl Model for Actions {
 
     ghost Value = { List TermValue };
 
-    ghost use Rattle.std.specs.Prelude.{◌≡◌, map, string_bytes};
-    ghost use Rattle.actions.specs.Value.{term_value};
-    ghost use Rattle.actions.specs.Grammar.{SpellsActions};
-    ghost use Rattle.actions.specs.Canonical.{canonical};
+    ghost use Rattle.std.specs.Arc.{arc_value};
+    ghost use Rattle.actions.specs.Spelled.{IsSpelled, terms_of};
 
-    ghost view = { λ a. map term_value a.terms.items };
+    ghost view = { λ a. terms_of (arc_value a.spelled) };
 
-    ghost invariant = { λ a. SpellsActions (string_bytes a.text) (map term_value a.terms.items)
-        × (string_bytes a.text ≡ canonical (map term_value a.terms.items)) };
+    ghost invariant = { λ a. IsSpelled (arc_value a.spelled) };
 }
 
 /// Reads an action text, or answers the first refusal, in the order that `ActionFault` gives.
@@ -73,7 +78,8 @@ pub fn parse_actions(alloc: Global, text: &str) -> Result<Actions, ActionFault>
 {
     let terms = read_terms(alloc, text)?;
     let text = canonical_text(alloc, &terms)?;
-    Ok(Actions { terms, text })
+    let actions = Actions::new(alloc, terms, text)?;
+    Ok(actions)
 }
 
 fn canonical_text(alloc: Global, terms: &[Term]) -> Result<String, AllocError>
@@ -90,27 +96,46 @@ fn canonical_text(alloc: Global, terms: &[Term]) -> Result<String, AllocError>
 }
 
 impl Actions {
+    // Terms with their canonical text, in memory of their own.
+    fn new(alloc: Global, terms: Vec<Term>, text: String) -> Result<Actions, AllocError>
+        requires spelled { SpellsActions (string_bytes text) (map term_value terms.items) }
+        requires canonical { string_bytes text ≡ canonical (map term_value terms.items) }
+        ensures { IfOk result (λ a. a ≡ map term_value terms.items) }
+    {
+        let spelled = Arc::new(alloc, Spelled { terms, text })?;
+        Ok(Actions { spelled })
+    }
+
+    // What copies of it share.
+    fn spelled(&self) -> &Spelled
+        ensures terms { terms_of result.now ≡ self.now }
+        ensures spelled { SpellsActions (string_bytes result.now.text) self.now }
+        ensures canonical { string_bytes result.now.text ≡ canonical self.now }
+    {
+        &self.spelled
+    }
+
     /// How many terms there are, 1 to 16.
     pub fn len(&self) -> usize
         ensures value { result ≡ length self.now }
         ensures some { 0 < result }
         ensures few { result ≤ 16 }
     {
-        self.terms.len()
+        self.spelled().terms.len()
     }
 
     /// The term of a number, counted from 0.
     pub fn term(&self, index: u8) -> Option<&Term>
         ensures { option_map (λ t. term_value t.now) result ≡ slice_get self.now index }
     {
-        self.terms.get(usize::from(index))
+        self.spelled().terms.get(usize::from(index))
     }
 
     pub(crate) fn terms(&self) -> &[Term]
         ensures value { map term_value result.now ≡ self.now }
         ensures few { length result.now ≤ 16 }
     {
-        &self.terms
+        &self.spelled().terms
     }
 
     /// The canonical text, than which no spelling of the same terms is shorter: no spaces but those
@@ -121,7 +146,7 @@ impl Actions {
         // It is read as this value again.
         ensures reads { reading (canonical self.now) ≡ Ok self.now }
     {
-        &self.text
+        &self.spelled().text
     }
 
     /// How many random draws `decide` takes: one for each term whose chance is below 100%, so at
@@ -130,27 +155,16 @@ impl Actions {
         ensures value { result ≡ words_needed self.now }
         ensures few { result ≤ 16 }
     {
-        self.terms.iter().filter(|term| term.takes_word()).count() as u8
+        self.spelled().terms.iter().filter(|term| term.takes_word()).count() as u8
     }
 
-    /// An equal value, in memory of its own.
-    pub fn copied(&self, alloc: Global) -> Result<Actions, AllocError>
+    /// An equal value, which shares its terms and its text with this one, and takes no memory for them.
+    pub fn copied(&self, _alloc: Global) -> Result<Actions, AllocError>
         ensures { IfOk result (λ a. a ≡ self.now) }
     {
-        let terms = copied_terms(alloc, &self.terms)?;
-        let text = String::from_str(alloc, &self.text)?;
-        Ok(Actions { terms, text })
+        let spelled = Arc::try_clone(&self.spelled)?;
+        Ok(Actions { spelled })
     }
-}
-
-fn copied_terms(alloc: Global, terms: &[Term]) -> Result<Vec<Term>, AllocError>
-    ensures { IfOk result (λ v. map term_value v.items ≡ map term_value terms.now) }
-{
-    let mut copy = Vec::new(alloc);
-    for term in terms {
-        copy.push(term.copied(alloc)?)?;
-    }
-    Ok(copy)
 }
 
 impl PartialEq for Actions {
@@ -165,7 +179,7 @@ impl PartialEq for Actions {
     ghost laws = { Prim.search (comparing, rules) };
 
     fn eq(&self, other: &Actions) -> bool {
-        self.text == other.text
+        self.spelled().text == other.spelled().text
     }
 }
 
@@ -192,7 +206,7 @@ impl Ord for Actions {
     ghost matches_eq = { Prim.search (comparing, rules) };
 
     fn cmp(&self, other: &Actions) -> Ordering {
-        self.text.cmp(&other.text)
+        self.spelled().text.cmp(&other.spelled().text)
     }
 }
 

@@ -50,9 +50,9 @@ lawful_together nodes a b h k = record {
 
 module _ (e : EntryValue) where
   entry_lawful : (nodes : ℕ) → IsEntry nodes e → (op : Operation) → IsIn op (operations_of e) → IsLawful nodes op
-  entry_lawful nodes h op k = by_kind (told_of op k)
+  entry_lawful nodes h op k = by_kind (told_of e op k)
     where
-      by_kind : IsTold op → IsLawful nodes op
+      by_kind : IsTold e op → IsLawful nodes op
       by_kind (inl s) = subst (IsLawful nodes) (sym s) (h.name, h.key)
       by_kind (inr (inl (c, k, s))) =
           let one = one_of (IsHit nodes) e.hits h.hits c k in
@@ -69,9 +69,9 @@ module _ (e : EntryValue) where
 
   -- a hit that the entry tells is of its name
   hit_has_name : (name : List ℕ) (node number : ℕ) → IsIn (Count (Hits name node) number) (operations_of e) → e.name ≡ name
-  hit_has_name name node number k = by_kind (told_of (Count (Hits name node) number) k)
+  hit_has_name name node number k = by_kind (told_of e (Count (Hits name node) number) k)
     where
-      by_kind : IsTold (Count (Hits name node) number) → e.name ≡ name
+      by_kind : IsTold e (Count (Hits name node) number) → e.name ≡ name
       by_kind (inl s) = absurd cc
       by_kind (inr (inl (c, k, s))) = cc
       by_kind (inr (inr (inl (c, k, s)))) = absurd cc

@@ -68,8 +68,8 @@ pub data_of_name : {X Y Z : Type 0} (g : Y → Z) (h : X → Option Y) (x : X) (
 data_of_name g h x xs o row = ap (λ r. map g (cons_option r (filter_map h xs))) row ∙ data_of_option g o (filter_map h xs)
 
 -- what a step adds, before what is left to tell
-pub told_before : {A : Type 0} {new old left rest whole : List A} (part : List A) → new ≡ old ++ part → old ++ left ≡ whole → left ≡ part ++ rest → new ++ rest ≡ whole
-told_before {old = old} {rest = rest} part h k l =
+pub told_before : {A : Type 0} {new left whole : List A} (old part rest : List A) → new ≡ old ++ part → old ++ left ≡ whole → left ≡ part ++ rest → new ++ rest ≡ whole
+told_before old part rest h k l =
     ap (λ text. text ++ rest) h ∙ append_assoc old part rest ∙ ap (λ text. old ++ text) (sym l) ∙ k
 
 -- what a step adds to what was told before it, from the start of the text or from where the walk began

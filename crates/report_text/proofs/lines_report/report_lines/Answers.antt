@@ -1,4 +1,4 @@
-use Rattle.std.proofs.Common.{List, ℕ, ap, sym, ◌∙◌, map, flat_map, string_bytes}
+use Rattle.std.proofs.Common.{List, ℕ, ◌++◌, ap, sym, ◌∙◌, map, flat_map, refl, string_bytes}
 use Rattle.std.specs.Prelude.{option_map}
 use Rattle.std.specs.List.{filter_map}
 use Rattle.std.proofs.lemmas.List.{append-nil}
@@ -6,7 +6,6 @@ use Rattle.report_text.specs.Report.{keyed_row, point_row}
 use Rattle.report_text.specs.Lines.{point_lines, report_lines_text}
 use Rattle.report_text.proofs.Walks.{text_of_name, told_before, none_told}
 use Rattle.report_text.proofs.lines_report.report_lines.Goals as goal
-use Rattle.report_text.proofs.lines_report.report_lines.Goals.{in-Some+in_ok-push_point, in_default}
 
 pub loop-name-init : goal.loop-name-init
 unfolding report_lines_text
@@ -15,19 +14,21 @@ loop-name-init g c =
     rw c.into_iter-name-iterator.ensures.into_iter_gives
     (λ i. c.new-text.ensures.bytes i ++ flat_map point_lines (filter_map (point_row v c.args.nodes) (c.points-name-items.ensures.names i)))
 
+pub loop-name-preserved-in-Continue-1 : goal.loop-name-preserved-in-Continue-1
+loop-name-preserved-in-Continue-1 g c =
+    let v = g.R.Replica.state c.args.replica.now in
+    let before = rw c.in-Some.ensures.steps at c.loop-name.invariant in
+    let row = ap (option_map (keyed_row v c.args.nodes c.in-Some.name.now)) (sym c.in-Some-key.ensures.value) in
+    told_before _ _ _ c.in_ok-push_point.ensures before
+    (text_of_name point_lines (point_row v c.args.nodes) c.in-Some.name.now (map (λ e. e.0) c.next.new.self) _ row)
+
 pub loop-name-preserved : goal.loop-name-preserved
 loop-name-preserved g c =
     let v = g.R.Replica.state c.args.replica.now in
     let before = rw c.in-Some.ensures.steps at c.loop-name.invariant in
-    let left = text_of_name point_lines (point_row v c.args.nodes) c.in-Some.name.now (map (λ e. e.0) c.next.new.self) in
-    elim c.match-key.branch [
-      | in-Some+in_ok-push_point w ↦
-          told_before _ (ap string_bytes w.text-is ∙ w.in_ok-push_point.ensures) before
-          (left _ (ap (option_map (keyed_row v c.args.nodes c.in-Some.name.now)) (sym w.in-Some.ensures.value)))
-      | in_default w ↦
-          told_before _ (none_told (ap string_bytes w.text-is)) before
-          (left _ (ap (option_map (keyed_row v c.args.nodes c.in-Some.name.now)) (sym w.in_default.ensures.value)))
-    ]
+    let row = ap (option_map (keyed_row v c.args.nodes c.in-Some.name.now)) (sym c.in_default.ensures.value) in
+    told_before _ _ _ (none_told refl) before
+    (text_of_name point_lines (point_row v c.args.nodes) c.in-Some.name.now (map (λ e. e.0) c.next.new.self) _ row)
 
 pub returns : goal.returns
 returns g c =
