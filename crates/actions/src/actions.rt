@@ -155,7 +155,11 @@ impl Actions {
         ensures value { result ≡ words_needed self.now }
         ensures few { result ≤ 16 }
     {
-        self.spelled().terms.iter().filter(|term| term.takes_word()).count() as u8
+        self.spelled()
+            .terms
+            .iter()
+            .filter(|term| term.takes_word())
+            .count() as u8
     }
 
     /// An equal value, which shares its terms and its text with this one, and takes no memory for them.
