@@ -13,7 +13,7 @@ use Rattle.replica_state.proofs.Changes.{no_change}
 use Rattle.delta_exchange.specs.declared.news.Told.{Told}
 use Rattle.delta_exchange.specs.Changes.{ChangesAt}
 use Rattle.delta_exchange.specs.Marks.{MarksValue, AreUpto, last_changes}
-use Rattle.delta_exchange.specs.News.{brings_key, unknown_in, news_in, news_of, operation_of, with_news, BringsNews}
+use Rattle.delta_exchange.specs.News.{brings_key, unknown_in, news_in, news_of, operation_of, with_news, Brings, BringsNews}
 use Rattle.delta_exchange.specs.Told.{HasLearned}
 use Rattle.delta_exchange.specs.Versions.{VersionedValue, Issues}
 use Rattle.delta_exchange.proofs.NewsChanges.{any_in_part, all_in_part, news_suffice, news_change}
@@ -42,10 +42,11 @@ module _ (v : State) (told : List Operation) (ts : List Told) (e : map news_of t
       let news = map operation_of ts in
       union a (news ++ []) f knows ∙ ap (λ os. fold (a ++ os)) (append-nil news) ∙ same_members (a ++ news) (news ++ a) (turned a news) (turned news a)
 
-  -- so does who knows all that was told
-  pub told_received : (received : State) → received ≡ fold told → BringsNews v received (map operation_of ts)
-  told_received received knows a both f union =
-      union a told f knows ∙ same_members (a ++ told) (told ++ a) (turned a told) (turned told a) ∙ sym (news_suffice a told)
+  -- so does who knows enough of what was told
+  pub told_received : (received : State) → Brings v received told → BringsNews v received (map operation_of ts)
+  told_received received brings a both f union =
+      union a brings.kept f brings.knows ∙ same_members (a ++ brings.kept) (brings.kept ++ a) (turned a brings.kept) (turned brings.kept a)
+      ∙ brings.enough a f ∙ sym (news_suffice a told)
       ∙ ap (λ (x : State). fold (unknown_in x told ++ a)) (sym f) ∙ ap (λ os. fold (os ++ a)) (sym are_unknown)
 
   -- the state that a merge with them comes to
@@ -96,3 +97,15 @@ none_new n e = ap (λ k. nat_lt 0 k) (eqb-true n 0 (sym e))
 pub some_new : (n : ℕ) → (n == 0) ≡ false → nat_lt 0 n ≡ true
 some_new zero e = absurd (true≢false e)
 some_new (suc n) e = grind arith
+
+-- who knows all that was told brings it, and so does who knows nothing where there are no news
+pub all_brings : (v received : State) (told : List Operation) → received ≡ fold told → Brings v received told
+all_brings v received told knows = record { kept = told; knows = knows; told_all = λ op h. h; enough = λ ops f. refl }
+
+pub none_brings : (v received : State) (told : List Operation) → received ≡ fold [] → changes v told ≡ false → Brings v received told
+none_brings v received told knows none = record {
+  kept = [];
+  knows = knows;
+  told_all = λ op h. absurd h;
+  enough = λ ops f. sym (no_change told ops (ap (λ (x : State). changes x told) (sym f) ∙ none));
+}

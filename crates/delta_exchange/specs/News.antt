@@ -7,7 +7,7 @@ use Rattle.operations.specs.declared.counted.Counted.{Counted}
 use Rattle.operations.specs.declared.counted.Counted.TheVariants.{Hits, Execs, Shifts}
 use Rattle.operations.specs.declared.counted.Count.{Count as Counting}
 use Rattle.operations.specs.Operations as cells
-use Rattle.operations.specs.Operations.{Operation, Set, Count, name_in}
+use Rattle.operations.specs.Operations.{Operation, Set, Count, IsIn, name_in}
 use Rattle.replica_state.specs.States.{State}
 use Rattle.replica_state.specs.Folds.{fold, IsUnion}
 use Rattle.replica_state.specs.Knowledge.{is_upto, knows, knows_count}
@@ -45,6 +45,13 @@ news_held h ops =
 abbrev pub BringsNews : State → State → List Operation → Type 0
 BringsNews v received news =
     (ops : List Operation) (both : State) → v ≡ fold ops → IsUnion v received both → both ≡ fold (news ++ ops)
+
+-- a state knows some of what is told, which with what another knows comes to all of it
+pub record Brings (v received : State) (told : List Operation) : Type 0 where
+  pub kept : List Operation
+  pub knows : received ≡ fold kept
+  pub told_all : (op : Operation) → IsIn op kept → IsIn op told
+  pub enough : (ops : List Operation) → v ≡ fold ops → fold (kept ++ ops) ≡ fold (told ++ ops)
 
 -- ---- the same as the code has it
 

@@ -6,7 +6,6 @@ ghost use Rattle.stamp_register.specs.Keys.{key_value};
 ghost use Rattle.replica_state.specs.States.{budget_of, with_key, with_pass, with_shifts};
 ghost use Rattle.std.specs.List.{AllByRecursion};
 ghost use Rattle.operations.specs.Operations.{Operation, IsWellFormed, ShiftsToAnother, operation};
-ghost use Rattle.replica_state.specs.Folds.{fold};
 ghost use Rattle.replica_state.specs.Knowledge.{is_upto, changes};
 ghost use Rattle.operations.specs.declared.counted.Counted.TheVariants.{Execs};
 ghost use Rattle.message_format.specs.Messages.{message_value, operations_in};
@@ -44,7 +43,7 @@ fn executed(spent: Option<u8>, node: u8) -> Option<Counted>
 }
 
 impl<R: Replica> Versioned<R> {
-    ghost use Rattle.delta_exchange.specs.News.{news_in, news_of, operation_of, BringsNews};
+    ghost use Rattle.delta_exchange.specs.News.{news_in, news_of, operation_of, Brings, BringsNews};
     ghost use Rattle.delta_exchange.specs.Versions.{value_of, nothing_known, MayPass, ChangesTo, Issues, Receives};
 
     /// The replica that knows nothing, at version 0.
@@ -224,18 +223,34 @@ impl<R: Replica> Versioned<R> {
             (message_value message.now) (value_of R.state self.new)) }
         ensures err { OnErr result (value_of R.state self.new ≡ value_of R.state self.old) }
     {
-        let received = replica_of(alloc, message)?;
+        let received = self.news(alloc, message)?;
         self.receive_replica(alloc, message, received)
     }
 
-    /// Does what `receive` does, where the replica that knows just what the message tells is at hand.
+    /// What of a message is to be learned, as a replica that is merged: one that knows nothing, where
+    /// all of the message is known, and else all that it tells. Only out of memory is an error.
+    pub fn news(&self, alloc: Global, message: &Message) -> Result<R, AllocError>
+        requires { (nodes : ℕ) × IsMessage nodes (message_value message.now) }
+        ensures { IfOk result (λ received. Brings (value_of R.state self.now).state
+            (R.state received) (operations_in (message_value message.now))) }
+    {
+        let news = news_of_message(alloc, &self.replica, message)?;
+        if news.is_empty() {
+            return Ok(R::empty(alloc));
+        }
+        replica_of(alloc, message)
+    }
+
+    /// Does what `receive` does, where what is to be learned of the message is at hand, as `news`
+    /// answers it.
     pub fn receive_replica(
         &mut self,
         alloc: Global,
         message: &Message,
         received: R,
     ) -> Result<bool, AllocError>
-        requires received { R.state received ≡ fold (operations_in (message_value message.now)) }
+        requires received { Brings (value_of R.state self.old).state
+            (R.state received) (operations_in (message_value message.now)) }
         requires version { (value_of R.state self.old).version + 1 < 2 ^ 64 }
         ensures changed { IfOk result (λ changed. changed ≡ changes
             (value_of R.state self.old).state (operations_in (message_value message.now))) }

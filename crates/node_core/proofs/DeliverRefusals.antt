@@ -11,6 +11,7 @@ use Rattle.replica_state.specs.Unions.{with_names}
 use Rattle.message_format.specs.declared.message.NameEntry.{NameEntry}
 use Rattle.message_format.specs.Messages.{MessageValue, entry_value, operations_of, operations_in}
 use Rattle.message_format.specs.Spelling.{IsMessage}
+use Rattle.delta_exchange.specs.News.{Brings}
 use Rattle.delta_exchange.proofs.LawfulLemmas.{told_lawful}
 use Rattle.message_format.specs.declared.fault.WireFault.{WireFault}
 use Rattle.node_core.specs.declared.config.Config.{Config}
@@ -75,7 +76,7 @@ pub record FindsOwn (k : Kept) (state : State) (m : MessageValue) (ahead : Bool)
 pub record FindsExecutions (k : Kept) (state received : State) (m : MessageValue) (over : Bool) : Type 0 where
   pub entries : List NameEntry
   pub are : map entry_value entries ≡ m.entries
-  pub brings : received ≡ fold (operations_in m)
+  pub brings : Brings state received (operations_in m)
   pub is : over ≡ list_any (λ e. is_overspent_below k.config.nodes state received e.name) entries
 
 -- the same by what the node's code finds

@@ -7,7 +7,7 @@ use Rattle.std.specs.declared.cmp.Ordering.{Ordering}
 use Rattle.std.specs.declared.cmp.Ordering.TheVariants.{Less, Equal, Greater}
 use Rattle.counters.specs.Sums.{node_numbers, sum_below}
 use Rattle.stamp_register.specs.Keys.{KeyValue}
-use Rattle.operations.specs.Operations.{Operation, Cell, Set, Count, Hits, Execs, Shifts, count_at, name_in}
+use Rattle.operations.specs.Operations.{Operation, Cell, Set, Count, Hits, Execs, Shifts, IsIn, count_at, name_in}
 use Rattle.replica_state.specs.States.{State, granted_in, granted_of}
 use Rattle.replica_state.specs.Folds.{fold, key_of, number_at, at_key}
 use Rattle.replica_state.specs.Cells.{held_at}
@@ -17,6 +17,7 @@ use Rattle.replica_state.proofs.SetJoins.{fold-unites}
 use Rattle.replica_state.proofs.StateOrders.{stands_above, stands_equal, stands_below}
 use Rattle.message_format.specs.declared.message.NameEntry.{NameEntry}
 use Rattle.message_format.specs.Messages.{EntryValue, entry_value, operations_of, hits_in, execs_in, shifts_in, grants_in}
+use Rattle.delta_exchange.specs.News.{Brings}
 use Rattle.delta_exchange.specs.Wholes.{IsLawful, AreLawful}
 use Rattle.node_core.specs.Nodes.{setting_of, setting_in, terms_in}
 use Rattle.node_core.specs.Refusals.{any_below, exceeds_count, is_overspent, overspends}
@@ -29,8 +30,12 @@ use Rattle.node_core.proofs.SettingSteps.{names_united, turned}
 pub merged : (ops known : List Operation) (v t : State) → v ≡ fold known → t ≡ fold ops → fold (ops ++ known) ≡ union_of v t
 merged ops known v t e f = turned ops known ∙ sym (fold-unites known ops) ∙ (λ i. union_of ((sym e) i) ((sym f) i))
 
-pub merged_names : (ops known : List Operation) (v t : State) → v ≡ fold known → t ≡ fold ops → length (with_names t.names v.names) ≡ length (fold (ops ++ known)).names
-merged_names ops known v t e f = ap (λ ns. length ns) (sym (names_united v t) ∙ sym (ap (λ (s : State). s.names) (merged ops known v t e f)))
+-- the same where enough is known of what was told
+pub merged_enough : (told known : List Operation) (v t : State) → v ≡ fold known → Brings v t told → fold (told ++ known) ≡ union_of v t
+merged_enough told known v t e brings = sym (brings.enough known e) ∙ merged brings.kept known v t e brings.knows
+
+pub merged_names : (told known : List Operation) (v t : State) → v ≡ fold known → Brings v t told → length (with_names t.names v.names) ≡ length (fold (told ++ known)).names
+merged_names told known v t e brings = ap (λ ns. length ns) (sym (names_united v t) ∙ sym (ap (λ (s : State). s.names) (merged_enough told known v t e brings)))
 
 -- ---- terms that are executed more often than they are counted
 
@@ -82,11 +87,11 @@ sum_both nodes few o f g both same low other =
     ∙ sum_upto nodes node_numbers (λ node. number_both o (f node) (g node)) (λ node high. none_both o (f node) (g node) (low node high) (other node high)) few
 
 -- no node outside of the cluster executed or granted anything
-module _ (nodes : ℕ) (ops : List Operation) (lawful : AreLawful nodes ops) (node : ℕ) (high : nodes ≤ node) where
+module _ (nodes : ℕ) (ops : List Operation) (lawful : (op : Operation) → IsIn op ops → IsLawful nodes op) (node : ℕ) (high : nodes ≤ node) where
   none_under : (cell : KeyValue → Cell) → ((key : KeyValue) (n : ℕ) → IsLawful nodes (Count (cell key) n) → node < nodes) → (held : Option KeyValue) → at_key held (λ key. number_at (cell key) ops) ≡ 0
   none_under cell inside None = refl
   none_under cell inside (Some key) =
-      let none = number_at-least (cell key) 0 ops (λ n h. absurd (let low = inside key n (lawful.each (Count (cell key) n) h) in omega (arith, low, high))) in
+      let none = number_at-least (cell key) 0 ops (λ n h. absurd (let low = inside key n (lawful (Count (cell key) n) h) in omega (arith, low, high))) in
       omega (arith, none)
 
   no_execs : (name : List ℕ) (term : ℕ) → (fold ops).execs name term node ≡ 0
@@ -97,18 +102,21 @@ module _ (nodes : ℕ) (ops : List Operation) (lawful : AreLawful nodes ops) (no
   unfolding fold
   no_grants name term = none_under (λ key. Shifts name key term node node) (λ key n h. h.3) (key_of name ops)
 
-module _ (nodes : ℕ) (few : nodes ≤ node_numbers) (ops known : List Operation) (v t : State) (is_v : v ≡ fold known) (is_t : t ≡ fold ops) (lawful : AreLawful nodes known) (received : AreLawful nodes ops) where
+module _ (nodes : ℕ) (few : nodes ≤ node_numbers) (ops known : List Operation) (v t : State) (is_v : v ≡ fold known) (brings : Brings v t ops) (lawful : AreLawful nodes known) (received : AreLawful nodes ops) where
+  kept_lawful : (op : Operation) → IsIn op brings.kept → IsLawful nodes op
+  kept_lawful op h = received.each op (brings.told_all op h)
+
   all_execs : (name : List ℕ) (term : ℕ) → sum_below node_numbers ((union_of v t).execs name term) ≡ execs_both nodes (key_order (t.key name) (v.key name)) (held_at v name) (held_at t name) term
   all_execs name term =
       sum_both nodes few (key_order (t.key name) (v.key name)) (v.execs name term) (t.execs name term) ((union_of v t).execs name term) (execs_united v t name term)
-      (λ node high. ap (λ (s : State). s.execs name term node) is_v ∙ no_execs nodes known lawful node high name term)
-      (λ node high. ap (λ (s : State). s.execs name term node) is_t ∙ no_execs nodes ops received node high name term)
+      (λ node high. ap (λ (s : State). s.execs name term node) is_v ∙ no_execs nodes known lawful.each node high name term)
+      (λ node high. ap (λ (s : State). s.execs name term node) brings.knows ∙ no_execs nodes brings.kept kept_lawful node high name term)
 
   all_grants : (name : List ℕ) (term : ℕ) → granted_of (union_of v t) name term ≡ granted_both nodes (key_order (t.key name) (v.key name)) (held_at v name) (held_at t name) term
   all_grants name term =
       sum_both nodes few (key_order (t.key name) (v.key name)) (granted_in v name term) (granted_in t name term) (granted_in (union_of v t) name term) (granted_united v t name term)
-      (λ node high. ap (λ (s : State). granted_in s name term node) is_v ∙ no_grants nodes known lawful node high name term)
-      (λ node high. ap (λ (s : State). granted_in s name term node) is_t ∙ no_grants nodes ops received node high name term)
+      (λ node high. ap (λ (s : State). granted_in s name term node) is_v ∙ no_grants nodes known lawful.each node high name term)
+      (λ node high. ap (λ (s : State). granted_in s name term node) brings.knows ∙ no_grants nodes brings.kept kept_lawful node high name term)
 
   name_overspent : (name : List ℕ) → is_overspent (union_of v t) name (terms_in (setting_of (union_of v t) name)) ≡ is_overspent_below nodes v t name
   name_overspent name =
@@ -121,7 +129,7 @@ module _ (nodes : ℕ) (few : nodes ≤ node_numbers) (ops known : List Operatio
   here name = is_overspent_below nodes v t name
 
   overspends_as : (op : Operation) → overspends (fold (ops ++ known)) op ≡ here (name_in op)
-  overspends_as op = ap (λ (s : State). overspends s op) (merged ops known v t is_v is_t) ∙ name_overspent (name_in op)
+  overspends_as op = ap (λ (s : State). overspends s op) (merged_enough ops known v t is_v brings) ∙ name_overspent (name_in op)
 
   all_here : {C : Type 0} (f : C → Operation) (name : List ℕ) → ((c : C) → name_in (f c) ≡ name) → (cs : List C) (rest : List Operation) →
       (here name || list_any (overspends (fold (ops ++ known))) rest) ≡ here name → (here name || list_any (overspends (fold (ops ++ known))) (map f cs ++ rest)) ≡ here name

@@ -17,6 +17,7 @@ use Rattle.message_format.specs.declared.fault.WireFault.{WireFault}
 use Rattle.message_format.specs.Limits.{max_names}
 use Rattle.message_format.specs.Messages.{MessageValue, message_value, operations_in}
 use Rattle.message_format.specs.Spelling.{IsMessage, SpellsMessage}
+use Rattle.delta_exchange.specs.News.{Brings}
 use Rattle.delta_exchange.specs.Wholes.{AreLawful}
 use Rattle.node_core.specs.declared.config.Config.{Config}
 use Rattle.node_core.specs.declared.delivery.Delivery.{Delivery}
@@ -89,11 +90,11 @@ pub record IsDelivery (config : Config) (n : Node) (read : Result Message WireFa
   pub few_names : length (fold ((message_in read).ops ++ n.ops)).names ≤ max_names
 
 -- what these bytes come to at a node: they are read as a message that acknowledges no version which is
--- still to come, and the replica that is received knows just what it tells
+-- still to come, and the replica that is received brings what it tells
 pub record DeliversAs (k : Kept) (bytes : List ℕ) (d : Delivery) : Type 0 where
   pub is_read : message_read k.config.nodes bytes ≡ Ok (message_of (message_value d.message))
   pub spelled : IsMessage k.config.nodes (message_value d.message)
-  pub received : state_in d.received ≡ fold (operations_in (message_value d.message))
+  pub received : Brings (state_shown (node_of k)) (state_in d.received) (operations_in (message_value d.message))
   pub reached : (message_value d.message).ack ≤ (node_of k).marks.version
   pub delivery :
       IsDelivery k.config (node_of k) (message_read k.config.nodes bytes) d.clock

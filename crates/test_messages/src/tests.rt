@@ -11,9 +11,7 @@ mod readings;
 mod versions;
 
 use bytes::{Bytes, EMPTY, ONE_GRANT, ONE_NAME, TWO_POINTS, bytes_of, with_byte};
-use delta_exchange::{
-    MAX_NODES, Message, NameEntry, Versioned, WireFault, decode, encode, replica_of,
-};
+use delta_exchange::{MAX_NODES, Message, NameEntry, Versioned, WireFault, decode, encode};
 use printed::{fault, message_text, read, reading};
 use std::alloc::{AllocError, Global};
 use std::fmt::Debug;

@@ -9,9 +9,8 @@ ghost use Rattle.node_core.specs.Room.{HasRoom};
 ghost use Rattle.node_core.specs.Traces.{Accepts, IsRefusalOf, after_call, delivery_of, refusal, reply_to};
 
 use super::NodeCore;
-use crate::State;
 use crate::delivery::{Delivery, is_any_overspent, is_message_ahead, latest_clock, read_message};
-use delta_exchange::{MAX_NAMES, replica_of};
+use delta_exchange::MAX_NAMES;
 use node_calls::{Ask, Entry, NodeFault, Reply};
 use replica_state::Replica;
 use std::alloc::{AllocError, Global};
@@ -65,7 +64,7 @@ impl NodeCore {
         if message.ack > self.replica.version() {
             return Err(NodeFault::AckAhead);
         }
-        let received: State = replica_of(alloc, &message)?;
+        let received = self.replica.news(alloc, &message)?;
         if is_any_overspent(
             self.config.nodes,
             self.replica.state(),

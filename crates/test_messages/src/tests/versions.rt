@@ -62,7 +62,7 @@ fn receive<R: Replica>(
     let Ok(message) = decode(alloc, 2, bytes) else {
         return Err(AllocError);
     };
-    let received: R = replica_of(alloc, &message)?;
+    let received = versioned.news(alloc, &message)?;
     has_room(versioned).then_some(()).ok_or(AllocError)?;
     versioned.receive_replica(alloc, &message, received)
 }

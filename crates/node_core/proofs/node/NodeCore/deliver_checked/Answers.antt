@@ -1,9 +1,11 @@
-use Rattle.std.proofs.Common.{List, inr, ap, ◌∙◌, refl, map}
+use Rattle.std.proofs.Common.{List, inr, ap, ◌∙◌, refl, sym, subst, map}
 use Rattle.std.specs.List.{list_any, flat_map}
 use Rattle.node_core.specs.Replicas.{state_in, value_in}
 use Rattle.replica_state.specs.Folds.{clock_of}
 use Rattle.message_format.specs.declared.message.NameEntry.{NameEntry}
-use Rattle.message_format.specs.Messages.{message_value, entry_value, operations_of}
+use Rattle.message_format.specs.Messages.{message_value, entry_value, operations_of, operations_in}
+use Rattle.replica_state.specs.States.{State}
+use Rattle.delta_exchange.specs.News.{Brings}
 use Rattle.node_core.specs.Traces.{kept_of}
 use Rattle.node_core.proofs.DeliverRefusals.{Checked, FindsOwn, FindsExecutions, refused_ahead, refused_ack, refused_overspent, refused_many, delivery_accepted, delivery_is, reached}
 use Rattle.node_core.proofs.node.NodeCore.deliver_checked.Goals as goal
@@ -79,7 +81,7 @@ returns-clause-delivery c =
     rw (← c.self.view_is) (record {
       is_read = c.in_ok-message.ensures.ok;
       spelled = c.in_ok-message.ensures.spelled;
-      received = c.in_ok-received.ensures;
+      received = subst (λ (v : State). Brings v (state_in c.in_ok-received.received) (operations_in (message_value c.in_ok-message.message))) (sym c.self.invariant.0.0.state_is) c.in_ok-received.ensures;
       reached = reached checked own c.if-is_message_ahead.false (rw c.version.ensures at c.if-message-version.false) executions;
       delivery = delivery_is checked own c.if-is_message_ahead.false (rw c.version.ensures at c.if-message-version.false) executions
           c.if-is_any_overspent.false (rw c.state-3.ensures at c.names_together.ensures) c.if-names_together-gt-MAX_NAMES.false

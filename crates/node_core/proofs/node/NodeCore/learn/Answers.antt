@@ -1,9 +1,11 @@
-use Rattle.std.proofs.Common.{refl}
-use Rattle.message_format.specs.Messages.{message_value}
+use Rattle.std.proofs.Common.{refl, subst}
+use Rattle.message_format.specs.Messages.{message_value, operations_in}
+use Rattle.replica_state.specs.States.{State}
+use Rattle.delta_exchange.specs.News.{Brings}
 use Rattle.node_core.proofs.VersionsInStep.{entries_with, deliver_with}
 use Rattle.node_calls.specs.Asks.{message_read}
 use Rattle.node_core.specs.Traces.{kept_of}
-use Rattle.node_core.specs.Replicas.{value_in}
+use Rattle.node_core.specs.Replicas.{state_in, value_in}
 use Rattle.node_core.proofs.node.NodeCore.learn.Goals as goal
 
 pub invariant_of-self-2 : goal.invariant_of-self-2
@@ -16,3 +18,8 @@ invariant_of-self-2 c =
     (deliver_with k node.clock (value_in node.replica) _ _ c.self.invariant room
     (message_read node.config.nodes c.args.bytes.items) (message_value c.args.delivery.message) c.args.delivery.clock _ c.in_ok-changed.changed
     told.is_read refl c.new.ensures.items told.delivery told.reached c.in_ok-changed.ensures.changed c.in_ok-changed.ensures.ok c.max-self-inside.ensures)
+
+pub receive_replica-requires-clause-received : goal.receive_replica-requires-clause-received
+receive_replica-requires-clause-received c =
+    let told = rw (← c.self.view_is) at c.requires.delivery in
+    subst (λ (v : State). Brings v (state_in c.args.delivery.received) (operations_in (message_value c.args.delivery.message))) c.self.invariant.0.0.state_is told.received
