@@ -13,8 +13,7 @@ use Rattle.stamp_register.specs.declared.key.Stamp.{Stamp}
 use Rattle.actions.specs.Value.{TaskValue, off, «return», sleep, panic, print, pause, yield, delay}
 use Rattle.node_calls.specs.Asks.{Passed, Unset, NoTerm, Act}
 use Rattle.node_calls.specs.Told.{AskTold, sets, removes, loads, passes, shifts, grants, emits, delivers, ReplyTold, was_set, was_removed, was_loaded, was_passed, was_shifted, was_granted, was_emitted, was_delivered, Told}
-use Rattle.scripts.specs.Fields.{◌>>=◌}
-use Rattle.scripts.specs.Script.{text_in}
+use Rattle.streams.specs.Lines.{◌>>=◌, text_in}
 use Rattle.drills.specs.Lines.{LineTold, head, trace, entry, list, receipt, ReceiptTold}
 
 -- ---- values

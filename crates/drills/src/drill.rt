@@ -6,7 +6,7 @@ ghost use Rattle.drills.specs.Drills.{after_head, after_line, after_text, at_sta
 ghost use Rattle.node_calls.specs.Told.{told};
 
 use crate::line::{Line, line_in};
-use node_core::{Entry, Receipt, Trace};
+use node_calls::{Entry, Receipt, Trace};
 use std::alloc::{AllocError, Global};
 
 /// What is recorded of a drill: the traces of the nodes, in their order, and of each caller the

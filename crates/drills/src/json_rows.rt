@@ -11,7 +11,7 @@ ghost use Rattle.drills.specs.Fits.{AskFits, PassFits, ReplyFits, StampFits, Wor
 ghost use Rattle.drills.specs.Rows.{bytes_data, text_data, count_data, row, words_data, task_data, ask_data, pass_data, reply_data, list_data};
 
 use actions::Task;
-use node_core::{Ask, PassReply, Reply};
+use node_calls::{Ask, PassReply, Reply};
 use serde_json::{Value, json};
 use stamp_register::Stamp;
 use std::alloc::{AllocError, Global};

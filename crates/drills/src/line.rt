@@ -7,10 +7,10 @@ ghost use Rattle.drills.specs.Lines.{line_told, receipt_told};
 ghost use Rattle.drills.specs.Reading.{begin_in, head_in, line_in, line_of, members_in, receipt_in, told_in};
 
 use crate::rows::{ask_in, byte_in, reply_in, word_in, words_in};
-use node_core::{Entry, Receipt};
-use scripts::text_of;
+use node_calls::{Entry, Receipt};
 use serde_json::Value;
 use std::alloc::{AllocError, Global};
+use streams::text_of;
 
 /// A line of a recorded drill.
 #[derive(Drop)]

@@ -8,7 +8,7 @@ ghost use Rattle.drills.specs.Lines.{entry as entry_line, head as head_line, lin
 ghost use Rattle.drills.specs.Written.{IsPrinted, SaysLine};
 
 use crate::json_rows::{ask_value, reply_value, words_value};
-use node_core::{Entry, Receipt};
+use node_calls::{Entry, Receipt};
 use serde_json::{Value, json};
 use std::alloc::{AllocError, Global};
 
