@@ -1,5 +1,5 @@
 -- Recorded drills: the traces of the nodes and the lists of receipts, as lines and as bytes.
-use Rattle.std.specs.Prelude.{ℕ, ◌+◌, ◌==◌, List, [], ◌∷◌, ◌++◌, length, map, flat_map, if◌then◌else◌, Option, Some, None, option_map, option_and_then, Result, Ok, Err, Vec}
+use Rattle.std.specs.Prelude.{◌≡◌, ℕ, ◌+◌, Bool, ◌==◌, List, [], ◌∷◌, ◌++◌, length, map, flat_map, if◌then◌else◌, Option, Some, None, option_map, option_and_then, Result, Ok, Err, Vec}
 use Rattle.std.specs.declared.alloc.Global.{Global}
 use Rattle.node_calls.specs.declared.receipt.Receipt.{Receipt}
 use Rattle.node_calls.specs.declared.trace.Entry.{Entry}
@@ -71,6 +71,10 @@ in_last x (part ∷ next ∷ parts) = option_map (λ rest. part ∷ rest) (in_la
 -- a new part, where this is its number
 abbrev pub begun : {A : Type 0} → ℕ → List (List A) → Option (List (List A))
 begun number parts = if number == length parts then Some (parts ++ [] ∷ []) else None
+
+-- whether something was put: it comes to this then, and else to nothing
+abbrev pub IsPut : {A : Type 0} → Bool → Option A → A → Type 0
+IsPut put next new = next ≡ (if put then Some new else None)
 
 -- the traces come before the lists
 abbrev pub with_traces : DrillTold → Option (List (List Told)) → Option DrillTold
