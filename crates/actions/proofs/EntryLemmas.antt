@@ -7,7 +7,7 @@ use Rattle.actions.specs.declared.fault.ActionFault.{ActionFault}
 use Rattle.actions.specs.declared.fault.SettingFault.{SettingFault}
 use Rattle.actions.specs.declared.fault.SettingFault.TheVariants as faults
 use Rattle.actions.specs.Value.{TermValue}
-use Rattle.actions.specs.SettingReading.{is_want_of_memory, terms_read, entry_at, entries_at}
+use Rattle.actions.specs.SettingReading.{is_out_of_memory, terms_read, entry_at, entries_at}
 
 abbrev pub Point : Type 0
 Point = List ℕ × List TermValue
@@ -54,9 +54,9 @@ stops f front k entry others total h so_far =
     sym so_far ∙ one
 
 ends : (e : SettingFault) (front : List Point) (k : ℕ) (entry : List ℕ) (others : List (List ℕ)) (total : Reads)
-    → FailsUnless is_want_of_memory e (entry_at k entry) → with_front front (entries_at k (entry ∷ others)) ≡ total → FailsUnless is_want_of_memory e total
+    → FailsUnless is_out_of_memory e (entry_at k entry) → with_front front (entries_at k (entry ∷ others)) ≡ total → FailsUnless is_out_of_memory e total
 ends e front k entry others total h so_far =
-    fails_along is_want_of_memory e (entry_at k entry) total (λ f refused. stops f front k entry others total refused so_far) h
+    fails_along is_out_of_memory e (entry_at k entry) total (λ f refused. stops f front k entry others total refused so_far) h
 
 is_done : (front : List Point) (k : ℕ) (total : Reads) → with_front front (entries_at k []) ≡ total
     → total ≡ Ok front
@@ -81,8 +81,8 @@ goes_on_at front parts i d n total lt h so_far =
     (ap (λ (x : List (List ℕ)). with_front front (entries_at i x)) (sym (at_turn parts i d lt)) ∙ so_far)
 
 pub ends_at : (e : SettingFault) (front : List Point) (parts : List (Bor (List ℕ))) (i : ℕ) (d : Bor (List ℕ)) (total : Reads)
-    → i < length parts → FailsUnless is_want_of_memory e (entry_at i (get_or parts i d).now)
-    → with_front front (entries_at i (texts (drop i parts))) ≡ total → FailsUnless is_want_of_memory e total
+    → i < length parts → FailsUnless is_out_of_memory e (entry_at i (get_or parts i d).now)
+    → with_front front (entries_at i (texts (drop i parts))) ≡ total → FailsUnless is_out_of_memory e total
 ends_at e front parts i d total lt h so_far =
     ends e front i (get_or parts i d).now (texts (drop (i + 1) parts)) total h
     (ap (λ (x : List (List ℕ)). with_front front (entries_at i x)) (sym (at_turn parts i d lt)) ∙ so_far)

@@ -5,7 +5,7 @@ use Rattle.refusals.specs.Refusals.{◌>>=◌, FailsUnless}
 use Rattle.refusals.proofs.StepLemmas.{fails_along}
 use Rattle.actions.specs.declared.fault.ActionFault.{ActionFault}
 use Rattle.actions.specs.Value.{TermValue}
-use Rattle.actions.specs.Reading.{is_want_of_memory, term_at, terms_at, trimmed_text}
+use Rattle.actions.specs.Reading.{is_out_of_memory, term_at, terms_at, trimmed_text}
 
 abbrev Reads : Type 0
 Reads = Result (List TermValue) ActionFault
@@ -37,10 +37,10 @@ stops f front k piece others total h so_far =
     sym so_far ∙ one
 
 pub ends : (e : ActionFault) (front : List TermValue) (k : ℕ) (piece : List ℕ) (others : List (List ℕ)) (total : Reads)
-    → FailsUnless is_want_of_memory e (term_at k (trimmed_text piece))
-    → with_front front (terms_at k (piece ∷ others)) ≡ total → FailsUnless is_want_of_memory e total
+    → FailsUnless is_out_of_memory e (term_at k (trimmed_text piece))
+    → with_front front (terms_at k (piece ∷ others)) ≡ total → FailsUnless is_out_of_memory e total
 ends e front k piece others total h so_far =
-    fails_along is_want_of_memory e (term_at k (trimmed_text piece)) total (λ f refused. stops f front k piece others total refused so_far) h
+    fails_along is_out_of_memory e (term_at k (trimmed_text piece)) total (λ f refused. stops f front k piece others total refused so_far) h
 
 pub is_done : (front : List TermValue) (k : ℕ) (total : Reads) → with_front front (terms_at k []) ≡ total
     → total ≡ Ok front
@@ -65,8 +65,8 @@ goes_on_at front parts i d n total lt h so_far =
     (ap (λ (x : List (List ℕ)). with_front front (terms_at i x)) (sym (at_turn parts i d lt)) ∙ so_far)
 
 pub ends_at : (e : ActionFault) (front : List TermValue) (parts : List (Bor (List ℕ))) (i : ℕ) (d : Bor (List ℕ)) (total : Reads)
-    → i < length parts → FailsUnless is_want_of_memory e (term_at i (trimmed_text (get_or parts i d).now))
-    → with_front front (terms_at i (texts (drop i parts))) ≡ total → FailsUnless is_want_of_memory e total
+    → i < length parts → FailsUnless is_out_of_memory e (term_at i (trimmed_text (get_or parts i d).now))
+    → with_front front (terms_at i (texts (drop i parts))) ≡ total → FailsUnless is_out_of_memory e total
 ends_at e front parts i d total lt h so_far =
     ends e front i (get_or parts i d).now (texts (drop (i + 1) parts)) total h
     (ap (λ (x : List (List ℕ)). with_front front (terms_at i x)) (sym (at_turn parts i d lt)) ∙ so_far)

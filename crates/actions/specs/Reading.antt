@@ -10,13 +10,13 @@ use Rattle.actions.specs.Numbers.{number_at, percent_at}
 use Rattle.actions.specs.Value.{TaskValue, off, «return», sleep, panic, print, pause, yield, delay, TermValue}
 
 -- memory was refused
-abbrev pub is_want_of_memory : ActionFault → Bool
-is_want_of_memory faults.OutOfMemory = true
-is_want_of_memory fault = false
+abbrev pub is_out_of_memory : ActionFault → Bool
+is_out_of_memory faults.OutOfMemory = true
+is_out_of_memory fault = false
 
 -- what is read is what a function returned, seen by `view`, unless memory ran out
 abbrev pub Gives : {X Y : Type 0} → (X → Y) → Result X ActionFault → Result Y ActionFault → Type 0
-Gives = GivesUnless is_want_of_memory
+Gives = GivesUnless is_out_of_memory
 
 -- control bytes and the semicolon
 abbrev pub is_bad_byte : ℕ → Bool

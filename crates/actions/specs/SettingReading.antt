@@ -12,13 +12,13 @@ use Rattle.actions.specs.Reading.{reading, trimmed_text}
 use Rattle.actions.specs.Value.{TermValue}
 
 -- memory was refused
-abbrev pub is_want_of_memory : SettingFault → Bool
-is_want_of_memory faults.OutOfMemory = true
-is_want_of_memory fault = false
+abbrev pub is_out_of_memory : SettingFault → Bool
+is_out_of_memory faults.OutOfMemory = true
+is_out_of_memory fault = false
 
 -- what is read is what a function returned, seen by `view`, unless memory ran out
 abbrev pub Gives : {X Y : Type 0} → (X → Y) → Result X SettingFault → Result Y SettingFault → Type 0
-Gives = GivesUnless is_want_of_memory
+Gives = GivesUnless is_out_of_memory
 
 -- the entries that aren't only spaces, without the spaces at both ends
 unfoldable pub entries : List ℕ → List (List ℕ)

@@ -32,7 +32,7 @@ fn is_emit_told(nodes: u8, reply: &Reply)
     }
 }
 
-fn is_want_of_memory(fault: NodeFault) -> bool
+fn is_out_of_memory(fault: NodeFault) -> bool
     ensures { IsTrue result ↔ (fault ≡ NodeFault.OutOfMemory) }
 {
     matches!(fault, NodeFault::OutOfMemory)
@@ -53,7 +53,7 @@ fn gives(alloc: Global, core: &mut NodeCore, entry: &Entry) -> Result<bool, Node
     match core.apply(alloc, &entry.ask, &entry.words) {
         Ok(made) => Ok(same_reply(&made.reply, &entry.reply)),
         Err(fault) => {
-            if is_want_of_memory(fault) {
+            if is_out_of_memory(fault) {
                 Err(fault)
             } else {
                 Ok(false)

@@ -7,7 +7,7 @@ use Rattle.std.proofs.lemmas.Option.{slice_get-get_or, slice_get-map}
 use Rattle.message_format.specs.declared.fault.WireFault.{WireFault}
 use Rattle.refusals.specs.Refusals.{◌>>=◌}
 use Rattle.refusals.proofs.StepLemmas.{fails_along}
-use Rattle.message_format.specs.Reading.{Fails, each_at, is_want_of_memory}
+use Rattle.message_format.specs.Reading.{Fails, each_at, is_out_of_memory}
 
 -- the last one, if there is one
 abbrev pub last_of : {C : Type 0} → List C → Option C
@@ -72,7 +72,7 @@ module _ {C : Type 0} (one_at : Option C → List ℕ → Result (C × List ℕ)
   pub ends : (e : WireFault) (front : List C) (count i : ℕ) (left : List ℕ) (total : Result (List C × List ℕ) WireFault) → i < count
       → Fails e (one_at (last_of front) left) → progress front count i left ≡ total → Fails e total
   ends e front count i left total lt h so_far =
-      fails_along is_want_of_memory e (one_at (last_of front) left) total (λ f refused. stops f front count i left total lt refused so_far) h
+      fails_along is_out_of_memory e (one_at (last_of front) left) total (λ f refused. stops f front count i left total lt refused so_far) h
 
   pub is_done : (front : List C) (count i : ℕ) (left : List ℕ) (total : Result (List C × List ℕ) WireFault) → count ≤ i → progress front count i left ≡ total → total ≡ Ok (front, left)
   unfolding each_at

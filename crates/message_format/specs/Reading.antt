@@ -23,17 +23,17 @@ use Rattle.message_format.specs.Messages.{EntryValue, MessageValue}
 use Rattle.message_format.specs.Spelling.{max_message, magic, has_grants, hit_place, exec_place, shift_place}
 
 -- memory was refused
-abbrev pub is_want_of_memory : WireFault → Bool
-is_want_of_memory faults.OutOfMemory = true
-is_want_of_memory fault = false
+abbrev pub is_out_of_memory : WireFault → Bool
+is_out_of_memory faults.OutOfMemory = true
+is_out_of_memory fault = false
 
 -- what is read is this fault; out of memory says nothing of that
 abbrev pub Fails : {Y : Type 0} → WireFault → Result Y WireFault → Type 0
-Fails = FailsUnless is_want_of_memory
+Fails = FailsUnless is_out_of_memory
 
 -- what is read is what a function returned, seen by `view`, unless memory ran out
 abbrev pub Gives : {X Y : Type 0} → (X → Y) → Result X WireFault → Result Y WireFault → Type 0
-Gives = GivesUnless is_want_of_memory
+Gives = GivesUnless is_out_of_memory
 
 -- what is read is what a function returned, which takes no memory
 abbrev pub GivesAlways : {X Y : Type 0} → (X → Y) → Result X WireFault → Result Y WireFault → Type 0

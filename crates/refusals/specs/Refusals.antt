@@ -15,11 +15,11 @@ abbrev pub ◌>>=◌ : {F A B : Type 0} → Result A F → (A → Result B F) �
 (Err fault) >>= f = Err fault
 
 -- What a function returned, against what a definition reads. A definition knows no out of memory: a function that met
--- it says nothing of what is read. `is_want_of_memory` tells such faults.
-module _ {F : Type 0} (is_want_of_memory : F → Bool) where
+-- it says nothing of what is read. `is_out_of_memory` tells such faults.
+module _ {F : Type 0} (is_out_of_memory : F → Bool) where
   -- what is read is this fault, unless memory was refused
   abbrev pub FailsUnless : {Y : Type 0} → F → Result Y F → Type 0
-  FailsUnless fault read = OnFalse (is_want_of_memory fault) (read ≡ Err fault)
+  FailsUnless fault read = OnFalse (is_out_of_memory fault) (read ≡ Err fault)
 
   -- what is read is what the function returned, seen by `view`, unless memory was refused
   abbrev pub GivesUnless : {X Y : Type 0} → (X → Y) → Result X F → Result Y F → Type 0

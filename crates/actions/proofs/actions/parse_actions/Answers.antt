@@ -7,7 +7,7 @@ use Rattle.actions.specs.Value.{TermValue, term_value}
 use Rattle.actions.specs.declared.task.Term.{Term}
 use Rattle.actions.specs.Grammar.{SpellsActions}
 use Rattle.actions.specs.Canonical.{canonical}
-use Rattle.actions.specs.Reading.{is_want_of_memory, is_bad_byte, reading}
+use Rattle.actions.specs.Reading.{is_out_of_memory, is_bad_byte, reading}
 use Rattle.actions.specs.declared.fault.ActionFault.{ActionFault}
 use Rattle.actions.specs.declared.fault.ActionFault.TheVariants.{BadByte}
 use Rattle.actions.proofs.Sound.{reading_sound}
@@ -30,7 +30,7 @@ same_fault X Y None e h = tt
 pub returns-in_err-terms-clause-only : goal.returns-in_err-terms-clause-only
 returns-in_err-terms-clause-only c = λ ts h.
     let p = err_from_is_err_and c.from_residual.result c.from_residual.ensures.1 in
-    rw (p.1, p.2) (subst (FailsUnless is_want_of_memory c.in_err-terms.field-0.0) (reading_complete c.args.text.now ts h) c.in_err-terms.ensures.exact)
+    rw (p.1, p.2) (subst (FailsUnless is_out_of_memory c.in_err-terms.field-0.0) (reading_complete c.args.text.now ts h) c.in_err-terms.ensures.exact)
 
 pub returns-in_err-terms-clause-bad_byte : goal.returns-in_err-terms-clause-bad_byte
 returns-in_err-terms-clause-bad_byte c = λ short.

@@ -20,8 +20,8 @@ returns-in-Ok-clause-wrong c = OnFalse_from c.same_reply.result _ (λ h.
     c.in-Ok.ensures.delta
     (λ same. let clash : true ≡ false = sym (c.same_reply.ensures.1 same) ∙ h in cc))
 
-pub returns-else-is_want_of_memory-clause-wrong : goal.returns-else-is_want_of_memory-clause-wrong
-returns-else-is_want_of_memory-clause-wrong c =
+pub returns-else-is_out_of_memory-clause-wrong : goal.returns-else-is_out_of_memory-clause-wrong
+returns-else-is_out_of_memory-clause-wrong c =
     not_accepted c.args.core.now c.args.entry.now c.in-Err.fault
     (subst (λ ws. IsRefusalOf c.args.core.now (ask_value_first c.args.core.now.config.nodes c.args.entry.now.ask) ws c.in-Err.fault) c.deref.ensures.value c.in-Err.ensures.refused)
-    (λ is. let clash : true ≡ false = sym (c.is_want_of_memory.ensures.1 is) ∙ c.if-is_want_of_memory.false in cc)
+    (λ is. let clash : true ≡ false = sym (c.is_out_of_memory.ensures.1 is) ∙ c.if-is_out_of_memory.false in cc)
