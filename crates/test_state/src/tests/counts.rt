@@ -1,6 +1,6 @@
 //! Counters of hits and budgets: calls in tables, each with its answer and what is then read.
 
-use super::joined::expect_joins;
+use super::joined::{expect_joins, two};
 use super::{expect, expect_print};
 use counters::{Budget, CounterFault, HitCounter};
 use lattice_laws::Join;
@@ -49,7 +49,7 @@ fn hit(rt: &impl Abort, alloc: Global, counter: &mut HitCounter, call: HitCall) 
 }
 
 /// A full cell takes no more hits, and the others do.
-const HITS: [(HitCall, Answer, Hits); 7] = [
+const HITS: &[(HitCall, Answer, Hits)] = &[
     (HitCall::Raise(0, 0), Ok(None), (0, 0, 0)),
     (HitCall::Hit(0), Ok(Some(1)), (1, 0, 1)),
     (HitCall::Hit(0), Ok(Some(2)), (2, 0, 2)),
@@ -75,8 +75,8 @@ const HITS: [(HitCall, Answer, Hits); 7] = [
 fn counts_hits(rt: HostRuntime) {
     let mut counter = HitCounter::new(rt.alloc());
     for (call, answer, after) in HITS {
-        expect(&rt, &hit(&rt, rt.alloc(), &mut counter, call), &answer);
-        expect(&rt, &hits(&counter), &after);
+        expect(&rt, &hit(&rt, rt.alloc(), &mut counter, *call), answer);
+        expect(&rt, &hits(&counter), after);
     }
 }
 
@@ -263,19 +263,25 @@ fn sums(budget: &Budget) -> [(u128, u128); 2] {
     ]
 }
 
+fn expect_seen(rt: &impl Abort, budget: &Budget, wanted: &Seen) {
+    expect(rt, &seen(budget), wanted);
+    let [read, counted] = sums(budget);
+    expect(rt, &read, &counted);
+}
+
 fn follow(rt: &impl Abort, alloc: Global, calls: &[(Call, Answer, Seen)]) {
     let mut budget = Budget::new(alloc);
     for (call, answer, after) in calls {
         expect(rt, &ask(rt, alloc, &mut budget, *call), answer);
-        expect(rt, &seen(&budget), after);
-        let [read, counted] = sums(&budget);
-        expect(rt, &read, &counted);
+        expect_seen(rt, &budget, after);
     }
 }
 
+const BUDGETS: &[&[(Call, Answer, Seen)]] = &[SPENDS, SHIFTS, RAISES, GRANTS, SHIFTS_TO_ITSELF];
+
 #[test]
 fn budgets(rt: HostRuntime) {
-    for calls in [SPENDS, SHIFTS, RAISES, GRANTS, SHIFTS_TO_ITSELF] {
+    for calls in BUDGETS {
         follow(&rt, rt.alloc(), calls);
     }
 }
@@ -296,7 +302,7 @@ const RAISED_TWICE: &[HitCall] = &[HitCall::Raise(0, 4), HitCall::Raise(1, 7)];
 #[test]
 fn joins_hits(rt: HostRuntime) -> Result<(), Fail> {
     let alloc = rt.alloc();
-    let both = (called(alloc, RAISED_ONCE)?, called(alloc, RAISED_TWICE)?);
+    let both = two(called(alloc, RAISED_ONCE), called(alloc, RAISED_TWICE))?;
     let orders = ((false, false), false);
     expect_joins(&rt, alloc, both, orders, hits, &(5, 7, 12))?;
     Ok(())
@@ -318,41 +324,45 @@ const MOVED: &[Call] = &[Call::RaiseMoved(0, 1, 2), Call::RaiseMoved(1, 0, 1)];
 #[test]
 fn joins_budgets(rt: HostRuntime) -> Result<(), Fail> {
     let alloc = rt.alloc();
-    let both = (taken(alloc, SPENT)?, taken(alloc, MOVED)?);
+    let both = two(taken(alloc, SPENT), taken(alloc, MOVED))?;
     let orders = ((false, false), false);
     let wanted = ((1, 2, 0, 0), (0, 1, 1, 0));
     expect_joins(&rt, alloc, both, orders, seen, &wanted)?;
     Ok(())
 }
 
+fn is_least<J: Join>(value: J) -> bool {
+    value.is_bottom()
+}
+
 /// Nothing counted is the bottom.
 #[test]
 fn least_counts(rt: HostRuntime) {
-    let bottoms = (
-        HitCounter::new(rt.alloc()).is_bottom(),
-        Budget::new(rt.alloc()).is_bottom(),
-    );
-    expect(&rt, &bottoms, &(true, true));
+    let hits = is_least(HitCounter::new(rt.alloc()));
+    let budget = is_least(Budget::new(rt.alloc()));
+    expect(&rt, &(hits, budget), &(true, true));
 }
+
+const FAULTS: &[(CounterFault, &str)] = &[
+    (
+        CounterFault::TooFewRights { have: -3 },
+        "B1 TooFewRights have=-3",
+    ),
+    (
+        CounterFault::TooFewRights { have: 2 },
+        "B1 TooFewRights have=2",
+    ),
+    (CounterFault::CellFull, "B2 CellFull"),
+    (CounterFault::ZeroAmount, "B3 ZeroAmount"),
+    (CounterFault::SameNode, "B4 SameNode"),
+    (CounterFault::OutOfMemory, "B5 OutOfMemory"),
+];
 
 /// Each fault shows its number, its name and what it holds.
 #[test]
 fn prints(rt: HostRuntime) -> Result<(), Fail> {
-    for (fault, wanted) in [
-        (
-            CounterFault::TooFewRights { have: -3 },
-            "B1 TooFewRights have=-3",
-        ),
-        (
-            CounterFault::TooFewRights { have: 2 },
-            "B1 TooFewRights have=2",
-        ),
-        (CounterFault::CellFull, "B2 CellFull"),
-        (CounterFault::ZeroAmount, "B3 ZeroAmount"),
-        (CounterFault::SameNode, "B4 SameNode"),
-        (CounterFault::OutOfMemory, "B5 OutOfMemory"),
-    ] {
-        expect_print(&rt, rt.alloc(), &fault, wanted)?;
+    for (fault, wanted) in FAULTS {
+        expect_print(&rt, rt.alloc(), fault, wanted)?;
     }
     Ok(())
 }

@@ -16,20 +16,38 @@ pub(super) fn same<J: Join>(one: &J, other: &J) -> bool {
     order(one, other) == (true, true)
 }
 
-/// Joins another value in place. If its memory is refused, nothing may have changed, and it is
-/// asked again.
-fn join_in<J: Join>(
+/// Two values that were made, or why one of them wasn't. They are dropped here, once for all types.
+pub(super) fn two<J: Drop, E: Drop>(one: Result<J, E>, other: Result<J, E>) -> Result<(J, J), E> {
+    Ok((one?, other?))
+}
+
+fn take_in<J: Join>(alloc: Global, value: &mut J, other: &J) -> Result<(), AllocError> {
+    value.join_in(alloc, other.copied(alloc)?)
+}
+
+/// A copy of a value that another one is joined to in place. If its memory is refused, nothing may
+/// have changed, and it is asked again.
+fn grown<J: Join>(rt: &impl Abort, alloc: Global, one: &J, other: &J) -> Result<J, AllocError> {
+    let mut grown = one.copied(alloc)?;
+    expect(rt, &same(&grown, one), &true);
+    if take_in(alloc, &mut grown, other).is_err() {
+        expect(rt, &same(&grown, one), &true);
+        take_in(alloc, &mut grown, other)?;
+    }
+    Ok(grown)
+}
+
+/// What joins two values, which has to be above the first and to mean the same as what has grown.
+fn beside<J: Join>(
     rt: &impl Abort,
     alloc: Global,
-    value: &mut J,
+    one: &J,
     other: &J,
-) -> Result<(), AllocError> {
-    let before = value.copied(alloc)?;
-    if value.join_in(alloc, other.copied(alloc)?).is_err() {
-        expect(rt, &same(value, &before), &true);
-        value.join_in(alloc, other.copied(alloc)?)?;
-    }
-    Ok(())
+    grown: &J,
+) -> Result<J, AllocError> {
+    let both = one.joined(alloc, other)?;
+    expect(rt, &(one.below(&both), same(grown, &both)), &(true, true));
+    Ok(both)
 }
 
 /// Ends the test where two values aren't below each other so, the first isn't the bottom or is it,
@@ -47,14 +65,11 @@ pub(super) fn expect_joins<J: Join, V: PartialEq + Debug + Drop, F: Fn(&J) -> V>
 {
     let (one, other) = &values;
     expect(rt, &(order(one, other), one.is_bottom()), &orders);
-    let mut grown = one.copied(alloc)?;
-    expect(rt, &same(&grown, one), &true);
-    join_in(rt, alloc, &mut grown, other)?;
+    let grown = grown(rt, alloc, one, other)?;
     expect(rt, &show(&grown), wanted);
     for (left, right) in [(one, other), (other, one)] {
-        let both = left.joined(alloc, right)?;
+        let both = beside(rt, alloc, left, right, &grown)?;
         expect(rt, &show(&both), wanted);
-        expect(rt, &(left.below(&both), same(&grown, &both)), &(true, true));
     }
     Ok(())
 }

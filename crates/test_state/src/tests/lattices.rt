@@ -1,5 +1,5 @@
 use super::expect;
-use super::joined::expect_joins;
+use super::joined::{expect_joins, two};
 use lattice_laws::{Held, Join, LexOf, MapOf, Max, PairOf};
 use std::alloc::{AllocError, Global};
 use std::mem;
@@ -12,58 +12,57 @@ type Table = MapOf<u8, Row>;
 
 type Both = PairOf<Max, Max>;
 
+/// Two numbers, the join, and whether each is below the other.
+const NUMBERS: &[(u64, u64, u64, (bool, bool))] = &[
+    (3, 5, 5, (true, false)),
+    (5, 3, 5, (false, true)),
+    (4, 4, 4, (true, true)),
+    (0, 7, 7, (true, false)),
+];
+
+fn number_of(number: &Max) -> u64 {
+    number.0
+}
+
 /// The greater number is the join, and 0 is the bottom.
 #[test]
 fn numbers(rt: HostRuntime) -> Result<(), Fail> {
-    for (one, other, both, is_below) in [
-        (3, 5, 5, (true, false)),
-        (5, 3, 5, (false, true)),
-        (4, 4, 4, (true, true)),
-        (0, 7, 7, (true, false)),
-    ] {
-        let values = (Max(one), Max(other));
-        let orders = (is_below, one == 0);
-        expect_joins(
-            &rt,
-            rt.alloc(),
-            values,
-            orders,
-            |number| *number,
-            &Max(both),
-        )?;
+    for (one, other, both, is_below) in NUMBERS {
+        let values = (Max(*one), Max(*other));
+        let orders = (*is_below, *one == 0);
+        expect_joins(&rt, rt.alloc(), values, orders, number_of, both)?;
     }
     Ok(())
 }
 
-fn pair((first, second): (u64, u64)) -> Both {
+type Numbers = (u64, u64);
+
+fn pair((first, second): Numbers) -> Both {
     PairOf {
         first: Max(first),
         second: Max(second),
     }
 }
 
-fn parts(pair: &Both) -> (u64, u64) {
+fn parts(pair: &Both) -> Numbers {
     (pair.first.0, pair.second.0)
 }
+
+/// Two pairs, the join, and whether each is below the other.
+const PAIRS: &[(Numbers, Numbers, Numbers, (bool, bool))] = &[
+    ((2, 3), (4, 1), (4, 3), (false, false)),
+    ((4, 1), (4, 3), (4, 3), (true, false)),
+    ((4, 3), (5, 6), (5, 6), (true, false)),
+    ((0, 0), (0, 0), (0, 0), (true, true)),
+];
 
 /// Of pairs each part joins with its like.
 #[test]
 fn pairs(rt: HostRuntime) -> Result<(), Fail> {
-    for (one, other, both, is_below) in [
-        ((2, 3), (4, 1), (4, 3), (false, false)),
-        ((4, 1), (4, 3), (4, 3), (true, false)),
-        ((4, 3), (5, 6), (5, 6), (true, false)),
-        ((0, 0), (0, 0), (0, 0), (true, true)),
-    ] {
-        let orders = (is_below, one == (0, 0));
-        expect_joins(
-            &rt,
-            rt.alloc(),
-            (pair(one), pair(other)),
-            orders,
-            parts,
-            &both,
-        )?;
+    for (one, other, both, is_below) in PAIRS {
+        let values = (pair(*one), pair(*other));
+        let orders = (*is_below, *one == (0, 0));
+        expect_joins(&rt, rt.alloc(), values, orders, parts, both)?;
     }
     Ok(())
 }
@@ -97,18 +96,35 @@ fn entries(row: &Row) -> [Option<(u8, u64)>; 3] {
     [0, 1, 2].map(|place| row.at(place).map(|(key, value)| (*key, value.0)))
 }
 
+/// A key and a number to which it is raised, the number that it then has, and how many keys there
+/// then are.
+const RAISES: &[(u8, u64, u64, usize)] = &[(7, 3, 3, 1), (7, 1, 3, 1), (2, 0, 0, 1), (4, 8, 8, 2)];
+
+fn raise_to(alloc: Global, row: &mut Row, key: u8, number: u64) -> Result<(), AllocError> {
+    row.raise(alloc, key, Max(number))
+}
+
+/// What a row has of a key, whether it is empty, and how many keys it has.
+fn after_raise(row: &Row, key: u8) -> (u64, bool, usize) {
+    (number(row, key), row.is_empty(), row.len())
+}
+
+/// What a row has at its places, and how many entries it goes over.
+fn entries_and_count(row: &Row) -> ([Option<(u8, u64)>; 3], usize) {
+    (entries(row), row.iter().count())
+}
+
 /// A map keeps the greater value of a key, and stores no bottom.
 #[test]
 fn raises(rt: HostRuntime) -> Result<(), Fail> {
     let mut map = Row::new(rt.alloc());
     expect(&rt, &map.is_empty(), &true);
-    for (key, value, wanted, len) in [(7, 3, 3, 1), (7, 1, 3, 1), (2, 0, 0, 1), (4, 8, 8, 2)] {
-        map.raise(rt.alloc(), key, Max(value))?;
-        expect(&rt, &number(&map, key), &wanted);
-        expect(&rt, &(map.is_empty(), map.len()), &(false, len));
+    for (key, value, wanted, len) in RAISES {
+        raise_to(rt.alloc(), &mut map, *key, *value)?;
+        expect(&rt, &after_raise(&map, *key), &(*wanted, false, *len));
     }
-    expect(&rt, &entries(&map), &[Some((4, 8)), Some((7, 3)), None]);
-    expect(&rt, &map.iter().count(), &2);
+    let wanted = [Some((4, 8)), Some((7, 3)), None];
+    expect(&rt, &entries_and_count(&map), &(wanted, 2));
     Ok(())
 }
 
@@ -122,16 +138,17 @@ fn row(alloc: Global, first: u64, second: u64) -> Result<Row, AllocError> {
     Ok(row)
 }
 
+fn raise_once(alloc: Global, table: &mut Table, line: Line) -> Result<(), AllocError> {
+    let (line, first, second) = line;
+    table.raise(alloc, line, row(alloc, first, second)?)
+}
+
 /// Raises a line. If its memory is refused, nothing may have changed, and it is asked again.
 fn raise(rt: &impl Abort, alloc: Global, table: &mut Table, line: Line) -> Result<(), AllocError> {
-    let (line, first, second) = line;
     let before = cells(table);
-    if table
-        .raise(alloc, line, row(alloc, first, second)?)
-        .is_err()
-    {
+    if raise_once(alloc, table, line).is_err() {
         expect(rt, &cells(table), &before);
-        table.raise(alloc, line, row(alloc, first, second)?)?;
+        raise_once(alloc, table, line)?;
     }
     Ok(())
 }
@@ -146,7 +163,7 @@ fn table(rt: &impl Abort, alloc: Global, lines: &[Line]) -> Result<Table, AllocE
 
 /// Two tables, whether each is below the other, and what both of them show: the cells of two lines,
 /// and how many lines there are.
-const TABLES: [(&[Line], &[Line], (bool, bool), ([u64; 4], usize)); 4] = [
+const TABLES: &[(&[Line], &[Line], (bool, bool), ([u64; 4], usize))] = &[
     (
         &[(1, 5, 0)],
         &[(1, 4, 0), (2, 6, 2)],
@@ -176,9 +193,9 @@ fn cells_and_len(table: &Table) -> ([u64; 4], usize) {
 #[test]
 fn maps(rt: HostRuntime) -> Result<(), Fail> {
     for (one, other, is_below, wanted) in TABLES {
-        let values = (table(&rt, rt.alloc(), one)?, table(&rt, rt.alloc(), other)?);
-        let orders = (is_below, one.is_empty());
-        expect_joins(&rt, rt.alloc(), values, orders, cells_and_len, &wanted)?;
+        let values = two(table(&rt, rt.alloc(), one), table(&rt, rt.alloc(), other))?;
+        let orders = (*is_below, one.is_empty());
+        expect_joins(&rt, rt.alloc(), values, orders, cells_and_len, wanted)?;
     }
     Ok(())
 }
@@ -204,15 +221,45 @@ fn take_cell(table: &mut Table, line: u8) -> Option<Option<Max>> {
     )
 }
 
+/// A change of a cell of the key 2 where it stands.
+#[derive(Clone, Copy)]
+enum Change {
+    /// To a number.
+    Raise(u8, u64),
+    /// The number is taken out.
+    Take(u8),
+}
+
+/// What was taken out, if the line is there; of a raise nothing.
+fn changed(
+    alloc: Global,
+    table: &mut Table,
+    change: Change,
+) -> Result<Option<Option<Max>>, AllocError> {
+    match change {
+        Change::Raise(line, value) => {
+            let is_raised = raise_cell(alloc, table, line, value)?;
+            Ok(is_raised.then_some(None))
+        }
+        Change::Take(line) => Ok(take_cell(table, line)),
+    }
+}
+
+/// Changes of a table, each with its answer, the cells that are then there, and how many lines.
+const CHANGES: &[(Change, Option<Option<Max>>, ([u64; 4], usize))] = &[
+    (Change::Raise(1, 9), Some(None), ([5, 9, 0, 7], 2)),
+    (Change::Take(2), Some(Some(Max(7))), ([5, 9, 0, 0], 1)),
+    (Change::Take(3), None, ([5, 9, 0, 0], 1)),
+];
+
 /// A value is changed where it stands, and leaves where the change leaves the bottom.
 #[test]
 fn changes(rt: HostRuntime) -> Result<(), Fail> {
     let mut map = table(&rt, rt.alloc(), &[(1, 5, 0), (2, 0, 7)])?;
-    expect(&rt, &raise_cell(rt.alloc(), &mut map, 1, 9)?, &true);
-    expect(&rt, &cells(&map), &[5, 9, 0, 7]);
-    expect(&rt, &take_cell(&mut map, 2), &Some(Some(Max(7))));
-    expect(&rt, &(cells(&map), map.len()), &([5, 9, 0, 0], 1));
-    expect(&rt, &take_cell(&mut map, 3), &None);
+    for (change, wanted, after) in CHANGES {
+        let answer = changed(rt.alloc(), &mut map, *change)?;
+        expect(&rt, &(answer, cells_and_len(&map)), &(*wanted, *after));
+    }
     Ok(())
 }
 
@@ -230,29 +277,37 @@ fn keyed(alloc: Global, held: Option<(u8, u64)>) -> Result<Keyed, AllocError> {
     })
 }
 
+type Pair = Option<(u8, u64)>;
+
+/// Two pairs of a key and a value, the join, and whether each is below the other.
+const KEYED: &[(Pair, Pair, Pair, (bool, bool))] = &[
+    (Some((1, 9)), Some((2, 3)), Some((2, 3)), (true, false)),
+    (Some((2, 3)), Some((2, 5)), Some((2, 5)), (true, false)),
+    (Some((2, 5)), Some((2, 3)), Some((2, 5)), (false, true)),
+    (Some((2, 3)), Some((2, 3)), Some((2, 3)), (true, true)),
+    (None, Some((1, 9)), Some((1, 9)), (true, false)),
+];
+
 /// The greater key wins, and equal keys join.
 #[test]
 fn keys_and_values(rt: HostRuntime) -> Result<(), Fail> {
-    for (one, other, both, is_below) in [
-        (Some((1, 9)), Some((2, 3)), Some((2, 3)), (true, false)),
-        (Some((2, 3)), Some((2, 5)), Some((2, 5)), (true, false)),
-        (Some((2, 5)), Some((2, 3)), Some((2, 5)), (false, true)),
-        (Some((2, 3)), Some((2, 3)), Some((2, 3)), (true, true)),
-        (None, Some((1, 9)), Some((1, 9)), (true, false)),
-    ] {
-        let values = (keyed(rt.alloc(), one)?, keyed(rt.alloc(), other)?);
-        let orders = (is_below, one.is_none());
-        expect_joins(&rt, rt.alloc(), values, orders, held, &both)?;
+    for (one, other, both, is_below) in KEYED {
+        let values = two(keyed(rt.alloc(), *one), keyed(rt.alloc(), *other))?;
+        let orders = (*is_below, one.is_none());
+        expect_joins(&rt, rt.alloc(), values, orders, held, both)?;
     }
     Ok(())
+}
+
+fn raise_held(alloc: Global, kept: &mut Keyed, number: u64) -> Result<bool, AllocError> {
+    is_made(kept.change(|row| row.raise(alloc, 1, Max(number))))
 }
 
 /// What is held is changed where it stands.
 #[test]
 fn changes_what_is_held(rt: HostRuntime) -> Result<(), Fail> {
-    let alloc = rt.alloc();
-    let mut kept = keyed(alloc, Some((2, 5)))?;
-    let raised = is_made(kept.change(|row| row.raise(alloc, 1, Max(8))))?;
+    let mut kept = keyed(rt.alloc(), Some((2, 5)))?;
+    let raised = raise_held(rt.alloc(), &mut kept, 8)?;
     expect(&rt, &(raised, held(&kept)), &(true, Some((2, 8))));
     Ok(())
 }
@@ -294,19 +349,33 @@ fn number_at(map: &Places, place: u64) -> u64 {
     }
 }
 
+/// How many keys a map has, and its numbers at some places.
+fn numbers_at(map: &Places, places: &[u64; 4]) -> (usize, [u64; 4]) {
+    let [first, second, third, fourth] = places;
+    let numbers = [
+        number_at(map, *first),
+        number_at(map, *second),
+        number_at(map, *third),
+        number_at(map, *fourth),
+    ];
+    (map.len(), numbers)
+}
+
+/// Half of a map's keys, how many keys there are of two, and places of the last key of each number
+/// and of the one behind it.
+const MANY: &[(u32, usize, [u64; 4])] = &[
+    (150, 450, [149, 150, 449, 450]),
+    (100_000, 300_000, [99_999, 100_000, 299_999, 300_000]),
+];
+
 /// Maps of more keys than are joined in place, and of so many that the stack has no room for each
 /// of them.
 #[test]
 fn takes_in_many(rt: HostRuntime) -> Result<(), Fail> {
-    for (half, len, at) in [
-        (150, 450, [149, 150, 449, 450]),
-        (100_000, 300_000, [99_999, 100_000, 299_999, 300_000]),
-    ] {
-        let map = taken_in(rt.alloc(), half)?;
-        expect(&rt, &map.len(), &len);
-        for (place, want) in at.into_iter().zip([1, 2, 2, 0]) {
-            expect(&rt, &(place, number_at(&map, place)), &(place, want));
-        }
+    for (half, len, places) in MANY {
+        let map = taken_in(rt.alloc(), *half)?;
+        let found = (places, numbers_at(&map, places));
+        expect(&rt, &found, &(places, (*len, [1, 2, 2, 0])));
     }
     Ok(())
 }

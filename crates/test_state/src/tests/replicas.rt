@@ -8,8 +8,8 @@ mod reports;
 mod steps;
 
 use super::expect;
-use super::joined::{expect_joins, order, same};
-use actions::{ActionFault, Name, NameFault, parse_actions};
+use super::joined::{expect_joins, order, same, two};
+use actions::{Name, parse_actions};
 use calls::{Call, make_on};
 use op_set::OpSet;
 use readers::{

@@ -1,5 +1,6 @@
 //! Names, action texts and settings: what each is read as, or why it is refused, in print.
 
+use super::joined::two;
 use super::{expect, expect_print, held_copy};
 use actions::{
     ActionFault, Actions, Name, NameFault, SettingFault, Term, decide, parse_actions, parse_setting,
@@ -7,6 +8,7 @@ use actions::{
 use std::alloc::{AllocError, Global};
 use std::cmp::Ordering;
 use std::fmt::Display;
+use std::process::Abort;
 use std::test::Fail;
 
 /// What a text is read as.
@@ -17,6 +19,8 @@ enum Kind {
     Setting,
     /// A setting, of which the number of points is shown.
     Points,
+    /// Actions, of which each term is shown.
+    Terms,
 }
 
 fn read_name(alloc: Global, text: &str) -> Result<String, NameFault> {
@@ -29,12 +33,16 @@ fn read_actions(alloc: Global, text: &str) -> Result<String, ActionFault> {
     Ok(String::from_str(alloc, held_copy(alloc, &actions)?.text())?)
 }
 
+fn point_text(alloc: Global, name: &Name, actions: &Actions) -> Result<String, AllocError> {
+    let (name, text) = (name.text(), actions.text());
+    format!(in alloc; "{name}={text};")
+}
+
 /// Each point with its canonical text, in their order.
 fn read_setting(alloc: Global, text: &str) -> Result<String, SettingFault> {
     let mut list = String::new(alloc);
     for (name, actions) in &parse_setting(alloc, text)? {
-        let (name, text) = (name.text(), actions.text());
-        list.push_str(format!(in alloc; "{name}={text};")?.as_str())?;
+        list.push_str(point_text(alloc, name, actions)?.as_str())?;
     }
     Ok(list)
 }
@@ -60,16 +68,47 @@ fn outcome<E: Display + PartialEq + Drop>(
     }
 }
 
+/// A term's chance and count, and copies of it and of its task.
+fn term_text(alloc: Global, term: &Term) -> Result<String, AllocError> {
+    let copy = term.copied(alloc)?;
+    let task = term.task.copied(alloc)?;
+    let (ppm, count) = (term.ppm, term.count);
+    format!(in alloc; "{ppm} {count:?} {copy} {task} {task:?};")
+}
+
+/// How many random draws a choice needs, and each term.
+fn terms_text(alloc: Global, actions: &Actions) -> Result<String, AllocError> {
+    let words = actions.words_needed();
+    let mut text = format!(in alloc; "{words}: ")?;
+    for index in 0..=actions.len() as u8 {
+        if let Some(term) = actions.term(index) {
+            text.push_str(term_text(alloc, term)?.as_str())?;
+        }
+    }
+    Ok(text)
+}
+
+/// The terms of a copy of what a text is read as.
+fn terms_of(alloc: Global, text: &str) -> Result<String, ActionFault> {
+    let actions = parse_actions(alloc, text)?;
+    let copy = actions.copied(alloc)?;
+    Ok(terms_text(alloc, &copy)?)
+}
+
 fn told(alloc: Global, kind: Kind, text: &str) -> Result<String, AllocError> {
     match kind {
         Kind::Name => outcome(alloc, read_name(alloc, text), NameFault::OutOfMemory),
         Kind::Actions => outcome(alloc, read_actions(alloc, text), ActionFault::OutOfMemory),
         Kind::Setting => outcome(alloc, read_setting(alloc, text), SettingFault::OutOfMemory),
         Kind::Points => outcome(alloc, count_points(alloc, text), SettingFault::OutOfMemory),
+        Kind::Terms => outcome(alloc, terms_of(alloc, text), ActionFault::OutOfMemory),
     }
 }
 
-const READ: &[(Kind, &str, &str)] = &[
+/// What a text is read as, and what is shown of it.
+type Row = (Kind, &'static str, &'static str);
+
+const NAMES: &[Row] = &[
     (Kind::Name, "a", "a"),
     (Kind::Name, "a::b", "a::b"),
     (Kind::Name, "Z9_-.:", "Z9_-.:"),
@@ -87,6 +126,9 @@ const READ: &[(Kind, &str, &str)] = &[
     (Kind::Name, "a;b", "BadName"),
     (Kind::Name, "\u{e9}", "BadName"),
     (Kind::Name, "a\n", "BadName"),
+];
+
+const ACTIONS: &[Row] = &[
     (
         Kind::Actions,
         " 020.50%3*print(a(b)c) -> panic",
@@ -170,6 +212,9 @@ const READ: &[(Kind, &str, &str)] = &[
     (Kind::Actions, "off;", "A10 BadByte offset=3"),
     (Kind::Actions, "101%off\n->;", "A10 BadByte offset=7"),
     (Kind::Actions, "print(\x7f)", "A10 BadByte offset=6"),
+];
+
+const SETTINGS: &[Row] = &[
     (
         Kind::Setting,
         ";a=off; ;b=2*return()",
@@ -224,13 +269,117 @@ const READ: &[(Kind, &str, &str)] = &[
     ),
 ];
 
-#[test]
-fn what_is_read(rt: HostRuntime) -> Result<(), Fail> {
-    for (kind, text, wanted) in READ {
-        let told = told(rt.alloc(), *kind, text)?;
-        expect(&rt, &(*text, told.as_str()), &(*text, *wanted));
+const TERMS: &[Row] = &[
+    (
+        Kind::Terms,
+        " 020.50%3*print(a(b)c) -> panic",
+        "1: 205000 Some(3) 20.5%3*print(a(b)c) print(a(b)c) Print(Some(\"a(b)c\"));\
+         1000000 None panic panic Panic(None);",
+    ),
+    (
+        Kind::Terms,
+        "panic(a)",
+        "0: 1000000 None panic(a) panic(a) Panic(Some(\"a\"));",
+    ),
+    (Kind::Terms, "20.5%off", "1: 205000 None 20.5%off off Off;"),
+    (Kind::Terms, "0.0001%off", "1: 1 None 0.0001%off off Off;"),
+    (Kind::Terms, "100%off", "0: 1000000 None off off Off;"),
+    (Kind::Terms, "0%off", "1: 0 None 0%off off Off;"),
+    (Kind::Terms, "7%off", "1: 70000 None 7%off off Off;"),
+    (
+        Kind::Terms,
+        "99.9999%off",
+        "1: 999999 None 99.9999%off off Off;",
+    ),
+    (
+        Kind::Terms,
+        "0%off->100%off->2*off->99.9999%off",
+        "2: 0 None 0%off off Off;1000000 None off off Off;\
+         1000000 Some(2) 2*off off Off;999999 None 99.9999%off off Off;",
+    ),
+    (
+        Kind::Terms,
+        "return",
+        "0: 1000000 None return return Return(None);",
+    ),
+    (
+        Kind::Terms,
+        "return()",
+        "0: 1000000 None return() return() Return(Some(\"\"));",
+    ),
+    (
+        Kind::Terms,
+        "return(early, \u{e9})",
+        "0: 1000000 None return(early, \u{e9}) return(early, \u{e9}) \
+        Return(Some(\"early, \u{e9}\"));",
+    ),
+    (
+        Kind::Terms,
+        "sleep(0)",
+        "0: 1000000 None sleep(0) sleep(0) Sleep(0);",
+    ),
+    (
+        Kind::Terms,
+        "print",
+        "0: 1000000 None print print Print(None);",
+    ),
+    (
+        Kind::Terms,
+        "print(still alive!)",
+        "0: 1000000 None print(still alive!) print(still alive!) \
+        Print(Some(\"still alive!\"));",
+    ),
+    (Kind::Terms, "pause", "0: 1000000 None pause pause Pause;"),
+    (Kind::Terms, "yield", "0: 1000000 None yield yield Yield;"),
+    (
+        Kind::Terms,
+        "delay(18446744073709551615)",
+        "0: 1000000 None delay(18446744073709551615) delay(18446744073709551615) \
+         Delay(18446744073709551615);",
+    ),
+];
+
+/// Ends the test where a text is read otherwise.
+fn expect_told(
+    rt: &impl Abort,
+    alloc: Global,
+    kind: Kind,
+    text: &str,
+    wanted: &str,
+) -> Result<(), AllocError> {
+    let told = told(alloc, kind, text)?;
+    expect(rt, &(text, told.as_str()), &(text, wanted));
+    Ok(())
+}
+
+/// Ends the test where what a row has is read otherwise.
+fn expect_rows(rt: &impl Abort, alloc: Global, rows: &[Row]) -> Result<(), Fail> {
+    for (kind, text, wanted) in rows {
+        expect_told(rt, alloc, *kind, text, wanted)?;
     }
     Ok(())
+}
+
+// A test for each table: what a body takes to prove grows with the square of the texts in it.
+
+#[test]
+fn names(rt: HostRuntime) -> Result<(), Fail> {
+    expect_rows(&rt, rt.alloc(), NAMES)
+}
+
+#[test]
+fn actions_in_print(rt: HostRuntime) -> Result<(), Fail> {
+    expect_rows(&rt, rt.alloc(), ACTIONS)
+}
+
+#[test]
+fn settings(rt: HostRuntime) -> Result<(), Fail> {
+    expect_rows(&rt, rt.alloc(), SETTINGS)
+}
+
+#[test]
+fn terms(rt: HostRuntime) -> Result<(), Fail> {
+    expect_rows(&rt, rt.alloc(), TERMS)
 }
 
 /// A piece so many times, and then the last one.
@@ -288,8 +437,8 @@ const LONG: &[(Kind, &str, usize, &str, usize, &str)] = &[
 fn long_texts(rt: HostRuntime) -> Result<(), Fail> {
     for (kind, piece, times, last, len, wanted) in LONG {
         let text = repeated(rt.alloc(), piece, *times, last)?;
-        let told = told(rt.alloc(), *kind, text.as_str())?;
-        expect(&rt, &(text.len(), told.as_str()), &(*len, *wanted));
+        expect(&rt, &text.len(), len);
+        expect_told(&rt, rt.alloc(), *kind, text.as_str(), wanted)?;
     }
     Ok(())
 }
@@ -312,92 +461,9 @@ fn want_of_memory_in_print(rt: HostRuntime) -> Result<(), Fail> {
     Ok(())
 }
 
-/// A term's chance and count, and copies of it and of its task.
-fn term_text(alloc: Global, term: &Term) -> Result<String, AllocError> {
-    let copy = term.copied(alloc)?;
-    let task = term.task.copied(alloc)?;
-    let (ppm, count) = (term.ppm, term.count);
-    format!(in alloc; "{ppm} {count:?} {copy} {task} {task:?};")
-}
-
-/// How many random draws a choice needs, and each term.
-fn terms_text(alloc: Global, actions: &Actions) -> Result<String, AllocError> {
-    let words = actions.words_needed();
-    let mut text = format!(in alloc; "{words}: ")?;
-    for index in 0..=actions.len() as u8 {
-        if let Some(term) = actions.term(index) {
-            text.push_str(term_text(alloc, term)?.as_str())?;
-        }
-    }
-    Ok(text)
-}
-
-const TERMS: &[(&str, &str)] = &[
-    (
-        " 020.50%3*print(a(b)c) -> panic",
-        "1: 205000 Some(3) 20.5%3*print(a(b)c) print(a(b)c) Print(Some(\"a(b)c\"));\
-         1000000 None panic panic Panic(None);",
-    ),
-    (
-        "panic(a)",
-        "0: 1000000 None panic(a) panic(a) Panic(Some(\"a\"));",
-    ),
-    ("20.5%off", "1: 205000 None 20.5%off off Off;"),
-    ("0.0001%off", "1: 1 None 0.0001%off off Off;"),
-    ("100%off", "0: 1000000 None off off Off;"),
-    ("0%off", "1: 0 None 0%off off Off;"),
-    ("7%off", "1: 70000 None 7%off off Off;"),
-    ("99.9999%off", "1: 999999 None 99.9999%off off Off;"),
-    (
-        "0%off->100%off->2*off->99.9999%off",
-        "2: 0 None 0%off off Off;1000000 None off off Off;\
-         1000000 Some(2) 2*off off Off;999999 None 99.9999%off off Off;",
-    ),
-    ("return", "0: 1000000 None return return Return(None);"),
-    (
-        "return()",
-        "0: 1000000 None return() return() Return(Some(\"\"));",
-    ),
-    (
-        "return(early, \u{e9})",
-        "0: 1000000 None return(early, \u{e9}) return(early, \u{e9}) \
-        Return(Some(\"early, \u{e9}\"));",
-    ),
-    ("sleep(0)", "0: 1000000 None sleep(0) sleep(0) Sleep(0);"),
-    ("print", "0: 1000000 None print print Print(None);"),
-    (
-        "print(still alive!)",
-        "0: 1000000 None print(still alive!) print(still alive!) \
-        Print(Some(\"still alive!\"));",
-    ),
-    ("pause", "0: 1000000 None pause pause Pause;"),
-    ("yield", "0: 1000000 None yield yield Yield;"),
-    (
-        "delay(18446744073709551615)",
-        "0: 1000000 None delay(18446744073709551615) delay(18446744073709551615) \
-         Delay(18446744073709551615);",
-    ),
-];
-
-/// The terms of a copy of what a text is read as.
-fn terms_of(alloc: Global, text: &str) -> Result<String, Fail> {
-    let actions = parse_actions(alloc, text)?;
-    let copy = actions.copied(alloc)?;
-    Ok(terms_text(alloc, &copy)?)
-}
-
-#[test]
-fn terms(rt: HostRuntime) -> Result<(), Fail> {
-    for (text, wanted) in TERMS {
-        let terms = terms_of(rt.alloc(), text)?;
-        expect(&rt, &terms.as_str(), wanted);
-    }
-    Ok(())
-}
-
 /// How two values are ordered, and whether they are equal.
-fn order_of<T: Ord>(one: &T, other: &T) -> (Ordering, Option<Ordering>, bool) {
-    (one.cmp(other), one.partial_cmp(other), one == other)
+fn order_of<T: Ord + Drop>((one, other): (T, T)) -> (Ordering, Option<Ordering>, bool) {
+    (one.cmp(&other), one.partial_cmp(&other), one == other)
 }
 
 /// Two texts are ordered as wanted, either as names or as actions.
@@ -408,32 +474,47 @@ fn order_as(
     other: &str,
 ) -> Result<(Ordering, Option<Ordering>, bool), Fail> {
     Ok(match kind {
-        Kind::Name => order_of(&Name::parse(alloc, one)?, &Name::parse(alloc, other)?),
-        _ => order_of(&parse_actions(alloc, one)?, &parse_actions(alloc, other)?),
+        Kind::Name => order_of(two(Name::parse(alloc, one), Name::parse(alloc, other))?),
+        _ => order_of(two(parse_actions(alloc, one), parse_actions(alloc, other))?),
     })
+}
+
+/// Two texts, and how they are ordered.
+const ORDERS: &[(Kind, &str, &str, Ordering)] = &[
+    (Kind::Name, "Z", "a", Ordering::Less),
+    (Kind::Name, "a", "a.b", Ordering::Less),
+    (Kind::Name, "a", "a", Ordering::Equal),
+    (Kind::Actions, "100.0000%off", "off(x)", Ordering::Equal),
+    (Kind::Actions, "return", "return()", Ordering::Less),
+    (Kind::Actions, "2*off", "off", Ordering::Less),
+    (Kind::Actions, "10*off", "2*off", Ordering::Less),
+    (Kind::Actions, "off->off", "off", Ordering::Greater),
+    (
+        Kind::Actions,
+        "print(b)",
+        "print(a)->off",
+        Ordering::Greater,
+    ),
+];
+
+/// Ends the test where two texts are ordered otherwise.
+fn expect_order(
+    rt: &impl Abort,
+    alloc: Global,
+    kind: Kind,
+    (one, other): (&str, &str),
+    wanted: Ordering,
+) -> Result<(), Fail> {
+    let order = order_as(alloc, kind, one, other)?;
+    let is_equal = wanted == Ordering::Equal;
+    expect(rt, &(one, order), &(one, (wanted, Some(wanted), is_equal)));
+    Ok(())
 }
 
 #[test]
 fn orders(rt: HostRuntime) -> Result<(), Fail> {
-    for (kind, one, other, wanted) in [
-        (Kind::Name, "Z", "a", Ordering::Less),
-        (Kind::Name, "a", "a.b", Ordering::Less),
-        (Kind::Name, "a", "a", Ordering::Equal),
-        (Kind::Actions, "100.0000%off", "off(x)", Ordering::Equal),
-        (Kind::Actions, "return", "return()", Ordering::Less),
-        (Kind::Actions, "2*off", "off", Ordering::Less),
-        (Kind::Actions, "10*off", "2*off", Ordering::Less),
-        (Kind::Actions, "off->off", "off", Ordering::Greater),
-        (
-            Kind::Actions,
-            "print(b)",
-            "print(a)->off",
-            Ordering::Greater,
-        ),
-    ] {
-        let order = order_as(rt.alloc(), kind, one, other)?;
-        let is_equal = wanted == Ordering::Equal;
-        expect(&rt, &(one, order), &(one, (wanted, Some(wanted), is_equal)));
+    for (kind, one, other, wanted) in ORDERS {
+        expect_order(&rt, rt.alloc(), *kind, (one, other), *wanted)?;
     }
     Ok(())
 }

@@ -32,7 +32,7 @@ enum Made {
 }
 
 /// An operation is learned as one, or as what is told of its key and its count.
-fn prepared(alloc: Global, text: &str, call: Call, is_told: bool) -> Result<Made, Fail> {
+fn prepared(alloc: Global, text: &str, call: Call, is_told: bool) -> Result<Made, AllocError> {
     Ok(match call {
         Call::Learn(step) => if is_told {
             Made::Learn(key_of(alloc, step)?, count_of(step))
@@ -92,11 +92,19 @@ fn is_above<R: Replica>(replica: &R, name: &Name, key: &Key) -> bool
     }
 }
 
-fn set_key<R: Replica>(alloc: Global, replica: &mut R, name: &Name, key: &Key) -> bool {
-    let (Ok(name), Ok(key)) = (name.copied(alloc), key.copied(alloc)) else {
-        return false;
-    };
+fn copies(alloc: Global, name: &Name, key: &Key) -> Result<(Name, Key), AllocError> {
+    Ok((name.copied(alloc)?, key.copied(alloc)?))
+}
+
+fn set_above<R: Replica>(alloc: Global, replica: &mut R, name: Name, key: Key) -> bool {
     is_above(replica, &name, &key) && replica.set_key(alloc, name, key).is_ok()
+}
+
+fn set_key<R: Replica>(alloc: Global, replica: &mut R, name: &Name, key: &Key) -> bool {
+    match copies(alloc, name, key) {
+        Ok((name, key)) => set_above(alloc, replica, name, key),
+        Err(_) => false,
+    }
 }
 
 fn spend<R: Replica>(alloc: Global, replica: &mut R, name: &Name, node: u8) -> bool {
@@ -131,12 +139,13 @@ fn once<R: Replica>(alloc: Global, replica: &mut R, name: &Name, call: &Made) ->
     }
 }
 
-/// Makes a call. If its memory is refused, nothing may have changed, and it is made again.
-fn make<R: Replica>(rt: &impl Abort, alloc: Global, replica: &mut R, name: &Name, call: &Made) {
+/// Makes a call. If its memory is refused, nothing may have changed, and it is made again. The call
+/// is dropped here, once for all that make one.
+fn make<R: Replica>(rt: &impl Abort, alloc: Global, replica: &mut R, name: &Name, call: Made) {
     let before = seen(replica, name);
-    if !once(alloc, replica, name, call) {
+    if !once(alloc, replica, name, &call) {
         expect(rt, &seen(replica, name), &before);
-        expect(rt, &once(alloc, replica, name, call), &true);
+        expect(rt, &once(alloc, replica, name, &call), &true);
     }
 }
 
@@ -147,33 +156,40 @@ pub(super) fn make_on<R: Replica>(
     replica: &mut R,
     text: &str,
     call: Call,
-) -> Result<(), Fail> {
+) -> Result<(), AllocError> {
     let name = name(alloc, text)?;
-    make(
-        rt,
-        alloc,
-        replica,
-        &name,
-        &prepared(alloc, text, call, false)?,
-    );
+    let call = prepared(alloc, text, call, false)?;
+    make(rt, alloc, replica, &name, call);
     Ok(())
 }
 
 /// Calls of a, each with what is then answered.
 type Story = &'static [(Call, Told)];
 
+/// Makes a call of a, and ends the test where another answer is told.
+fn take_turn<R: Replica>(
+    rt: &impl Abort,
+    alloc: Global,
+    replica: &mut R,
+    name: &Name,
+    call: Made,
+    told: Told,
+) {
+    make(rt, alloc, replica, name, call);
+    expect(rt, &seen(replica, name), &wanted(told));
+}
+
 fn follow<R: Replica>(
     rt: &impl Abort,
     alloc: Global,
     story: Story,
     is_told: bool,
-) -> Result<(), Fail> {
+) -> Result<(), AllocError> {
     let name = name(alloc, "a")?;
     let mut replica = R::empty(alloc);
     for (call, told) in story {
         let call = prepared(alloc, "a", *call, is_told)?;
-        make(rt, alloc, &mut replica, &name, &call);
-        expect(rt, &seen(&replica, &name), &wanted(*told));
+        take_turn(rt, alloc, &mut replica, &name, call, *told);
     }
     Ok(())
 }
@@ -370,23 +386,30 @@ const SHIFTS: Story = &[
     (Call::Shift(2), (1, (0, 0), (0, 0), (2, 0), (0, 2))),
 ];
 
+const STORIES: &[Story] = &[
+    SPEND_BEFORE_SHIFT,
+    GRANTS,
+    OVERTAKEN_KEY,
+    OVERTAKEN_PASS,
+    GREATER_TEXT_LAST,
+    GREATER_TEXT_FIRST,
+    PASSES,
+    SHIFTS,
+];
+
+fn both_follow(rt: &impl Abort, alloc: Global, story: Story) -> Result<(), AllocError> {
+    for is_told in [false, true] {
+        follow::<OpSet>(rt, alloc, story, is_told)?;
+        follow::<Matrix>(rt, alloc, story, is_told)?;
+    }
+    Ok(())
+}
+
 /// Both replicas follow each story, once by operations and once by what is told of them.
 #[test]
 fn stories(rt: HostRuntime) -> Result<(), Fail> {
-    for story in [
-        SPEND_BEFORE_SHIFT,
-        GRANTS,
-        OVERTAKEN_KEY,
-        OVERTAKEN_PASS,
-        GREATER_TEXT_LAST,
-        GREATER_TEXT_FIRST,
-        PASSES,
-        SHIFTS,
-    ] {
-        for is_told in [false, true] {
-            follow::<OpSet>(&rt, rt.alloc(), story, is_told)?;
-            follow::<Matrix>(&rt, rt.alloc(), story, is_told)?;
-        }
+    for story in STORIES {
+        both_follow(&rt, rt.alloc(), story)?;
     }
     Ok(())
 }

@@ -2,7 +2,7 @@
 
 use super::*;
 
-fn learned<R: Replica>(rt: &impl Abort, alloc: Global, steps: &[Step]) -> Result<R, Fail> {
+fn learned<R: Replica>(rt: &impl Abort, alloc: Global, steps: &[Step]) -> Result<R, AllocError> {
     let mut replica = R::empty(alloc);
     for step in steps {
         make_on(rt, alloc, &mut replica, "a", Call::Learn(*step))?;
@@ -65,19 +65,24 @@ const JOINS: &[Join] = &[
     ),
 ];
 
-fn all_joins<R: Replica>(rt: &impl Abort, alloc: Global) -> Result<(), Fail> {
+/// Ends the test where two replicas don't join as wanted.
+fn expect_join<R: Replica>(
+    rt: &impl Abort,
+    alloc: Global,
+    name: &Name,
+    join: &Join,
+) -> Result<(), AllocError> {
+    let (one, other, is_below, told) = join;
+    let values: (R, R) = two(learned(rt, alloc, one), learned(rt, alloc, other))?;
+    let orders = (*is_below, one.is_empty());
+    let show = |both: &R| seen(both, name);
+    expect_joins(rt, alloc, values, orders, show, &wanted(*told))
+}
+
+fn all_joins<R: Replica>(rt: &impl Abort, alloc: Global) -> Result<(), AllocError> {
     let name = name(alloc, "a")?;
-    for (one, other, is_below, told) in JOINS {
-        let values: (R, R) = (learned(rt, alloc, one)?, learned(rt, alloc, other)?);
-        let orders = (*is_below, one.is_empty());
-        expect_joins(
-            rt,
-            alloc,
-            values,
-            orders,
-            |both| seen(both, &name),
-            &wanted(*told),
-        )?;
+    for join in JOINS {
+        expect_join::<R>(rt, alloc, &name, join)?;
     }
     Ok(())
 }
@@ -85,13 +90,14 @@ fn all_joins<R: Replica>(rt: &impl Abort, alloc: Global) -> Result<(), Fail> {
 #[test]
 fn replicas_join(rt: HostRuntime) -> Result<(), Fail> {
     all_joins::<OpSet>(&rt, rt.alloc())?;
-    all_joins::<Matrix>(&rt, rt.alloc())
+    all_joins::<Matrix>(&rt, rt.alloc())?;
+    Ok(())
 }
 
 /// Names, and the clocks at which node 0 set them.
 type Names = &'static [(&'static str, u64)];
 
-fn with_names<R: Replica>(rt: &impl Abort, alloc: Global, names: Names) -> Result<R, Fail> {
+fn with_names<R: Replica>(rt: &impl Abort, alloc: Global, names: Names) -> Result<R, AllocError> {
     let mut replica = R::empty(alloc);
     for (text, clock) in names {
         make_on(
@@ -105,6 +111,10 @@ fn with_names<R: Replica>(rt: &impl Abort, alloc: Global, names: Names) -> Resul
     Ok(replica)
 }
 
+fn merge<R: Replica>(alloc: Global, replica: &mut R, other: &R) -> Result<(), AllocError> {
+    replica.merge(alloc, other.copied(alloc)?)
+}
+
 /// A copy of a replica that another one is merged into. If its memory is refused, nothing may have
 /// changed, and it is asked again.
 fn merged<R: Replica>(
@@ -114,9 +124,9 @@ fn merged<R: Replica>(
     other: &R,
 ) -> Result<R, AllocError> {
     let mut copy = replica.copied(alloc)?;
-    if copy.merge(alloc, other.copied(alloc)?).is_err() {
+    if merge(alloc, &mut copy, other).is_err() {
         expect(rt, &same(&copy, replica), &true);
-        copy.merge(alloc, other.copied(alloc)?)?;
+        merge(alloc, &mut copy, other)?;
     }
     Ok(copy)
 }
@@ -136,12 +146,15 @@ fn expect_names<R: Replica>(
     alloc: Global,
     replica: &R,
     names: Names,
-) -> Result<(), Fail> {
+) -> Result<(), AllocError> {
     for (place, (text, clock)) in names.iter().enumerate() {
         let name = name(alloc, text)?;
-        let found = (text_at(replica, place), clock_of(replica, &name));
-        expect(rt, &found, &(Some(*text), *clock));
-        expect(rt, &all_names_with(replica, &name), &names.len());
+        let found = (
+            text_at(replica, place),
+            clock_of(replica, &name),
+            all_names_with(replica, &name),
+        );
+        expect(rt, &found, &(Some(*text), *clock, names.len()));
     }
     expect(
         rt,
@@ -167,20 +180,28 @@ const NAMES: &[(Names, Names, Names)] = &[
     (&[], &[("a", 1)], &[("a", 1)]),
 ];
 
-fn all_merges<R: Replica>(rt: &impl Abort, alloc: Global) -> Result<(), Fail> {
+/// Ends the test where two replicas don't come to one of these names, merged and joined.
+fn merges<R: Replica>(
+    rt: &impl Abort,
+    alloc: Global,
+    both: (R, R),
+    orders: ((bool, bool), bool),
+    names: Names,
+) -> Result<(), AllocError> {
+    let (left, right) = &both;
+    let together = (names.len(), names.len());
+    expect(rt, &names_together(left, right), &together);
+    let merged = merged(rt, alloc, left, right)?;
+    expect_names(rt, alloc, &merged, names)?;
+    let is_merged = |both: &R| same(both, &merged);
+    expect_joins(rt, alloc, both, orders, is_merged, &true)
+}
+
+fn all_merges<R: Replica>(rt: &impl Abort, alloc: Global) -> Result<(), AllocError> {
     for (one, other, names) in NAMES {
-        let left: R = with_names(rt, alloc, one)?;
-        let right: R = with_names(rt, alloc, other)?;
-        expect(
-            rt,
-            &names_together(&left, &right),
-            &(names.len(), names.len()),
-        );
-        let merged = merged(rt, alloc, &left, &right)?;
-        expect_names(rt, alloc, &merged, names)?;
+        let both: (R, R) = two(with_names(rt, alloc, one), with_names(rt, alloc, other))?;
         let orders = ((one.is_empty(), other.is_empty()), one.is_empty());
-        let is_merged = |both: &R| same(both, &merged);
-        expect_joins(rt, alloc, (left, right), orders, is_merged, &true)?;
+        merges(rt, alloc, both, orders, names)?;
     }
     Ok(())
 }
@@ -188,5 +209,6 @@ fn all_merges<R: Replica>(rt: &impl Abort, alloc: Global) -> Result<(), Fail> {
 #[test]
 fn names_join(rt: HostRuntime) -> Result<(), Fail> {
     all_merges::<OpSet>(&rt, rt.alloc())?;
-    all_merges::<Matrix>(&rt, rt.alloc())
+    all_merges::<Matrix>(&rt, rt.alloc())?;
+    Ok(())
 }

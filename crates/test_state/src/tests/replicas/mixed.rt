@@ -63,7 +63,7 @@ fn part<R: Replica>(
     from: u16,
     upto: u16,
     is_backwards: bool,
-) -> Result<R, Fail> {
+) -> Result<R, AllocError> {
     let mut replica = R::empty(alloc);
     for index in from..upto {
         let place = if is_backwards {
@@ -120,7 +120,7 @@ fn is_same<R: Replica, S: Replica>(left: &R, right: &S, names: &[Name]) -> bool 
 }
 
 /// The names of the run, and one that nobody names.
-fn all_of_run(alloc: Global) -> Result<Vec<Name>, Fail> {
+fn all_of_run(alloc: Global) -> Result<Vec<Name>, AllocError> {
     let mut names = Vec::new(alloc);
     for text in ["a", "b", "c", "d"] {
         names.push(name(alloc, text)?)?;
@@ -129,37 +129,57 @@ fn all_of_run(alloc: Global) -> Result<Vec<Name>, Fail> {
 }
 
 /// A name's clock, hits, executions of three terms and rights of the first term at three nodes.
-const KNOWN: [(&str, u64, u128, [u128; 3], [i128; 3]); 3] = [
+const KNOWN: &[(&str, u64, u128, [u128; 3], [i128; 3])] = &[
     ("a", 3, 22, [14, 6, 14], [-10, -12, 15]),
     ("b", 2, 22, [12, 12, 4], [-14, 2, 5]),
     ("c", 4, 22, [0, 0, 0], [0, 0, 0]),
 ];
 
-fn expect_known<R: Replica>(rt: &impl Abort, alloc: Global, replica: &R) -> Result<(), Fail> {
+fn clock_and_hits<R: Replica>(replica: &R, name: &Name) -> (u64, u128) {
+    (clock_of(replica, name), all_hits(replica, name))
+}
+
+fn spent_of<R: Replica>(replica: &R, name: &Name) -> [u128; 3] {
+    [
+        all_spent(replica, name, 0),
+        all_spent(replica, name, 1),
+        all_spent(replica, name, 2),
+    ]
+}
+
+fn rights_of<R: Replica>(replica: &R, name: &Name) -> [i128; 3] {
+    [
+        rights_at(replica, name, 0, 0),
+        rights_at(replica, name, 0, 1),
+        rights_at(replica, name, 0, 2),
+    ]
+}
+
+fn expect_known<R: Replica>(rt: &impl Abort, alloc: Global, replica: &R) -> Result<(), AllocError> {
     for (text, clock, hits, spent, rights) in KNOWN {
         let name = name(alloc, text)?;
-        expect(
-            rt,
-            &(clock_of(replica, &name), all_hits(replica, &name)),
-            &(clock, hits),
-        );
-        for term in 0..3 {
-            expect(
-                rt,
-                &all_spent(replica, &name, term),
-                &spent[usize::from(term)],
-            );
-        }
-        for node in 0..3 {
-            expect(
-                rt,
-                &rights_at(replica, &name, 0, node),
-                &rights[usize::from(node)],
-            );
-        }
+        expect(rt, &clock_and_hits(replica, &name), &(*clock, *hits));
+        expect(rt, &spent_of(replica, &name), spent);
+        expect(rt, &rights_of(replica, &name), rights);
     }
     expect(rt, &all_names(replica), &3);
     Ok(())
+}
+
+/// Ends the test where two replicas that learned the run, in its order and from its end, don't
+/// answer as another one.
+fn expect_orders<R: Replica, S: Replica>(
+    rt: &impl Abort,
+    plain: &S,
+    names: &[Name],
+    (whole, backwards): &(R, R),
+) {
+    let are_same = (
+        is_same(plain, whole, names),
+        is_same(plain, backwards, names),
+        same(whole, backwards),
+    );
+    expect(rt, &are_same, &(true, true, true));
 }
 
 /// Ends the test where a replica that learns the run, in its order or from its end, doesn't answer
@@ -169,14 +189,30 @@ fn learns_in_order<R: Replica, S: Replica>(
     alloc: Global,
     plain: &S,
     names: &[Name],
-) -> Result<(), Fail> {
-    let whole: R = part(rt, alloc, 0, RUN, false)?;
-    expect_known(rt, alloc, &whole)?;
-    expect(rt, &is_same(plain, &whole, names), &true);
-    let backwards: R = part(rt, alloc, 0, RUN, true)?;
-    expect(rt, &is_same(plain, &backwards, names), &true);
-    expect(rt, &same(&whole, &backwards), &true);
+) -> Result<(), AllocError> {
+    let both: (R, R) = two(
+        part(rt, alloc, 0, RUN, false),
+        part(rt, alloc, 0, RUN, true),
+    )?;
+    expect_known(rt, alloc, &both.0)?;
+    expect_orders(rt, plain, names, &both);
     Ok(())
+}
+
+/// Ends the test where two halves aren't below the whole, or don't come to it.
+fn join_to<R: Replica, S: Replica>(
+    rt: &impl Abort,
+    alloc: Global,
+    plain: &S,
+    names: &[Name],
+    whole: &R,
+    halves: (R, R),
+) -> Result<(), AllocError> {
+    let orders = (order(&halves.0, whole), order(&halves.1, whole));
+    expect(rt, &orders, &((true, false), (true, false)));
+    let is_whole = |both: &R| same(both, whole) && is_same(plain, both, names);
+    let orders = ((false, false), false);
+    expect_joins(rt, alloc, halves, orders, is_whole, &true)
 }
 
 /// Ends the test where two replicas that learn a half of the run each don't come to what learns all
@@ -186,16 +222,13 @@ fn joins_halves<R: Replica, S: Replica>(
     alloc: Global,
     plain: &S,
     names: &[Name],
-) -> Result<(), Fail> {
+) -> Result<(), AllocError> {
     let whole: R = part(rt, alloc, 0, RUN, false)?;
-    let first: R = part(rt, alloc, 0, HALF, false)?;
-    let second: R = part(rt, alloc, HALF, RUN, false)?;
-    let orders = (order(&first, &whole), order(&second, &whole));
-    expect(rt, &orders, &((true, false), (true, false)));
-    let is_whole = |both: &R| same(both, &whole) && is_same(plain, both, names);
-    let orders = ((false, false), false);
-    expect_joins(rt, alloc, (first, second), orders, is_whole, &true)?;
-    Ok(())
+    let halves = two(
+        part(rt, alloc, 0, HALF, false),
+        part(rt, alloc, HALF, RUN, false),
+    )?;
+    join_to(rt, alloc, plain, names, &whole, halves)
 }
 
 /// Ends the test where a replica doesn't come to what the plain one does.
@@ -204,7 +237,7 @@ fn learns<R: Replica, S: Replica>(
     alloc: Global,
     plain: &S,
     names: &[Name],
-) -> Result<(), Fail> {
+) -> Result<(), AllocError> {
     learns_in_order::<R, S>(rt, alloc, plain, names)?;
     joins_halves::<R, S>(rt, alloc, plain, names)
 }
@@ -214,5 +247,6 @@ fn one_run_in_several_orders(rt: HostRuntime) -> Result<(), Fail> {
     let names = all_of_run(rt.alloc())?;
     let plain: OpSet = part(&rt, rt.alloc(), 0, RUN, false)?;
     learns::<OpSet, OpSet>(&rt, rt.alloc(), &plain, &names)?;
-    learns::<Matrix, OpSet>(&rt, rt.alloc(), &plain, &names)
+    learns::<Matrix, OpSet>(&rt, rt.alloc(), &plain, &names)?;
+    Ok(())
 }

@@ -32,7 +32,7 @@ fn learned<R: Replica>(
     alloc: Global,
     report: &Report,
     is_backwards: bool,
-) -> Result<R, Fail> {
+) -> Result<R, AllocError> {
     let steps = report.0;
     let mut replica = R::empty(alloc);
     for index in 0..steps.len() {
@@ -47,7 +47,7 @@ fn learned<R: Replica>(
     Ok(replica)
 }
 
-fn reports<R: Replica>(rt: &impl Abort, alloc: Global, report: &Report) -> Result<(), Fail> {
+fn reports<R: Replica>(rt: &impl Abort, alloc: Global, report: &Report) -> Result<(), AllocError> {
     for is_backwards in [false, true] {
         let replica: R = learned(rt, alloc, report, is_backwards)?;
         expect_report(rt, alloc, &replica, report)?;
@@ -55,7 +55,7 @@ fn reports<R: Replica>(rt: &impl Abort, alloc: Global, report: &Report) -> Resul
     Ok(())
 }
 
-fn both_report(rt: &impl Abort, alloc: Global, report: &Report) -> Result<(), Fail> {
+fn both_report(rt: &impl Abort, alloc: Global, report: &Report) -> Result<(), AllocError> {
     reports::<OpSet>(rt, alloc, report)?;
     reports::<Matrix>(rt, alloc, report)
 }
@@ -162,17 +162,19 @@ const GREAT_NUMBERS: Report = (
 /// There is nothing to tell.
 const NOTHING: Report = (&[], 2, "", "[]");
 
+const REPORTS: &[Report] = &[
+    MOVED_RIGHT,
+    GRANTED,
+    THREE_NODES,
+    POINTS_IN_ORDER,
+    GREAT_NUMBERS,
+    NOTHING,
+];
+
 #[test]
 fn worked_states(rt: HostRuntime) -> Result<(), Fail> {
-    for report in [
-        MOVED_RIGHT,
-        GRANTED,
-        THREE_NODES,
-        POINTS_IN_ORDER,
-        GREAT_NUMBERS,
-        NOTHING,
-    ] {
-        both_report(&rt, rt.alloc(), &report)?;
+    for report in REPORTS {
+        both_report(&rt, rt.alloc(), report)?;
     }
     Ok(())
 }

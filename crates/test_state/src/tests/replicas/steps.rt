@@ -16,17 +16,27 @@ pub(super) enum Step {
     Grant(Keyed, u8, u8, u64),
 }
 
-pub(super) fn name(alloc: Global, text: &str) -> Result<Name, NameFault> {
-    Name::parse(alloc, text)
+/// The name of a text of a table. These are all good, and only memory may be refused.
+pub(super) fn name(alloc: Global, text: &str) -> Result<Name, AllocError> {
+    match Name::parse(alloc, text) {
+        Ok(name) => Ok(name),
+        Err(_) => Err(AllocError),
+    }
 }
 
-pub(super) fn key(alloc: Global, (clock, node, text): Keyed) -> Result<Key, ActionFault> {
-    let body = Body::Set(parse_actions(alloc, text)?);
-    Ok(Key { clock, node, body })
+/// The key of a text of a table, of which the same holds.
+pub(super) fn key(alloc: Global, (clock, node, text): Keyed) -> Result<Key, AllocError> {
+    match parse_actions(alloc, text) {
+        Ok(actions) => {
+            let body = Body::Set(actions);
+            Ok(Key { clock, node, body })
+        }
+        Err(_) => Err(AllocError),
+    }
 }
 
 /// The key of an operation; and of a hit one that is not to be learned.
-pub(super) fn key_of(alloc: Global, step: Step) -> Result<Key, ActionFault> {
+pub(super) fn key_of(alloc: Global, step: Step) -> Result<Key, AllocError> {
     match step {
         Step::Set(keyed) => key(alloc, keyed),
         Step::Remove(clock, node) => {
@@ -70,7 +80,7 @@ fn op(name: Name, key: Key, step: Step) -> Op {
     }
 }
 
-pub(super) fn op_of(alloc: Global, text: &str, step: Step) -> Result<Op, Fail> {
+pub(super) fn op_of(alloc: Global, text: &str, step: Step) -> Result<Op, AllocError> {
     let name = name(alloc, text)?;
     let key = key_of(alloc, step)?;
     Ok(op(name, key, step))
