@@ -5,7 +5,7 @@ use Rattle.std.specs.Io.KnownBytes.{Appends, Keeps}
 use Rattle.std.proofs.lemmas.Grind.{flat_map-append}
 use Rattle.std.proofs.lemmas.List.{length-take-le, map-append, map_more}
 use Rattle.std.proofs.lemmas.List.Elements.{All-append, All-cons, All-nil}
-use Rattle.scripts.proofs.Flows.{Appends-then}
+use Rattle.streams.proofs.Flows.{Appends-then}
 use Rattle.drills.specs.declared.fault.DrillFault.{DrillFault}
 use Rattle.drills.specs.declared.fault.DrillFault.TheVariants.{WriteFailed}
 use Rattle.drills.specs.Drills.{ended, newline, numbered}

@@ -4,7 +4,7 @@ use Rattle.std.specs.Prelude.{option_and_then}
 use Rattle.serde_json.specs.Data.{Data}
 use Rattle.serde_json.specs.Read.{read}
 use Rattle.serde_json.specs.Written.{compact_text, has_float}
-use Rattle.scripts.proofs.Texts.{text_in-text}
+use Rattle.streams.proofs.Texts.{text_in-text}
 use Rattle.drills.specs.Fits.{LineFits}
 use Rattle.drills.specs.Lines.{LineTold, line_data, line_text}
 use Rattle.drills.specs.Reading.{line_in, line_of}

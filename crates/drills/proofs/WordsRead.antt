@@ -4,7 +4,7 @@ use Rattle.std.specs.Option.{option_map}
 use Rattle.std.proofs.lemmas.List.{at_drop_more, at_drop_all}
 use Rattle.serde_json.specs.declared.value.Value.{Value}
 use Rattle.serde_json.specs.View.{items_view, view}
-use Rattle.scripts.specs.Fields.{◌>>=◌}
+use Rattle.streams.specs.Lines.{◌>>=◌}
 use Rattle.drills.specs.Reading.{word_in, words_from}
 
 -- the words of values

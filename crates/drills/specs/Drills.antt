@@ -1,8 +1,9 @@
 -- Recorded drills: the traces of the nodes and the lists of receipts, as lines and as bytes.
-use Rattle.std.specs.Prelude.{ℕ, ◌+◌, ◌==◌, List, [], ◌∷◌, ◌++◌, length, map, flat_map, if◌then◌else◌, Option, Some, None, option_map, option_and_then, Result, Ok, Err}
-use Rattle.audit.specs.Receipts.{Lists}
+use Rattle.std.specs.Prelude.{◌≡◌, ℕ, ◌+◌, Bool, ◌==◌, List, [], ◌∷◌, ◌++◌, length, map, flat_map, if◌then◌else◌, Option, Some, None, option_map, option_and_then, Result, Ok, Err, Vec}
+use Rattle.std.specs.declared.alloc.Global.{Global}
+use Rattle.node_calls.specs.declared.receipt.Receipt.{Receipt}
+use Rattle.node_calls.specs.declared.trace.Entry.{Entry}
 use Rattle.node_calls.specs.Told.{Told, told}
-use Rattle.audit.specs.Traces.{Traces}
 use Rattle.drills.specs.declared.drill.Drill.{Drill}
 use Rattle.drills.specs.Lines.{LineTold, head, trace, entry, list, receipt, ReceiptTold, receipt_told, line_text}
 use Rattle.drills.specs.Reading.{line_in}
@@ -13,13 +14,13 @@ pub record DrillTold : Type 0 where
 
 -- ---- the same of the code's values
 
-abbrev pub traces_told : Traces → List (List Told)
+abbrev pub traces_told : List (Vec Entry Global) → List (List Told)
 traces_told traces = map (λ trace. map told trace.items) traces
 
-abbrev pub lists_told : Lists → List (List ReceiptTold)
+abbrev pub lists_told : List (Vec Receipt Global) → List (List ReceiptTold)
 lists_told lists = map (λ list. map receipt_told list.items) lists
 
-abbrev pub drill_told : Traces → Lists → DrillTold
+abbrev pub drill_told : List (Vec Entry Global) → List (Vec Receipt Global) → DrillTold
 drill_told traces lists = record { traces = traces_told traces; lists = lists_told lists }
 
 abbrev pub drill_of : Drill → DrillTold
@@ -70,6 +71,10 @@ in_last x (part ∷ next ∷ parts) = option_map (λ rest. part ∷ rest) (in_la
 -- a new part, where this is its number
 abbrev pub begun : {A : Type 0} → ℕ → List (List A) → Option (List (List A))
 begun number parts = if number == length parts then Some (parts ++ [] ∷ []) else None
+
+-- whether something was put: it comes to this then, and else to nothing
+abbrev pub IsPut : {A : Type 0} → Bool → Option A → A → Type 0
+IsPut put next new = next ≡ (if put then Some new else None)
 
 -- the traces come before the lists
 abbrev pub with_traces : DrillTold → Option (List (List Told)) → Option DrillTold

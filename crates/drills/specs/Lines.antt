@@ -1,6 +1,6 @@
 -- The lines of a recorded drill.
 use Rattle.std.specs.Prelude.{ℕ, List, codes}
-use Rattle.serde_json.specs.Data.{Data, string, object, member, no_members}
+use Rattle.serde_json.specs.Data.{Data, string, object, Members, member, no_members, put}
 use Rattle.serde_json.specs.Written.{compact_text}
 use Rattle.node_calls.specs.declared.receipt.Receipt.{Receipt}
 use Rattle.node_calls.specs.Told.{Told, told}
@@ -32,6 +32,11 @@ line_told (lines.Trace node) = trace node
 line_told (lines.Entry e) = entry (told e)
 line_told (lines.List number) = list number
 line_told (lines.Receipt r) = receipt (receipt_told r)
+
+-- what an entry tells, put into an object
+abbrev pub with_told : Told → Members → Members
+with_told e ms =
+    put (codes "words") (words_data e.words) (put (codes "reply") (reply_data e.reply) (put (codes "ask") (ask_data e.ask) ms))
 
 -- as JSON: one object a line
 abbrev pub line_data : LineTold → Data

@@ -13,8 +13,7 @@ use Rattle.stamp_register.specs.declared.key.Stamp.{Stamp}
 use Rattle.actions.specs.Value.{TaskValue, off, «return», sleep, panic, print, pause, yield, delay}
 use Rattle.node_calls.specs.Asks.{Passed, Unset, NoTerm, Act}
 use Rattle.node_calls.specs.Told.{AskTold, sets, removes, loads, passes, shifts, grants, emits, delivers, ReplyTold, was_set, was_removed, was_loaded, was_passed, was_shifted, was_granted, was_emitted, was_delivered, Told}
-use Rattle.scripts.specs.Fields.{◌>>=◌}
-use Rattle.scripts.specs.Script.{text_in}
+use Rattle.streams.specs.Lines.{◌>>=◌, text_in}
 use Rattle.drills.specs.Lines.{LineTold, head, trace, entry, list, receipt, ReceiptTold}
 
 -- ---- values
@@ -170,12 +169,31 @@ reply_in d =
 abbrev pub members_in : Data → ℕ
 members_in d = option_map_or members_len (as_object d) 0
 
-abbrev pub told_in : Data → Option Told
-told_in d = do
-  ask ← get (codes "ask") d >>= ask_in
-  words ← get (codes "words") d >>= words_in
-  reply ← get (codes "reply") d >>= reply_in
+abbrev pub text_member : List ℕ → Data → Option (List ℕ)
+text_member name d = get name d >>= as_str
+
+abbrev pub number_member : List ℕ → Data → Option ℕ
+number_member name d = get name d >>= number_in
+
+-- of parts, where each of them could be read
+abbrev pub told_of : Option AskTold → Option (List ℕ) → Option ReplyTold → Option Told
+told_of ask words reply = do
+  ask ← ask
+  words ← words
+  reply ← reply
   Some (record { ask = ask; words = words; reply = reply })
+
+abbrev pub ask_member : Data → Option AskTold
+ask_member d = get (codes "ask") d >>= ask_in
+
+abbrev pub words_member : Data → Option (List ℕ)
+words_member d = get (codes "words") d >>= words_in
+
+abbrev pub reply_member : Data → Option ReplyTold
+reply_member d = get (codes "reply") d >>= reply_in
+
+abbrev pub told_in : Data → Option Told
+told_in d = told_of (ask_member d) (words_member d) (reply_member d)
 
 abbrev pub receipt_in : Data → Option ReceiptTold
 receipt_in d = do
@@ -185,20 +203,20 @@ receipt_in d = do
   Some (record { node = node; index = index; entry = told })
 
 abbrev pub is_head : Data → Bool
-is_head d = is_word (codes "drill") (get (codes "failreg") d >>= as_str)
+is_head d = is_word (codes "drill") (text_member (codes "failreg") d)
 
 abbrev pub version_one : ℕ → Option LineTold
 version_one version = if version == 1 then Some head else None
 
 abbrev pub head_in : Data → Option LineTold
-head_in d = if is_head d then (get (codes "version") d >>= number_in) >>= version_one else None
+head_in d = if is_head d then number_member (codes "version") d >>= version_one else None
 
 abbrev pub or_list : Option ℕ → Option ℕ → Option LineTold
 or_list (Some node) other = Some (trace node)
 or_list None other = option_map list other
 
 abbrev pub begin_in : Data → Option LineTold
-begin_in d = or_list (get (codes "trace") d >>= number_in) (get (codes "list") d >>= number_in)
+begin_in d = or_list (number_member (codes "trace") d) (number_member (codes "list") d)
 
 -- by how many members it has
 abbrev pub line_of : Data → Option LineTold

@@ -3,8 +3,8 @@ use Rattle.std.specs.Prelude.{◌≡◌, ℕ, Bool, true, false, List, [], ◌�
 use Rattle.std.specs.declared.alloc.Global.{Global}
 use Rattle.std.specs.declared.io.buffered.BufReader.{BufReader}
 use Rattle.std.specs.Io.Buffered.{reader_remaining}
-use Rattle.scripts.specs.declared.watched.Watched.{Watched}
-use Rattle.scripts.specs.Watched.{inner_of}
+use Rattle.streams.specs.declared.watched.Watched.{Watched}
+use Rattle.streams.specs.Watched.{inner_of}
 use Rattle.drills.specs.Drills.{lines_in}
 
 abbrev pub bytes_left : {I : Type 0} → (I → Option (List ℕ)) → BufReader (Watched I) Global → Option (List ℕ)

@@ -1,7 +1,7 @@
 -- What is written of a recorded drill, and that it reads back.
 use Rattle.std.specs.Prelude.{◌≡◌, ℕ, ◌≤◌, Bool, IsUtf8, false, ◌==◌, ◌||◌, List, [], ◌∷◌, All, flat_map, Option, Some}
-use Rattle.scripts.specs.Streams.{Writes}
-use Rattle.scripts.specs.declared.watched.Watched.{Watched}
+use Rattle.streams.specs.Streams.{Writes}
+use Rattle.streams.specs.declared.watched.Watched.{Watched}
 use Rattle.serde_json.specs.Data.{Data, depth}
 use Rattle.serde_json.specs.Read.{max_depth, read}
 use Rattle.serde_json.specs.Written.{compact_text, has_float}

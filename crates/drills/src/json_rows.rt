@@ -4,24 +4,89 @@ ghost use Rattle.std.specs.Prelude.{◌≡◌, ◌∷◌, ◌++◌, [], map, opt
 ghost use Rattle.serde_json.specs.Data.{string};
 ghost use Rattle.serde_json.specs.View.{view};
 ghost use Rattle.actions.specs.Value.{task_value};
-ghost use Rattle.node_calls.specs.Asks.{passed};
+ghost use Rattle.node_calls.specs.Asks.{Act, passed};
 ghost use Rattle.node_calls.specs.Told.{ask_told, grants, reply_told, sets, shifts};
 ghost use Rattle.hex.specs.Hex.{IsBytes};
 ghost use Rattle.drills.specs.Fits.{AskFits, PassFits, ReplyFits, StampFits, WordsFit};
 ghost use Rattle.drills.specs.Rows.{bytes_data, text_data, count_data, row, words_data, task_data, ask_data, pass_data, reply_data, list_data};
 
 use actions::Task;
-use node_core::{Ask, PassReply, Reply};
-use serde_json::{Value, json};
+use node_calls::{Ask, PassReply, Reply};
+use serde_json::Value;
 use stamp_register::Stamp;
 use std::alloc::{AllocError, Global};
 
-// Bytes, in hexadecimal.
-fn bytes_value(alloc: Global, bytes: &[u8]) -> Result<Value, AllocError>
-    ensures value { IfOk result (λ value. view value ≡ bytes_data bytes.now) }
+// Puts texts behind what stands in a row.
+fn push_texts(alloc: Global, row: &mut Vec<Value>, texts: &[&str]) -> Result<(), AllocError>
+    ensures { OnOk result (map view row.new.items
+        ≡ map view row.old.items ++ map (λ text. string text.now) texts.now) }
+{
+    for text in texts {
+        row.push(Value::String(String::from_str(alloc, text)?))?;
+    }
+    Ok(())
+}
+
+// Puts numbers behind what stands in a row.
+fn push_counts(row: &mut Vec<Value>, counts: &[u64]) -> Result<(), AllocError>
+    ensures { OnOk result (map view row.new.items
+        ≡ map view row.old.items ++ map count_data counts.now) }
+{
+    for count in counts {
+        row.push(Value::from(*count))?;
+    }
+    Ok(())
+}
+
+// A word and other texts, and numbers behind them.
+fn row_of(alloc: Global, texts: &[&str], counts: &[u64]) -> Result<Vec<Value>, AllocError>
+    ensures { IfOk result (λ row. map view row.items
+        ≡ map (λ text. string text.now) texts.now ++ map count_data counts.now) }
+{
+    let mut row = Vec::new(alloc);
+    push_texts(alloc, &mut row, texts)?;
+    push_counts(&mut row, counts)?;
+    Ok(row)
+}
+
+// A row with a value behind it.
+fn with_value(mut row: Vec<Value>, value: Value) -> Result<Value, AllocError>
+    ensures { IfOk result
+        (λ all. view all ≡ list_data (map view row.items ++ view value ∷ [])) }
+{
+    row.push(value)?;
+    Ok(Value::Array(row))
+}
+
+// A word alone.
+fn alone(alloc: Global, word: &str) -> Result<Value, AllocError>
+    ensures { IfOk result (λ value. view value ≡ row word.now []) }
+{
+    Ok(Value::Array(row_of(alloc, &[word], &[])?))
+}
+
+// A word with a number.
+fn counted(alloc: Global, word: &str, count: u64) -> Result<Value, AllocError>
+    ensures { IfOk result (λ value. view value ≡ row word.now (count_data count ∷ [])) }
+{
+    Ok(Value::Array(row_of(alloc, &[word], &[count])?))
+}
+
+// A word with a text.
+fn with_text(alloc: Global, word: &str, text: &str) -> Result<Value, AllocError>
+    ensures { IfOk result (λ value. view value ≡ row word.now (string text.now ∷ [])) }
+{
+    Ok(Value::Array(row_of(alloc, &[word, text], &[])?))
+}
+
+// A word with bytes, in hexadecimal.
+fn with_bytes(alloc: Global, word: &str, bytes: &[u8]) -> Result<Value, AllocError>
+    ensures value { IfOk result (λ value. view value
+        ≡ row word.now (bytes_data bytes.now ∷ [])) }
     ensures fits { OnOk result (IsBytes bytes.now) }
 {
-    Ok(Value::String(hex::encode(alloc, bytes)?))
+    let text = hex::encode(alloc, bytes)?;
+    with_text(alloc, word, &text)
 }
 
 // A text, or null where there is none.
@@ -35,51 +100,13 @@ fn text_value(alloc: Global, text: &Option<String>) -> Result<Value, AllocError>
     }
 }
 
-// A word with a value.
-fn with_value(alloc: Global, word: &str, value: Value) -> Result<Value, AllocError>
-    ensures { IfOk result (λ all. view all ≡ row word.now (view value ∷ [])) }
-{
-    json!(in alloc; [word, value])
-}
-
-// A word with bytes.
-fn with_bytes(alloc: Global, word: &str, bytes: &[u8]) -> Result<Value, AllocError>
-    ensures value { IfOk result (λ value. view value
-        ≡ row word.now (bytes_data bytes.now ∷ [])) }
-    ensures fits { OnOk result (IsBytes bytes.now) }
-{
-    let bytes = bytes_value(alloc, bytes)?;
-    with_value(alloc, word, bytes)
-}
-
-// A word with a text.
-fn with_text(alloc: Global, word: &str, text: &str) -> Result<Value, AllocError>
-    ensures { IfOk result (λ value. view value ≡ row word.now (string text.now ∷ [])) }
-{
-    json!(in alloc; [word, text])
-}
-
 // A task's word with its text.
 fn texted(alloc: Global, word: &str, text: &Option<String>) -> Result<Value, AllocError>
     ensures { IfOk result (λ value. view value
         ≡ row word.now (text_data (option_map string_bytes text.now) ∷ [])) }
 {
     let text = text_value(alloc, text)?;
-    with_value(alloc, word, text)
-}
-
-// A word alone.
-fn alone(alloc: Global, word: &str) -> Result<Value, AllocError>
-    ensures { IfOk result (λ value. view value ≡ row word.now []) }
-{
-    json!(in alloc; [word])
-}
-
-// A word with a number.
-fn counted(alloc: Global, word: &str, count: u64) -> Result<Value, AllocError>
-    ensures { IfOk result (λ value. view value ≡ row word.now (count_data count ∷ [])) }
-{
-    json!(in alloc; [word, count])
+    with_value(row_of(alloc, &[word], &[])?, text)
 }
 
 fn task_value(alloc: Global, task: &Task) -> Result<Value, AllocError>
@@ -100,7 +127,7 @@ fn task_value(alloc: Global, task: &Task) -> Result<Value, AllocError>
 fn set_value(alloc: Global, name: &str, text: &str) -> Result<Value, AllocError>
     ensures { IfOk result (λ value. view value ≡ ask_data (sets name.now text.now)) }
 {
-    json!(in alloc; ["set", name, text])
+    Ok(Value::Array(row_of(alloc, &["set", name, text], &[])?))
 }
 
 fn shift_value(
@@ -112,13 +139,15 @@ fn shift_value(
 ) -> Result<Value, AllocError>
     ensures { IfOk result (λ value. view value ≡ ask_data (shifts name.now term to amount)) }
 {
-    json!(in alloc; ["shift", name, term, to, amount])
+    let counts = [u64::from(term), u64::from(to), amount];
+    Ok(Value::Array(row_of(alloc, &["shift", name], &counts)?))
 }
 
 fn grant_value(alloc: Global, name: &str, term: u8, amount: u64) -> Result<Value, AllocError>
     ensures { IfOk result (λ value. view value ≡ ask_data (grants name.now term amount)) }
 {
-    json!(in alloc; ["grant", name, term, amount])
+    let counts = [u64::from(term), amount];
+    Ok(Value::Array(row_of(alloc, &["grant", name], &counts)?))
 }
 
 /// What was asked.
@@ -149,7 +178,18 @@ fn stamped(alloc: Global, word: &str, stamp: Stamp) -> Result<Value, AllocError>
         ≡ row word.now (count_data stamp.clock ∷ count_data stamp.node ∷ [])) }
     ensures fits { OnOk result (StampFits stamp) }
 {
-    json!(in alloc; [word, stamp.clock, stamp.node])
+    let counts = [stamp.clock, u64::from(stamp.node)];
+    Ok(Value::Array(row_of(alloc, &[word], &counts)?))
+}
+
+fn act_value(alloc: Global, term: u8, stamp: Stamp, task: &Task) -> Result<Value, AllocError>
+    ensures value { IfOk result
+        (λ value. view value ≡ pass_data (Act stamp term (task_value task.now))) }
+    ensures fits { OnOk result (StampFits stamp) }
+{
+    let task = task_value(alloc, task)?;
+    let counts = [stamp.clock, u64::from(stamp.node), u64::from(term)];
+    with_value(row_of(alloc, &["act"], &counts)?, task)
 }
 
 fn pass_value(alloc: Global, reply: &PassReply) -> Result<Value, AllocError>
@@ -159,9 +199,7 @@ fn pass_value(alloc: Global, reply: &PassReply) -> Result<Value, AllocError>
     match reply {
         PassReply::Unset => alone(alloc, "unset"),
         PassReply::NoTerm { stamp } => stamped(alloc, "none", *stamp),
-        PassReply::Act { term, stamp, task } => {
-            json!(in alloc; ["act", stamp.clock, stamp.node, *term, task_value(alloc, task)?])
-        }
+        PassReply::Act { term, stamp, task } => act_value(alloc, *term, *stamp, task),
     }
 }
 

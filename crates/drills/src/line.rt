@@ -1,16 +1,17 @@
 //! The lines of a recorded drill, read.
 
 ghost use Rattle.std.specs.Prelude.{◌≡◌, option_map, IfOk};
+ghost use Rattle.std.specs.Vec.{vec_items};
 ghost use Rattle.serde_json.specs.View.{view};
-ghost use Rattle.node_calls.specs.Told.{told};
+ghost use Rattle.node_calls.specs.Told.{ask_told, reply_told, told};
 ghost use Rattle.drills.specs.Lines.{line_told, receipt_told};
-ghost use Rattle.drills.specs.Reading.{begin_in, head_in, line_in, line_of, members_in, receipt_in, told_in};
+ghost use Rattle.drills.specs.Reading.{ask_member, begin_in, head_in, line_in, line_of, members_in, number_member, receipt_in, reply_member, text_member, told_in, told_of, words_member};
 
 use crate::rows::{ask_in, byte_in, reply_in, word_in, words_in};
-use node_core::{Entry, Receipt};
-use scripts::text_of;
+use node_calls::{Ask, Entry, Receipt, Reply};
 use serde_json::Value;
 use std::alloc::{AllocError, Global};
+use streams::text_of;
 
 /// A line of a recorded drill.
 #[derive(Drop)]
@@ -36,28 +37,52 @@ fn members_in(value: &Value) -> usize
     }
 }
 
+// An entry of these parts, where each of them could be read.
+fn entry_of(ask: Option<Ask>, words: Option<Vec<u32>>, reply: Option<Reply>) -> Option<Entry>
+    ensures { option_map told result ≡ told_of
+        (option_map ask_told ask) (option_map vec_items words) (option_map reply_told reply) }
+{
+    Some(Entry {
+        ask: ask?,
+        words: words?,
+        reply: reply?,
+    })
+}
+
+fn ask_member(alloc: Global, value: &Value) -> Result<Option<Ask>, AllocError>
+    ensures { IfOk result (λ ask. option_map ask_told ask ≡ ask_member (view value.now)) }
+{
+    match value.get("ask") {
+        Some(ask) => ask_in(alloc, ask),
+        None => Ok(None),
+    }
+}
+
+fn words_member(alloc: Global, value: &Value) -> Result<Option<Vec<u32>>, AllocError>
+    ensures { IfOk result (λ words. option_map vec_items words ≡ words_member (view value.now)) }
+{
+    match value.get("words") {
+        Some(words) => words_in(alloc, words),
+        None => Ok(None),
+    }
+}
+
+fn reply_member(alloc: Global, value: &Value) -> Result<Option<Reply>, AllocError>
+    ensures { IfOk result (λ reply. option_map reply_told reply ≡ reply_member (view value.now)) }
+{
+    match value.get("reply") {
+        Some(reply) => reply_in(alloc, reply),
+        None => Ok(None),
+    }
+}
+
 fn told_in(alloc: Global, value: &Value) -> Result<Option<Entry>, AllocError>
     ensures { IfOk result (λ entry. option_map told entry ≡ told_in (view value.now)) }
 {
-    let Some(ask) = value.get("ask") else {
-        return Ok(None);
-    };
-    let Some(ask) = ask_in(alloc, ask)? else {
-        return Ok(None);
-    };
-    let Some(words) = value.get("words") else {
-        return Ok(None);
-    };
-    let Some(words) = words_in(alloc, words)? else {
-        return Ok(None);
-    };
-    let Some(reply) = value.get("reply") else {
-        return Ok(None);
-    };
-    let Some(reply) = reply_in(alloc, reply)? else {
-        return Ok(None);
-    };
-    Ok(Some(Entry { ask, words, reply }))
+    let ask = ask_member(alloc, value)?;
+    let words = words_member(alloc, value)?;
+    let reply = reply_member(alloc, value)?;
+    Ok(entry_of(ask, words, reply))
 }
 
 fn receipt_in(alloc: Global, value: &Value) -> Result<Option<Receipt>, AllocError>
@@ -76,25 +101,33 @@ fn receipt_in(alloc: Global, value: &Value) -> Result<Option<Receipt>, AllocErro
     Ok(Some(Receipt { node, index, entry }))
 }
 
+fn text_member<'a>(value: &'a Value, name: &str) -> Option<&'a str>
+    ensures { option_map (λ text. text.now) result ≡ text_member name.now (view value.now) }
+{
+    value.get(name)?.as_str()
+}
+
+fn number_member(value: &Value, name: &str) -> Option<u64>
+    ensures { result ≡ number_member name.now (view value.now) }
+{
+    value.get(name)?.as_u64()
+}
+
 fn head_in(value: &Value) -> Option<Line>
     ensures { option_map line_told result ≡ head_in (view value.now) }
 {
-    let name = value.get("failreg")?.as_str()?;
-    if name != "drill" {
-        return None;
-    }
-    let version = value.get("version")?.as_u64()?;
-    (version == 1).then_some(Line::Head)
+    let name = text_member(value, "failreg")?;
+    let version = number_member(value, "version")?;
+    (name == "drill" && version == 1).then_some(Line::Head)
 }
 
 fn begin_in(value: &Value) -> Option<Line>
     ensures { option_map line_told result ≡ begin_in (view value.now) }
 {
-    if let Some(node) = value.get("trace").and_then(Value::as_u64) {
-        return Some(Line::Trace(node));
+    match number_member(value, "trace") {
+        Some(node) => Some(Line::Trace(node)),
+        None => number_member(value, "list").map(Line::List),
     }
-    let number = value.get("list")?.as_u64()?;
-    Some(Line::List(number))
 }
 
 fn line_of(alloc: Global, value: &Value) -> Result<Option<Line>, AllocError>

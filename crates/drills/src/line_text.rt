@@ -1,15 +1,16 @@
 //! The lines of a recorded drill, written.
 
 ghost use Rattle.std.specs.Prelude.{◌≡◌, IfOk, OnOk, string_bytes};
-ghost use Rattle.serde_json.specs.View.{view};
+ghost use Rattle.serde_json.specs.Data.{put};
+ghost use Rattle.serde_json.specs.View.{members_view, view};
 ghost use Rattle.node_calls.specs.Told.{told};
-ghost use Rattle.drills.specs.Fits.{LineFits};
-ghost use Rattle.drills.specs.Lines.{entry as entry_line, head as head_line, line_data, list as list_line, receipt as receipt_line, receipt_told, trace as trace_line};
+ghost use Rattle.drills.specs.Fits.{LineFits, ToldFits};
+ghost use Rattle.drills.specs.Lines.{entry as entry_line, head as head_line, line_data, list as list_line, receipt as receipt_line, receipt_told, trace as trace_line, with_told};
 ghost use Rattle.drills.specs.Written.{IsPrinted, SaysLine};
 
 use crate::json_rows::{ask_value, reply_value, words_value};
-use node_core::{Entry, Receipt};
-use serde_json::{Value, json};
+use node_calls::{Entry, Receipt};
+use serde_json::{Map, Value, json};
 use std::alloc::{AllocError, Global};
 
 fn head_value(alloc: Global) -> Result<Value, AllocError>
@@ -30,15 +31,43 @@ fn list_value(alloc: Global, number: u64) -> Result<Value, AllocError>
     json!(in alloc; {"list": number})
 }
 
+// Puts a member into an object.
+fn put(
+    alloc: Global,
+    members: &mut Map<String, Value>,
+    name: &str,
+    value: Value,
+) -> Result<(), AllocError>
+    ensures { OnOk result (members_view members.new.entries
+        ≡ put name.now (view value) (members_view members.old.entries)) }
+{
+    let name = String::from_str(alloc, name)?;
+    drop(members.insert(name, value)?);
+    Ok(())
+}
+
+// Puts what an entry tells into an object.
+fn put_told(
+    alloc: Global,
+    members: &mut Map<String, Value>,
+    entry: &Entry,
+) -> Result<(), AllocError>
+    ensures members { OnOk result (members_view members.new.entries
+        ≡ with_told (told entry.now) (members_view members.old.entries)) }
+    ensures fits { OnOk result (ToldFits (told entry.now)) }
+{
+    put(alloc, members, "ask", ask_value(alloc, &entry.ask)?)?;
+    put(alloc, members, "reply", reply_value(alloc, &entry.reply)?)?;
+    put(alloc, members, "words", words_value(alloc, &entry.words)?)
+}
+
 fn entry_value(alloc: Global, entry: &Entry) -> Result<Value, AllocError>
     ensures value { IfOk result (λ value. view value ≡ line_data (entry_line (told entry.now))) }
     ensures fits { OnOk result (LineFits (entry_line (told entry.now))) }
 {
-    json!(in alloc; {
-        "ask": ask_value(alloc, &entry.ask)?,
-        "reply": reply_value(alloc, &entry.reply)?,
-        "words": words_value(alloc, &entry.words)?
-    })
+    let mut members = Map::new(alloc);
+    put_told(alloc, &mut members, entry)?;
+    Ok(Value::Object(members))
 }
 
 fn receipt_value(alloc: Global, receipt: &Receipt) -> Result<Value, AllocError>
@@ -47,13 +76,11 @@ fn receipt_value(alloc: Global, receipt: &Receipt) -> Result<Value, AllocError>
     ensures fits { OnOk result (LineFits (receipt_line (receipt_told receipt.now))) }
 {
     let Receipt { node, index, entry } = receipt;
-    json!(in alloc; {
-        "ask": ask_value(alloc, &entry.ask)?,
-        "index": *index,
-        "node": *node,
-        "reply": reply_value(alloc, &entry.reply)?,
-        "words": words_value(alloc, &entry.words)?
-    })
+    let mut members = Map::new(alloc);
+    put_told(alloc, &mut members, entry)?;
+    put(alloc, &mut members, "index", Value::from(*index))?;
+    put(alloc, &mut members, "node", Value::from(*node))?;
+    Ok(Value::Object(members))
 }
 
 fn printed(alloc: Global, value: &Value) -> Result<String, AllocError>

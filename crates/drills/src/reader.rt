@@ -3,16 +3,16 @@
 ghost use Rattle.std.specs.Prelude.{◌≡◌, ◌≢◌, ℕ, ◌∷◌, [], true, false, cond, Some, IfOk, IfSome, Ok, Err};
 ghost use Rattle.std.specs.Io.BufRead.{strip_last};
 ghost use Rattle.std.specs.Io.Buffered.{reader_inner};
-ghost use Rattle.scripts.specs.Watched.{has_failed, inner_of};
+ghost use Rattle.streams.specs.Watched.{has_failed, inner_of};
 ghost use Rattle.drills.specs.declared.fault.DrillFault.TheVariants.{BadLine, ReadFailed, WriteFailed};
 ghost use Rattle.drills.specs.Drills.{drill_in, drill_of, lines_in};
 ghost use Rattle.drills.specs.Taken.{TakesLine, IfBytes};
 
 use crate::drill::{Drill, after_text};
 use crate::fault::DrillFault;
-use scripts::Watched;
 use std::alloc::Global;
 use std::io::{BufRead, BufReader, Read};
+use streams::Watched;
 
 // A line without the newline that ends it, if one does.
 fn drop_newline(line: &mut Vec<u8>)

@@ -9,7 +9,7 @@ ghost use Rattle.node_calls.specs.Told.{ask_told, reply_told};
 ghost use Rattle.drills.specs.Reading.{number_in, byte_in, short_in, word_in, bytes_in, text_or_null, words_in, fields_in, is_row, text_at, number_at, byte_at, short_at, bytes_at, text_or_null_at, stamp_in, task_in, set_in, shift_in, grant_in, ask_in, act_in, pass_in, reply_in};
 
 use actions::Task;
-use node_core::{Ask, PassReply, Reply};
+use node_calls::{Ask, PassReply, Reply};
 use serde_json::Value;
 use stamp_register::Stamp;
 use std::alloc::{AllocError, Global};

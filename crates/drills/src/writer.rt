@@ -1,8 +1,8 @@
 //! A recorded drill to a writer.
 
 ghost use Rattle.std.specs.Prelude.{◌≡◌, ◌++◌, ◌∷◌, [], ◌↔◌, ◌⊎◌, true, false, map, string_bytes, IfErr, OnOk, Ok, Err};
-ghost use Rattle.scripts.specs.Watched.{has_failed, has_unflushed};
-ghost use Rattle.scripts.specs.Streams.{Writes};
+ghost use Rattle.streams.specs.Watched.{has_failed, has_unflushed};
+ghost use Rattle.streams.specs.Streams.{Writes};
 ghost use Rattle.node_calls.specs.Told.{told};
 ghost use Rattle.drills.specs.declared.fault.DrillFault.TheVariants.{OutOfMemory, WriteFailed};
 ghost use Rattle.drills.specs.Lines.{receipt_told};
@@ -11,10 +11,10 @@ ghost use Rattle.drills.specs.Written.{WritesLines};
 
 use crate::fault::DrillFault;
 use crate::line_text::{entry_text, head_text, list_text, receipt_text, trace_text};
-use node_core::{Receipt, Trace};
-use scripts::Watched;
+use node_calls::{Receipt, Trace};
 use std::alloc::Global;
 use std::io::Write;
+use streams::Watched;
 
 // Writes a line, and the newline that ends it.
 fn write_line<W: Write>(writer: &mut Watched<W>, mut text: String) -> Result<(), DrillFault>

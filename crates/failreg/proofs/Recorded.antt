@@ -1,8 +1,8 @@
 -- What a recorded run writes, where its reader tells its bytes.
 use Rattle.std.proofs.Common.{◌≡◌, List, ℕ, Bool, Option, Some, None, Result, Ok, Err}
 use Rattle.std.specs.Prelude.{IfOk, IfSome, OnOk}
-use Rattle.scripts.specs.Streams.{Writes}
-use Rattle.scripts.specs.declared.watched.Watched.{Watched}
+use Rattle.streams.specs.Streams.{Writes}
+use Rattle.streams.specs.declared.watched.Watched.{Watched}
 use Rattle.failreg.specs.Recordings.{IsRecorded, SaysVerdict}
 use Rattle.thread_scripts.specs.Outputs.{PlaysTo}
 use Rattle.thread_scripts.specs.Plans.{PlanValue, plan_in}

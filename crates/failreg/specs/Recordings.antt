@@ -10,8 +10,8 @@ use Rattle.audit.specs.VerdictText.{verdict_text}
 use Rattle.drills.specs.Drills.{drill_in, drill_text, drill_told}
 use Rattle.thread_scripts.specs.Outputs.{IsOutputOf}
 use Rattle.thread_scripts.specs.Plans.{PlanValue}
-use Rattle.scripts.specs.Streams.{Writes}
-use Rattle.scripts.specs.declared.watched.Watched.{Watched}
+use Rattle.streams.specs.Streams.{Writes}
+use Rattle.streams.specs.declared.watched.Watched.{Watched}
 
 -- A drill was written that reads back as the same, and what a plan prints that came to its traces and receipts.
 pub record IsRecorded {D O : Type 0} (plan : PlanValue) (kept : D → Option (List ℕ)) (old_kept new_kept : Watched D)

@@ -3,7 +3,7 @@
 ghost use Rattle.std.specs.Prelude.{◌≡◌, ◌≢◌, ◌↔◌, ℕ, min, length, IfOk, IfErr, None, Err, true, false};
 ghost use Rattle.std.specs.Io.Buffered.{reader_inner};
 ghost use Rattle.audit.specs.Answers.{IsAudited};
-ghost use Rattle.scripts.specs.Watched.{has_failed, has_unflushed};
+ghost use Rattle.streams.specs.Watched.{has_failed, has_unflushed};
 ghost use Rattle.drills.specs.declared.fault.DrillFault.TheVariants.{BadLine, ReadFailed, WriteFailed};
 ghost use Rattle.drills.specs.Drills.{drill_in};
 ghost use Rattle.drills.specs.Taken.{IfBytes, bytes_left};

@@ -6,8 +6,8 @@ ghost use Rattle.std.specs.Process.{exit_status};
 ghost use Rattle.actions.specs.Reading.{reading};
 ghost use Rattle.node_core.specs.Refusals.{is_bad_config};
 ghost use Rattle.scripts.specs.Script.{echoed_text, script_text};
-ghost use Rattle.scripts.specs.Streams.{IfInput, Writes};
-ghost use Rattle.scripts.specs.Watched.{has_failed, has_unflushed};
+ghost use Rattle.streams.specs.Streams.{IfInput, Writes};
+ghost use Rattle.streams.specs.Watched.{has_failed, has_unflushed};
 ghost use Rattle.thread_scripts.specs.Outputs.{PlaysTo};
 ghost use Rattle.failreg.specs.Statuses.{HasStatus, OnStatus};
 

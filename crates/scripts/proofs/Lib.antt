@@ -1,5 +1,3 @@
-pub mod Flows
 pub mod Words
 pub mod Spaces
-pub mod Texts
 pub mod Outputs

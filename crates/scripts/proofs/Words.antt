@@ -3,7 +3,7 @@ use Rattle.std.proofs.Common.{◌≡◌, ℕ, ◌+◌, ◌<◌, List, [], ◌∷
 use Rattle.std.specs.Option.{option_map}
 use Rattle.std.proofs.lemmas.List.{at_drop_more, at_drop_all}
 use Rattle.decimals.specs.Decimals.{word_of}
-use Rattle.scripts.specs.Fields.{◌>>=◌}
+use Rattle.streams.specs.Lines.{◌>>=◌}
 use Rattle.scripts.specs.Commands.{words_of}
 
 -- a number in front of others

@@ -3,7 +3,8 @@ use Rattle.std.specs.Prelude.{ℕ, List, [], ◌∷◌, if◌then◌else◌, Opt
 use Rattle.std.specs.Str.{bytes_eq}
 use Rattle.cluster_model.specs.Events.{EventValue, sets, removes, loads, passes, shifts, grants, emits, delivers, event_value}
 use Rattle.decimals.specs.Decimals.{byte_of, word_of, amount_of}
-use Rattle.scripts.specs.Fields.{◌>>=◌, fields_of, cut_of, field_of, field_cut_of, byte_cut_of}
+use Rattle.streams.specs.Lines.{◌>>=◌}
+use Rattle.scripts.specs.Fields.{fields_of, cut_of, field_of, field_cut_of, byte_cut_of}
 use Rattle.scripts.specs.declared.command.Question.{Question}
 use Rattle.scripts.specs.declared.command.Question.TheVariants as questions
 use Rattle.scripts.specs.declared.command.Command.{Command}

@@ -1,7 +1,8 @@
 -- Lines and their fields, as bytes.
-use Rattle.std.specs.Prelude.{ℕ, Bool, ◌==◌, List, length, if◌then◌else◌, nat_lt, Option, Some, None, option_and_then}
+use Rattle.std.specs.Prelude.{ℕ, Bool, ◌==◌, List, length, if◌then◌else◌, nat_lt, Option, Some, None}
 use Rattle.std.specs.List.{slice_split, position_or_len, before_first, after_first}
 use Rattle.decimals.specs.Decimals.{byte_of}
+use Rattle.streams.specs.Lines.{◌>>=◌}
 
 abbrev pub newline : ℕ
 newline = 10
@@ -36,10 +37,6 @@ cut_of text = if has_space text then Some (before_space text, after_space text) 
 -- a field: some bytes, none of which is a space
 abbrev pub field_of : List ℕ → Option (List ℕ)
 field_of text = if (length text == 0) then None else (if has_space text then None else Some text)
-
-infixl 10 ◌>>=◌
-abbrev pub ◌>>=◌ : {A B : Type 0} → Option A → (A → Option B) → Option B
-o >>= f = option_and_then f o
 
 -- a field before the first space, and what stands after it
 abbrev pub field_cut_of : List ℕ → Option (List ℕ × List ℕ)

@@ -1,26 +1,16 @@
 -- What a script prints: its lines are answered one after the other, each by the cluster that those
 -- before it left.
-use Rattle.std.specs.Prelude.{ℕ, Bool, ◌==◌, ◌||◌, List, [], ◌∷◌, ◌++◌, length, slice_index, if◌then◌else◌, Option, Some, None, codes}
-use Rattle.std.specs.Str.{is_utf8}
+use Rattle.std.specs.Prelude.{ℕ, List, [], ◌∷◌, ◌++◌, length, if◌then◌else◌, Option, Some, None, codes}
 use Rattle.node_calls.specs.declared.fault.NodeFault.TheVariants.{BadConfig}
 use Rattle.cluster_model.specs.declared.fault.WorldFault.TheVariants.{Refused}
 use Rattle.cluster_model.specs.Worlds.{is_cluster_size}
 use Rattle.cluster_model.specs.Events.{WorldValue, EventValue, new_world, answer}
 use Rattle.cluster_model.specs.Runs.{after_answer}
-use Rattle.scripts.specs.Fields.{◌>>=◌, lines_of}
+use Rattle.streams.specs.Lines.{◌>>=◌, is_skipped, text_in}
+use Rattle.scripts.specs.Fields.{lines_of}
 use Rattle.scripts.specs.Commands.{CommandValue, nodes, event, question, command_of}
 use Rattle.scripts.specs.Replies.{answer_text, refused_text, bad_line_text, output_line}
 use Rattle.scripts.specs.Questions.{asked_output}
-
-abbrev pub hash_sign : ℕ
-hash_sign = 35
-
--- an empty line, or a comment, whatever its bytes
-abbrev pub is_skipped : List ℕ → Bool
-is_skipped line = (length line == 0) || (slice_index line 0 == hash_sign)
-
-abbrev pub text_in : List ℕ → Option (List ℕ)
-text_in line = if is_utf8 line then Some line else None
 
 -- what a line asks for, where it is text and has one of the forms
 abbrev pub command_in : List ℕ → Option CommandValue

@@ -3,20 +3,14 @@
 #![tactic(auto)]
 
 mod command;
-mod fault;
 mod fields;
 mod question;
 mod reply;
 mod run;
 mod script;
-mod streams;
-mod watched;
 
 pub use command::{Command, Question, read_command};
 pub use decimals::{amount, byte, number, word};
-pub use fault::ScriptFault;
 pub use fields::{cut, cut_byte, cut_field, field};
 pub use run::{run_script, run_script_echoing};
-pub use script::{is_skipped, text_of};
-pub use streams::{MOST_BYTES, read_script, write_text};
-pub use watched::Watched;
+pub use streams::{MOST_BYTES, ScriptFault, Watched, is_skipped, read_script, text_of, write_text};

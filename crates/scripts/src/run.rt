@@ -1,17 +1,15 @@
 //! A script from a reader, and its text to a writer.
 
 ghost use Rattle.std.specs.Prelude.{◌≡◌, ◌≢◌, ℕ, ◌+◌, ◌<◌, ◌↔◌, ◌⊎◌, true, false, length, IfErr, OnOk};
-ghost use Rattle.scripts.specs.declared.fault.ScriptFault.TheVariants.{BadLine, OutOfMemory, ReadFailed, TooLong, WriteFailed};
-ghost use Rattle.scripts.specs.Watched.{has_failed, has_unflushed};
+ghost use Rattle.streams.specs.declared.fault.ScriptFault.TheVariants.{BadLine, OutOfMemory, ReadFailed, TooLong, WriteFailed};
+ghost use Rattle.streams.specs.Watched.{has_failed, has_unflushed};
 ghost use Rattle.scripts.specs.Script.{echoed_text, script_text};
-ghost use Rattle.scripts.specs.Streams.{IfInput, ReadsUpTo, Writes, WritesPrefix};
+ghost use Rattle.streams.specs.Streams.{IfInput, ReadsUpTo, Writes, WritesPrefix};
 
-use crate::fault::ScriptFault;
 use crate::script::{echoed_output_of, output_of};
-use crate::streams::{MOST_BYTES, read_script, write_text};
-use crate::watched::Watched;
 use std::alloc::Global;
 use std::io::{Read, Write};
+use streams::{MOST_BYTES, ScriptFault, Watched, read_script, write_text};
 
 /// Runs the script that a reader gives, and writes what it prints.
 ///

@@ -4,13 +4,15 @@ ghost use Rattle.std.specs.Prelude.{◌≡◌, ◌++◌, Some, None, Ok, IfOk, O
 ghost use Rattle.cluster_model.specs.Events.{event_value};
 ghost use Rattle.scripts.specs.Commands.{command_value, nodes};
 ghost use Rattle.scripts.specs.Replies.{Prints, PrintsLine};
-ghost use Rattle.scripts.specs.Script.{is_skipped, text_in, command_in, event_text, after_event, command_output, after_command, line_output, after_line, script_text, echo_of, echoed_output, echoed_text};
+ghost use Rattle.streams.specs.Lines.{text_in};
+ghost use Rattle.scripts.specs.Script.{command_in, event_text, after_event, command_output, after_command, line_output, after_line, script_text, echo_of, echoed_output, echoed_text};
 
 use crate::command::{Command, read_command};
 use crate::question::ask;
 use crate::reply::{print_bad_line, print_refusal, print_reply};
 use cluster_model::{Event, World};
 use std::alloc::{AllocError, Global};
+use streams::{is_skipped, text_of};
 
 fn start_world(
     alloc: Global,
@@ -90,13 +92,6 @@ fn run_command(
     }
 }
 
-/// The text of a line, where its bytes are UTF-8.
-pub fn text_of(line: &[u8]) -> Option<&str>
-    ensures { option_map (λ text. text.now) result ≡ text_in line.now }
-{
-    str::from_utf8(line).ok()
-}
-
 fn line_command(alloc: Global, line: &[u8]) -> Result<Option<Command<'_>>, AllocError>
     ensures command { IfOk result (λ command.
         option_map command_value command ≡ command_in line.now) }
@@ -107,13 +102,6 @@ fn line_command(alloc: Global, line: &[u8]) -> Result<Option<Command<'_>>, Alloc
         return Ok(None);
     };
     read_command(alloc, text)
-}
-
-/// Whether a line is empty or a comment, whatever its bytes.
-pub fn is_skipped(line: &[u8]) -> bool
-    ensures { result ≡ is_skipped line.now }
-{
-    line.is_empty() || line[0] == b'#'
 }
 
 fn run_line(

@@ -4,7 +4,8 @@ use Rattle.node_calls.specs.Told.{AskTold, ask_ref_told}
 use Rattle.node_calls.specs.Told as asks
 use Rattle.cluster_model.specs.Events.{sets, removes, loads, passes, shifts, grants, emits, delivers}
 use Rattle.decimals.specs.Decimals.{amount_of}
-use Rattle.scripts.specs.Fields.{◌>>=◌, field_of, field_cut_of, byte_cut_of}
+use Rattle.streams.specs.Lines.{◌>>=◌}
+use Rattle.scripts.specs.Fields.{field_of, field_cut_of, byte_cut_of}
 use Rattle.scripts.specs.Commands.{CommandValue, nodes, event, question}
 use Rattle.thread_scripts.specs.declared.call.Start.{Start}
 use Rattle.thread_scripts.specs.declared.call.Start.TheVariants as starts

@@ -5,9 +5,10 @@ use Rattle.hex.specs.Hex.{decode_sized}
 use Rattle.hex.specs.declared.error.FromHexError.{FromHexError}
 use Rattle.node_calls.specs.Told.{AskTold, ask_ref_told, passes}
 use Rattle.decimals.specs.Decimals.{byte_of, word_of, number_of}
-use Rattle.scripts.specs.Fields.{◌>>=◌, cut_of, field_of, field_cut_of, byte_cut_of}
+use Rattle.streams.specs.Lines.{◌>>=◌}
+use Rattle.scripts.specs.Fields.{cut_of, field_of, field_cut_of, byte_cut_of}
 use Rattle.scripts.specs.Commands.{command_of}
-use Rattle.scripts.specs.Script.{text_in}
+use Rattle.streams.specs.Lines.{text_in}
 use Rattle.thread_scripts.specs.declared.line.Line.{Line}
 use Rattle.thread_scripts.specs.declared.line.Line.TheVariants as lines
 use Rattle.thread_scripts.specs.Calls.{StartValue, makes, spreads, start_value, start_of, set_in, remove_in, load_in, shift_in, grant_in}

@@ -5,7 +5,7 @@ use Rattle.std.specs.Option.{is_none}
 use Rattle.cluster_model.specs.Worlds.{is_cluster_size}
 use Rattle.node_calls.specs.Told.{AskTold, ask_ref_told}
 use Rattle.scripts.specs.Fields.{newline, lines_of}
-use Rattle.scripts.specs.Script.{is_skipped}
+use Rattle.streams.specs.Lines.{is_skipped}
 use Rattle.thread_scripts.specs.declared.plan.Block.{Block}
 use Rattle.thread_scripts.specs.declared.plan.CallLine.{CallLine}
 use Rattle.thread_scripts.specs.declared.plan.StartLine.{StartLine}

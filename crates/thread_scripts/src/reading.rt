@@ -1,7 +1,7 @@
 //! The plan of a script.
 
 ghost use Rattle.std.specs.Prelude.{◌≡◌, ◌≤◌, ◌⊎◌, ℕ, length, IfErr, IfOk};
-ghost use Rattle.scripts.specs.declared.fault.ScriptFault.TheVariants.{BadLine, OutOfMemory};
+ghost use Rattle.streams.specs.declared.fault.ScriptFault.TheVariants.{BadLine, OutOfMemory};
 ghost use Rattle.thread_scripts.specs.Plans.{ends_line, plan_in, plan_value};
 
 use crate::plan::ThreadPlan;

@@ -21,6 +21,7 @@ mod replica_state_caller;
 mod report_text_caller;
 mod scripts_caller;
 mod stamp_register_caller;
+mod streams_caller;
 mod thread_scripts_caller;
 
 pub use crate::actions_caller::shortest;
@@ -43,4 +44,5 @@ pub use crate::replica_state_caller::{hits_under, spend};
 pub use crate::report_text_caller::{report_alike, report_to_read};
 pub use crate::scripts_caller::run_text;
 pub use crate::stamp_register_caller::removal_of;
+pub use crate::streams_caller::pass_on;
 pub use crate::thread_scripts_caller::run_workers_of_text;

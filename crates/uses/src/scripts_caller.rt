@@ -2,8 +2,8 @@
 
 ghost use Rattle.std.specs.Prelude.{◌≡◌, false, OnOk};
 ghost use Rattle.scripts.specs.Script.{script_text};
-ghost use Rattle.scripts.specs.Streams.{Writes};
-ghost use Rattle.scripts.specs.Watched.{has_failed};
+ghost use Rattle.streams.specs.Streams.{Writes};
+ghost use Rattle.streams.specs.Watched.{has_failed};
 
 use scripts::{ScriptFault, Watched, run_script};
 use std::alloc::Global;

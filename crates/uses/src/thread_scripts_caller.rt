@@ -1,8 +1,8 @@
 //! A caller of `thread_scripts`.
 
 ghost use Rattle.std.specs.Prelude.{◌≡◌, ℕ, false};
-ghost use Rattle.scripts.specs.declared.fault.ScriptFault.TheVariants.{BadLine};
-ghost use Rattle.scripts.specs.Watched.{has_failed};
+ghost use Rattle.streams.specs.declared.fault.ScriptFault.TheVariants.{BadLine};
+ghost use Rattle.streams.specs.Watched.{has_failed};
 ghost use Rattle.thread_scripts.specs.Plans.{plan_in};
 
 use scripts::{ScriptFault, Watched};

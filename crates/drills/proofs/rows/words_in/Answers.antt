@@ -1,5 +1,5 @@
 use Rattle.std.proofs.Common.{sym, ap, ◌∙◌, rules}
-use Rattle.scripts.specs.Fields.{◌>>=◌}
+use Rattle.streams.specs.Lines.{◌>>=◌}
 use Rattle.drills.specs.Reading.{words_from}
 use Rattle.drills.proofs.WordsRead.{all_words, at_first, none_from, one_more, words_of}
 use Rattle.drills.proofs.rows.words_in.Goals as goal

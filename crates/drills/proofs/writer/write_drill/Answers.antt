@@ -1,5 +1,5 @@
 use Rattle.std.specs.String.{string_bytes}
-use Rattle.scripts.specs.Watched.{inner_of}
+use Rattle.streams.specs.Watched.{inner_of}
 use Rattle.drills.specs.Drills.{drill_told, list_lines, lists_told, numbered, trace_lines, traces_told}
 use Rattle.drills.proofs.Folds.{reads_back}
 use Rattle.drills.proofs.Growing.{whole}

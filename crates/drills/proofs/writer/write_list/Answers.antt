@@ -1,7 +1,7 @@
 use Rattle.std.proofs.Common.{[], ◌∷◌, map, sym, ap, ◌∙◌}
 use Rattle.std.specs.String.{string_bytes}
 use Rattle.std.proofs.lemmas.List.{take_all}
-use Rattle.scripts.specs.Watched.{has_failed, inner_of}
+use Rattle.streams.specs.Watched.{has_failed, inner_of}
 use Rattle.drills.specs.Lines.{list, receipt, receipt_told}
 use Rattle.drills.proofs.Growing.{both, mapped, none_yet, not_failed, one_line}
 use Rattle.drills.proofs.writer.write_list.Goals as goal

@@ -1,5 +1,5 @@
 use Rattle.std.proofs.Common.{◌≡◌, false, map, take}
-use Rattle.scripts.specs.Watched.{has_failed, inner_of}
+use Rattle.streams.specs.Watched.{has_failed, inner_of}
 use Rattle.drills.specs.Lines.{receipt, receipt_told}
 use Rattle.drills.proofs.Growing.{Holds}
 use Rattle.drills.proofs.writer.write_list.Given as goal

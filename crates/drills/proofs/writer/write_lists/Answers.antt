@@ -1,6 +1,6 @@
 use Rattle.std.proofs.Common.{[], map, sym, ap}
 use Rattle.std.proofs.lemmas.List.{take_all}
-use Rattle.scripts.specs.Watched.{has_failed, inner_of}
+use Rattle.streams.specs.Watched.{has_failed, inner_of}
 use Rattle.drills.specs.Lines.{receipt_told}
 use Rattle.drills.specs.Drills.{list_lines, lists_told, numbered}
 use Rattle.drills.proofs.Growing.{both, none_yet, not_failed, one_part}

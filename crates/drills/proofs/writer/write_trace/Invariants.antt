@@ -1,5 +1,5 @@
 use Rattle.std.proofs.Common.{◌≡◌, false, map, take}
-use Rattle.scripts.specs.Watched.{has_failed, inner_of}
+use Rattle.streams.specs.Watched.{has_failed, inner_of}
 use Rattle.node_calls.specs.Told.{told}
 use Rattle.drills.specs.Lines.{entry}
 use Rattle.drills.proofs.Growing.{Holds}

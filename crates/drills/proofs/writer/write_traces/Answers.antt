@@ -1,6 +1,6 @@
 use Rattle.std.proofs.Common.{[], map, sym, ap}
 use Rattle.std.proofs.lemmas.List.{take_all}
-use Rattle.scripts.specs.Watched.{has_failed, inner_of}
+use Rattle.streams.specs.Watched.{has_failed, inner_of}
 use Rattle.node_calls.specs.Told.{told}
 use Rattle.drills.specs.Drills.{trace_lines, traces_told, numbered}
 use Rattle.drills.proofs.Growing.{both, none_yet, not_failed, one_part}

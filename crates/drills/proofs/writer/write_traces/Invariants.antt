@@ -1,5 +1,5 @@
 use Rattle.std.proofs.Common.{◌≡◌, false, take}
-use Rattle.scripts.specs.Watched.{has_failed, inner_of}
+use Rattle.streams.specs.Watched.{has_failed, inner_of}
 use Rattle.drills.specs.Drills.{trace_lines, traces_told, numbered}
 use Rattle.drills.proofs.Growing.{Holds}
 use Rattle.drills.proofs.writer.write_traces.Given as goal

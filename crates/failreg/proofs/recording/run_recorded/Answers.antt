@@ -1,4 +1,4 @@
-use Rattle.scripts.specs.Watched.{inner_of}
+use Rattle.streams.specs.Watched.{inner_of}
 use Rattle.thread_scripts.specs.Plans.{plan_value}
 use Rattle.failreg.proofs.Recorded.{played}
 use Rattle.failreg.proofs.recording.run_recorded.Goals as goal

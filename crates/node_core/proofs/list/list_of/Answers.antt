@@ -1,4 +1,4 @@
-use Rattle.std.proofs.Common.{List, ℕ, map, sym, ◌∙◌, string_bytes}
+use Rattle.std.proofs.Common.{true, List, ℕ, map, sym, ◌∙◌, string_bytes}
 use Rattle.node_core.specs.Replicas.{state_in}
 use Rattle.replica_state.specs.States.{State}
 use Rattle.node_core.proofs.Listing.{grown, grown_step, grown_end, all_grown}

@@ -1,6 +1,6 @@
 use Rattle.std.proofs.Common.{◌≡◌, sym}
-use Rattle.scripts.specs.Streams.{Writes, WritesPrefix}
-use Rattle.scripts.specs.Watched.{inner_of}
+use Rattle.streams.specs.Streams.{Writes, WritesPrefix}
+use Rattle.streams.specs.Watched.{inner_of}
 use Rattle.thread_scripts.specs.Outputs.{IsOutput}
 use Rattle.thread_scripts.specs.Plans.{plan_value}
 use Rattle.thread_scripts.proofs.Runs.{reported, reported_on_ok}

@@ -1,5 +1,5 @@
 use Rattle.std.proofs.Common.{◌≡◌, ap, ◌∙◌}
-use Rattle.scripts.specs.Watched.{inner_of}
+use Rattle.streams.specs.Watched.{inner_of}
 use Rattle.uses.proofs.scripts_caller.run_text.Goals as goal
 
 pub returns : goal.returns

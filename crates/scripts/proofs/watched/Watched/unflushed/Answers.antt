@@ -1,5 +1,0 @@
-use Rattle.std.proofs.Common.{rules}
-use Rattle.scripts.proofs.watched.Watched.unflushed.Goals as goal
-
-pub returns : goal.returns
-returns g c = search rules

@@ -1,5 +1,0 @@
-use Rattle.std.proofs.Common.{rules}
-use Rattle.scripts.proofs.watched.WatchedWrite.flush.Goals as goal
-
-pub returns-clause-unflushed : goal.returns-clause-unflushed
-returns-clause-unflushed g c = search rules

@@ -1,0 +1,4 @@
+pub mod Watched
+pub mod Streams
+pub mod Lines
+pub mod FaultText
