@@ -1,2 +1,1 @@
 pub mod Recorded
-mod RoundLemmas

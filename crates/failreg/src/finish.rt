@@ -7,7 +7,7 @@ ghost use Rattle.failreg.specs.Statuses.{HasStatus, unread_status};
 
 use actions::{ActionFault, Actions};
 use drills::DrillFault;
-use http_serve::ServeFault;
+use node_service::ServiceFault;
 use scripts::ScriptFault;
 use std::fmt::Display;
 use std::process::ExitCode;
@@ -63,16 +63,18 @@ pub fn finish_audit<R: Eprint>(
     }
 }
 
-/// After a node was served: prints how many clients were, or why no more are.
+/// After a node was served: prints how many clients were, or why no more are. That it can't be said
+/// where it listens is the program's own error.
 pub fn finish_serve<R: Print + Eprint>(
     rt: &R,
-    served: Result<u32, ServeFault>,
+    served: Result<u32, ServiceFault>,
 ) -> anyhow::Result<ExitCode>
     ensures done { IfOk result (λ code. exit_status code ≡ 0 ↔ IsOk served) }
     ensures refused { IfOk result (λ code. exit_status code ≡ 1 ↔ IsErr served) }
 {
     let served = match served {
         Ok(served) => served,
+        Err(ServiceFault::Output(error)) => return Err(error.into()),
         Err(fault) => return refuse(rt, fault),
     };
     println!(rt; "served {served}")?;

@@ -1,9 +1,10 @@
 //! Action texts, and scripts that drive a cluster of failpoint registries.
 #![tactic(auto)]
 
-ghost use Rattle.std.specs.Prelude.{◌≡◌, ◌<◌, ◌⊎◌, true, false, length, if◌then◌else◌, IsOk, IfOk};
+ghost use Rattle.std.specs.Prelude.{◌≡◌, ◌<◌, ◌⊎◌, true, false, length, if◌then◌else◌, IsOk, IfOk, IsTrue};
 ghost use Rattle.std.specs.Process.{exit_status};
 ghost use Rattle.actions.specs.Reading.{reading};
+ghost use Rattle.node_core.specs.Refusals.{is_bad_config};
 ghost use Rattle.scripts.specs.Script.{echoed_text, script_text};
 ghost use Rattle.streams.specs.Streams.{IfInput, Writes};
 ghost use Rattle.streams.specs.Watched.{has_failed, has_unflushed};
@@ -12,23 +13,24 @@ ghost use Rattle.failreg.specs.Statuses.{HasStatus, OnStatus};
 
 mod auditing;
 mod finish;
-mod host;
 mod recording;
-mod serving;
-mod telling;
 
 use actions::parse_actions;
 use auditing::audit_file;
-use command_line::{Invocation, read_command_line};
-use finish::{finish_audit, finish_parse, finish_script, finish_unread};
+use command_line::{Invocation, ServeOptions, read_command_line};
+use finish::{finish_audit, finish_parse, finish_script, finish_serve, finish_unread};
+use node_service::serve_node;
 use recording::run_recorded;
 use scripts::{MOST_BYTES, Watched, run_script, run_script_echoing};
-use serving::serve_node;
-use std::io;
+use std::alloc::AllocGlobal;
 use std::io::{Read, Write};
+use std::net::Net;
 use std::process::ExitCode;
+use std::random::RandomSource;
 use std::sync::Wait;
 use std::thread::Threads;
+use std::time::Clock;
+use std::{io, net};
 use thread_scripts::run_threads;
 
 fn main(rt: HostRuntime) -> anyhow::Result<ExitCode> {
@@ -58,7 +60,7 @@ fn main(rt: HostRuntime) -> anyhow::Result<ExitCode> {
             let mut writer = Watched::new(io::writer(&rt));
             finish_audit(&rt, audit_file(&rt, alloc, path, &mut writer))
         }
-        Ok(Invocation::Serve(options)) => serve_node(&rt, options),
+        Ok(Invocation::Serve(options)) => serve(&rt, options),
         Err(error) => finish_unread(&rt, &error),
     }
 }
@@ -123,4 +125,29 @@ fn threads<R: Threads + Wait + Sync + Eprint + AllocGlobal, I: Read, O: Write>(
     ensures status { IfOk result (λ code. (exit_status code ≡ 0) ⊎ (exit_status code ≡ 1)) }
 {
     finish_script(rt, run_threads(rt, rt.alloc(), reader, writer))
+}
+
+// Serves the node that a command line names.
+fn serve<R>(rt: &R, options: ServeOptions<'_>) -> anyhow::Result<ExitCode>
+where
+    R: Wait
+        + Threads
+        + Clock
+        + RandomSource
+        + AllocGlobal
+        + Net<Listener = net::TcpListener, Stream = net::TcpStream>
+        + Send
+        + Sync
+        + Copy
+        + Drop
+        + Print
+        + Eprint,
+    ensures status { IfOk result (λ code. (exit_status code ≡ 0) ⊎ (exit_status code ≡ 1)) }
+    ensures bad { IsTrue (is_bad_config (record {
+      node = options.entry.node;
+      nodes = options.entry.nodes;
+      trace_cap = options.entry.cap;
+    })) → HasStatus result 1 }
+{
+    finish_serve(rt, serve_node(rt, options))
 }

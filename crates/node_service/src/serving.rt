@@ -1,11 +1,10 @@
 //! A node that is served over HTTP.
 
-ghost use Rattle.std.specs.Prelude.{◌≡◌, ◌⊎◌, IfOk, IfErr, IsTrue, OnOk, true, false};
-ghost use Rattle.std.specs.Process.{exit_status};
+ghost use Rattle.std.specs.Prelude.{◌≡◌, ◌⊎◌, IfOk, IfErr, IsErrAnd, IsTrue, OnOk, true, false};
 ghost use Rattle.node_core.specs.Refusals.{is_bad_config};
-ghost use Rattle.failreg.specs.Statuses.{HasStatus};
+ghost use Rattle.node_service.specs.declared.fault.ServiceFault.TheVariants.{Node};
 
-use crate::finish::{finish_serve, refuse};
+use crate::fault::ServiceFault;
 use crate::host::Host;
 use crate::telling::{Serving, serve_and_tell};
 use command_line::ServeOptions;
@@ -16,7 +15,6 @@ use std::alloc::{AllocGlobal, Global};
 use std::io::Write;
 use std::marker::Brand;
 use std::net::{Ipv4Addr, Net, SocketAddr};
-use std::process::ExitCode;
 use std::random::RandomSource;
 use std::sync::ledger::Blank;
 use std::sync::{Arc, Wait};
@@ -26,9 +24,10 @@ use std::{io, net};
 use tokio::net::TcpListener;
 use tokio::runtime::{Builder, Runtime};
 
-/// Serves a node over HTTP, as it is told to: first the node is made, then its port is listened on,
-/// then its first points are set, and then clients are let in.
-pub fn serve_node<R>(rt: &R, options: ServeOptions<'_>) -> anyhow::Result<ExitCode>
+/// Serves a node over HTTP, as it is told to: first the node is made, then its port is listened on
+/// and said on standard output, then its first points are set, and then clients are let in. Meanwhile
+/// the node tells its peers what it knows. Answers how many clients were served.
+pub fn serve_node<R>(rt: &R, options: ServeOptions<'_>) -> Result<u32, ServiceFault>
 where
     R: Wait
         + Threads
@@ -40,14 +39,13 @@ where
         + Sync
         + Copy
         + Drop
-        + Print
-        + Eprint,
-    ensures status { IfOk result (λ code. (exit_status code ≡ 0) ⊎ (exit_status code ≡ 1)) }
+        + Print,
+    ensures ok { IfOk result (λ served. served ≡ options.entry.requests) }
     ensures bad { IsTrue (is_bad_config (record {
       node = options.entry.node;
       nodes = options.entry.nodes;
       trace_cap = options.entry.cap;
-    })) → HasStatus result 1 }
+    })) → IsErrAnd result (λ f. (f ≡ Node NodeFault.OutOfMemory) ⊎ (f ≡ Node NodeFault.BadConfig)) }
 {
     let config = Config {
         node: options.node,
@@ -63,46 +61,35 @@ fn serve_registry<L, R>(
     blank: Blank,
     config: Config,
     options: ServeOptions<'_>,
-) -> anyhow::Result<ExitCode>
+) -> Result<u32, ServiceFault>
 where
     L: Label + Send + Sync,
-    R: Host + Print + Eprint,
+    R: Host + Print,
     requires name { blank.name ≡ L.name }
     requires parts { (blank.parts ≡ L.parts) × (L.parts ≡ 2) }
     requires config { config ≡ L.config }
-    ensures status { IfOk result (λ code. (exit_status code ≡ 0) ⊎ (exit_status code ≡ 1)) }
-    ensures bad { IsTrue (is_bad_config config) → HasStatus result 1 }
+    ensures ok { IfOk result (λ served. served ≡ options.entry.requests) }
+    ensures bad { IsTrue (is_bad_config config)
+        → IsErrAnd result (λ f. (f ≡ Node NodeFault.OutOfMemory) ⊎ (f ≡ Node NodeFault.BadConfig)) }
 {
-    match opened::<L, R>(rt, rt.alloc(), blank, config) {
-        Ok((registry, seat, telling_seat)) => {
-            serve_opened(rt, &registry, seat, telling_seat, options)
-        }
-        Err(fault) => refuse(rt, fault),
-    }
+    let (registry, seat, telling_seat) = opened::<L, R>(rt, rt.alloc(), blank, config)?;
+    serve_opened(rt, &registry, seat, telling_seat, options)
 }
 
-// Listens for the node, sets its first points, and lets clients in.
+// Serves a node from its first seat, and tells its peers from the other.
 fn serve_opened<L, R>(
     rt: &R,
     registry: &Arc<Registry<L>>,
     mut seat: Seat<L>,
     telling_seat: Seat<L>,
     options: ServeOptions<'_>,
-) -> anyhow::Result<ExitCode>
+) -> Result<u32, ServiceFault>
 where
     L: Label + Send + Sync,
-    R: Host + Print + Eprint,
-    ensures { IfOk result (λ code. (exit_status code ≡ 0) ⊎ (exit_status code ≡ 1)) }
+    R: Host + Print,
+    ensures { IfOk result (λ served. served ≡ options.entry.requests) }
 {
-    let Ok((mut runtime, listener, port)) = listen(rt, options.port) else {
-        return refuse(rt, ServeFault::BindFailed);
-    };
-    say_where(rt, port)?;
-    if let Some(text) = options.failpoints
-        && let Err(fault) = registry.load(rt, rt.alloc(), &mut seat, text)
-    {
-        return refuse(rt, fault);
-    }
+    let (mut runtime, listener) = begun(rt, registry, &mut seat, options.port, options.failpoints)?;
     let serving = Serving {
         runtime: &mut runtime,
         registry,
@@ -110,10 +97,52 @@ where
         listener,
         requests: options.requests,
     };
-    finish_serve(
+    Ok(serve_and_tell(
         rt,
-        serve_and_tell(rt, serving, telling_seat, options.telling),
-    )
+        serving,
+        telling_seat,
+        options.telling,
+    )?)
+}
+
+// Listens for the node, says where, and sets its first points.
+fn begun<L, R>(
+    rt: &R,
+    registry: &Registry<L>,
+    seat: &mut Seat<L>,
+    port: u16,
+    failpoints: Option<&str>,
+) -> Result<(Runtime, TcpListener), ServiceFault>
+where
+    L: Label,
+    R: Host + Print,
+{
+    match listen(rt, port) {
+        Ok((runtime, listener, port)) => {
+            say_and_set(rt, registry, seat, port, failpoints)?;
+            Ok((runtime, listener))
+        }
+        Err(_) => Err(ServiceFault::Serve(ServeFault::BindFailed)),
+    }
+}
+
+// Says where the node is served, and then sets its first points.
+fn say_and_set<L, R>(
+    rt: &R,
+    registry: &Registry<L>,
+    seat: &mut Seat<L>,
+    port: u16,
+    failpoints: Option<&str>,
+) -> Result<(), ServiceFault>
+where
+    L: Label,
+    R: Wait + AllocGlobal + Print,
+{
+    say_where(rt, port)?;
+    if let Some(text) = failpoints {
+        registry.load(rt, rt.alloc(), seat, text)?;
+    }
+    Ok(())
 }
 
 // Says on which port the node is served, so that whoever started it needn't wait.

@@ -1,4 +1,4 @@
-use Rattle.failreg.proofs.serving.serve_node.Given as goal
+use Rattle.node_service.proofs.serving.serve_node.Given as goal
 
 abbrev pub ghosts-serve_registry-L-Ledger : goal.ghosts-serve_registry-L-Ledger
 ghosts-serve_registry-L-Ledger g a = record { name = a.blank.name; parts = 2 }

@@ -2,7 +2,7 @@
 
 ghost use Rattle.std.specs.Prelude.{◌≡◌, ◌≤◌, ◌+◌, ◌*◌, ◌⊎◌, map, IfOk, IfErr};
 ghost use Rattle.http_serve.specs.declared.fault.ServeFault.TheVariants.{AcceptFailed, OutOfMemory};
-ghost use Rattle.failreg.specs.Rounds.{most_calls, peer_of};
+ghost use Rattle.node_service.specs.Rounds.{most_calls, peer_of};
 
 use crate::host::Host;
 use command_line::{GossipOptions, NamedPeer};

@@ -8,7 +8,7 @@ use Rattle.node_calls.specs.Asks.{Asked, bare_emit}
 use Rattle.gossip.specs.declared.report.GossipReport.{GossipReport}
 use Rattle.gossip.specs.Parts.{IsPartOf, none, kept, left_out}
 use Rattle.gossip.specs.Reports.{IsTold, asked_in, asks_in, calls_of, emits_below, emits_of_rounds, is_delivery, is_emit, others_below, own_asks_in}
-use Rattle.failreg.specs.Rounds.{most_calls}
+use Rattle.node_service.specs.Rounds.{most_calls}
 
 are_emits : List Asked → Type 0
 are_emits [] = Unit {0}

@@ -1,6 +1,6 @@
 use Rattle.std.proofs.Common.{◌≤◌, ◌+◌, ◌*◌}
-use Rattle.failreg.specs.Rounds.{most_calls}
-use Rattle.failreg.proofs.telling.keep_telling.Given as goal
+use Rattle.node_service.specs.Rounds.{most_calls}
+use Rattle.node_service.proofs.telling.keep_telling.Given as goal
 
 abbrev pub invariant-loop-round : goal.invariant-loop-round
 invariant-loop-round g l = l.seat ≤ l.initial.seat + l.round * most_calls g.L.Label.config

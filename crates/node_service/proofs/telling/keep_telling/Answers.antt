@@ -1,6 +1,6 @@
-use Rattle.failreg.specs.Rounds.{most_calls}
-use Rattle.failreg.proofs.RoundLemmas.{after_a_round, calls_of_a_round}
-use Rattle.failreg.proofs.telling.keep_telling.Goals as goal
+use Rattle.node_service.specs.Rounds.{most_calls}
+use Rattle.node_service.proofs.RoundLemmas.{after_a_round, calls_of_a_round}
+use Rattle.node_service.proofs.telling.keep_telling.Goals as goal
 
 pub loop-round-preserved : goal.loop-round-preserved
 loop-round-preserved g c =

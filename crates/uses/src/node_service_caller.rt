@@ -1,0 +1,45 @@
+//! A caller of `node_service`.
+
+ghost use Rattle.std.specs.Prelude.{◌≡◌, IfOk};
+
+use command_line::{GossipOptions, ServeOptions};
+use node_service::{ServiceFault, serve_node};
+use std::alloc::AllocGlobal;
+use std::net;
+use std::net::Net;
+use std::random::RandomSource;
+use std::sync::Wait;
+use std::thread::Threads;
+use std::time::{Clock, Duration};
+
+/// Serves a node that is a cluster by itself to so many clients, on a port that the system picks.
+pub fn lone_node_served<R>(rt: &R, clients: u32) -> Result<u32, ServiceFault>
+where
+    R: Wait
+        + Threads
+        + Clock
+        + RandomSource
+        + AllocGlobal
+        + Net<Listener = net::TcpListener, Stream = net::TcpStream>
+        + Send
+        + Sync
+        + Copy
+        + Drop
+        + Print,
+    ensures { IfOk result (λ served. served ≡ clients) }
+{
+    let options = ServeOptions {
+        node: 0,
+        nodes: 1,
+        port: 0,
+        cap: 1_000_000,
+        requests: clients,
+        failpoints: None,
+        telling: GossipOptions {
+            peers: Vec::new(rt.alloc()),
+            rounds: 0,
+            every: Duration::from_millis(0),
+        },
+    };
+    serve_node(rt, options)
+}
