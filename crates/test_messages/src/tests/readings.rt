@@ -455,7 +455,7 @@ fn too_many_bytes(rt: HostRuntime) -> Result<(), Fail> {
 }
 
 #[test]
-fn want_of_memory_in_print(rt: HostRuntime) -> Result<(), Fail> {
+fn out_of_memory_in_print(rt: HostRuntime) -> Result<(), Fail> {
     let fault = WireFault::OutOfMemory;
     expect(
         &rt,

@@ -191,7 +191,7 @@ fn a_script_that_never_ends(rt: HostRuntime) {
 }
 
 #[test]
-fn text_of_want_of_memory(rt: HostRuntime) -> Result<(), Fail> {
+fn text_of_out_of_memory(rt: HostRuntime) -> Result<(), Fail> {
     let text = format!(in rt.alloc(); "{}", ScriptFault::OutOfMemory)?;
     assert_eq!(rt; text.as_str(), "P4 OutOfMemory");
     Ok(())

@@ -444,7 +444,7 @@ fn long_texts(rt: HostRuntime) -> Result<(), Fail> {
 }
 
 #[test]
-fn want_of_memory_in_print(rt: HostRuntime) -> Result<(), Fail> {
+fn out_of_memory_in_print(rt: HostRuntime) -> Result<(), Fail> {
     expect_print(&rt, rt.alloc(), &NameFault::OutOfMemory, "OutOfMemory")?;
     expect_print(
         &rt,

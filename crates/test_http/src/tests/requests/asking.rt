@@ -19,7 +19,7 @@ fn ask_cut_off(alloc: Global, routes: &Routes, row: &Row) -> HttpReply {
     too_long(alloc, routes, row.0, row.1)
 }
 
-fn is_want_of_memory(reply: &HttpReply) -> bool {
+fn is_out_of_memory(reply: &HttpReply) -> bool {
     reply.status == 503
         && (reply.body.is_empty() || reply.body.as_slice() == b"N22 OutOfMemory".as_slice())
 }
@@ -31,7 +31,7 @@ fn is_reply(reply: &HttpReply, row: &Row) -> bool {
 // Asks once more where memory was refused.
 fn row_holds(core: &mut NodeCore, alloc: Global, routes: &Routes, row: &Row) -> bool {
     let reply = ask(core, alloc, routes, row);
-    if is_want_of_memory(&reply) {
+    if is_out_of_memory(&reply) {
         return is_reply(&ask(core, alloc, routes, row), row);
     }
     is_reply(&reply, row)
@@ -39,7 +39,7 @@ fn row_holds(core: &mut NodeCore, alloc: Global, routes: &Routes, row: &Row) -> 
 
 fn cut_off_holds(alloc: Global, routes: &Routes, row: &Row) -> bool {
     let reply = ask_cut_off(alloc, routes, row);
-    if is_want_of_memory(&reply) {
+    if is_out_of_memory(&reply) {
         return is_reply(&ask_cut_off(alloc, routes, row), row);
     }
     is_reply(&reply, row)
