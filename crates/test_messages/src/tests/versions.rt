@@ -282,8 +282,10 @@ fn make<R: Replica>(
     once(alloc, versioned, name, call)
 }
 
-/// Calls, each with whether it changes the state, and what is then shown.
-type Story = &'static [(Call, bool, &'static str)];
+/// A call, whether it changes the state, and what is then shown.
+type Turn = (Call, bool, &'static str);
+
+type Story = &'static [Turn];
 
 /// What messages tell of rights: nothing, one name, that name with a shift, and a grant.
 const RIGHTS: Story = &[
@@ -453,22 +455,54 @@ const RECEIVED: Story = &[
     ),
 ];
 
-fn play<R: Replica>(rt: &impl Abort, alloc: Global, story: Story) -> Result<(), AllocError> {
-    let name = name(alloc, "a")?;
-    let mut versioned: Versioned<R> = Versioned::new(alloc);
-    for (call, changes, wanted) in story {
-        let changed = make(rt, alloc, &mut versioned, &name, *call)?;
-        let shown = shown(alloc, &versioned, &name)?;
-        expect(rt, &(changed, shown.as_str()), &(*changes, *wanted));
+fn take_turn<R: Replica>(
+    rt: &impl Abort,
+    alloc: Global,
+    versioned: &mut Versioned<R>,
+    name: &Name,
+    (call, changes, wanted): &Turn,
+) -> Result<(), AllocError> {
+    let changed = make(rt, alloc, versioned, name, *call)?;
+    let shown = shown(alloc, versioned, name)?;
+    expect(rt, &(changed, shown.as_str()), &(*changes, *wanted));
+    Ok(())
+}
+
+fn take_turns<R: Replica>(
+    rt: &impl Abort,
+    alloc: Global,
+    versioned: &mut Versioned<R>,
+    name: &Name,
+    story: Story,
+) -> Result<(), AllocError> {
+    for turn in story {
+        take_turn(rt, alloc, versioned, name, turn)?;
     }
     Ok(())
 }
 
+fn play<R: Replica>(rt: &impl Abort, alloc: Global, story: Story) -> Result<(), AllocError> {
+    let name = name(alloc, "a")?;
+    let mut versioned: Versioned<R> = Versioned::new(alloc);
+    take_turns(rt, alloc, &mut versioned, &name, story)
+}
+
+fn both_play(rt: &impl Abort, alloc: Global, story: Story) -> Result<(), AllocError> {
+    play::<OpSet>(rt, alloc, story)?;
+    play::<Matrix>(rt, alloc, story)
+}
+
 #[test]
-fn stories(rt: HostRuntime) -> Result<(), Fail> {
-    for story in [RIGHTS, VERSIONS, CHANGES, GRANTS, RECEIVED] {
-        play::<OpSet>(&rt, rt.alloc(), story)?;
-        play::<Matrix>(&rt, rt.alloc(), story)?;
-    }
+fn stories_of_messages(rt: HostRuntime) -> Result<(), Fail> {
+    both_play(&rt, rt.alloc(), RIGHTS)?;
+    both_play(&rt, rt.alloc(), VERSIONS)?;
+    both_play(&rt, rt.alloc(), RECEIVED)?;
+    Ok(())
+}
+
+#[test]
+fn stories_of_calls(rt: HostRuntime) -> Result<(), Fail> {
+    both_play(&rt, rt.alloc(), CHANGES)?;
+    both_play(&rt, rt.alloc(), GRANTS)?;
     Ok(())
 }
