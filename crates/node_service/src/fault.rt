@@ -3,8 +3,7 @@
 use http_serve::ServeFault;
 use node_core::NodeFault;
 use std::error::Error;
-use std::fmt;
-use std::io;
+use std::{fmt, io};
 
 /// Why a node isn't served, or no longer. `Display` shows the text of the fault that it holds.
 #[derive(Debug, Drop)]

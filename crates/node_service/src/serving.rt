@@ -97,12 +97,7 @@ where
         listener,
         requests: options.requests,
     };
-    Ok(serve_and_tell(
-        rt,
-        serving,
-        telling_seat,
-        options.telling,
-    )?)
+    Ok(serve_and_tell(rt, serving, telling_seat, options.telling)?)
 }
 
 // Listens for the node, says where, and sets its first points.
