@@ -3,8 +3,8 @@
 //! threads are told beside gossip.
 
 mod audits;
+mod failing_streams;
 mod kept_drills;
-mod streams;
 mod transfers;
 mod watched;
 mod workers;
