@@ -10,7 +10,7 @@ use crate::permits::Permits;
 use bytes::Bytes;
 use futures::task::{Context, Poll};
 use futures::{Future, Stream, ready};
-use http_body::Body;
+use http_body::{Body, Frame};
 use http_body_util::{Full, Limited, LimitedError};
 use http_routes::{HttpReply, MAX_BODY};
 use hyper::body::Incoming;
@@ -160,20 +160,39 @@ fn poll_body<I: Drop>(
     ensures kept { Keeps cx.old cx.new }
 {
     for _ in 0..BUDGET {
-        match ready!(body.poll_frame(cx)) {
-            Some(Ok(frame)) => {
-                if let Ok(data) = frame.into_data()
-                    && read.extend_from_slice(data.as_slice()).is_err()
-                {
-                    return Poll::Ready(Reading::NoMemory);
-                }
-            }
-            Some(Err(LimitedError::LengthLimit)) => return Poll::Ready(Reading::TooLong),
-            Some(Err(LimitedError::Body(e))) => return Poll::Ready(Reading::Broken(e)),
-            None => return Poll::Ready(Reading::Whole),
+        if let Some(reading) = take_in(read, ready!(body.poll_frame(cx))) {
+            return Poll::Ready(reading);
         }
     }
     cx.yield_now()
+}
+
+// Takes in a piece of a body, and answers how the reading ends by that, if it does.
+fn take_in(
+    read: &mut Vec<u8>,
+    piece: Option<Result<Frame<Bytes>, LimitedError<hyper::Error>>>,
+) -> Option<Reading> {
+    match piece {
+        Some(Ok(frame)) => keep_data(read, frame),
+        Some(Err(error)) => Some(broken_off(error)),
+        None => Some(Reading::Whole),
+    }
+}
+
+// Out of memory is all that ends the reading here.
+fn keep_data(read: &mut Vec<u8>, frame: Frame<Bytes>) -> Option<Reading> {
+    let data = frame.into_data().ok()?;
+    match read.extend_from_slice(data.as_slice()) {
+        Ok(()) => None,
+        Err(_) => Some(Reading::NoMemory),
+    }
+}
+
+fn broken_off(error: LimitedError<hyper::Error>) -> Reading {
+    match error {
+        LimitedError::LengthLimit => Reading::TooLong,
+        LimitedError::Body(e) => Reading::Broken(e),
+    }
 }
 
 // Another owner of the handler, if there is the memory.

@@ -10,6 +10,8 @@ use crate::fault::ServeFault;
 use crate::handler::{Handler, NodeHandler};
 use crate::permits::Permits;
 use bytes::Bytes;
+use futures::Future;
+use futures::task::{Context, Poll};
 use http_body_util::Full;
 use hyper::rt::TokioTimer;
 use hyper::server::conn::http1::{Builder, Connection};
@@ -38,6 +40,25 @@ const AT_ONCE: u32 = 64;
 /// How many long bodies are taken in at once.
 const LONG_AT_ONCE: u32 = 4;
 
+// What hyper makes of a socket and of the service of its requests.
+type Served<H, R> = Connection<TcpStream, ConnectionService<H, R>, Full<Bytes>, TokioTimer<R>>;
+
+/// A connection over HTTP. Who runs it needn't know of what it is made.
+#[derive(Drop)]
+struct HttpConnection<H: Handler, R: Wait + Clock + Copy> {
+    served: Served<H, R>,
+}
+
+impl<H: Handler, R: Wait + Clock + Copy> Future for HttpConnection<H, R> {
+    type Output = hyper::Result<()>;
+
+    ghost can_poll = { λ c. ⟦<Served<H, R> as Future>⟧.can_poll c.served };
+
+    fn poll(&mut self, cx: &mut Context<'_>) -> Poll<hyper::Result<()>> {
+        self.served.poll(cx)
+    }
+}
+
 /// Makes HTTP connections, whose requests all go to one handler.
 #[derive(Drop)]
 struct HttpConnections<H, R> {
@@ -49,29 +70,39 @@ struct HttpConnections<H, R> {
     timers: Handle,
 }
 
-impl<H, R> ConnectionFactory for HttpConnections<H, R>
+impl<H, R> HttpConnections<H, R>
 where
-    H: Handler + Send + Sync,
-    R: Wait + Clock + Send + Copy,
+    H: Handler,
+    R: Wait + Clock + Copy,
 {
-    type Task = ConnectionTask<
-        Connection<TcpStream, ConnectionService<H, R>, Full<Bytes>, TokioTimer<R>>,
-    >;
-
-    fn open(
-        &self,
-        socket: TcpStream,
-        permit: OwnedSemaphorePermit,
-    ) -> Option<
-        ConnectionTask<Connection<TcpStream, ConnectionService<H, R>, Full<Bytes>, TokioTimer<R>>>,
-    > {
+    fn connection(&self, socket: TcpStream) -> HttpConnection<H, R>
+        ensures { ⟦<HttpConnection<H, R> as Future>⟧.can_poll result }
+    {
         let service = ConnectionService {
             alloc: self.alloc,
             rt: self.rt,
             handler: Arc::try_clone(&self.handler).ok(),
             long: self.long.again(),
         };
-        let connection = self.http.serve_connection(socket, service);
+        HttpConnection {
+            served: self.http.serve_connection(socket, service),
+        }
+    }
+}
+
+impl<H, R> ConnectionFactory for HttpConnections<H, R>
+where
+    H: Handler + Send + Sync,
+    R: Wait + Clock + Send + Copy,
+{
+    type Task = ConnectionTask<HttpConnection<H, R>>;
+
+    fn open(
+        &self,
+        socket: TcpStream,
+        permit: OwnedSemaphorePermit,
+    ) -> Option<ConnectionTask<HttpConnection<H, R>>> {
+        let connection = self.connection(socket);
         let whole = Duration::from_secs(WHOLE_SECONDS);
         ConnectionTask::new(&self.rt, &self.timers, whole, connection, permit)
     }
@@ -114,8 +145,8 @@ where
     R: Wait + Threads + Clock + RandomSource + AllocGlobal + Send + Sync + Copy,
     ensures { IfErr result (λ f. (f ≡ AcceptFailed) ⊎ (f ≡ OutOfMemory)) }
 {
-    let factory = connections_to(rt, alloc, runtime, handler)?;
     let permits = Permits::new(alloc, AT_ONCE)?;
+    let factory = connections_to(rt, alloc, runtime, handler)?;
     admit(rt, runtime, listener, factory, permits, requests)
 }
 
