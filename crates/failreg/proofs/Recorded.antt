@@ -5,7 +5,7 @@ use Rattle.streams.specs.Streams.{Writes}
 use Rattle.streams.specs.declared.watched.Watched.{Watched}
 use Rattle.failreg.specs.Recordings.{IsRecorded, SaysVerdict}
 use Rattle.thread_scripts.specs.Outputs.{PlaysTo}
-use Rattle.thread_scripts.specs.Plans.{PlanValue, plan_in}
+use Rattle.thread_plans.specs.Plans.{PlanValue, plan_in}
 
 -- the script that was read is the input, and what it prints was written
 pub played : {D O T E : Type 0} (kept : D → Option (List ℕ)) (old_kept new_kept : Watched D) (contents : O → Option (List ℕ)) (old new : Watched O)

@@ -9,7 +9,7 @@ use Rattle.audit.specs.Traces.{Traces}
 use Rattle.audit.specs.VerdictText.{verdict_text}
 use Rattle.drills.specs.Drills.{drill_in, drill_text, drill_told}
 use Rattle.thread_scripts.specs.Outputs.{IsOutputOf}
-use Rattle.thread_scripts.specs.Plans.{PlanValue}
+use Rattle.thread_plans.specs.Plans.{PlanValue}
 use Rattle.streams.specs.Streams.{Writes}
 use Rattle.streams.specs.declared.watched.Watched.{Watched}
 

@@ -5,7 +5,7 @@ ghost use Rattle.streams.specs.declared.fault.ScriptFault.TheVariants.{BadLine, 
 ghost use Rattle.streams.specs.Streams.{IfInput, Writes};
 ghost use Rattle.streams.specs.Watched.{has_failed, has_unflushed};
 ghost use Rattle.thread_scripts.specs.Outputs.{PlaysTo};
-ghost use Rattle.thread_scripts.specs.Plans.{plan_in, plan_value};
+ghost use Rattle.thread_plans.specs.Plans.{plan_in, plan_value};
 ghost use Rattle.failreg.specs.Recordings.{IsRecorded};
 
 use drills::{DrillFault, write_drill};

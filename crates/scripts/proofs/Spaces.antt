@@ -4,7 +4,7 @@ use Rattle.std.specs.List.{position_or_len}
 use Rattle.std.proofs.lemmas.Bool.Decides.{nat_tests}
 use Rattle.std.proofs.lemmas.List.{get_or-take}
 use Rattle.std.proofs.lemmas.List.Sums.{position_or_len_is, fails_before_first}
-use Rattle.scripts.specs.Fields.{is_space, has_space, before_space, after_space, cut_of}
+use Rattle.streams.specs.Fields.{is_space, has_space, before_space, after_space, cut_of}
 
 none_before : (text : List ℕ) (n i : ℕ) → n ≡ position_or_len is_space text → i < n → is_space (get_or (take n text) i 0) ≡ false
 none_before text n i e h = ap is_space (get_or-take n text i 0 h) ∙ fails_before_first is_space text i 0 (omega arith)

@@ -4,7 +4,7 @@ use Rattle.std.specs.Str.{bytes_eq}
 use Rattle.cluster_model.specs.Events.{EventValue, sets, removes, loads, passes, shifts, grants, emits, delivers, event_value}
 use Rattle.decimals.specs.Decimals.{byte_of, word_of, amount_of}
 use Rattle.streams.specs.Lines.{◌>>=◌}
-use Rattle.scripts.specs.Fields.{fields_of, cut_of, field_of, field_cut_of, byte_cut_of}
+use Rattle.streams.specs.Fields.{fields_of, cut_of, field_of, field_cut_of, byte_cut_of}
 use Rattle.scripts.specs.declared.command.Question.{Question}
 use Rattle.scripts.specs.declared.command.Question.TheVariants as questions
 use Rattle.scripts.specs.declared.command.Command.{Command}
@@ -160,11 +160,10 @@ hits_in rest = do
   name ← field_of (node.1)
   Some (question (node.0) (hits name))
 
--- by the line's first word, what follows it
-abbrev pub command_after : List ℕ → List ℕ → Option CommandValue
-command_after word rest =
-    if bytes_eq word (codes "pass") then pass_in rest else
-    (if bytes_eq word (codes "set") then set_in rest else
+-- by the line's first word, what follows it; but for a pass
+abbrev pub plain_command_after : List ℕ → List ℕ → Option CommandValue
+plain_command_after word rest =
+    if bytes_eq word (codes "set") then set_in rest else
     (if bytes_eq word (codes "remove") then remove_in rest else
     (if bytes_eq word (codes "load") then load_in rest else
     (if bytes_eq word (codes "shift") then shift_in rest else
@@ -176,7 +175,12 @@ command_after word rest =
     (if bytes_eq word (codes "rights") then rights_in rest else
     (if bytes_eq word (codes "spent") then spent_in rest else
     (if bytes_eq word (codes "hits") then hits_in rest else
-    (if bytes_eq word (codes "nodes") then nodes_in rest else None)))))))))))))
+    (if bytes_eq word (codes "nodes") then nodes_in rest else None))))))))))))
+
+-- the same of any
+abbrev pub command_after : List ℕ → List ℕ → Option CommandValue
+command_after word rest =
+    if bytes_eq word (codes "pass") then pass_in rest else plain_command_after word rest
 
 -- what a line asks for, where it has one of the forms
 abbrev pub command_of : List ℕ → Option CommandValue

@@ -1,4 +1,3 @@
-pub mod Fields
 pub mod Commands
 pub mod Replies
 pub mod Questions

@@ -9,7 +9,8 @@ use Rattle.report_text.specs.Lines.{report_lines_text}
 use Rattle.cluster_model.specs.declared.fault.WorldFault.TheVariants.{NoNode}
 use Rattle.cluster_model.specs.Events.{WorldValue}
 use Rattle.scripts.specs.Commands.{QuestionValue, list, report, rights, spent, hits}
-use Rattle.scripts.specs.Replies.{refused_text, output_line}
+use Rattle.scripts.specs.Replies.{refused_text}
+use Rattle.streams.specs.Fields.{output_line}
 
 -- a text that is no name names no point
 abbrev pub rights_named : State → List ℕ → ℕ → ℕ → ℤ

@@ -8,7 +8,7 @@ use Rattle.node_calls.specs.Asks.{Passed, Unset, NoTerm, Act, Answered, IsSet, I
 use Rattle.cluster_model.specs.declared.fault.WorldFault.{WorldFault}
 use Rattle.cluster_model.specs.Events.{Answer}
 use Rattle.cluster_model.specs.FaultText.{world_fault_text}
-use Rattle.scripts.specs.Fields.{newline}
+use Rattle.streams.specs.Fields.{output_line}
 
 abbrev pub set_text : Stamp → List ℕ
 set_text stamp = codes "set " ++ stamp_text stamp
@@ -65,9 +65,6 @@ answer_text messages (Err fault) = refused_text fault
 -- of a line that asks for nothing
 abbrev pub bad_line_text : List ℕ
 bad_line_text = codes "bad line"
-
-abbrev pub output_line : List ℕ → List ℕ
-output_line text = text ++ newline ∷ []
 
 -- at Ok this text was appended to the output
 abbrev pub Prints : {T E : Type 0} → Result T E → String Global → String Global → List ℕ → Type 0

@@ -7,9 +7,10 @@ use Rattle.cluster_model.specs.Worlds.{is_cluster_size}
 use Rattle.cluster_model.specs.Events.{WorldValue, EventValue, new_world, answer}
 use Rattle.cluster_model.specs.Runs.{after_answer}
 use Rattle.streams.specs.Lines.{◌>>=◌, is_skipped, text_in}
-use Rattle.scripts.specs.Fields.{lines_of}
+use Rattle.streams.specs.Fields.{lines_of}
 use Rattle.scripts.specs.Commands.{CommandValue, nodes, event, question, command_of}
-use Rattle.scripts.specs.Replies.{answer_text, refused_text, bad_line_text, output_line}
+use Rattle.scripts.specs.Replies.{answer_text, refused_text, bad_line_text}
+use Rattle.streams.specs.Fields.{output_line}
 use Rattle.scripts.specs.Questions.{asked_output}
 
 -- what a line asks for, where it is text and has one of the forms

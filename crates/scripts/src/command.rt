@@ -2,13 +2,13 @@
 
 ghost use Rattle.std.specs.Prelude.{◌≡◌, false, option_map, IfOk};
 ghost use Rattle.std.specs.Vec.{vec_items};
-ghost use Rattle.scripts.specs.Fields.{has_space, field_of, fields_of};
-ghost use Rattle.scripts.specs.Commands.{command_value, words_of, nodes_in, set_in, remove_in, load_in, pass_with, pass_in, shift_in, grant_in, emit_in, deliver_in, list_in, report_in, rights_in, spent_in, hits_in, command_after, command_of};
+ghost use Rattle.streams.specs.Fields.{has_space, field_of, fields_of};
+ghost use Rattle.scripts.specs.Commands.{command_value, words_of, nodes_in, set_in, remove_in, load_in, pass_with, pass_in, shift_in, grant_in, emit_in, deliver_in, list_in, report_in, rights_in, spent_in, hits_in, plain_command_after, command_after, command_of};
 
-use crate::fields::{cut, cut_byte, cut_field, field};
 use cluster_model::Event;
 use decimals::{amount, byte, word};
 use std::alloc::{AllocError, Global};
+use streams::{cut, cut_byte, cut_field, field};
 
 /// A question about what a node shows.
 #[derive(Clone, Copy)]
@@ -199,7 +199,29 @@ fn hits_command(rest: &str) -> Option<Command<'_>>
     Some(Command::Question { node, question })
 }
 
-// By the line's first word, what follows it.
+// By the line's first word, what follows it; but for a pass, which alone takes memory.
+fn plain_command_after<'a>(word: &str, rest: &'a str) -> Option<Command<'a>>
+    ensures { option_map command_value result ≡ plain_command_after word.now rest.now }
+{
+    match word {
+        "set" => set_command(rest),
+        "remove" => remove_command(rest),
+        "load" => load_command(rest),
+        "shift" => shift_command(rest),
+        "grant" => grant_command(rest),
+        "emit" => emit_command(rest),
+        "deliver" => deliver_command(rest),
+        "list" => list_command(rest),
+        "report" => report_command(rest),
+        "rights" => rights_command(rest),
+        "spent" => spent_command(rest),
+        "hits" => hits_command(rest),
+        "nodes" => nodes_command(rest),
+        _ => None,
+    }
+}
+
+// The same of any.
 fn command_after<'a>(
     alloc: Global,
     word: &str,
@@ -208,24 +230,11 @@ fn command_after<'a>(
     ensures { IfOk result (λ command.
         option_map command_value command ≡ command_after word.now rest.now) }
 {
-    match word {
-        // Passes come first, since scripts have most of them.
-        "pass" => pass_command(alloc, rest),
-        "set" => Ok(set_command(rest)),
-        "remove" => Ok(remove_command(rest)),
-        "load" => Ok(load_command(rest)),
-        "shift" => Ok(shift_command(rest)),
-        "grant" => Ok(grant_command(rest)),
-        "emit" => Ok(emit_command(rest)),
-        "deliver" => Ok(deliver_command(rest)),
-        "list" => Ok(list_command(rest)),
-        "report" => Ok(report_command(rest)),
-        "rights" => Ok(rights_command(rest)),
-        "spent" => Ok(spent_command(rest)),
-        "hits" => Ok(hits_command(rest)),
-        "nodes" => Ok(nodes_command(rest)),
-        _ => Ok(None),
+    // Passes come first, since scripts have most of them.
+    if word == "pass" {
+        return pass_command(alloc, rest);
     }
+    Ok(plain_command_after(word, rest))
 }
 
 /// What a line asks for, where it has one of the forms.

@@ -3,7 +3,6 @@
 #![tactic(auto)]
 
 mod command;
-mod fields;
 mod question;
 mod reply;
 mod run;
@@ -11,6 +10,8 @@ mod script;
 
 pub use command::{Command, Question, read_command};
 pub use decimals::{amount, byte, number, word};
-pub use fields::{cut, cut_byte, cut_field, field};
 pub use run::{run_script, run_script_echoing};
-pub use streams::{MOST_BYTES, ScriptFault, Watched, is_skipped, read_script, text_of, write_text};
+pub use streams::{
+    MOST_BYTES, ScriptFault, Watched, cut, cut_byte, cut_field, field, is_skipped, read_script,
+    text_of, write_text,
+};

@@ -1,4 +1,5 @@
 pub mod Watched
 pub mod Streams
 pub mod Lines
+pub mod Fields
 pub mod FaultText

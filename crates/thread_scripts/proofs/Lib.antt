@@ -1,4 +1,2 @@
-pub mod Readings
-pub mod Counts
 pub mod Runs
 pub mod Seats

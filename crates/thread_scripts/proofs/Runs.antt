@@ -2,7 +2,7 @@
 use Rattle.std.proofs.Common.{◌≡◌, List, ℕ, Option, Some, None, Result, Ok, Err}
 use Rattle.std.specs.Prelude.{IfSome, OnOk}
 use Rattle.thread_scripts.specs.Outputs.{IsOutput, PlaysTo}
-use Rattle.thread_scripts.specs.Plans.{PlanValue, plan_in}
+use Rattle.thread_plans.specs.Plans.{PlanValue, plan_in}
 
 module _ (written : List ℕ → Type 0) (script text : List ℕ) (plan : PlanValue) where
   -- the script that was read is the input

@@ -1,4 +1,1 @@
-pub mod Calls
-pub mod Lines
-pub mod Plans
 pub mod Outputs

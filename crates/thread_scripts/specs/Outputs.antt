@@ -9,8 +9,8 @@ use Rattle.audit.specs.Receipts.{Lists}
 use Rattle.audit.specs.Totals.{AreTotals}
 use Rattle.audit.specs.Traces.{Traces, audited}
 use Rattle.audit.specs.VerdictText.{verdict_text}
-use Rattle.scripts.specs.Replies.{output_line}
-use Rattle.thread_scripts.specs.Plans.{PlanValue, plan_in}
+use Rattle.streams.specs.Fields.{output_line}
+use Rattle.thread_plans.specs.Plans.{PlanValue, plan_in}
 
 -- how many blocks there were, how many calls were accepted, and what an audit said
 abbrev pub output_text : ℕ → ℕ → Result AuditYes AuditFault → List ℕ
@@ -41,6 +41,10 @@ pub record IsOutputOf (plan : PlanValue) (traces : Traces) (lists : Lists) (text
 -- what it prints that came to some traces and receipts
 abbrev pub IsOutput : PlanValue → List ℕ → Type 0
 IsOutput plan text = (traces : Traces) × (lists : Lists) × IsOutputOf plan traces lists text
+
+-- a script has a plan, which prints this
+abbrev pub ComesTo : List ℕ → List ℕ → Type 0
+ComesTo script text = (plan : PlanValue) × (plan_in script ≡ Ok plan) × IsOutput plan text
 
 -- a script has a plan, and this is so of what it prints
 abbrev pub PlaysTo : List ℕ → (List ℕ → Type 0) → Type 0

@@ -2,10 +2,10 @@
 
 ghost use Rattle.std.specs.Prelude.{◌≡◌, ◌+◌, ◌<◌, ◌^◌, vec_len, All, IfOk, OnOk};
 
-use crate::plan::{Block, CallLine};
 use node_core::Ask;
 use node_registry::{Job, Label, Registry, Seat};
 use std::alloc::{AllocError, Global};
+use thread_plans::{Block, CallLine};
 
 // What a line asks, so many times.
 fn push_asks(alloc: Global, line: &CallLine<'_>, asks: &mut Vec<Ask>) -> Result<(), AllocError>

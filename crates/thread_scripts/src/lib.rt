@@ -1,24 +1,17 @@
-//! Scripts that drive nodes from threads: what each line asks for, the plan that they make, and a run
-//! from a reader to a writer.
+//! Scripts that drive nodes from threads: what their plans come to when they are played, and a run from
+//! a reader to a writer.
 #![tactic(auto)]
 
 mod asks;
 mod beside;
-mod call;
 mod finished;
-mod line;
 mod nodes;
 mod output;
-mod plan;
 mod played;
-mod reading;
 mod run;
-mod stage;
 mod starts;
 
-pub use call::Start;
 pub use output::output_of;
-pub use plan::{Block, CallLine, Size, StartLine, ThreadPlan};
 pub use played::{Played, play};
-pub use reading::read_plan;
 pub use run::run_threads;
+pub use thread_plans::{Block, CallLine, Size, Start, StartLine, ThreadPlan, read_plan};

@@ -8,8 +8,6 @@ ghost use Rattle.node_core.specs.Refusals.{is_bad_config};
 use crate::asks::jobs_of;
 use crate::beside::{Gossip, work, work_and_gossip};
 use crate::finished::Finished;
-use crate::plan::ThreadPlan;
-use crate::stage::blocks_at;
 use crate::starts::make_starts;
 use node_core::{Config, Receipt, Trace};
 use node_registry::{Closed, Label, Registry, Seat};
@@ -18,6 +16,7 @@ use std::marker::Brand;
 use std::sync::Wait;
 use std::sync::ledger::Blank;
 use std::thread::Threads;
+use thread_plans::{ThreadPlan, blocks_at};
 
 /// A node that is to run, with its gossip, if it does any.
 #[derive(Drop)]

@@ -2,13 +2,13 @@
 
 ghost use Rattle.std.specs.Prelude.{◌≡◌, vec_len, IfOk, string_bytes};
 ghost use Rattle.thread_scripts.specs.Outputs.{IsOutputOf};
-ghost use Rattle.thread_scripts.specs.Plans.{plan_value};
+ghost use Rattle.thread_plans.specs.Plans.{plan_value};
 
-use crate::plan::ThreadPlan;
 use crate::played::Played;
 use audit::{AuditFault, audit, verdict_text};
 use std::alloc::{AllocError, Global};
 use std::fmt::Write;
+use thread_plans::ThreadPlan;
 
 /// What a plan that was played prints: its workers, the accepted calls, and the audit of its traces
 /// and receipts.

@@ -5,13 +5,13 @@ ghost use Rattle.std.specs.List.{sum_by};
 
 use crate::beside::Gossip;
 use crate::nodes::{NodeJob, NodePlayed, run_node};
-use crate::plan::ThreadPlan;
 use gossip::MailWire;
 use node_core::{Config, Receipt, Trace};
 use std::alloc::{AllocError, Global};
 use std::sync::Wait;
 use std::thread;
 use std::thread::Threads;
+use thread_plans::ThreadPlan;
 
 /// What a plan came to: the traces of its nodes, in their order, and of each seat the receipts of its
 /// calls, in their order.

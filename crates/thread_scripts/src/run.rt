@@ -1,20 +1,38 @@
 //! A script of threads from a reader, and what it prints to a writer.
 
-ghost use Rattle.std.specs.Prelude.{◌≡◌, ◌≢◌, ℕ, ◌+◌, ◌<◌, ◌↔◌, ◌⊎◌, true, false, length, IfErr, IfOk, OnOk, string_bytes};
+ghost use Rattle.std.specs.Prelude.{◌≡◌, ◌≢◌, ℕ, ◌+◌, ◌<◌, ◌≤◌, ◌↔◌, ◌⊎◌, true, false, length, IfErr, IfOk, OnOk, string_bytes};
 ghost use Rattle.streams.specs.declared.fault.ScriptFault.TheVariants.{BadLine, OutOfMemory, ReadFailed, TooLong, WriteFailed};
 ghost use Rattle.streams.specs.Watched.{has_failed, has_unflushed};
 ghost use Rattle.streams.specs.Streams.{IfInput, ReadsUpTo, Writes, WritesPrefix};
-ghost use Rattle.thread_scripts.specs.Outputs.{PlaysTo};
-ghost use Rattle.thread_scripts.specs.Plans.{plan_in};
+ghost use Rattle.thread_scripts.specs.Outputs.{ComesTo, PlaysTo};
+ghost use Rattle.thread_plans.specs.Plans.{plan_in};
 
 use crate::output::output_of;
 use crate::played::play;
-use crate::reading::read_plan;
-use scripts::{MOST_BYTES, ScriptFault, Watched, read_script, write_text};
 use std::alloc::Global;
 use std::io::{Read, Write};
 use std::sync::Wait;
 use std::thread::Threads;
+use streams::{MOST_BYTES, ScriptFault, Watched, read_script, write_text};
+use thread_plans::read_plan;
+
+// What a script comes to, or its first bad line.
+fn played_text<R: Threads + Wait + Sync>(
+    rt: &R,
+    alloc: Global,
+    script: &[u8],
+) -> Result<String, ScriptFault>
+    requires { length script.now ≤ MOST_BYTES }
+    ensures ok { IfOk result (λ text. ComesTo script.now (string_bytes text)) }
+    ensures bad { (line : ℕ) → result ≡ Err (BadLine line) → plan_in script.now ≡ Err line }
+    ensures only { IfErr result (λ fault.
+        (fault ≡ OutOfMemory) ⊎ ((line : ℕ) × (fault ≡ BadLine line))) }
+{
+    let plan = read_plan(alloc, script)?;
+    let played = play(rt, alloc, &plan)?;
+    let text = output_of(alloc, &plan, &played)?;
+    Ok(text)
+}
 
 /// Runs the script of threads that a reader gives, and writes how many workers there were, how many
 /// calls were accepted, and what an audit says of them.
@@ -55,8 +73,6 @@ pub fn run_threads<R: Threads + Wait + Sync, I: Read, O: Write>(
     ensures taken { ReadsUpTo (MOST_BYTES + 1) I.remaining reader.old reader.new }
 {
     let script = read_script(alloc, reader)?;
-    let plan = read_plan(alloc, script.as_slice())?;
-    let played = play(rt, alloc, &plan)?;
-    let text = output_of(alloc, &plan, &played)?;
+    let text = played_text(rt, alloc, script.as_slice())?;
     write_text(writer, text.as_bytes())
 }

@@ -2,13 +2,12 @@
 
 ghost use Rattle.std.specs.Prelude.{◌≡◌, vec_len, IfOk, OnOk};
 
-use crate::call::Start;
-use crate::plan::StartLine;
 use gossip::{Ended, spread};
 use node_core::{AskRef, NodeFault, Receipt};
 use node_registry::{Label, Registry, Seat};
 use std::alloc::{AllocError, Global};
 use std::sync::Wait;
+use thread_plans::{Start, StartLine};
 
 // Makes a call, and keeps its receipt.
 fn make_call<L: Label, R: Wait>(

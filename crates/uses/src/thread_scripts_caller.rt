@@ -3,7 +3,7 @@
 ghost use Rattle.std.specs.Prelude.{◌≡◌, ℕ, false};
 ghost use Rattle.streams.specs.declared.fault.ScriptFault.TheVariants.{BadLine};
 ghost use Rattle.streams.specs.Watched.{has_failed};
-ghost use Rattle.thread_scripts.specs.Plans.{plan_in};
+ghost use Rattle.thread_plans.specs.Plans.{plan_in};
 
 use scripts::{ScriptFault, Watched};
 use std::alloc::Global;

@@ -1,5 +1,5 @@
 use Rattle.streams.specs.Watched.{inner_of}
-use Rattle.thread_scripts.specs.Plans.{plan_value}
+use Rattle.thread_plans.specs.Plans.{plan_value}
 use Rattle.failreg.proofs.Recorded.{played}
 use Rattle.failreg.proofs.recording.run_recorded.Goals as goal
 

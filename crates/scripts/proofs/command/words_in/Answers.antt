@@ -2,7 +2,7 @@ use Rattle.std.proofs.Common.{length, rules, lit<}
 use Rattle.std.proofs.lemmas.List.{length_push}
 use Rattle.std.proofs.lemmas.Iterator.Consumers.{YieldsList-turn, YieldsList-end}
 use Rattle.std.proofs.lemmas.Iterator.Splits.{YieldsList-from_str_split}
-use Rattle.scripts.specs.Fields.{fields_of}
+use Rattle.streams.specs.Fields.{fields_of}
 use Rattle.scripts.proofs.Words.{none_from_field, one_more_number, all_numbers}
 use Rattle.scripts.proofs.command.words_in.Goals as goal
 

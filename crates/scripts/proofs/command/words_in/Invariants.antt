@@ -1,6 +1,6 @@
 use Rattle.std.proofs.Common.{◌≡◌, ◌++◌, length, drop}
 use Rattle.std.specs.Option.{option_map}
-use Rattle.scripts.specs.Fields.{fields_of}
+use Rattle.streams.specs.Fields.{fields_of}
 use Rattle.scripts.specs.Commands.{words_of}
 use Rattle.scripts.proofs.command.words_in.Given as goal
 

@@ -2,7 +2,7 @@ use Rattle.std.proofs.Common.{◌==◌, length, rules, tests}
 use Rattle.std.proofs.lemmas.List.{length_push}
 use Rattle.std.proofs.lemmas.Iterator.Consumers.{YieldsList-turn, YieldsList-end}
 use Rattle.std.proofs.lemmas.Iterator.Splits.{YieldsList-from_slice_split}
-use Rattle.scripts.specs.Fields.{lines_of}
+use Rattle.streams.specs.Fields.{lines_of}
 use Rattle.scripts.specs.Script.{echoed_output, echoed_text}
 use Rattle.scripts.proofs.Outputs.{one_more, none_left}
 use Rattle.scripts.proofs.script.echoed_output_of.Goals as goal

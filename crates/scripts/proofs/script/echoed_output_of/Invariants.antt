@@ -1,5 +1,5 @@
 use Rattle.std.proofs.Common.{◌≡◌, ◌++◌, length, drop, None}
-use Rattle.scripts.specs.Fields.{lines_of}
+use Rattle.streams.specs.Fields.{lines_of}
 use Rattle.scripts.specs.Script.{echoed_output, text_from}
 use Rattle.scripts.proofs.script.echoed_output_of.Given as goal
 

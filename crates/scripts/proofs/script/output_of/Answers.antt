@@ -3,7 +3,7 @@ use Rattle.std.specs.String.{string_bytes}
 use Rattle.std.proofs.lemmas.List.{length_push}
 use Rattle.std.proofs.lemmas.Iterator.Consumers.{YieldsList-turn, YieldsList-end}
 use Rattle.std.proofs.lemmas.Iterator.Splits.{YieldsList-from_slice_split}
-use Rattle.scripts.specs.Fields.{lines_of}
+use Rattle.streams.specs.Fields.{lines_of}
 use Rattle.scripts.specs.Script.{line_output, script_text}
 use Rattle.scripts.proofs.Outputs.{one_more, none_left}
 use Rattle.scripts.proofs.script.output_of.Goals as goal

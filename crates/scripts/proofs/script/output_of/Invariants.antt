@@ -1,6 +1,6 @@
 use Rattle.std.proofs.Common.{◌≡◌, ◌++◌, length, drop, None}
 use Rattle.std.specs.String.{string_bytes}
-use Rattle.scripts.specs.Fields.{lines_of}
+use Rattle.streams.specs.Fields.{lines_of}
 use Rattle.scripts.specs.Script.{line_output, text_from}
 use Rattle.scripts.proofs.script.output_of.Given as goal
 

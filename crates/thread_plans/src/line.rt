@@ -1,17 +1,17 @@
 //! What a line of a script of threads says.
 
-ghost use Rattle.std.specs.Prelude.{◌≡◌, option_map, IfOk};
+ghost use Rattle.std.specs.Prelude.{◌≡◌, option_map};
 ghost use Rattle.node_calls.specs.Told.{ask_ref_told};
-ghost use Rattle.thread_scripts.specs.Lines.{gossip_in, line_after, line_in, line_of, line_value, nodes_in, once, pass_in, seed_in, spread_in, start_call_in, start_in, times_of, worker_in};
+ghost use Rattle.thread_plans.specs.Lines.{gossip_in, line_after, line_in, line_value, nodes_in, once, pass_in, seed_in, spread_in, start_call_in, start_in, times_of, worker_in};
 
-use crate::call::{Start, grant_call, load_call, remove_call, set_call, shift_call, start_of};
+use crate::call::{Start, call_after};
+use decimals::{byte, number, word};
 use hex::FromHex;
-use node_core::AskRef;
-use scripts::{byte, cut, cut_byte, cut_field, field, number, read_command, text_of, word};
-use std::alloc::{AllocError, Global};
+use node_calls::AskRef;
+use streams::{cut, cut_byte, cut_field, field, text_of};
 
 /// What a line of a script of threads says.
-#[derive(Drop)]
+#[derive(Clone, Copy)]
 pub enum Line<'a> {
     /// There are so many nodes, each of which accepts so many calls.
     Nodes { count: u8, trace_cap: u32 },
@@ -44,19 +44,13 @@ fn seed_line(rest: &str) -> Option<Line<'_>>
     Some(Line::Seed(seed))
 }
 
-fn start_call_line(alloc: Global, rest: &str) -> Result<Option<Line<'_>>, AllocError>
-    ensures { IfOk result (λ line. option_map line_value line ≡ start_call_in rest.now) }
+fn start_call_line<'a>(word: &str, rest: &'a str) -> Option<Line<'a>>
+    ensures { option_map line_value result ≡ start_call_in word.now rest.now }
 {
-    let Some(command) = read_command(alloc, rest)? else {
-        return Ok(None);
-    };
-    match start_of(command) {
-        Some((node, call)) => Ok(Some(Line::Start {
-            node,
-            start: Start::Call(call),
-        })),
-        None => Ok(None),
-    }
+    let (node, rest) = cut_byte(rest)?;
+    let call = call_after(word, rest)?;
+    let start = Start::Call(call);
+    Some(Line::Start { node, start })
 }
 
 fn spread_line(rest: &str) -> Option<Line<'_>>
@@ -68,15 +62,15 @@ fn spread_line(rest: &str) -> Option<Line<'_>>
     Some(Line::Start { node, start })
 }
 
-fn start_line(alloc: Global, rest: &str) -> Result<Option<Line<'_>>, AllocError>
-    ensures { IfOk result (λ line. option_map line_value line ≡ start_in rest.now) }
+fn start_line(rest: &str) -> Option<Line<'_>>
+    ensures { option_map line_value result ≡ start_in rest.now }
 {
-    if let Some((word, spread)) = cut(rest) {
-        if word == "spread" {
-            return Ok(spread_line(spread));
-        }
+    let (word, rest) = cut(rest)?;
+    if word == "spread" {
+        spread_line(rest)
+    } else {
+        start_call_line(word, rest)
     }
-    start_call_line(alloc, rest)
 }
 
 fn gossip_line(rest: &str) -> Option<Line<'_>>
@@ -116,34 +110,24 @@ fn pass_line(rest: &str) -> Option<Line<'_>>
 }
 
 // By the line's first word, what follows it.
-fn line_after<'a>(alloc: Global, word: &str, rest: &'a str) -> Result<Option<Line<'a>>, AllocError>
-    ensures { IfOk result (λ line. option_map line_value line ≡ line_after word.now rest.now) }
+fn line_after<'a>(word: &str, rest: &'a str) -> Option<Line<'a>>
+    ensures { option_map line_value result ≡ line_after word.now rest.now }
 {
     match word {
-        "nodes" => Ok(nodes_line(rest)),
-        "seed" => Ok(seed_line(rest)),
-        "start" => start_line(alloc, rest),
-        "gossip" => Ok(gossip_line(rest)),
-        "worker" => Ok(worker_line(rest)),
-        "set" => Ok(set_call(rest).map(once)),
-        "remove" => Ok(remove_call(rest).map(once)),
-        "load" => Ok(Some(once(load_call(rest)))),
-        "shift" => Ok(shift_call(rest).map(once)),
-        "grant" => Ok(grant_call(rest).map(once)),
-        "pass" => Ok(pass_line(rest)),
-        _ => Ok(None),
+        "nodes" => nodes_line(rest),
+        "seed" => seed_line(rest),
+        "start" => start_line(rest),
+        "gossip" => gossip_line(rest),
+        "worker" => worker_line(rest),
+        "pass" => pass_line(rest),
+        _ => call_after(word, rest).map(once),
     }
 }
 
 /// What a line says, where it is text and has one of the forms.
-pub fn read_line(alloc: Global, line: &[u8]) -> Result<Option<Line<'_>>, AllocError>
-    ensures { IfOk result (λ said. option_map line_value said ≡ line_in line.now) }
+pub(crate) fn read_line(line: &[u8]) -> Option<Line<'_>>
+    ensures { option_map line_value result ≡ line_in line.now }
 {
-    let Some(text) = text_of(line) else {
-        return Ok(None);
-    };
-    match cut(text) {
-        Some((word, rest)) => line_after(alloc, word, rest),
-        None => Ok(None),
-    }
+    let (word, rest) = cut(text_of(line)?)?;
+    line_after(word, rest)
 }

@@ -1,18 +1,18 @@
 //! The plan of a run.
 
-ghost use Rattle.std.specs.Prelude.{◌≡◌, ℕ, ◌<◌, ◌≤◌, ◌==◌, count_by, true};
+ghost use Rattle.std.specs.Prelude.{◌≡◌, ◌&&◌, ℕ, ◌<◌, ◌≤◌, ◌==◌, count_by, nat_le, true};
 ghost use Rattle.std.specs.List.{sum_by};
-ghost use Rattle.cluster_model.specs.Worlds.{is_cluster_size};
+ghost use Rattle.message_format.specs.Limits.{max_nodes};
 
 use crate::call::Start;
-use node_core::AskRef;
+use node_calls::AskRef;
 
 /// How many nodes there are, 1 to 32, and how many calls each of them accepts.
 #[derive(Clone, Copy)]
 pub struct Size {
     pub nodes: u8,
     pub trace_cap: u32,
-    ghost some_nodes: { is_cluster_size nodes ≡ true },
+    ghost some_nodes: { (nat_le 1 nodes && nat_le nodes max_nodes) ≡ true },
 }
 
 /// A call that is made so many times.

@@ -5,13 +5,11 @@ use Rattle.hex.specs.Hex.{decode_sized}
 use Rattle.hex.specs.declared.error.FromHexError.{FromHexError}
 use Rattle.node_calls.specs.Told.{AskTold, ask_ref_told, passes}
 use Rattle.decimals.specs.Decimals.{byte_of, word_of, number_of}
-use Rattle.streams.specs.Lines.{◌>>=◌}
-use Rattle.scripts.specs.Fields.{cut_of, field_of, field_cut_of, byte_cut_of}
-use Rattle.scripts.specs.Commands.{command_of}
-use Rattle.streams.specs.Lines.{text_in}
-use Rattle.thread_scripts.specs.declared.line.Line.{Line}
-use Rattle.thread_scripts.specs.declared.line.Line.TheVariants as lines
-use Rattle.thread_scripts.specs.Calls.{StartValue, makes, spreads, start_value, start_of, set_in, remove_in, load_in, shift_in, grant_in}
+use Rattle.streams.specs.Fields.{cut_of, field_of, field_cut_of, byte_cut_of}
+use Rattle.streams.specs.Lines.{◌>>=◌, text_in}
+use Rattle.thread_plans.specs.declared.line.Line.{Line}
+use Rattle.thread_plans.specs.declared.line.Line.TheVariants as lines
+use Rattle.thread_plans.specs.Calls.{StartValue, makes, spreads, start_value, call_after}
 
 -- so many nodes, each of which accepts so many calls; the seed of their words; what a node does before the workers
 -- start; so many rounds of gossip; a block of calls of one worker at a node; or a call of the worker, so many times
@@ -47,12 +45,12 @@ seed_read (Err fault) = None
 abbrev pub seed_in : List ℕ → Option LineValue
 seed_in rest = seed_read (decode_sized rest 32)
 
--- a line of a script of calls
-abbrev pub start_call_in : List ℕ → Option LineValue
-start_call_in rest = do
-  command ← command_of rest
-  call ← start_of command
-  Some (start_line (call.0) (makes (call.1)))
+-- `<word> <node> <rest>`, as in a script of calls: of the calls that need no words and make and take no message
+abbrev pub start_call_in : List ℕ → List ℕ → Option LineValue
+start_call_in word rest = do
+  node ← byte_cut_of rest
+  call ← call_after word (node.1)
+  Some (start_line (node.0) (makes call))
 
 -- `<node> <name>`
 abbrev pub spread_in : List ℕ → Option LineValue
@@ -61,13 +59,11 @@ spread_in rest = do
   name ← field_of (node.1)
   Some (start_line (node.0) (spreads name))
 
-abbrev pub start_cut_in : List ℕ → Option (List ℕ × List ℕ) → Option LineValue
-start_cut_in rest None = start_call_in rest
-start_cut_in rest (Some parts) = if bytes_eq (parts.0) (codes "spread") then spread_in (parts.1) else start_call_in rest
-
 -- `start ` before a line of a script of calls, or before `spread <node> <name>`
 abbrev pub start_in : List ℕ → Option LineValue
-start_in rest = start_cut_in rest (cut_of rest)
+start_in rest = do
+  parts ← cut_of rest
+  if bytes_eq (parts.0) (codes "spread") then spread_in (parts.1) else start_call_in (parts.0) (parts.1)
 
 -- `gossip <rounds>`
 abbrev pub gossip_in : List ℕ → Option LineValue
@@ -103,12 +99,7 @@ line_after word rest =
     (if bytes_eq word (codes "start") then start_in rest else
     (if bytes_eq word (codes "gossip") then gossip_in rest else
     (if bytes_eq word (codes "worker") then worker_in rest else
-    (if bytes_eq word (codes "set") then option_map once (set_in rest) else
-    (if bytes_eq word (codes "remove") then option_map once (remove_in rest) else
-    (if bytes_eq word (codes "load") then Some (once (load_in rest)) else
-    (if bytes_eq word (codes "shift") then option_map once (shift_in rest) else
-    (if bytes_eq word (codes "grant") then option_map once (grant_in rest) else
-    (if bytes_eq word (codes "pass") then pass_in rest else None))))))))))
+    (if bytes_eq word (codes "pass") then pass_in rest else option_map once (call_after word rest))))))
 
 -- what a line says, where it has one of the forms
 abbrev pub line_of : List ℕ → Option LineValue

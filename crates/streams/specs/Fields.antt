@@ -1,11 +1,15 @@
 -- Lines and their fields, as bytes.
-use Rattle.std.specs.Prelude.{ℕ, Bool, ◌==◌, List, length, if◌then◌else◌, nat_lt, Option, Some, None}
+use Rattle.std.specs.Prelude.{ℕ, Bool, ◌==◌, List, [], ◌∷◌, ◌++◌, length, if◌then◌else◌, nat_lt, Option, Some, None}
 use Rattle.std.specs.List.{slice_split, position_or_len, before_first, after_first}
 use Rattle.decimals.specs.Decimals.{byte_of}
 use Rattle.streams.specs.Lines.{◌>>=◌}
 
 abbrev pub newline : ℕ
 newline = 10
+
+-- a text as a line
+abbrev pub output_line : List ℕ → List ℕ
+output_line text = text ++ newline ∷ []
 
 abbrev pub space : ℕ
 space = 32

@@ -1,6 +1,6 @@
 use Rattle.std.proofs.Common.{rules}
-use Rattle.thread_scripts.proofs.Counts.{few_with}
-use Rattle.thread_scripts.proofs.stage.with_block.Goals as goal
+use Rattle.thread_plans.proofs.Counts.{few_with}
+use Rattle.thread_plans.proofs.stage.with_block.Goals as goal
 
 pub invariant_of-plan : goal.invariant_of-plan
 invariant_of-plan c = record {

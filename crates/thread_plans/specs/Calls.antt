@@ -1,14 +1,13 @@
 -- The calls that a script of threads asks for.
-use Rattle.std.specs.Prelude.{ℕ, List, Option, Some, None}
+use Rattle.std.specs.Prelude.{ℕ, List, Option, Some, None, if◌then◌else◌, codes}
+use Rattle.std.specs.Str.{bytes_eq}
 use Rattle.node_calls.specs.Told.{AskTold, ask_ref_told}
 use Rattle.node_calls.specs.Told as asks
-use Rattle.cluster_model.specs.Events.{sets, removes, loads, passes, shifts, grants, emits, delivers}
 use Rattle.decimals.specs.Decimals.{amount_of}
 use Rattle.streams.specs.Lines.{◌>>=◌}
-use Rattle.scripts.specs.Fields.{field_of, field_cut_of, byte_cut_of}
-use Rattle.scripts.specs.Commands.{CommandValue, nodes, event, question}
-use Rattle.thread_scripts.specs.declared.call.Start.{Start}
-use Rattle.thread_scripts.specs.declared.call.Start.TheVariants as starts
+use Rattle.streams.specs.Fields.{field_of, field_cut_of, byte_cut_of}
+use Rattle.thread_plans.specs.declared.call.Start.{Start}
+use Rattle.thread_plans.specs.declared.call.Start.TheVariants as starts
 
 -- what a node does before the workers start: it makes a call, or spreads its rights to a point
 pub data StartValue : Type 0 where
@@ -19,20 +18,6 @@ pub data StartValue : Type 0 where
 abbrev pub start_value : Start → StartValue
 start_value (starts.Call call) = makes (ask_ref_told call)
 start_value (starts.Spread name) = spreads (name.now)
-
--- the node and the call of a start line: a command as in a script of calls, of those that need no words and make and
--- take no message
-abbrev pub start_of : CommandValue → Option (ℕ × AskTold)
-start_of (event (sets node name text)) = Some (node, asks.sets name text)
-start_of (event (removes node name)) = Some (node, asks.removes name)
-start_of (event (loads node text)) = Some (node, asks.loads text)
-start_of (event (shifts node name term to amount)) = Some (node, asks.shifts name term to amount)
-start_of (event (grants node name term amount)) = Some (node, asks.grants name term amount)
-start_of (event (passes node name words)) = None
-start_of (event (emits node to)) = None
-start_of (event (delivers node message)) = None
-start_of (nodes count cap) = None
-start_of (question node asked) = None
 
 -- `<name> <rest>`, whose rest may be empty and have spaces
 abbrev pub set_in : List ℕ → Option AskTold
@@ -66,3 +51,12 @@ grant_in rest = do
   term ← byte_cut_of (name.1)
   amount ← amount_of (term.1)
   Some (asks.grants (name.0) (term.0) amount)
+
+-- by its first word, what follows it
+abbrev pub call_after : List ℕ → List ℕ → Option AskTold
+call_after word rest =
+    if bytes_eq word (codes "set") then set_in rest else
+    (if bytes_eq word (codes "remove") then remove_in rest else
+    (if bytes_eq word (codes "load") then Some (load_in rest) else
+    (if bytes_eq word (codes "shift") then shift_in rest else
+    (if bytes_eq word (codes "grant") then grant_in rest else None))))

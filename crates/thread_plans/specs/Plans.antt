@@ -1,19 +1,19 @@
 -- What the lines of a script of threads come to: a plan, or the first line that is bad.
-use Rattle.std.specs.Prelude.{ℕ, ◌+◌, ◌-◌, ◌^◌, Bool, ◌&&◌, ◌||◌, ◌==◌, List, [], ◌∷◌, ◌++◌, length, map, count_by, slice_index, nat_lt, if◌then◌else◌, Option, Some, None, option_map, Result, Ok, Err}
+use Rattle.std.specs.Prelude.{ℕ, ◌+◌, ◌-◌, ◌^◌, Bool, ◌&&◌, ◌||◌, ◌==◌, List, [], ◌∷◌, ◌++◌, length, map, count_by, slice_index, nat_le, nat_lt, if◌then◌else◌, Option, Some, None, option_map, Result, Ok, Err}
 use Rattle.std.specs.List.{sum_by}
 use Rattle.std.specs.Option.{is_none}
-use Rattle.cluster_model.specs.Worlds.{is_cluster_size}
+use Rattle.message_format.specs.Limits.{max_nodes}
 use Rattle.node_calls.specs.Told.{AskTold, ask_ref_told}
-use Rattle.scripts.specs.Fields.{newline, lines_of}
+use Rattle.streams.specs.Fields.{newline, lines_of}
 use Rattle.streams.specs.Lines.{is_skipped}
-use Rattle.thread_scripts.specs.declared.plan.Block.{Block}
-use Rattle.thread_scripts.specs.declared.plan.CallLine.{CallLine}
-use Rattle.thread_scripts.specs.declared.plan.StartLine.{StartLine}
-use Rattle.thread_scripts.specs.declared.plan.ThreadPlan.{ThreadPlan}
-use Rattle.thread_scripts.specs.declared.stage.Stage.{Stage}
-use Rattle.thread_scripts.specs.declared.stage.Stage.TheVariants as stages
-use Rattle.thread_scripts.specs.Calls.{StartValue, start_value}
-use Rattle.thread_scripts.specs.Lines.{LineValue, nodes_line, seed_line, start_line, gossip_line, worker_line, calls_line, line_in}
+use Rattle.thread_plans.specs.declared.plan.Block.{Block}
+use Rattle.thread_plans.specs.declared.plan.CallLine.{CallLine}
+use Rattle.thread_plans.specs.declared.plan.StartLine.{StartLine}
+use Rattle.thread_plans.specs.declared.plan.ThreadPlan.{ThreadPlan}
+use Rattle.thread_plans.specs.declared.stage.Stage.{Stage}
+use Rattle.thread_plans.specs.declared.stage.Stage.TheVariants as stages
+use Rattle.thread_plans.specs.Calls.{StartValue, start_value}
+use Rattle.thread_plans.specs.Lines.{LineValue, nodes_line, seed_line, start_line, gossip_line, worker_line, calls_line, line_in}
 
 -- the lines of a worker: each a call, with how often it is made
 pub record BlockValue : Type 0 where
@@ -100,7 +100,7 @@ add_calls p b call times =
     then Some (working p (record b { lines = b.lines ++ (call, times) ∷ [] })) else None
 
 abbrev pub after_empty : LineValue → Option StageValue
-after_empty (nodes_line count cap) = if is_cluster_size count then Some (sized count cap) else None
+after_empty (nodes_line count cap) = if nat_le 1 count && nat_le count max_nodes then Some (sized count cap) else None
 after_empty (seed_line bytes) = None
 after_empty (start_line node start) = None
 after_empty (gossip_line rounds) = None

@@ -1,7 +1,7 @@
 use Rattle.std.proofs.Common.{◌≡◌, ◌+◌, length, drop}
-use Rattle.scripts.specs.Fields.{lines_of}
-use Rattle.thread_scripts.specs.Plans.{empty, stage_from, stage_value}
-use Rattle.thread_scripts.proofs.reading.read_plan.Given as goal
+use Rattle.streams.specs.Fields.{lines_of}
+use Rattle.thread_plans.specs.Plans.{empty, stage_from, stage_value}
+use Rattle.thread_plans.proofs.reading.read_plan.Given as goal
 
 -- what the lines that are left come to, is what all come to
 abbrev pub invariant-loop-line : goal.invariant-loop-line

@@ -4,9 +4,9 @@ use Rattle.std.specs.List.{count_by}
 use Rattle.std.proofs.lemmas.Bool.Decides.{nat_tests}
 use Rattle.std.proofs.lemmas.List.Splits.{length-slice_split}
 use Rattle.std.proofs.lemmas.List.Sums.{count_by-le-length, fold-append}
-use Rattle.scripts.specs.Fields.{lines_of, newline}
-use Rattle.thread_scripts.specs.declared.plan.Block.{Block}
-use Rattle.thread_scripts.specs.Plans.{ends_line, line_count}
+use Rattle.streams.specs.Fields.{lines_of, newline}
+use Rattle.thread_plans.specs.declared.plan.Block.{Block}
+use Rattle.thread_plans.specs.Plans.{ends_line, line_count}
 
 count_by-push : {X : Type 0} (p : X → Bool) (xs : List X) (x : X) →
     count_by p (xs ++ x ∷ []) ≡ count_by p xs + cond (p x) 1 0

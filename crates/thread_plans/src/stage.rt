@@ -1,17 +1,19 @@
 //! How far a script of threads was read.
 
 ghost use Rattle.std.specs.Prelude.{◌≡◌, ◌<◌, ◌≤◌, ◌==◌, ◌++◌, ◌∷◌, [], count_by, option_map, true, IfOk};
-ghost use Rattle.cluster_model.specs.Worlds.{is_cluster_size};
+ghost use Rattle.message_format.specs.Limits.{max_nodes};
 ghost use Rattle.node_calls.specs.Told.{ask_ref_told};
-ghost use Rattle.thread_scripts.specs.Lines.{line_value};
-ghost use Rattle.thread_scripts.specs.Plans.{add_calls, after_empty, after_line, after_sized, after_started, after_text, after_working, begin_block, block_value, plan_value, stage_value, whole_plan, with_block};
+ghost use Rattle.thread_plans.specs.Calls.{start_value};
+ghost use Rattle.thread_plans.specs.Lines.{gossip_line, line_value, start_line};
+ghost use Rattle.thread_plans.specs.Plans.{add_calls, after_empty, after_line, after_sized, after_started, after_text, after_working, begin_block, block_value, plan_value, stage_value, whole_plan, with_block};
 
+use crate::call::Start;
 use crate::line::{Line, read_line};
 use crate::plan::{Block, CallLine, Size, StartLine, ThreadPlan, Working};
 use message_format::MAX_NODES;
-use node_core::AskRef;
-use scripts::is_skipped;
+use node_calls::AskRef;
 use std::alloc::{AllocError, Global};
+use streams::is_skipped;
 
 /// The most blocks of a node.
 const MOST_BLOCKS: usize = 250;
@@ -123,29 +125,45 @@ fn after_sized(alloc: Global, size: Size, line: Line<'_>) -> Option<Stage<'_>>
     }
 }
 
+// What a node does before the workers, where the node is there and no gossip was told.
+fn add_start<'a>(
+    mut plan: ThreadPlan<'a>,
+    node: u8,
+    start: Start<'a>,
+) -> Result<Option<Stage<'a>>, AllocError>
+    ensures { IfOk result (λ stage. option_map stage_value stage
+        ≡ after_started (plan_value plan.entry) (start_line node (start_value start.entry))) }
+{
+    if node >= plan.size.nodes || plan.gossip.is_some() {
+        return Ok(None);
+    }
+    plan.starts.push(StartLine { node, start })?;
+    Ok(Some(Stage::Started(plan)))
+}
+
+// The rounds of gossip, where none were told.
+fn set_gossip(mut plan: ThreadPlan<'_>, rounds: u32) -> Option<Stage<'_>>
+    ensures { option_map stage_value result
+        ≡ after_started (plan_value plan.entry) (gossip_line rounds) }
+{
+    if plan.gossip.is_some() {
+        return None;
+    }
+    plan.gossip = Some(rounds);
+    Some(Stage::Started(plan))
+}
+
 fn after_started<'a>(
     alloc: Global,
-    mut plan: ThreadPlan<'a>,
+    plan: ThreadPlan<'a>,
     line: Line<'a>,
 ) -> Result<Option<Stage<'a>>, AllocError>
     ensures { IfOk result (λ stage. option_map stage_value stage
         ≡ after_started (plan_value plan.entry) (line_value line.entry)) }
 {
     match line {
-        Line::Start { node, start } => {
-            if node >= plan.size.nodes || plan.gossip.is_some() {
-                return Ok(None);
-            }
-            plan.starts.push(StartLine { node, start })?;
-            Ok(Some(Stage::Started(plan)))
-        }
-        Line::Gossip { rounds } => {
-            if plan.gossip.is_some() {
-                return Ok(None);
-            }
-            plan.gossip = Some(rounds);
-            Ok(Some(Stage::Started(plan)))
-        }
+        Line::Start { node, start } => add_start(plan, node, start),
+        Line::Gossip { rounds } => Ok(set_gossip(plan, rounds)),
         Line::Worker { node } => Ok(begin_block(alloc, plan, node)),
         Line::Nodes { .. } | Line::Seed(_) | Line::Calls { .. } => Ok(None),
     }
@@ -195,7 +213,7 @@ pub fn after_text<'a>(
     if is_skipped(line) {
         return Ok(Some(stage));
     }
-    match read_line(alloc, line)? {
+    match read_line(line) {
         Some(line) => after_line(alloc, stage, line),
         None => Ok(None),
     }

@@ -2,11 +2,11 @@ use Rattle.std.proofs.Common.{◌≡◌, ◌==◌, ◌-◌, length, rules, tests
 use Rattle.std.proofs.lemmas.List.{length_push}
 use Rattle.std.proofs.lemmas.Iterator.Consumers.{YieldsList-turn, YieldsList-end}
 use Rattle.std.proofs.lemmas.Iterator.Splits.{YieldsList-from_slice_split}
-use Rattle.scripts.specs.Fields.{lines_of}
-use Rattle.thread_scripts.specs.Plans.{stage_value, plan_value, ends_line, line_count}
-use Rattle.thread_scripts.proofs.Counts.{line_count-next}
-use Rattle.thread_scripts.proofs.Readings.{one_more, first_bad, all_good, plan_in-bad, plan_in-seedless, plan_in-whole}
-use Rattle.thread_scripts.proofs.reading.read_plan.Goals as goal
+use Rattle.streams.specs.Fields.{lines_of}
+use Rattle.thread_plans.specs.Plans.{stage_value, plan_value, ends_line, line_count}
+use Rattle.thread_plans.proofs.Counts.{line_count-next}
+use Rattle.thread_plans.proofs.Readings.{one_more, first_bad, all_good, plan_in-bad, plan_in-seedless, plan_in-whole}
+use Rattle.thread_plans.proofs.reading.read_plan.Goals as goal
 
 pub returns-in_default-clause-bad : goal.returns-in_default-clause-bad
 returns-in_default-clause-bad c = λ line e.

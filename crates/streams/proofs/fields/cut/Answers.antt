@@ -3,8 +3,8 @@ use Rattle.std.specs.List.{position}
 use Rattle.std.proofs.lemmas.Bool.Decides.{nat_tests}
 use Rattle.std.proofs.lemmas.List.Quantifiers.{position-Some}
 use Rattle.std.proofs.lemmas.Str.{IsCharBoundary-before_ascii, IsCharBoundary-after_ascii}
-use Rattle.scripts.specs.Fields.{is_space}
-use Rattle.scripts.proofs.fields.cut.Goals as goal
+use Rattle.streams.specs.Fields.{is_space}
+use Rattle.streams.proofs.fields.cut.Goals as goal
 
 -- a space is a byte of the text, and ASCII
 space_at : (text : List ℕ) (i : ℕ) → position is_space text ≡ Some i → (i < length text) × (get_or text i 0 < 128)

@@ -2,12 +2,12 @@
 
 ghost use Rattle.std.specs.Prelude.{◌≡◌, ◌≤◌, ◌⊎◌, ℕ, length, IfErr, IfOk};
 ghost use Rattle.streams.specs.declared.fault.ScriptFault.TheVariants.{BadLine, OutOfMemory};
-ghost use Rattle.thread_scripts.specs.Plans.{ends_line, plan_in, plan_value};
+ghost use Rattle.thread_plans.specs.Plans.{ends_line, plan_in, plan_value};
 
 use crate::plan::ThreadPlan;
 use crate::stage::{Stage, after_text, whole_plan};
-use scripts::{MOST_BYTES, ScriptFault};
 use std::alloc::Global;
+use streams::{MOST_BYTES, ScriptFault};
 
 // Whether nothing stands behind the last newline.
 fn ends_line(script: &[u8]) -> bool

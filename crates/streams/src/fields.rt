@@ -2,7 +2,7 @@
 
 ghost use Rattle.std.specs.Prelude.{◌≡◌, option_map};
 ghost use Rattle.std.specs.List.{position};
-ghost use Rattle.scripts.specs.Fields.{is_space, cut_of, field_of, field_cut_of, byte_cut_of};
+ghost use Rattle.streams.specs.Fields.{is_space, cut_of, field_of, field_cut_of, byte_cut_of};
 
 use decimals::byte;
 

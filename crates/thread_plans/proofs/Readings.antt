@@ -1,8 +1,8 @@
 -- What one line of a script comes to, and the lines after it.
 use Rattle.std.proofs.Common.{◌≡◌, ℕ, ◌+◌, ◌<◌, List, length, get_or, drop, Option, Some, None, Result, Ok, Err, sym, ap, ◌∙◌, arith}
 use Rattle.std.proofs.lemmas.List.{at_drop_more, at_drop_all}
-use Rattle.scripts.specs.Fields.{lines_of}
-use Rattle.thread_scripts.specs.Plans.{PlanValue, StageValue, empty, ◌>>=◌, or_line, after_text, stage_from, whole_plan, line_count, plan_in}
+use Rattle.streams.specs.Fields.{lines_of}
+use Rattle.thread_plans.specs.Plans.{PlanValue, StageValue, empty, ◌>>=◌, or_line, after_text, stage_from, whole_plan, line_count, plan_in}
 
 module _ (lines : List (List ℕ)) (n : ℕ) (s : StageValue) (number : ℕ) where
   stage_from-drop : (line : List ℕ) → n < length lines → line ≡ get_or lines n line →

@@ -1,0 +1,14 @@
+//! The plans of scripts that drive nodes from threads: what each line asks for, and what the lines come
+//! to.
+#![tactic(auto)]
+
+mod call;
+mod line;
+mod plan;
+mod reading;
+mod stage;
+
+pub use call::Start;
+pub use plan::{Block, CallLine, Size, StartLine, ThreadPlan};
+pub use reading::read_plan;
+pub use stage::blocks_at;
