@@ -6,7 +6,7 @@ use super::*;
 const TRIGGERS: u32 = 858_993_459;
 
 // What the events are answered, each as it begins in print: of a message that is enough.
-const ANSWERS: [&str; 14] = [
+const ANSWERS: &[&str] = &[
     "Ok(Set(Stamp { clock: 1, node: 0 }))",
     "Ok(Shift(2))",
     "Err(Refused(TooFewRights { have: 3 }))",
@@ -47,8 +47,7 @@ fn deliver(node: u8, message: u32) -> Event<'static> {
 
 fn events(alloc: Global) -> Result<Vec<Event<'static>>, AllocError> {
     let words = Vec::from_slice(alloc, &[TRIGGERS])?;
-    let mut events = Vec::new(alloc);
-    for event in [
+    let events = [
         set(0, "20%5*off"),
         shift(2),
         shift(4),
@@ -75,10 +74,8 @@ fn events(alloc: Global) -> Result<Vec<Event<'static>>, AllocError> {
             text: "a=off;b=off",
         },
         set(2, "off"),
-    ] {
-        events.push(event)?;
-    }
-    Ok(events)
+    ];
+    Ok(Vec::from_array(alloc, events)?)
 }
 
 // A run at a new cluster, without what its contract says.
@@ -87,11 +84,15 @@ fn run(alloc: Global, events: &[Event<'static>]) -> Result<RunReport, Fail> {
     Ok(world.run(alloc, events)?)
 }
 
+// Whether an answer begins so in print.
+fn begins<T: Debug>(alloc: Global, answer: &T, wanted: &str) -> Result<bool, AllocError> {
+    Ok(format!(in alloc; "{answer:?}")?.starts_with(wanted))
+}
+
 // The number of the first event that is answered otherwise.
 fn first_other(alloc: Global, report: &RunReport) -> Result<Option<usize>, AllocError> {
-    for (event, (answer, wanted)) in report.answers.iter().zip(ANSWERS).enumerate() {
-        let text = format!(in alloc; "{answer:?}")?;
-        if !text.starts_with(wanted) {
+    for (event, (answer, wanted)) in report.answers.iter().zip(ANSWERS.iter()).enumerate() {
+        if !begins(alloc, answer, wanted)? {
             return Ok(Some(event));
         }
     }
@@ -102,7 +103,7 @@ fn first_other(alloc: Global, report: &RunReport) -> Result<Option<usize>, Alloc
 fn a_run_answers_each_event(rt: HostRuntime) -> Result<(), Fail> {
     let events = events(rt.alloc())?;
     let report = run(rt.alloc(), &events)?;
-    assert_eq!(rt; report.answers.len(), ANSWERS.len());
-    assert_eq!(rt; first_other(rt.alloc(), &report)?, None);
+    let found = (report.answers.len(), first_other(rt.alloc(), &report)?);
+    expect(&rt, &found, &(ANSWERS.len(), None));
     Ok(())
 }
