@@ -13,7 +13,7 @@ use Rattle.node_calls.specs.declared.reply.Reply.{Reply}
 use Rattle.node_calls.specs.declared.reply.Reply.TheVariants as replies
 use Rattle.node_calls.specs.declared.trace.Entry.{Entry}
 use Rattle.node_core.specs.Applied.{TellsIfEmit}
-use Rattle.node_calls.specs.Asks.{Asked, Answered, Call, Message, call, ask_value, ask_value_first, bare_emit, emit_asked, emit_of, message_read, reply_value}
+use Rattle.node_calls.specs.Asks.{Asked, Answered, Call, Message, answered_from, asked_from, call, ask_value, ask_value_first, bare_emit, emit_asked, emit_of, message_read, reply_value}
 use Rattle.node_calls.specs.Asks as asks
 use Rattle.node_core.specs.Deliveries.{TellsDelta}
 use Rattle.node_core.specs.Nodes.{Node, start}
@@ -21,10 +21,11 @@ use Rattle.node_core.specs.Steps.{after, reply}
 use Rattle.node_core.specs.Refusals.{refusal_at}
 use Rattle.node_core.specs.Traces.{Kept, node_of, refusal, reply_to, call_of, Records, IsRefusalOf, SendsDelta, IsLegal, IsLegalFrom}
 use Rattle.node_core.proofs.LegalTraces.{legal_more, nothing_legal}
-use Rattle.node_core.proofs.RepliedDelta.{delta_sends, delta_bytes}
+use Rattle.node_core.proofs.RepliedDelta.{call_sends, delta_bytes}
 use Rattle.cluster_model.specs.Laws.{IsLegalEmit}
 use Rattle.cluster_model.specs.Worlds.{config_of}
-use Rattle.node_calls.specs.Told.{ReplyTold, was_set, was_removed, was_loaded, was_passed, was_shifted, was_granted, was_emitted, was_delivered, reply_told}
+use Rattle.node_calls.specs.Told as tells_of
+use Rattle.node_calls.specs.Told.{ReplyTold, ask_told, was_set, was_removed, was_loaded, was_passed, was_shifted, was_granted, was_emitted, was_delivered, reply_told}
 use Rattle.audit.specs.Traces.{Traces, trace_of, audited, IsLegalAlone, AllLegal, IsFirstWrong}
 use Rattle.audit.specs.Replays.{IsLegalKept, with_call}
 use Rattle.audit.proofs.LegalCalls.{IsLegalCall, legal_parts, legal_short}
@@ -32,55 +33,6 @@ use Rattle.audit.proofs.Runs.{trace_past}
 use Rattle.audit.proofs.Steps.{take_one_more}
 
 -- ---- replies by what they tell
-
-value_told : ℕ → ReplyTold → Answered
-value_told nodes (was_set stamp) = asks.IsSet stamp
-value_told nodes (was_removed stamp) = asks.IsRemoved stamp
-value_told nodes (was_loaded entries) = asks.IsLoaded entries
-value_told nodes (was_passed outcome) = asks.IsPassed outcome
-value_told nodes (was_shifted total) = asks.IsShifted total
-value_told nodes (was_granted total) = asks.IsGranted total
-value_told nodes (was_emitted bytes) = asks.IsEmitted (message_read nodes bytes)
-value_told nodes (was_delivered changed) = asks.IsDelivered changed
-
-value_is : (nodes : ℕ) (r : Reply) → reply_value nodes r ≡ value_told nodes (reply_told r)
-unfolding value_told
-value_is nodes (replies.Set stamp) = refl
-value_is nodes (replies.Remove stamp) = refl
-value_is nodes (replies.Load entries) = refl
-value_is nodes (replies.Pass passed) = refl
-value_is nodes (replies.Shift total) = refl
-value_is nodes (replies.Grant total) = refl
-value_is nodes (replies.Emit bytes) = refl
-value_is nodes (replies.Deliver changed) = refl
-
-emit_told : ℕ → ℕ → ReplyTold → Asked
-emit_told nodes to (was_emitted bytes) = emit_of to (message_read nodes bytes)
-emit_told nodes to _ = bare_emit to
-
-emit_is : (nodes to : ℕ) (r : Reply) → emit_asked nodes to r ≡ emit_told nodes to (reply_told r)
-unfolding emit_told
-emit_is nodes to (replies.Set stamp) = refl
-emit_is nodes to (replies.Remove stamp) = refl
-emit_is nodes to (replies.Load entries) = refl
-emit_is nodes to (replies.Pass passed) = refl
-emit_is nodes to (replies.Shift total) = refl
-emit_is nodes to (replies.Grant total) = refl
-emit_is nodes to (replies.Emit bytes) = refl
-emit_is nodes to (replies.Deliver changed) = refl
-
-same_value : (nodes : ℕ) (r s : Reply) → reply_told r ≡ reply_told s → reply_value nodes r ≡ reply_value nodes s
-same_value nodes r s same = value_is nodes r ∙ ap (value_told nodes) same ∙ sym (value_is nodes s)
-
-same_asked : (nodes : ℕ) (ask : Ask) (r s : Reply) → reply_told r ≡ reply_told s → ask_value nodes ask r ≡ ask_value nodes ask s
-same_asked nodes (asked.Emit to) r s same = emit_is nodes to r ∙ ap (emit_told nodes to) same ∙ sym (emit_is nodes to s)
-same_asked nodes (asked.Set name text) r s same = refl
-same_asked nodes (asked.Remove name) r s same = refl
-same_asked nodes (asked.Load text) r s same = refl
-same_asked nodes (asked.Pass name) r s same = refl
-same_asked nodes (asked.Shift name term to amount) r s same = refl
-same_asked nodes (asked.Grant name term amount) r s same = refl
-same_asked nodes (asked.Deliver bytes) r s same = refl
 
 is_emitted : Answered → Bool
 is_emitted (asks.IsEmitted read) = true
@@ -113,26 +65,6 @@ same_told nodes r s a p q none =
     told_again nodes r (ap is_emitted p ∙ none) ∙ ap told_by (p ∙ sym q) ∙ sym (told_again nodes s (ap is_emitted q ∙ none))
 
 -- ---- an emit
-
-emit_sends : (k : Kept) (to : ℕ) (reply : Reply) → TellsIfEmit k (asked.Emit to) reply → SendsDelta (node_of k) (emit_asked k.config.nodes to reply)
-emit_sends k to (replies.Emit bytes) tells = delta_sends k to bytes.items tells
-emit_sends k to (replies.Set stamp) tells = absurd tells
-emit_sends k to (replies.Remove stamp) tells = absurd tells
-emit_sends k to (replies.Load entries) tells = absurd tells
-emit_sends k to (replies.Pass passed) tells = absurd tells
-emit_sends k to (replies.Shift total) tells = absurd tells
-emit_sends k to (replies.Grant total) tells = absurd tells
-emit_sends k to (replies.Deliver changed) tells = absurd tells
-
-sends : (k : Kept) (ask : Ask) (reply : Reply) → TellsIfEmit k ask reply → SendsDelta (node_of k) (ask_value k.config.nodes ask reply)
-sends k (asked.Emit to) reply tells = emit_sends k to reply tells
-sends k (asked.Set name text) reply tells = tt
-sends k (asked.Remove name) reply tells = tt
-sends k (asked.Load text) reply tells = tt
-sends k (asked.Pass name) reply tells = tt
-sends k (asked.Shift name term to amount) reply tells = tt
-sends k (asked.Grant name term amount) reply tells = tt
-sends k (asked.Deliver bytes) reply tells = tt
 
 refuses_third : (a b : Option NodeFault) (fault : NodeFault) → first_fault (a ∷ b ∷ Some fault ∷ []) ≡ None → ⊥
 refuses_third (Some x) b fault h = cc
@@ -179,7 +111,7 @@ next_parts k c legal =
     subst (λ l. IsLegalCall k.config l (node_of k) c) from_0 (legal_parts k.config 0 start k.trace c legal).1
 
 module _ (k new : Kept) (e made : Entry) (words : List ℕ) (given_words : words ≡ e.words.items) (legal : IsLegalKept k)
-    (asked_so : (call_of k made).ask ≡ ask_value k.config.nodes e.ask made.reply) (records : Records k new (call_of k made) words) (tells : TellsIfEmit k e.ask made.reply) where
+    (asked_so : (call_of k made).ask ≡ ask_value k.config.nodes e.ask made.reply) (records : Records k new (call_of k made) words) (tells : TellsIfEmit k (ask_told e.ask) made.reply) where
   made_call : Call
   made_call = call_of k made
 
@@ -188,9 +120,9 @@ module _ (k new : Kept) (e made : Entry) (words : List ℕ) (given_words : words
 
   same_call : reply_told made.reply ≡ reply_told e.reply → call_of k made ≡ call_of k e
   same_call same = λ i. record {
-    ask = (asked_so ∙ same_asked k.config.nodes e.ask made.reply e.reply same) i;
+    ask = (asked_so ∙ ap (asked_from k.config.nodes (ask_told e.ask)) same) i;
     words = (words_are ∙ given_words) i;
-    reply = same_value k.config.nodes made.reply e.reply same i;
+    reply = ap (answered_from k.config.nodes) same i;
   }
 
   made_legal : IsLegalKept (with_call k (call_of k made))
@@ -198,7 +130,7 @@ module _ (k new : Kept) (e made : Entry) (words : List ℕ) (given_words : words
       let from_0 : length k.trace ≡ 0 + length k.trace = omega arith in
       subst (λ c. IsLegalKept (with_call k c)) (sym records.1)
       (legal_more k.config 0 start k.trace (call_of k made).ask words legal (subst (λ l. refusal_at k.config l (node_of k) (call_of k made).ask words ≡ None) from_0 records.0)
-      (subst (λ a. SendsDelta (node_of k) a) (sym asked_so) (sends k e.ask made.reply tells)))
+      (subst (λ a. SendsDelta (node_of k) a) (sym asked_so) (call_sends k (ask_told e.ask) made.reply tells)))
 
   new_is : new ≡ with_call k (call_of k made)
   new_is = records.2 ∙ ap (λ c. with_call k c) (sym records.1)
@@ -211,7 +143,7 @@ module _ (k new : Kept) (e made : Entry) (words : List ℕ) (given_words : words
 
 -- an ask is answered in one way: what is legal tells what the node replies
 emit_same : (k : Kept) (to : ℕ) (words : List ℕ) (made given : Reply) → ((bytes : List ℕ) → reply_told given ≡ was_emitted bytes → IsLegalEmit k to bytes) →
-    TellsIfEmit k (asked.Emit to) made → IsLegalKept (with_call k (record { ask = emit_asked k.config.nodes to given; words = words; reply = reply_value k.config.nodes given })) →
+    TellsIfEmit k (tells_of.emits to) made → IsLegalKept (with_call k (record { ask = emit_asked k.config.nodes to given; words = words; reply = reply_value k.config.nodes given })) →
     reply_told made ≡ reply_told given
 unfolding is_emitted
 emit_same k to words (replies.Emit ours) (replies.Emit theirs) emits tells legal =
@@ -236,7 +168,7 @@ emit_same k to words (replies.Grant total) given emits tells legal = absurd tell
 emit_same k to words (replies.Deliver changed) given emits tells legal = absurd tells
 
 answer_same : (k : Kept) (ask : Ask) (words : List ℕ) (made given : Reply) → ((to : ℕ) (bytes : List ℕ) → reply_told given ≡ was_emitted bytes → IsLegalEmit k to bytes) →
-    TellsIfEmit k ask made → reply_value k.config.nodes made ≡ reply_to k (ask_value k.config.nodes ask made) words →
+    TellsIfEmit k (ask_told ask) made → reply_value k.config.nodes made ≡ reply_to k (ask_value k.config.nodes ask made) words →
     IsLegalKept (with_call k (record { ask = ask_value k.config.nodes ask given; words = words; reply = reply_value k.config.nodes given })) →
     reply_told made ≡ reply_told given
 unfolding is_emitted
@@ -251,7 +183,7 @@ answer_same k (asked.Deliver bytes) words made given emits tells answered legal 
 
 -- where the node replies otherwise, the entry isn't legal
 pub not_given : (k new : Kept) (e made : Entry) → ((to : ℕ) (bytes : List ℕ) → reply_told e.reply ≡ was_emitted bytes → IsLegalEmit k to bytes) →
-    (call_of k made).ask ≡ ask_value k.config.nodes e.ask made.reply → Records k new (call_of k made) e.words.items → TellsIfEmit k e.ask made.reply →
+    (call_of k made).ask ≡ ask_value k.config.nodes e.ask made.reply → Records k new (call_of k made) e.words.items → TellsIfEmit k (ask_told e.ask) made.reply →
     (reply_told made.reply ≡ reply_told e.reply → ⊥) → IsLegalKept (with_call k (call_of k e)) → ⊥
 not_given k new e made emits asked_so records tells differs legal =
     let answered : reply_value k.config.nodes made.reply ≡ reply_to k (call_of k made).ask e.words.items = ap (λ (c : Call). c.reply) records.1 in

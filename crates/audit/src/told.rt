@@ -2,9 +2,8 @@
 
 ghost use Rattle.std.specs.Prelude.{◌≡◌, ◌↔◌, IsTrue, option_map, string_bytes, slice_get};
 ghost use Rattle.std.specs.Option.{option_copied};
-ghost use Rattle.node_calls.specs.Asks.{passed};
 ghost use Rattle.actions.specs.Value.{task_value};
-ghost use Rattle.node_calls.specs.Told.{ask_told, reply_told, told, bytes_emitted, bytes_delivered};
+ghost use Rattle.node_calls.specs.Told.{ask_told, reply_told, told, bytes_emitted, bytes_delivered, passed};
 
 use actions::Task;
 use node_core::{Ask, Entry, PassReply, Reply, Trace};

@@ -10,7 +10,8 @@ use Rattle.counters.specs.Sums.{node_numbers}
 use Rattle.stamp_register.specs.Keys.{KeyValue, terms_in_text}
 use Rattle.operations.specs.Operations.{Shifts, Operation, Set, Count, same_cell}
 use Rattle.replica_state.specs.Folds.{fold}
-use Rattle.node_calls.specs.Asks.{Message, NoTerm, Act}
+use Rattle.node_calls.specs.Asks.{Message}
+use Rattle.node_calls.specs.Told.{NoTerm, Act}
 use Rattle.node_calls.specs.Asks as asks
 use Rattle.node_core.specs.Steps.{after}
 use Rattle.cluster_model.specs.Worlds.{Event}

@@ -11,7 +11,8 @@ use Rattle.stamp_register.specs.Keys.{KeyValue, terms_in_text}
 use Rattle.operations.specs.Operations.{Hits, Execs, Shifts, Operation, Set, Count, IsIn, same_cell}
 use Rattle.replica_state.specs.States.{rights_of, spent_of, total_hits}
 use Rattle.replica_state.specs.Folds.{fold}
-use Rattle.node_calls.specs.Asks.{Message, NoTerm, Act}
+use Rattle.node_calls.specs.Asks.{Message}
+use Rattle.node_calls.specs.Told.{NoTerm, Act}
 use Rattle.node_calls.specs.Asks as asks
 use Rattle.node_core.specs.Steps.{after}
 use Rattle.cluster_model.specs.Worlds.{Event}

@@ -12,7 +12,8 @@ use Rattle.stamp_register.specs.Keys.{KeyValue, terms_in_text}
 use Rattle.operations.specs.Operations.{Hits, Execs, Shifts, Operation, Set, Count, IsIn, same_cell}
 use Rattle.replica_state.specs.Folds.{fold}
 use Rattle.replica_state.specs.Deltas.{IsTold, IsDelta}
-use Rattle.node_calls.specs.Asks.{Message, Act}
+use Rattle.node_calls.specs.Asks.{Message}
+use Rattle.node_calls.specs.Told.{Act}
 use Rattle.node_calls.specs.Asks as asks
 use Rattle.node_core.specs.Steps.{after}
 use Rattle.node_core.specs.Traces.{refusal}

@@ -13,7 +13,8 @@ use Rattle.operations.specs.Operations.{Hits, Execs, Shifts, Operation, Set, Cou
 use Rattle.replica_state.specs.States.{spent_of}
 use Rattle.replica_state.specs.Folds.{fold}
 use Rattle.node_calls.specs.declared.fault.NodeFault.TheVariants as faults
-use Rattle.node_calls.specs.Asks.{Message, Act}
+use Rattle.node_calls.specs.Asks.{Message}
+use Rattle.node_calls.specs.Told.{Act}
 use Rattle.node_calls.specs.Asks as asks
 use Rattle.node_core.specs.Steps.{after}
 use Rattle.node_core.specs.Refusals.{refusal_at}

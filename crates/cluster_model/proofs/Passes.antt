@@ -8,7 +8,7 @@ use Rattle.operations.specs.Operations.{Operation, count_at, count_of, count_und
 use Rattle.replica_state.specs.States.{State}
 use Rattle.node_core.specs.declared.config.Config.{Config}
 use Rattle.node_calls.specs.declared.fault.NodeFault.{NodeFault}
-use Rattle.node_calls.specs.Asks.{Passed, Unset, NoTerm, Act}
+use Rattle.node_calls.specs.Told.{Passed, Unset, NoTerm, Act}
 use Rattle.node_calls.specs.Asks as asks
 use Rattle.node_core.specs.Nodes.{Node, state_shown, setting_of}
 use Rattle.node_core.specs.Passes.{has_rights_of, may_run, task_in, triggered_term, next_hit, next_exec, execs_of_choice, execs_of_term, reply_of_choice, ops_of_pass, reply_of_pass}

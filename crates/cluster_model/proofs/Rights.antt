@@ -14,7 +14,8 @@ use Rattle.replica_state.specs.Folds.{fold, key_in, key_of, number_at, at_key}
 use Rattle.replica_state.proofs.Orders.{bytes_eq-true, same_key-refl, same_key-true}
 use Rattle.replica_state.proofs.Sets.{number_at-mono, KeyUpto, KeyUpto-antisym, KeyUpto-same, key_of-is_in, key_of-least, key_of-mono}
 use Rattle.operations.proofs.Members.{IsIn-append_cases}
-use Rattle.node_calls.specs.Asks.{Asked, Passed}
+use Rattle.node_calls.specs.Asks.{Asked}
+use Rattle.node_calls.specs.Told.{Passed}
 use Rattle.node_calls.specs.Asks as asks
 use Rattle.node_core.specs.Nodes.{Node, state_shown}
 use Rattle.node_core.specs.Passes.{has_rights_of}

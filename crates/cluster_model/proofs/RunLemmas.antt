@@ -1,4 +1,4 @@
--- The answers f a run nswers f one with an event more.
+-- The answers of a run, and those of one with an event more.
 use Rattle.std.proofs.Common.{◌≡◌, ◌≢◌, ℕ, ◌+◌, ◌==◌, arith, cond, ◌⊎◌, inl, inr, List, [], ◌∷◌, ◌++◌, length, refl, sym, ◌∙◌, ap, subst, Option, Some, None, Ok, Err}
 use Rattle.std.proofs.lemmas.Bool.{cases_eq, eq-eqb, ne_eqb}
 use Rattle.std.proofs.lemmas.List.{length-set}
@@ -19,7 +19,7 @@ use Rattle.cluster_model.specs.declared.fault.WorldFault.TheVariants.{Refused}
 use Rattle.cluster_model.specs.Worlds.{Cluster, Event}
 use Rattle.cluster_model.specs.Histories.{all_learnt, acts, executions, all_executions}
 use Rattle.cluster_model.specs.Laws.{kept, IsOwnReason, EscrowHolds}
-use Rattle.cluster_model.specs.Events.{WorldValue, EventValue, sets, removes, loads, passes, shifts, grants, emits, delivers, node_asked, words_given, Answer, answer, answer_at, answer_to, refused_or}
+use Rattle.cluster_model.specs.Events.{WorldValue, EventValue, calls, delivers, node_asked, words_given, Answer, answer, answer_at, answer_to, refused_or}
 use Rattle.cluster_model.specs.Runs.{IsAnswer, Continues, after_answer, AreAnswers, after_answers, happened, happened_after, HasHistory, Afterwards, HoldsWhatItLearnt, tells_act, TellsExecutions, IsOwnAnswer, IsHonestAnswer, AreHonest}
 use Rattle.cluster_model.proofs.Lists.{get_below, get_in}
 use Rattle.cluster_model.proofs.Closed.{deltas_are_schedules}
@@ -96,13 +96,7 @@ module _ (c : Cluster) (past : List Event) (w : WorldValue) (has : HasHistory c 
   pub honest_answer : (e : EventValue) (a : Answer) → IsAnswer w e a → IsHonestAnswer e a
   honest_answer (delivers i number) a (inl p) = subst IsOwnAnswer (sym p) (inl refl)
   honest_answer (delivers i number) a (inr p) = subst IsOwnAnswer (sym p) (honest_delivery i number)
-  honest_answer (sets node name text) a p = tt
-  honest_answer (removes node name) a p = tt
-  honest_answer (loads node text) a p = tt
-  honest_answer (passes node name words) a p = tt
-  honest_answer (shifts node name term to amount) a p = tt
-  honest_answer (grants node name term amount) a p = tt
-  honest_answer (emits node to) a p = tt
+  honest_answer (calls node ask words) a p = tt
 
   pub holds_what_it_learnt : HoldsWhatItLearnt c past w
   holds_what_it_learnt =

@@ -1,171 +1,217 @@
 -- What an accepted event comes to: its answer, the world after it, and the history of that.
-use Rattle.std.proofs.Common.{◌≡◌, inl, inr, ℕ, ◌+◌, ◌-◌, ◌<◌, ◌≤◌, arith, List, [], ◌∷◌, ◌++◌, length, map, refl, sym, ◌∙◌, ap, subst, Option, Some, None, Ok, Err, IsSome, IfSome}
-use Rattle.std.proofs.lemmas.Bool.{true≢false}
+use Rattle.std.proofs.Common.{◌≡◌, inl, inr, ℕ, ◌+◌, ◌-◌, ◌<◌, ◌≤◌, arith, Bool, false, List, [], ◌∷◌, ◌++◌, length, map, refl, sym, ◌∙◌, ap, subst, Option, Some, None, Ok, Err}
 use Rattle.std.proofs.lemmas.List.{length_push}
 use Rattle.std.proofs.lemmas.Option.{slice_get-map, slice_get_past, slice_get_read}
 use Rattle.std.specs.Prelude.{slice_get, slice_set, option_map, option_and_then, get_or}
 use Rattle.node_calls.specs.declared.fault.NodeFault.{NodeFault}
-use Rattle.node_calls.specs.declared.reply.Reply.{Reply}
-use Rattle.node_calls.specs.Asks.{Asked, Answered, Call, Message, reply_value, emit_of, message_read, bare_emit, IsEmitted}
-use Rattle.node_calls.specs.Asks as asks
-use Rattle.node_core.specs.Lasts.{last_call}
 use Rattle.node_calls.specs.declared.fault.NodeFault.TheVariants.{OutOfMemory}
+use Rattle.node_calls.specs.declared.reply.Reply.{Reply}
+use Rattle.node_calls.specs.declared.reply.Reply.TheVariants as replies
+use Rattle.node_calls.specs.Told.{AskTold, emits, reply_told}
+use Rattle.node_calls.specs.Told as told
+use Rattle.node_calls.specs.Asks.{Asked, Answered, Call, Message, asked_first, asked_from, bare_emit, emit_of, message_read, reply_value}
+use Rattle.node_calls.specs.Asks as asks
+use Rattle.node_core.specs.Applied.{TellsIfEmit}
 use Rattle.node_core.specs.Deliveries.{TellsDelta}
-use Rattle.node_core.specs.Traces.{Kept, entry_for, Accepts, Emits, IsRefusalOf, after_call, delivery_of, emission_of, refusal, reply_to}
+use Rattle.node_core.specs.Lasts.{last_call}
+use Rattle.node_core.specs.Traces.{Kept, entry_for, Accepts, IsRefusalOf, SendsDelta, after_call, delivery_of, emission_of, node_of, refusal, reply_to}
 use Rattle.cluster_model.specs.declared.world.Place.{Place}
 use Rattle.cluster_model.specs.declared.fault.WorldFault.TheVariants.{NoNode, NoMessage, Refused}
-use Rattle.cluster_model.specs.Worlds.{Cluster, Event}
-use Rattle.cluster_model.specs.Events.{WorldValue, EventValue, Answer, last_reply, emits, delivers, message_made, node_asked, words_given, own_ask, asked_by, answer, world_after, scheduled}
+use Rattle.cluster_model.specs.Worlds.{Cluster, Event, sent}
+use Rattle.cluster_model.specs.Events.{WorldValue, EventValue, Answer, last_reply, calls, delivers, has_message, call_asked, message_made, node_asked, words_given, asked_by, answer, world_after, scheduled}
 use Rattle.cluster_model.specs.Places.{IsEmit, IsEmitOf, IsPlace, IsWorld, AreSizes, message_at, world_of}
 use Rattle.cluster_model.specs.Runs.{Continues, HasHistory, IsAnswer, happened}
 use Rattle.cluster_model.proofs.Lists.{get_below, get_there, get_set_same, get_last}
 use Rattle.cluster_model.proofs.Placed.{message_is, world_stays, world_pushed}
 use Rattle.cluster_model.proofs.WorldSteps.{IsAccepted, accepts, accepted_answer, accepted_after, goes_on}
-use Rattle.cluster_model.proofs.WorldCalls.{no_node_answer, no_message_answer, refused_answer, own_asked, own_sends, own_after, own_answer, silent_after, emission_is, emission_sends, place_made, emitted_after, emitted_answer}
-
--- ---- a call of one of the nodes
-
-abbrev pub AcceptsAt : List Kept → List Kept → ℕ → Asked → List ℕ → Answered → Type 0
-AcceptsAt nodes new i ask words reply = (k : Kept) → slice_get nodes i ≡ Some k →
-    (refusal k ask words ≡ None) × (reply_to k ask words ≡ reply)
-    × (new ≡ slice_set nodes i (after_call k ask words))
-
-abbrev pub RefusesAt : List Kept → ℕ → Asked → List ℕ → NodeFault → Type 0
-RefusesAt nodes i ask words fault =
-    (k : Kept) → slice_get nodes i ≡ Some k → IsRefusalOf k ask words fault
+use Rattle.cluster_model.proofs.WorldCalls.{no_node_answer, no_message_answer, refused_answer, IsSilent, silent, silent_after, emission_is, emission_sends, place_made, emitted_after, emitted_answer}
 
 -- ---- an event is accepted with this reply, and these are the nodes and messages after it
 
-pub record Fits (nodes : List Kept) (places : List Place) (after : List Kept) (places_after : List Place) (e : EventValue) (reply : Answered) : Type 0 where
-  pub answer_is : answer (world_of nodes places) e ≡ Ok reply
-  pub after_is : world_of after places_after ≡ world_after (world_of nodes places) e
+pub record Fits (w : WorldValue) (after : List Kept) (places_after : List Place) (e : EventValue) (reply : Answered) : Type 0 where
+  pub answer_is : answer w e ≡ Ok reply
+  pub after_is : world_of after places_after ≡ world_after w e
   pub good : IsWorld after places_after
-  pub history : Continues (world_of nodes places) (world_of after places_after) (happened (world_of nodes places) e (Ok reply))
+  pub history : Continues w (world_of after places_after) (happened w e (Ok reply))
 
-module _ (nodes : List Kept) (places : List Place) (good : IsWorld nodes places) where
+continued : (w new : WorldValue) (e : EventValue) (reply : Answered) → new ≡ world_after w e
+    → ((c : Cluster) (past : List Event) → HasHistory c past w → HasHistory c (scheduled w e ++ past) (world_after w e))
+    → Continues w new (happened w e (Ok reply))
+continued w new e reply is goes c past has = subst (HasHistory c (scheduled w e ++ past)) (sym is) (goes c past has)
+
+-- the nodes and messages of a world as the code holds them, and one of its nodes
+pub record IsAtHand (nodes : List Kept) (places : List Place) (w : WorldValue) (i : ℕ) (k : Kept) : Type 0 where
+  pub good : IsWorld nodes places
+  pub view : world_of nodes places ≡ w
+  pub there : slice_get nodes i ≡ Some k
+
+pub at_hand : (nodes : List Kept) (places : List Place) (w : WorldValue) (i : ℕ) (k : Kept) → IsWorld nodes places → world_of nodes places ≡ w → i < length w.nodes → k ≡ get_or nodes i k → IsAtHand nodes places w i k
+at_hand nodes places w i k good view low read = record {
+  good = good;
+  view = view;
+  there = slice_get_read nodes (length nodes) i k refl (subst (λ (w : WorldValue). i < length w.nodes) (sym view) low) read;
+}
+
+pub some_hand : (nodes : List Kept) (places : List Place) (w : WorldValue) (i : ℕ) → IsWorld nodes places → world_of nodes places ≡ w → i < length w.nodes → (k : Kept) × IsAtHand nodes places w i k
+some_hand nodes places w i good view low =
+    let at : (k : Kept) × (slice_get nodes i ≡ Some k) = get_there nodes i (subst (λ (w : WorldValue). i < length w.nodes) (sym view) low) in
+    (at.0, record { good = good; view = view; there = at.1 })
+
+-- ---- an event that sends nothing
+
+module _ (nodes : List Kept) (places : List Place) (good : IsWorld nodes places) (e : EventValue) (k : Kept) (there : slice_get nodes (node_asked e) ≡ Some k) where
   abbrev w : WorldValue
   w = world_of nodes places
 
-  continued : (new : WorldValue) (e : EventValue) (reply : Answered) → new ≡ world_after w e
-      → ((c : Cluster) (past : List Event) → HasHistory c past w → HasHistory c (scheduled w e ++ past) (world_after w e))
-      → Continues w new (happened w e (Ok reply))
-  continued new e reply is goes c past has = subst (HasHistory c (scheduled w e ++ past)) (sym is) (goes c past has)
-
-  -- a call of the node's own
-  pub own_fits : (e : EventValue) (k : Kept) → slice_get nodes (node_asked e) ≡ Some k → (ask : Asked) → own_ask e ≡ Some ask
-      → (new : Kept) (reply : Answered) → Accepts k new ask (words_given e) reply
-      → Fits nodes places (slice_set nodes (node_asked e) new) places e reply
-  own_fits e k there ask own new reply accepts =
+  pub silent_fits : (a : Asked) → asked_by w.messages k e ≡ Some a → sent k.config.node (node_of k) (Some a) ≡ [] → SendsDelta (node_of k) a
+      → (new : Kept) (reply : Answered) → Accepts k new a (words_given e) reply → Fits w (slice_set nodes (node_asked e) new) places e reply
+  silent_fits a asked none sends new reply accepts =
       record {
-        answer_is = own_answer nodes places good e k there ask own accepts.0 ∙ ap (λ r. Ok r) accepts.1;
+        answer_is = accepted_answer w e k a is ∙ ap (λ r. Ok r) accepts.1;
         after_is = after_is;
-        good = subst (λ (n : Kept). IsWorld (slice_set nodes (node_asked e) n) places) (sym accepts.2) (world_stays nodes (node_asked e) k there ask (words_given e) places good);
-        history = continued _ e reply after_is (λ c past has. goes_on c past w has e k ask is (own_sends k e ask own));
+        good = subst (λ (n : Kept). IsWorld (slice_set nodes (node_asked e) n) places) (sym accepts.2) (world_stays nodes (node_asked e) k there a (words_given e) places good);
+        history = continued w _ e reply after_is (λ c past has. goes_on c past w has e k a is sends);
       }
     where
-      is : IsAccepted w e k ask
-      is = record { there = there; asked = own_asked w.messages k e ask own; agreed = accepts.0 }
+      is : IsAccepted w e k a
+      is = record { there = there; asked = asked; agreed = accepts.0 }
 
       after_is : world_of (slice_set nodes (node_asked e) new) places ≡ world_after w e
-      after_is = ap (λ (n : Kept). world_of (slice_set nodes (node_asked e) n) places) accepts.2 ∙ own_after nodes places good e k there ask own accepts.0
+      after_is = ap (λ (n : Kept). world_of (slice_set nodes (node_asked e) n) places) accepts.2 ∙ silent_after nodes places good e k there a asked none accepts.0
 
-  -- what a delivery asks, of a message that stands at this place
-  pub delivery_asked : (i number : ℕ) (k : Kept) (place : Place) → slice_get places number ≡ Some place
-      → asked_by w.messages k (delivers i number) ≡ Some (asks.Deliver (Ok (message_at nodes place)))
-  delivery_asked i number k place found =
-      ap (option_map (λ m. asks.Deliver (Ok m))) (slice_get-map (message_at nodes) places number ∙ ap (option_map (message_at nodes)) found)
+-- ---- a message, which stands where its sender's trace had its end
 
-  module _ (i number : ℕ) (k : Kept) (there : slice_get nodes i ≡ Some k) (place : Place) (found : slice_get places number ≡ Some place) where
-    abbrev delivery : Asked
-    delivery = asks.Deliver (Ok (message_at nodes place))
+module _ (nodes : List Kept) (places : List Place) (good : IsWorld nodes places) (i to : ℕ) (words : List ℕ) (k : Kept) (there : slice_get nodes i ≡ Some k) (bytes : List ℕ) (delta : TellsDelta k to bytes) where
+  abbrev before : WorldValue
+  before = world_of nodes places
 
-    taken : refusal k delivery [] ≡ None → IsAccepted w (delivers i number) k delivery
-    taken agreed = record { there = there; asked = delivery_asked i number k place found; agreed = agreed }
+  abbrev event : EventValue
+  event = calls i (emits to) words
 
-    pub delivery_fits : (after : List Kept) (reply : Answered) → AcceptsAt nodes after i delivery [] reply → Fits nodes places after places (delivers i number) reply
-    delivery_fits after reply accepts_at =
-        record {
-          answer_is = accepted_answer w (delivers i number) k delivery is ∙ ap (λ r. Ok r) accepts.1;
-          after_is = after_is;
-          good = subst (λ (ns : List Kept). IsWorld ns places) (sym accepts.2) (world_stays nodes i k there delivery [] places good);
-          history = continued _ (delivers i number) reply after_is (λ c past has. goes_on c past w has (delivers i number) k delivery is tt);
-        }
-      where
-        accepts : (refusal k delivery [] ≡ None) × (reply_to k delivery [] ≡ reply) × (after ≡ slice_set nodes i (after_call k delivery []))
-        accepts = accepts_at k there
+  abbrev emission : Asked
+  emission = emit_of to (Ok (message_made k to))
 
-        is : IsAccepted w (delivers i number) k delivery
-        is = taken accepts.0
+  abbrev place_of : Place
+  place_of = record { node = i; entry = length k.trace }
 
-        after_is : world_of after places ≡ world_after w (delivers i number)
-        after_is = ap (λ (ns : List Kept). world_of ns places) accepts.2 ∙ silent_after nodes places good (delivers i number) k there delivery (delivery_asked i number k place found) refl accepts.0
+  emission_fits : (new : Kept) (reply : Answered) → Accepts k new (emission_of k to bytes) words reply
+      → Fits before (slice_set nodes i new) (places ++ place_of ∷ []) event reply
+  emission_fits new reply given =
+      record {
+        answer_is = emitted_answer nodes places good i to words k there bytes delta made.0 ∙ ap (λ r. Ok r) made.1;
+        after_is = after_is;
+        good = subst (λ (n : Kept). IsWorld (slice_set nodes i n) (places ++ place_of ∷ [])) (sym made.2)
+            (world_pushed (slice_set nodes i (after_call k emission words)) places place_of (world_stays nodes i k there emission words places good) (place_made nodes places good i to words k there bytes delta));
+        history = continued before _ event reply after_is (λ c past has. goes_on c past before has event k emission is (emission_sends nodes places good i to words k there bytes delta));
+      }
+    where
+      made : Accepts k new emission words reply
+      made = subst (λ (a : Asked). Accepts k new a words reply) (emission_is nodes places good i to words k there bytes delta) given
 
-  -- a message, which stands where its sender's trace had its end
-  module _ (i to : ℕ) (k : Kept) (there : slice_get nodes i ≡ Some k) (bytes : List ℕ) (told : TellsDelta k to bytes) where
-    abbrev emission : Asked
-    emission = emit_of to (Ok (message_made k to))
+      is : IsAccepted before event k emission
+      is = record { there = there; asked = refl; agreed = made.0 }
 
-    abbrev place_of : Place
-    place_of = record { node = i; entry = length k.trace }
-
-    pub emission_fits : (new : Kept) → Emits k new to bytes
-        → Fits nodes places (slice_set nodes i new) (places ++ place_of ∷ []) (emits i to) (IsEmitted (message_read k.config.nodes bytes))
-    emission_fits new made =
-        record {
-          answer_is = emitted_answer nodes places good i to k there bytes told made.0 ∙ ap (λ r. Ok r) (sym (ap (λ (a : Asked). reply_to k a []) same) ∙ made.1);
-          after_is = after_is;
-          good = subst (λ (n : Kept). IsWorld (slice_set nodes i n) (places ++ place_of ∷ [])) (sym new_is)
-              (world_pushed (slice_set nodes i (after_call k emission [])) places place_of (world_stays nodes i k there emission [] places good) (place_made nodes places good i to k there bytes told));
-          history = continued _ (emits i to) (IsEmitted (message_read k.config.nodes bytes)) after_is (λ c past has. goes_on c past w has (emits i to) k emission is (emission_sends nodes places good i to k there bytes told));
-        }
-      where
-        same : emission_of k to bytes ≡ emission
-        same = emission_is nodes places good i to k there bytes told
-
-        is : IsAccepted w (emits i to) k emission
-        is = record { there = there; asked = refl; agreed = made.0 }
-
-        new_is : new ≡ after_call k emission []
-        new_is = made.2 ∙ ap (λ (a : Asked). after_call k a []) same
-
-        after_is : world_of (slice_set nodes i new) (places ++ place_of ∷ []) ≡ world_after w (emits i to)
-        after_is = ap (λ (n : Kept). world_of (slice_set nodes i n) (places ++ place_of ∷ [])) new_is ∙ emitted_after nodes places good i to k there bytes told made.0
-
--- of what an event asks of its node, if it is a call of its own
-pub own_given : (e : EventValue) (P : Asked → Type 0) → IsSome (own_ask e) → IfSome (own_ask e) P → (ask : Asked) × (own_ask e ≡ Some ask) × P ask
-own_given e P is given = at (own_ask e) refl is given
-  where
-    at : (o : Option Asked) → own_ask e ≡ o → IsSome o → IfSome o P → (ask : Asked) × (own_ask e ≡ Some ask) × P ask
-    at None p s g = absurd (true≢false (sym s))
-    at (Some ask) p s g = (ask, p, g)
+      after_is : world_of (slice_set nodes i new) (places ++ place_of ∷ []) ≡ world_after before event
+      after_is = ap (λ (n : Kept). world_of (slice_set nodes i n) (places ++ place_of ∷ [])) made.2 ∙ emitted_after nodes places good i to words k there bytes delta made.0
 
 -- ---- as the code calls its nodes
 
--- the node at this number of a world of these nodes
-module _ (nodes : List Kept) (places : List Place) (good : IsWorld nodes places) (w : WorldValue) (view : world_of nodes places ≡ w) (i : ℕ) (k : Kept) (read : k ≡ get_or nodes i k) where
-  pub read_there : i < length w.nodes → slice_get nodes i ≡ Some k
-  read_there low = slice_get_read nodes (length nodes) i k refl (subst (λ (w : WorldValue). i < length w.nodes) (sym view) low) read
+module _ (nodes : List Kept) (places : List Place) (w : WorldValue) (i : ℕ) (k : Kept) (hand : IsAtHand nodes places w i k) where
+  abbrev size : ℕ
+  size = length w.nodes
 
-  pub own_called : (e : EventValue) → i ≡ node_asked e → node_asked e < length w.nodes → IsSome (own_ask e) → (new : Kept) (reply : Reply)
-      → IfSome (own_ask e) (λ ask. Accepts k new ask (words_given e) (reply_value k.config.nodes reply))
-      → Fits nodes places (slice_set nodes i new) places e (reply_value (length nodes) reply)
-  own_called e is low some new reply accepts =
-      let here = read_there (subst (λ (j : ℕ). j < length w.nodes) (sym is) low) in
-      let there : slice_get nodes (node_asked e) ≡ Some k = ap (slice_get nodes) (sym is) ∙ here in
-      let given = own_given e (λ ask. Accepts k new ask (words_given e) (reply_value k.config.nodes reply)) some accepts in
-      subst (λ (j : ℕ). Fits nodes places (slice_set nodes j new) places e (reply_value (length nodes) reply)) (sym is)
-      (subst (λ (size : ℕ). Fits nodes places (slice_set nodes (node_asked e) new) places e (reply_value size reply)) (good.sizes (node_asked e) k there)
-      (own_fits nodes places good e k there given.0 given.1 new (reply_value k.config.nodes reply) given.2))
+  -- the replies of the node are read as those of the world
+  sized : (P : Answered → Type 0) (reply : Reply) → P (reply_value k.config.nodes reply) → P (reply_value size reply)
+  sized P reply given =
+      subst (λ (n : ℕ). P (reply_value n reply)) (hand.good.sizes i k hand.there ∙ ap (λ (w : WorldValue). length w.nodes) hand.view) given
 
-  pub own_refused : (e : EventValue) → i ≡ node_asked e → node_asked e < length w.nodes → IsSome (own_ask e) → (fault : NodeFault)
-      → IfSome (own_ask e) (λ ask. IsRefusalOf k ask (words_given e) fault) → IsAnswer w e (Err (Refused fault))
-  own_refused e is low some fault refused =
-      let here = read_there (subst (λ (j : ℕ). j < length w.nodes) (sym is) low) in
-      let given = own_given e (λ ask. IsRefusalOf k ask (words_given e) fault) some refused in
-      subst (λ (w : WorldValue). IsAnswer w e (Err (Refused fault))) view
-      (refused_answer (world_of nodes places) e k given.0 (ap (slice_get nodes) (sym is) ∙ here) (own_asked (map (message_at nodes) places) k e given.0 given.1) fault given.2)
+  -- a call that neither makes nor brings a message
+  pub call_fits : (ask : AskTold) → has_message ask ≡ false → (words : List ℕ) (new : Kept) (reply : Reply)
+      → Accepts k new (asked_from k.config.nodes ask (reply_told reply)) words (reply_value k.config.nodes reply)
+      → Fits w (slice_set nodes i new) places (calls i ask words) (reply_value size reply)
+  call_fits ask silently words new reply given =
+      sized (Fits w (slice_set nodes i new) places (calls i ask words)) reply
+      (subst (λ (w : WorldValue). Fits w (slice_set nodes i new) places (calls i ask words) (reply_value k.config.nodes reply)) hand.view
+      (silent_fits nodes places hand.good (calls i ask words) k hand.there (asked_first k.config.nodes ask) is.asked is.none is.sends new (reply_value k.config.nodes reply)
+      (subst (λ (a : Asked). Accepts k new a words (reply_value k.config.nodes reply)) (is.replied (reply_told reply)) given)))
+    where
+      is : IsSilent k ask (asked_first k.config.nodes ask)
+      is = silent k ask silently
 
--- what stands at a place is read from the bytes that its sender's trace has there
+  -- a pass whose reply is read from the trace
+  pub pass_fits : (name words : List ℕ) (new : Kept) → Accepts k new (asks.Pass name) words (reply_to k (asks.Pass name) words)
+      → Fits w (slice_set nodes i new) places (calls i (told.passes name) words) (reply_to k (asks.Pass name) words)
+  pass_fits name words new given =
+      subst (λ (w : WorldValue). Fits w (slice_set nodes i new) places (calls i (told.passes name) words) (reply_to k (asks.Pass name) words)) hand.view
+      (silent_fits nodes places hand.good (calls i (told.passes name) words) k hand.there (asks.Pass name) refl refl tt new _ given)
+
+  refused : (e : EventValue) → node_asked e ≡ i → (a : Asked) → asked_by (world_of nodes places).messages k e ≡ Some a
+      → (fault : NodeFault) → IsRefusalOf k a (words_given e) fault → IsAnswer w e (Err (Refused fault))
+  refused e at a asked fault given =
+      subst (λ (w : WorldValue). IsAnswer w e (Err (Refused fault))) hand.view
+      (refused_answer (world_of nodes places) e k a (ap (slice_get nodes) at ∙ hand.there) asked fault given)
+
+  pub call_refused : (ask : AskTold) → has_message ask ≡ false → (words : List ℕ) (fault : NodeFault)
+      → IsRefusalOf k (asked_first k.config.nodes ask) words fault → IsAnswer w (calls i ask words) (Err (Refused fault))
+  call_refused ask silently words fault given = refused (calls i ask words) refl _ (silent k ask silently).asked fault given
+
+  -- an emit
+  pub emit_refused : (to : ℕ) (words : List ℕ) (fault : NodeFault) → IsRefusalOf k (bare_emit to) words fault
+      → IsAnswer w (calls i (emits to) words) (Err (Refused fault))
+  emit_refused to words fault given = refused (calls i (emits to) words) refl (emit_of to (Ok (message_made k to))) refl fault given
+
+  pub emit_fits : (to : ℕ) (words : List ℕ) (reply : Reply) → TellsIfEmit k (emits to) reply → (new : Kept)
+      → Accepts k new (asked_from k.config.nodes (emits to) (reply_told reply)) words (reply_value k.config.nodes reply)
+      → (places_after : List Place) → places_after ≡ places ++ record { node = i; entry = length k.trace } ∷ []
+      → Fits w (slice_set nodes i new) places_after (calls i (emits to) words) (reply_value size reply)
+  emit_fits to words (replies.Emit bytes) tells new given places_after pushed =
+      sized (Fits w (slice_set nodes i new) places_after (calls i (emits to) words)) (replies.Emit bytes)
+      (subst (λ (ps : List Place). Fits w (slice_set nodes i new) ps (calls i (emits to) words) (reply_value k.config.nodes (replies.Emit bytes))) (sym pushed)
+      (subst (λ (w : WorldValue). Fits w (slice_set nodes i new) (places ++ record { node = i; entry = length k.trace } ∷ []) (calls i (emits to) words) (reply_value k.config.nodes (replies.Emit bytes))) hand.view
+      (emission_fits nodes places hand.good i to words k hand.there bytes.items tells new (reply_value k.config.nodes (replies.Emit bytes)) given)))
+  emit_fits to words (replies.Set stamp) tells new given places_after pushed = absurd tells
+  emit_fits to words (replies.Remove stamp) tells new given places_after pushed = absurd tells
+  emit_fits to words (replies.Load entries) tells new given places_after pushed = absurd tells
+  emit_fits to words (replies.Pass passed) tells new given places_after pushed = absurd tells
+  emit_fits to words (replies.Shift total) tells new given places_after pushed = absurd tells
+  emit_fits to words (replies.Grant total) tells new given places_after pushed = absurd tells
+  emit_fits to words (replies.Deliver changed) tells new given places_after pushed = absurd tells
+
+  -- a delivery of the message of this number
+  asked_at : (number : ℕ) → option_map (λ m. asks.Deliver (Ok m)) (slice_get (map (message_at nodes) places) number)
+      ≡ option_map (λ p. asks.Deliver (Ok (message_at nodes p))) (slice_get places number)
+  asked_at number = ap (option_map (λ m. asks.Deliver (Ok m))) (slice_get-map (message_at nodes) places number) ∙ twice (slice_get places number)
+    where
+      twice : (o : Option Place) → option_map (λ m. asks.Deliver (Ok m)) (option_map (message_at nodes) o) ≡ option_map (λ p. asks.Deliver (Ok (message_at nodes p))) o
+      twice None = refl
+      twice (Some p) = refl
+
+  pub no_message : (number : ℕ) → slice_get places number ≡ None → IsAnswer w (delivers i number) (Err NoMessage)
+  no_message number none =
+      subst (λ (w : WorldValue). IsAnswer w (delivers i number) (Err NoMessage)) hand.view
+      (inr (sym (no_message_answer (world_of nodes places) (delivers i number) k hand.there
+      (asked_at number ∙ ap (option_map (λ p. asks.Deliver (Ok (message_at nodes p)))) none))))
+
+  module _ (number : ℕ) (place : Place) (found : slice_get places number ≡ Some place) (bytes : List ℕ) (read : message_read k.config.nodes bytes ≡ Ok (message_at nodes place)) where
+    abbrev delivery : Asked
+    delivery = asks.Deliver (Ok (message_at nodes place))
+
+    asked : asked_by (world_of nodes places).messages k (delivers i number) ≡ Some delivery
+    asked = asked_at number ∙ ap (option_map (λ p. asks.Deliver (Ok (message_at nodes p)))) found
+
+    pub delivery_fits : (new : Kept) (changed : Bool) → Accepts k new (delivery_of k bytes) [] (asks.IsDelivered changed)
+        → Fits w (slice_set nodes i new) places (delivers i number) (asks.IsDelivered changed)
+    delivery_fits new changed given =
+        subst (λ (w : WorldValue). Fits w (slice_set nodes i new) places (delivers i number) (asks.IsDelivered changed)) hand.view
+        (silent_fits nodes places hand.good (delivers i number) k hand.there delivery asked refl tt new (asks.IsDelivered changed)
+        (subst (λ r. Accepts k new (asks.Deliver r) [] (asks.IsDelivered changed)) read given))
+
+    pub delivery_refused : (fault : NodeFault) → IsRefusalOf k (delivery_of k bytes) [] fault → IsAnswer w (delivers i number) (Err (Refused fault))
+    delivery_refused fault given =
+        refused (delivers i number) refl delivery asked fault (subst (λ r. IsRefusalOf k (asks.Deliver r) [] fault) read given)
+
+-- ---- what stands at a place is read from the bytes that its sender's trace has there
+
 same_kept : (a b : Kept) → ◌≡◌ {A = Option Kept} (Some a) (Some b) → a ≡ b
 same_kept a b h = cc
 
@@ -178,58 +224,11 @@ module _ (nodes : List Kept) (sizes : AreSizes nodes) (place : Place) (is : IsPl
       let emit : IsEmitOf s.trace place.entry is.emit.0 = subst (λ (n : Kept). IsEmitOf n.trace place.entry is.emit.0) same is.emit.1 in
       ap (λ n. message_read n bytes) (sizes i k there ∙ sym (sizes place.node s sender)) ∙ read is.emit.0 emit ∙ ap (λ m. Ok m) (sym (message_is nodes place is))
 
-  pub taken_at : slice_get nodes i ≡ Some k → message_read k.config.nodes bytes ≡ Ok (message_at nodes place) → (new : Kept) (reply : Answered)
-      → Accepts k new (delivery_of k bytes) [] reply → AcceptsAt nodes (slice_set nodes i new) i (asks.Deliver (Ok (message_at nodes place))) [] reply
-  taken_at there read new reply accepts j here =
-      let same : k ≡ j = same_kept k j (sym there ∙ here) in
-      let taken : Accepts k new (asks.Deliver (Ok (message_at nodes place))) [] reply = subst (λ r. Accepts k new (asks.Deliver r) [] reply) read accepts in
-      let moved : Accepts j new (asks.Deliver (Ok (message_at nodes place))) [] reply = subst (λ (j : Kept). Accepts j new (asks.Deliver (Ok (message_at nodes place))) [] reply) same taken in
-      (moved.0, moved.1, ap (slice_set nodes i) moved.2)
-
-  pub refused_at : slice_get nodes i ≡ Some k → message_read k.config.nodes bytes ≡ Ok (message_at nodes place) → (fault : NodeFault)
-      → IsRefusalOf k (delivery_of k bytes) [] fault → RefusesAt nodes i (asks.Deliver (Ok (message_at nodes place))) [] fault
-  refused_at there read fault refused j here =
-      let same : k ≡ j = same_kept k j (sym there ∙ here) in
-      subst (λ (j : Kept). IsRefusalOf j (asks.Deliver (Ok (message_at nodes place))) [] fault) same (subst (λ r. IsRefusalOf k (asks.Deliver r) [] fault) read refused)
-
-module _ (nodes : List Kept) (places : List Place) (good : IsWorld nodes places) (w : WorldValue) (view : world_of nodes places ≡ w) (i : ℕ) (low : i < length w.nodes) (k : Kept) (read : k ≡ get_or nodes i k) where
-  here : slice_get nodes i ≡ Some k
-  here = read_there nodes places good w view i k read low
-
-  pub emission_called : (to : ℕ) (bytes : List ℕ) → TellsDelta k to bytes → (new : Kept) → Emits k new to bytes → (entry : ℕ) → entry ≡ length k.trace
-      → (places_after : List Place) → places_after ≡ places ++ record { node = i; entry = entry } ∷ []
-      → Fits nodes places (slice_set nodes i new) places_after (emits i to) (IsEmitted (message_read (length nodes) bytes))
-  emission_called to bytes told new made entry last places_after pushed =
-      subst (λ (ps : List Place). Fits nodes places (slice_set nodes i new) ps (emits i to) (IsEmitted (message_read (length nodes) bytes)))
-      (ap (λ (n : ℕ). places ++ record { node = i; entry = n } ∷ []) (sym last) ∙ sym pushed)
-      (subst (λ (size : ℕ). Fits nodes places (slice_set nodes i new) (places ++ record { node = i; entry = length k.trace } ∷ []) (emits i to) (IsEmitted (message_read size bytes)))
-      (good.sizes i k here) (emission_fits nodes places good i to k here bytes told new made))
-
-  pub emission_refused : (to : ℕ) (fault : NodeFault) → IsRefusalOf k (bare_emit to) [] fault → IsAnswer w (emits i to) (Err (Refused fault))
-  emission_refused to fault refused =
-      subst (λ (w : WorldValue). IsAnswer w (emits i to) (Err (Refused fault))) view
-      (refused_answer (world_of nodes places) (emits i to) k (emit_of to (Ok (message_made k to))) here refl fault refused)
-
--- a delivery of the message of this number
-module _ (nodes : List Kept) (places : List Place) (good : IsWorld nodes places) (w : WorldValue) (view : world_of nodes places ≡ w) (i number : ℕ) (low : i < length w.nodes) where
-  node_there : (k : Kept) × (slice_get nodes i ≡ Some k)
-  node_there = get_there nodes i (subst (λ (w : WorldValue). i < length w.nodes) (sym view) low)
-
-  pub delivery_called : (place : Place) → slice_get places number ≡ Some place → (after : List Kept) (reply : Answered)
-      → AcceptsAt nodes after i (asks.Deliver (Ok (message_at nodes place))) [] reply → Fits nodes places after places (delivers i number) reply
-  delivery_called place found after reply accepts = delivery_fits nodes places good i number node_there.0 node_there.1 place found after reply accepts
-
-  pub delivery_refused : (place : Place) → slice_get places number ≡ Some place → (fault : NodeFault)
-      → RefusesAt nodes i (asks.Deliver (Ok (message_at nodes place))) [] fault → IsAnswer w (delivers i number) (Err (Refused fault))
-  delivery_refused place found fault refused =
-      subst (λ (w : WorldValue). IsAnswer w (delivers i number) (Err (Refused fault))) view
-      (refused_answer (world_of nodes places) (delivers i number) node_there.0 _ node_there.1 (delivery_asked nodes places good i number node_there.0 place found) fault (refused node_there.0 node_there.1))
-
-  pub no_message : slice_get places number ≡ None → IsAnswer w (delivers i number) (Err NoMessage)
-  no_message none =
-      subst (λ (w : WorldValue). IsAnswer w (delivers i number) (Err NoMessage)) view
-      (inr (sym (no_message_answer (world_of nodes places) (delivers i number) node_there.0 node_there.1
-      (ap (option_map (λ m. asks.Deliver (Ok m))) (slice_get-map (message_at nodes) places number ∙ ap (option_map (message_at nodes)) none)))))
+-- a delivery of bytes is no call of a cluster
+pub no_bytes : (w : WorldValue) (i : ℕ) → i < length w.nodes → (bytes words : List ℕ) → IsAnswer w (calls i (told.delivers bytes) words) (Err NoMessage)
+no_bytes w i low bytes words =
+    let at : (k : Kept) × (slice_get w.nodes i ≡ Some k) = get_there w.nodes i low in
+    inr (sym (no_message_answer w (calls i (told.delivers bytes) words) at.0 at.1 refl))
 
 pub no_node : (w : WorldValue) (e : EventValue) → length w.nodes ≤ node_asked e → IsAnswer w e (Err NoNode)
 no_node w e high = inr (sym (no_node_answer w e (slice_get_past w.nodes (node_asked e) high)))

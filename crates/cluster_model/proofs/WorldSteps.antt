@@ -8,13 +8,14 @@ use Rattle.node_calls.specs.declared.fault.NodeFault.{NodeFault}
 use Rattle.node_core.specs.Refusals.{refusal_at}
 use Rattle.node_calls.specs.Asks.{Asked, Answered, Message, emit_of}
 use Rattle.node_calls.specs.Asks as asks
+use Rattle.node_calls.specs.Told as told
 use Rattle.node_core.specs.Nodes.{Node}
 use Rattle.node_core.specs.Traces.{Kept, after_call, node_of, refusal, reply_to, SendsDelta}
 use Rattle.cluster_model.specs.declared.fault.WorldFault.TheVariants.{NoNode, NoMessage, Refused}
 use Rattle.cluster_model.specs.Worlds.{Cluster, Event, config_of, accepted, sent, world}
 use Rattle.cluster_model.specs.Schedules.{AllowsDelta}
 use Rattle.cluster_model.specs.Laws.{kept}
-use Rattle.cluster_model.specs.Events.{WorldValue, EventValue, message_made, sets, removes, loads, passes, shifts, grants, emits, delivers, node_asked, words_given, asked_by, Answer, answer_at, answer_to, refused_or, answer, after_asked, after_at, world_after, scheduled_of, scheduled_at, scheduled}
+use Rattle.cluster_model.specs.Events.{WorldValue, EventValue, message_made, calls, delivers, node_asked, words_given, asked_by, Answer, answer_at, answer_to, refused_or, answer, after_asked, after_at, world_after, scheduled_of, scheduled_at, scheduled}
 use Rattle.cluster_model.specs.Runs.{HasHistory}
 use Rattle.cluster_model.proofs.Lists.{get_below, get_set_same, get_set_other, get_in}
 use Rattle.cluster_model.proofs.Replays.{node_is_replay, event_is_call, is_agreed}
@@ -112,16 +113,20 @@ module _ (c : Cluster) (past : List Event) (w : WorldValue) (has : HasHistory c 
           let asked : asks.Deliver (Ok m) ≡ ask = cc in
           subst (λ (a : Asked). AllowsDelta (world c past) i (Some a)) asked (subst (λ ms. IsIn m ms) has.messages (get_in w.messages number m p))
 
+      allows : (a : Asked) → a ≡ ask → AllowsDelta (world c past) i (Some a) → AllowsDelta (world c past) i (Some ask)
+      allows a same given = subst (λ (a : Asked). AllowsDelta (world c past) i (Some a)) same given
+
       of : (e : EventValue) → asked_by w.messages k e ≡ Some ask → SendsDelta ((world c past).node i) ask → AllowsDelta (world c past) i (Some ask)
-      of (sets node name text) p s = subst (λ (a : Asked). AllowsDelta (world c past) i (Some a)) (let is : asks.Set name text ≡ ask = cc in is) tt
-      of (removes node name) p s = subst (λ (a : Asked). AllowsDelta (world c past) i (Some a)) (let is : asks.Remove name ≡ ask = cc in is) tt
-      of (loads node text) p s = subst (λ (a : Asked). AllowsDelta (world c past) i (Some a)) (let is : asks.Load text ≡ ask = cc in is) tt
-      of (passes node name words) p s = subst (λ (a : Asked). AllowsDelta (world c past) i (Some a)) (let is : asks.Pass name ≡ ask = cc in is) tt
-      of (shifts node name term to amount) p s = subst (λ (a : Asked). AllowsDelta (world c past) i (Some a)) (let is : asks.Shift name term to amount ≡ ask = cc in is) tt
-      of (grants node name term amount) p s = subst (λ (a : Asked). AllowsDelta (world c past) i (Some a)) (let is : asks.Grant name term amount ≡ ask = cc in is) tt
-      of (emits node to) p s =
+      of (calls node (told.sets name text) words) p s = let is : asks.Set name text ≡ ask = cc in allows (asks.Set name text) is tt
+      of (calls node (told.removes name) words) p s = let is : asks.Remove name ≡ ask = cc in allows (asks.Remove name) is tt
+      of (calls node (told.loads text) words) p s = let is : asks.Load text ≡ ask = cc in allows (asks.Load text) is tt
+      of (calls node (told.passes name) words) p s = let is : asks.Pass name ≡ ask = cc in allows (asks.Pass name) is tt
+      of (calls node (told.shifts name term to amount) words) p s = let is : asks.Shift name term to amount ≡ ask = cc in allows (asks.Shift name term to amount) is tt
+      of (calls node (told.grants name term amount) words) p s = let is : asks.Grant name term amount ≡ ask = cc in allows (asks.Grant name term amount) is tt
+      of (calls node (told.emits to) words) p s =
           let asked : emit_of to (Ok (message_made k to)) ≡ ask = cc in
-          subst (λ (a : Asked). AllowsDelta (world c past) i (Some a)) asked (subst (λ (a : Asked). SendsDelta ((world c past).node i) a) (sym asked) s)
+          allows (emit_of to (Ok (message_made k to))) asked (subst (λ (a : Asked). SendsDelta ((world c past).node i) a) (sym asked) s)
+      of (calls node (told.delivers bytes) words) p s = absurd (let impossible : ◌≡◌ {A = Option Asked} None (Some ask) = p in cc)
       of (delivers node number) p s = delivered number (slice_get w.messages number) refl p
 
   pub goes_on : SendsDelta (node_of k) ask → HasHistory c (scheduled w e ++ past) (world_after w e)

@@ -1,9 +1,11 @@
 -- A world as its callers see it, what they ask of it, what it answers, and the world after that.
-use Rattle.std.specs.Prelude.{ℕ, List, [], ◌∷◌, ◌++◌, map, Option, Some, None, option_map, option_and_then, Result, Ok, Err, slice_get, slice_set}
+use Rattle.std.specs.Prelude.{ℕ, Bool, true, false, List, [], ◌∷◌, ◌++◌, map, Option, Some, None, option_map, option_and_then, Result, Ok, Err, slice_get, slice_set}
 use Rattle.std.specs.List.{range_with_len}
 use Rattle.node_calls.specs.declared.fault.NodeFault.{NodeFault}
 use Rattle.node_calls.specs.declared.reply.Reply.{Reply}
-use Rattle.node_calls.specs.Asks.{Asked, Answered, Call, Message, emit_of, message_of, reply_value}
+use Rattle.node_calls.specs.Told.{AskTold, ask_ref_told}
+use Rattle.node_calls.specs.Told as told
+use Rattle.node_calls.specs.Asks.{Asked, Answered, Call, Message, asked_with, emit_of, message_of, reply_value}
 use Rattle.node_calls.specs.Asks as asks
 use Rattle.node_core.specs.Emissions.{message_emitted}
 use Rattle.node_core.specs.Lasts.{last_call}
@@ -26,65 +28,46 @@ new_node c i = record { config = config_of c i; trace = [] }
 abbrev pub new_world : Cluster → WorldValue
 new_world c = record { nodes = map (new_node c) (range_with_len 0 c.nodes); messages = [] }
 
--- what a node is asked: a call of its own, a message to another node, or a delivery of a message by the
+-- what a node is asked: a call, with the random draws of a pass, or a delivery of a message by the
 -- number that it has among all that were made
 pub data EventValue : Type 0 where
-  sets : (node : ℕ) (name text : List ℕ) → EventValue
-  removes : (node : ℕ) (name : List ℕ) → EventValue
-  loads : (node : ℕ) (text : List ℕ) → EventValue
-  passes : (node : ℕ) (name words : List ℕ) → EventValue
-  shifts : (node : ℕ) (name : List ℕ) (term to amount : ℕ) → EventValue
-  grants : (node : ℕ) (name : List ℕ) (term amount : ℕ) → EventValue
-  emits : (node to : ℕ) → EventValue
+  calls : (node : ℕ) (ask : AskTold) (words : List ℕ) → EventValue
   delivers : (node message : ℕ) → EventValue
 
 -- an event of the code, without where its texts lie in memory
 abbrev pub event_value : code.Event → EventValue
-event_value (events.Set node name text) = sets node (name.now) (text.now)
-event_value (events.Remove node name) = removes node (name.now)
-event_value (events.Load node text) = loads node (text.now)
-event_value (events.Pass node name words) = passes node (name.now) (words.items)
-event_value (events.Shift node name term to amount) = shifts node (name.now) term to amount
-event_value (events.Grant node name term amount) = grants node (name.now) term amount
-event_value (events.Emit node to) = emits node to
+event_value (events.Call node ask words) = calls node (ask_ref_told ask) words.items
 event_value (events.Deliver node message) = delivers node message
 
 abbrev pub node_asked : EventValue → ℕ
-node_asked (sets node name text) = node
-node_asked (removes node name) = node
-node_asked (loads node text) = node
-node_asked (passes node name words) = node
-node_asked (shifts node name term to amount) = node
-node_asked (grants node name term amount) = node
-node_asked (emits node to) = node
+node_asked (calls node ask words) = node
 node_asked (delivers node message) = node
 
 abbrev pub words_given : EventValue → List ℕ
-words_given (passes node name words) = words
-words_given _ = []
-
--- the call that an event is, if it is one of the node's own
-abbrev pub own_ask : EventValue → Option Asked
-own_ask (sets node name text) = Some (asks.Set name text)
-own_ask (removes node name) = Some (asks.Remove name)
-own_ask (loads node text) = Some (asks.Load text)
-own_ask (passes node name words) = Some (asks.Pass name)
-own_ask (shifts node name term to amount) = Some (asks.Shift name term to amount)
-own_ask (grants node name term amount) = Some (asks.Grant name term amount)
-own_ask (emits node to) = None
-own_ask (delivers node message) = None
+words_given (calls node ask words) = words
+words_given (delivers node message) = []
 
 -- the message that a node makes to another
 abbrev pub message_made : Kept → ℕ → Message
 message_made k to = message_of (message_emitted k to)
 
--- what an event asks of its node, if there is the message that it names: an emit tells what differs, and a
--- delivery brings what was made
+-- whether a call makes a message, or brings one
+abbrev pub has_message : AskTold → Bool
+has_message (told.emits to) = true
+has_message (told.delivers bytes) = true
+has_message _ = false
+
+-- what a call asks of its node: an emit tells what differs. Bytes are delivered by no call, since a
+-- cluster knows its messages by their numbers
+abbrev pub call_asked : Kept → AskTold → Option Asked
+call_asked k (told.delivers bytes) = None
+call_asked k ask = Some (asked_with k.config.nodes (λ to. emit_of to (Ok (message_made k to))) ask)
+
+-- what an event asks of its node, if there is the message that it names: a delivery brings what was made
 abbrev pub asked_by : List Message → Kept → EventValue → Option Asked
-asked_by messages k (emits node to) = Some (emit_of to (Ok (message_made k to)))
+asked_by messages k (calls node ask words) = call_asked k ask
 asked_by messages k (delivers node message) =
     option_map (λ m. asks.Deliver (Ok m)) (slice_get messages message)
-asked_by messages k e = own_ask e
 
 -- ---- the answer
 

@@ -8,7 +8,8 @@ use Rattle.stamp_register.specs.declared.key.Stamp.{Stamp}
 use Rattle.stamp_register.specs.Keys.{KeyValue, same_key}
 use Rattle.operations.specs.Operations.{Operation, Set, IsIn}
 use Rattle.replica_state.specs.States.{State, budget}
-use Rattle.node_calls.specs.Asks.{Asked, Answered, Passed, Act, Call}
+use Rattle.node_calls.specs.Asks.{Asked, Answered, Call}
+use Rattle.node_calls.specs.Told.{Passed, Act}
 use Rattle.node_calls.specs.Asks as asks
 use Rattle.node_core.specs.Nodes.{Node, state_shown}
 use Rattle.node_core.specs.Steps.{operations_added, settings, operations_issued, message_in}

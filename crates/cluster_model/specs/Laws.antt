@@ -15,6 +15,7 @@ use Rattle.node_calls.specs.declared.fault.NodeFault.{NodeFault}
 use Rattle.node_calls.specs.declared.fault.NodeFault.TheVariants as faults
 use Rattle.node_calls.specs.Asks.{Asked, Message, Call, message_read, bare_emit}
 use Rattle.node_calls.specs.Asks as asks
+use Rattle.node_calls.specs.Told.{Act}
 use Rattle.node_core.specs.Nodes.{state_shown}
 use Rattle.node_core.specs.Steps.{message_to}
 use Rattle.node_core.specs.Traces.{Kept, replay, refusal, after_call, delivery_of, emission_of, versions_told, IsLegal}
@@ -143,7 +144,7 @@ pub record IsExecution (c : Cluster) (es : List Event) (ask : Asked) (stamp : St
 abbrev pub ToldExecutionsAreIssued : Type 0
 ToldExecutionsAreIssued = (c : Cluster) (es : List Event) → IsSchedule c es → (i : ℕ) (call : Call)
     (stamp : Stamp) (term : ℕ) (task : TaskValue) → IsIn call ((world c es).trace i) →
-    call.reply ≡ asks.IsPassed (asks.Act stamp term task) → IsExecution c es call.ask stamp term task
+    call.reply ≡ asks.IsPassed (Act stamp term task) → IsExecution c es call.ask stamp term task
 
 -- what a node knows with what a message tells
 abbrev pub merged : Cluster → List Event → ℕ → Message → State

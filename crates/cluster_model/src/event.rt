@@ -1,53 +1,22 @@
 //! What is asked of a cluster.
 
-ghost use Rattle.std.specs.Prelude.{◌≡◌};
-ghost use Rattle.cluster_model.specs.Events.{event_value, node_asked};
+ghost use Rattle.std.specs.Prelude.{◌≡◌, []};
+ghost use Rattle.node_calls.specs.Told.{ask_ref_told};
+ghost use Rattle.cluster_model.specs.Events.{calls, event_value, node_asked};
 
-/// What is asked of one node of a cluster. Texts are borrowed, and nodes and messages have numbers
-/// from 0.
+use node_core::AskRef;
+use std::alloc::Global;
+
+/// What is asked of a cluster. Nodes and messages have numbers from 0.
 #[derive(Debug, Drop)]
 pub enum Event<'a> {
-    /// Sets a point to an action text.
-    Set {
+    /// A call of a node, with a random draw for each term of a passed point whose chance is below
+    /// 100%. Of the calls, a delivery of bytes is none of a cluster, which knows its messages by
+    /// their numbers.
+    Call {
         node: u8,
-        name: &'a str,
-        text: &'a str,
-    },
-    /// Removes a point.
-    Remove {
-        node: u8,
-        name: &'a str,
-    },
-    /// Sets the points of a text as of FAILPOINTS.
-    Load {
-        node: u8,
-        text: &'a str,
-    },
-    /// Passes a point, with a random draw for each of its terms whose chance is below 100%.
-    Pass {
-        node: u8,
-        name: &'a str,
+        ask: AskRef<'a>,
         words: Vec<u32>,
-    },
-    /// Moves rights of a term to another node.
-    Shift {
-        node: u8,
-        name: &'a str,
-        term: u8,
-        to: u8,
-        amount: u64,
-    },
-    /// Grants a node rights of a term beyond its count.
-    Grant {
-        node: u8,
-        name: &'a str,
-        term: u8,
-        amount: u64,
-    },
-    /// Makes a message to another node.
-    Emit {
-        node: u8,
-        to: u8,
     },
     /// Delivers a message to a node, by the number that it has among all that were made.
     Deliver {
@@ -57,19 +26,23 @@ pub enum Event<'a> {
 }
 
 impl<'a> Event<'a> {
+    /// A call of a node without random draws. It takes no memory.
+    pub fn call(alloc: Global, node: u8, ask: AskRef<'a>) -> Event<'a>
+        ensures { event_value result ≡ calls node (ask_ref_told ask.entry) [] }
+    {
+        Event::Call {
+            node,
+            ask,
+            words: Vec::new(alloc),
+        }
+    }
+
     /// The node that is asked.
     pub fn node(&self) -> u8
         ensures { result ≡ node_asked (event_value self.now) }
     {
         match self {
-            Event::Set { node, .. }
-            | Event::Remove { node, .. }
-            | Event::Load { node, .. }
-            | Event::Pass { node, .. }
-            | Event::Shift { node, .. }
-            | Event::Grant { node, .. }
-            | Event::Emit { node, .. }
-            | Event::Deliver { node, .. } => *node,
+            Event::Call { node, .. } | Event::Deliver { node, .. } => *node,
         }
     }
 }

@@ -1,17 +1,17 @@
 //! A cluster in one program: its nodes, and the messages between them.
 
-ghost use Rattle.std.specs.Prelude.{◌≡◌, ◌≢◌, ◌<◌, ◌≤◌, [], false, true, length, option_map, IfOk, IfErr, IfSome, IsSome, OnOk, OnErr, IsTrue, Ok, Err, Some, slice_get};
+ghost use Rattle.std.specs.Prelude.{◌≡◌, ◌≢◌, ◌<◌, ◌≤◌, [], false, true, length, option_map, IfOk, IfErr, OnOk, OnErr, IsTrue, Ok, Err, Some, slice_get};
 ghost use Rattle.node_calls.specs.Asks.{Message, message_read, reply_value};
-ghost use Rattle.node_core.specs.Traces.{Accepts, IsRefusalOf};
+ghost use Rattle.node_calls.specs.Told.{ask_ref_told, emits, passes};
 ghost use Rattle.node_calls.specs.declared.fault.NodeFault.TheVariants.{OutOfMemory};
-ghost use Rattle.cluster_model.specs.Events.{event_value, passes, emits, delivers, own_ask, words_given, new_world, node_asked, answer, answer_value, world_after, scheduled, last_reply};
+ghost use Rattle.cluster_model.specs.Events.{event_value, calls, delivers, has_message, new_world, node_asked, answer, answer_value, world_after, scheduled, last_reply};
 ghost use Rattle.cluster_model.specs.Places.{IsEmit, IsEmitOf};
 ghost use Rattle.cluster_model.specs.Runs.{IsAnswer, after_answer, happened, Continues, HasHistory};
 ghost use Rattle.cluster_model.specs.Worlds.{cluster_of, is_cluster_size};
 
 use crate::event::Event;
 use crate::fault::WorldFault;
-use node_core::{Config, NodeCore, NodeFault, Reply};
+use node_core::{AskRef, Config, NodeCore, NodeFault, Reply};
 use std::alloc::Global;
 use std::marker::Model;
 
@@ -56,38 +56,6 @@ fn place_at(places: &[Place], number: u32) -> Option<Place>
     ensures { result ≡ slice_get places.now number }
 {
     places.get(number as usize).copied()
-}
-
-// Calls a node, where an event is a call of its node.
-fn call(alloc: Global, node: &mut NodeCore, event: &Event<'_>) -> Result<Reply, NodeFault>
-    requires { IsSome (own_ask (event_value event.now)) }
-    ensures ok { IfOk result (λ reply. IfSome (own_ask (event_value event.now)) (λ ask.
-        Accepts node.old node.new ask (words_given (event_value event.now))
-        (reply_value node.old.config.nodes reply))) }
-    ensures refused { IfErr result (λ fault. IfSome (own_ask (event_value event.now)) (λ ask.
-        IsRefusalOf node.old ask (words_given (event_value event.now)) fault)) }
-    ensures err { OnErr result (node.new ≡ node.old) }
-{
-    Ok(match event {
-        Event::Set { name, text, .. } => Reply::Set(node.set(alloc, name, text)?),
-        Event::Remove { name, .. } => Reply::Remove(node.remove(alloc, name)?),
-        Event::Load { text, .. } => Reply::Load(node.load(alloc, text)?),
-        Event::Pass { name, words, .. } => Reply::Pass(node.pass_with(alloc, name, words)?),
-        Event::Shift {
-            name,
-            term,
-            to,
-            amount,
-            ..
-        } => Reply::Shift(node.shift(alloc, name, *term, *to, *amount)?),
-        Event::Grant {
-            name,
-            term,
-            amount,
-            ..
-        } => Reply::Grant(node.grant(alloc, name, *term, *amount)?),
-        Event::Emit { .. } | Event::Deliver { .. } => unreachable!(),
-    })
 }
 
 impl World {
@@ -157,43 +125,78 @@ impl World {
             return Err(WorldFault::NoNode);
         }
         match event {
-            Event::Emit { node, to } => self.emit(alloc, *node, *to),
+            Event::Call { node, ask, words } => self.call(alloc, *node, *ask, words),
             Event::Deliver { node, message } => self.deliver(alloc, *node, *message),
-            _ => self.call(alloc, event),
         }
     }
 
-    // An event that is a call of its node.
-    fn call(&mut self, alloc: Global, event: &Event<'_>) -> Result<Reply, WorldFault>
-        requires call { IsSome (own_ask (event_value event.now)) }
-        requires node { node_asked (event_value event.now) < length self.old.nodes }
-        ensures answer { IsAnswer self.old (event_value event.now)
+    // A call of a node.
+    fn call(
+        &mut self,
+        alloc: Global,
+        node: u8,
+        ask: AskRef<'_>,
+        words: &[u32],
+    ) -> Result<Reply, WorldFault>
+        requires { node < length self.old.nodes }
+        ensures answer { IsAnswer self.old (calls node (ask_ref_told ask.entry) words.now)
             (answer_value (length self.old.nodes) result) }
-        ensures after { self.new ≡ after_answer self.old (event_value event.now)
+        ensures after { self.new ≡ after_answer self.old (calls node (ask_ref_told ask.entry) words.now)
             (answer_value (length self.old.nodes) result) }
-        ensures history { Continues self.old self.new (happened self.old (event_value event.now)
+        ensures history { Continues self.old self.new
+            (happened self.old (calls node (ask_ref_told ask.entry) words.now)
             (answer_value (length self.old.nodes) result)) }
     {
-        let node = event.node() as usize;
-        Ok(call(alloc, &mut self.nodes[node], event)?)
+        match ask {
+            AskRef::Deliver { .. } => Err(WorldFault::NoMessage),
+            AskRef::Emit { to } => self.emit(alloc, node, to, words),
+            AskRef::Set { .. }
+            | AskRef::Remove { .. }
+            | AskRef::Load { .. }
+            | AskRef::Pass { .. }
+            | AskRef::Shift { .. }
+            | AskRef::Grant { .. } => self.ask(alloc, node, ask, words),
+        }
+    }
+
+    // A call that neither makes nor brings a message.
+    fn ask(
+        &mut self,
+        alloc: Global,
+        node: u8,
+        ask: AskRef<'_>,
+        words: &[u32],
+    ) -> Result<Reply, WorldFault>
+        requires node { node < length self.old.nodes }
+        requires silent { has_message (ask_ref_told ask) ≡ false }
+        ensures answer { IsAnswer self.old (calls node (ask_ref_told ask.entry) words.now)
+            (answer_value (length self.old.nodes) result) }
+        ensures after { self.new ≡ after_answer self.old (calls node (ask_ref_told ask.entry) words.now)
+            (answer_value (length self.old.nodes) result) }
+        ensures history { Continues self.old self.new
+            (happened self.old (calls node (ask_ref_told ask.entry) words.now)
+            (answer_value (length self.old.nodes) result)) }
+    {
+        Ok(self.nodes[node as usize].call(alloc, ask, words)?)
     }
 
     // A message of a node to another. Its place is the entry that the sender's trace then has.
-    fn emit(&mut self, alloc: Global, node: u8, to: u8) -> Result<Reply, WorldFault>
+    fn emit(&mut self, alloc: Global, node: u8, to: u8, words: &[u32]) -> Result<Reply, WorldFault>
         requires { node < length self.old.nodes }
-        ensures answer { IsAnswer self.old (emits node to)
+        ensures answer { IsAnswer self.old (calls node (emits to) words.now)
             (answer_value (length self.old.nodes) result) }
-        ensures after { self.new ≡ after_answer self.old (emits node to)
+        ensures after { self.new ≡ after_answer self.old (calls node (emits to) words.now)
             (answer_value (length self.old.nodes) result) }
-        ensures history { Continues self.old self.new (happened self.old (emits node to)
+        ensures history { Continues self.old self.new
+            (happened self.old (calls node (emits to) words.now)
             (answer_value (length self.old.nodes) result)) }
     {
         self.messages.reserve(1)?;
         let sender = &mut self.nodes[node as usize];
         let entry = sender.trace().len();
-        let message = sender.emit(alloc, to)?;
+        let reply = sender.call(alloc, AskRef::Emit { to }, words)?;
         self.messages.push_reserved(Place { node, entry });
-        Ok(Reply::Emit(message))
+        Ok(reply)
     }
 
     // A delivery of a message by its number.
@@ -238,7 +241,12 @@ impl World {
             IsAnswer self.old (event_value event.now) (Err fault)) }
         ensures err { OnErr result (self.new ≡ self.old) }
     {
-        if let Event::Pass { node, name, words } = event {
+        if let Event::Call {
+            node,
+            ask: AskRef::Pass { name },
+            words,
+        } = event
+        {
             self.record_pass(alloc, *node, name, words)
         } else {
             self.step(alloc, event)?;
@@ -253,14 +261,14 @@ impl World {
         name: &str,
         words: &[u32],
     ) -> Result<(), WorldFault>
-        ensures answer { OnOk result (Some (answer self.old (passes node name.now words.now))
+        ensures answer { OnOk result (Some (answer self.old (calls node (passes name.now) words.now))
             ≡ option_map Ok (last_reply self.new node)) }
         ensures after { OnOk result (
-            self.new ≡ world_after self.old (passes node name.now words.now)) }
+            self.new ≡ world_after self.old (calls node (passes name.now) words.now)) }
         ensures history { OnOk result (
-            Continues self.old self.new (scheduled self.old (passes node name.now words.now))) }
+            Continues self.old self.new (scheduled self.old (calls node (passes name.now) words.now))) }
         ensures refused { IfErr result (λ fault.
-            IsAnswer self.old (passes node name.now words.now) (Err fault)) }
+            IsAnswer self.old (calls node (passes name.now) words.now) (Err fault)) }
         ensures err { OnErr result (self.new ≡ self.old) }
     {
         let node = node as usize;

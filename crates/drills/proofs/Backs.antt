@@ -9,8 +9,7 @@ use Rattle.serde_json.specs.Data.{Data}
 use Rattle.serde_json.specs.View.{items_of}
 use Rattle.stamp_register.specs.declared.key.Stamp.{Stamp}
 use Rattle.actions.specs.Value.{TaskValue, off, «return», sleep, panic, print, pause, yield, delay}
-use Rattle.node_calls.specs.Asks.{Passed, Unset, NoTerm, Act}
-use Rattle.node_calls.specs.Told.{AskTold, sets, removes, loads, passes, shifts, grants, emits, delivers, ReplyTold, was_set, was_removed, was_loaded, was_passed, was_shifted, was_granted, was_emitted, was_delivered, Told}
+use Rattle.node_calls.specs.Told.{AskTold, sets, removes, loads, passes, shifts, grants, emits, delivers, ReplyTold, was_set, was_removed, was_loaded, was_passed, was_shifted, was_granted, was_emitted, was_delivered, Told, Passed, Unset, NoTerm, Act}
 use Rattle.drills.specs.Lines.{LineTold, head, trace, entry, list, receipt, ReceiptTold, line_data}
 use Rattle.drills.specs.Rows.{count_data, bytes_data, text_data, row, task_data, ask_data, pass_data, reply_data}
 use Rattle.drills.specs.Reading.{up_to, bytes_in, text_or_null, words_from, decoded, stamp_in, task_in, ask_in, pass_in, reply_in, told_in, receipt_in, line_of}

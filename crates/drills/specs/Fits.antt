@@ -2,8 +2,7 @@
 use Rattle.std.specs.Prelude.{ℕ, ◌<◌, ◌^◌, List, All}
 use Rattle.hex.specs.Hex.{IsBytes}
 use Rattle.stamp_register.specs.declared.key.Stamp.{Stamp}
-use Rattle.node_calls.specs.Asks.{Passed, Unset, NoTerm, Act}
-use Rattle.node_calls.specs.Told.{AskTold, sets, removes, loads, passes, shifts, grants, emits, delivers, ReplyTold, was_set, was_removed, was_loaded, was_passed, was_shifted, was_granted, was_emitted, was_delivered, Told}
+use Rattle.node_calls.specs.Told.{AskTold, sets, removes, loads, passes, shifts, grants, emits, delivers, ReplyTold, was_set, was_removed, was_loaded, was_passed, was_shifted, was_granted, was_emitted, was_delivered, Told, Passed, Unset, NoTerm, Act}
 use Rattle.drills.specs.Lines.{LineTold, head, trace, entry, list, receipt}
 
 abbrev pub StampFits : Stamp → Type 0

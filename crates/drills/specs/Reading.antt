@@ -11,8 +11,7 @@ use Rattle.serde_json.specs.Find.{at, get, as_str, as_number, as_u64, as_array, 
 use Rattle.serde_json.specs.Read.{read}
 use Rattle.stamp_register.specs.declared.key.Stamp.{Stamp}
 use Rattle.actions.specs.Value.{TaskValue, off, «return», sleep, panic, print, pause, yield, delay}
-use Rattle.node_calls.specs.Asks.{Passed, Unset, NoTerm, Act}
-use Rattle.node_calls.specs.Told.{AskTold, sets, removes, loads, passes, shifts, grants, emits, delivers, ReplyTold, was_set, was_removed, was_loaded, was_passed, was_shifted, was_granted, was_emitted, was_delivered, Told}
+use Rattle.node_calls.specs.Told.{AskTold, sets, removes, loads, passes, shifts, grants, emits, delivers, ReplyTold, was_set, was_removed, was_loaded, was_passed, was_shifted, was_granted, was_emitted, was_delivered, Told, Passed, Unset, NoTerm, Act}
 use Rattle.streams.specs.Lines.{◌>>=◌, text_in}
 use Rattle.drills.specs.Lines.{LineTold, head, trace, entry, list, receipt, ReceiptTold}
 

@@ -4,8 +4,7 @@ ghost use Rattle.std.specs.Prelude.{◌≡◌, option_map, string_bytes, IfOk};
 ghost use Rattle.std.specs.Vec.{vec_items};
 ghost use Rattle.serde_json.specs.View.{view};
 ghost use Rattle.actions.specs.Value.{task_value};
-ghost use Rattle.node_calls.specs.Asks.{passed};
-ghost use Rattle.node_calls.specs.Told.{ask_told, reply_told};
+ghost use Rattle.node_calls.specs.Told.{ask_told, reply_told, passed};
 ghost use Rattle.drills.specs.Reading.{number_in, byte_in, short_in, word_in, bytes_in, text_or_null, words_in, fields_in, is_row, text_at, number_at, byte_at, short_at, bytes_at, text_or_null_at, stamp_in, task_in, set_in, shift_in, grant_in, ask_in, act_in, pass_in, reply_in};
 
 use actions::Task;

@@ -2,7 +2,9 @@
 use Rattle.std.specs.Prelude.{◌≡◌, ℕ, List, [], length, Option, Some, None, is_some, false}
 use Rattle.actions.specs.Value.{TaskValue}
 use Rattle.actions.specs.Value as tasks
-use Rattle.node_calls.specs.Asks.{Passed, Answered}
+use Rattle.node_calls.specs.Asks.{Answered}
+use Rattle.node_calls.specs.Told.{Passed}
+use Rattle.node_calls.specs.Told as calls
 use Rattle.node_calls.specs.Asks as asks
 use Rattle.failreg_c.specs.declared.act.Act.{Act}
 
@@ -64,10 +66,10 @@ no_act = record {
 }
 
 abbrev pub IsTold : Passed → Act → List ℕ → Type 0
-IsTold asks.Unset a said = (a ≡ no_act) × (said ≡ [])
-IsTold (asks.NoTerm s) a said =
+IsTold calls.Unset a said = (a ≡ no_act) × (said ≡ [])
+IsTold (calls.NoTerm s) a said =
     (a ≡ record no_act { clock = s.clock; node = s.node; outcome = 1 }) × (said ≡ [])
-IsTold (asks.Act s term task) a said =
+IsTold (calls.Act s term task) a said =
     (a.outcome ≡ 2) × (a.clock ≡ s.clock) × (a.node ≡ s.node) × TellsTask term task a said
 
 abbrev pub IsPassTold : Answered → Act → List ℕ → Type 0

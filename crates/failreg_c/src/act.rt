@@ -2,7 +2,7 @@
 
 ghost use Rattle.std.specs.Prelude.{◌≡◌, is_some, option_map, string_bytes};
 ghost use Rattle.actions.specs.Value.{task_value};
-ghost use Rattle.node_calls.specs.Asks.{passed};
+ghost use Rattle.node_calls.specs.Told.{passed};
 ghost use Rattle.failreg_c.specs.Told.{IsTold, task_number, task_text, task_time, text_or_none};
 
 use actions::Task;

@@ -7,6 +7,7 @@ use Rattle.node_calls.specs.declared.reply.Reply.{Reply}
 use Rattle.node_calls.specs.declared.reply.Reply.TheVariants as replies
 use Rattle.node_calls.specs.Asks as asked
 use Rattle.node_calls.specs.Asks.{Asked, Message, ask_value, ask_value_first, bare_emit, emit_asked, emit_of, message_read}
+use Rattle.node_calls.specs.Told.{ask_told}
 use Rattle.node_core.specs.Applied.{TellsIfEmit}
 use Rattle.node_core.specs.Traces.{Kept}
 use Rattle.gossip.specs.Reports.{is_emit}
@@ -59,7 +60,7 @@ is_message (replies.Emit bytes) = true
 is_message _ = false
 
 -- the reply to an emit is a message
-pub emit_has_message : (nodes : ℕ) (k : Kept) (ask : Ask) (reply : Reply) → is_emit (ask_value_first nodes ask) ≡ true → TellsIfEmit k ask reply → is_message reply ≡ true
+pub emit_has_message : (nodes : ℕ) (k : Kept) (ask : Ask) (reply : Reply) → is_emit (ask_value_first nodes ask) ≡ true → TellsIfEmit k (ask_told ask) reply → is_message reply ≡ true
 unfolding is_message
 emit_has_message nodes k (asks.Emit to) (replies.Emit bytes) e tells = refl
 emit_has_message nodes k (asks.Emit to) (replies.Set s) e tells = absurd tells

@@ -1,9 +1,8 @@
 -- What a request wants, by its method, its path and its body.
-use Rattle.std.specs.Prelude.{◌≡◌, ◌⊎◌, ◌||◌, ℕ, Bool, not, nat_lt, if◌then◌else◌, List, length, Option, Some, None, option_map, codes, string_bytes}
+use Rattle.std.specs.Prelude.{◌≡◌, ◌⊎◌, ◌||◌, ℕ, Bool, not, nat_lt, if◌then◌else◌, List, length, Option, Some, None, codes}
 use Rattle.message_format.specs.Spelling.{max_message}
 use Rattle.std.specs.Str.{is_utf8, bytes_eq}
-use Rattle.node_calls.specs.declared.ask.Ask.{Ask}
-use Rattle.node_calls.specs.declared.ask.Ask.TheVariants as asks
+use Rattle.node_calls.specs.Told.{AskTold, ask_told, sets, removes, loads, shifts, grants, delivers}
 use Rattle.http_paths.specs.Paths.{TargetValue, target_of}
 use Rattle.http_paths.specs.Paths as paths
 use Rattle.decimals.specs.Decimals.{number_of}
@@ -11,42 +10,22 @@ use Rattle.http_routes.specs.Replies.{ReplyValue, http_value, no_memory, text_re
 use Rattle.http_routes.specs.declared.wanted.Wanted.{Wanted}
 use Rattle.http_routes.specs.declared.wanted.Wanted.TheVariants as wants
 
--- what a request asks a node, without where its texts lie in memory
-pub data AskValue : Type 0 where
-  set : (name text : List ℕ) → AskValue
-  remove : (name : List ℕ) → AskValue
-  load : (text : List ℕ) → AskValue
-  shift : (name : List ℕ) (term to amount : ℕ) → AskValue
-  grant : (name : List ℕ) (term amount : ℕ) → AskValue
-  deliver : (message : List ℕ) → AskValue
-
--- a call as one of those; no request asks a pass or an emit
-abbrev pub ask_value : Ask → Option AskValue
-ask_value (asks.Set name text) = Some (set (string_bytes name) (string_bytes text))
-ask_value (asks.Remove name) = Some (remove (string_bytes name))
-ask_value (asks.Load text) = Some (load (string_bytes text))
-ask_value (asks.Pass name) = None
-ask_value (asks.Shift name term to amount) = Some (shift (string_bytes name) term to amount)
-ask_value (asks.Grant name term amount) = Some (grant (string_bytes name) term amount)
-ask_value (asks.Emit to) = None
-ask_value (asks.Deliver message) = Some (deliver message.items)
-
 -- a call, the list, the report, or nothing but this reply
 pub data WantedValue : Type 0 where
-  call : (ask : AskValue) → WantedValue
+  call : (ask : AskTold) → WantedValue
   list : WantedValue
   report : WantedValue
   answered : (reply : ReplyValue) → WantedValue
 
-abbrev pub wanted_value : Wanted → Option WantedValue
-wanted_value (wants.Do ask) = option_map call (ask_value ask)
-wanted_value wants.List = Some list
-wanted_value wants.Report = Some report
-wanted_value (wants.Answered reply) = Some (answered (http_value reply))
+abbrev pub wanted_value : Wanted → WantedValue
+wanted_value (wants.Do ask) = call (ask_told ask)
+wanted_value wants.List = list
+wanted_value wants.Report = report
+wanted_value (wants.Answered reply) = answered (http_value reply)
 
 -- this, or no more than the reply where memory was refused
-abbrev pub IsWanted : WantedValue → Option WantedValue → Type 0
-IsWanted wanted given = (given ≡ Some wanted) ⊎ (given ≡ Some (answered no_memory))
+abbrev pub IsWanted : WantedValue → WantedValue → Type 0
+IsWanted wanted given = (given ≡ wanted) ⊎ (given ≡ answered no_memory)
 
 -- the greatest amount of rights
 abbrev pub max_amount : ℕ
@@ -59,20 +38,20 @@ refused status text = answered (text_reply status text)
 abbrev pub text_in : List ℕ → Option (List ℕ)
 text_in body = if is_utf8 body then Some body else None
 
-abbrev pub texted_by : (List ℕ → AskValue) → Option (List ℕ) → WantedValue
+abbrev pub texted_by : (List ℕ → AskTold) → Option (List ℕ) → WantedValue
 texted_by f None = refused 400 (codes "bad text")
 texted_by f (Some text) = call (f text)
 
 -- a call with the body as its text
-abbrev pub texted : (List ℕ → AskValue) → List ℕ → WantedValue
+abbrev pub texted : (List ℕ → AskTold) → List ℕ → WantedValue
 texted f body = texted_by f (text_in body)
 
 abbrev pub shift_wanted : List ℕ → Option ℕ → Option ℕ → Option ℕ → WantedValue
-shift_wanted name (Some term) (Some to) (Some amount) = call (shift name term to amount)
+shift_wanted name (Some term) (Some to) (Some amount) = call (shifts name term to amount)
 shift_wanted name _ _ _ = refused 400 (codes "bad number")
 
 abbrev pub grant_wanted : List ℕ → Option ℕ → Option ℕ → WantedValue
-grant_wanted name (Some term) (Some amount) = call (grant name term amount)
+grant_wanted name (Some term) (Some amount) = call (grants name term amount)
 grant_wanted name _ _ = refused 400 (codes "bad number")
 
 -- whether the route has this method
@@ -89,13 +68,13 @@ is_allowed paths.report method = bytes_eq method (codes "GET")
 abbrev pub wanted_there : TargetValue → List ℕ → List ℕ → WantedValue
 wanted_there paths.points method body = list
 wanted_there (paths.point name) method body =
-    if bytes_eq method (codes "PUT") then texted (set name) body else call (remove name)
-wanted_there paths.load method body = texted load body
+    if bytes_eq method (codes "PUT") then texted (sets name) body else call (removes name)
+wanted_there paths.load method body = texted loads body
 wanted_there (paths.shift name term to amount) method body =
     shift_wanted name (number_of 255 term) (number_of 255 to) (number_of max_amount amount)
 wanted_there (paths.grant name term amount) method body =
     grant_wanted name (number_of 255 term) (number_of max_amount amount)
-wanted_there paths.gossip method body = call (deliver body)
+wanted_there paths.gossip method body = call (delivers body)
 wanted_there paths.report method body = report
 
 abbrev pub wanted_at : TargetValue → List ℕ → List ℕ → WantedValue

@@ -1,8 +1,8 @@
 //! Requests at a node.
 
-ghost use Rattle.std.specs.Prelude.{IfSome};
+ghost use Rattle.node_calls.specs.Told.{ask_told};
 ghost use Rattle.http_routes.specs.Replies.{http_value};
-ghost use Rattle.http_routes.specs.Requests.{ask_value, call, wanted};
+ghost use Rattle.http_routes.specs.Requests.{call, wanted};
 ghost use Rattle.http_routes.specs.Answers.{Answers};
 
 use crate::reply::{HttpReply, ReplyRoom};
@@ -14,8 +14,7 @@ use std::alloc::Global;
 
 // Makes a call once there is room for its reply.
 fn call(core: &mut NodeCore, alloc: Global, ask: Ask) -> HttpReply
-    ensures { IfSome (ask_value ask) (λ a.
-        Answers core.old (call a) core.new (http_value result)) }
+    ensures { Answers core.old (call (ask_told ask)) core.new (http_value result) }
 {
     let Ok(room) = ReplyRoom::new(alloc) else {
         return HttpReply::no_memory(alloc);

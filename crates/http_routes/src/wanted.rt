@@ -1,12 +1,12 @@
 //! What a request wants.
 
-ghost use Rattle.std.specs.Prelude.{◌≡◌, ◌<◌, ℕ, List, length, Some, IfOk, OnErr, option_map, string_bytes};
+ghost use Rattle.std.specs.Prelude.{◌≡◌, ◌<◌, ℕ, List, length, IfOk, OnErr, option_map, string_bytes};
 ghost use Rattle.message_format.specs.Spelling.{max_message};
 ghost use Rattle.http_paths.specs.Targets.{target_value};
 ghost use Rattle.decimals.specs.Decimals.{number_of};
 ghost use Rattle.http_routes.specs.Replies.{http_value, no_memory, text_reply};
-ghost use Rattle.http_routes.specs.Requests.{answered, ask_value, call, wanted_value, IsWanted};
-ghost use Rattle.http_routes.specs.Requests.{deliver, grant, load, remove, set, shift};
+ghost use Rattle.node_calls.specs.Told.{ask_told, delivers, grants, loads, removes, sets, shifts};
+ghost use Rattle.http_routes.specs.Requests.{answered, call, wanted_value, IsWanted};
 ghost use Rattle.http_routes.specs.Requests.{grant_wanted, is_allowed, shift_wanted, text_in};
 ghost use Rattle.http_routes.specs.Requests.{max_amount, texted, wanted, wanted_at};
 
@@ -14,7 +14,7 @@ use crate::reply::HttpReply;
 use decimals::number;
 use delta_exchange::MAX_MESSAGE;
 use http_paths::{Routes, Target};
-use node_core::Ask;
+use node_core::{Ask, AskRef};
 use std::alloc::{AllocError, Global};
 
 /// The longest body that is looked at, in bytes: that of the longest message.
@@ -41,8 +41,8 @@ fn refused(alloc: Global, status: u16, text: &str) -> Wanted
 
 // A call, if there was the memory for what it is given.
 fn doing(alloc: Global, ask: Result<Ask, AllocError>) -> Wanted
-    ensures ok { IfOk ask (λ a. wanted_value result ≡ option_map call (ask_value a)) }
-    ensures err { OnErr ask (wanted_value result ≡ Some (answered no_memory)) }
+    ensures ok { IfOk ask (λ a. wanted_value result ≡ call (ask_told a)) }
+    ensures err { OnErr ask (wanted_value result ≡ answered no_memory) }
 {
     match ask {
         Ok(ask) => Wanted::Do(ask),
@@ -59,34 +59,6 @@ fn text_in(bytes: Vec<u8>) -> Option<String>
     }
 }
 
-fn set_of(alloc: Global, name: &str, text: String) -> Result<Ask, AllocError>
-    ensures { IfOk result (λ ask. ask_value ask ≡ Some (set name.now (string_bytes text))) }
-{
-    Ok(Ask::Set {
-        name: String::from_str(alloc, name)?,
-        text,
-    })
-}
-
-fn remove_of(alloc: Global, name: &str) -> Result<Ask, AllocError>
-    ensures { IfOk result (λ ask. ask_value ask ≡ Some (remove name.now)) }
-{
-    Ok(Ask::Remove {
-        name: String::from_str(alloc, name)?,
-    })
-}
-
-fn shift_of(alloc: Global, name: &str, term: u8, to: u8, amount: u64) -> Result<Ask, AllocError>
-    ensures { IfOk result (λ ask. ask_value ask ≡ Some (shift name.now term to amount)) }
-{
-    Ok(Ask::Shift {
-        name: String::from_str(alloc, name)?,
-        term,
-        to,
-        amount,
-    })
-}
-
 // A shift, if its numbers are some.
 fn shift_wanted(alloc: Global, name: &str, term: &str, to: &str, amount: &str) -> Wanted
     ensures { IsWanted (shift_wanted name.now (number_of 255 term.now) (number_of 255 to.now)
@@ -94,20 +66,16 @@ fn shift_wanted(alloc: Global, name: &str, term: &str, to: &str, amount: &str) -
 {
     match (number(term, 255), number(to, 255), number(amount, u64::MAX)) {
         (Some(term), Some(to), Some(amount)) => {
-            doing(alloc, shift_of(alloc, name, term as u8, to as u8, amount))
+            let shift = AskRef::Shift {
+                name,
+                term: term as u8,
+                to: to as u8,
+                amount,
+            };
+            doing(alloc, shift.copied(alloc))
         }
         _ => refused(alloc, 400, "bad number"),
     }
-}
-
-fn grant_of(alloc: Global, name: &str, term: u8, amount: u64) -> Result<Ask, AllocError>
-    ensures { IfOk result (λ ask. ask_value ask ≡ Some (grant name.now term amount)) }
-{
-    Ok(Ask::Grant {
-        name: String::from_str(alloc, name)?,
-        term,
-        amount,
-    })
 }
 
 // A grant, if its numbers are some.
@@ -116,24 +84,34 @@ fn grant_wanted(alloc: Global, name: &str, term: &str, amount: &str) -> Wanted
         (number_of max_amount amount.now)) (wanted_value result) }
 {
     match (number(term, 255), number(amount, u64::MAX)) {
-        (Some(term), Some(amount)) => doing(alloc, grant_of(alloc, name, term as u8, amount)),
+        (Some(term), Some(amount)) => {
+            let grant = AskRef::Grant {
+                name,
+                term: term as u8,
+                amount,
+            };
+            doing(alloc, grant.copied(alloc))
+        }
         _ => refused(alloc, 400, "bad number"),
     }
 }
 
 // A setting, if the body is a text.
 fn set_wanted(alloc: Global, name: &str, body: Vec<u8>) -> Wanted
-    ensures { IsWanted (texted (set name.now) body.items) (wanted_value result) }
+    ensures { IsWanted (texted (sets name.now) body.items) (wanted_value result) }
 {
-    match text_in(body) {
-        Some(text) => doing(alloc, set_of(alloc, name, text)),
-        None => refused(alloc, 400, "bad text"),
+    let Some(text) = text_in(body) else {
+        return refused(alloc, 400, "bad text");
+    };
+    match String::from_str(alloc, name) {
+        Ok(name) => Wanted::Do(Ask::Set { name, text }),
+        Err(_) => Wanted::Answered(HttpReply::no_memory(alloc)),
     }
 }
 
 // A load, if the body is a text.
 fn load_wanted(alloc: Global, body: Vec<u8>) -> Wanted
-    ensures { IsWanted (texted load body.items) (wanted_value result) }
+    ensures { IsWanted (texted loads body.items) (wanted_value result) }
 {
     match text_in(body) {
         Some(text) => Wanted::Do(Ask::Load { text }),
@@ -170,7 +148,7 @@ fn wanted_at(alloc: Global, target: Target<'_>, method: &str, body: Vec<u8>) -> 
             if method == "PUT" {
                 set_wanted(alloc, name, body)
             } else {
-                doing(alloc, remove_of(alloc, name))
+                doing(alloc, AskRef::Remove { name }.copied(alloc))
             }
         }
         Target::Load => load_wanted(alloc, body),
@@ -221,7 +199,7 @@ pub fn route_owned(
 /// reading there. It is what `route` answers to any such body.
 pub fn too_long(alloc: Global, routes: &Routes, method: &str, path: &str) -> HttpReply
     ensures { (body : List ℕ) → max_message < length body
-        → IsWanted (wanted method.now path.now body) (Some (answered (http_value result))) }
+        → IsWanted (wanted method.now path.now body) (answered (http_value result)) }
 {
     match routes.target(path) {
         None => HttpReply::text(alloc, 404, "not found"),

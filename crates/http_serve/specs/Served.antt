@@ -3,35 +3,34 @@ use Rattle.std.specs.Prelude.{◌≡◌, ◌⊎◌}
 use Rattle.node_core.specs.declared.config.Config.{Config}
 use Rattle.node_calls.specs.declared.fault.NodeFault.{NodeFault}
 use Rattle.node_calls.specs.declared.receipt.Receipt.{Receipt}
-use Rattle.node_calls.specs.Asks.{Asked, reply_value}
+use Rattle.node_calls.specs.Told.{AskTold, reply_told}
+use Rattle.node_calls.specs.Asks.{asked_first, asked_from, reply_value}
 use Rattle.node_core.specs.Traces.{state_known}
 use Rattle.node_core.specs.Texts.{list_text}
 use Rattle.node_registry.specs.Cells.{Cell, IsLawfulAt}
 use Rattle.node_registry.specs.Receipts.{IsGiven, IsReceiptOf}
 use Rattle.node_registry.specs.Receipts as registry
 use Rattle.report_text.specs.Json.{report_json_text}
-use Rattle.http_routes.specs.Answers.{asked_of}
 use Rattle.http_routes.specs.Replies.{ReplyValue, IsReply, acceptance_value, no_memory, refusal_value, text_reply}
 use Rattle.http_routes.specs.Requests.{WantedValue}
 use Rattle.http_routes.specs.Requests as wants
 
 -- some lawful node of this configuration accepts the ask, and the reply is what it answers, always
-pub record IsMade (config : Config) (ask : Asked) (given : ReplyValue) : Type 0 where
+pub record IsMade (config : Config) (ask : AskTold) (given : ReplyValue) : Type 0 where
   pub receipt : Receipt
   pub accepted : IsGiven config receipt
-  pub asked : IsReceiptOf config ask receipt
+  pub asked : IsReceiptOf config (asked_from config.nodes ask (reply_told receipt.entry.reply)) receipt
   pub told : given ≡ acceptance_value (reply_value config.nodes receipt.entry.reply)
 
 -- some lawful node refuses the ask, and the reply says why
-pub record IsRefused (config : Config) (ask : Asked) (given : ReplyValue) : Type 0 where
+pub record IsRefused (config : Config) (ask : AskTold) (given : ReplyValue) : Type 0 where
   pub fault : NodeFault
-  pub refused : registry.IsRefused config ask fault
+  pub refused : registry.IsRefused config (asked_first config.nodes ask) fault
   pub told : IsReply (refusal_value fault) given
 
 -- what is wanted of a node of this configuration comes to this reply
 abbrev pub Comes : Config → WantedValue → ReplyValue → Type 0
-Comes config (wants.call a) given =
-    let ask = asked_of config.nodes a in IsMade config ask given ⊎ IsRefused config ask given
+Comes config (wants.call ask) given = IsMade config ask given ⊎ IsRefused config ask given
 Comes config wants.list given =
     (c : Cell) × IsLawfulAt config c × IsReply (text_reply 200 (list_text (state_known c.node))) given
 Comes config wants.report given =

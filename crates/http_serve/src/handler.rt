@@ -1,12 +1,13 @@
 //! Who answers the requests of all connections.
 
-ghost use Rattle.std.specs.Prelude.{◌≡◌, ◌<◌, ℕ, List, length, Some, IfOk, IfErr, IfSome};
+ghost use Rattle.std.specs.Prelude.{◌≡◌, ◌<◌, ℕ, List, length, IfOk, IfErr};
 ghost use Rattle.message_format.specs.Spelling.{max_message};
+ghost use Rattle.node_calls.specs.Told.{ask_told};
 ghost use Rattle.node_calls.specs.Asks.{ask_value_first};
 ghost use Rattle.node_registry.specs.Receipts.{IsAnswered};
 ghost use Rattle.node_registry.specs.Receipts as receipts;
 ghost use Rattle.http_routes.specs.Replies.{http_value};
-ghost use Rattle.http_routes.specs.Requests.{IsWanted, ask_value, wanted};
+ghost use Rattle.http_routes.specs.Requests.{IsWanted, wanted};
 ghost use Rattle.http_routes.specs.Requests as requests;
 ghost use Rattle.http_serve.specs.Served.{IsServed};
 
@@ -78,8 +79,7 @@ impl<L: Label> NodeHandler<L> {
     }
 
     fn call<R: Wait>(&self, rt: &R, alloc: Global, ask: Ask) -> HttpReply
-        ensures { IfSome (ask_value ask) (λ a.
-            IsServed L.config (requests.call a) (http_value result)) }
+        ensures { IsServed L.config (requests.call (ask_told ask)) (http_value result) }
     {
         let Ok(room) = ReplyRoom::new(alloc) else {
             return HttpReply::no_memory(alloc);
@@ -119,7 +119,7 @@ impl<L: Label> NodeHandler<L> {
     pub fn answer_too_long(&self, alloc: Global, method: &str, path: &str) -> HttpReply
         ensures { (body : List ℕ) → max_message < length body
             → IsWanted (wanted method.now path.now body)
-            (Some (requests.answered (http_value result))) }
+            (requests.answered (http_value result)) }
     {
         too_long(alloc, &self.routes, method, path)
     }
@@ -142,7 +142,7 @@ impl<L: Label> Handler for NodeHandler<L> {
     fn reply_too_long(&self, alloc: Global, method: &str, path: &str) -> HttpReply
         ensures { (body : List ℕ) → max_message < length body
             → IsWanted (wanted method.now path.now body)
-            (Some (requests.answered (http_value result))) }
+            (requests.answered (http_value result)) }
     {
         self.answer_too_long(alloc, method, path)
     }

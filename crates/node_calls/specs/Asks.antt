@@ -1,18 +1,15 @@
 -- What a node is asked and what it replies, without where texts lie in memory.
-use Rattle.std.specs.Prelude.{ℕ, Bool, true, false, List, [], string_bytes, Result, Ok, Err}
-use Rattle.actions.specs.Value.{TaskValue, task_value}
+use Rattle.std.specs.Prelude.{ℕ, Bool, List, [], Result, Ok, Err}
 use Rattle.stamp_register.specs.declared.key.Stamp.{Stamp}
 use Rattle.operations.specs.Operations.{Operation}
 use Rattle.message_format.specs.declared.fault.WireFault.{WireFault}
 use Rattle.message_format.specs.Messages.{MessageValue, operations_in}
 use Rattle.message_format.specs.Reading.{message_at}
 use Rattle.node_calls.specs.declared.ask.Ask.{Ask}
-use Rattle.node_calls.specs.declared.ask.Ask.TheVariants as asks
-use Rattle.node_calls.specs.declared.reply.PassReply.{PassReply}
-use Rattle.node_calls.specs.declared.reply.PassReply.TheVariants as passes
 use Rattle.node_calls.specs.declared.reply.Reply.{Reply}
-use Rattle.node_calls.specs.declared.reply.Reply.TheVariants as replies
 use Rattle.node_calls.specs.declared.trace.Entry.{Entry}
+use Rattle.node_calls.specs.Told.{Told, AskTold, ReplyTold, Passed, ask_told, reply_told, told}
+use Rattle.node_calls.specs.Told as tells
 
 -- what one node tells another: operations that it knows, the version of its own that it counts on the
 -- receiver to have (base), its own version (upto), and the version of the receiver that it has (ack)
@@ -45,12 +42,6 @@ pub data Asked : Type 0 where
   Emit : (to : ℕ) (versions : Versions) (chosen : List Operation) → Asked
   Deliver : (read : Result Message WireFault) → Asked
 
--- what a pass came to: the point isn't set, no term was triggered, or this one was
-pub data Passed : Type 0 where
-  Unset : Passed
-  NoTerm : (stamp : Stamp) → Passed
-  Act : (stamp : Stamp) (term : ℕ) (task : TaskValue) → Passed
-
 pub data Answered : Type 0 where
   IsSet : (stamp : Stamp) → Answered
   IsRemoved : (stamp : Stamp) → Answered
@@ -67,7 +58,7 @@ pub record Call : Type 0 where
   pub words : List ℕ
   pub reply : Answered
 
--- ---- the program's asks and replies as those of the definitions
+-- ---- from what an entry tells to the definitions' calls
 
 -- a message with the operations that its entries tell
 abbrev pub message_of : MessageValue → Message
@@ -90,57 +81,58 @@ abbrev pub emit_of : ℕ → Result Message WireFault → Asked
 emit_of to (Ok m) = Emit to (record { base = m.base; upto = m.upto; ack = m.ack }) m.ops
 emit_of to (Err fault) = bare_emit to
 
+abbrev pub emit_asked_by : ℕ → ℕ → ReplyTold → Asked
+emit_asked_by nodes to (tells.was_emitted bytes) = emit_of to (message_read nodes bytes)
+emit_asked_by nodes to _ = bare_emit to
+
+-- what an ask that tells this asks, where an emit asks that
+abbrev pub asked_with : ℕ → (ℕ → Asked) → AskTold → Asked
+asked_with nodes emit (tells.sets name text) = Set name text
+asked_with nodes emit (tells.removes name) = Remove name
+asked_with nodes emit (tells.loads text) = Load text
+asked_with nodes emit (tells.passes name) = Pass name
+asked_with nodes emit (tells.shifts name term to amount) = Shift name term to amount
+asked_with nodes emit (tells.grants name term amount) = Grant name term amount
+asked_with nodes emit (tells.emits to) = emit to
+asked_with nodes emit (tells.delivers bytes) = Deliver (message_read nodes bytes)
+
+-- where the reply tells this
+abbrev pub asked_from : ℕ → AskTold → ReplyTold → Asked
+asked_from nodes ask reply = asked_with nodes (λ to. emit_asked_by nodes to reply) ask
+
+-- before there is a reply: of an emit no versions and no operations are chosen yet
+abbrev pub asked_first : ℕ → AskTold → Asked
+asked_first nodes ask = asked_with nodes bare_emit ask
+
+-- what a reply that tells this answers
+abbrev pub answered_from : ℕ → ReplyTold → Answered
+answered_from nodes (tells.was_set stamp) = IsSet stamp
+answered_from nodes (tells.was_removed stamp) = IsRemoved stamp
+answered_from nodes (tells.was_loaded entries) = IsLoaded entries
+answered_from nodes (tells.was_passed passed) = IsPassed passed
+answered_from nodes (tells.was_shifted total) = IsShifted total
+answered_from nodes (tells.was_granted total) = IsGranted total
+answered_from nodes (tells.was_emitted bytes) = IsEmitted (message_read nodes bytes)
+answered_from nodes (tells.was_delivered changed) = IsDelivered changed
+
+-- the call of an entry that tells this, in a cluster of so many nodes
+abbrev pub call_from : ℕ → Told → Call
+call_from nodes t =
+    record { ask = asked_from nodes t.ask t.reply; words = t.words; reply = answered_from nodes t.reply }
+
+-- ---- the same of the code's asks, replies and entries
+
 abbrev pub emit_asked : ℕ → ℕ → Reply → Asked
-emit_asked nodes to (replies.Emit bytes) = emit_of to (message_read nodes bytes.items)
-emit_asked nodes to _ = bare_emit to
+emit_asked nodes to reply = emit_asked_by nodes to (reply_told reply)
 
--- what is asked, where an emit asks this
-abbrev pub ask_value_with : ℕ → (ℕ → Asked) → Ask → Asked
-ask_value_with nodes emit (asks.Set name text) = Set (string_bytes name) (string_bytes text)
-ask_value_with nodes emit (asks.Remove name) = Remove (string_bytes name)
-ask_value_with nodes emit (asks.Load text) = Load (string_bytes text)
-ask_value_with nodes emit (asks.Pass name) = Pass (string_bytes name)
-ask_value_with nodes emit (asks.Shift name term to amount) = Shift (string_bytes name) term to amount
-ask_value_with nodes emit (asks.Grant name term amount) = Grant (string_bytes name) term amount
-ask_value_with nodes emit (asks.Emit to) = emit to
-ask_value_with nodes emit (asks.Deliver bytes) = Deliver (message_read nodes bytes.items)
-
--- what is asked, where this is the reply
 abbrev pub ask_value : ℕ → Ask → Reply → Asked
-ask_value nodes ask reply = ask_value_with nodes (λ to. emit_asked nodes to reply) ask
+ask_value nodes ask reply = asked_from nodes (ask_told ask) (reply_told reply)
 
--- what is asked, before there is a reply: of an emit no versions and no operations are chosen yet
 abbrev pub ask_value_first : ℕ → Ask → Asked
-ask_value_first nodes ask = ask_value_with nodes bare_emit ask
-
-abbrev pub is_pass : Ask → Bool
-is_pass (asks.Pass name) = true
-is_pass _ = false
-
-abbrev pub is_delivery : Ask → Bool
-is_delivery (asks.Deliver bytes) = true
-is_delivery _ = false
-
--- the bytes of a delivery
-abbrev pub bytes_of : Ask → List ℕ
-bytes_of (asks.Deliver bytes) = bytes.items
-bytes_of _ = []
-
-abbrev pub passed : PassReply → Passed
-passed passes.Unset = Unset
-passed (passes.NoTerm stamp) = NoTerm stamp
-passed (passes.Act term stamp task) = Act stamp term (task_value task)
+ask_value_first nodes ask = asked_first nodes (ask_told ask)
 
 abbrev pub reply_value : ℕ → Reply → Answered
-reply_value nodes (replies.Set stamp) = IsSet stamp
-reply_value nodes (replies.Remove stamp) = IsRemoved stamp
-reply_value nodes (replies.Load entries) = IsLoaded entries
-reply_value nodes (replies.Pass reply) = IsPassed (passed reply)
-reply_value nodes (replies.Shift total) = IsShifted total
-reply_value nodes (replies.Grant total) = IsGranted total
-reply_value nodes (replies.Emit bytes) = IsEmitted (message_read nodes bytes.items)
-reply_value nodes (replies.Deliver changed) = IsDelivered changed
+reply_value nodes reply = answered_from nodes (reply_told reply)
 
--- an entry of a node's trace, in a cluster of so many nodes
 abbrev pub call : ℕ → Entry → Call
-call nodes e = record { ask = ask_value nodes e.ask e.reply; words = e.words.items; reply = reply_value nodes e.reply }
+call nodes e = call_from nodes (told e)

@@ -1,3 +1,3 @@
-pub mod Asks
 pub mod Told
+pub mod Asks
 pub mod FaultText

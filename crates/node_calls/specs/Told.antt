@@ -1,14 +1,16 @@
 -- What an entry of a trace tells, to the byte, without where it lies in memory.
-use Rattle.std.specs.Prelude.{ℕ, Bool, List, string_bytes, Option, Some, None}
+use Rattle.std.specs.Prelude.{ℕ, Bool, true, false, List, [], string_bytes, Option, Some, None}
+use Rattle.actions.specs.Value.{TaskValue, task_value}
 use Rattle.stamp_register.specs.declared.key.Stamp.{Stamp}
 use Rattle.node_calls.specs.declared.ask.Ask.{Ask}
 use Rattle.node_calls.specs.declared.ask.Ask.TheVariants as asks
 use Rattle.node_calls.specs.declared.ask_ref.AskRef.{AskRef}
 use Rattle.node_calls.specs.declared.ask_ref.AskRef.TheVariants as refs
+use Rattle.node_calls.specs.declared.reply.PassReply.{PassReply}
+use Rattle.node_calls.specs.declared.reply.PassReply.TheVariants as replied
 use Rattle.node_calls.specs.declared.reply.Reply.{Reply}
 use Rattle.node_calls.specs.declared.reply.Reply.TheVariants as replies
 use Rattle.node_calls.specs.declared.trace.Entry.{Entry}
-use Rattle.node_calls.specs.Asks.{Passed, passed}
 
 -- what was asked
 pub data AskTold : Type 0 where
@@ -41,6 +43,31 @@ ask_ref_told (refs.Shift name term to amount) = shifts name.now term to amount
 ask_ref_told (refs.Grant name term amount) = grants name.now term amount
 ask_ref_told (refs.Emit to) = emits to
 ask_ref_told (refs.Deliver bytes) = delivers bytes.now
+
+-- the random draws of a call are those of a pass
+abbrev pub is_pass : AskTold → Bool
+is_pass (passes name) = true
+is_pass _ = false
+
+abbrev pub is_delivery : AskTold → Bool
+is_delivery (delivers bytes) = true
+is_delivery _ = false
+
+-- the bytes of a delivery
+abbrev pub bytes_of : AskTold → List ℕ
+bytes_of (delivers bytes) = bytes
+bytes_of _ = []
+
+-- what a pass came to: the point isn't set, no term was triggered, or this one was
+pub data Passed : Type 0 where
+  Unset : Passed
+  NoTerm : (stamp : Stamp) → Passed
+  Act : (stamp : Stamp) (term : ℕ) (task : TaskValue) → Passed
+
+abbrev pub passed : PassReply → Passed
+passed replied.Unset = Unset
+passed (replied.NoTerm stamp) = NoTerm stamp
+passed (replied.Act term stamp task) = Act stamp term (task_value task)
 
 -- what was answered
 pub data ReplyTold : Type 0 where

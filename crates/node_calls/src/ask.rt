@@ -3,8 +3,8 @@
 ghost use Rattle.std.specs.Prelude.{◌≡◌, ℕ, IfOk, IfErr, OnErr, false};
 ghost use Rattle.node_calls.specs.declared.ask.Ask.TheVariants.{Deliver};
 ghost use Rattle.node_calls.specs.declared.reply.Reply.{Reply};
-ghost use Rattle.node_calls.specs.Asks.{ask_value, bytes_of, is_delivery, is_pass};
-ghost use Rattle.node_calls.specs.Told.{ask_ref_told, ask_told};
+ghost use Rattle.node_calls.specs.Told.{ask_ref_told, ask_told, is_delivery, is_pass};
+ghost use Rattle.node_calls.specs.Asks.{ask_value};
 
 use crate::ask_ref::AskRef;
 use std::alloc::{AllocError, Global};
@@ -99,8 +99,6 @@ impl Ask {
         ensures told { IfOk result (λ copy. ask_told copy ≡ ask_told self.now) }
         ensures same { IfOk result (λ copy. (nodes : ℕ) (reply : Reply)
             → ask_value nodes copy reply ≡ ask_value nodes self.now reply) }
-        // Also of bytes that are no message.
-        ensures bytes { IfOk result (λ copy. bytes_of copy ≡ bytes_of self.now) }
     {
         self.as_ref().copied(alloc)
     }
@@ -109,7 +107,7 @@ impl Ask {
     pub fn into_message(self) -> Result<Vec<u8>, Ask>
         ensures ok { IfOk result (λ message. self ≡ Deliver message) }
         ensures err { IfErr result (λ ask. ask ≡ self) }
-        ensures other { OnErr result (is_delivery self ≡ false) }
+        ensures other { OnErr result (is_delivery (ask_told self) ≡ false) }
     {
         match self {
             Ask::Deliver { message } => Ok(message),
@@ -119,11 +117,8 @@ impl Ask {
 
     /// Whether it asks to pass a point.
     pub fn is_pass(&self) -> bool
-        ensures { result ≡ is_pass self.now }
+        ensures { result ≡ is_pass (ask_told self.now) }
     {
-        match self {
-            Ask::Pass { .. } => true,
-            _ => false,
-        }
+        self.as_ref().is_pass()
     }
 }

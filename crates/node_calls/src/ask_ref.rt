@@ -1,14 +1,14 @@
 //! What a node is asked, with its texts where they stand.
 
 ghost use Rattle.std.specs.Prelude.{◌≡◌, IfOk};
-ghost use Rattle.node_calls.specs.Told.{ask_ref_told, ask_told};
+ghost use Rattle.node_calls.specs.Told.{ask_ref_told, ask_told, is_pass};
 
 use crate::ask::Ask;
 use std::alloc::{AllocError, Global};
 
 /// What a node is asked, with its texts and its message where they stand: an `Ask` without memory of
 /// its own.
-#[derive(Clone, Copy)]
+#[derive(Clone, Copy, Debug)]
 pub enum AskRef<'a> {
     /// Sets a point to an action text.
     Set {
@@ -51,6 +51,22 @@ pub enum AskRef<'a> {
 }
 
 impl AskRef<'_> {
+    /// Whether it asks to pass a point.
+    pub fn is_pass(self) -> bool
+        ensures { result ≡ is_pass (ask_ref_told self.entry) }
+    {
+        match self {
+            AskRef::Pass { .. } => true,
+            AskRef::Set { .. }
+            | AskRef::Remove { .. }
+            | AskRef::Load { .. }
+            | AskRef::Shift { .. }
+            | AskRef::Grant { .. }
+            | AskRef::Emit { .. }
+            | AskRef::Deliver { .. } => false,
+        }
+    }
+
     /// A value with memory of its own that asks the same. The only error is out of memory.
     pub fn copied(self, alloc: Global) -> Result<Ask, AllocError>
         ensures { IfOk result (λ copy. ask_told copy ≡ ask_ref_told self.entry) }

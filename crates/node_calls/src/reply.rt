@@ -1,7 +1,7 @@
 //! What a node answers.
 
 ghost use Rattle.std.specs.Prelude.{◌≡◌, IfOk};
-ghost use Rattle.node_calls.specs.Asks.{passed};
+ghost use Rattle.node_calls.specs.Told.{passed};
 
 use actions::Task;
 use stamp_register::Stamp;

@@ -1,6 +1,7 @@
 -- The last call of a trace.
 use Rattle.std.specs.Prelude.{◌-◌, List, length, slice_get, Option, Some, None}
-use Rattle.node_calls.specs.Asks.{Answered, Call, Passed, IsPassed}
+use Rattle.node_calls.specs.Asks.{Answered, Call, IsPassed}
+use Rattle.node_calls.specs.Told.{Passed}
 use Rattle.node_core.specs.Traces.{Kept}
 
 abbrev pub last_call : List Call → Option Call

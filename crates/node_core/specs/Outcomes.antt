@@ -11,7 +11,8 @@ use Rattle.replica_state.specs.States.{State, with_name, with_key, with_pass}
 use Rattle.message_format.specs.Spelling.{IsBody}
 use Rattle.node_core.specs.Passes.{next_hit, next_exec}
 use Rattle.node_core.specs.Steps.{new_key, settings}
-use Rattle.node_calls.specs.Asks.{Load, Passed, Unset, NoTerm, Act}
+use Rattle.node_calls.specs.Asks.{Load}
+use Rattle.node_calls.specs.Told.{Passed, Unset, NoTerm, Act}
 use Rattle.node_core.specs.Traces.{Kept, last_clock}
 
 -- the task of a term, and none is that which does nothing

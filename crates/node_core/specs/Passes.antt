@@ -7,7 +7,7 @@ use Rattle.stamp_register.specs.Keys.{KeyValue, stamp_of}
 use Rattle.operations.specs.Operations.{Operation, Count, Hits, Execs, count_at}
 use Rattle.replica_state.specs.States.{State, budget}
 use Rattle.node_core.specs.Nodes.{setting_of, terms_in}
-use Rattle.node_calls.specs.Asks.{Passed, Unset, NoTerm, Act}
+use Rattle.node_calls.specs.Told.{Passed, Unset, NoTerm, Act}
 
 -- node i has rights of this amount of a term of the key that is counted so
 abbrev pub has_rights_of : ℕ → State → List ℕ → KeyValue → ℕ → ℕ → Option ℕ → Bool

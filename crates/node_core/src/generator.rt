@@ -3,7 +3,7 @@
 ghost use Rattle.std.specs.Prelude.{◌≡◌, ◌⊎◌, ◌+◌, ◌<◌, ◌^◌, ◌%◌, vec_len, IfOk, IfErr, IsErrOf, OnErr, OnOk};
 ghost use Rattle.rand_chacha.specs.ChaCha.{ChaCha, key_of};
 ghost use Rattle.node_calls.specs.Asks as asks;
-ghost use Rattle.node_calls.specs.Asks.{passed};
+ghost use Rattle.node_calls.specs.Told.{passed};
 ghost use Rattle.node_core.specs.Memory.{NameNeedsMemory};
 ghost use Rattle.node_core.specs.Passes.{words_for};
 ghost use Rattle.node_core.specs.Traces.{Accepts, IsRefusalOf, state_known};

@@ -9,7 +9,8 @@ use Rattle.node_calls.specs.declared.reply.Reply.{Reply}
 use Rattle.node_calls.specs.declared.reply.Reply.TheVariants as replies
 use Rattle.node_calls.specs.declared.trace.Entry.{Entry}
 use Rattle.node_core.specs.Applied.{TellsIfEmit}
-use Rattle.node_calls.specs.Asks.{Asked, Call, ask_value, ask_value_first, is_pass, reply_value}
+use Rattle.node_calls.specs.Asks.{Asked, Call, ask_value, ask_value_first, reply_value}
+use Rattle.node_calls.specs.Told.{ask_told, is_pass}
 use Rattle.node_core.specs.Traces.{Kept, Accepts, IsRefusalOf, Records, call_of}
 use Rattle.node_core.specs.Words.{words_from, words_next, place_after}
 use Rattle.node_registry.specs.Words.{words_taken}
@@ -25,7 +26,7 @@ drawn_none g n none =
     )
 
 -- only a pass takes words
-pub takes_none : (k : Kept) (ask : Ask) → is_pass ask ≡ false → words_taken k (ask_value_first k.config.nodes ask) ≡ 0
+pub takes_none : (k : Kept) (ask : Ask) → is_pass (ask_told ask) ≡ false → words_taken k (ask_value_first k.config.nodes ask) ≡ 0
 takes_none k (asked.Pass name) h = absurd (let no : ⊥ = cc in no)
 takes_none k (asked.Set name text) h = refl
 takes_none k (asked.Remove name) h = refl
@@ -53,7 +54,7 @@ pub record Draws (k new : Kept) (g after : ChaCha) (e : Entry) : Type 0 where
   pub words : e.words.items ≡ words_next g (words_taken k (ask_value_first k.config.nodes e.ask))
   pub place : after ≡ place_after g (words_taken k (ask_value_first k.config.nodes e.ask))
   pub few : words_taken k (ask_value_first k.config.nodes e.ask) < 2 ^ 8
-  pub told : TellsIfEmit k e.ask e.reply
+  pub told : TellsIfEmit k (ask_told e.ask) e.reply
 
 pub entered : (k new : Kept) (g after : ChaCha) (e : Entry) → Draws k new g after e → Enters (cell_of k g) (cell_of new after) e
 entered k new g after e d =

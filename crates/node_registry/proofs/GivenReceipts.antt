@@ -9,7 +9,8 @@ use Rattle.node_calls.specs.declared.fault.NodeFault.{NodeFault}
 use Rattle.node_calls.specs.declared.fault.NodeFault.TheVariants.{OutOfMemory}
 use Rattle.node_calls.specs.declared.receipt.Receipt.{Receipt}
 use Rattle.node_calls.specs.declared.reply.Reply.{Reply}
-use Rattle.node_calls.specs.Asks.{Asked, ask_value, ask_value_first, bytes_of}
+use Rattle.node_calls.specs.Asks.{Asked, ask_value, ask_value_first}
+use Rattle.node_calls.specs.Told.{ask_told, bytes_of}
 use Rattle.node_registry.specs.Cells.{Cell, Enters, IsLawfulAt, IsRefusedBy, Submits, new_cell}
 use Rattle.node_registry.specs.Receipts.{receipt_of, IsAnswered, IsGiven, IsReceiptOf, IsRefused}
 use Rattle.node_registry.proofs.LawfulCells.{new_lawful}
@@ -51,8 +52,8 @@ receipt_is_by config ask asked same (Err f) node is = tt
 pub receipt_is_of : (config : Config) (ask : Ask) (asked : Asked) → ((reply : Reply) → ask_value config.nodes ask reply ≡ asked) → (r : Result Receipt NodeFault) → IfOk r (λ x. x.node ≡ config.node) → IfOk r (λ x. x.entry.ask ≡ ask) → IfOk r (IsReceiptOf config asked)
 receipt_is_of config ask asked same r node is = receipt_is_by config ask (λ reply. asked) same r node is
 
-pub receipt_has_bytes : (ask : Ask) (bytes : List ℕ) → bytes_of ask ≡ bytes → (r : Result Receipt NodeFault) → IfOk r (λ x. x.entry.ask ≡ ask) → IfOk r (λ x. bytes_of x.entry.ask ≡ bytes)
-receipt_has_bytes ask bytes same (Ok x) is = (λ i. bytes_of (is i)) ∙ same
+pub receipt_has_bytes : (ask : Ask) (bytes : List ℕ) → bytes_of (ask_told ask) ≡ bytes → (r : Result Receipt NodeFault) → IfOk r (λ x. x.entry.ask ≡ ask) → IfOk r (λ x. bytes_of (ask_told x.entry.ask) ≡ bytes)
+receipt_has_bytes ask bytes same (Ok x) is = (λ i. bytes_of (ask_told (is i))) ∙ same
 receipt_has_bytes ask bytes same (Err f) is = tt
 
 -- and what its refusal says

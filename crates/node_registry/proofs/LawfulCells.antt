@@ -14,15 +14,15 @@ use Rattle.node_calls.specs.declared.reply.Reply.{Reply}
 use Rattle.node_calls.specs.declared.reply.Reply.TheVariants as replies
 use Rattle.node_calls.specs.declared.trace.Entry.{Entry}
 use Rattle.message_format.specs.declared.fault.WireFault.{WireFault}
-use Rattle.node_core.specs.Applied.{TellsIfEmit}
 use Rattle.node_calls.specs.Asks.{Asked, Call, ask_value, ask_value_first, emit_asked, emit_of, message_read, Message}
 use Rattle.node_calls.specs.Asks as asks
+use Rattle.node_calls.specs.Told.{ask_told}
 use Rattle.node_core.specs.Nodes.{Node, start}
 use Rattle.node_core.specs.Steps.{after, reply}
 use Rattle.node_core.specs.Refusals.{refusal_at, is_full}
 use Rattle.node_core.specs.Traces.{Kept, SendsDelta, IsLegal, IsLegalFrom, Accepts, Records, node_of, refusal, entry_for, after_call, call_of, replay_from}
 use Rattle.node_core.proofs.LegalTraces.{legal_more, nothing_legal}
-use Rattle.node_core.proofs.RepliedDelta.{delta_sends}
+use Rattle.node_core.proofs.RepliedDelta.{call_sends}
 use Rattle.node_core.specs.Words.{words_from, words_next, place_after}
 use Rattle.node_registry.specs.Words.{words_of, words_taken}
 use Rattle.node_registry.specs.Cells.{Cell, cell_of, new_cell, next_words, Enters, IsLawful, IsWithinBounds}
@@ -35,27 +35,6 @@ words_of-push (x ∷ cs) c = ap (λ ws. x.words ++ ws) (words_of-push cs c) ∙ 
 
 pub new_lawful : (config : Config) (seed : List ℕ) → IsLawful (new_cell config seed)
 new_lawful config seed = record { legal = nothing_legal config; drawn = refl }
-
--- an emit that tells what differs is one of a legal trace
-emit_sends : (k : Kept) (to : ℕ) (reply : Reply) → TellsIfEmit k (asked.Emit to) reply → SendsDelta (node_of k) (emit_asked k.config.nodes to reply)
-emit_sends k to (replies.Emit bytes) tells = delta_sends k to bytes.items tells
-emit_sends k to (replies.Set stamp) tells = absurd tells
-emit_sends k to (replies.Remove stamp) tells = absurd tells
-emit_sends k to (replies.Load entries) tells = absurd tells
-emit_sends k to (replies.Pass passed) tells = absurd tells
-emit_sends k to (replies.Shift total) tells = absurd tells
-emit_sends k to (replies.Grant total) tells = absurd tells
-emit_sends k to (replies.Deliver changed) tells = absurd tells
-
-sends : (k : Kept) (ask : Ask) (reply : Reply) → TellsIfEmit k ask reply → SendsDelta (node_of k) (ask_value k.config.nodes ask reply)
-sends k (asked.Emit to) reply tells = emit_sends k to reply tells
-sends k (asked.Set name text) reply tells = tt
-sends k (asked.Remove name) reply tells = tt
-sends k (asked.Load text) reply tells = tt
-sends k (asked.Pass name) reply tells = tt
-sends k (asked.Shift name term to amount) reply tells = tt
-sends k (asked.Grant name term amount) reply tells = tt
-sends k (asked.Deliver bytes) reply tells = tt
 
 -- the cell after a call that is accepted with the next words
 abbrev cell_after : Cell → Asked → Cell
@@ -134,4 +113,4 @@ taken_first k (asked.Deliver bytes) reply = refl
 
 pub stays_lawful : (c d : Cell) (e : Entry) → IsLawful c → Enters c d e → IsLawful d
 stays_lawful c d e h enters =
-    subst IsLawful (sym (entered_is c d e enters)) (lawful_after c (call_of c.node e).ask h enters.records.0 (sends c.node e.ask e.reply enters.tells))
+    subst IsLawful (sym (entered_is c d e enters)) (lawful_after c (call_of c.node e).ask h enters.records.0 (call_sends c.node (ask_told e.ask) e.reply enters.tells))

@@ -8,6 +8,7 @@ use Rattle.node_calls.specs.declared.reply.Reply.{Reply}
 use Rattle.node_calls.specs.declared.trace.Entry.{Entry}
 use Rattle.node_core.specs.Applied.{TellsIfEmit}
 use Rattle.node_calls.specs.Asks.{Asked}
+use Rattle.node_calls.specs.Told.{ask_told}
 use Rattle.node_core.specs.Traces.{Kept, IsLegal, IsRefusalOf, Records, call_of}
 use Rattle.node_core.specs.Words.{words_from}
 use Rattle.node_registry.specs.Words.{words_of, words_taken}
@@ -33,7 +34,7 @@ next_words c ask = words_from c.key c.node.config.node c.place (words_taken c.no
 -- the call of this entry is accepted with the next words, and the cell is then the second one
 pub record Enters (c d : Cell) (e : Entry) : Type 0 where
   pub records : Records c.node d.node (call_of c.node e) (next_words c (call_of c.node e).ask)
-  pub tells : TellsIfEmit c.node e.ask e.reply
+  pub tells : TellsIfEmit c.node (ask_told e.ask) e.reply
   pub key : d.key ≡ c.key
   pub place : d.place ≡ c.place + words_taken c.node (call_of c.node e).ask
 

@@ -6,13 +6,14 @@ use Rattle.node_calls.specs.declared.fault.NodeFault.{NodeFault}
 use Rattle.node_calls.specs.declared.receipt.Receipt.{Receipt}
 use Rattle.node_calls.specs.declared.reply.Reply.{Reply}
 use Rattle.node_calls.specs.declared.trace.Entry.{Entry}
-use Rattle.node_calls.specs.Asks.{Asked, ask_value, bytes_of}
+use Rattle.node_calls.specs.Asks.{Asked, ask_value}
+use Rattle.node_calls.specs.Told.{ask_told, bytes_of}
 use Rattle.node_registry.specs.Cells.{Cell, Enters, IsLawfulAt, IsRefusedBy}
 
 -- an entry is of this ask, to the byte, in a cluster of so many nodes
 pub record IsEntryFor (nodes : ℕ) (ask : Ask) (e : Entry) : Type 0 where
   pub asked : ask_value nodes e.ask e.reply ≡ ask_value nodes ask e.reply
-  pub bytes : bytes_of e.ask ≡ bytes_of ask
+  pub bytes : bytes_of (ask_told e.ask) ≡ bytes_of (ask_told ask)
 
 -- the receipt of an entry: its node's number, and how many entries the trace had before it
 abbrev pub receipt_of : Cell → Entry → Receipt

@@ -3,7 +3,8 @@
 ghost use Rattle.std.specs.Prelude.{◌≡◌, ℕ, ◌+◌, ◌≤◌, ◌<◌, ◌⊎◌, length, map, sum, vec_len, All, IfOk, IfErr, OnErr, OnOk, IsTrue, false};
 ghost use Rattle.std.specs.Fn.{FnOnceReturnsAt};
 ghost use Rattle.node_calls.specs.Asks as asks;
-ghost use Rattle.node_calls.specs.Asks.{ask_value_first, bare_emit, bytes_of, call};
+ghost use Rattle.node_calls.specs.Asks.{ask_value_first, bare_emit, call};
+ghost use Rattle.node_calls.specs.Told.{ask_told, bytes_of};
 ghost use Rattle.node_calls.specs.Asks.{emit_asked, message_read};
 ghost use Rattle.node_core.specs.Refusals.{is_bad_config};
 ghost use Rattle.node_core.specs.Traces.{IsLegal};
@@ -292,7 +293,7 @@ impl<L: Label> Registry<L> {
     ) -> Result<Receipt, NodeFault>
         ensures receipt { IfOk result
             (IsReceiptOf L.config (asks.Deliver (message_read L.config.nodes message.now))) }
-        ensures bytes { IfOk result (λ r. bytes_of r.entry.ask ≡ message.now) }
+        ensures bytes { IfOk result (λ r. bytes_of (ask_told r.entry.ask) ≡ message.now) }
         ensures given { IfOk result (IsGiven L.config) }
         ensures since { IfOk result (λ r. seat.old ≤ r.index) }
         ensures counted { OnOk result (seat.new ≡ seat.old + 1) }

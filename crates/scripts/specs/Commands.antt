@@ -1,8 +1,10 @@
 -- What a line asks for.
 use Rattle.std.specs.Prelude.{ℕ, List, [], ◌∷◌, if◌then◌else◌, Option, Some, None, codes}
 use Rattle.std.specs.Str.{bytes_eq}
-use Rattle.cluster_model.specs.Events.{EventValue, sets, removes, loads, passes, shifts, grants, emits, delivers, event_value}
-use Rattle.decimals.specs.Decimals.{byte_of, word_of, amount_of}
+use Rattle.node_calls.specs.Told.{emits, passes}
+use Rattle.call_lines.specs.Calls.{call_after}
+use Rattle.cluster_model.specs.Events.{EventValue, calls, delivers, event_value}
+use Rattle.decimals.specs.Decimals.{byte_of, word_of}
 use Rattle.streams.specs.Lines.{◌>>=◌}
 use Rattle.streams.specs.Fields.{fields_of, cut_of, field_of, field_cut_of, byte_cut_of}
 use Rattle.scripts.specs.declared.command.Question.{Question}
@@ -46,25 +48,12 @@ nodes_in rest = do
   cap ← word_of (count.1)
   Some (nodes (count.0) cap)
 
--- `set <node> <name> <rest>`, whose rest may be empty and have spaces
-abbrev pub set_in : List ℕ → Option CommandValue
-set_in rest = do
+-- `<word> <node> <rest>`: a call of a node that takes no random draws, and makes and takes no message
+abbrev pub call_in : List ℕ → List ℕ → Option CommandValue
+call_in word rest = do
   node ← byte_cut_of rest
-  name ← field_cut_of (node.1)
-  Some (event (sets (node.0) (name.0) (name.1)))
-
--- `remove <node> <name>`
-abbrev pub remove_in : List ℕ → Option CommandValue
-remove_in rest = do
-  node ← byte_cut_of rest
-  name ← field_of (node.1)
-  Some (event (removes (node.0) name))
-
--- `load <node> <rest>`, whose rest may be empty and have spaces
-abbrev pub load_in : List ℕ → Option CommandValue
-load_in rest = do
-  node ← byte_cut_of rest
-  Some (event (loads (node.0) (node.1)))
+  ask ← call_after word (node.1)
+  Some (event (calls (node.0) ask []))
 
 -- numbers, where each field is one
 abbrev pub words_of : List (List ℕ) → Option (List ℕ)
@@ -79,7 +68,7 @@ abbrev pub pass_with : ℕ → Option (List ℕ) → Option (List ℕ) → Optio
 pass_with node name words = do
   name ← name
   words ← words
-  Some (event (passes node name words))
+  Some (event (calls node (passes name) words))
 
 abbrev pub pass_parts : ℕ → List ℕ → Option (List ℕ × List ℕ) → Option CommandValue
 pass_parts node rest None = pass_with node (field_of rest) (Some [])
@@ -91,31 +80,12 @@ pass_in rest = do
   node ← byte_cut_of rest
   pass_parts (node.0) (node.1) (cut_of (node.1))
 
--- `shift <node> <name> <term> <to> <amount>`
-abbrev pub shift_in : List ℕ → Option CommandValue
-shift_in rest = do
-  node ← byte_cut_of rest
-  name ← field_cut_of (node.1)
-  term ← byte_cut_of (name.1)
-  to ← byte_cut_of (term.1)
-  amount ← amount_of (to.1)
-  Some (event (shifts (node.0) (name.0) (term.0) (to.0) amount))
-
--- `grant <node> <name> <term> <amount>`
-abbrev pub grant_in : List ℕ → Option CommandValue
-grant_in rest = do
-  node ← byte_cut_of rest
-  name ← field_cut_of (node.1)
-  term ← byte_cut_of (name.1)
-  amount ← amount_of (term.1)
-  Some (event (grants (node.0) (name.0) (term.0) amount))
-
 -- `emit <node> <to>`
 abbrev pub emit_in : List ℕ → Option CommandValue
 emit_in rest = do
   node ← byte_cut_of rest
   to ← byte_of (node.1)
-  Some (event (emits (node.0) to))
+  Some (event (calls (node.0) (emits to) []))
 
 -- `deliver <node> <message>`
 abbrev pub deliver_in : List ℕ → Option CommandValue
@@ -163,19 +133,14 @@ hits_in rest = do
 -- by the line's first word, what follows it; but for a pass
 abbrev pub plain_command_after : List ℕ → List ℕ → Option CommandValue
 plain_command_after word rest =
-    if bytes_eq word (codes "set") then set_in rest else
-    (if bytes_eq word (codes "remove") then remove_in rest else
-    (if bytes_eq word (codes "load") then load_in rest else
-    (if bytes_eq word (codes "shift") then shift_in rest else
-    (if bytes_eq word (codes "grant") then grant_in rest else
-    (if bytes_eq word (codes "emit") then emit_in rest else
+    if bytes_eq word (codes "emit") then emit_in rest else
     (if bytes_eq word (codes "deliver") then deliver_in rest else
     (if bytes_eq word (codes "list") then list_in rest else
     (if bytes_eq word (codes "report") then report_in rest else
     (if bytes_eq word (codes "rights") then rights_in rest else
     (if bytes_eq word (codes "spent") then spent_in rest else
     (if bytes_eq word (codes "hits") then hits_in rest else
-    (if bytes_eq word (codes "nodes") then nodes_in rest else None))))))))))))
+    (if bytes_eq word (codes "nodes") then nodes_in rest else call_in word rest)))))))
 
 -- the same of any
 abbrev pub command_after : List ℕ → List ℕ → Option CommandValue

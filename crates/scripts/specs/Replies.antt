@@ -4,7 +4,8 @@ use Rattle.std.specs.declared.alloc.Global.{Global}
 use Rattle.actions.specs.Canonical.{task_text}
 use Rattle.stamp_register.specs.declared.key.Stamp.{Stamp}
 use Rattle.stamp_register.specs.Keys.{stamp_text}
-use Rattle.node_calls.specs.Asks.{Passed, Unset, NoTerm, Act, Answered, IsSet, IsRemoved, IsLoaded, IsPassed, IsShifted, IsGranted, IsEmitted, IsDelivered}
+use Rattle.node_calls.specs.Asks.{Answered, IsSet, IsRemoved, IsLoaded, IsPassed, IsShifted, IsGranted, IsEmitted, IsDelivered}
+use Rattle.node_calls.specs.Told.{Passed, Unset, NoTerm, Act}
 use Rattle.cluster_model.specs.declared.fault.WorldFault.{WorldFault}
 use Rattle.cluster_model.specs.Events.{Answer}
 use Rattle.cluster_model.specs.FaultText.{world_fault_text}

@@ -3,10 +3,12 @@
 ghost use Rattle.std.specs.Prelude.{◌≡◌, false, option_map, IfOk};
 ghost use Rattle.std.specs.Vec.{vec_items};
 ghost use Rattle.streams.specs.Fields.{has_space, field_of, fields_of};
-ghost use Rattle.scripts.specs.Commands.{command_value, words_of, nodes_in, set_in, remove_in, load_in, pass_with, pass_in, shift_in, grant_in, emit_in, deliver_in, list_in, report_in, rights_in, spent_in, hits_in, plain_command_after, command_after, command_of};
+ghost use Rattle.scripts.specs.Commands.{command_value, words_of, nodes_in, call_in, pass_with, pass_in, emit_in, deliver_in, list_in, report_in, rights_in, spent_in, hits_in, plain_command_after, command_after, command_of};
 
+use call_lines::call_after;
 use cluster_model::Event;
-use decimals::{amount, byte, word};
+use decimals::{byte, word};
+use node_calls::AskRef;
 use std::alloc::{AllocError, Global};
 use streams::{cut, cut_byte, cut_field, field};
 
@@ -44,27 +46,13 @@ fn nodes_command(rest: &str) -> Option<Command<'_>>
     Some(Command::Nodes { count, trace_cap })
 }
 
-fn set_command(rest: &str) -> Option<Command<'_>>
-    ensures { option_map command_value result ≡ set_in rest.now }
+// `<word> <node> <rest>`: a call of a node that takes no random draws, and makes and takes no message.
+fn call_command<'a>(alloc: Global, word: &str, rest: &'a str) -> Option<Command<'a>>
+    ensures { option_map command_value result ≡ call_in word.now rest.now }
 {
     let (node, rest) = cut_byte(rest)?;
-    let (name, text) = cut_field(rest)?;
-    Some(Command::Event(Event::Set { node, name, text }))
-}
-
-fn remove_command(rest: &str) -> Option<Command<'_>>
-    ensures { option_map command_value result ≡ remove_in rest.now }
-{
-    let (node, name) = cut_byte(rest)?;
-    let name = field(name)?;
-    Some(Command::Event(Event::Remove { node, name }))
-}
-
-fn load_command(rest: &str) -> Option<Command<'_>>
-    ensures { option_map command_value result ≡ load_in rest.now }
-{
-    let (node, text) = cut_byte(rest)?;
-    Some(Command::Event(Event::Load { node, text }))
+    let ask = call_after(word, rest)?;
+    Some(Command::Event(Event::call(alloc, node, ask)))
 }
 
 fn words_in(alloc: Global, text: &str) -> Result<Option<Vec<u32>>, AllocError>
@@ -90,7 +78,11 @@ fn pass_of(node: u8, name: &str, words: Option<Vec<u32>>) -> Option<Command<'_>>
     if name.is_empty() {
         return None;
     }
-    Some(Command::Event(Event::Pass { node, name, words }))
+    Some(Command::Event(Event::Call {
+        node,
+        ask: AskRef::Pass { name },
+        words,
+    }))
 }
 
 fn pass_command(alloc: Global, rest: &str) -> Result<Option<Command<'_>>, AllocError>
@@ -105,44 +97,12 @@ fn pass_command(alloc: Global, rest: &str) -> Result<Option<Command<'_>>, AllocE
     }
 }
 
-fn shift_command(rest: &str) -> Option<Command<'_>>
-    ensures { option_map command_value result ≡ shift_in rest.now }
-{
-    let (node, rest) = cut_byte(rest)?;
-    let (name, rest) = cut_field(rest)?;
-    let (term, rest) = cut_byte(rest)?;
-    let (to, rest) = cut_byte(rest)?;
-    let amount = amount(rest)?;
-    Some(Command::Event(Event::Shift {
-        node,
-        name,
-        term,
-        to,
-        amount,
-    }))
-}
-
-fn grant_command(rest: &str) -> Option<Command<'_>>
-    ensures { option_map command_value result ≡ grant_in rest.now }
-{
-    let (node, rest) = cut_byte(rest)?;
-    let (name, rest) = cut_field(rest)?;
-    let (term, rest) = cut_byte(rest)?;
-    let amount = amount(rest)?;
-    Some(Command::Event(Event::Grant {
-        node,
-        name,
-        term,
-        amount,
-    }))
-}
-
-fn emit_command(rest: &str) -> Option<Command<'_>>
+fn emit_command(alloc: Global, rest: &str) -> Option<Command<'_>>
     ensures { option_map command_value result ≡ emit_in rest.now }
 {
     let (node, to) = cut_byte(rest)?;
     let to = byte(to)?;
-    Some(Command::Event(Event::Emit { node, to }))
+    Some(Command::Event(Event::call(alloc, node, AskRef::Emit { to })))
 }
 
 fn deliver_command(rest: &str) -> Option<Command<'_>>
@@ -200,16 +160,11 @@ fn hits_command(rest: &str) -> Option<Command<'_>>
 }
 
 // By the line's first word, what follows it; but for a pass, which alone takes memory.
-fn plain_command_after<'a>(word: &str, rest: &'a str) -> Option<Command<'a>>
+fn plain_command_after<'a>(alloc: Global, word: &str, rest: &'a str) -> Option<Command<'a>>
     ensures { option_map command_value result ≡ plain_command_after word.now rest.now }
 {
     match word {
-        "set" => set_command(rest),
-        "remove" => remove_command(rest),
-        "load" => load_command(rest),
-        "shift" => shift_command(rest),
-        "grant" => grant_command(rest),
-        "emit" => emit_command(rest),
+        "emit" => emit_command(alloc, rest),
         "deliver" => deliver_command(rest),
         "list" => list_command(rest),
         "report" => report_command(rest),
@@ -217,7 +172,7 @@ fn plain_command_after<'a>(word: &str, rest: &'a str) -> Option<Command<'a>>
         "spent" => spent_command(rest),
         "hits" => hits_command(rest),
         "nodes" => nodes_command(rest),
-        _ => None,
+        _ => call_command(alloc, word, rest),
     }
 }
 
@@ -234,7 +189,7 @@ fn command_after<'a>(
     if word == "pass" {
         return pass_command(alloc, rest);
     }
-    Ok(plain_command_after(word, rest))
+    Ok(plain_command_after(alloc, word, rest))
 }
 
 /// What a line asks for, where it has one of the forms.

@@ -1,7 +1,8 @@
 //! What an event is answered, as a line of the output.
 
 ghost use Rattle.std.specs.Prelude.{◌≡◌, ◌≢◌, ℕ, IfOk, IsOk, OnOk};
-ghost use Rattle.node_calls.specs.Asks.{passed, reply_value};
+ghost use Rattle.node_calls.specs.Asks.{reply_value};
+ghost use Rattle.node_calls.specs.Told.{passed};
 ghost use Rattle.node_calls.specs.declared.fault.NodeFault.TheVariants.{OutOfMemory};
 ghost use Rattle.cluster_model.specs.declared.fault.WorldFault.TheVariants.{Refused};
 ghost use Rattle.scripts.specs.Replies.{PrintsLine, bad_line_text, pass_text, refused_text, reply_text};

@@ -11,11 +11,18 @@ use cluster_model::{Event, RunReport, World};
 use failing::{Failing, Fails};
 use gossip::WireError::{Failed, Full, NoPeer, OutOfMemory};
 use gossip::{Ended, GossipReport, MailWire, Wire, WireError, gossip_rounds};
-use node_core::{Config, Receipt, Reply};
+use node_core::{AskRef, Config, Receipt, Reply};
 use node_registry::{Label, Registry, Seat};
 use stage::{EMPTY, FIRST_OF_THREE, FIRST_OF_TWO, SECOND_OF_TWO, list, opened};
 use std::alloc::{AllocError, Global};
+use std::fmt::Debug;
 use std::marker::Brand;
+use std::process::Abort;
 use std::sync::Wait;
 use std::sync::ledger::Blank;
 use std::test::Fail;
+
+/// Ends the test where what is found isn't what is wanted.
+fn expect<T: PartialEq + Debug>(rt: &impl Abort, found: &T, wanted: &T) {
+    assert_eq!(rt; found, wanted);
+}

@@ -9,7 +9,19 @@ use Rattle.streams.specs.Fields.{cut_of, field_of, field_cut_of, byte_cut_of}
 use Rattle.streams.specs.Lines.{◌>>=◌, text_in}
 use Rattle.thread_plans.specs.declared.line.Line.{Line}
 use Rattle.thread_plans.specs.declared.line.Line.TheVariants as lines
-use Rattle.thread_plans.specs.Calls.{StartValue, makes, spreads, start_value, call_after}
+use Rattle.thread_plans.specs.declared.line.Start.{Start}
+use Rattle.thread_plans.specs.declared.line.Start.TheVariants as starts
+use Rattle.call_lines.specs.Calls.{call_after}
+
+-- what a node does before the workers start: it makes a call, or spreads its rights to a point
+pub data StartValue : Type 0 where
+  makes : (ask : AskTold) → StartValue
+  spreads : (name : List ℕ) → StartValue
+
+-- the same of the code's, without where its texts lie in memory
+abbrev pub start_value : Start → StartValue
+start_value (starts.Call call) = makes (ask_ref_told call)
+start_value (starts.Spread name) = spreads (name.now)
 
 -- so many nodes, each of which accepts so many calls; the seed of their words; what a node does before the workers
 -- start; so many rounds of gossip; a block of calls of one worker at a node; or a call of the worker, so many times

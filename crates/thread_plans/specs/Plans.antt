@@ -12,8 +12,7 @@ use Rattle.thread_plans.specs.declared.plan.StartLine.{StartLine}
 use Rattle.thread_plans.specs.declared.plan.ThreadPlan.{ThreadPlan}
 use Rattle.thread_plans.specs.declared.stage.Stage.{Stage}
 use Rattle.thread_plans.specs.declared.stage.Stage.TheVariants as stages
-use Rattle.thread_plans.specs.Calls.{StartValue, start_value}
-use Rattle.thread_plans.specs.Lines.{LineValue, nodes_line, seed_line, start_line, gossip_line, worker_line, calls_line, line_in}
+use Rattle.thread_plans.specs.Lines.{LineValue, StartValue, start_value, nodes_line, seed_line, start_line, gossip_line, worker_line, calls_line, line_in}
 
 -- the lines of a worker: each a call, with how often it is made
 pub record BlockValue : Type 0 where

@@ -2,13 +2,12 @@
 //! to.
 #![tactic(auto)]
 
-mod call;
 mod line;
 mod plan;
 mod reading;
 mod stage;
 
-pub use call::Start;
+pub use line::Start;
 pub use plan::{Block, CallLine, Size, StartLine, ThreadPlan};
 pub use reading::read_plan;
 pub use stage::blocks_at;

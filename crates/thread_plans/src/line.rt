@@ -4,11 +4,20 @@ ghost use Rattle.std.specs.Prelude.{◌≡◌, option_map};
 ghost use Rattle.node_calls.specs.Told.{ask_ref_told};
 ghost use Rattle.thread_plans.specs.Lines.{gossip_in, line_after, line_in, line_value, nodes_in, once, pass_in, seed_in, spread_in, start_call_in, start_in, times_of, worker_in};
 
-use crate::call::{Start, call_after};
+use call_lines::call_after;
 use decimals::{byte, number, word};
 use hex::FromHex;
 use node_calls::AskRef;
 use streams::{cut, cut_byte, cut_field, field, text_of};
+
+/// What a node does before the workers start.
+#[derive(Clone, Copy)]
+pub enum Start<'a> {
+    /// Makes a call.
+    Call(AskRef<'a>),
+    /// Gives each other node an equal share of its rights to a point.
+    Spread { name: &'a str },
+}
 
 /// What a line of a script of threads says.
 #[derive(Clone, Copy)]

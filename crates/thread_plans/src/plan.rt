@@ -4,7 +4,7 @@ ghost use Rattle.std.specs.Prelude.{◌≡◌, ◌&&◌, ℕ, ◌<◌, ◌≤◌
 ghost use Rattle.std.specs.List.{sum_by};
 ghost use Rattle.message_format.specs.Limits.{max_nodes};
 
-use crate::call::Start;
+use crate::line::Start;
 use node_calls::AskRef;
 
 /// How many nodes there are, 1 to 32, and how many calls each of them accepts.

@@ -3,12 +3,10 @@
 ghost use Rattle.std.specs.Prelude.{◌≡◌, ◌<◌, ◌≤◌, ◌==◌, ◌++◌, ◌∷◌, [], count_by, option_map, true, IfOk};
 ghost use Rattle.message_format.specs.Limits.{max_nodes};
 ghost use Rattle.node_calls.specs.Told.{ask_ref_told};
-ghost use Rattle.thread_plans.specs.Calls.{start_value};
-ghost use Rattle.thread_plans.specs.Lines.{gossip_line, line_value, start_line};
+ghost use Rattle.thread_plans.specs.Lines.{gossip_line, line_value, start_line, start_value};
 ghost use Rattle.thread_plans.specs.Plans.{add_calls, after_empty, after_line, after_sized, after_started, after_text, after_working, begin_block, block_value, plan_value, stage_value, whole_plan, with_block};
 
-use crate::call::Start;
-use crate::line::{Line, read_line};
+use crate::line::{Line, Start, read_line};
 use crate::plan::{Block, CallLine, Size, StartLine, ThreadPlan, Working};
 use message_format::MAX_NODES;
 use node_calls::AskRef;

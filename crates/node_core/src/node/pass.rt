@@ -10,7 +10,7 @@ ghost use Rattle.delta_exchange.specs.Versions.{ChangesTo, MayPass};
 ghost use Rattle.std.specs.Prelude.{false};
 ghost use Rattle.replica_state.specs.States.{rights_of, with_pass};
 ghost use Rattle.node_calls.specs.Asks as asks;
-ghost use Rattle.node_calls.specs.Asks.{passed};
+ghost use Rattle.node_calls.specs.Told.{passed};
 ghost use Rattle.node_core.specs.Lasts.{last_passed};
 ghost use Rattle.node_core.specs.Memory.{NameNeedsMemory};
 ghost use Rattle.node_core.specs.Nodes.{setting_of};

@@ -5,78 +5,127 @@ use super::*;
 // A random draw for a term whose chance is 20%, which comes then.
 const TRIGGERS: u32 = 858_993_459;
 
-// What the events are answered, each as it begins in print: of a message that is enough.
-const ANSWERS: [&str; 14] = [
-    "Ok(Set(Stamp { clock: 1, node: 0 }))",
-    "Ok(Shift(2))",
-    "Err(Refused(TooFewRights { have: 3 }))",
-    "Ok(Emit([70, 80, 71, 49, 0, 1, ",
-    "Err(NoNode)",
-    "Err(NoMessage)",
-    "Ok(Deliver(true))",
-    "Ok(Deliver(false))",
-    "Err(Refused(NotForMe))",
-    "Ok(Grant(1))",
-    "Ok(Pass(Act { term: 0, stamp: Stamp { clock: 1, node: 0 }, task: Off }))",
-    "Ok(Remove(Stamp { clock: 2, node: 1 }))",
-    "Ok(Load(2))",
-    "Ok(Set(Stamp { clock: 1, node: 2 }))",
+// An event: a call of a node with these random draws, or the delivery of a message.
+#[derive(Clone, Copy)]
+enum Row {
+    Call(u8, AskRef<'static>, &'static [u32]),
+    Deliver(u8, u32),
+}
+
+// Each event, and how its answer begins in print: of a message that is enough.
+const EVENTS: &[(Row, &str)] = &[
+    (
+        Row::Call(
+            0,
+            AskRef::Set {
+                name: "p",
+                text: "20%5*off",
+            },
+            &[],
+        ),
+        "Ok(Set(Stamp { clock: 1, node: 0 }))",
+    ),
+    (
+        Row::Call(
+            0,
+            AskRef::Shift {
+                name: "p",
+                term: 0,
+                to: 1,
+                amount: 2,
+            },
+            &[],
+        ),
+        "Ok(Shift(2))",
+    ),
+    (
+        Row::Call(
+            0,
+            AskRef::Shift {
+                name: "p",
+                term: 0,
+                to: 1,
+                amount: 4,
+            },
+            &[],
+        ),
+        "Err(Refused(TooFewRights { have: 3 }))",
+    ),
+    (
+        Row::Call(0, AskRef::Emit { to: 1 }, &[]),
+        "Ok(Emit([70, 80, 71, 49, 0, 1, ",
+    ),
+    (Row::Call(3, AskRef::Emit { to: 0 }, &[]), "Err(NoNode)"),
+    (Row::Deliver(1, 1), "Err(NoMessage)"),
+    (Row::Deliver(1, 0), "Ok(Deliver(true))"),
+    (Row::Deliver(1, 0), "Ok(Deliver(false))"),
+    (Row::Deliver(2, 0), "Err(Refused(NotForMe))"),
+    (
+        Row::Call(
+            1,
+            AskRef::Grant {
+                name: "p",
+                term: 0,
+                amount: 1,
+            },
+            &[],
+        ),
+        "Ok(Grant(1))",
+    ),
+    (
+        Row::Call(1, AskRef::Pass { name: "p" }, &[TRIGGERS]),
+        "Ok(Pass(Act { term: 0, stamp: Stamp { clock: 1, node: 0 }, task: Off }))",
+    ),
+    (
+        Row::Call(0, AskRef::Emit { to: 1 }, &[TRIGGERS]),
+        "Err(Refused(BadWords { need: 0 }))",
+    ),
+    (
+        Row::Call(1, AskRef::Deliver { message: b"FPG1" }, &[]),
+        "Err(NoMessage)",
+    ),
+    (
+        Row::Call(1, AskRef::Remove { name: "p" }, &[]),
+        "Ok(Remove(Stamp { clock: 2, node: 1 }))",
+    ),
+    (
+        Row::Call(
+            1,
+            AskRef::Load {
+                text: "a=off;b=off",
+            },
+            &[],
+        ),
+        "Ok(Load(2))",
+    ),
+    (
+        Row::Call(
+            2,
+            AskRef::Set {
+                name: "p",
+                text: "off",
+            },
+            &[],
+        ),
+        "Ok(Set(Stamp { clock: 1, node: 2 }))",
+    ),
 ];
 
-fn shift(amount: u64) -> Event<'static> {
-    Event::Shift {
-        node: 0,
-        name: "p",
-        term: 0,
-        to: 1,
-        amount,
-    }
-}
-
-fn set(node: u8, text: &'static str) -> Event<'static> {
-    Event::Set {
-        node,
-        name: "p",
-        text,
-    }
-}
-
-fn deliver(node: u8, message: u32) -> Event<'static> {
-    Event::Deliver { node, message }
+fn event(alloc: Global, row: Row) -> Result<Event<'static>, AllocError> {
+    Ok(match row {
+        Row::Call(node, ask, words) => Event::Call {
+            node,
+            ask,
+            words: Vec::from_slice(alloc, words)?,
+        },
+        Row::Deliver(node, message) => Event::Deliver { node, message },
+    })
 }
 
 fn events(alloc: Global) -> Result<Vec<Event<'static>>, AllocError> {
-    let words = Vec::from_slice(alloc, &[TRIGGERS])?;
     let mut events = Vec::new(alloc);
-    for event in [
-        set(0, "20%5*off"),
-        shift(2),
-        shift(4),
-        Event::Emit { node: 0, to: 1 },
-        Event::Emit { node: 3, to: 0 },
-        deliver(1, 1),
-        deliver(1, 0),
-        deliver(1, 0),
-        deliver(2, 0),
-        Event::Grant {
-            node: 1,
-            name: "p",
-            term: 0,
-            amount: 1,
-        },
-        Event::Pass {
-            node: 1,
-            name: "p",
-            words,
-        },
-        Event::Remove { node: 1, name: "p" },
-        Event::Load {
-            node: 1,
-            text: "a=off;b=off",
-        },
-        set(2, "off"),
-    ] {
-        events.push(event)?;
+    for (row, _) in EVENTS {
+        events.push(event(alloc, *row)?)?;
     }
     Ok(events)
 }
@@ -87,11 +136,15 @@ fn run(alloc: Global, events: &[Event<'static>]) -> Result<RunReport, Fail> {
     Ok(world.run(alloc, events)?)
 }
 
+// Whether an answer begins so in print.
+fn begins<T: Debug>(alloc: Global, answer: &T, wanted: &str) -> Result<bool, AllocError> {
+    Ok(format!(in alloc; "{answer:?}")?.starts_with(wanted))
+}
+
 // The number of the first event that is answered otherwise.
 fn first_other(alloc: Global, report: &RunReport) -> Result<Option<usize>, AllocError> {
-    for (event, (answer, wanted)) in report.answers.iter().zip(ANSWERS).enumerate() {
-        let text = format!(in alloc; "{answer:?}")?;
-        if !text.starts_with(wanted) {
+    for (event, (answer, (_, wanted))) in report.answers.iter().zip(EVENTS.iter()).enumerate() {
+        if !begins(alloc, answer, wanted)? {
             return Ok(Some(event));
         }
     }
@@ -102,7 +155,7 @@ fn first_other(alloc: Global, report: &RunReport) -> Result<Option<usize>, Alloc
 fn a_run_answers_each_event(rt: HostRuntime) -> Result<(), Fail> {
     let events = events(rt.alloc())?;
     let report = run(rt.alloc(), &events)?;
-    assert_eq!(rt; report.answers.len(), ANSWERS.len());
-    assert_eq!(rt; first_other(rt.alloc(), &report)?, None);
+    let found = (report.answers.len(), first_other(rt.alloc(), &report)?);
+    expect(&rt, &found, &(EVENTS.len(), None));
     Ok(())
 }

@@ -2,47 +2,53 @@ use Rattle.std.proofs.Common.{◌∙◌, ap, sym, inr, length, ◌++◌, ◌∷�
 use Rattle.std.proofs.lemmas.List.{length-map}
 use Rattle.std.proofs.lemmas.Result.{err_from_is_err_and}
 use Rattle.node_calls.specs.Asks.{call}
-use Rattle.cluster_model.proofs.WorldClauses.{emission_called, emission_refused}
+use Rattle.cluster_model.proofs.WorldClauses.{at_hand, emit_fits, emit_refused}
 use Rattle.cluster_model.proofs.world.World.emit.Goals as goal
 
-pub returns-in_err-message-clause-answer : goal.returns-in_err-message-clause-answer
-returns-in_err-message-clause-answer c =
-    let p = err_from_is_err_and c.from_residual-in_err-message.result c.from_residual-in_err-message.ensures.1 in
+pub returns-in_err-reply-clause-answer : goal.returns-in_err-reply-clause-answer
+returns-in_err-reply-clause-answer c =
+    let p = err_from_is_err_and c.from_residual-in_err-reply.result c.from_residual-in_err-reply.ensures.1 in
+    let k = c.index_mut-sender.result.now in
+    let hand = at_hand _ _ c.args.self.now c.args.node k c.self.invariant c.self.view_is c.requires c.index_mut-sender.ensures.value in
     rw (p.1, p.2)
-    (emission_refused c.self.inside.nodes.items c.self.inside.messages.items c.self.invariant c.args.self.now c.self.view_is c.args.node c.requires
-    c.index_mut-sender.result.now c.index_mut-sender.ensures.value c.args.to c.in_err-message.field-0.0 c.in_err-message.ensures.refused)
+    (emit_refused _ _ c.args.self.now c.args.node k hand c.args.to c.args.words.now c.in_err-reply.field-0.0 c.in_err-reply.ensures.refused)
 
 pub invariant_of-self-2 : goal.invariant_of-self-2
 invariant_of-self-2 c =
     let k = c.index_mut-sender.result.now in
+    let hand = at_hand _ _ c.args.self.now c.args.node k c.self.invariant c.self.view_is c.requires c.index_mut-sender.ensures.value in
     let last = c.len-entry.ensures ∙ c.trace.result.now.ok.0 ∙ sym (length-map c.trace.result.now.items (call k.config.nodes)) ∙ ap length c.trace.ensures in
-    let pushed = c.push_reserved.ensures.items ∙ ap (λ ps. ps ++ record { node = c.args.node; entry = c.len-entry.result } ∷ []) c.in_ok-reserve.ensures.items in
-    (emission_called c.self.inside.nodes.items c.self.inside.messages.items c.self.invariant c.args.self.now c.self.view_is c.args.node c.requires k c.index_mut-sender.ensures.value
-    c.args.to c.in_ok-message.message.items c.in_ok-message.ensures.delta c.emit.new.self c.in_ok-message.ensures.ok c.len-entry.result last c.push_reserved.new.self.items pushed).good
+    let pushed = c.push_reserved.ensures.items ∙ ap (λ ps. ps ++ record { node = c.args.node; entry = c.len-entry.result } ∷ []) c.in_ok-reserve.ensures.items
+    ∙ ap (λ n. c.self.inside.messages.items ++ record { node = c.args.node; entry = n } ∷ []) last in
+    let fits = emit_fits _ _ c.args.self.now c.args.node k hand c.args.to c.args.words.now c.in_ok-reply.reply c.in_ok-reply.ensures.delta c.call.new.self c.in_ok-reply.ensures.ok c.push_reserved.new.self.items pushed in
+    fits.good
 
 pub returns-clause-answer : goal.returns-clause-answer
 returns-clause-answer c =
     let k = c.index_mut-sender.result.now in
+    let hand = at_hand _ _ c.args.self.now c.args.node k c.self.invariant c.self.view_is c.requires c.index_mut-sender.ensures.value in
     let last = c.len-entry.ensures ∙ c.trace.result.now.ok.0 ∙ sym (length-map c.trace.result.now.items (call k.config.nodes)) ∙ ap length c.trace.ensures in
-    let pushed = c.push_reserved.ensures.items ∙ ap (λ ps. ps ++ record { node = c.args.node; entry = c.len-entry.result } ∷ []) c.in_ok-reserve.ensures.items in
-    let fits = emission_called c.self.inside.nodes.items c.self.inside.messages.items c.self.invariant c.args.self.now c.self.view_is c.args.node c.requires k c.index_mut-sender.ensures.value
-    c.args.to c.in_ok-message.message.items c.in_ok-message.ensures.delta c.emit.new.self c.in_ok-message.ensures.ok c.len-entry.result last c.push_reserved.new.self.items pushed in
-    rw (← c.self.view_is) (inr (sym fits.answer_is))
+    let pushed = c.push_reserved.ensures.items ∙ ap (λ ps. ps ++ record { node = c.args.node; entry = c.len-entry.result } ∷ []) c.in_ok-reserve.ensures.items
+    ∙ ap (λ n. c.self.inside.messages.items ++ record { node = c.args.node; entry = n } ∷ []) last in
+    let fits = emit_fits _ _ c.args.self.now c.args.node k hand c.args.to c.args.words.now c.in_ok-reply.reply c.in_ok-reply.ensures.delta c.call.new.self c.in_ok-reply.ensures.ok c.push_reserved.new.self.items pushed in
+    inr (sym fits.answer_is)
 
 pub returns-clause-after : goal.returns-clause-after
 returns-clause-after c =
     let k = c.index_mut-sender.result.now in
+    let hand = at_hand _ _ c.args.self.now c.args.node k c.self.invariant c.self.view_is c.requires c.index_mut-sender.ensures.value in
     let last = c.len-entry.ensures ∙ c.trace.result.now.ok.0 ∙ sym (length-map c.trace.result.now.items (call k.config.nodes)) ∙ ap length c.trace.ensures in
-    let pushed = c.push_reserved.ensures.items ∙ ap (λ ps. ps ++ record { node = c.args.node; entry = c.len-entry.result } ∷ []) c.in_ok-reserve.ensures.items in
-    let fits = emission_called c.self.inside.nodes.items c.self.inside.messages.items c.self.invariant c.args.self.now c.self.view_is c.args.node c.requires k c.index_mut-sender.ensures.value
-    c.args.to c.in_ok-message.message.items c.in_ok-message.ensures.delta c.emit.new.self c.in_ok-message.ensures.ok c.len-entry.result last c.push_reserved.new.self.items pushed in
-    rw (← c.self.view_is) fits.after_is
+    let pushed = c.push_reserved.ensures.items ∙ ap (λ ps. ps ++ record { node = c.args.node; entry = c.len-entry.result } ∷ []) c.in_ok-reserve.ensures.items
+    ∙ ap (λ n. c.self.inside.messages.items ++ record { node = c.args.node; entry = n } ∷ []) last in
+    let fits = emit_fits _ _ c.args.self.now c.args.node k hand c.args.to c.args.words.now c.in_ok-reply.reply c.in_ok-reply.ensures.delta c.call.new.self c.in_ok-reply.ensures.ok c.push_reserved.new.self.items pushed in
+    fits.after_is
 
 pub returns-clause-history : goal.returns-clause-history
 returns-clause-history c =
     let k = c.index_mut-sender.result.now in
+    let hand = at_hand _ _ c.args.self.now c.args.node k c.self.invariant c.self.view_is c.requires c.index_mut-sender.ensures.value in
     let last = c.len-entry.ensures ∙ c.trace.result.now.ok.0 ∙ sym (length-map c.trace.result.now.items (call k.config.nodes)) ∙ ap length c.trace.ensures in
-    let pushed = c.push_reserved.ensures.items ∙ ap (λ ps. ps ++ record { node = c.args.node; entry = c.len-entry.result } ∷ []) c.in_ok-reserve.ensures.items in
-    let fits = emission_called c.self.inside.nodes.items c.self.inside.messages.items c.self.invariant c.args.self.now c.self.view_is c.args.node c.requires k c.index_mut-sender.ensures.value
-    c.args.to c.in_ok-message.message.items c.in_ok-message.ensures.delta c.emit.new.self c.in_ok-message.ensures.ok c.len-entry.result last c.push_reserved.new.self.items pushed in
-    rw (← c.self.view_is) fits.history
+    let pushed = c.push_reserved.ensures.items ∙ ap (λ ps. ps ++ record { node = c.args.node; entry = c.len-entry.result } ∷ []) c.in_ok-reserve.ensures.items
+    ∙ ap (λ n. c.self.inside.messages.items ++ record { node = c.args.node; entry = n } ∷ []) last in
+    let fits = emit_fits _ _ c.args.self.now c.args.node k hand c.args.to c.args.words.now c.in_ok-reply.reply c.in_ok-reply.ensures.delta c.call.new.self c.in_ok-reply.ensures.ok c.push_reserved.new.self.items pushed in
+    fits.history

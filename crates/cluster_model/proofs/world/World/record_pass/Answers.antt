@@ -1,10 +1,8 @@
 use Rattle.std.proofs.Common.{◌<◌, ◌≤◌, arith, subst, length, refl}
 use Rattle.std.proofs.lemmas.Result.{err_from_is_err_and}
-use Rattle.node_calls.specs.Asks as asks
-use Rattle.node_core.specs.Traces.{reply_to}
-use Rattle.cluster_model.specs.Events.{WorldValue, passes}
-use Rattle.cluster_model.specs.Places.{world_of}
-use Rattle.cluster_model.proofs.WorldClauses.{read_there, own_fits, own_refused, no_node, recorded}
+use Rattle.node_calls.specs.Told.{passes}
+use Rattle.cluster_model.specs.Events.{WorldValue, calls}
+use Rattle.cluster_model.proofs.WorldClauses.{at_hand, call_refused, pass_fits, no_node, recorded}
 use Rattle.cluster_model.proofs.world.World.record_pass.Goals as goal
 
 pub returns-then-node-len-clause-refused : goal.returns-then-node-len-clause-refused
@@ -12,7 +10,7 @@ returns-then-node-len-clause-refused c =
     let high = c.if-node-len.true in
     let len = c.len.ensures in
     let size = c.self.inside.nodes.ok.0 in
-    no_node c.args.self.now (passes c.args.node c.args.name.now c.args.words.now)
+    no_node c.args.self.now (calls c.args.node (passes c.args.name.now) c.args.words.now)
     (subst (λ (w : WorldValue). length w.nodes ≤ c.args.node) c.self.view_is (omega (arith, high, len, size)))
 
 pub returns-in_err-record_pass-clause-refused : goal.returns-in_err-record_pass-clause-refused
@@ -21,14 +19,11 @@ returns-in_err-record_pass-clause-refused c =
     let len = c.len.ensures in
     let size = c.self.inside.nodes.ok.0 in
     let low : c.args.node < length c.args.self.now.nodes = subst (λ (w : WorldValue). c.args.node < length w.nodes) c.self.view_is (omega (arith, few, len, size)) in
-    let nodes = c.self.inside.nodes.items in
-    let places = c.self.inside.messages.items in
-    let e = passes c.args.node c.args.name.now c.args.words.now in
     let k = c.index_mut.result.now in
+    let hand = at_hand _ _ c.args.self.now c.args.node k c.self.invariant c.self.view_is low c.index_mut.ensures.value in
     let p = err_from_is_err_and c.from_residual.result c.from_residual.ensures.1 in
     rw (p.1, p.2)
-    (own_refused nodes places c.self.invariant c.args.self.now c.self.view_is c.args.node k c.index_mut.ensures.value e refl low refl
-    c.in_err-record_pass.field-0.0 c.in_err-record_pass.ensures.refused)
+    (call_refused _ _ c.args.self.now c.args.node k hand (passes c.args.name.now) refl c.args.words.now c.in_err-record_pass.field-0.0 c.in_err-record_pass.ensures.refused)
 
 pub invariant_of-self-2 : goal.invariant_of-self-2
 invariant_of-self-2 c =
@@ -36,13 +31,9 @@ invariant_of-self-2 c =
     let len = c.len.ensures in
     let size = c.self.inside.nodes.ok.0 in
     let low : c.args.node < length c.args.self.now.nodes = subst (λ (w : WorldValue). c.args.node < length w.nodes) c.self.view_is (omega (arith, few, len, size)) in
-    let nodes = c.self.inside.nodes.items in
-    let places = c.self.inside.messages.items in
-    let e = passes c.args.node c.args.name.now c.args.words.now in
     let k = c.index_mut.result.now in
-    let there = read_there nodes places c.self.invariant c.args.self.now c.self.view_is c.args.node k c.index_mut.ensures.value low in
-    let fits = own_fits nodes places c.self.invariant e k there (asks.Pass c.args.name.now) refl c.record_pass.new.self
-    (reply_to k (asks.Pass c.args.name.now) c.args.words.now) c.in_ok-record_pass.ensures.ok in
+    let hand = at_hand _ _ c.args.self.now c.args.node k c.self.invariant c.self.view_is low c.index_mut.ensures.value in
+    let fits = pass_fits _ _ c.args.self.now c.args.node k hand c.args.name.now c.args.words.now c.record_pass.new.self c.in_ok-record_pass.ensures.ok in
     fits.good
 
 pub returns-clause-answer : goal.returns-clause-answer
@@ -51,14 +42,10 @@ returns-clause-answer c =
     let len = c.len.ensures in
     let size = c.self.inside.nodes.ok.0 in
     let low : c.args.node < length c.args.self.now.nodes = subst (λ (w : WorldValue). c.args.node < length w.nodes) c.self.view_is (omega (arith, few, len, size)) in
-    let nodes = c.self.inside.nodes.items in
-    let places = c.self.inside.messages.items in
-    let e = passes c.args.node c.args.name.now c.args.words.now in
     let k = c.index_mut.result.now in
-    let there = read_there nodes places c.self.invariant c.args.self.now c.self.view_is c.args.node k c.index_mut.ensures.value low in
-    let fits = own_fits nodes places c.self.invariant e k there (asks.Pass c.args.name.now) refl c.record_pass.new.self
-    (reply_to k (asks.Pass c.args.name.now) c.args.words.now) c.in_ok-record_pass.ensures.ok in
-    rw (← c.self.view_is) (recorded (world_of nodes places) _ e _ fits.answer_is fits.after_is)
+    let hand = at_hand _ _ c.args.self.now c.args.node k c.self.invariant c.self.view_is low c.index_mut.ensures.value in
+    let fits = pass_fits _ _ c.args.self.now c.args.node k hand c.args.name.now c.args.words.now c.record_pass.new.self c.in_ok-record_pass.ensures.ok in
+    recorded c.args.self.now _ (calls c.args.node (passes c.args.name.now) c.args.words.now) _ fits.answer_is fits.after_is
 
 pub returns-clause-after : goal.returns-clause-after
 returns-clause-after c =
@@ -66,14 +53,10 @@ returns-clause-after c =
     let len = c.len.ensures in
     let size = c.self.inside.nodes.ok.0 in
     let low : c.args.node < length c.args.self.now.nodes = subst (λ (w : WorldValue). c.args.node < length w.nodes) c.self.view_is (omega (arith, few, len, size)) in
-    let nodes = c.self.inside.nodes.items in
-    let places = c.self.inside.messages.items in
-    let e = passes c.args.node c.args.name.now c.args.words.now in
     let k = c.index_mut.result.now in
-    let there = read_there nodes places c.self.invariant c.args.self.now c.self.view_is c.args.node k c.index_mut.ensures.value low in
-    let fits = own_fits nodes places c.self.invariant e k there (asks.Pass c.args.name.now) refl c.record_pass.new.self
-    (reply_to k (asks.Pass c.args.name.now) c.args.words.now) c.in_ok-record_pass.ensures.ok in
-    rw (← c.self.view_is) fits.after_is
+    let hand = at_hand _ _ c.args.self.now c.args.node k c.self.invariant c.self.view_is low c.index_mut.ensures.value in
+    let fits = pass_fits _ _ c.args.self.now c.args.node k hand c.args.name.now c.args.words.now c.record_pass.new.self c.in_ok-record_pass.ensures.ok in
+    fits.after_is
 
 pub returns-clause-history : goal.returns-clause-history
 returns-clause-history c =
@@ -81,11 +64,7 @@ returns-clause-history c =
     let len = c.len.ensures in
     let size = c.self.inside.nodes.ok.0 in
     let low : c.args.node < length c.args.self.now.nodes = subst (λ (w : WorldValue). c.args.node < length w.nodes) c.self.view_is (omega (arith, few, len, size)) in
-    let nodes = c.self.inside.nodes.items in
-    let places = c.self.inside.messages.items in
-    let e = passes c.args.node c.args.name.now c.args.words.now in
     let k = c.index_mut.result.now in
-    let there = read_there nodes places c.self.invariant c.args.self.now c.self.view_is c.args.node k c.index_mut.ensures.value low in
-    let fits = own_fits nodes places c.self.invariant e k there (asks.Pass c.args.name.now) refl c.record_pass.new.self
-    (reply_to k (asks.Pass c.args.name.now) c.args.words.now) c.in_ok-record_pass.ensures.ok in
-    rw (← c.self.view_is) fits.history
+    let hand = at_hand _ _ c.args.self.now c.args.node k c.self.invariant c.self.view_is low c.index_mut.ensures.value in
+    let fits = pass_fits _ _ c.args.self.now c.args.node k hand c.args.name.now c.args.words.now c.record_pass.new.self c.in_ok-record_pass.ensures.ok in
+    fits.history

@@ -1,7 +1,7 @@
 use Rattle.std.proofs.Common.{◌≡◌, ◌∙◌}
 use Rattle.std.proofs.lemmas.Result.{IfOk-weaker}
 use Rattle.node_calls.specs.Told.{ask_told}
-use Rattle.node_calls.proofs.ToldLemmas.{same_asked, same_bytes}
+use Rattle.node_calls.proofs.ToldLemmas.{same_asked}
 use Rattle.node_calls.proofs.ask.Ask.copied.Goals as goal
 
 pub returns-clause-told : goal.returns-clause-told
@@ -13,8 +13,3 @@ pub returns-clause-same : goal.returns-clause-same
 returns-clause-same c =
     IfOk-weaker c.copied.result _ _
     (λ copy told. same_asked copy c.args.self.now (told ∙ c.as_ref.ensures)) c.copied.ensures
-
-pub returns-clause-bytes : goal.returns-clause-bytes
-returns-clause-bytes c =
-    IfOk-weaker c.copied.result _ _
-    (λ copy told. same_bytes copy c.args.self.now (told ∙ c.as_ref.ensures)) c.copied.ensures

@@ -1,23 +1,11 @@
--- The calls that a script of threads asks for.
+-- The calls that lines of scripts ask for: those that take no random draws, and neither make nor bring a message.
 use Rattle.std.specs.Prelude.{ℕ, List, Option, Some, None, if◌then◌else◌, codes}
 use Rattle.std.specs.Str.{bytes_eq}
-use Rattle.node_calls.specs.Told.{AskTold, ask_ref_told}
+use Rattle.node_calls.specs.Told.{AskTold}
 use Rattle.node_calls.specs.Told as asks
 use Rattle.decimals.specs.Decimals.{amount_of}
 use Rattle.streams.specs.Lines.{◌>>=◌}
 use Rattle.streams.specs.Fields.{field_of, field_cut_of, byte_cut_of}
-use Rattle.thread_plans.specs.declared.call.Start.{Start}
-use Rattle.thread_plans.specs.declared.call.Start.TheVariants as starts
-
--- what a node does before the workers start: it makes a call, or spreads its rights to a point
-pub data StartValue : Type 0 where
-  makes : (ask : AskTold) → StartValue
-  spreads : (name : List ℕ) → StartValue
-
--- the same of the code's, without where its texts lie in memory
-abbrev pub start_value : Start → StartValue
-start_value (starts.Call call) = makes (ask_ref_told call)
-start_value (starts.Spread name) = spreads (name.now)
 
 -- `<name> <rest>`, whose rest may be empty and have spaces
 abbrev pub set_in : List ℕ → Option AskTold

@@ -1,21 +1,12 @@
-//! A call that a script asks for.
+//! A call that a line of a script asks for.
 
 ghost use Rattle.std.specs.Prelude.{◌≡◌, option_map};
 ghost use Rattle.node_calls.specs.Told.{ask_ref_told};
-ghost use Rattle.thread_plans.specs.Calls.{call_after, grant_in, load_in, remove_in, set_in, shift_in};
+ghost use Rattle.call_lines.specs.Calls.{call_after, grant_in, load_in, remove_in, set_in, shift_in};
 
 use decimals::amount;
 use node_calls::AskRef;
 use streams::{cut_byte, cut_field, field};
-
-/// What a node does before the workers start.
-#[derive(Clone, Copy)]
-pub enum Start<'a> {
-    /// Makes a call.
-    Call(AskRef<'a>),
-    /// Gives each other node an equal share of its rights to a point.
-    Spread { name: &'a str },
-}
 
 // `<name> <rest>`, whose rest may be empty and have spaces.
 fn set_call(rest: &str) -> Option<AskRef<'_>>
@@ -66,8 +57,10 @@ fn grant_call(rest: &str) -> Option<AskRef<'_>>
     Some(AskRef::Grant { name, term, amount })
 }
 
-/// A call by its first word, and what follows it.
-pub(crate) fn call_after<'a>(word: &str, rest: &'a str) -> Option<AskRef<'a>>
+/// The call of a line, by its first word and what follows this: `set <name> <text>`,
+/// `remove <name>`, `load <text>`, `shift <name> <term> <to> <amount>` or
+/// `grant <name> <term> <amount>`. It is none where the line has another form.
+pub fn call_after<'a>(word: &str, rest: &'a str) -> Option<AskRef<'a>>
     ensures { option_map ask_ref_told result ≡ call_after word.now rest.now }
 {
     match word {
