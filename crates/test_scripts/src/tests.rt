@@ -8,3 +8,11 @@ mod kept_drills;
 mod transfers;
 mod watched;
 mod workers;
+
+use std::fmt::Debug;
+use std::process::Abort;
+
+/// Ends the test where what is found isn't what is wanted.
+fn expect<T: PartialEq + Debug>(rt: &impl Abort, found: &T, wanted: &T) {
+    assert_eq!(rt; found, wanted);
+}

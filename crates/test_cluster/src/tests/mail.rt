@@ -13,7 +13,7 @@ enum Mail {
 
 // What two nodes send and take. A mailbox holds 64 messages, and more once it was emptied; nobody else
 // has one; and what is sent to oneself comes to oneself.
-const MAIL: [(usize, Mail); 9] = [
+const MAIL: &[(usize, Mail)] = &[
     (0, Mail::Send(1, (0, 64), Ok(()))),
     (0, Mail::Send(1, (64, 65), Err(WireError::Full))),
     (1, Mail::Take((0, 64))),
@@ -58,9 +58,10 @@ fn holds<R: Wait>(rt: &R, alloc: Global, wire: &mut MailWire, mail: Mail) -> boo
 #[test]
 fn mail_between_two_nodes(rt: HostRuntime) -> Result<(), Fail> {
     let mut wires = MailWire::all(rt.alloc(), 2)?;
-    for (step, (node, mail)) in MAIL.into_iter().enumerate() {
-        let wire = wires.get_mut(node).ok_or("a wire")?;
-        assert!(rt; holds(&rt, rt.alloc(), wire, mail), "step {step}");
+    for (step, (node, mail)) in MAIL.iter().enumerate() {
+        let wire = wires.get_mut(*node).ok_or("a wire")?;
+        let found = (step, holds(&rt, rt.alloc(), wire, *mail));
+        expect(&rt, &found, &(step, true));
     }
     Ok(())
 }

@@ -92,8 +92,8 @@ fn mail<L: Label, M: Label, R: Wait>(
 fn a_setting_comes_by_mail(rt: HostRuntime) -> Result<(), Fail> {
     let (zero, one) = (Blank::new(1), Blank::new(1));
     let (lengths, shown) = mail::<Brand, Brand, HostRuntime>(&rt, rt.alloc(), zero, one)?;
-    assert_eq!(rt; lengths, [54, 54, 54, 32]);
-    assert_eq!(rt; shown.as_str(), "a=off");
+    let found = (lengths, shown.as_str());
+    expect(&rt, &found, &([54, 54, 54, 32], "a=off"));
     Ok(())
 }
 
@@ -124,7 +124,7 @@ fn counted(report: &GossipReport) -> Counts {
 type Row = (Fails, u32, [u64; 3]);
 
 // A message that couldn't be sent is lost, and a take that fails ends the taking of its round.
-const ALL_DONE: [Row; 18] = [
+const ALL_DONE: &[Row] = &[
     (Fails::Send(Full, 0), 2, [4, 1, 2]),
     (Fails::Send(Full, 1), 2, [4, 1, 2]),
     (Fails::Send(Full, 2), 2, [4, 1, 2]),
@@ -145,7 +145,7 @@ const ALL_DONE: [Row; 18] = [
     (Fails::Take(Failed, 3), 2, [4, 0, 2]),
 ];
 
-const NO_MEMORY: [Row; 4] = [
+const NO_MEMORY: &[Row] = &[
     (Fails::Take(OutOfMemory, 0), 2, [2, 0, 0]),
     (Fails::Take(OutOfMemory, 1), 2, [2, 0, 1]),
     (Fails::Take(OutOfMemory, 3), 2, [4, 0, 2]),
@@ -193,26 +193,34 @@ fn counts_of<R: Wait>(
     counts_at::<Brand, R>(rt, alloc, Blank::new(1), message, fails, rounds)
 }
 
-#[test]
-fn rounds_over_wires_that_fail(rt: HostRuntime) -> Result<(), Fail> {
-    for (rows, ended) in [
-        (ALL_DONE.as_slice(), Ended::Done),
-        (NO_MEMORY.as_slice(), Ended::OutOfMemory),
-    ] {
-        for (fails, rounds, [emitted, lost, delivered]) in rows {
-            let wanted = Counts {
-                emitted: *emitted,
-                lost: *lost,
-                delivered: *delivered,
-                refused: 0,
-                receipts: emitted.saturating_add(*delivered),
-                ended,
-            };
-            let counts = counts_of(&rt, rt.alloc(), EMPTY, *fails, *rounds)?;
-            assert_eq!(rt; counts, wanted);
-        }
+fn wanted([emitted, lost, delivered]: [u64; 3], ended: Ended) -> Counts {
+    Counts {
+        emitted,
+        lost,
+        delivered,
+        refused: 0,
+        receipts: emitted.saturating_add(delivered),
+        ended,
+    }
+}
+
+fn expect_rounds<R: Abort + Wait>(
+    rt: &R,
+    alloc: Global,
+    rows: &[Row],
+    ended: Ended,
+) -> Result<(), Fail> {
+    for (fails, rounds, numbers) in rows {
+        let counts = counts_of(rt, alloc, EMPTY, *fails, *rounds)?;
+        expect(rt, &counts, &wanted(*numbers, ended));
     }
     Ok(())
+}
+
+#[test]
+fn rounds_over_wires_that_fail(rt: HostRuntime) -> Result<(), Fail> {
+    expect_rounds(&rt, rt.alloc(), ALL_DONE, Ended::Done)?;
+    expect_rounds(&rt, rt.alloc(), NO_MEMORY, Ended::OutOfMemory)
 }
 
 #[test]
@@ -226,6 +234,6 @@ fn what_is_no_message_is_refused(rt: HostRuntime) -> Result<(), Fail> {
         ended: Ended::Done,
     };
     let counts = counts_of(&rt, rt.alloc(), &[0; 31], Fails::Never, 1)?;
-    assert_eq!(rt; counts, wanted);
+    expect(&rt, &counts, &wanted);
     Ok(())
 }

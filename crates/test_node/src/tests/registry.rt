@@ -9,7 +9,7 @@ mod stress;
 mod words;
 mod workers;
 
-use super::stories::{ONE_NAME, SETS_A};
+use super::stories::{ONE_NAME, SETS_A, grant_ask, pass_ask, remove_ask, set_ask, shift_ask};
 use super::{expect, text_of};
 use calls::Line;
 use node_core::{Ask, Config, Entry, NodeCore, NodeFault, Receipt, Reply};
@@ -36,19 +36,6 @@ const SECOND_OF_TWO: Config = Config {
     nodes: 2,
     trace_cap: 1000,
 };
-
-fn set_ask(alloc: Global, name: &str, text: &str) -> Result<Ask, AllocError> {
-    Ok(Ask::Set {
-        name: String::from_str(alloc, name)?,
-        text: String::from_str(alloc, text)?,
-    })
-}
-
-fn pass_ask(alloc: Global, name: &str) -> Result<Ask, AllocError> {
-    Ok(Ask::Pass {
-        name: String::from_str(alloc, name)?,
-    })
-}
 
 /// Whether two entries print alike.
 fn is_same(alloc: Global, left: &Entry, right: &Entry) -> Result<bool, AllocError> {
@@ -101,8 +88,8 @@ fn act<L: Label + Send + Sync, R: Abort + Threads + Wait + Clock + Sync>(
     requires parts { (L.parts ≡ callers) × (0 < callers) }
 {
     match scene {
-        Scene::Story(lines) => calls::story(rt, alloc, &registry, seat_of(seats)?, lines),
-        Scene::Receipts => calls::receipts(rt, alloc, &registry, seat_of(seats)?),
+        Scene::Story(lines) => calls::story(rt, alloc, &registry, seats, lines),
+        Scene::Receipts => calls::receipts(rt, alloc, &registry, seats),
         Scene::Meeting => workers::two_meet(rt, alloc, &registry, seats),
         Scene::BadName => workers::bad_name(rt, alloc, &registry, seats),
         Scene::Stress => stress::stress(rt, alloc, registry, seats, callers),
@@ -132,16 +119,18 @@ fn play<L: Label + Send + Sync, R: Abort + Threads + Wait + Clock + Sync>(
     act(rt, alloc, scene, registry, seats, callers)
 }
 
+const SCENES: &[Scene] = &[
+    Scene::Story(calls::REMOVED),
+    Scene::Story(calls::LOADED),
+    Scene::Story(calls::RIGHTS),
+    Scene::Receipts,
+    Scene::BadName,
+];
+
 #[test]
 fn one_caller(rt: HostRuntime) -> Result<(), Fail> {
-    for scene in [
-        Scene::Story(calls::REMOVED),
-        Scene::Story(calls::LOADED),
-        Scene::Story(calls::RIGHTS),
-        Scene::Receipts,
-        Scene::BadName,
-    ] {
-        play::<Brand, HostRuntime>(&rt, rt.alloc(), Blank::new(1), 1, scene)?;
+    for scene in SCENES {
+        play::<Brand, HostRuntime>(&rt, rt.alloc(), Blank::new(1), 1, *scene)?;
     }
     Ok(())
 }

@@ -23,6 +23,7 @@ use nodes::{ALONE, FIRST_OF_TWO, SECOND_OF_TWO, by_call, by_value};
 use prints::{answer_text, config_text, view};
 use replica_state::Replica;
 use stage::{Line, Step, Story, answer_of, ask_of, play};
+pub(super) use stage::{grant_ask, pass_ask, remove_ask, set_ask, shift_ask};
 use stamp_register::Stamp;
 use std::alloc::{AllocError, Global};
 use std::process::Abort;

@@ -1,9 +1,11 @@
 //! Scripts over readers and writers that fail.
 
+use super::expect;
 use super::transfers::{Endless, Narrow, Slow};
 use scripts::{ScriptFault, Watched, run_script, run_script_echoing};
 use std::alloc::Global;
 use std::io::ErrorKind;
+use std::process::Abort;
 use std::test::Fail;
 
 const SCRIPT: &str = "\
@@ -60,20 +62,22 @@ fn reads_so(alloc: Global, fails_at: usize, kind: ErrorKind, wanted: Read, print
     read(alloc, fails_at, kind, &mut output) == wanted && output.as_slice() == printed.as_bytes()
 }
 
+fn expect_reads(rt: &impl Abort, alloc: Global, kind: ErrorKind) {
+    let reads = SCRIPT.len().div_ceil(3) + 1;
+    for fails_at in 0..reads {
+        let wanted = (Err(ScriptFault::ReadFailed), true, fails_at + 1);
+        let found = (fails_at, reads_so(alloc, fails_at, kind, wanted, ""));
+        expect(rt, &found, &(fails_at, true));
+    }
+    let wanted = (Ok(()), false, reads);
+    expect(rt, &reads_so(alloc, reads, kind, wanted, OUTPUT), &true);
+}
+
 // At each call, of which the last finds the end; and at none.
 #[test]
 fn a_read_fails(rt: HostRuntime) {
-    let reads = SCRIPT.len().div_ceil(3) + 1;
     for kind in [ErrorKind::Interrupted, ErrorKind::OutOfMemory] {
-        for fails_at in 0..reads {
-            let wanted = (Err(ScriptFault::ReadFailed), true, fails_at + 1);
-            assert!(rt;
-                reads_so(rt.alloc(), fails_at, kind, wanted, ""),
-                "at call {fails_at}"
-            );
-        }
-        let wanted = (Ok(()), false, reads);
-        assert!(rt; reads_so(rt.alloc(), reads, kind, wanted, OUTPUT));
+        expect_reads(&rt, rt.alloc(), kind);
     }
 }
 
@@ -130,16 +134,20 @@ fn stops_so(alloc: Global, run: Run, fails: bool, room: usize) -> bool {
     }
 }
 
+fn expect_stops(rt: &impl Abort, alloc: Global, run: Run, fails: bool) {
+    for room in 0..run.2.len() + 1 {
+        let found = (room, stops_so(alloc, run, fails, room));
+        expect(rt, &found, &(room, true));
+    }
+}
+
+const STOPS: &[(Run, bool)] = &[(PLAIN, false), (PLAIN, true), (ECHOED, true)];
+
 // Behind each byte of what is printed, where the writer fails and where it takes none.
 #[test]
 fn a_write_stops(rt: HostRuntime) {
-    for (run, fails) in [(PLAIN, false), (PLAIN, true), (ECHOED, true)] {
-        for room in 0..run.2.len() + 1 {
-            assert!(rt;
-                stops_so(rt.alloc(), run, fails, room),
-                "behind {room} bytes"
-            );
-        }
+    for (run, fails) in STOPS {
+        expect_stops(&rt, rt.alloc(), *run, *fails);
     }
 }
 
@@ -154,20 +162,24 @@ fn flushes_so(alloc: Global, run: Run, flush_fails: bool, wanted: Written) -> bo
     writes_so(alloc, run, narrow, wanted, 1)
 }
 
+const REFUSED: Result<(), ScriptFault> = Err(ScriptFault::WriteFailed);
+
+const FLUSHES: &[(Run, bool, Written)] = &[
+    (PLAIN, false, DONE),
+    (PLAIN, true, (REFUSED, true, true)),
+    (ECHOED, false, DONE),
+    (ECHOED, true, (REFUSED, true, true)),
+    (EMPTY, false, DONE),
+    (EMPTY, true, (REFUSED, true, false)),
+    (EMPTY_ECHOED, false, DONE),
+];
+
 // All is flushed once, also where nothing is printed; a flush that fails is a failed write.
 #[test]
 fn a_run_ends_with_a_flush(rt: HostRuntime) {
-    let refused = Err(ScriptFault::WriteFailed);
-    for (run, flush_fails, wanted) in [
-        (PLAIN, false, DONE),
-        (PLAIN, true, (refused, true, true)),
-        (ECHOED, false, DONE),
-        (ECHOED, true, (refused, true, true)),
-        (EMPTY, false, DONE),
-        (EMPTY, true, (refused, true, false)),
-        (EMPTY_ECHOED, false, DONE),
-    ] {
-        assert!(rt; flushes_so(rt.alloc(), run, flush_fails, wanted));
+    for (run, flush_fails, wanted) in FLUSHES {
+        let found = flushes_so(rt.alloc(), *run, *flush_fails, *wanted);
+        expect(&rt, &found, &true);
     }
 }
 
@@ -184,15 +196,13 @@ fn read_endless(alloc: Global) -> (Result<(), ScriptFault>, usize) {
 // Of a script that is too long one byte too many is read.
 #[test]
 fn a_script_that_never_ends(rt: HostRuntime) {
-    assert_eq!(rt;
-        read_endless(rt.alloc()),
-        (Err(ScriptFault::TooLong), 16_777_217)
-    );
+    let wanted = (Err(ScriptFault::TooLong), 16_777_217);
+    expect(&rt, &read_endless(rt.alloc()), &wanted);
 }
 
 #[test]
 fn text_of_out_of_memory(rt: HostRuntime) -> Result<(), Fail> {
     let text = format!(in rt.alloc(); "{}", ScriptFault::OutOfMemory)?;
-    assert_eq!(rt; text.as_str(), "P4 OutOfMemory");
+    expect(&rt, &text.as_str(), &"P4 OutOfMemory");
     Ok(())
 }

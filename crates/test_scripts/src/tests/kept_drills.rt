@@ -1,10 +1,12 @@
 //! The text of a drill, and readers and writers of it that fail.
 
+use super::expect;
 use super::transfers::{Narrow, Slow};
 use drills::{Drill, DrillFault, read_drill, write_drill};
 use scripts::Watched;
-use std::alloc::Global;
+use std::alloc::{AllocError, Global};
 use std::io::{BufReader, ErrorKind, Read, Write};
+use std::process::Abort;
 use std::test::Fail;
 
 // Each form of a line, a row and a task.
@@ -47,7 +49,7 @@ const ONE_ENTRY: &str = r#"{"failreg":"drill","version":1}
 "#;
 
 // Texts behind a good first line, a trace's and an entry's, and the line of the whole that is bad.
-const BAD: [(&str, u64); 24] = [
+const BAD: &[(&str, u64)] = &[
     ("\n", 4),
     ("{", 4),
     ("[]", 4),
@@ -111,7 +113,7 @@ const BAD: [(&str, u64); 24] = [
 ];
 
 // Texts that have no good first line.
-const BAD_FROM_THE_START: [&str; 6] = [
+const BAD_FROM_THE_START: &[&str] = &[
     "",
     "\n",
     "{\"trace\":0}",
@@ -147,27 +149,42 @@ fn fault_of(alloc: Global, text: &str) -> Option<DrillFault> {
     read(alloc, text.as_bytes()).err()
 }
 
+// Texts, and how each is written again.
+const FORMS: &[(&str, &str)] = &[(EVERY_FORM, EVERY_FORM), (TOLD_OTHERWISE, ONE_ENTRY)];
+
 #[test]
 fn each_form_reads_back(rt: HostRuntime) -> Result<(), Fail> {
-    for (text, wanted) in [(EVERY_FORM, EVERY_FORM), (TOLD_OTHERWISE, ONE_ENTRY)] {
+    for (text, wanted) in FORMS {
         let written = again(rt.alloc(), text)?;
-        assert_eq!(rt; written.as_slice(), wanted.as_bytes());
+        expect(&rt, &written.as_slice(), &wanted.as_bytes());
     }
     Ok(())
+}
+
+fn behind_an_entry(alloc: Global, text: &str) -> Result<String, AllocError> {
+    format!(in alloc; "{ONE_ENTRY}{text}")
+}
+
+// Ends the test where it isn't for this line that a text is no drill.
+fn expect_bad_line(rt: &impl Abort, alloc: Global, text: &str, line: u64) {
+    let wanted = Some(DrillFault::BadLine { line });
+    expect(rt, &(text, fault_of(alloc, text)), &(text, wanted));
 }
 
 #[test]
 fn bad_lines(rt: HostRuntime) -> Result<(), Fail> {
     for (text, line) in BAD {
-        let whole = format!(in rt.alloc(); "{ONE_ENTRY}{text}")?;
-        let fault = fault_of(rt.alloc(), &whole);
-        assert_eq!(rt; fault, Some(DrillFault::BadLine { line }), "{text}");
-    }
-    for text in BAD_FROM_THE_START {
-        let fault = fault_of(rt.alloc(), text);
-        assert_eq!(rt; fault, Some(DrillFault::BadLine { line: 1 }), "{text}");
+        let whole = behind_an_entry(rt.alloc(), text)?;
+        expect_bad_line(&rt, rt.alloc(), &whole, *line);
     }
     Ok(())
+}
+
+#[test]
+fn bad_first_lines(rt: HostRuntime) {
+    for text in BAD_FROM_THE_START {
+        expect_bad_line(&rt, rt.alloc(), text, 1);
+    }
 }
 
 // What comes of a text of which a read fails behind so many bytes, three for each read.
@@ -185,10 +202,8 @@ fn fault_behind(alloc: Global, bytes: usize) -> Option<DrillFault> {
 #[test]
 fn a_read_fails(rt: HostRuntime) {
     for bytes in [0, 3, ONE_ENTRY.len()] {
-        assert_eq!(rt;
-            fault_behind(rt.alloc(), bytes),
-            Some(DrillFault::ReadFailed)
-        );
+        let found = fault_behind(rt.alloc(), bytes);
+        expect(&rt, &found, &Some(DrillFault::ReadFailed));
     }
 }
 
@@ -207,13 +222,10 @@ fn written_into(alloc: Global, drill: &Drill, room: usize) -> Result<(), DrillFa
 fn a_write_stops(rt: HostRuntime) -> Result<(), Fail> {
     let drill = read(rt.alloc(), ONE_ENTRY.as_bytes())?;
     for room in 0..ONE_ENTRY.len() {
-        let written = written_into(rt.alloc(), &drill, room);
-        assert_eq!(rt;
-            written,
-            Err(DrillFault::WriteFailed),
-            "behind {room} bytes"
-        );
+        let found = (room, written_into(rt.alloc(), &drill, room));
+        expect(&rt, &found, &(room, Err(DrillFault::WriteFailed)));
     }
-    assert_eq!(rt; written_into(rt.alloc(), &drill, ONE_ENTRY.len()), Ok(()));
+    let written = written_into(rt.alloc(), &drill, ONE_ENTRY.len());
+    expect(&rt, &written, &Ok(()));
     Ok(())
 }

@@ -2,6 +2,7 @@
 
 ghost use Rattle.std.specs.Prelude.{◌≤◌, length, IfOk};
 
+use super::expect;
 use scripts::Watched;
 use std::alloc::{AllocError, Global};
 use std::io;
@@ -126,7 +127,7 @@ const BROKEN: Result<usize, ErrorKind> = Err(ErrorKind::BrokenPipe);
 
 const MOST: usize = 100_000;
 
-const CALLS: [Row; 24] = [
+const CALLS: &[Row] = &[
     (Method::Read, Ok(2), 3, 2, Ok(2), false),
     (Method::Read, Ok(0), 3, 0, Ok(0), false),
     (Method::Read, Ok(0), 0, 0, Ok(0), false),
@@ -170,7 +171,7 @@ fn holds(alloc: Global, row: &Row) -> Result<bool, AllocError> {
 #[test]
 fn calls_are_handed_on(rt: HostRuntime) -> Result<(), Fail> {
     for (number, row) in CALLS.iter().enumerate() {
-        assert!(rt; holds(rt.alloc(), row)?, "row {number}");
+        expect(&rt, &(number, holds(rt.alloc(), row)?), &(number, true));
     }
     Ok(())
 }

@@ -1,5 +1,6 @@
 //! Workers of two nodes beside gossip, under audit.
 
+use super::expect;
 use audit::{AuditFault, AuditYes, audit};
 use node_core::{PassReply, Receipt, Reply};
 use std::alloc::Global;
@@ -66,7 +67,7 @@ fn executed(verdict: &Result<AuditYes, AuditFault>) -> Option<u128> {
 fn workers_under_audit(rt: HostRuntime) -> Result<(), Fail> {
     let played = played(&rt, rt.alloc())?;
     let executed = executed(&audited(rt.alloc(), &played));
-    assert_eq!(rt; executed, Some(acts_told(&played)));
-    assert!(rt; executed <= Some(5));
+    let found = (executed, executed <= Some(5));
+    expect(&rt, &found, &(Some(acts_told(&played)), true));
     Ok(())
 }

@@ -111,9 +111,10 @@ pub(super) fn story<L: Label, R: Abort + Wait>(
     rt: &R,
     alloc: Global,
     registry: &Registry<L>,
-    mut seat: Seat<L>,
+    seats: Vec<Seat<L>>,
     lines: &[Line],
 ) -> Result<(), Fail> {
+    let mut seat = seat_of(seats)?;
     for (call, wanted) in lines {
         let answer = answer(rt, alloc, registry, &mut seat, call)?;
         expect(rt, &answer.as_str(), wanted);
@@ -145,19 +146,25 @@ fn is_told<L: Label, R: Wait>(
     Ok(registry.with(rt, |node| is_last(alloc, node, &receipt))?)
 }
 
+/// The first call sets p, and the others pass it.
+fn numbered_ask(alloc: Global, number: u32) -> Result<Ask, AllocError> {
+    if number == 0 {
+        set_ask(alloc, "p", "2*off")
+    } else {
+        pass_ask(alloc, "p")
+    }
+}
+
 /// The receipt of each call, a setting and three passes, is the last entry of the trace.
 pub(super) fn receipts<L: Label, R: Abort + Wait>(
     rt: &R,
     alloc: Global,
     registry: &Registry<L>,
-    mut seat: Seat<L>,
+    seats: Vec<Seat<L>>,
 ) -> Result<(), Fail> {
+    let mut seat = seat_of(seats)?;
     for number in 0..4 {
-        let ask = if number == 0 {
-            set_ask(alloc, "p", "2*off")?
-        } else {
-            pass_ask(alloc, "p")?
-        };
+        let ask = numbered_ask(alloc, number)?;
         expect(rt, &is_told(rt, alloc, registry, &mut seat, &ask)?, &true);
     }
     expect(rt, &seat.calls(), &4);

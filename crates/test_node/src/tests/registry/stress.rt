@@ -5,33 +5,6 @@ ghost use Rattle.std.specs.Prelude.{◌≡◌, ◌<◌};
 use super::workers::{Asks, Open, worked};
 use super::*;
 
-fn named(alloc: Global, name: &str) -> Result<String, AllocError> {
-    String::from_str(alloc, name)
-}
-
-fn shift_ask(alloc: Global) -> Result<Ask, AllocError> {
-    Ok(Ask::Shift {
-        name: named(alloc, "p")?,
-        term: 0,
-        to: 0,
-        amount: 1,
-    })
-}
-
-fn grant_ask(alloc: Global) -> Result<Ask, AllocError> {
-    Ok(Ask::Grant {
-        name: named(alloc, "p")?,
-        term: 0,
-        amount: 2,
-    })
-}
-
-fn remove_ask(alloc: Global) -> Result<Ask, AllocError> {
-    Ok(Ask::Remove {
-        name: named(alloc, "r")?,
-    })
-}
-
 /// A message in which the first node tells one pass more for each worker.
 fn deliver_ask(alloc: Global, worker: u8) -> Result<Ask, AllocError> {
     let mut bytes = ONE_NAME;
@@ -44,9 +17,9 @@ fn ask(alloc: Global, worker: u8, number: u8) -> Result<Ask, AllocError> {
     match number {
         0 => set_ask(alloc, "p", "9*off->20%yield"),
         1 => set_ask(alloc, "q", "50%off"),
-        2 => grant_ask(alloc),
-        3 => shift_ask(alloc),
-        4 => remove_ask(alloc),
+        2 => grant_ask(alloc, "p", 0, 2),
+        3 => shift_ask(alloc, "p", 0, 0, 1),
+        4 => remove_ask(alloc, "r"),
         5 => Ok(Ask::Emit { to: 0 }),
         6 => pass_ask(alloc, "q"),
         7 => deliver_ask(alloc, worker),
@@ -131,6 +104,44 @@ fn receipted(alloc: Global, trace: &[Entry], receipts: &[Receipt]) -> Result<usi
     Ok(count)
 }
 
+/// What the node of a registry shows.
+fn shown_by<L: Label, R: Wait>(
+    rt: &R,
+    alloc: Global,
+    registry: &Registry<L>,
+) -> Result<String, AllocError> {
+    registry.with(rt, |node| view(alloc, node))
+}
+
+/// The trace of a registry that is closed by all of its seats.
+fn trace_of<L: Label>(
+    registry: Registry<L>,
+    seats: Vec<Seat<L>>,
+    callers: u8,
+) -> Result<Vec<Entry>, Fail>
+    requires parts { (L.parts ≡ callers) × (0 < callers) }
+{
+    if seats.len() != usize::from(callers) {
+        return Err(Fail::new("a seat is missing"));
+    }
+    Ok(registry.close(seats).trace)
+}
+
+/// Ends the test where a trace doesn't replay to what the node shows, or where the receipts aren't
+/// its entries, each once.
+fn expect_trace(
+    rt: &impl Abort,
+    alloc: Global,
+    trace: &[Entry],
+    receipts: &[Receipt],
+    shown: &str,
+) -> Result<(), Fail> {
+    let (count, again) = replayed(alloc, trace)?;
+    expect(rt, &(count, again.as_str()), &(receipts.len(), shown));
+    expect(rt, &receipted(alloc, trace, receipts)?, &trace.len());
+    Ok(())
+}
+
 /// The trace replays to what the node shows, and the receipts are its entries, each once.
 pub(super) fn stress<L: Label + Send + Sync, R: Abort + Threads + Wait + Sync>(
     rt: &R,
@@ -142,13 +153,8 @@ pub(super) fn stress<L: Label + Send + Sync, R: Abort + Threads + Wait + Sync>(
     requires parts { (L.parts ≡ callers) × (0 < callers) }
 {
     let dones = worked(rt, alloc, &registry, seats, &EachKind, &Open)?;
+    let shown = shown_by(rt, alloc, &registry)?;
     let (seats, receipts) = gathered(alloc, dones)?;
-    let shown = registry.with(rt, |node| view(alloc, node))?;
-    if seats.len() != usize::from(callers) {
-        return Err(Fail::new("a seat is missing"));
-    }
-    let trace = registry.close(seats).trace;
-    expect(rt, &replayed(alloc, &trace)?, &(receipts.len(), shown));
-    expect(rt, &receipted(alloc, &trace, &receipts)?, &trace.len());
-    Ok(())
+    let trace = trace_of(registry, seats, callers)?;
+    expect_trace(rt, alloc, &trace, &receipts, &shown)
 }

@@ -131,30 +131,34 @@ fn entries_of(alloc: Global, node: u8, nodes: u8) -> Result<usize, NodeFault> {
     Ok(node.trace().len())
 }
 
+const CONFIGURATIONS: &[(u8, u8, Result<usize, NodeFault>)] = &[
+    (0, 1, Ok(0)),
+    (15, 16, Ok(0)),
+    (16, 17, Ok(0)),
+    (31, 32, Ok(0)),
+    (0, 0, Err(NodeFault::BadConfig)),
+    (0, 33, Err(NodeFault::BadConfig)),
+    (32, 32, Err(NodeFault::BadConfig)),
+    (1, 1, Err(NodeFault::BadConfig)),
+];
+
 #[test]
 fn configurations(rt: HostRuntime) {
-    for (node, nodes, wanted) in [
-        (0, 1, Ok(0)),
-        (15, 16, Ok(0)),
-        (16, 17, Ok(0)),
-        (31, 32, Ok(0)),
-        (0, 0, Err(NodeFault::BadConfig)),
-        (0, 33, Err(NodeFault::BadConfig)),
-        (32, 32, Err(NodeFault::BadConfig)),
-        (1, 1, Err(NodeFault::BadConfig)),
-    ] {
-        expect(&rt, &entries_of(rt.alloc(), node, nodes), &wanted);
+    for (node, nodes, wanted) in CONFIGURATIONS {
+        expect(&rt, &entries_of(rt.alloc(), *node, *nodes), wanted);
     }
 }
 
 /// The faults that no story shows.
+const FAULTS: &[(NodeFault, &str)] = &[
+    (NodeFault::BadConfig, "N21 BadConfig"),
+    (NodeFault::OutOfMemory, "N22 OutOfMemory"),
+];
+
 #[test]
 fn fault_texts(rt: HostRuntime) -> Result<(), Fail> {
-    for (fault, wanted) in [
-        (NodeFault::BadConfig, "N21 BadConfig"),
-        (NodeFault::OutOfMemory, "N22 OutOfMemory"),
-    ] {
-        expect(&rt, &text_of(rt.alloc(), &fault)?.as_str(), &wanted);
+    for (fault, wanted) in FAULTS {
+        expect(&rt, &text_of(rt.alloc(), fault)?.as_str(), wanted);
     }
     Ok(())
 }

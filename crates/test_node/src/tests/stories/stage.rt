@@ -103,43 +103,82 @@ fn bytes_of(
     }))
 }
 
+pub(crate) fn set_ask(alloc: Global, name: &str, text: &str) -> Result<Ask, AllocError> {
+    let name = String::from_str(alloc, name)?;
+    let text = String::from_str(alloc, text)?;
+    Ok(Ask::Set { name, text })
+}
+
+pub(crate) fn remove_ask(alloc: Global, name: &str) -> Result<Ask, AllocError> {
+    let name = String::from_str(alloc, name)?;
+    Ok(Ask::Remove { name })
+}
+
+fn load_ask(alloc: Global, text: &str) -> Result<Ask, AllocError> {
+    let text = String::from_str(alloc, text)?;
+    Ok(Ask::Load { text })
+}
+
+pub(crate) fn pass_ask(alloc: Global, name: &str) -> Result<Ask, AllocError> {
+    let name = String::from_str(alloc, name)?;
+    Ok(Ask::Pass { name })
+}
+
+pub(crate) fn shift_ask(
+    alloc: Global,
+    name: &str,
+    term: u8,
+    to: u8,
+    amount: u64,
+) -> Result<Ask, AllocError> {
+    let name = String::from_str(alloc, name)?;
+    Ok(Ask::Shift {
+        name,
+        term,
+        to,
+        amount,
+    })
+}
+
+pub(crate) fn grant_ask(
+    alloc: Global,
+    name: &str,
+    term: u8,
+    amount: u64,
+) -> Result<Ask, AllocError> {
+    let name = String::from_str(alloc, name)?;
+    Ok(Ask::Grant { name, term, amount })
+}
+
+/// What a step delivers, if it does.
+fn deliver_ask(
+    alloc: Global,
+    messages: &[Vec<u8>],
+    step: &Step,
+) -> Result<Option<Ask>, AllocError> {
+    match bytes_of(alloc, messages, step)? {
+        Some(message) => Ok(Some(Ask::Deliver { message })),
+        None => Ok(None),
+    }
+}
+
 /// What a step asks, if it is a call.
 pub(super) fn ask_of(
     alloc: Global,
     messages: &[Vec<u8>],
     step: &Step,
 ) -> Result<Option<Ask>, AllocError> {
-    Ok(Some(match step {
-        Step::Set(name, text) => Ask::Set {
-            name: String::from_str(alloc, name)?,
-            text: String::from_str(alloc, text)?,
-        },
-        Step::Remove(name) => Ask::Remove {
-            name: String::from_str(alloc, name)?,
-        },
-        Step::Load(text) => Ask::Load {
-            text: String::from_str(alloc, text)?,
-        },
-        Step::Pass(name, _) => Ask::Pass {
-            name: String::from_str(alloc, name)?,
-        },
-        Step::Shift(name, term, to, amount) => Ask::Shift {
-            name: String::from_str(alloc, name)?,
-            term: *term,
-            to: *to,
-            amount: *amount,
-        },
-        Step::Grant(name, term, amount) => Ask::Grant {
-            name: String::from_str(alloc, name)?,
-            term: *term,
-            amount: *amount,
-        },
-        Step::Emit(to) => Ask::Emit { to: *to },
-        _ => match bytes_of(alloc, messages, step)? {
-            Some(message) => Ask::Deliver { message },
-            None => return Ok(None),
-        },
-    }))
+    let ask = match step {
+        Step::Set(name, text) => set_ask(alloc, name, text),
+        Step::Remove(name) => remove_ask(alloc, name),
+        Step::Load(text) => load_ask(alloc, text),
+        Step::Pass(name, _) => pass_ask(alloc, name),
+        Step::Shift(name, term, to, amount) => shift_ask(alloc, name, *term, *to, *amount),
+        Step::Grant(name, term, amount) => grant_ask(alloc, name, *term, *amount),
+        Step::Emit(to) => Ok(Ask::Emit { to: *to }),
+        _ => return deliver_ask(alloc, messages, step),
+    };
+    Ok(Some(ask?))
 }
 
 fn words_of(step: &Step) -> &'static [u32] {
@@ -288,20 +327,31 @@ fn new_nodes(alloc: Global, configs: &[Config]) -> Result<Vec<NodeCore>, Fail> {
 /// What a story is of; the nodes, which have accepted no call; and its parts.
 pub(super) type Story = (&'static str, &'static [Config], &'static [&'static [Line]]);
 
+/// Plays a line of a story, which a mark names. The test ends where it answers otherwise.
+fn play_line(
+    rt: &impl Abort,
+    alloc: Global,
+    nodes: &mut [NodeCore],
+    messages: &mut Vec<Vec<u8>>,
+    as_value: bool,
+    mark: (&str, usize),
+    (place, step, wanted): &Line,
+) -> Result<(), Fail> {
+    let node = nodes.get_mut(*place).ok_or("there is no such node")?;
+    let answer = answer(rt, alloc, node, messages, as_value, step)?;
+    expect(rt, &(mark, answer.as_str()), &(mark, *wanted));
+    Ok(())
+}
+
 /// Plays a story by calls or by values. The test ends where a line answers otherwise.
 fn play_by(rt: &impl Abort, alloc: Global, as_value: bool, story: &Story) -> Result<(), Fail> {
     let (title, configs, parts) = story;
     let mut nodes = new_nodes(alloc, configs)?;
     let mut messages = Vec::new(alloc);
     for part in *parts {
-        for (index, (place, step, wanted)) in part.iter().enumerate() {
-            let node = nodes.get_mut(*place).ok_or("there is no such node")?;
-            let answer = answer(rt, alloc, node, &mut messages, as_value, step)?;
-            expect(
-                rt,
-                &(*title, index, answer.as_str()),
-                &(*title, index, *wanted),
-            );
+        for (index, line) in part.iter().enumerate() {
+            let mark = (*title, index);
+            play_line(rt, alloc, &mut nodes, &mut messages, as_value, mark, line)?;
         }
     }
     Ok(())
