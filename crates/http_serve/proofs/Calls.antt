@@ -1,5 +1,6 @@
 -- What a call of a handler comes to, by its outcome.
-use Rattle.std.proofs.Common.{◌≡◌, ℕ, Result, Ok, Err, inl, inr, ◌∙◌, ap, sym, IfOk, IfErr}
+use Rattle.std.proofs.Common.{◌≡◌, ℕ, ◌+◌, Result, Ok, Err, inl, inr, ◌∙◌, ap, sym, IfOk, IfErr, OnErr}
+use Rattle.std.specs.Prelude.{OnOk}
 use Rattle.node_calls.specs.declared.ask.Ask.{Ask}
 use Rattle.node_core.specs.declared.config.Config.{Config}
 use Rattle.node_calls.specs.declared.fault.NodeFault.{NodeFault}
@@ -9,22 +10,37 @@ use Rattle.node_calls.specs.Asks.{ask_value, ask_value_first, reply_value}
 use Rattle.node_registry.specs.Receipts.{IsAnswered}
 use Rattle.node_registry.specs.Receipts as registry
 use Rattle.http_routes.specs.Replies.{ReplyValue, IsReply, acceptance_value, refusal_value}
-use Rattle.http_routes.specs.Requests.{call}
-use Rattle.http_serve.specs.Served.{IsServed}
+use Rattle.http_routes.specs.Requests.{WantedValue, call}
+use Rattle.http_routes.specs.Requests as wants
+use Rattle.http_serve.specs.Served.{IsServed, IsServedFrom}
 
--- an accepted call is answered so, and a refused one so
-pub called_by : (config : Config) (ask : Ask) (given : ReplyValue) (outcome : Result Reply NodeFault)
+-- an accepted call is counted and answered so, and a refused one so
+pub called_by : (config : Config) (had has : ℕ) (ask : Ask) (given : ReplyValue) (outcome : Result Reply NodeFault)
     → IfOk outcome (IsAnswered config ask)
     → IfErr outcome (registry.IsRefused config (ask_value_first config.nodes ask))
+    → OnOk outcome (has ≡ had + 1)
+    → OnErr outcome (has ≡ had)
     → IfOk outcome (λ reply. (n : ℕ) → given ≡ acceptance_value (reply_value n reply))
     → IfErr outcome (λ f. IsReply (refusal_value f) given)
-    → IsServed config (call (ask_told ask)) given
-called_by config ask given (Ok reply) (r, node, of, answer, accepted) refused told why =
-    inl (inl (record {
-      receipt = r;
-      accepted = accepted;
-      asked = (node, ap (λ (o : Ask). ask_value config.nodes o r.entry.reply) of);
-      told = told config.nodes ∙ ap (λ (o : Reply). acceptance_value (reply_value config.nodes o)) (sym answer);
-    }))
-called_by config ask given (Err fault) answered refused told why =
-    inl (inr (record { fault = fault; refused = refused; told = why }))
+    → IsServedFrom config had has (call (ask_told ask)) given
+called_by config had has ask given (Ok reply) (r, node, of, answer, accepted) refused more same told why =
+    inl (
+      record {
+        receipt = r;
+        accepted = accepted;
+        asked = (node, ap (λ (o : Ask). ask_value config.nodes o r.entry.reply) of);
+        told = told config.nodes ∙ ap (λ (o : Reply). acceptance_value (reply_value config.nodes o)) (sym answer);
+      },
+      more,
+    )
+called_by config had has ask given (Err fault) answered refused more same told why =
+    inr (inl (record { fault = fault; refused = refused; told = why }), same)
+
+-- whatever the seat counts
+pub served : (config : Config) (had has : ℕ) (wanted : WantedValue) (given : ReplyValue) → IsServedFrom config had has wanted given → IsServed config wanted given
+served config had has (wants.call ask) given (inl (made, more)) = inl (inl made)
+served config had has (wants.call ask) given (inr (inl refused, same)) = inl (inr refused)
+served config had has (wants.call ask) given (inr (inr none, same)) = inr none
+served config had has wants.list given (is, same) = is
+served config had has wants.report given (is, same) = is
+served config had has (wants.answered reply) given (is, same) = is

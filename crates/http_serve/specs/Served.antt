@@ -1,5 +1,5 @@
 -- What a served node answers to a request.
-use Rattle.std.specs.Prelude.{◌≡◌, ◌⊎◌}
+use Rattle.std.specs.Prelude.{◌≡◌, ◌⊎◌, ℕ, ◌+◌}
 use Rattle.node_core.specs.declared.config.Config.{Config}
 use Rattle.node_calls.specs.declared.fault.NodeFault.{NodeFault}
 use Rattle.node_calls.specs.declared.receipt.Receipt.{Receipt}
@@ -40,3 +40,10 @@ Comes config (wants.answered reply) given = IsReply reply given
 -- the same; or memory was refused before anything was asked
 abbrev pub IsServed : Config → WantedValue → ReplyValue → Type 0
 IsServed config wanted given = Comes config wanted given ⊎ (given ≡ no_memory)
+
+-- the same from a seat, with the calls that it had made and that it has made then: an accepted call is counted, and is
+-- answered as one, always; where there is another reply, no call was made
+abbrev pub IsServedFrom : Config → ℕ → ℕ → WantedValue → ReplyValue → Type 0
+IsServedFrom config had has (wants.call ask) given =
+    (IsMade config ask given × (has ≡ had + 1)) ⊎ ((IsRefused config ask given ⊎ (given ≡ no_memory)) × (has ≡ had))
+IsServedFrom config had has wanted given = IsServed config wanted given × (has ≡ had)

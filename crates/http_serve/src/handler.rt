@@ -1,19 +1,16 @@
 //! Who answers the requests of all connections.
 
-ghost use Rattle.std.specs.Prelude.{◌≡◌, ◌<◌, ℕ, List, length, IfOk, IfErr};
+ghost use Rattle.std.specs.Prelude.{◌≡◌, ◌<◌, ℕ, List, length};
 ghost use Rattle.message_format.specs.Spelling.{max_message};
 ghost use Rattle.node_calls.specs.Told.{ask_told};
-ghost use Rattle.node_calls.specs.Asks.{ask_value_first};
-ghost use Rattle.node_registry.specs.Receipts.{IsAnswered};
-ghost use Rattle.node_registry.specs.Receipts as receipts;
 ghost use Rattle.http_routes.specs.Replies.{http_value};
 ghost use Rattle.http_routes.specs.Requests.{IsWanted, wanted};
 ghost use Rattle.http_routes.specs.Requests as requests;
-ghost use Rattle.http_serve.specs.Served.{IsServed};
+ghost use Rattle.http_serve.specs.Served.{IsServed, IsServedFrom};
 
 use http_paths::Routes;
 use http_routes::{HttpReply, ReplyRoom, Wanted, route_owned, too_long};
-use node_core::{Ask, NodeFault, Reply};
+use node_core::Ask;
 use node_registry::{Label, Registry, Seat};
 use report_text::report_json;
 use std::alloc::{AllocError, Global};
@@ -58,8 +55,7 @@ impl<L: Label> NodeHandler<L> {
         Ok(Arc::new(alloc, handler)?)
     }
 
-    /// The reply to a request whose body came whole. A call is made once there is room for its
-    /// reply, so that an accepted one is always answered as such.
+    /// The reply to a request whose body came whole, from the handler's own seat.
     pub fn answer<R: Wait>(
         &self,
         rt: &R,
@@ -70,32 +66,42 @@ impl<L: Label> NodeHandler<L> {
     ) -> HttpReply
         ensures { IsServed L.config (wanted method.now path.now body.items) (http_value result) }
     {
+        let mut seat = self.seat.lock(rt);
+        self.answer_from(rt, alloc, &mut seat, method, path, body)
+    }
+
+    /// The reply to a request whose body came whole, from a seat, which counts the calls that were
+    /// accepted. A call is made once there is room for its reply, so that an accepted one is always
+    /// answered as such: whoever is answered otherwise may ask again.
+    pub fn answer_from<R: Wait>(
+        &self,
+        rt: &R,
+        alloc: Global,
+        seat: &mut Seat<L>,
+        method: &str,
+        path: &str,
+        body: Vec<u8>,
+    ) -> HttpReply
+        ensures { IsServedFrom L.config seat.old seat.new
+            (wanted method.now path.now body.items) (http_value result) }
+    {
         match route_owned(alloc, &self.routes, method, path, body) {
-            Wanted::Do(ask) => self.call(rt, alloc, ask),
+            Wanted::Do(ask) => self.call(rt, alloc, seat, ask),
             Wanted::List => self.list(rt, alloc),
             Wanted::Report => self.report(rt, alloc),
             Wanted::Answered(reply) => reply,
         }
     }
 
-    fn call<R: Wait>(&self, rt: &R, alloc: Global, ask: Ask) -> HttpReply
-        ensures { IsServed L.config (requests.call (ask_told ask)) (http_value result) }
+    fn call<R: Wait>(&self, rt: &R, alloc: Global, seat: &mut Seat<L>, ask: Ask) -> HttpReply
+        ensures { IsServedFrom L.config seat.old seat.new
+            (requests.call (ask_told ask)) (http_value result) }
     {
         let Ok(room) = ReplyRoom::new(alloc) else {
             return HttpReply::no_memory(alloc);
         };
-        let outcome = self.submit(rt, alloc, ask);
+        let outcome = self.registry.submit(rt, alloc, seat, ask);
         room.reply(&outcome)
-    }
-
-    // Makes a call from the seat, which one connection has at a time.
-    fn submit<R: Wait>(&self, rt: &R, alloc: Global, ask: Ask) -> Result<Reply, NodeFault>
-        ensures answered { IfOk result (IsAnswered L.config ask) }
-        ensures refused { IfErr result
-            (receipts.IsRefused L.config (ask_value_first L.config.nodes ask)) }
-    {
-        let mut seat = self.seat.lock(rt);
-        self.registry.submit(rt, alloc, &mut seat, ask)
     }
 
     fn list<R: Wait>(&self, rt: &R, alloc: Global) -> HttpReply

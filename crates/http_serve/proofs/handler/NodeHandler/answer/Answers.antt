@@ -1,11 +1,8 @@
 use Rattle.http_routes.specs.Replies.{http_value}
-use Rattle.node_calls.specs.Told.{ask_told}
 use Rattle.http_routes.specs.Requests.{wanted}
-use Rattle.http_routes.proofs.Calls.{wanted_call}
-use Rattle.http_serve.specs.Served.{IsServed}
+use Rattle.http_serve.proofs.Calls.{served}
 use Rattle.http_serve.proofs.handler.NodeHandler.answer.Goals as goal
 
-pub returns-in-Do : goal.returns-in-Do
-returns-in-Do g c =
-    let asked = wanted c.args.method.now c.args.path.now c.args.body.items in
-    wanted_call (ask_told c.in-Do.ask) asked (λ w. IsServed g.L.Label.config w (http_value c.call.result)) (rw c.in-Do.is at c.route_owned.ensures) c.call.ensures
+pub returns : goal.returns
+returns g c =
+    served g.L.Label.config _ _ (wanted c.args.method.now c.args.path.now c.args.body.items) (http_value c.answer_from.result) c.answer_from.ensures
