@@ -1,6 +1,7 @@
 //! Action texts that were read.
 
-ghost use Rattle.std.specs.Prelude.{◌≡◌, ◌≤◌, ◌<◌, List, length, map, slice_get, option_map, position, string_bytes, IfOk, IfSome, Ok};
+ghost use Rattle.std.specs.Prelude.{◌≡◌, ◌≤◌, ◌<◌, List, length, map, slice_get, option_map};
+ghost use Rattle.std.specs.Prelude.{position, string_bytes, IfOk, IfSome, Ok};
 ghost use Rattle.actions.specs.Value.{TermValue, term_value};
 ghost use Rattle.actions.specs.Grammar.{SpellsActions};
 ghost use Rattle.actions.specs.Spelled.{terms_of};

@@ -2,7 +2,9 @@
 
 ghost use Rattle.std.specs.Prelude.{◌≡◌, ◌≤◌, ◌<◌, length, map, option_map, position, IfOk, IfSome};
 ghost use Rattle.actions.specs.Value.{task_value, term_value};
-ghost use Rattle.actions.specs.Reading.{Gives, is_bad_byte, argument_at, chance_at, count_at, time_at, task_at, term_at, terms_at, reading, pieces, trimmed_text};
+ghost use Rattle.actions.specs.Reading.{Gives, is_bad_byte, argument_at, chance_at, count_at};
+ghost use Rattle.actions.specs.Reading.{time_at, task_at, term_at, terms_at, reading, pieces};
+ghost use Rattle.actions.specs.Reading.{trimmed_text};
 
 use crate::fault::ActionFault;
 use crate::numbers::parse_number;

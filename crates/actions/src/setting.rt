@@ -1,6 +1,7 @@
 //! Setting texts, which set many points.
 
-ghost use Rattle.std.specs.Prelude.{◌≡◌, ◌<◌, ◌^◌, ◌↔◌, ℕ, List, false, length, map, not, if◌then◌else◌, IfOk, IsErrOf, Ok, Err};
+ghost use Rattle.std.specs.Prelude.{◌≡◌, ◌<◌, ◌^◌, ◌↔◌, ℕ, List, false, length, map, not};
+ghost use Rattle.std.specs.Prelude.{if◌then◌else◌, IfOk, IsErrOf, Ok, Err};
 ghost use Rattle.actions.specs.Value.{TermValue};
 ghost use Rattle.actions.specs.Names.{is_name};
 ghost use Rattle.actions.specs.Reading.{reading};

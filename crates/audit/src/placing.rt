@@ -3,7 +3,8 @@
 //! What was emitted stays emitted, so that to place an entry that is ready never bars an order that
 //! fits: entries are placed as they are ready, and where no node can go on there is none.
 
-ghost use Rattle.std.specs.Prelude.{◌≡◌, ℕ, List, length, slice_index, IfOk, IfSome, IfNone, Some, IsTrue, OnOk, ◌^◌, ◌<◌, ◌≤◌};
+ghost use Rattle.std.specs.Prelude.{◌≡◌, ℕ, List, length, slice_index, IfOk, IfSome, IfNone, Some};
+ghost use Rattle.std.specs.Prelude.{IsTrue, OnOk, ◌^◌, ◌<◌, ◌≤◌};
 ghost use Rattle.std.specs.Bool.{OnTrue, OnFalse};
 ghost use Rattle.audit.specs.Boards.{IsBoard, placed_on, IsPlacing, has_sent, left};
 ghost use Rattle.audit.specs.Places.{IsStuckAt};

@@ -1,9 +1,11 @@
 //! Whether the receipts are those of the traces.
 
-ghost use Rattle.std.specs.Prelude.{◌≡◌, ℕ, ◌+◌, ◌<◌, ◌≤◌, ◌&&◌, ◌==◌, List, length, IfOk, IfSome, IfNone, IsTrue, ◌↔◌, All, if◌then◌else◌};
+ghost use Rattle.std.specs.Prelude.{◌≡◌, ℕ, ◌+◌, ◌<◌, ◌≤◌, ◌&&◌, ◌==◌, List, length, IfOk, IfSome};
+ghost use Rattle.std.specs.Prelude.{IfNone, IsTrue, ◌↔◌, All, if◌then◌else◌};
 ghost use Rattle.std.specs.Bool.{OnTrue, OnFalse};
 ghost use Rattle.audit.specs.Traces.{AreShort, trace_of};
-ghost use Rattle.audit.specs.Receipts.{IsReceiptOf, AllMatch, given_count, given_all, times_seen, IsLate, Ascends, AllAscend, IsFirstLate};
+ghost use Rattle.audit.specs.Receipts.{IsReceiptOf, AllMatch, given_count, given_all, times_seen};
+ghost use Rattle.audit.specs.Receipts.{IsLate, Ascends, AllAscend, IsFirstLate};
 ghost use Rattle.audit.specs.Checked.{IsChecked};
 
 use crate::told::{entry_of, same_entry};
@@ -44,8 +46,11 @@ impl Seen {
 
     /// Notes a receipt; whether it is the first of its place.
     pub(crate) fn note(&mut self, receipt: &Receipt) -> Result<bool, AllocError>
-        ensures first { IfOk result (λ first. OnTrue first ((n i : ℕ) → times_seen self.new n i ≡ times_seen self.old n i + (if (receipt.now.node == n) && (receipt.now.index == i) then 1 else 0))) }
-        ensures again { IfOk result (λ first. OnFalse first (times_seen self.old receipt.now.node receipt.now.index ≡ 1)) }
+        ensures first { IfOk result (λ first. OnTrue first ((n i : ℕ) →
+            times_seen self.new n i ≡ times_seen self.old n i
+            + (if (receipt.now.node == n) && (receipt.now.index == i) then 1 else 0))) }
+        ensures again { IfOk result (λ first. OnFalse first
+            (times_seen self.old receipt.now.node receipt.now.index ≡ 1)) }
     {
         Ok(self.places.insert((receipt.node, receipt.index))?)
     }
@@ -89,8 +94,10 @@ fn all_match(traces: &[Trace], lists: &[Vec<Receipt>]) -> bool
 
 /// Notes a list of receipts; false where a place comes again.
 fn note_list(seen: &mut Seen, receipts: &[Receipt]) -> Result<bool, AllocError>
-    ensures once { IfOk result (λ once. OnTrue once ((n i : ℕ) → times_seen seen.new n i ≡ times_seen seen.old n i + given_count n i receipts.now)) }
-    ensures twice { IfOk result (λ once. OnFalse once ((n : ℕ) × (i : ℕ) × (2 ≤ times_seen seen.old n i + given_count n i receipts.now))) }
+    ensures once { IfOk result (λ once. OnTrue once ((n i : ℕ) →
+        times_seen seen.new n i ≡ times_seen seen.old n i + given_count n i receipts.now)) }
+    ensures twice { IfOk result (λ once. OnFalse once ((n : ℕ) × (i : ℕ)
+        × (2 ≤ times_seen seen.old n i + given_count n i receipts.now))) }
 {
     for receipt in receipts {
         if !seen.note(receipt)? {
@@ -102,8 +109,10 @@ fn note_list(seen: &mut Seen, receipts: &[Receipt]) -> Result<bool, AllocError>
 
 /// Notes all receipts; `None` where a place comes again.
 fn note_all(alloc: Global, lists: &[Vec<Receipt>]) -> Result<Option<Seen>, AllocError>
-    ensures once { IfOk result (λ seen. IfSome seen (λ seen. (n i : ℕ) → times_seen seen n i ≡ given_all n i lists.now)) }
-    ensures twice { IfOk result (λ seen. IfNone seen ((n : ℕ) × (i : ℕ) × (2 ≤ given_all n i lists.now))) }
+    ensures once { IfOk result (λ seen. IfSome seen (λ seen. (n i : ℕ) →
+        times_seen seen n i ≡ given_all n i lists.now)) }
+    ensures twice { IfOk result (λ seen. IfNone seen
+        ((n : ℕ) × (i : ℕ) × (2 ≤ given_all n i lists.now))) }
 {
     let mut seen = Seen::new(alloc);
     for list in lists {
@@ -131,8 +140,10 @@ fn node_present(seen: &Seen, node: u8, len: u32) -> bool
 fn all_present(seen: &Seen, traces: &[Trace]) -> bool
     requires few { length traces.now ≤ 256 }
     requires short { AreShort traces.now }
-    ensures all { OnTrue result ((n i : ℕ) → n < length traces.now → i < length (trace_of traces.now n) → times_seen seen.now n i ≡ 1) }
-    ensures missing { OnFalse result ((n : ℕ) × (i : ℕ) × (i < length (trace_of traces.now n)) × (times_seen seen.now n i ≡ 0)) }
+    ensures all { OnTrue result ((n i : ℕ) → n < length traces.now
+        → i < length (trace_of traces.now n) → times_seen seen.now n i ≡ 1) }
+    ensures missing { OnFalse result ((n : ℕ) × (i : ℕ)
+        × (i < length (trace_of traces.now n)) × (times_seen seen.now n i ≡ 0)) }
 {
     for node in 0..traces.len() {
         let trace = &traces[node];

@@ -1,6 +1,7 @@
 //! What replays tell of budgets.
 
-ghost use Rattle.std.specs.Prelude.{◌≡◌, ℕ, ◌+◌, ◌-◌, ◌≤◌, ◌^◌, [], ◌∷◌, length, slice_get, option_map, option_and_then, IfOk, OnOk, Some, if◌then◌else◌};
+ghost use Rattle.std.specs.Prelude.{◌≡◌, ℕ, ◌+◌, ◌-◌, ◌≤◌, ◌^◌, [], ◌∷◌, length, slice_get};
+ghost use Rattle.std.specs.Prelude.{option_map, option_and_then, IfOk, OnOk, Some, if◌then◌else◌};
 ghost use Rattle.stamp_register.specs.declared.key.Stamp.{Stamp};
 ghost use Rattle.node_calls.specs.Asks.{reply_value};
 ghost use Rattle.stamp_register.specs.Keys.{stamp_of};

@@ -6,7 +6,17 @@
 ghost use Rattle.std.specs.Prelude.{◌≡◌, ℕ};
 ghost use Rattle.replica_state.specs.Laws.{UnionIsLeast};
 ghost use Rattle.node_core.specs.Traces.{Kept};
-ghost use Rattle.cluster_model.specs.Laws.{NodeIsReplay, EventIsCall, StateIsFold, AnyOrderSameState, MutualKnowledgeSameState, DeliveryIsLeast, Escrow, StampIsIssuedOnce, StampIsOneKey, HonestMessages, HonestBytes, DeltaMessages, DeltaMessageBytes, MessagesAreReplies, ToldExecutionsAreIssued, DeltaMaySend, DeltasAreSchedules, TracesAreLegal, DeltaIsEmission, DeltaIsOne, IsLegalEmit, PastBegins, PastIsPresent, PastStays, PastIsState, KnownVersionIsReached, KnownVersionIsBelow, KnownVersionsSameState, EachVersionSeesWhole};
+ghost use Rattle.cluster_model.specs.Laws.{NodeIsReplay, EventIsCall, StateIsFold};
+ghost use Rattle.cluster_model.specs.Laws.{AnyOrderSameState, MutualKnowledgeSameState};
+ghost use Rattle.cluster_model.specs.Laws.{DeliveryIsLeast, Escrow, StampIsIssuedOnce};
+ghost use Rattle.cluster_model.specs.Laws.{StampIsOneKey, HonestMessages, HonestBytes};
+ghost use Rattle.cluster_model.specs.Laws.{DeltaMessages, DeltaMessageBytes, MessagesAreReplies};
+ghost use Rattle.cluster_model.specs.Laws.{ToldExecutionsAreIssued, DeltaMaySend};
+ghost use Rattle.cluster_model.specs.Laws.{DeltasAreSchedules, TracesAreLegal, DeltaIsEmission};
+ghost use Rattle.cluster_model.specs.Laws.{DeltaIsOne, IsLegalEmit, PastBegins, PastIsPresent};
+ghost use Rattle.cluster_model.specs.Laws.{PastStays, PastIsState, KnownVersionIsReached};
+ghost use Rattle.cluster_model.specs.Laws.{KnownVersionIsBelow, KnownVersionsSameState};
+ghost use Rattle.cluster_model.specs.Laws.{EachVersionSeesWhole};
 
 /// Each event of a schedule is a call of one node: it is refused, and changes nothing, or it changes
 /// that node by the step that the contracts of `NodeCore` cite, and its trace tells all of it. The

@@ -2,7 +2,9 @@
 
 ghost use Rattle.std.specs.Prelude.{◌≡◌, IfOk, OnErr};
 ghost use Rattle.cluster_model.specs.Laws.{EscrowHolds};
-ghost use Rattle.cluster_model.specs.Runs.{asked, told, AreAnswers, AreHonest, Afterwards, HasHistory, HoldsWhatItLearnt, TellsExecutions, after_answers};
+ghost use Rattle.cluster_model.specs.Runs.{asked, told, AreAnswers, AreHonest, Afterwards};
+ghost use Rattle.cluster_model.specs.Runs.{HasHistory, HoldsWhatItLearnt, TellsExecutions};
+ghost use Rattle.cluster_model.specs.Runs.{after_answers};
 
 use crate::event::Event;
 use crate::fault::WorldFault;

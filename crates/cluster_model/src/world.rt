@@ -1,10 +1,13 @@
 //! A cluster in one program: its nodes, and the messages between them.
 
-ghost use Rattle.std.specs.Prelude.{◌≡◌, ◌≢◌, ◌<◌, ◌≤◌, [], false, true, length, option_map, IfOk, IfErr, OnOk, OnErr, IsTrue, Ok, Err, Some, slice_get};
+ghost use Rattle.std.specs.Prelude.{◌≡◌, ◌≢◌, ◌<◌, ◌≤◌, [], false, true, length, option_map, IfOk};
+ghost use Rattle.std.specs.Prelude.{IfErr, OnOk, OnErr, IsTrue, Ok, Err, Some, slice_get};
 ghost use Rattle.node_calls.specs.Asks.{Message, message_read, reply_value};
 ghost use Rattle.node_calls.specs.Told.{ask_ref_told, emits, passes};
 ghost use Rattle.node_calls.specs.declared.fault.NodeFault.TheVariants.{OutOfMemory};
-ghost use Rattle.cluster_model.specs.Events.{event_value, calls, delivers, has_message, new_world, node_asked, answer, answer_value, world_after, scheduled, last_reply};
+ghost use Rattle.cluster_model.specs.Events.{event_value, calls, delivers, has_message, new_world};
+ghost use Rattle.cluster_model.specs.Events.{node_asked, answer, answer_value, world_after};
+ghost use Rattle.cluster_model.specs.Events.{scheduled, last_reply};
 ghost use Rattle.cluster_model.specs.Places.{IsEmit, IsEmitOf};
 ghost use Rattle.cluster_model.specs.Runs.{IsAnswer, after_answer, happened, Continues, HasHistory};
 ghost use Rattle.cluster_model.specs.Worlds.{cluster_of, is_cluster_size};

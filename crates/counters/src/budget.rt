@@ -3,7 +3,8 @@
 ghost use Rattle.std.specs.Prelude.{◌≡◌, ◌+◌, ◌<◌, Some, None, IfOk, IfErr, OnOk, OnErr, max};
 ghost use Rattle.counters.specs.Sums.{node_numbers, sum_below};
 ghost use Rattle.counters.specs.Budgets.{rights};
-ghost use Rattle.counters.specs.Cells.{no_shares, spent_cell, moved_cell, granted_cell, budget_of, WritesSpent, WritesMoved};
+ghost use Rattle.counters.specs.Cells.{no_shares, spent_cell, moved_cell, granted_cell, budget_of};
+ghost use Rattle.counters.specs.Cells.{WritesSpent, WritesMoved};
 ghost use Rattle.counters.specs.Refusals.{spend_refusal, shift_refusal, grant_refusal, too_great, IsRefusal};
 
 use crate::cells::{

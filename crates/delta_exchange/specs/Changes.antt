@@ -44,7 +44,8 @@ pub record IsUnchangedSince (v : State) (last : LastChanges) (base : ℕ) (name 
   pub cell : (c : Counted) → cell_of v name c ≢ 0 → last.cell name c ≤ base
 
 -- a cell that isn't 0 and changed after a version
-pub record IsChangedCell (v : State) (last : LastChanges) (base : ℕ) (name : List ℕ) (c : Counted) (number : ℕ) : Type 0 where
+pub record IsChangedCell (v : State) (last : LastChanges) (base : ℕ)
+    (name : List ℕ) (c : Counted) (number : ℕ) : Type 0 where
   pub is_now : number ≡ cell_of v name c
   pub positive : number ≢ 0
   pub later : base < last.cell name c

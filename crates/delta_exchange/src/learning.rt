@@ -3,7 +3,9 @@
 ghost use Rattle.std.specs.Prelude.{◌≡◌, ℕ, Some, IfOk, OnOk};
 ghost use Rattle.stamp_register.specs.Keys.{key_value};
 ghost use Rattle.replica_state.specs.Folds.{fold};
-ghost use Rattle.message_format.specs.Messages.{entry_value, message_value, operations_of, operations_in, hits_in, execs_in, shifts_in, grants_in};
+ghost use Rattle.message_format.specs.Messages.{entry_value, message_value, operations_of};
+ghost use Rattle.message_format.specs.Messages.{operations_in, hits_in, execs_in, shifts_in};
+ghost use Rattle.message_format.specs.Messages.{grants_in};
 ghost use Rattle.message_format.specs.Spelling.{IsEntry, IsMessage};
 ghost use Rattle.delta_exchange.specs.Told.{HasKeyOf, HasLearned};
 

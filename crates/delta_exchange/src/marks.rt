@@ -7,7 +7,8 @@ ghost use Rattle.std.specs.Ordering.{nat_cmp};
 ghost use Rattle.std.specs.Cmp.Lexicographic.{slice_cmp};
 ghost use Rattle.operations.specs.Counts.{counted_cmp, is_hits};
 ghost use Rattle.operations.specs.declared.counted.Counted.{Counted};
-ghost use Rattle.delta_exchange.specs.Marks.{KeepsRoom, cell_change, cell_of, has_cell, has_room, is_of, marks_value, with_mark, with_new_key};
+ghost use Rattle.delta_exchange.specs.Marks.{KeepsRoom, cell_change, cell_of, has_cell, has_room};
+ghost use Rattle.delta_exchange.specs.Marks.{is_of, marks_value, with_mark, with_new_key};
 
 use actions::Name;
 use replica_state::Counted;

@@ -12,8 +12,10 @@ ghost use Rattle.std.specs.List.{AllByRecursion};
 ghost use Rattle.replica_state.specs.Folds.{fold};
 ghost use Rattle.delta_exchange.specs.Marks.{marks_value};
 ghost use Rattle.delta_exchange.specs.Told.{HasLearned};
-ghost use Rattle.delta_exchange.specs.News.{counted_of, is_new, knows_held, news_held, news_in, news_of, operation_of, with_news, HaveRoom, HasOrderTo};
-ghost use Rattle.message_format.specs.Messages.{entry_value, message_value, hits_in, execs_in, shifts_in, grants_in, operations_of, operations_in};
+ghost use Rattle.delta_exchange.specs.News.{counted_of, is_new, knows_held, news_held, news_in};
+ghost use Rattle.delta_exchange.specs.News.{news_of, operation_of, with_news, HaveRoom, HasOrderTo};
+ghost use Rattle.message_format.specs.Messages.{entry_value, message_value, hits_in, execs_in};
+ghost use Rattle.message_format.specs.Messages.{shifts_in, grants_in, operations_of, operations_in};
 
 use crate::marks::Marks;
 use actions::Name;

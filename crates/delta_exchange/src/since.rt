@@ -11,7 +11,9 @@ ghost use Rattle.replica_state.specs.Stored.{reader_held};
 ghost use Rattle.message_format.specs.Messages.{entry_value, message_value};
 ghost use Rattle.delta_exchange.specs.Cells.{HitsFit, ExecsFit, ShiftsFit, EntryFits, EntriesFit};
 ghost use Rattle.delta_exchange.specs.Versions.{value_of};
-ghost use Rattle.delta_exchange.specs.Since.{CanBeTold, IsMessageSince, AreCellsOrdered, hits_since, execs_since, shifts_since, grants_since, entry_since, entry_under, entries_since, tells_cells};
+ghost use Rattle.delta_exchange.specs.Since.{CanBeTold, IsMessageSince, AreCellsOrdered};
+ghost use Rattle.delta_exchange.specs.Since.{hits_since, execs_since, shifts_since, grants_since};
+ghost use Rattle.delta_exchange.specs.Since.{entry_since, entry_under, entries_since, tells_cells};
 
 use crate::marks::{Marks, NameMarks};
 use crate::versioned::Versioned;

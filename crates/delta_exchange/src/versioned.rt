@@ -1,7 +1,8 @@
 //! A replica with versions.
 #![tactic(auto, unfolding(crate::specs::Versions::value_of))]
 
-ghost use Rattle.std.specs.Prelude.{◌≡◌, ◌≢◌, ◌+◌, ◌<◌, ◌^◌, ℕ, List, Some, false, map, option_map, IfOk, IsSome, OnOk, OnErr};
+ghost use Rattle.std.specs.Prelude.{◌≡◌, ◌≢◌, ◌+◌, ◌<◌, ◌^◌, ℕ, List, Some, false, map, option_map};
+ghost use Rattle.std.specs.Prelude.{IfOk, IsSome, OnOk, OnErr};
 ghost use Rattle.stamp_register.specs.Keys.{key_value};
 ghost use Rattle.replica_state.specs.States.{budget_of, with_key, with_pass, with_shifts};
 ghost use Rattle.std.specs.List.{AllByRecursion};
@@ -160,7 +161,8 @@ impl<R: Replica> Versioned<R> {
     }
 
     /// Counts the rights to a counted term of the point's key that one node moved to another, or
-    /// granted itself where both are one, so many in all and more than before. Where memory is refused, nothing has changed.
+    /// granted itself where both are one, so many in all and more than before. Where memory is
+    /// refused, nothing has changed.
     pub fn count_shift(
         &mut self,
         alloc: Global,

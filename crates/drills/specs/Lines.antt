@@ -36,11 +36,13 @@ line_told (lines.Receipt r) = receipt (receipt_told r)
 -- what an entry tells, put into an object
 abbrev pub with_told : Told → Members → Members
 with_told e ms =
-    put (codes "words") (words_data e.words) (put (codes "reply") (reply_data e.reply) (put (codes "ask") (ask_data e.ask) ms))
+    put (codes "words") (words_data e.words)
+    (put (codes "reply") (reply_data e.reply) (put (codes "ask") (ask_data e.ask) ms))
 
 -- as JSON: one object a line
 abbrev pub line_data : LineTold → Data
-line_data head = object (member (codes "failreg") (string (codes "drill")) (member (codes "version") (count_data 1) no_members))
+line_data head =
+    object (member (codes "failreg") (string (codes "drill")) (member (codes "version") (count_data 1) no_members))
 line_data (trace node) = object (member (codes "trace") (count_data node) no_members)
 line_data (entry e) =
     object (member (codes "ask") (ask_data e.ask)

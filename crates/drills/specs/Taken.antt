@@ -19,5 +19,7 @@ abbrev pub IsFirst : Bool → List ℕ → List ℕ → Option (List ℕ) → Ty
 IsFirst true line bytes left = (rest : List ℕ) × (left ≡ Some rest) × (lines_in bytes ≡ line ∷ lines_in rest)
 IsFirst false line bytes left = bytes ≡ []
 
-abbrev pub TakesLine : {I : Type 0} → (I → Option (List ℕ)) → BufReader (Watched I) Global → BufReader (Watched I) Global → Bool → List ℕ → Type 0
-TakesLine remaining old new more line = IfBytes remaining old (λ bytes. IsFirst more line bytes (bytes_left remaining new))
+abbrev pub TakesLine : {I : Type 0} → (I → Option (List ℕ)) → BufReader (Watched I) Global →
+    BufReader (Watched I) Global → Bool → List ℕ → Type 0
+TakesLine remaining old new more line =
+    IfBytes remaining old (λ bytes. IsFirst more line bytes (bytes_left remaining new))

@@ -2,7 +2,8 @@
 
 ghost use Rattle.std.specs.Prelude.{◌≡◌, option_map, IfOk};
 ghost use Rattle.drills.specs.Lines.{line_told, receipt_told};
-ghost use Rattle.drills.specs.Drills.{IsPut, after_head, after_line, after_text, at_start, begun, drill_of, in_last, lists_told, traces_told};
+ghost use Rattle.drills.specs.Drills.{IsPut, after_head, after_line, after_text, at_start, begun};
+ghost use Rattle.drills.specs.Drills.{drill_of, in_last, lists_told, traces_told};
 ghost use Rattle.node_calls.specs.Told.{told};
 
 use crate::line::{Line, line_in};

@@ -7,7 +7,8 @@ ghost use Rattle.actions.specs.Value.{task_value};
 ghost use Rattle.node_calls.specs.Told.{ask_told, grants, reply_told, sets, shifts, Act, passed};
 ghost use Rattle.hex.specs.Hex.{IsBytes};
 ghost use Rattle.drills.specs.Fits.{AskFits, PassFits, ReplyFits, StampFits, WordsFit};
-ghost use Rattle.drills.specs.Rows.{bytes_data, text_data, count_data, row, words_data, task_data, ask_data, pass_data, reply_data, list_data};
+ghost use Rattle.drills.specs.Rows.{bytes_data, text_data, count_data, row, words_data, task_data};
+ghost use Rattle.drills.specs.Rows.{ask_data, pass_data, reply_data, list_data};
 
 use actions::Task;
 use node_calls::{Ask, PassReply, Reply};

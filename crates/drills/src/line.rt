@@ -5,7 +5,9 @@ ghost use Rattle.std.specs.Vec.{vec_items};
 ghost use Rattle.serde_json.specs.View.{view};
 ghost use Rattle.node_calls.specs.Told.{ask_told, reply_told, told};
 ghost use Rattle.drills.specs.Lines.{line_told, receipt_told};
-ghost use Rattle.drills.specs.Reading.{ask_member, begin_in, head_in, line_in, line_of, members_in, number_member, receipt_in, reply_member, text_member, told_in, told_of, words_member};
+ghost use Rattle.drills.specs.Reading.{ask_member, begin_in, head_in, line_in, line_of, members_in};
+ghost use Rattle.drills.specs.Reading.{number_member, receipt_in, reply_member, text_member};
+ghost use Rattle.drills.specs.Reading.{told_in, told_of, words_member};
 
 use crate::rows::{ask_in, byte_in, reply_in, word_in, words_in};
 use node_calls::{Ask, Entry, Receipt, Reply};

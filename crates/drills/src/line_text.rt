@@ -5,7 +5,9 @@ ghost use Rattle.serde_json.specs.Data.{put};
 ghost use Rattle.serde_json.specs.View.{members_view, view};
 ghost use Rattle.node_calls.specs.Told.{told};
 ghost use Rattle.drills.specs.Fits.{LineFits, ToldFits};
-ghost use Rattle.drills.specs.Lines.{entry as entry_line, head as head_line, line_data, list as list_line, receipt as receipt_line, receipt_told, trace as trace_line, with_told};
+ghost use Rattle.drills.specs.Lines.{entry as entry_line, head as head_line, line_data};
+ghost use Rattle.drills.specs.Lines.{list as list_line, receipt as receipt_line, receipt_told};
+ghost use Rattle.drills.specs.Lines.{trace as trace_line, with_told};
 ghost use Rattle.drills.specs.Written.{IsPrinted, SaysLine};
 
 use crate::json_rows::{ask_value, reply_value, words_value};

@@ -5,7 +5,11 @@ ghost use Rattle.std.specs.Vec.{vec_items};
 ghost use Rattle.serde_json.specs.View.{view};
 ghost use Rattle.actions.specs.Value.{task_value};
 ghost use Rattle.node_calls.specs.Told.{ask_told, reply_told, passed};
-ghost use Rattle.drills.specs.Reading.{number_in, byte_in, short_in, word_in, bytes_in, text_or_null, words_in, fields_in, is_row, text_at, number_at, byte_at, short_at, bytes_at, text_or_null_at, stamp_in, task_in, set_in, shift_in, grant_in, ask_in, act_in, pass_in, reply_in};
+ghost use Rattle.drills.specs.Reading.{number_in, byte_in, short_in, word_in, bytes_in};
+ghost use Rattle.drills.specs.Reading.{text_or_null, words_in, fields_in, is_row, text_at};
+ghost use Rattle.drills.specs.Reading.{number_at, byte_at, short_at, bytes_at, text_or_null_at};
+ghost use Rattle.drills.specs.Reading.{stamp_in, task_in, set_in, shift_in, grant_in, ask_in};
+ghost use Rattle.drills.specs.Reading.{act_in, pass_in, reply_in};
 
 use actions::Task;
 use node_calls::{Ask, PassReply, Reply};

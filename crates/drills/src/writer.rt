@@ -6,7 +6,8 @@ ghost use Rattle.streams.specs.Streams.{Writes};
 ghost use Rattle.node_calls.specs.Told.{told};
 ghost use Rattle.drills.specs.declared.fault.DrillFault.TheVariants.{OutOfMemory, WriteFailed};
 ghost use Rattle.drills.specs.Lines.{receipt_told};
-ghost use Rattle.drills.specs.Drills.{drill_in, drill_text, drill_told, list_lines, lists_told, newline, numbered, trace_lines, traces_told};
+ghost use Rattle.drills.specs.Drills.{drill_in, drill_text, drill_told, list_lines, lists_told};
+ghost use Rattle.drills.specs.Drills.{newline, numbered, trace_lines, traces_told};
 ghost use Rattle.drills.specs.Written.{WritesLines};
 
 use crate::fault::DrillFault;

@@ -3,11 +3,14 @@
 ghost use Rattle.std.specs.Prelude.{◌≡◌, ◌≢◌, [], false, IsSome, IsUtf8, MatchOption};
 ghost use Rattle.node_calls.specs.Asks as asks;
 ghost use Rattle.node_calls.specs.Asks.{bare_emit};
-ghost use Rattle.node_core.specs.Memory.{DeliveryNeedsMemory, EmitNeedsMemory, LoadNeedsMemory, NameNeedsMemory, SetNeedsMemory};
+ghost use Rattle.node_core.specs.Memory.{DeliveryNeedsMemory, EmitNeedsMemory, LoadNeedsMemory};
+ghost use Rattle.node_core.specs.Memory.{NameNeedsMemory, SetNeedsMemory};
 ghost use Rattle.node_core.specs.Traces.{delivery_of};
 ghost use Rattle.failreg_c.specs.Numbers.{already_open, closed, no_stamp, stamp_in};
 ghost use Rattle.failreg_c.specs.Told.{no_act};
-ghost use Rattle.failreg_c.specs.Calls.{Both, IsEmitted, IsLeft, IsMade, IsNotOpened, IsOpened, IsPassedDrawing, IsPassedGiven, IsRefused, IsRefusedOf, Stays, words_drawn};
+ghost use Rattle.failreg_c.specs.Calls.{Both, IsEmitted, IsLeft, IsMade, IsNotOpened, IsOpened};
+ghost use Rattle.failreg_c.specs.Calls.{IsPassedDrawing, IsPassedGiven, IsRefused, IsRefusedOf};
+ghost use Rattle.failreg_c.specs.Calls.{Stays, words_drawn};
 
 use crate::act::{Act, UNSET};
 use crate::handle::Node;

@@ -3,13 +3,16 @@
 ghost use Rattle.std.specs.Prelude.{◌≡◌, ◌≢◌, [], Some, None, false, length, option_map, IfOk, IfErr, IsUtf8};
 ghost use Rattle.node_calls.specs.Asks as asks;
 ghost use Rattle.node_calls.specs.Asks.{bare_emit};
-ghost use Rattle.node_core.specs.Memory.{DeliveryNeedsMemory, EmitNeedsMemory, LoadNeedsMemory, NameNeedsMemory, SetNeedsMemory};
+ghost use Rattle.node_core.specs.Memory.{DeliveryNeedsMemory, EmitNeedsMemory, LoadNeedsMemory};
+ghost use Rattle.node_core.specs.Memory.{NameNeedsMemory, SetNeedsMemory};
 ghost use Rattle.node_calls.specs.FaultText.{node_fault_text};
 ghost use Rattle.node_core.specs.Texts.{list_text};
 ghost use Rattle.node_core.specs.Traces.{delivery_of, state_known};
 ghost use Rattle.failreg_c.specs.Numbers.{IsNumbered, no_memory, not_text, number};
 ghost use Rattle.failreg_c.specs.Told.{no_act, text_or_none};
-ghost use Rattle.failreg_c.specs.Calls.{FillsFront, IsEmitted, IsLeft, IsMade, IsNoName, IsPassedDrawing, IsPassedGiven, IsRefused, IsRefusedOf, IsSaid, words_drawn};
+ghost use Rattle.failreg_c.specs.Calls.{FillsFront, IsEmitted, IsLeft, IsMade, IsNoName};
+ghost use Rattle.failreg_c.specs.Calls.{IsPassedDrawing, IsPassedGiven, IsRefused, IsRefusedOf};
+ghost use Rattle.failreg_c.specs.Calls.{IsSaid, words_drawn};
 
 use crate::act::{Act, UNSET, act_of};
 use crate::numbers::NO_STAMP;

@@ -1,6 +1,7 @@
 //! Mailboxes in one process.
 
-ghost use Rattle.std.specs.Prelude.{◌≡◌, ◌≤◌, ◌<◌, ◌⊎◌, ◌↔◌, ◌++◌, ◌∷◌, [], ℕ, map, vec_len, IfOk, IfErr, IfSome, OnErr, OnOk};
+ghost use Rattle.std.specs.Prelude.{◌≡◌, ◌≤◌, ◌<◌, ◌⊎◌, ◌↔◌, ◌++◌, ◌∷◌, [], ℕ, map, vec_len, IfOk};
+ghost use Rattle.std.specs.Prelude.{IfErr, IfSome, OnErr, OnOk};
 ghost use Rattle.std.specs.List.{range_with_len};
 ghost use Rattle.std.specs.VecDeque.{deque_len};
 

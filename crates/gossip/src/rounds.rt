@@ -1,10 +1,12 @@
 //! Rounds of gossip.
 
-ghost use Rattle.std.specs.Prelude.{◌≡◌, ◌+◌, ◌*◌, ◌≤◌, ◌<◌, ◌-◌, ◌^◌, [], ◌∷◌, length, vec_len, vec_capacity, OnOk, true};
+ghost use Rattle.std.specs.Prelude.{◌≡◌, ◌+◌, ◌*◌, ◌≤◌, ◌<◌, ◌-◌, ◌^◌, [], ◌∷◌, length, vec_len};
+ghost use Rattle.std.specs.Prelude.{vec_capacity, OnOk, true};
 ghost use Rattle.node_calls.specs.Asks.{bare_emit};
 ghost use Rattle.node_registry.specs.Receipts.{IsGiven};
 ghost use Rattle.gossip.specs.Parts.{IsPartOf};
-ghost use Rattle.gossip.specs.Reports.{IsTold, asked_in, calls_of, emits_below, emits_of_rounds, is_emit, own_asks_in, tried_of};
+ghost use Rattle.gossip.specs.Reports.{IsTold, asked_in, calls_of, emits_below, emits_of_rounds};
+ghost use Rattle.gossip.specs.Reports.{is_emit, own_asks_in, tried_of};
 ghost use Rattle.gossip.specs.Steps.{Adds};
 
 use crate::caller::Caller;

@@ -3,7 +3,8 @@
 ghost use Rattle.std.specs.Prelude.{◌≡◌, ◌+◌, ◌<◌, ◌≤◌, ◌^◌, ◌∷◌, ◌⊎◌, [], length, slice_index, OnOk};
 ghost use Rattle.node_calls.specs.Asks as asks;
 ghost use Rattle.gossip.specs.Reports.{IsTold};
-ghost use Rattle.gossip.specs.Spreads.{HasNoMessage, Spreads, SpreadsNothing, share_of, shares_of, shifts_below, shifts_in};
+ghost use Rattle.gossip.specs.Spreads.{HasNoMessage, Spreads, SpreadsNothing, share_of, shares_of};
+ghost use Rattle.gossip.specs.Spreads.{shifts_below, shifts_in};
 ghost use Rattle.gossip.specs.Steps.{Adds};
 
 use crate::caller::Caller;

@@ -34,7 +34,8 @@ Comes config (wants.call ask) given = IsMade config ask given ⊎ IsRefused conf
 Comes config wants.list given =
     (c : Cell) × IsLawfulAt config c × IsReply (text_reply 200 (list_text (state_known c.node))) given
 Comes config wants.report given =
-    (c : Cell) × IsLawfulAt config c × IsReply (text_reply 200 (report_json_text (state_known c.node) config.nodes)) given
+    (c : Cell) × IsLawfulAt config c
+    × IsReply (text_reply 200 (report_json_text (state_known c.node) config.nodes)) given
 Comes config (wants.answered reply) given = IsReply reply given
 
 -- the same; or memory was refused before anything was asked

@@ -1,10 +1,12 @@
 //! Maps to values that join.
 
-ghost use Rattle.std.specs.Prelude.{◌≡◌, ◌<◌, ◌^◌, ◌↔◌, [], Some, None, IfNone, IfSome, IsSome, IsTrue, OnOk, OnErr, length, slice_get};
+ghost use Rattle.std.specs.Prelude.{◌≡◌, ◌<◌, ◌^◌, ◌↔◌, [], Some, None, IfNone, IfSome, IsSome};
+ghost use Rattle.std.specs.Prelude.{IsTrue, OnOk, OnErr, length, slice_get};
 ghost use Rattle.std.specs.Fn.{FnOnceReturnsAtMut};
 ghost use Rattle.std.specs.Borrow.{MutBor};
 ghost use Rattle.std.specs.Option.{option_copied, option_map};
-ghost use Rattle.lattice_laws.specs.Map.{stored_at, ChangesOnly, IsMap, JoinsAll, KeepsOtherKeys, MayBeStored, RaisesOnly};
+ghost use Rattle.lattice_laws.specs.Map.{stored_at, ChangesOnly, IsMap, JoinsAll, KeepsOtherKeys};
+ghost use Rattle.lattice_laws.specs.Map.{MayBeStored, RaisesOnly};
 
 use crate::join::Join;
 use held_keys::Held;

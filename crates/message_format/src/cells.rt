@@ -3,7 +3,8 @@
 ghost use Rattle.std.specs.Prelude.{◌≡◌, is_some};
 ghost use Rattle.stamp_register.specs.Keys.{key_value};
 ghost use Rattle.operations.specs.Operations.{count_of};
-ghost use Rattle.message_format.specs.Reading.{Gives, value_at, term_at, hit_at, exec_at, shift_at, hits_at, execs_at, shifts_at, grants_at};
+ghost use Rattle.message_format.specs.Reading.{Gives, value_at, term_at, hit_at, exec_at, shift_at};
+ghost use Rattle.message_format.specs.Reading.{hits_at, execs_at, shifts_at, grants_at};
 
 use crate::fault::WireFault;
 use crate::wire::{Form, Whole, read_byte, read_node, read_other_node, read_u16, read_u64};

@@ -5,7 +5,8 @@ ghost use Rattle.actions.specs.Names.{is_name};
 ghost use Rattle.actions.specs.Canonical.{canonical};
 ghost use Rattle.stamp_register.specs.Keys.{key_value, body_value};
 ghost use Rattle.message_format.specs.Messages.{entry_value};
-ghost use Rattle.message_format.specs.Reading.{Gives, wants, is_above, is_canonical_text, name_at, text_at, body_at, key_at, entry_at};
+ghost use Rattle.message_format.specs.Reading.{Gives, wants, is_above, is_canonical_text, name_at};
+ghost use Rattle.message_format.specs.Reading.{text_at, body_at, key_at, entry_at};
 
 use crate::cells::{read_execs, read_grants, read_hits, read_shifts};
 use crate::fault::WireFault;

@@ -3,7 +3,9 @@
 ghost use Rattle.std.specs.Prelude.{◌≡◌, map, IfOk, IfErr, Ok};
 ghost use Rattle.message_format.specs.Messages.{MessageValue, entry_value, message_value};
 ghost use Rattle.message_format.specs.Spelling.{SpellsMessage};
-ghost use Rattle.message_format.specs.Reading.{Gives, GivesAlways, entries_at, is_form_of, magic_at, versions_at, header_at, header_of, fields_at, message_at};
+ghost use Rattle.message_format.specs.Reading.{Gives, GivesAlways, entries_at, is_form_of};
+ghost use Rattle.message_format.specs.Reading.{magic_at, versions_at, header_at, header_of};
+ghost use Rattle.message_format.specs.Reading.{fields_at, message_at};
 
 use crate::entry::read_entry;
 use crate::fault::WireFault;

@@ -6,7 +6,8 @@
 ghost use Rattle.std.specs.Prelude.{◌≡◌};
 ghost use Rattle.std.specs.Int.{w16, w64};
 ghost use Rattle.message_format.specs.Spelling.{magic};
-ghost use Rattle.message_format.specs.Reading.{GivesAlways, offset, bytes_at, byte_at, number_at, node_at, other_node_at};
+ghost use Rattle.message_format.specs.Reading.{GivesAlways, offset, bytes_at, byte_at, number_at};
+ghost use Rattle.message_format.specs.Reading.{node_at, other_node_at};
 
 use crate::fault::WireFault;
 

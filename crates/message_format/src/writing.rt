@@ -4,7 +4,10 @@ ghost use Rattle.std.specs.Prelude.{◌≡◌, ℕ, ◌<◌, ◌^◌, ◌++◌, 
 ghost use Rattle.std.specs.Int.{w64, to_be_bytes};
 ghost use Rattle.stamp_register.specs.Keys.{key_value};
 ghost use Rattle.message_format.specs.Messages.{entry_value, message_value};
-ghost use Rattle.message_format.specs.Spelling.{name_bytes, key_bytes, hits_bytes, execs_bytes, shifts_bytes, grants_bytes, form_of, entry_bytes, entries_bytes, message_bytes, IsEntry, AreEntries, HasSpelling};
+ghost use Rattle.message_format.specs.Spelling.{name_bytes, key_bytes, hits_bytes, execs_bytes};
+ghost use Rattle.message_format.specs.Spelling.{shifts_bytes, grants_bytes, form_of, entry_bytes};
+ghost use Rattle.message_format.specs.Spelling.{entries_bytes, message_bytes, IsEntry, AreEntries};
+ghost use Rattle.message_format.specs.Spelling.{HasSpelling};
 
 use crate::message::{Message, NameEntry, have_grants};
 use crate::wire::{Form, REMOVED, SET};

@@ -179,7 +179,8 @@ faults_of_message config n read =
     then_some (not ((message_in read).to == config.node)) faults.NotForMe ∷
     then_some (says_more config.node (state_shown n) (message_in read).ops) faults.OwnAhead ∷
     then_some (nat_lt n.marks.version (message_in read).ack) faults.AckAhead ∷
-    then_some (list_any (overspends (fold ((message_in read).ops ++ n.ops))) (message_in read).ops) faults.Overspent ∷ []
+    then_some (list_any (overspends (fold ((message_in read).ops ++ n.ops))) (message_in read).ops)
+    faults.Overspent ∷ []
 
 -- too many names with those of a message, which nothing else refuses
 abbrev pub too_many_told : Config → Node → Result Message WireFault → Option NodeFault

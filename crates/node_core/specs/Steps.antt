@@ -60,7 +60,8 @@ message_in (Err fault) = nothing_told
 -- their keys have consecutive clocks
 abbrev pub operations_issued : ℕ → ℕ → List (List ℕ × Option (List ℕ)) → List Operation
 operations_issued i clock [] = []
-operations_issued i clock (setting ∷ rest) = Set setting.0 (new_key i clock setting.1) ∷ operations_issued i (clock + 1) rest
+operations_issued i clock (setting ∷ rest) =
+    Set setting.0 (new_key i clock setting.1) ∷ operations_issued i (clock + 1) rest
 
 -- a node moves so many rights more to another, or grants itself so many more where both are one
 abbrev pub shift_under : ℕ → State → List ℕ → ℕ → ℕ → ℕ → Option KeyValue → List Operation
@@ -74,7 +75,8 @@ operations_added i n (asks.Set name text) words = operations_issued i n.marks.cl
 operations_added i n (asks.Remove name) words = operations_issued i n.marks.clock (settings (asks.Remove name))
 operations_added i n (asks.Load text) words = operations_issued i n.marks.clock (settings (asks.Load text))
 operations_added i n (asks.Pass name) words = pass_ops i (state_shown n) name words
-operations_added i n (asks.Shift name term to amount) words = shift_under i (state_shown n) name term to amount ((state_shown n).key name)
+operations_added i n (asks.Shift name term to amount) words =
+    shift_under i (state_shown n) name term to amount ((state_shown n).key name)
 operations_added i n (asks.Grant name term amount) words =
     shift_under i (state_shown n) name term i amount ((state_shown n).key name)
 operations_added i n (asks.Emit to versions chosen) words = []
@@ -108,7 +110,8 @@ acked_after n (asks.Deliver read) = acked_by (message_in read) n.marks.acked
 acked_after n _ = n.marks.acked
 
 abbrev pub version_after : ℕ → Node → Asked → List ℕ → ℕ
-version_after i n ask words = n.marks.version + (if changes (state_shown n) (operations_added i n ask words) then 1 else 0)
+version_after i n ask words =
+    n.marks.version + (if changes (state_shown n) (operations_added i n ask words) then 1 else 0)
 
 abbrev pub marks_after : ℕ → Node → Asked → List ℕ → Marks
 marks_after i n ask words =

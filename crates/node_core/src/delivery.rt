@@ -1,6 +1,7 @@
 //! What a message says to the node that it is delivered to.
 
-ghost use Rattle.std.specs.Prelude.{◌≡◌, ◌⊎◌, ◌≤◌, ◌*◌, ◌^◌, ◌==◌, ◌&&◌, [], map, IfOk, IfErr, OnOk, IsOk, IsErrOf, Some, Ok, MatchOption};
+ghost use Rattle.std.specs.Prelude.{◌≡◌, ◌⊎◌, ◌≤◌, ◌*◌, ◌^◌, ◌==◌, ◌&&◌, [], map, IfOk, IfErr};
+ghost use Rattle.std.specs.Prelude.{OnOk, IsOk, IsErrOf, Some, Ok, MatchOption};
 ghost use Rattle.std.specs.List.{flat_map, list_any};
 ghost use Rattle.std.specs.Ordering.{is_gt};
 ghost use Rattle.stamp_register.specs.Keys.{key_value};
@@ -14,7 +15,10 @@ ghost use Rattle.message_format.specs.Reading.{header_of};
 ghost use Rattle.message_format.specs.Spelling.{IsMessage};
 ghost use Rattle.node_calls.specs.Asks.{message_of, message_read};
 ghost use Rattle.node_core.specs.Refusals.{bad_message, wire_refusal, says_more};
-ghost use Rattle.node_core.specs.Deliveries.{ahead_by, are_hits_ahead, are_execs_ahead, are_shifts_ahead, are_grants_ahead, are_overspent, execs_both, granted_both, is_overspent_below, terms_both};
+ghost use Rattle.node_core.specs.Deliveries.{ahead_by, are_hits_ahead, are_execs_ahead};
+ghost use Rattle.node_core.specs.Deliveries.{are_shifts_ahead, are_grants_ahead, are_overspent};
+ghost use Rattle.node_core.specs.Deliveries.{execs_both, granted_both, is_overspent_below};
+ghost use Rattle.node_core.specs.Deliveries.{terms_both};
 
 use crate::State;
 use actions::{Actions, Name};

@@ -1,6 +1,7 @@
 //! A node: what it holds, and what it tells of it. Each call stands in a module of its own.
 
-ghost use Rattle.std.specs.Prelude.{◌≡◌, [], length, ◌≤◌, ◌⊎◌, ◌↔◌, pos, ◌≤ℤ◌, map, IfOk, IfErr, OnOk, IsErrOf, IsTrue, string_bytes, true, false};
+ghost use Rattle.std.specs.Prelude.{◌≡◌, [], length, ◌≤◌, ◌⊎◌, ◌↔◌, pos, ◌≤ℤ◌, map, IfOk, IfErr};
+ghost use Rattle.std.specs.Prelude.{OnOk, IsErrOf, IsTrue, string_bytes, true, false};
 ghost use Rattle.actions.specs.Names.{is_name};
 ghost use Rattle.node_core.specs.Replicas.{state_in};
 ghost use Rattle.replica_state.specs.States.{rights_of, spent_of, total_hits};

@@ -1,6 +1,8 @@
 //! Workers: threads that call a registry, each from a seat of its own.
 
-ghost use Rattle.std.specs.Prelude.{◌≡◌, ℕ, [], ◌+◌, ◌≤◌, ◌<◌, ◌^◌, ◌⊎◌, ◌++◌, length, IfOk, IfErr, OnErr, OnOk, MatchResult, map, reverse, vec_len, vec_capacity, sum, All};
+ghost use Rattle.std.specs.Prelude.{◌≡◌, ℕ, [], ◌+◌, ◌≤◌, ◌<◌, ◌^◌, ◌⊎◌, ◌++◌, length, IfOk, IfErr};
+ghost use Rattle.std.specs.Prelude.{OnErr, OnOk, MatchResult, map, reverse, vec_len, vec_capacity};
+ghost use Rattle.std.specs.Prelude.{sum, All};
 ghost use Rattle.std.specs.List.{AllZip};
 ghost use Rattle.node_registry.specs.Workers.{IsDone};
 

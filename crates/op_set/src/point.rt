@@ -1,12 +1,16 @@
 //! What the plain replica holds of one name.
 
-ghost use Rattle.std.specs.Prelude.{◌≡◌, ◌+◌, ◌-◌, ◌<◌, ◌≤◌, ◌^◌, ◌*◌, ◌↔◌, ◌||◌, ℕ, List, max, nat_le, not, filter, vec_len, vec_capacity, position, option_map, Some, None, OnOk, OnErr, IfSome, IsSome, IsTrue};
+ghost use Rattle.std.specs.Prelude.{◌≡◌, ◌+◌, ◌-◌, ◌<◌, ◌≤◌, ◌^◌, ◌*◌, ◌↔◌, ◌||◌, ℕ, List, max};
+ghost use Rattle.std.specs.Prelude.{nat_le, not, filter, vec_len, vec_capacity, position};
+ghost use Rattle.std.specs.Prelude.{option_map, Some, None, OnOk, OnErr, IfSome, IsSome, IsTrue};
 ghost use Rattle.std.specs.List.{list_all};
 ghost use Rattle.std.specs.Option.{option_copied};
 ghost use Rattle.counters.specs.Sums.{node_numbers, sum_below};
 ghost use Rattle.counters.specs.Budgets.{rights};
 ghost use Rattle.stamp_register.specs.Keys.{key_value};
-ghost use Rattle.replica_state.specs.Points.{only_hits, empty_held, order_to_held, held_after_learning, held_after_pass, held_after_shift, Raises, rights_of_key, spent_of_key};
+ghost use Rattle.replica_state.specs.Points.{only_hits, empty_held, order_to_held};
+ghost use Rattle.replica_state.specs.Points.{held_after_learning, held_after_pass};
+ghost use Rattle.replica_state.specs.Points.{held_after_shift, Raises, rights_of_key, spent_of_key};
 ghost use Rattle.operations.specs.Counts.{same_counted, is_hits, term_of, given_key, key_told, operation_told};
 ghost use Rattle.op_set.specs.Counts.{node_bound, number_of, held_of};
 ghost use Rattle.replica_state.specs.Unions.{both_held, if_counts, IsHeldBelow};

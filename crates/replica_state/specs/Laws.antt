@@ -41,7 +41,8 @@ SpentAndRemainingAddUp = (v : State) (name : List ℕ) (term : ℕ) (b : Budget)
 
 -- what a state learns that some well-formed operations come to is one operation more
 abbrev pub LearnedIsOneMore : Type 0
-LearnedIsOneMore = (v w : State) (op : Operation) → IsReached v → IsWellFormed op → Learns v w op → ∥ ComeToWith v w op ∥₁
+LearnedIsOneMore = (v w : State) (op : Operation) →
+    IsReached v → IsWellFormed op → Learns v w op → ∥ ComeToWith v w op ∥₁
 
 -- the union of two such states is that of operations that come to them
 abbrev pub UnionIsBoth : Type 0

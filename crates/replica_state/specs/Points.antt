@@ -68,7 +68,8 @@ only_hits f (Shifts term from to) = 0
 abbrev pub number_after_learning : Option KeyValue → Option Count → Held → Counted → ℕ
 number_after_learning None count h c = raised_numbers count h.number c
 number_after_learning (Some key) count h c =
-    match_ordering (order_to_held key h.key) (h.number c) (raised_numbers count h.number c) (raised_numbers count (only_hits h.number) c)
+    match_ordering (order_to_held key h.key)
+    (h.number c) (raised_numbers count h.number c) (raised_numbers count (only_hits h.number) c)
 
 unfoldable pub held_after_learning : Option KeyValue → Option Count → Held → Held
 held_after_learning key count h = record { key = greater key h.key; number = number_after_learning key count h }

@@ -1,7 +1,10 @@
 //! What holds of every set of operations, and so of every replica: the law `reached` of `Replica`
 //! says that each value stands for the state of one.
 
-ghost use Rattle.replica_state.specs.Laws.{SameOperationsSameState, SameKnownSameState, UnionIsLeast, StateKnowsAsSet, ChangesIsChange, SpentAndRemainingAddUp, LearnedIsOneMore, UnionIsBoth, NamesAreHeld};
+ghost use Rattle.replica_state.specs.Laws.{SameOperationsSameState, SameKnownSameState};
+ghost use Rattle.replica_state.specs.Laws.{UnionIsLeast, StateKnowsAsSet, ChangesIsChange};
+ghost use Rattle.replica_state.specs.Laws.{SpentAndRemainingAddUp, LearnedIsOneMore, UnionIsBoth};
+ghost use Rattle.replica_state.specs.Laws.{NamesAreHeld};
 
 /// The state of a set depends on no order and no repeats, and sets that know the same operations
 /// come to one state.

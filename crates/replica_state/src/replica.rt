@@ -1,11 +1,14 @@
 //! What a node needs of the thing that holds its state.
 
-ghost use Rattle.std.specs.Prelude.{◌≡◌, ◌+◌, ◌<◌, ◌≤◌, ◌^◌, [], ◌↔◌, length, slice_get, false, option_map, map, Some, IfSome, IsSome, IsTrue, OnOk, OnErr};
+ghost use Rattle.std.specs.Prelude.{◌≡◌, ◌+◌, ◌<◌, ◌≤◌, ◌^◌, [], ◌↔◌, length, slice_get, false};
+ghost use Rattle.std.specs.Prelude.{option_map, map, Some, IfSome, IsSome, IsTrue, OnOk, OnErr};
 ghost use Rattle.std.specs.List.{AllByRecursion};
 ghost use Rattle.std.specs.Option.{option_copied};
 ghost use Rattle.stamp_register.specs.Keys.{key_value};
 ghost use Rattle.operations.specs.Operations.{operation, IsWellFormed, ShiftsToAnother};
-ghost use Rattle.replica_state.specs.States.{State, with_name, with_key, with_pass, with_shifts, total_hits, granted_in, granted_of, budget_of, rights_of, spent_of, MarksRights};
+ghost use Rattle.replica_state.specs.States.{State, with_name, with_key, with_pass, with_shifts};
+ghost use Rattle.replica_state.specs.States.{total_hits, granted_in, granted_of, budget_of};
+ghost use Rattle.replica_state.specs.States.{rights_of, spent_of, MarksRights};
 ghost use Rattle.replica_state.specs.Folds.{fold, Learns, IsUnion};
 ghost use Rattle.replica_state.specs.Reached.{IsReached};
 ghost use Rattle.replica_state.specs.Knowledge.{is_upto};

@@ -1,13 +1,17 @@
 //! What a matrix stores of one name.
 
-ghost use Rattle.std.specs.Prelude.{◌≡◌, ◌+◌, ◌<◌, ◌^◌, option_map, is_none, Some, None, OnOk, OnErr, IfOk, IfNone, IfSome, IsSome, false};
+ghost use Rattle.std.specs.Prelude.{◌≡◌, ◌+◌, ◌<◌, ◌^◌, option_map, is_none, Some, None, OnOk};
+ghost use Rattle.std.specs.Prelude.{OnErr, IfOk, IfNone, IfSome, IsSome, false};
 ghost use Rattle.counters.specs.Sums.{node_numbers, sum_below};
 ghost use Rattle.counters.specs.Budgets.{total_spent};
 ghost use Rattle.counters.specs.Cells.{spent_cell, WritesSpent};
 ghost use Rattle.stamp_register.specs.Keys.{key_value};
-ghost use Rattle.replica_state.specs.Points.{empty_held, order_to_held, held_after_learning, held_after_key, held_after_pass, held_after_count, Raises, spent_of_key};
+ghost use Rattle.replica_state.specs.Points.{empty_held, order_to_held, held_after_learning};
+ghost use Rattle.replica_state.specs.Points.{held_after_key, held_after_pass, held_after_count};
+ghost use Rattle.replica_state.specs.Points.{Raises, spent_of_key};
 ghost use Rattle.operations.specs.Counts.{is_hits, term_of, given_key};
-ghost use Rattle.replica_state.specs.Slots.{IsShareRaised, slot_held, slot_key, slot_number, slot_rights, share_number, budgets_number};
+ghost use Rattle.replica_state.specs.Slots.{IsShareRaised, slot_held, slot_key, slot_number};
+ghost use Rattle.replica_state.specs.Slots.{slot_rights, share_number, budgets_number};
 ghost use Rattle.replica_state.specs.States.{MarksRights};
 ghost use Rattle.operations.specs.declared.counted.Counted.{Counted};
 ghost use Rattle.operations.specs.declared.counted.Counted.TheVariants.{Hits, Execs, Shifts};

@@ -5,11 +5,13 @@ ghost use Rattle.std.specs.Prelude.{◌≡◌, ◌≢◌, ◌+◌, ◌<◌, ◌�
 ghost use Rattle.std.specs.Borrow.{MutBor};
 ghost use Rattle.std.specs.Fn.{FnOnceReturnsAtMut};
 ghost use Rattle.stamp_register.specs.Keys.{key_value};
-ghost use Rattle.replica_state.specs.Points.{empty_held, held_after_learning, held_after_key, held_after_pass, held_after_count};
+ghost use Rattle.replica_state.specs.Points.{empty_held, held_after_learning, held_after_key};
+ghost use Rattle.replica_state.specs.Points.{held_after_pass, held_after_count};
 ghost use Rattle.operations.specs.Counts.{is_hits, given_key};
 ghost use Rattle.replica_state.specs.Cells.{with_held, with_change};
 ghost use Rattle.replica_state.specs.States.{with_name, with_key, with_pass, with_shifts};
-ghost use Rattle.replica_state.specs.Slots.{IsSlotOf, HasNoSlot, ChangesSlot, SaysSomething, slot_held, slot_key, slot_number, shown_slots};
+ghost use Rattle.replica_state.specs.Slots.{IsSlotOf, HasNoSlot, ChangesSlot, SaysSomething};
+ghost use Rattle.replica_state.specs.Slots.{slot_held, slot_key, slot_number, shown_slots};
 ghost use Rattle.replica_state.specs.MatrixOrder.{slots_map};
 ghost use Rattle.operations.specs.declared.counted.Counted.TheVariants.{Hits, Execs};
 

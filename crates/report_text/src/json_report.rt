@@ -7,7 +7,8 @@ ghost use Rattle.serde_json.specs.View.{view};
 ghost use Rattle.stamp_register.specs.Keys.{body_value, key_value};
 ghost use Rattle.replica_state.specs.States.{granted_of, rights_of};
 ghost use Rattle.report_text.specs.Report.{by_node, counted_row, keyed_row, term_rows};
-ghost use Rattle.report_text.specs.Json.{actions_data, hits_data, list_data, point_data, report_data, report_json_text, rights_data, term_data};
+ghost use Rattle.report_text.specs.Json.{actions_data, hits_data, list_data, point_data};
+ghost use Rattle.report_text.specs.Json.{report_data, report_json_text, rights_data, term_data};
 
 use actions::{MAX_TERMS, Name};
 use operations::count_of;

@@ -5,7 +5,8 @@ ghost use Rattle.std.specs.Fmt.{signed_decimal};
 ghost use Rattle.stamp_register.specs.Keys.{key_value, stamp_of};
 ghost use Rattle.replica_state.specs.States.{rights_of, total_hits};
 ghost use Rattle.report_text.specs.Report.{by_node, counted_row, keyed_row, term_rows};
-ghost use Rattle.report_text.specs.Lines.{granted_text, hits_line, node_text, point_line, point_lines, report_lines_text, rights_text, term_line};
+ghost use Rattle.report_text.specs.Lines.{granted_text, hits_line, node_text, point_line};
+ghost use Rattle.report_text.specs.Lines.{point_lines, report_lines_text, rights_text, term_line};
 
 use actions::{MAX_TERMS, Name};
 use operations::count_of;

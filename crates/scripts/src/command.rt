@@ -3,7 +3,10 @@
 ghost use Rattle.std.specs.Prelude.{◌≡◌, false, option_map, IfOk};
 ghost use Rattle.std.specs.Vec.{vec_items};
 ghost use Rattle.streams.specs.Fields.{has_space, field_of, fields_of};
-ghost use Rattle.scripts.specs.Commands.{command_value, words_of, nodes_in, call_in, pass_with, pass_in, emit_in, deliver_in, list_in, report_in, rights_in, spent_in, hits_in, plain_command_after, command_after, command_of};
+ghost use Rattle.scripts.specs.Commands.{command_value, words_of, nodes_in, call_in, pass_with};
+ghost use Rattle.scripts.specs.Commands.{pass_in, emit_in, deliver_in, list_in, report_in};
+ghost use Rattle.scripts.specs.Commands.{rights_in, spent_in, hits_in, plain_command_after};
+ghost use Rattle.scripts.specs.Commands.{command_after, command_of};
 
 use call_lines::call_after;
 use cluster_model::Event;

@@ -5,7 +5,9 @@ ghost use Rattle.cluster_model.specs.Events.{event_value};
 ghost use Rattle.scripts.specs.Commands.{command_value, nodes};
 ghost use Rattle.scripts.specs.Replies.{Prints, PrintsLine};
 ghost use Rattle.streams.specs.Lines.{text_in};
-ghost use Rattle.scripts.specs.Script.{command_in, event_text, after_event, command_output, after_command, line_output, after_line, script_text, echo_of, echoed_output, echoed_text};
+ghost use Rattle.scripts.specs.Script.{command_in, event_text, after_event, command_output};
+ghost use Rattle.scripts.specs.Script.{after_command, line_output, after_line, script_text};
+ghost use Rattle.scripts.specs.Script.{echo_of, echoed_output, echoed_text};
 
 use crate::command::{Command, read_command};
 use crate::question::ask;

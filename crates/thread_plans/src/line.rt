@@ -2,7 +2,9 @@
 
 ghost use Rattle.std.specs.Prelude.{◌≡◌, option_map};
 ghost use Rattle.node_calls.specs.Told.{ask_ref_told};
-ghost use Rattle.thread_plans.specs.Lines.{gossip_in, line_after, line_in, line_value, nodes_in, once, pass_in, seed_in, spread_in, start_call_in, start_in, times_of, worker_in};
+ghost use Rattle.thread_plans.specs.Lines.{gossip_in, line_after, line_in, line_value, nodes_in};
+ghost use Rattle.thread_plans.specs.Lines.{once, pass_in, seed_in, spread_in, start_call_in};
+ghost use Rattle.thread_plans.specs.Lines.{start_in, times_of, worker_in};
 
 use call_lines::call_after;
 use decimals::{byte, number, word};

@@ -4,7 +4,10 @@ ghost use Rattle.std.specs.Prelude.{◌≡◌, ◌<◌, ◌≤◌, ◌==◌, ◌
 ghost use Rattle.message_format.specs.Limits.{max_nodes};
 ghost use Rattle.node_calls.specs.Told.{ask_ref_told};
 ghost use Rattle.thread_plans.specs.Lines.{gossip_line, line_value, start_line, start_value};
-ghost use Rattle.thread_plans.specs.Plans.{add_calls, after_empty, after_line, after_sized, after_started, after_text, after_working, begin_block, block_value, plan_value, stage_value, whole_plan, with_block};
+ghost use Rattle.thread_plans.specs.Plans.{add_calls, after_empty, after_line, after_sized};
+ghost use Rattle.thread_plans.specs.Plans.{after_started, after_text, after_working, begin_block};
+ghost use Rattle.thread_plans.specs.Plans.{block_value, plan_value, stage_value, whole_plan};
+ghost use Rattle.thread_plans.specs.Plans.{with_block};
 
 use crate::line::{Line, Start, read_line};
 use crate::plan::{Block, CallLine, Size, StartLine, ThreadPlan, Working};

@@ -1,6 +1,8 @@
 //! Setting many points at once.
 
-ghost use Rattle.std.specs.Prelude.{◌≡◌, ◌⊎◌, ◌+◌, ◌<◌, ◌^◌, ◌≤◌, ℕ, List, [], length, map, string_bytes, IfOk, IfErr, IsErrOf, OnOk, OnErr, IsTrue, Ok, Some, None};
+ghost use Rattle.std.specs.Prelude.{◌≡◌, ◌⊎◌, ◌+◌, ◌<◌, ◌^◌, ◌≤◌, ℕ, List, [], length, map};
+ghost use Rattle.std.specs.Prelude.{string_bytes, IfOk, IfErr, IsErrOf, OnOk, OnErr, IsTrue, Ok};
+ghost use Rattle.std.specs.Prelude.{Some, None};
 ghost use Rattle.actions.specs.Value.{TermValue};
 ghost use Rattle.actions.specs.Names.{is_name};
 ghost use Rattle.actions.specs.Canonical.{canonical};

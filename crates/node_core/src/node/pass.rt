@@ -1,6 +1,8 @@
 //! Passing a point.
 
-ghost use Rattle.std.specs.Prelude.{◌≡◌, ◌⊎◌, ℕ, vec_len, ◌^◌, ◌<◌, ◌≤ℤ◌, pos, IfOk, IfErr, OnOk, OnErr, IsErrOf, IsSome, IfSome, IsTrue, MatchOption, true, Some, None, is_some, option_map, slice_get};
+ghost use Rattle.std.specs.Prelude.{◌≡◌, ◌⊎◌, ℕ, vec_len, ◌^◌, ◌<◌, ◌≤ℤ◌, pos, IfOk, IfErr, OnOk};
+ghost use Rattle.std.specs.Prelude.{OnErr, IsErrOf, IsSome, IfSome, IsTrue, MatchOption, true};
+ghost use Rattle.std.specs.Prelude.{Some, None, is_some, option_map, slice_get};
 ghost use Rattle.std.specs.Bool.{then_some};
 ghost use Rattle.actions.specs.Names.{is_name};
 ghost use Rattle.actions.specs.Value.{task_value};

@@ -1,6 +1,7 @@
 //! Setting and removing a point.
 
-ghost use Rattle.std.specs.Prelude.{◌≡◌, ◌≢◌, [], ◌∷◌, ◌⊎◌, ◌+◌, IfOk, IfErr, OnOk, OnErr, IsErrOf, IsTrue, Some, None, Ok};
+ghost use Rattle.std.specs.Prelude.{◌≡◌, ◌≢◌, [], ◌∷◌, ◌⊎◌, ◌+◌, IfOk, IfErr, OnOk, OnErr, IsErrOf};
+ghost use Rattle.std.specs.Prelude.{IsTrue, Some, None, Ok};
 ghost use Rattle.actions.specs.Names.{is_name};
 ghost use Rattle.actions.specs.Reading.{reading};
 ghost use Rattle.stamp_register.specs.Keys.{body_value};
@@ -10,7 +11,8 @@ ghost use Rattle.node_core.specs.Memory.{IsReadable, SetNeedsMemory, NameNeedsMe
 ghost use Rattle.node_core.specs.Refusals.{bad_actions, key_refusal};
 ghost use Rattle.node_core.specs.Room.{HasRoom, HasClocks, HasPlace};
 ghost use Rattle.node_core.specs.Steps.{settings};
-ghost use Rattle.node_core.specs.Traces.{Accepts, IsRefusalOf, after_call, call_of, last_clock, node_of, refusal, reply_to};
+ghost use Rattle.node_core.specs.Traces.{Accepts, IsRefusalOf, after_call, call_of, last_clock};
+ghost use Rattle.node_core.specs.Traces.{node_of, refusal, reply_to};
 
 use super::load::set_to;
 use super::{NodeCore, read_name};
