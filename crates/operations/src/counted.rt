@@ -52,7 +52,7 @@ impl Counted {
     {
         match self {
             Counted::Hits { .. } => true,
-            _ => false,
+            Counted::Execs { .. } | Counted::Shifts { .. } => false,
         }
     }
 }
@@ -67,7 +67,7 @@ pub fn key_with<'a>(key: &'a Key, count: Option<Count>) -> Option<&'a Key>
         None => Some(key),
         Some(count) => match count.counted {
             Counted::Hits { .. } => None,
-            _ => Some(key),
+            Counted::Execs { .. } | Counted::Shifts { .. } => Some(key),
         },
     }
 }
