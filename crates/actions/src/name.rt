@@ -1,8 +1,9 @@
 //! Names of points.
 
-ghost use Rattle.std.specs.Prelude.{◌≡◌, ◌↔◌, true, false, string_bytes, IfOk, IsErrOf, IsTrue};
+ghost use Rattle.std.specs.Prelude.{◌≡◌, ◌<◌, ◌↔◌, true, false, string_bytes, get_or};
+ghost use Rattle.std.specs.Prelude.{IfOk, IsErrOf, IsTrue};
 ghost use Rattle.std.specs.List.{list_all};
-ghost use Rattle.actions.specs.Names.{is_name_byte, is_name};
+ghost use Rattle.actions.specs.Names.{is_name_byte, is_name, first_bytes};
 
 use held_keys::Held;
 use std::alloc::{AllocError, Global};
@@ -55,18 +56,22 @@ impl From<AllocError> for NameFault {
 /// Names are equal and ordered as their texts are, byte by byte.
 #[derive(Debug, Drop)]
 pub struct Name {
+    // The first eight bytes as one number. Where those of two names differ, they are ordered as these
+    // are, and no text is looked at.
+    front: u64,
     text: String,
 }
 
 impl Model for Name {
     ghost use Rattle.std.specs.Prelude.{◌≡◌, ℕ, List, true, string_bytes};
-    ghost use Rattle.actions.specs.Names.{is_name};
+    ghost use Rattle.actions.specs.Names.{is_name, first_bytes};
 
     ghost Value = { List ℕ };
 
     ghost view = { λ n. string_bytes n.text };
 
-    ghost invariant = { λ n. is_name (string_bytes n.text) ≡ true };
+    ghost invariant = { λ n. (is_name (string_bytes n.text) ≡ true)
+        × (n.front ≡ first_bytes 8 (string_bytes n.text)) };
 }
 
 fn has_name_bytes(text: &str) -> bool
@@ -85,6 +90,27 @@ fn is_name_text(text: &str) -> bool
     !text.is_empty() && text.len() <= MAX_NAME && has_name_bytes(text)
 }
 
+// A byte of a text, and 0 behind its end.
+fn byte_at(text: &[u8], index: usize) -> u64
+    ensures value { result ≡ get_or text.now index 0 }
+    ensures small { result < 256 }
+{
+    match text.get(index) {
+        Some(byte) => u64::from(*byte),
+        None => 0,
+    }
+}
+
+fn front_of(text: &[u8]) -> u64
+    ensures { result ≡ first_bytes 8 text.now }
+{
+    let high = ((byte_at(text, 0) * 256 + byte_at(text, 1)) * 256 + byte_at(text, 2)) * 256
+        + byte_at(text, 3);
+    let low = ((byte_at(text, 4) * 256 + byte_at(text, 5)) * 256 + byte_at(text, 6)) * 256
+        + byte_at(text, 7);
+    high * 4_294_967_296 + low
+}
+
 impl Name {
     /// The name that a text is, or `BadName` where it is none.
     pub fn parse(alloc: Global, text: &str) -> Result<Name, NameFault>
@@ -94,8 +120,9 @@ impl Name {
         if !is_name_text(text) {
             return Err(NameFault::BadName);
         }
+        let front = front_of(text.as_bytes());
         let text = String::from_str(alloc, text)?;
-        Ok(Name { text })
+        Ok(Name { front, text })
     }
 
     /// The text of the name.
@@ -109,7 +136,7 @@ impl Name {
     pub fn into_text(self) -> String
         ensures { string_bytes result ≡ self }
     {
-        let Name { text } = self;
+        let Name { front: _, text } = self;
         text
     }
 
@@ -118,7 +145,10 @@ impl Name {
         ensures { IfOk result (λ n. n ≡ self.now) }
     {
         let text = String::from_str(alloc, &self.text)?;
-        Ok(Name { text })
+        Ok(Name {
+            front: self.front,
+            text,
+        })
     }
 }
 
@@ -158,7 +188,10 @@ impl Ord for Name {
     ghost matches_eq = { Prim.search (comparing, rules) };
 
     fn cmp(&self, other: &Name) -> Ordering {
-        self.text.cmp(&other.text)
+        match self.front.cmp(&other.front) {
+            Ordering::Equal => self.text.cmp(&other.text),
+            order @ (Ordering::Less | Ordering::Greater) => order,
+        }
     }
 }
 
