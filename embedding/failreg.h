@@ -205,6 +205,32 @@ size_t failreg_fetch(failreg *node, void *into, size_t room);
  * there are; `room` counts words of 32 bits. */
 size_t failreg_words(failreg *node, uint32_t *into, size_t room);
 
+/* Where a lock of yours that guards a node is found taken: pauses, longer the more often it was, and
+ * tells whether to look again, or to sleep until the lock is free. `looks` begins at 0. A call holds
+ * the lock for less time than a thread takes to fall asleep and be woken:
+ *
+ *     unsigned looks = 0;
+ *     while (pthread_mutex_trylock(&mutex) != 0)
+ *         if (!failreg_look_again(&looks)) {
+ *             pthread_mutex_lock(&mutex);
+ *             break;
+ *         }
+ */
+static inline bool failreg_look_again(unsigned *looks)
+{
+    if (*looks >= 9)
+        return false;
+    for (unsigned pauses = 64u << *looks; pauses > 0; pauses--) {
+#if defined(__x86_64__) || defined(__i386__)
+        __asm__ volatile("pause");
+#elif defined(__aarch64__)
+        __asm__ volatile("yield");
+#endif
+    }
+    *looks += 1;
+    return true;
+}
+
 #ifdef __cplusplus
 }
 #endif

@@ -48,12 +48,23 @@ static double bytes_resident(void)
     return (double)resident * (double)sysconf(_SC_PAGESIZE);
 }
 
+/* The mutex, for a thread that shares the node. */
+static void take(void)
+{
+    unsigned looks = 0;
+    while (pthread_mutex_trylock(&mutex) != 0)
+        if (!failreg_look_again(&looks)) {
+            pthread_mutex_lock(&mutex);
+            break;
+        }
+}
+
 static void *pass(void *is_shared)
 {
     failreg_act act;
     for (long i = 0; i < passes_of_each; i++) {
         if (is_shared)
-            pthread_mutex_lock(&mutex);
+            take();
         uint32_t status = failreg_pass(&node, NAME, sizeof NAME - 1, &act);
         if (is_shared)
             pthread_mutex_unlock(&mutex);
@@ -68,7 +79,7 @@ static void *look(void *is_shared)
     bool is_set;
     for (long i = 0; i < passes_of_each; i++) {
         if (is_shared)
-            pthread_mutex_lock(&mutex);
+            take();
         uint32_t status = failreg_is_set(&node, NAME, sizeof NAME - 1, &is_set);
         if (is_shared)
             pthread_mutex_unlock(&mutex);

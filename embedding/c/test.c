@@ -78,12 +78,22 @@ static bool tell(failreg *from, uint8_t number, failreg *to)
     return changed;
 }
 
+static void take(pthread_mutex_t *mutex)
+{
+    unsigned looks = 0;
+    while (pthread_mutex_trylock(mutex) != 0)
+        if (!failreg_look_again(&looks)) {
+            CHECK(looks == 9 && pthread_mutex_lock(mutex) == 0);
+            break;
+        }
+}
+
 static void *pass_often(void *given)
 {
     shared *at = given;
     size_t ran = 0;
     for (int i = 0; i < PASSES; i++) {
-        pthread_mutex_lock(&at->mutex);
+        take(&at->mutex);
         failreg_act act = pass(&at->node);
         pthread_mutex_unlock(&at->mutex);
         ran += act.outcome == FAILREG_ACT && act.task == FAILREG_RETURN;
@@ -130,6 +140,15 @@ static void a_count_is_shared_over_threads(void)
         failreg_end(&nodes[n].node);
         pthread_mutex_destroy(&nodes[n].mutex);
     }
+}
+
+/* A lock that stays taken is looked at a few times, and then slept for. */
+static void looks_end(void)
+{
+    unsigned looks = 0;
+    for (unsigned i = 1; i <= 9; i++)
+        CHECK(failreg_look_again(&looks) && looks == i);
+    CHECK(!failreg_look_again(&looks) && looks == 9);
 }
 
 static double seconds(void)
@@ -285,6 +304,7 @@ static void refusals_are_told(void)
 int main(void)
 {
     a_count_is_shared_over_threads();
+    looks_end();
     tasks_are_told_and_carried_out();
     words_are_drawn();
     readers_take_no_entry();

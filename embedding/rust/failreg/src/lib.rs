@@ -28,6 +28,8 @@ mod registry;
 mod sys;
 mod told;
 
+#[doc(hidden)]
+pub use points::Site;
 pub use registry::{Registry, write_drill};
 pub use told::{Passed, Refused, Stamp, Task};
 
@@ -64,12 +66,12 @@ pub fn program() -> Option<&'static Registry> {
 #[cfg(feature = "failpoints")]
 macro_rules! fail_point {
     (in $registry:expr, $name:expr) => {{
-        if $registry.eval($name).is_some() {
+        if $crate::eval_point!($registry, $name).is_some() {
             panic!("Return is not supported for the fail point \"{}\"", $name);
         }
     }};
     (in $registry:expr, $name:expr, $value:expr) => {{
-        if let Some(argument) = $registry.eval($name) {
+        if let Some(argument) = $crate::eval_point!($registry, $name) {
             return $crate::value_of($value, argument);
         }
     }};
@@ -100,6 +102,19 @@ macro_rules! fail_point {
 #[cfg(not(feature = "failpoints"))]
 macro_rules! fail_point {
     ($($ignored:tt)*) => {{}};
+}
+
+// A point whose name is spelled out keeps beside it what was found of it.
+#[doc(hidden)]
+#[macro_export]
+macro_rules! eval_point {
+    ($registry:expr, $name:literal) => {{
+        static SITE: $crate::Site = $crate::Site::new();
+        $registry.eval_at(&SITE, $name)
+    }};
+    ($registry:expr, $name:expr) => {
+        $registry.eval($name)
+    };
 }
 
 // What a closure of a `fail_point!` makes of the argument: its type is known here.

@@ -1,20 +1,25 @@
 //! A node that threads share.
 
 use crate::node::Node;
-use crate::points::{Bits, names_in};
+use crate::points::{Shown, Site, names_in};
 use crate::receipts::{self, Receipt, Receipts, ask, reply};
 use crate::told::{Passed, Refused, Stamp, Task};
 use std::collections::HashSet;
 use std::hash::{BuildHasher, Hasher, RandomState};
 use std::io::{self, Write};
 use std::sync::atomic::{AtomicBool, Ordering};
-use std::sync::{Condvar, Mutex, MutexGuard};
+use std::sync::{Condvar, Mutex, MutexGuard, TryLockError};
 use std::time::Instant;
+
+/// How often a thread pauses each time that it finds the lock taken, before it sleeps until it gets
+/// it. A call holds the lock for less time than a thread takes to fall asleep and be woken, and each
+/// look at a taken lock slows the thread that has it: so the next look is later each time.
+const PAUSES: [u32; 9] = [64, 128, 256, 512, 1024, 2048, 4096, 8192, 16384];
 
 /// One node of a cluster, for any number of threads. Its number is its own: no other node of the
 /// cluster has it, and none had it before, in an earlier run of the program either.
 pub struct Registry {
-    bits: Bits,
+    shown: Shown,
     state: Mutex<State>,
     // Told of each change of the settings, and of the end of all changes.
     changed: Condvar,
@@ -66,7 +71,7 @@ impl Registry {
         let receipts = None;
         let names = HashSet::new();
         Ok(Registry {
-            bits: Bits::new(),
+            shown: Shown::new(),
             state: Mutex::new(State {
                 node,
                 names,
@@ -97,8 +102,16 @@ impl Registry {
         self
     }
 
+    // A lock that a panic poisoned is as good as another: no call is left half done by one.
     fn lock(&self) -> MutexGuard<'_, State> {
-        // No call is left half done by a panic.
+        for pauses in PAUSES {
+            match self.state.try_lock() {
+                Ok(state) => return state,
+                Err(TryLockError::Poisoned(poisoned)) => return poisoned.into_inner(),
+                Err(TryLockError::WouldBlock) => {}
+            }
+            (0..pauses).for_each(|_| std::hint::spin_loop());
+        }
         self.state
             .lock()
             .unwrap_or_else(|poisoned| poisoned.into_inner())
@@ -136,15 +149,18 @@ impl Registry {
     fn end(&self, state: &mut State) {
         self.is_over.store(true, Ordering::Release);
         state.names.clear();
-        self.bits.show(&state.names);
+        self.shown.show(&state.names);
         self.changed.notify_all();
     }
 
     // Shows which points are set after a change.
     fn settings_changed(&self, state: &mut State) {
         if let Ok(list) = state.node.list() {
-            state.names = names_in(&list);
-            self.bits.show(&state.names);
+            let names = names_in(&list);
+            if names != state.names {
+                state.names = names;
+                self.shown.show(&state.names);
+            }
         }
         self.changed.notify_all();
     }
@@ -210,22 +226,35 @@ impl Registry {
 
     /// Whether a point is set. That is no pass.
     pub fn is_set(&self, name: &str) -> bool {
-        self.bits.may_be_set(name) && self.lock().names.contains(name)
+        self.shown.may_be_set(name) && self.lock().names.contains(name)
     }
 
     /// Passes a point if it is set, and carries its task out as fail-rs does. Where the task is
     /// `return`, the answer is its argument. A point that isn't set isn't passed.
     #[inline]
     pub fn eval(&self, name: &str) -> Option<Option<String>> {
-        if !self.bits.may_be_set(name) {
+        if !self.shown.may_be_set(name) {
             return None;
         }
-        self.eval_set(name)
+        self.eval_set(name, None)
     }
 
-    fn eval_set(&self, name: &str) -> Option<Option<String>> {
+    /// The same at a site that always has this name, which remembers where the point isn't set.
+    #[doc(hidden)]
+    #[inline]
+    pub fn eval_at(&self, site: &Site, name: &str) -> Option<Option<String>> {
+        if !self.shown.may_be_set_at(site) {
+            return None;
+        }
+        self.eval_set(name, Some(site))
+    }
+
+    fn eval_set(&self, name: &str, site: Option<&Site>) -> Option<Option<String>> {
         let mut state = self.lock();
         if !state.names.contains(name) {
+            if let Some(site) = site {
+                self.shown.is_unset_at(site);
+            }
             return None;
         }
         let passed = self.pass_in(&mut state, name);

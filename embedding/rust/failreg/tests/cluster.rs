@@ -144,6 +144,57 @@ fn a_point_that_is_not_set_takes_no_entry() {
     assert_eq!((a.is_set("other"), a.calls()), (false, Ok(2)));
 }
 
+fn named(node: &Registry, name: &str) -> bool {
+    fail_point!(in node, name, |_| true);
+    false
+}
+
+fn spelled(node: &Registry) -> bool {
+    fail_point!(in node, "spelled", |_| true);
+    false
+}
+
+#[test]
+fn a_site_remembers_settings_of_one_registry() {
+    let (a, b) = pair();
+    assert_eq!((spelled(&a), spelled(&b)), (false, false));
+    a.set("other", "return").unwrap();
+    assert_eq!((spelled(&a), spelled(&a), a.calls()), (false, false, Ok(1)));
+    b.set("spelled", "return").unwrap();
+    assert_eq!((spelled(&a), spelled(&b), spelled(&a)), (false, true, false));
+    a.set("spelled", "return").unwrap();
+    assert_eq!((spelled(&a), spelled(&b)), (true, true));
+    // A set that only changes what a point does leaves which points are set.
+    a.set("spelled", "1*return->off").unwrap();
+    assert_eq!((spelled(&a), spelled(&a)), (true, false));
+    a.remove("spelled").unwrap();
+    assert_eq!((spelled(&a), spelled(&b)), (false, true));
+    // What another node sets is seen once its message is taken in.
+    a.deliver(&b.emit(0).unwrap()).unwrap();
+    assert_eq!(spelled(&a), a.is_set("spelled"));
+    b.remove("spelled").unwrap();
+    assert_eq!((spelled(&a), spelled(&b)), (false, false));
+    // A name that isn't spelled out at its `fail_point!` is another one each time.
+    assert_eq!((named(&a, "spelled"), named(&a, "other")), (false, true));
+    a.close();
+    assert_eq!((spelled(&a), named(&a, "other")), (false, false));
+}
+
+#[test]
+fn a_site_sees_each_change_that_came_before() {
+    let a = Registry::open(0, 1, 1_000_000).unwrap();
+    a.set("other", "off").unwrap();
+    std::thread::scope(|scope| {
+        (0..3).for_each(|_| drop(scope.spawn(|| (0..20_000).for_each(|_| drop(spelled(&a))))));
+        for _ in 0..500 {
+            a.set("spelled", "return").unwrap();
+            assert!(spelled(&a));
+            a.remove("spelled").unwrap();
+            assert!(!spelled(&a));
+        }
+    });
+}
+
 static TOLD: AtomicUsize = AtomicUsize::new(0);
 
 #[test]
