@@ -62,7 +62,8 @@ has_none c xs h = le-ltb (place c xs) (length xs) (omega (arith, place_none c xs
 
 pub has_at : (c : ℕ) (xs ys : List ℕ) → lacks c xs ≡ true → has_byte c (xs ++ c ∷ ys) ≡ true
 has_at c xs ys h =
-    lt-ltb (place c (xs ++ c ∷ ys)) (length (xs ++ c ∷ ys)) (omega (arith, place_at c xs ys h, length-append xs (c ∷ ys)))
+    lt-ltb (place c (xs ++ c ∷ ys)) (length (xs ++ c ∷ ys)) (omega
+    (arith, place_at c xs ys h, length-append xs (c ∷ ys)))
 
 pub before_at : (c : ℕ) (xs ys : List ℕ) → lacks c xs ≡ true → text_before c (xs ++ c ∷ ys) ≡ xs
 before_at c xs ys h = rw (place_at c xs ys h) (take_at xs (c ∷ ys) (length xs) refl)

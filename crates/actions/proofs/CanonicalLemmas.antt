@@ -53,7 +53,8 @@ value_of_four n h =
 digit_is : (c : ℕ) → digit_value c < 10 → c ≡ digit (digit_value c)
 digit_is c h = let r = digit_from_value c h in omega (arith, digit_value_digit c r)
 
-four_same : (n a b c d : ℕ) → digit (n / 1000) ≡ a → digit (n / 100 % 10) ≡ b → digit (n / 10 % 10) ≡ c → digit (n % 10) ≡ d
+four_same : (n a b c d : ℕ) → digit (n / 1000) ≡ a → digit (n / 100 % 10) ≡ b → digit (n / 10 % 10) ≡ c →
+    digit (n % 10) ≡ d
     → four_digits n ≡ a ∷ b ∷ c ∷ d ∷ []
 four_same n a b c d ea eb ec ed = rw (ea, eb, ec, ed) refl
 
@@ -108,8 +109,13 @@ kept_length ds =
 
 four_digits_are : (n : ℕ) → n < 10000 → AllDigits 10 (four_digits n)
 four_digits_are n h =
-    let below : (d : ℕ) → d < 10 → digit_value (digit d) < 10 = λ d lt. omega (arith, value_of_digit d lt, lt) in
-    (below (n / 1000) (omega arith), (below (n / 100 % 10) (omega arith), (below (n / 10 % 10) (omega arith), (below (n % 10) (omega arith), tt))))
+    let below : (d : ℕ) → d < 10 → digit_value (digit d) < 10 = λ d lt. omega (arith, value_of_digit d lt, lt) in (
+      below (n / 1000) (omega arith),
+      (
+        below (n / 100 % 10) (omega arith),
+        (below (n / 10 % 10) (omega arith), (below (n % 10) (omega arith), tt)),
+      ),
+    )
 
 some_kept : (kept : List ℕ) (n : ℕ) → digits_value 10 (four_decimals kept) ≡ n → 0 < n → 0 < length kept
 some_kept [] n e some = omega (arith, e)
@@ -120,8 +126,10 @@ kept_value n h = ap (digits_value 10) (filled_kept (four_digits n) refl) ∙ val
 
 kept_short : (n : ℕ) → n < 10000 → 0 < n → IsShort 4 (without_end zero_digit (four_digits n))
 kept_short n h some =
-    let kept = without_end zero_digit (four_digits n) in
-    ((some_kept kept n (kept_value n h) some, kept_digits (four_digits n) (four_digits_are n h)), kept_length (four_digits n))
+    let kept = without_end zero_digit (four_digits n) in (
+      (some_kept kept n (kept_value n h) some, kept_digits (four_digits n) (four_digits_are n h)),
+      kept_length (four_digits n),
+    )
 
 -- ---- percentages
 
@@ -135,8 +143,13 @@ percent_means : (ppm : ℕ) → ppm ≤ 1000000 → PercentIs (percent_of ppm) p
 percent_means ppm le =
     let v = decimal_value (ppm / 10000) (omega arith) in
     cond_both (eqb (ppm % 10000) 0) (Grammar.whole (decimal (ppm / 10000)))
-    (Grammar.pointed (decimal (ppm / 10000)) (without_end zero_digit (four_digits (ppm % 10000)))) (λ p. PercentIs p ppm)
-    (λ e. let none = eqb-true (ppm % 10000) 0 e in (short_decimal (ppm / 10000) (omega arith), omega (arith, v, none), le))
+    (Grammar.pointed (decimal (ppm / 10000)) (without_end zero_digit (four_digits (ppm % 10000))))
+    (λ p. PercentIs p ppm)
+    (λ e. let none = eqb-true (ppm % 10000) 0 e in (
+      short_decimal (ppm / 10000) (omega arith),
+      omega (arith, v, none),
+      le,
+    ))
     (λ e.
     let some : 0 < ppm % 10000 = let f = eqb-false (ppm % 10000) 0 e in omega arith in (
       short_decimal (ppm / 10000) (omega arith),
@@ -151,7 +164,8 @@ chance_means ppm le =
     cond_both (eqb ppm 1000000) None (Some (percent_of ppm)) (λ ch. ChanceIs ch ppm) (λ e. eqb-true ppm 1000000 e)
     (λ _. percent_means ppm le)
 
-filled_is : (ds : List ℕ) → 0 < length ds → length ds ≤ 4 → four_decimals ds ≡ ds ++ replicate (4 - length ds) zero_digit
+filled_is : (ds : List ℕ) → 0 < length ds → length ds ≤ 4 → four_decimals ds ≡ ds ++
+    replicate (4 - length ds) zero_digit
 filled_is [] some few = absurd (omega arith)
 filled_is (a ∷ []) some few = refl
 filled_is (a ∷ b ∷ []) some few = refl
@@ -237,7 +251,12 @@ count_shortest None None h = omega arith
 count_shortest None (Some n) h = absurd h
 count_shortest (Some ds) None h = absurd h
 count_shortest (Some ds) (Some n) h =
-    omega (arith, decimal_shortest ds n h.0 h.1 h.2, length-append ds (star ∷ []), length-append (decimal n) (star ∷ []))
+    omega (
+      arith,
+      decimal_shortest ds n h.0 h.1 h.2,
+      length-append ds (star ∷ []),
+      length-append (decimal n) (star ∷ []),
+    )
 
 time_means : (argument : Option (List ℕ)) (n : ℕ) → TimeIs argument n → TimeIs (Some (decimal n)) n
 time_means None n h = absurd h
@@ -421,7 +440,8 @@ Clean s = (no_arrow s ≡ true) × AllPlain s
 time_clean : (n : ℕ) → n < 2 ^ 64 → Clean (argument_text (Some (decimal n)))
 time_clean n h =
     let d = (decimal_number n h).0 in (
-      no_arrow_after (opening_parenthesis ∷ decimal n) (closing_parenthesis ∷ []) (digits_lack dash (decimal n) refl d) refl,
+      no_arrow_after (opening_parenthesis ∷ decimal n) (closing_parenthesis ∷ []) (digits_lack dash (decimal n) refl d)
+          refl,
       (
         plain opening_parenthesis refl,
         plain-append (decimal n) (closing_parenthesis ∷ []) (numeral_plain (decimal n) d)
@@ -455,7 +475,8 @@ argument_in w h =
     ap (λ (x : List ℕ). replicate w.before space ++ (x ++ replicate w.after space)) (core_is w)
     ∙ ap (λ (x : List ℕ). replicate w.before space ++ x)
     (append_assoc (head_text w) (argument_text w.argument) (replicate w.after space))
-    ∙ sym (append_assoc (replicate w.before space) (head_text w) (argument_text w.argument ++ replicate w.after space)) in
+    ∙ sym (append_assoc (replicate w.before space) (head_text w)
+    (argument_text w.argument ++ replicate w.after space)) in
     let k : Clean ((replicate w.before space ++ head_text w) ++ (argument_text w.argument ++ replicate w.after space)) =
     subst Clean whole h in
     let back =
@@ -473,7 +494,8 @@ term_clean w t m h =
     let c = argument_clean w.argument t.task m.argument (argument_in w h) in
     let v = canonical_term t in
     let both : Clean (head_text v ++ argument_text (argument_of t.task)) = (
-      no_arrow_after (head_text v) (argument_text (argument_of t.task)) (head_lacks dash v t n refl refl refl refl refl) c.0,
+      no_arrow_after (head_text v) (argument_text (argument_of t.task)) (head_lacks dash v t n refl refl refl refl refl)
+          c.0,
       plain-append (head_text v) (argument_text (argument_of t.task)) (head_plain v t n) c.1,
     ) in
     subst Clean (sym (core_is v)) both

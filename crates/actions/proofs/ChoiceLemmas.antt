@@ -47,7 +47,8 @@ slice_get_within (x ∷ xs) (suc i) d lt = slice_get_within xs i d (omega arith)
 -- what a loop has found of the term at i is what `triggers` says
 pub triggers_at : (terms : List Term) (words : List ℕ) (may : ℕ → Bool) (i : ℕ) (t : Term) (next : ℕ) (found : Bool)
     → i < length terms → t ≡ get_or terms i t → next ≡ words_needed (take i (map term_value terms))
-    → found ≡ can_trigger (term_value t) (get_or words next 0) (may i) → triggers (map term_value terms) words may i ≡ found
+    → found ≡ can_trigger (term_value t) (get_or words next 0) (may i) →
+    triggers (map term_value terms) words may i ≡ found
 triggers_at terms words may i t next found lt at used h =
     ap (λ (o : Option TermValue). triggers_by o (word_at (map term_value terms) words i) (may i))
     (slice_get_within (map term_value terms) i (term_value t) (within terms i lt) ∙ ap Some

@@ -47,7 +47,8 @@ percent_complete (Grammar.whole ds) ppm h =
     ) (ap Some (sym h.1))
 percent_complete (Grammar.pointed ds decimals) ppm h =
     let absent = digits_lack point ds refl h.0.0 in
-    let le : digits_value 10 ds * 10000 + digits_value 10 (four_decimals decimals) ≤ 1000000 = omega (arith, h.2, h.3) in
+    let le : digits_value 10 ds * 10000 + digits_value 10 (four_decimals decimals) ≤ 1000000 =
+    omega (arith, h.2, h.3) in
     rw (
       has_at point ds decimals absent,
       before_at point ds decimals absent,
@@ -130,29 +131,38 @@ count_complete k (Some ds) None rest h absent = absurd h
 count_complete k (Some ds) (Some n) rest h absent =
     let there = digits_lack star ds refl h.0 in
     ap (count_at k) (append_assoc ds (star ∷ []) rest)
-    ∙ rw (has_at star ds rest there, before_at star ds rest there, after_at star ds rest there, number_complete ds n h) refl
+    ∙ rw (has_at star ds rest there, before_at star ds rest there, after_at star ds rest there, number_complete ds n h)
+    refl
 
 closed : (head a : List ℕ)
-    → get_or (head ++ opening_parenthesis ∷ (a ++ closing_parenthesis ∷ [])) (length (head ++ opening_parenthesis ∷ (a ++ closing_parenthesis ∷ [])) - 1) 0 ≡ closing_parenthesis
+    → get_or (head ++ opening_parenthesis ∷ (a ++ closing_parenthesis ∷ []))
+    (length (head ++ opening_parenthesis ∷ (a ++ closing_parenthesis ∷ [])) - 1) 0 ≡ closing_parenthesis
 closed head a =
-    let same : head ++ opening_parenthesis ∷ (a ++ closing_parenthesis ∷ []) ≡ (head ++ opening_parenthesis ∷ a) ++ closing_parenthesis ∷ [] =
+    let same : head ++ opening_parenthesis ∷ (a ++ closing_parenthesis ∷ []) ≡ (head ++ opening_parenthesis ∷ a) ++
+    closing_parenthesis ∷ [] =
     sym (append_assoc head (opening_parenthesis ∷ a) (closing_parenthesis ∷ [])) in
-    let n : length ((head ++ opening_parenthesis ∷ a) ++ closing_parenthesis ∷ []) - 1 ≡ length (head ++ opening_parenthesis ∷ a) =
+    let n : length ((head ++ opening_parenthesis ∷ a) ++ closing_parenthesis ∷ []) - 1 ≡ length
+    (head ++ opening_parenthesis ∷ a) =
     omega (arith, length_push (head ++ opening_parenthesis ∷ a) closing_parenthesis) in
     ap (λ (t : List ℕ). get_or t (length t - 1) 0) same
     ∙ ap (λ (i : ℕ). get_or ((head ++ opening_parenthesis ∷ a) ++ closing_parenthesis ∷ []) i 0) n
-    ∙ get_or_at (head ++ opening_parenthesis ∷ a) closing_parenthesis [] 0 (length (head ++ opening_parenthesis ∷ a)) refl
+    ∙ get_or_at (head ++ opening_parenthesis ∷ a) closing_parenthesis [] 0 (length (head ++ opening_parenthesis ∷ a))
+    refl
 
 argument_complete : (k : ℕ) (head : List ℕ) (argument : Option (List ℕ)) → lacks opening_parenthesis head ≡ true
     → argument_at k (head ++ argument_text argument) ≡ Ok (head, argument)
 unfolding argument_at
-argument_complete k head None absent = ap (argument_at k) (append-nil head) ∙ rw (has_none opening_parenthesis head absent) refl
+argument_complete k head None absent = ap (argument_at k) (append-nil head) ∙
+    rw (has_none opening_parenthesis head absent) refl
 argument_complete k head (Some a) absent =
     let inner : take (length (a ++ closing_parenthesis ∷ []) - 1) (a ++ closing_parenthesis ∷ []) ≡ a =
-    take_at a (closing_parenthesis ∷ []) (length (a ++ closing_parenthesis ∷ []) - 1) (omega (arith, length_push a closing_parenthesis)) in
+    take_at a (closing_parenthesis ∷ []) (length (a ++ closing_parenthesis ∷ []) - 1)
+    (omega (arith, length_push a closing_parenthesis)) in
     rw (
       has_at opening_parenthesis head (a ++ closing_parenthesis ∷ []) absent,
-      eq-eqb (get_or (head ++ opening_parenthesis ∷ (a ++ closing_parenthesis ∷ [])) (length (head ++ opening_parenthesis ∷ (a ++ closing_parenthesis ∷ [])) - 1) 0) closing_parenthesis (closed head a),
+      eq-eqb (get_or (head ++ opening_parenthesis ∷ (a ++ closing_parenthesis ∷ []))
+          (length (head ++ opening_parenthesis ∷ (a ++ closing_parenthesis ∷ [])) - 1) 0) closing_parenthesis
+          (closed head a),
       before_at opening_parenthesis head (a ++ closing_parenthesis ∷ []) absent,
       after_at opening_parenthesis head (a ++ closing_parenthesis ∷ []) absent,
       inner,
@@ -197,7 +207,8 @@ head_lacks c w t m no_digit no_letter no_point no_sign no_star =
 term_complete : (k : ℕ) (w : WrittenTerm) (t : TermValue) → Means w t → term_at k (core_text w) ≡ Ok t
 unfolding term_at
 term_complete k w t m =
-    let argument = argument_complete k (head_text w) w.argument (head_lacks opening_parenthesis w t m refl refl refl refl refl) in
+    let argument = argument_complete k (head_text w) w.argument
+    (head_lacks opening_parenthesis w t m refl refl refl refl refl) in
     let tail_lacks =
     lacks-append percent_sign (count_text w.count) w.word (count_lacks percent_sign w.count t.count refl refl m.count)
     (rw m.word (word_lacks percent_sign t.task refl)) in
@@ -218,7 +229,8 @@ head_some w t m =
       length-append (count_text w.count) w.word,
     )
 
-pub begins_without : (c : ℕ) (xs ys : List ℕ) → lacks c xs ≡ true → 0 < length xs → (rest : List ℕ) → xs ++ ys ≢ c ∷ rest
+pub begins_without : (c : ℕ) (xs ys : List ℕ) → lacks c xs ≡ true → 0 < length xs → (rest : List ℕ) →
+    xs ++ ys ≢ c ∷ rest
 begins_without c [] ys h some = λ rest e. omega (arith, some)
 begins_without c (x ∷ xs) ys h some = λ rest e.
     let same : x ≡ c = cc in
@@ -257,7 +269,8 @@ trimmed_term w t m =
 
 piece_complete : (k : ℕ) (piece : List ℕ) (t : TermValue) → SpellsTerm piece t → term_at k (trimmed_text piece) ≡ Ok t
 piece_complete k piece t s =
-    ap (λ (x : List ℕ). term_at k (trimmed_text x)) s.2 ∙ ap (term_at k) (trimmed_term s.0 t s.1) ∙ term_complete k s.0 t s.1
+    ap (λ (x : List ℕ). term_at k (trimmed_text x)) s.2 ∙ ap (term_at k) (trimmed_term s.0 t s.1) ∙
+    term_complete k s.0 t s.1
 
 terms_complete : (k : ℕ) (ps : List (List ℕ)) (ts : List TermValue) → SpellEach ps ts → terms_at k ps ≡ Ok ts
 unfolding terms_at

@@ -21,7 +21,8 @@ nonempty entry = ltb 0 (length entry)
 
 -- ---- steps that did not fail
 
-pub terms_ok : (k : ℕ) (r : Result (List TermValue) ActionFault) (ts : List TermValue) → terms_read k r ≡ Ok ts → r ≡ Ok ts
+pub terms_ok : (k : ℕ) (r : Result (List TermValue) ActionFault) (ts : List TermValue) → terms_read k r ≡ Ok ts →
+    r ≡ Ok ts
 terms_ok k (Ok xs) ts e = ap Ok (ok_is xs ts e)
 terms_ok k (Err f) ts e = err_is_ok (faults.BadActions k f) ts e
 
@@ -38,10 +39,12 @@ regroup front n (Err f) = refl
 
 goes_on : (front : List Point) (k : ℕ) (entry : List ℕ) (others : List (List ℕ)) (n : Point) (total : Reads)
     → entry_at k entry ≡ Ok n
-    → with_front front (entries_at k (entry ∷ others)) ≡ total → with_front (front ++ n ∷ []) (entries_at (k + 1) others) ≡ total
+    → with_front front (entries_at k (entry ∷ others)) ≡ total →
+    with_front (front ++ n ∷ []) (entries_at (k + 1) others) ≡ total
 unfolding entries_at
 goes_on front k entry others n total h so_far =
-    let one : with_front front (entries_at k (entry ∷ others)) ≡ with_front (front ++ n ∷ []) (entries_at (k + 1) others) =
+    let one : with_front front (entries_at k (entry ∷ others)) ≡ with_front (front ++ n ∷ [])
+    (entries_at (k + 1) others) =
     rw h (regroup front n (entries_at (k + 1) others)) in
     sym one ∙ so_far
 
@@ -54,9 +57,11 @@ stops f front k entry others total h so_far =
     sym so_far ∙ one
 
 ends : (e : SettingFault) (front : List Point) (k : ℕ) (entry : List ℕ) (others : List (List ℕ)) (total : Reads)
-    → FailsUnless is_out_of_memory e (entry_at k entry) → with_front front (entries_at k (entry ∷ others)) ≡ total → FailsUnless is_out_of_memory e total
+    → FailsUnless is_out_of_memory e (entry_at k entry) → with_front front (entries_at k (entry ∷ others)) ≡ total →
+    FailsUnless is_out_of_memory e total
 ends e front k entry others total h so_far =
-    fails_along is_out_of_memory e (entry_at k entry) total (λ f refused. stops f front k entry others total refused so_far) h
+    fails_along is_out_of_memory e (entry_at k entry) total (λ f refused. stops f front k entry others total refused
+    so_far) h
 
 is_done : (front : List Point) (k : ℕ) (total : Reads) → with_front front (entries_at k []) ≡ total
     → total ≡ Ok front
@@ -72,7 +77,8 @@ at_turn : (parts : List (Bor (List ℕ))) (i : ℕ) (d : Bor (List ℕ)) → i <
     → texts (drop i parts) ≡ (get_or parts i d).now ∷ texts (drop (i + 1) parts)
 at_turn parts i d lt = ap texts (drop_more parts i d lt)
 
-pub goes_on_at : (front : List Point) (parts : List (Bor (List ℕ))) (i : ℕ) (d : Bor (List ℕ)) (n : Point) (total : Reads)
+pub goes_on_at : (front : List Point) (parts : List (Bor (List ℕ))) (i : ℕ) (d : Bor (List ℕ)) (n : Point)
+    (total : Reads)
     → i < length parts → entry_at i (get_or parts i d).now ≡ Ok n
     → with_front front (entries_at i (texts (drop i parts))) ≡ total
     → with_front (front ++ n ∷ []) (entries_at (i + 1) (texts (drop (i + 1) parts))) ≡ total
@@ -80,7 +86,8 @@ goes_on_at front parts i d n total lt h so_far =
     goes_on front i (get_or parts i d).now (texts (drop (i + 1) parts)) n total h
     (ap (λ (x : List (List ℕ)). with_front front (entries_at i x)) (sym (at_turn parts i d lt)) ∙ so_far)
 
-pub ends_at : (e : SettingFault) (front : List Point) (parts : List (Bor (List ℕ))) (i : ℕ) (d : Bor (List ℕ)) (total : Reads)
+pub ends_at : (e : SettingFault) (front : List Point) (parts : List (Bor (List ℕ))) (i : ℕ) (d : Bor (List ℕ))
+    (total : Reads)
     → i < length parts → FailsUnless is_out_of_memory e (entry_at i (get_or parts i d).now)
     → with_front front (entries_at i (texts (drop i parts))) ≡ total → FailsUnless is_out_of_memory e total
 ends_at e front parts i d total lt h so_far =

@@ -21,7 +21,8 @@ regroup front n (Err f) = refl
 
 pub goes_on : (front : List TermValue) (k : ℕ) (piece : List ℕ) (others : List (List ℕ)) (n : TermValue) (total : Reads)
     → term_at k (trimmed_text piece) ≡ Ok n
-    → with_front front (terms_at k (piece ∷ others)) ≡ total → with_front (front ++ n ∷ []) (terms_at (k + 1) others) ≡ total
+    → with_front front (terms_at k (piece ∷ others)) ≡ total →
+    with_front (front ++ n ∷ []) (terms_at (k + 1) others) ≡ total
 unfolding terms_at
 goes_on front k piece others n total h so_far =
     let one : with_front front (terms_at k (piece ∷ others)) ≡ with_front (front ++ n ∷ []) (terms_at (k + 1) others) =
@@ -40,7 +41,8 @@ pub ends : (e : ActionFault) (front : List TermValue) (k : ℕ) (piece : List �
     → FailsUnless is_out_of_memory e (term_at k (trimmed_text piece))
     → with_front front (terms_at k (piece ∷ others)) ≡ total → FailsUnless is_out_of_memory e total
 ends e front k piece others total h so_far =
-    fails_along is_out_of_memory e (term_at k (trimmed_text piece)) total (λ f refused. stops f front k piece others total refused so_far) h
+    fails_along is_out_of_memory e (term_at k (trimmed_text piece)) total
+    (λ f refused. stops f front k piece others total refused so_far) h
 
 pub is_done : (front : List TermValue) (k : ℕ) (total : Reads) → with_front front (terms_at k []) ≡ total
     → total ≡ Ok front
@@ -56,7 +58,8 @@ at_turn : (parts : List (Bor (List ℕ))) (i : ℕ) (d : Bor (List ℕ)) → i <
     → texts (drop i parts) ≡ (get_or parts i d).now ∷ texts (drop (i + 1) parts)
 at_turn parts i d lt = ap texts (drop_more parts i d lt)
 
-pub goes_on_at : (front : List TermValue) (parts : List (Bor (List ℕ))) (i : ℕ) (d : Bor (List ℕ)) (n : TermValue) (total : Reads)
+pub goes_on_at : (front : List TermValue) (parts : List (Bor (List ℕ))) (i : ℕ) (d : Bor (List ℕ)) (n : TermValue)
+    (total : Reads)
     → i < length parts → term_at i (trimmed_text (get_or parts i d).now) ≡ Ok n
     → with_front front (terms_at i (texts (drop i parts))) ≡ total
     → with_front (front ++ n ∷ []) (terms_at (i + 1) (texts (drop (i + 1) parts))) ≡ total
@@ -64,7 +67,8 @@ goes_on_at front parts i d n total lt h so_far =
     goes_on front i (get_or parts i d).now (texts (drop (i + 1) parts)) n total h
     (ap (λ (x : List (List ℕ)). with_front front (terms_at i x)) (sym (at_turn parts i d lt)) ∙ so_far)
 
-pub ends_at : (e : ActionFault) (front : List TermValue) (parts : List (Bor (List ℕ))) (i : ℕ) (d : Bor (List ℕ)) (total : Reads)
+pub ends_at : (e : ActionFault) (front : List TermValue) (parts : List (Bor (List ℕ))) (i : ℕ) (d : Bor (List ℕ))
+    (total : Reads)
     → i < length parts → FailsUnless is_out_of_memory e (term_at i (trimmed_text (get_or parts i d).now))
     → with_front front (terms_at i (texts (drop i parts))) ≡ total → FailsUnless is_out_of_memory e total
 ends_at e front parts i d total lt h so_far =

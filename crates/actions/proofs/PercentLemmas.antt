@@ -76,5 +76,10 @@ pub one_printed : (n : ℕ) → fourth n ≡ 0 → third n ≡ 0 → second n �
 one_printed n no_fourth no_third no_second some =
     printed_from n (digit (first n) ∷ []) _
     (λ none. some (omega (arith, none)))
-    (rw (is_zero (fourth n) no_fourth, is_zero (third n) no_third, is_zero (second n) no_second, not_zero (first n) some) refl)
+    (rw (
+      is_zero (fourth n) no_fourth,
+      is_zero (third n) no_third,
+      is_zero (second n) no_second,
+      not_zero (first n) some,
+    ) refl)
     (rw (decimal_digit (first n) (omega arith)) refl)

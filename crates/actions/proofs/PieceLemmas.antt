@@ -56,7 +56,8 @@ piece w x rest live (Some q) finds h =
     let t = h (omega (arith, at.ends)) in
     let whole : w ≡ take q.0 w ++ dash ∷ greater_sign ∷ drop q.1 w =
     sym (take-append-drop q.0 w) ∙ ap (λ (y : List ℕ). take q.0 w ++ y) at.split in
-    let lacks : (i : ℕ) → i < length (take q.0 w) → LacksTextAt arrow (take q.0 w ++ dash ∷ greater_sign ∷ drop q.1 w) i =
+    let lacks : (i : ℕ) → i < length (take q.0 w) → LacksTextAt arrow (take q.0 w ++ dash ∷ greater_sign ∷ drop q.1 w)
+    i =
     λ i lt. subst (λ (y : List ℕ). LacksTextAt arrow y i) whole (finds.0 i (omega (arith, length-take q.0 w))) in
     rw (t.1, t.0, t.2) (ap pieces whole ∙ pieces_first (take q.0 w) (drop q.1 w) lacks)
 
@@ -203,7 +204,8 @@ pub pieces_joined : (ps : List (List ℕ)) → 0 < length ps → NoArrows ps →
 pieces_joined [] some h = absurd (omega arith)
 pieces_joined (p ∷ []) some h = cut_none p h.0
 pieces_joined (p ∷ q ∷ ps) some h =
-    cut_first p (with_arrows (q ∷ ps)) h.0 ∙ ap (λ (x : List (List ℕ)). p ∷ x) (pieces_joined (q ∷ ps) (omega arith) h.1)
+    cut_first p (with_arrows (q ∷ ps)) h.0 ∙ ap (λ (x : List (List ℕ)). p ∷ x)
+    (pieces_joined (q ∷ ps) (omega arith) h.1)
 
 -- ---- `->` in a part and in a whole
 

@@ -80,7 +80,8 @@ trimmed_setting : (m : ℕ) (name text : List ℕ) (n : ℕ) → is_name name �
     → trimmed_text (entry_text (setting m name text n)) ≡ name ++ equals_sign ∷ text
 trimmed_setting m name text n named bare =
     let tail = equals_sign ∷ (text ++ replicate n space) in
-    ap (λ (x : List ℕ). trimmed_text (replicate m space ++ x)) (sym (append_assoc name (equals_sign ∷ text) (replicate n space)))
+    ap (λ (x : List ℕ). trimmed_text (replicate m space ++ x))
+    (sym (append_assoc name (equals_sign ∷ text) (replicate n space)))
     ∙ trimmed_between m n (name ++ equals_sign ∷ text)
     (λ rest e. begins_without space name tail (name_lacks space name refl named) (name_parts name named).0 rest
     (sym (append_assoc name (equals_sign ∷ text) (replicate n space)) ∙ e))
@@ -154,7 +155,8 @@ entries_complete (e ∷ es) points h =
     (split_joined semicolon (entry_text e) (map entry_text es) (all_lack (e ∷ es) points h))
     ∙ parts_complete 0 (e ∷ es) points h
 
-pub setting_complete : (text : List ℕ) (points : List Point) → SpellsSetting text points → setting_reading text ≡ Ok points
+pub setting_complete : (text : List ℕ) (points : List Point) → SpellsSetting text points →
+    setting_reading text ≡ Ok points
 unfolding setting_reading
 setting_complete text points h =
     rw (le-ltb 65536 (length text) h.short)

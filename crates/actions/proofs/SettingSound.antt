@@ -109,7 +109,8 @@ set_written k part parts point points read others =
       SettingGrammar.setting p.0 name text p.1 ∷ others.0,
       (s.0.0, s.0.1, s.0.2, s.0.3, others.1),
       ap (λ (x : List ℕ). x ∷ parts) whole
-          ∙ ap (λ (x : List (List ℕ)). (replicate p.0 space ++ (name ++ equals_sign ∷ (text ++ replicate p.1 space))) ∷ x) others.2,
+          ∙ ap (λ (x : List (List ℕ)). (replicate p.0 space ++ (name ++ equals_sign ∷ (text ++ replicate p.1 space))) ∷
+          x) others.2,
     )
 
 -- the first entry is kept or not
@@ -127,7 +128,8 @@ parts_sound k (part ∷ parts) points e =
     let others = filter nonempty (map trimmed_text parts) in
     turn k (nonempty (trimmed_text part)) (trimmed_text part) others points
     (λ _ read.
-    let a = bind_ok (entry_at k (trimmed_text part)) (λ first. entries_at (k + 1) others >>= λ rest. Ok (first ∷ rest)) points read in
+    let a = bind_ok (entry_at k (trimmed_text part)) (λ first. entries_at (k + 1) others >>= λ rest. Ok (first ∷ rest))
+    points read in
     let b = bind_ok (entries_at (k + 1) others) (λ rest. Ok (a.0 ∷ rest)) points a.2 in
     subst (λ (ps : List Point). Written (part ∷ parts) ps) (ok_is (a.0 ∷ b.0) points b.2)
     (set_written k part parts a.0 b.0 a.1 (parts_sound (k + 1) parts b.0 b.1)))

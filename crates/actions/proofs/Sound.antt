@@ -47,7 +47,8 @@ some_bind : {A B : Type 0} (o : Option A) (f : A → Option B) (y : B) → optio
 some_bind (Some x) f y e = (x, refl, e)
 some_bind None f y e = absurd cc
 
-decimals_sound : (ds : List ℕ) (n : ℕ) → decimals_at ds ≡ Some n → IsShort 4 ds × (digits_value 10 (four_decimals ds) ≡ n)
+decimals_sound : (ds : List ℕ) (n : ℕ) → decimals_at ds ≡ Some n →
+    IsShort 4 ds × (digits_value 10 (four_decimals ds) ≡ n)
 unfolding decimals_at
 decimals_sound ds n e =
     let a = some_bind (short_number_at 4 ds) (λ _. Some (digits_value 10 (four_decimals ds))) n e in
@@ -84,7 +85,8 @@ percent_sound text ppm e =
     let s = short_sound 3 (text_before point text) a.0 a.1 in
     let d = decimals_sound (text_after point text) b.0 b.1 in
     let c = capped (a.0 * 10000 + b.0) ppm b.2 in
-    let value : ppm ≡ digits_value 10 (text_before point text) * 10000 + digits_value 10 (four_decimals (text_after point text)) =
+    let value : ppm ≡ digits_value 10 (text_before point text) * 10000 + digits_value 10
+    (four_decimals (text_after point text)) =
     omega (arith, c.0, s.1, d.1) in (
       Grammar.pointed (text_before point text) (text_after point text),
       (s.0, d.0, value, c.1),
@@ -109,10 +111,12 @@ argument_sound k text head argument e =
     branch (eqb (get_or text (length text - 1) 0) closing_parenthesis) _ _ _
     (λ closed found.
     let last = eqb-true (get_or text (length text - 1) 0) closing_parenthesis closed in
-    let l = last_of (text_before opening_parenthesis text) a (subst (λ (t : List ℕ). get_or t (length t - 1) 0 ≡ closing_parenthesis) parts last) in
+    let l = last_of (text_before opening_parenthesis text) a
+    (subst (λ (t : List ℕ). get_or t (length t - 1) 0 ≡ closing_parenthesis) parts last) in
     let inner : take (length a - 1) a ≡ l.0 =
     ap (λ (x : List ℕ). take (length x - 1) x) l.1
-    ∙ take_at l.0 (closing_parenthesis ∷ []) (length (l.0 ++ closing_parenthesis ∷ []) - 1) (omega (arith, length-append l.0 (closing_parenthesis ∷ []))) in
+    ∙ take_at l.0 (closing_parenthesis ∷ []) (length (l.0 ++ closing_parenthesis ∷ []) - 1)
+    (omega (arith, length-append l.0 (closing_parenthesis ∷ []))) in
     let whole : text ≡ text_before opening_parenthesis text ++ argument_text (Some (take (length a - 1) a)) =
     parts
     ∙ ap (λ (x : List ℕ). text_before opening_parenthesis text ++ opening_parenthesis ∷ x)
@@ -160,7 +164,8 @@ count_sound k head n rest e =
     bind_ok (ok_or (number_at (text_before star head)) (faults.BadCount k)) (λ n. Ok (Some n, text_after star head))
     (n, rest) given in
     let p =
-    number_sound (text_before star head) b.0 (refuse_ok (faults.BadCount k) (number_at (text_before star head)) b.0 b.1) in
+    number_sound (text_before star head) b.0 (refuse_ok (faults.BadCount k) (number_at (text_before star head)) b.0
+    b.1) in
     let whole : head ≡ count_text (Some (text_before star head)) ++ text_after star head =
     parts ∙ sym (append_assoc (text_before star head) (star ∷ []) (text_after star head)) in
     subst (λ (q : Option ℕ × List ℕ). (ds : Option (List ℕ)) × CountIs ds q.0 × (head ≡ count_text ds ++ q.1))
@@ -241,7 +246,13 @@ piece_sound k piece t e =
     let s = term_sound k (trimmed_text piece) t e in
     let p = trimmed_parts piece in
     let w : WrittenTerm = record s.0 { before = p.0; after = p.1 } in
-    let means : Means w t = record { chance = s.1.chance; count = s.1.count; word = s.1.word; argument = s.1.argument } in
+    let means : Means w t = record {
+      chance = s.1.chance;
+      count = s.1.count;
+      word = s.1.word;
+      argument =
+          s.1.argument;
+    } in
     (w, means, p.2 ∙ ap (λ (x : List ℕ). replicate p.0 space ++ (x ++ replicate p.1 space)) s.2)
 
 terms_sound : (k : ℕ) (ps : List (List ℕ)) (ts : List TermValue) → NoArrows ps → terms_at k ps ≡ Ok ts
@@ -272,7 +283,8 @@ all_plain (b ∷ bs) e =
     (λ _ none. absurd (omega (arith, none)))
     e
 
-not_barred : (o : Option ℕ) (read : Result (List TermValue) ActionFault) (ts : List TermValue) → unless_bad_byte o read ≡ Ok ts
+not_barred : (o : Option ℕ) (read : Result (List TermValue) ActionFault) (ts : List TermValue) →
+    unless_bad_byte o read ≡ Ok ts
     → (o ≡ None) × (read ≡ Ok ts)
 not_barred (Some i) read ts e = err_is_ok (faults.BadByte i) ts e
 not_barred None read ts e = (refl, e)

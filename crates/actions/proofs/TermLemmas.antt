@@ -13,10 +13,12 @@ pub split_last : (b : ℕ) (bs : List ℕ) → (b ∷ bs) ≡ take (length bs) (
 split_last b bs = sym (take_all (length bs + 1) (b ∷ bs) (omega arith)) ∙ take_more (b ∷ bs) (length bs) 0 (omega arith)
 
 -- what ends with a `)` behind a `(` has it in what follows that `(`
-pub last_of : (xs a : List ℕ) → get_or (xs ++ opening_parenthesis ∷ a) (length (xs ++ opening_parenthesis ∷ a) - 1) 0 ≡ closing_parenthesis
+pub last_of : (xs a : List ℕ) → get_or (xs ++ opening_parenthesis ∷ a) (length (xs ++ opening_parenthesis ∷ a) - 1) 0 ≡
+    closing_parenthesis
     → (front : List ℕ) × (a ≡ front ++ closing_parenthesis ∷ [])
 last_of xs [] e =
-    let n : length (xs ++ opening_parenthesis ∷ []) - 1 ≡ length xs = omega (arith, length-append xs (opening_parenthesis ∷ [])) in
+    let n : length (xs ++ opening_parenthesis ∷ []) - 1 ≡ length xs =
+    omega (arith, length-append xs (opening_parenthesis ∷ [])) in
     absurd (omega (arith, rw n at e, get_or_at xs opening_parenthesis [] 0 (length xs) refl))
 last_of xs (b ∷ bs) e =
     let n : length (xs ++ opening_parenthesis ∷ b ∷ bs) - 1 ≡ length xs + suc (length bs) =
@@ -26,13 +28,15 @@ last_of xs (b ∷ bs) e =
     ∙ ap (λ (i : ℕ). get_or (xs ++ opening_parenthesis ∷ b ∷ bs) i 0) (sym n) ∙ e in
     (take (length bs) (b ∷ bs), split_last b bs ∙ ap (λ (x : ℕ). take (length bs) (b ∷ bs) ++ x ∷ []) there)
 
-pub unclosed : (k : ℕ) (text xs a : List ℕ) → text ≡ xs ++ opening_parenthesis ∷ a → has_byte opening_parenthesis text ≡ true
+pub unclosed : (k : ℕ) (text xs a : List ℕ) → text ≡ xs ++ opening_parenthesis ∷ a →
+    has_byte opening_parenthesis text ≡ true
     → ((front : List ℕ) → a ≢ front ++ closing_parenthesis ∷ []) → argument_at k text ≡ Err (Unclosed k)
 unfolding argument_at
 unclosed k text xs a e h lacks =
     let open_end : eqb (get_or text (length text - 1) 0) closing_parenthesis ≡ false =
     ne_eqb (get_or text (length text - 1) 0) closing_parenthesis
-    (λ last. let p = last_of xs a (subst (λ (t : List ℕ). get_or t (length t - 1) 0 ≡ closing_parenthesis) e last) in lacks p.0 p.1) in
+    (λ last. let p = last_of xs a (subst (λ (t : List ℕ). get_or t (length t - 1) 0 ≡ closing_parenthesis) e last) in
+    lacks p.0 p.1) in
     rw (h, open_end) refl
 
 different : (xs ys : List ℕ) → xs ≢ ys → bytes_eq xs ys ≡ false

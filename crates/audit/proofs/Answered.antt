@@ -21,27 +21,40 @@ use Rattle.audit.specs.Traces.{Traces, IsSized, audited}
 use Rattle.audit.proofs.Scheduled.{escrow_of}
 use Rattle.audit.proofs.Tallied.{totals_told}
 
-module _ (nodes : ℕ) (traces : Traces) (sized : IsSized nodes traces) (order : Vec (ℕ × ℕ) Global) (is : IsOrder nodes traces order.items) where
-  pub answer_is : (lists : Lists) → AreReceipts traces lists → (r : Result AuditYes AuditFault) → IfOk r (λ found. found.order ≡ order) → IfErr r (λ fault. fault ≡ OutOfMemory) → IsAudited nodes traces lists r
-  answer_is lists receipts (Ok found) same none = (sized, subst (λ (o : Vec (ℕ × ℕ) Global). IsOrder nodes traces o.items) (sym same) is, receipts)
+module _ (nodes : ℕ) (traces : Traces) (sized : IsSized nodes traces) (order : Vec (ℕ × ℕ) Global)
+    (is : IsOrder nodes traces order.items) where
+  pub answer_is : (lists : Lists) → AreReceipts traces lists → (r : Result AuditYes AuditFault) →
+      IfOk r (λ found. found.order ≡ order) → IfErr r (λ fault. fault ≡ OutOfMemory) → IsAudited nodes traces lists r
+  answer_is lists receipts (Ok found) same none = (
+    sized,
+    subst
+        (λ (o : Vec (ℕ × ℕ) Global). IsOrder nodes traces o.items) (sym same) is,
+    receipts,
+  )
   answer_is lists receipts (Err fault) none same = subst (λ f. IsAudited nodes traces lists (Err f)) (sym same) sized
 
-  pub totals_are : (tally : Tally) → IsTallied tally nodes traces nodes → (r : Result AuditYes AuditFault) → IfOk r (λ found. found.order ≡ order) → IfOk r (λ found. AreTotalsIn tally found.totals.items) →
+  pub totals_are : (tally : Tally) → IsTallied tally nodes traces nodes → (r : Result AuditYes AuditFault) →
+      IfOk r (λ found. found.order ≡ order) → IfOk r (λ found. AreTotalsIn tally found.totals.items) →
       IfOk r (λ found. AreTotals (audited nodes) (events_in nodes traces found.order.items) found.totals.items)
   totals_are tally tallied (Err fault) same made = tt
   totals_are tally tallied (Ok found) same made =
-      subst (λ (o : Vec (ℕ × ℕ) Global). AreTotals (audited nodes) (events_in nodes traces o.items) found.totals.items) (sym same)
+      subst (λ (o : Vec (ℕ × ℕ) Global). AreTotals (audited nodes) (events_in nodes traces o.items) found.totals.items)
+      (sym same)
       (totals_told nodes traces tally found.totals.items tallied made (events_in nodes traces order.items)
       (deltas_are_schedules (audited nodes) (events_in nodes traces order.items) is.schedule.schedule)
       (λ i. is.schedule.told i ∙ ap (λ es. map (call nodes) es) (is.schedule.whole i)))
 
-  pub escrow_is : (r : Result AuditYes AuditFault) → IfOk r (λ found. found.order ≡ order) → IfOk r (λ found. EscrowHolds (audited nodes) (events_in nodes traces found.order.items))
+  pub escrow_is : (r : Result AuditYes AuditFault) → IfOk r (λ found. found.order ≡ order) →
+      IfOk r (λ found. EscrowHolds (audited nodes) (events_in nodes traces found.order.items))
   escrow_is (Err fault) same = tt
   escrow_is (Ok found) same =
-      subst (λ (o : Vec (ℕ × ℕ) Global). EscrowHolds (audited nodes) (events_in nodes traces o.items)) (sym same) (escrow_of nodes traces sized order.items is)
+      subst (λ (o : Vec (ℕ × ℕ) Global). EscrowHolds (audited nodes) (events_in nodes traces o.items)) (sym same)
+      (escrow_of nodes traces sized order.items is)
 
 -- what is wrong with the receipts of traces that a schedule fits
-pub fault_is : (nodes : ℕ) (traces : Traces) → IsSized nodes traces → SomeFits nodes traces → (lists : Lists) (fault : ReceiptFault) → IsChecked traces lists (Err fault) → IsAudited nodes traces lists (Err (fault_told fault))
+pub fault_is : (nodes : ℕ) (traces : Traces) → IsSized nodes traces → SomeFits nodes traces →
+    (lists : Lists) (fault : ReceiptFault) → IsChecked traces lists (Err fault) →
+    IsAudited nodes traces lists (Err (fault_told fault))
 fault_is nodes traces sized some lists reasons.Differs h = (sized, some, h)
 fault_is nodes traces sized some lists reasons.Twice h = (sized, some, h.0, h.1)
 fault_is nodes traces sized some lists reasons.Missing h = (sized, some, h.0, h.1, h.2)

@@ -14,7 +14,8 @@ use Rattle.audit.specs.Answers.{IsAudited, IsAuditable, IsYesOrRefused}
 use Rattle.audit.proofs.Replayed.{legal_begins}
 use Rattle.audit.proofs.Scheduled.{some_fits, legal_of_fits, order_of_fits}
 
-pub orders_are_schedules : (nodes : ℕ) (traces : Traces) → IsSized nodes traces → SomeFits nodes traces ↔ (AllLegal nodes traces × ((order : List (ℕ × ℕ)) × Fits traces order))
+pub orders_are_schedules : (nodes : ℕ) (traces : Traces) → IsSized nodes traces →
+    SomeFits nodes traces ↔ (AllLegal nodes traces × ((order : List (ℕ × ℕ)) × Fits traces order))
 orders_are_schedules nodes traces sized = (
   λ some. (legal_of_fits nodes traces some, order_of_fits nodes traces some),
   λ h. some_fits nodes traces sized h.0 h.1.0 h.1.1,
@@ -41,5 +42,6 @@ yes_when nodes traces lists (Err (faults.OutOfOrder l p)) a y =
     let late = a.5 in
     let P : Vec Receipt Global → Type 0 = λ v. Ascends v.items in
     let inside : l < length lists = slice_get_within lists l late.list late.there in
-    let ascends : Ascends late.list.items = subst P (get_or_from_slice_get lists l late.list late.list late.there) (y.receipts.ascend l late.list inside) in
+    let ascends : Ascends late.list.items = subst P (get_or_from_slice_get lists l late.list late.list late.there)
+    (y.receipts.ascend l late.list inside) in
     absurd (ascends p late.late)

@@ -22,7 +22,8 @@ pub record IsLegalCall (config : Config) (entries : ℕ) (n : Node) (c : Call) :
   pub sends : SendsDelta n c.ask
   pub reply : c.reply ≡ reply config.node n c.ask c.words
 
-pub legal_parts : (config : Config) (entries : ℕ) (n : Node) (trace : List Call) (c : Call) → IsLegalFrom config entries n (trace ++ c ∷ []) →
+pub legal_parts : (config : Config) (entries : ℕ) (n : Node) (trace : List Call) (c : Call) →
+    IsLegalFrom config entries n (trace ++ c ∷ []) →
     IsLegalFrom config entries n trace × IsLegalCall config (entries + length trace) (replay_from config.node n trace) c
 unfolding IsLegalFrom replay_from
 legal_parts config entries n [] c legal =
@@ -30,17 +31,24 @@ legal_parts config entries n [] c legal =
     (tt, subst (λ k. IsLegalCall config k n c) here (record { agreed = legal.0; sends = legal.1; reply = legal.2 }))
 legal_parts config entries n (d ∷ trace) c legal =
     let rest = legal_parts config (entries + 1) (after config.node n d.ask d.words) trace c legal.3 in
-    let places : entries + 1 + length trace ≡ entries + length (d ∷ trace) = omega arith in
-    ((legal.0, legal.1, legal.2, rest.0), subst (λ k. IsLegalCall config k (replay_from config.node (after config.node n d.ask d.words) trace) c) places rest.1)
+    let places : entries + 1 + length trace ≡ entries + length (d ∷ trace) = omega arith in (
+      (legal.0, legal.1, legal.2, rest.0),
+      subst (λ k. IsLegalCall config k
+          (replay_from config.node (after config.node n d.ask d.words) trace) c) places rest.1,
+    )
 
-pub legal_with : (config : Config) (entries : ℕ) (n : Node) (trace : List Call) (c : Call) → IsLegalFrom config entries n trace →
-    IsLegalCall config (entries + length trace) (replay_from config.node n trace) c → IsLegalFrom config entries n (trace ++ c ∷ [])
+pub legal_with : (config : Config) (entries : ℕ) (n : Node) (trace : List Call) (c : Call) →
+    IsLegalFrom config entries n trace →
+    IsLegalCall config (entries + length trace) (replay_from config.node n trace) c →
+    IsLegalFrom config entries n (trace ++ c ∷ [])
 legal_with config entries n trace c legal next =
-    subst (λ r. IsLegalFrom config entries n (trace ++ record { ask = c.ask; words = c.words; reply = r } ∷ [])) (sym next.reply)
+    subst (λ r. IsLegalFrom config entries n (trace ++ record { ask = c.ask; words = c.words; reply = r } ∷ []))
+    (sym next.reply)
     (legal_more config entries n trace c.ask c.words legal next.agreed next.sends)
 
 -- the call at an index of a legal trace
-pub legal_at : (config : Config) (entries : ℕ) (n : Node) (trace : List Call) (k : ℕ) (c : Call) → IsLegalFrom config entries n trace → slice_get trace k ≡ Some c →
+pub legal_at : (config : Config) (entries : ℕ) (n : Node) (trace : List Call) (k : ℕ) (c : Call) →
+    IsLegalFrom config entries n trace → slice_get trace k ≡ Some c →
     IsLegalCall config (entries + k) (replay_from config.node n (take k trace)) c
 unfolding IsLegalFrom replay_from
 legal_at config entries n [] k c legal is = absurd (cc is)
@@ -51,24 +59,29 @@ legal_at config entries n (d ∷ trace) zero c legal is =
     (subst (λ k. IsLegalCall config k n d) here (record { agreed = legal.0; sends = legal.1; reply = legal.2 }))
 legal_at config entries n (d ∷ trace) (suc k) c legal is =
     let places : entries + 1 + k ≡ entries + suc k = omega arith in
-    subst (λ j. IsLegalCall config j (replay_from config.node (after config.node n d.ask d.words) (take k trace)) c) places
+    subst (λ j. IsLegalCall config j (replay_from config.node (after config.node n d.ask d.words) (take k trace)) c)
+    places
     (legal_at config (entries + 1) (after config.node n d.ask d.words) trace k c legal.3 is)
 
 -- ---- an accepted call finds room, and else nothing depends on how much there is
 
-starts_free : (full : Bool) (rest : List (Option NodeFault)) → first_fault (then_some full faults.TraceFull ∷ rest) ≡ None → full ≡ false
+starts_free : (full : Bool) (rest : List (Option NodeFault)) →
+    first_fault (then_some full faults.TraceFull ∷ rest) ≡ None → full ≡ false
 starts_free false rest h = refl
 starts_free true rest h = absurd (let impossible : ⊥ = cc in impossible)
 
-the_rest : (full : Bool) (rest : List (Option NodeFault)) → first_fault (then_some full faults.TraceFull ∷ rest) ≡ None → first_fault rest ≡ None
+the_rest : (full : Bool) (rest : List (Option NodeFault)) → first_fault (then_some full faults.TraceFull ∷ rest) ≡
+    None → first_fault rest ≡ None
 the_rest false rest h = h
 the_rest true rest h = absurd (let impossible : ⊥ = cc in impossible)
 
-with_room : (full : Bool) (rest : List (Option NodeFault)) → full ≡ false → first_fault rest ≡ None → first_fault (then_some full faults.TraceFull ∷ rest) ≡ None
+with_room : (full : Bool) (rest : List (Option NodeFault)) → full ≡ false → first_fault rest ≡ None →
+    first_fault (then_some full faults.TraceFull ∷ rest) ≡ None
 with_room false rest free h = h
 with_room true rest free h = absurd (let impossible : ⊥ = cc in impossible)
 
-not_full : (config : Config) (entries : ℕ) (n : Node) (ask : Asked) (words : List ℕ) → refusal_at config entries n ask words ≡ None → is_full config entries ≡ false
+not_full : (config : Config) (entries : ℕ) (n : Node) (ask : Asked) (words : List ℕ) →
+    refusal_at config entries n ask words ≡ None → is_full config entries ≡ false
 not_full config entries n (asks.Set name text) words h = starts_free (is_full config entries) _ h
 not_full config entries n (asks.Remove name) words h = starts_free (is_full config entries) _ h
 not_full config entries n (asks.Load text) words h = starts_free (is_full config entries) _ h
@@ -85,13 +98,16 @@ no_more_than : (cap entries : ℕ) → entries < cap → nat_le cap entries ≡ 
 no_more_than cap entries h = grind (arith, nat_tests)
 
 -- a legal trace has no more calls than the node accepts
-pub legal_short : (config : Config) (entries : ℕ) (n : Node) (trace : List Call) → IsLegalFrom config entries n trace → entries ≤ config.trace_cap →
+pub legal_short : (config : Config) (entries : ℕ) (n : Node) (trace : List Call) → IsLegalFrom config entries n trace →
+    entries ≤ config.trace_cap →
     entries + length trace ≤ config.trace_cap
 unfolding IsLegalFrom
 legal_short config entries n [] legal small = omega (arith, small)
 legal_short config entries n (c ∷ trace) legal small =
-    let free : entries < config.trace_cap = room config.trace_cap entries (not_full config entries n c.ask c.words legal.0) in
-    let rest : entries + 1 + length trace ≤ config.trace_cap = legal_short config (entries + 1) (after config.node n c.ask c.words) trace legal.3 (omega (arith, free)) in
+    let free : entries < config.trace_cap = room config.trace_cap entries
+    (not_full config entries n c.ask c.words legal.0) in
+    let rest : entries + 1 + length trace ≤ config.trace_cap =
+    legal_short config (entries + 1) (after config.node n c.ask c.words) trace legal.3 (omega (arith, free)) in
     omega (arith, rest)
 
 module _ (nodes i small great : ℕ) where
@@ -101,19 +117,29 @@ module _ (nodes i small great : ℕ) where
   abbrev in_great : Config
   in_great = config_of (cluster_of nodes great) i
 
-  wider : (entries : ℕ) (n : Node) (ask : Asked) (words : List ℕ) → is_full in_great entries ≡ false → refusal_at in_small entries n ask words ≡ None →
+  wider : (entries : ℕ) (n : Node) (ask : Asked) (words : List ℕ) → is_full in_great entries ≡ false →
+      refusal_at in_small entries n ask words ≡ None →
       refusal_at in_great entries n ask words ≡ None
-  wider entries n (asks.Set name text) words free h = with_room (is_full in_great entries) _ free (the_rest (is_full in_small entries) _ h)
-  wider entries n (asks.Remove name) words free h = with_room (is_full in_great entries) _ free (the_rest (is_full in_small entries) _ h)
-  wider entries n (asks.Load text) words free h = with_room (is_full in_great entries) _ free (the_rest (is_full in_small entries) _ h)
-  wider entries n (asks.Pass name) words free h = with_room (is_full in_great entries) _ free (the_rest (is_full in_small entries) _ h)
-  wider entries n (asks.Shift name term to amount) words free h = with_room (is_full in_great entries) _ free (the_rest (is_full in_small entries) _ h)
-  wider entries n (asks.Grant name term amount) words free h = with_room (is_full in_great entries) _ free (the_rest (is_full in_small entries) _ h)
-  wider entries n (asks.Emit to versions chosen) words free h = with_room (is_full in_great entries) _ free (the_rest (is_full in_small entries) _ h)
-  wider entries n (asks.Deliver read) words free h = with_room (is_full in_great entries) _ free (the_rest (is_full in_small entries) _ h)
+  wider entries n (asks.Set name text) words free h = with_room (is_full in_great entries) _ free
+      (the_rest (is_full in_small entries) _ h)
+  wider entries n (asks.Remove name) words free h = with_room (is_full in_great entries) _ free
+      (the_rest (is_full in_small entries) _ h)
+  wider entries n (asks.Load text) words free h = with_room (is_full in_great entries) _ free
+      (the_rest (is_full in_small entries) _ h)
+  wider entries n (asks.Pass name) words free h = with_room (is_full in_great entries) _ free
+      (the_rest (is_full in_small entries) _ h)
+  wider entries n (asks.Shift name term to amount) words free h =
+      with_room (is_full in_great entries) _ free (the_rest (is_full in_small entries) _ h)
+  wider entries n (asks.Grant name term amount) words free h =
+      with_room (is_full in_great entries) _ free (the_rest (is_full in_small entries) _ h)
+  wider entries n (asks.Emit to versions chosen) words free h =
+      with_room (is_full in_great entries) _ free (the_rest (is_full in_small entries) _ h)
+  wider entries n (asks.Deliver read) words free h = with_room (is_full in_great entries) _ free
+      (the_rest (is_full in_small entries) _ h)
 
   -- it is legal too where the node accepts more
-  pub legal_wider : (entries : ℕ) (n : Node) (trace : List Call) → entries + length trace ≤ great → IsLegalFrom in_small entries n trace → IsLegalFrom in_great entries n trace
+  pub legal_wider : (entries : ℕ) (n : Node) (trace : List Call) → entries + length trace ≤ great →
+      IsLegalFrom in_small entries n trace → IsLegalFrom in_great entries n trace
   unfolding IsLegalFrom
   legal_wider entries n [] few legal = tt
   legal_wider entries n (c ∷ trace) few legal =

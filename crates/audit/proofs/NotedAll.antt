@@ -35,7 +35,9 @@ counts_none counts h = record {
   whole = λ name stamp term count c. absurd c.set;
 }
 
-pub tallied_none : (t : Tally) → t.counts.counts.entries ≡ [] → ((stamp : Stamp) (term : ℕ) → sum_of t.granted stamp term ≡ 0) → ((stamp : Stamp) (term : ℕ) → sum_of t.executed stamp term ≡ 0) →
+pub tallied_none : (t : Tally) → t.counts.counts.entries ≡ [] →
+    ((stamp : Stamp) (term : ℕ) → sum_of t.granted stamp term ≡ 0) →
+    ((stamp : Stamp) (term : ℕ) → sum_of t.executed stamp term ≡ 0) →
     (nodes : ℕ) (traces : Traces) → IsTallied t nodes traces 0
 tallied_none t h g x nodes traces = record {
   keys = counts_none t.counts h;
@@ -46,17 +48,21 @@ tallied_none t h g x nodes traces = record {
 }
 
 -- one call
-pub one_call : (old new : Tally) (i : ℕ) (n : Node) (c : Call) → AddsKeys old.counts new.counts (keys_by i n (Some c.ask)) →
-    ((stamp : Stamp) (term : ℕ) → sum_of new.granted stamp term ≡ sum_of old.granted stamp term + granted_by n c.ask stamp term) →
+pub one_call : (old new : Tally) (i : ℕ) (n : Node) (c : Call) →
+    AddsKeys old.counts new.counts (keys_by i n (Some c.ask)) →
+    ((stamp : Stamp) (term : ℕ) → sum_of new.granted stamp term ≡ sum_of old.granted stamp term + granted_by n c.ask
+    stamp term) →
     ((stamp : Stamp) (term : ℕ) → sum_of new.granted stamp term ≤ sum_of old.granted stamp term + 2 ^ 64) →
-    ((stamp : Stamp) (term : ℕ) → sum_of new.executed stamp term ≡ sum_of old.executed stamp term + cond (acts stamp term c.reply) 1 0) →
+    ((stamp : Stamp) (term : ℕ) → sum_of new.executed stamp term ≡ sum_of old.executed stamp term + cond
+    (acts stamp term c.reply) 1 0) →
     Notes old new i n (c ∷ [])
 one_call old new i n c keys granted few executed = record {
   keys = subst (λ ks. AddsKeys old.counts new.counts ks) (sym (append-nil (keys_by i n (Some c.ask)))) keys;
   granted = λ stamp term. let is = granted stamp term in omega (arith, is);
   executed = λ stamp term. executed stamp term ∙ ap (λ m. sum_of old.executed stamp term + m) (one stamp term);
   few_granted = λ stamp term. let most = few stamp term in omega (arith, most);
-  few_executed = λ stamp term. let is = executed stamp term in let most = at_most (acts stamp term c.reply) in omega (arith, is, most);
+  few_executed = λ stamp term. let is = executed stamp term in let most = at_most (acts stamp term c.reply) in
+      omega (arith, is, most);
 }
   where
     one : (stamp : Stamp) (term : ℕ) → cond (acts stamp term c.reply) 1 0 ≡ executed_in (c ∷ []) stamp term
@@ -76,27 +82,37 @@ notes_none t i n = record {
 }
 
 -- one call more
-pub notes_more : (a b d : Tally) (i : ℕ) (cs : List Call) (c : Call) → Notes a b i start cs → Notes b d i (replay_from i start cs) (c ∷ []) → Notes a d i start (cs ++ c ∷ [])
+pub notes_more : (a b d : Tally) (i : ℕ) (cs : List Call) (c : Call) → Notes a b i start cs →
+    Notes b d i (replay_from i start cs) (c ∷ []) → Notes a d i start (cs ++ c ∷ [])
 notes_more a b d i cs c first next = record {
   keys = subst (λ ks. AddsKeys a.counts d.counts ks) (sym (keys_more i start cs c))
-      (adds_behind a.counts b.counts d.counts (keys_from i start cs) (keys_by i (replay_from i start cs) (Some c.ask)) first.keys
-      (subst (λ ks. AddsKeys b.counts d.counts ks) (append-nil (keys_by i (replay_from i start cs) (Some c.ask))) next.keys));
-  granted = λ stamp term. let f = first.granted stamp term in let g = next.granted stamp term in let h = granted_more i start cs c stamp term in omega (arith, f, g, h);
+      (adds_behind a.counts b.counts d.counts (keys_from i start cs) (keys_by i (replay_from i start cs) (Some c.ask))
+      first.keys
+      (subst (λ ks. AddsKeys b.counts d.counts ks) (append-nil (keys_by i (replay_from i start cs) (Some c.ask)))
+      next.keys));
+  granted = λ stamp term. let f = first.granted stamp term in let g = next.granted stamp term in
+      let h = granted_more i start cs c stamp term in omega (arith, f, g, h);
   executed = λ stamp term.
       let f = first.executed stamp term in let g = next.executed stamp term in
-      let h = executed_more cs c stamp term in let one = sum_by-cons (λ (x : Call). cond (acts stamp term x.reply) 1 0) c [] in
+      let h = executed_more cs c stamp term in let one = sum_by-cons (λ (x : Call). cond (acts stamp term x.reply) 1 0)
+      c [] in
       omega (arith, f, g, h, one);
-  few_granted = λ stamp term. let f = first.few_granted stamp term in let g = next.few_granted stamp term in let h = length-append cs (c ∷ []) in omega (arith, f, g, h);
-  few_executed = λ stamp term. let f = first.few_executed stamp term in let g = next.few_executed stamp term in let h = length-append cs (c ∷ []) in omega (arith, f, g, h);
+  few_granted = λ stamp term. let f = first.few_granted stamp term in let g = next.few_granted stamp term in
+      let h = length-append cs (c ∷ []) in omega (arith, f, g, h);
+  few_executed = λ stamp term. let f = first.few_executed stamp term in let g = next.few_executed stamp term in
+      let h = length-append cs (c ∷ []) in omega (arith, f, g, h);
 }
 
 -- one entry more of a trace
-pub entry_noted : (a b d : Tally) (config : Config) (es : List Entry) (j : ℕ) (e : Entry) (core : Kept) → core ≡ alone config (take j es) → slice_get es j ≡ Some e →
-    Notes a b config.node start (map (call config.nodes) (take j es)) → Notes b d core.config.node (node_of core) (call_of core e ∷ []) →
+pub entry_noted : (a b d : Tally) (config : Config) (es : List Entry) (j : ℕ) (e : Entry) (core : Kept) →
+    core ≡ alone config (take j es) → slice_get es j ≡ Some e →
+    Notes a b config.node start (map (call config.nodes) (take j es)) →
+    Notes b d core.config.node (node_of core) (call_of core e ∷ []) →
     Notes a d config.node start (map (call config.nodes) (take (j + 1) es))
 entry_noted a b d config es j e core so_far there first next =
     let more : take (j + 1) es ≡ take j es ++ e ∷ [] = ap (λ n. take n es) (one_on j) ∙ take_one_more es j e there in
-    subst (λ cs. Notes a d config.node start cs) (sym (ap (λ xs. map (call config.nodes) xs) more ∙ map-append (call config.nodes) (take j es) (e ∷ [])))
+    subst (λ cs. Notes a d config.node start cs) (sym (ap (λ xs. map (call config.nodes) xs) more ∙
+    map-append (call config.nodes) (take j es) (e ∷ [])))
     (notes_more a b d config.node (map (call config.nodes) (take j es)) (call config.nodes e) first
     (subst (λ (k : Kept). Notes b d k.config.node (node_of k) (call_of k e ∷ [])) so_far next))
   where
@@ -104,13 +120,16 @@ entry_noted a b d config es j e core so_far there first next =
     one_on m = omega arith
 
 -- one node more
-pub node_tallied : (old new : Tally) (nodes : ℕ) (traces : Traces) (i : ℕ) → length (trace_of traces i) < 2 ^ 32 → IsTallied old nodes traces i → Notes old new i start (calls_of nodes traces i) → IsTallied new nodes traces (i + 1)
+pub node_tallied : (old new : Tally) (nodes : ℕ) (traces : Traces) (i : ℕ) → length (trace_of traces i) < 2 ^ 32 →
+    IsTallied old nodes traces i → Notes old new i start (calls_of nodes traces i) → IsTallied new nodes traces (i + 1)
 node_tallied old new nodes traces i short t n = subst (λ j. IsTallied new nodes traces j) (one_on i) (record {
   keys = n.keys _ t.keys;
   granted = λ stamp term. let f = t.granted stamp term in let g = n.granted stamp term in omega (arith, f, g);
   executed = λ stamp term. let f = t.executed stamp term in let g = n.executed stamp term in omega (arith, f, g);
-  few_granted = λ stamp term. let f = t.few_granted stamp term in let g = n.few_granted stamp term in omega (arith, f, g, many, short);
-  few_executed = λ stamp term. let f = t.few_executed stamp term in let g = n.few_executed stamp term in omega (arith, f, g, many, short);
+  few_granted = λ stamp term. let f = t.few_granted stamp term in let g = n.few_granted stamp term in
+      omega (arith, f, g, many, short);
+  few_executed = λ stamp term. let f = t.few_executed stamp term in let g = n.few_executed stamp term in
+      omega (arith, f, g, many, short);
 })
   where
     one_on : (m : ℕ) → suc m ≡ m + 1
@@ -125,13 +144,17 @@ take_over [] (suc j) h = refl
 take_over (e ∷ es) zero h = absurd (omega (arith, h))
 take_over (e ∷ es) (suc j) h = ap (λ xs. e ∷ xs) (take_over es j (omega (arith, h)))
 
-pub calls_taken : (config : Config) (es : List Entry) (j : ℕ) (e : Entry) → slice_get es j ≡ Some e → length (map (call config.nodes) (take j es)) ≡ j
+pub calls_taken : (config : Config) (es : List Entry) (j : ℕ) (e : Entry) → slice_get es j ≡ Some e →
+    length (map (call config.nodes) (take j es)) ≡ j
 calls_taken config es j e is =
     let below : j < length es = slice_get_within es j e is in
     length-map (take j es) (call config.nodes) ∙ length-take-le j es (omega (arith, below))
 
-pub one_short : (nodes : ℕ) (traces : Traces) (n : ℕ) → IsLegalAlone (config_of (audited nodes) n) (trace_of traces n) → length (trace_of traces n) < 2 ^ 32
+pub one_short : (nodes : ℕ) (traces : Traces) (n : ℕ) → IsLegalAlone (config_of (audited nodes) n) (trace_of traces n) →
+    length (trace_of traces n) < 2 ^ 32
 one_short nodes traces n legal =
-    let short : 0 + length (map (call nodes) (trace_of traces n)) ≤ 2 ^ 32 - 1 = legal_short (config_of (audited nodes) n) 0 start (map (call nodes) (trace_of traces n)) legal (omega arith) in
-    let same : length (map (call nodes) (trace_of traces n)) ≡ length (trace_of traces n) = length-map (trace_of traces n) (call nodes) in
+    let short : 0 + length (map (call nodes) (trace_of traces n)) ≤ 2 ^ 32 - 1 =
+    legal_short (config_of (audited nodes) n) 0 start (map (call nodes) (trace_of traces n)) legal (omega arith) in
+    let same : length (map (call nodes) (trace_of traces n)) ≡ length (trace_of traces n) =
+    length-map (trace_of traces n) (call nodes) in
     omega (arith, short, same)

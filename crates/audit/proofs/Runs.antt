@@ -14,7 +14,8 @@ use Rattle.audit.specs.Boards.{IsKept, NoneFits, left}
 
 -- a place counts at its node and nowhere else
 pub count_cases : (node : ℕ) (place : ℕ × ℕ) (places : List (ℕ × ℕ)) →
-    ((place.0 ≡ node) × (count_at node (place ∷ places) ≡ 1 + count_at node places)) ⊎ ((place.0 ≢ node) × (count_at node (place ∷ places) ≡ count_at node places))
+    ((place.0 ≡ node) × (count_at node (place ∷ places) ≡ 1 + count_at node places)) ⊎
+    ((place.0 ≢ node) × (count_at node (place ∷ places) ≡ count_at node places))
 count_cases node place places = elim (eqb_tells place.0 node) [
   | inl w ↦ inl (w.1, ap (λ t. cond t 1 0 + count_at node places) w.0)
   | inr w ↦ inr (w.1, ap (λ t. cond t 1 0 + count_at node places) w.0 ∙ zero-add (count_at node places))
@@ -22,18 +23,21 @@ count_cases node place places = elim (eqb_tells place.0 node) [
 
 -- an Emit that was placed is sent
 pub sent_of_placed : (traces : Traces) (placed : List (ℕ × ℕ)) (node index : ℕ) (bytes : List ℕ) →
-    IsRun traces placed → index < count_at node placed → emitted_at traces node index ≡ Some bytes → IsSent traces placed bytes
+    IsRun traces placed → index < count_at node placed → emitted_at traces node index ≡ Some bytes →
+    IsSent traces placed bytes
 sent_of_placed traces [] node index bytes run below is = absurd (omega arith)
 sent_of_placed traces (place ∷ earlier) node index bytes run below is =
     elim (count_cases node place earlier) [
       | inl w ↦ (elim (eqb_tells index place.1) [
-        | inl same ↦ inl (ap (λ n. emitted_at traces n place.1) w.0 ∙ ap (λ i. emitted_at traces node i) (sym same.1) ∙ is)
+        | inl same ↦ inl (ap (λ n. emitted_at traces n place.1) w.0 ∙ ap (λ i. emitted_at traces node i) (sym same.1) ∙
+            is)
         | inr apart ↦
             let next : place.1 ≡ count_at place.0 earlier = run.0.next in
             let there : count_at place.0 earlier ≡ count_at node earlier = ap (λ n. count_at n earlier) w.0 in
             let differs : index ≢ place.1 = apart.1 in
             let more : count_at node (place ∷ earlier) ≡ 1 + count_at node earlier = w.1 in
-            inr (sent_of_placed traces earlier node index bytes run.1 (omega (arith, below, more, next, there, differs)) is)
+            inr (sent_of_placed traces earlier node index bytes run.1 (omega (arith, below, more, next, there, differs))
+            is)
       ])
       | inr w ↦
           let same : count_at node (place ∷ earlier) ≡ count_at node earlier = w.1 in
@@ -47,7 +51,8 @@ pub record IsWithin (traces : Traces) (placed other : List (ℕ × ℕ)) : Type 
 
 -- a place that is ready after such a run was placed
 pub ready_placed : (traces : Traces) (placed earlier : List (ℕ × ℕ)) (place : ℕ × ℕ) →
-    IsStuckAt traces placed place.0 → IsWithin traces placed earlier → IsReady traces earlier place → place.1 < count_at place.0 placed
+    IsStuckAt traces placed place.0 → IsWithin traces placed earlier → IsReady traces earlier place →
+    place.1 < count_at place.0 placed
 ready_placed traces placed earlier place stuck within ready =
     elim (eqb_tells place.1 (count_at place.0 placed)) [
       | inl same ↦
@@ -61,12 +66,14 @@ ready_placed traces placed earlier place stuck within ready =
     ]
 
 -- where no node can go on, every run is within
-pub no_further : (traces : Traces) (placed : List (ℕ × ℕ)) → IsRun traces placed → ((node : ℕ) → IsStuckAt traces placed node) →
+pub no_further : (traces : Traces) (placed : List (ℕ × ℕ)) → IsRun traces placed →
+    ((node : ℕ) → IsStuckAt traces placed node) →
     (other : List (ℕ × ℕ)) → IsRun traces other → IsWithin traces placed other
 no_further traces placed run stuck [] its = record { fewer = λ node. omega arith; sent = λ bytes h. absurd h }
 no_further traces placed run stuck (place ∷ earlier) its =
     let rest : IsWithin traces placed earlier = no_further traces placed run stuck earlier its.1 in
-    let below : place.1 < count_at place.0 placed = ready_placed traces placed earlier place (stuck place.0) rest its.0 in
+    let below : place.1 < count_at place.0 placed = ready_placed traces placed earlier place (stuck place.0) rest
+    its.0 in
     record {
       fewer = λ node. elim (count_cases node place earlier) [
         | inl w ↦
@@ -87,7 +94,8 @@ no_further traces placed run stuck (place ∷ earlier) its =
     }
 
 -- where no node can go on and one has an entry left, no schedule fits
-pub none_fits : (traces : Traces) (placed : List (ℕ × ℕ)) → IsRun traces placed → ((node : ℕ) → IsStuckAt traces placed node) →
+pub none_fits : (traces : Traces) (placed : List (ℕ × ℕ)) → IsRun traces placed →
+    ((node : ℕ) → IsStuckAt traces placed node) →
     (node : ℕ) → count_at node placed < length (trace_of traces node) → NoneFits traces
 none_fits traces placed run stuck node less order fits =
     let within = no_further traces placed run stuck _ fits.run in
@@ -96,15 +104,18 @@ none_fits traces placed run stuck node less order fits =
     omega (arith, fewer, whole, less)
 
 -- a run stays inside the traces
-pub count_within : (traces : Traces) (placed : List (ℕ × ℕ)) → IsRun traces placed → (node : ℕ) → count_at node placed ≤ length (trace_of traces node)
+pub count_within : (traces : Traces) (placed : List (ℕ × ℕ)) → IsRun traces placed → (node : ℕ) →
+    count_at node placed ≤ length (trace_of traces node)
 unfolding entry_at
 count_within traces [] run node = omega arith
 count_within traces (place ∷ earlier) run node = elim (count_cases node place earlier) [
   | inl w ↦
       let next : place.1 ≡ count_at place.0 earlier = run.0.next in
       let here : count_at place.0 earlier ≡ count_at node earlier = ap (λ n. count_at n earlier) w.0 in
-      let there : length (trace_of traces place.0) ≡ length (trace_of traces node) = ap (λ n. length (trace_of traces n)) w.0 in
-      let inside : place.1 < length (trace_of traces place.0) = slice_get_within (trace_of traces place.0) place.1 run.0.entry run.0.there in
+      let there : length (trace_of traces place.0) ≡ length (trace_of traces node) =
+      ap (λ n. length (trace_of traces n)) w.0 in
+      let inside : place.1 < length (trace_of traces place.0) =
+      slice_get_within (trace_of traces place.0) place.1 run.0.entry run.0.there in
       let more : count_at node (place ∷ earlier) ≡ 1 + count_at node earlier = w.1 in
       omega (arith, next, here, there, more, inside)
   | inr w ↦
@@ -114,31 +125,50 @@ count_within traces (place ∷ earlier) run node = elim (count_cases node place 
 ]
 
 -- one more place that is ready
-pub kept_more : (traces : Traces) (placed : List (ℕ × ℕ)) (positions : List ℕ) (has after : List ℕ → Bool) (node : ℕ) (entry : Entry) →
+pub kept_more : (traces : Traces) (placed : List (ℕ × ℕ)) (positions : List ℕ) (has after : List ℕ → Bool) (node : ℕ)
+    (entry : Entry) →
     IsKept traces placed positions has → node < length traces →
     entry_at traces node (slice_index positions node) ≡ Some entry →
     ((bytes : List ℕ) → bytes_delivered entry ≡ Some bytes → IsTrue (has bytes)) →
     ((bytes : List ℕ) → IsTrue (after bytes) ↔ ((bytes_emitted entry ≡ Some bytes) ⊎ IsTrue (has bytes))) →
-    IsKept traces ((node, slice_index positions node) ∷ placed) (slice_set positions node (slice_index positions node + 1)) after
+    IsKept traces ((node, slice_index positions node) ∷ placed)
+    (slice_set positions node (slice_index positions node + 1)) after
 kept_more traces placed positions has after node entry kept below there fed more = record {
-  run = (record { next = kept.reached node below; entry = entry; there = there; fed = λ bytes is. (kept.sent bytes).0 (fed bytes is) }, kept.run);
+  run = (
+    record {
+      next = kept.reached node below;
+      entry = entry;
+      there = there;
+      fed =
+          λ bytes is. (kept.sent bytes).0 (fed bytes is);
+    },
+    kept.run,
+  );
   each = length-set positions node (slice_index positions node + 1) ∙ kept.each;
   reached = λ n inside.
       let within : node < length positions = omega (arith, kept.each, below) in
       elim (count_cases n (node, slice_index positions node) placed) [
         | inl w ↦
-            let e1 : slice_index (slice_set positions node (slice_index positions node + 1)) node ≡ slice_index positions node + 1 = get_or-set_same positions node _ 0 within in
+            let e1 : slice_index (slice_set positions node (slice_index positions node + 1)) node ≡ slice_index
+            positions node + 1 = get_or-set_same positions node _ 0 within in
             let e2 : slice_index positions node ≡ count_at node placed = kept.reached node below in
             let e3 : count_at node placed ≡ count_at n placed = ap (λ m. count_at m placed) w.0 in
-            let e4 : slice_index (slice_set positions node (slice_index positions node + 1)) n ≡ slice_index (slice_set positions node (slice_index positions node + 1)) node = ap (λ m. slice_index (slice_set positions node (slice_index positions node + 1)) m) (sym w.0) in
+            let e4 : slice_index (slice_set positions node (slice_index positions node + 1)) n ≡ slice_index
+            (slice_set positions node (slice_index positions node + 1)) node =
+            ap (λ m. slice_index (slice_set positions node (slice_index positions node + 1)) m) (sym w.0) in
             let e5 : count_at n ((node, slice_index positions node) ∷ placed) ≡ 1 + count_at n placed = w.1 in
             omega (arith, e1, e2, e3, e4, e5)
         | inr w ↦
-            let e1 : slice_index (slice_set positions node (slice_index positions node + 1)) n ≡ slice_index positions n = get_or-set_other positions node n _ 0 (λ same. w.0 (sym same)) in
+            let e1 : slice_index (slice_set positions node (slice_index positions node + 1)) n ≡ slice_index positions
+            n = get_or-set_other positions node n _ 0 (λ same. w.0 (sym same)) in
             e1 ∙ kept.reached n inside ∙ sym w.1
       ];
   sent = λ bytes. (
-    (λ h. elim ((more bytes).0 h) [ inl is ↦ inl (ap (option_and_then bytes_emitted) there ∙ is) | inr old ↦ inr ((kept.sent bytes).0 old) ]),
+    (λ h. elim ((more bytes).0 h) [
+      | inl is ↦ inl (ap (option_and_then bytes_emitted) there ∙ is)
+      | inr old ↦ inr
+          ((kept.sent bytes).0 old)
+    ]),
     (λ h. elim h [
       | inl is ↦ (more bytes).1 (inl (sym (ap (option_and_then bytes_emitted) there) ∙ is))
       | inr old ↦ (more bytes).1 (inr ((kept.sent bytes).1 old))
@@ -147,7 +177,8 @@ kept_more traces placed positions has after node entry kept below there fed more
 }
 
 -- a position that goes on leaves one entry less
-pub left_falls : (traces : Traces) (positions : List ℕ) (node : ℕ) → length positions ≡ length traces → node < length traces →
+pub left_falls : (traces : Traces) (positions : List ℕ) (node : ℕ) → length positions ≡ length traces →
+    node < length traces →
     slice_index positions node < length (trace_of traces node) →
     left traces (slice_set positions node (slice_index positions node + 1)) + 1 ≡ left traces positions
 left_falls [] positions node each below inside = absurd (omega arith)
@@ -161,38 +192,47 @@ left_falls (trace ∷ traces) (n ∷ positions) (suc node) each below inside =
     omega (arith, rest)
 
 -- the trace at an index of the traces
-pub trace_read : (traces : Traces) (node : ℕ) (trace : Vec Entry Global) → node < length traces → trace ≡ get_or traces node trace → trace_of traces node ≡ trace.items
+pub trace_read : (traces : Traces) (node : ℕ) (trace : Vec Entry Global) → node < length traces →
+    trace ≡ get_or traces node trace → trace_of traces node ≡ trace.items
 trace_read [] node trace below is = absurd (omega arith)
 trace_read (first ∷ traces) zero trace below is = ap (λ (v : Vec Entry Global). v.items) (sym is)
 trace_read (first ∷ traces) (suc node) trace below is = trace_read traces node trace (omega (arith, below)) is
 
-pub entry_read : (traces : Traces) (node index : ℕ) (trace : Vec Entry Global) (found : Option Entry) → node < length traces → trace ≡ get_or traces node trace →
+pub entry_read : (traces : Traces) (node index : ℕ) (trace : Vec Entry Global) (found : Option Entry) →
+    node < length traces → trace ≡ get_or traces node trace →
     found ≡ slice_get trace.items index → entry_at traces node index ≡ found
 unfolding entry_at
-entry_read traces node index trace found below is read = ap (λ t. slice_get t index) (trace_read traces node trace below is) ∙ sym read
+entry_read traces node index trace found below is read = ap (λ t. slice_get t index)
+    (trace_read traces node trace below is) ∙ sym read
 
 -- a node with no further entry
 pub stuck_at_end : (traces : Traces) (placed : List (ℕ × ℕ)) (positions : List ℕ) (has : List ℕ → Bool) (node : ℕ) →
-    IsKept traces placed positions has → node < length traces → entry_at traces node (slice_index positions node) ≡ None → IsStuckAt traces placed node
+    IsKept traces placed positions has → node < length traces →
+    entry_at traces node (slice_index positions node) ≡ None → IsStuckAt traces placed node
 stuck_at_end traces placed positions has node kept below none =
     λ entry some.
-    let here : entry_at traces node (slice_index positions node) ≡ entry_at traces node (count_at node placed) = ap (λ i. entry_at traces node i) (kept.reached node below) in
+    let here : entry_at traces node (slice_index positions node) ≡ entry_at traces node (count_at node placed) =
+    ap (λ i. entry_at traces node i) (kept.reached node below) in
     let clash : None ≡ Some entry = sym none ∙ here ∙ some in
     cc
 
 -- a node whose next entry delivers what was not emitted
-pub stuck_unsent : (traces : Traces) (placed : List (ℕ × ℕ)) (positions : List ℕ) (has : List ℕ → Bool) (node : ℕ) (next : Entry) (bytes : List ℕ) →
-    IsKept traces placed positions has → node < length traces → entry_at traces node (slice_index positions node) ≡ Some next →
+pub stuck_unsent : (traces : Traces) (placed : List (ℕ × ℕ)) (positions : List ℕ) (has : List ℕ → Bool) (node : ℕ)
+    (next : Entry) (bytes : List ℕ) →
+    IsKept traces placed positions has → node < length traces →
+    entry_at traces node (slice_index positions node) ≡ Some next →
     bytes_delivered next ≡ Some bytes → has bytes ≡ false → IsStuckAt traces placed node
 stuck_unsent traces placed positions has node next bytes kept below is brings unsent =
     λ entry some.
-    let here : entry_at traces node (slice_index positions node) ≡ entry_at traces node (count_at node placed) = ap (λ i. entry_at traces node i) (kept.reached node below) in
+    let here : entry_at traces node (slice_index positions node) ≡ entry_at traces node (count_at node placed) =
+    ap (λ i. entry_at traces node i) (kept.reached node below) in
     let both : Some next ≡ Some entry = sym is ∙ here ∙ some in
     let same : next ≡ entry = cc in
     (bytes, ap bytes_delivered (sym same) ∙ brings, λ sent. let yes : has bytes ≡ true = (kept.sent bytes).1 sent in cc)
 
 -- the place of a next entry is inside the trace
-pub entry_within : (traces : Traces) (node index : ℕ) (entry : Entry) → entry_at traces node index ≡ Some entry → index < length (trace_of traces node)
+pub entry_within : (traces : Traces) (node index : ℕ) (entry : Entry) → entry_at traces node index ≡ Some entry →
+    index < length (trace_of traces node)
 unfolding entry_at
 entry_within traces node index entry is = slice_get_within (trace_of traces node) index entry is
 
@@ -203,7 +243,8 @@ position_read (y ∷ ys) zero x below is = sym is
 position_read (y ∷ ys) (suc i) x below is = position_read ys i x (omega (arith, below)) is
 
 -- `kept_more`, as code reads and pushes
-pub kept_pushed : (traces : Traces) (placed pushed : List (ℕ × ℕ)) (positions : List ℕ) (has after : List ℕ → Bool) (node index : ℕ) (entry : Entry) →
+pub kept_pushed : (traces : Traces) (placed pushed : List (ℕ × ℕ)) (positions : List ℕ) (has after : List ℕ → Bool)
+    (node index : ℕ) (entry : Entry) →
     IsKept traces placed positions has → node < length traces → slice_index positions node ≡ index →
     entry_at traces node (slice_index positions node) ≡ Some entry →
     ((bytes : List ℕ) → bytes_delivered entry ≡ Some bytes → IsTrue (has bytes)) →
@@ -223,18 +264,22 @@ trace_past (trace ∷ traces) zero past = absurd (omega (arith, past))
 trace_past (trace ∷ traces) (suc node) past = trace_past traces node (omega (arith, past))
 
 -- what is stuck at each node is stuck everywhere
-pub stuck_everywhere : (traces : Traces) (placed : List (ℕ × ℕ)) → ((n : ℕ) → n < length traces → IsStuckAt traces placed n) → (n : ℕ) → IsStuckAt traces placed n
+pub stuck_everywhere : (traces : Traces) (placed : List (ℕ × ℕ)) →
+    ((n : ℕ) → n < length traces → IsStuckAt traces placed n) → (n : ℕ) → IsStuckAt traces placed n
 stuck_everywhere traces placed stuck n = elim (leb_tells (length traces) n) [
   | inr w ↦ stuck n w.1
   | inl w ↦ λ entry is.
-      let inside : count_at n placed < length (trace_of traces n) = entry_within traces n (count_at n placed) entry is in
+      let inside : count_at n placed < length (trace_of traces n) =
+      entry_within traces n (count_at n placed) entry is in
       let none : length (trace_of traces n) ≡ 0 = ap (λ t. length t) (trace_past traces n w.1) in
       absurd (omega (arith, inside, none))
 ]
 
 -- where each position is at its trace's end, each trace is whole
-pub whole_at_ends : (traces : Traces) (placed : List (ℕ × ℕ)) (positions : List ℕ) (has : List ℕ → Bool) → IsKept traces placed positions has →
-    ((n : ℕ) → n < length traces → length (trace_of traces n) ≤ slice_index positions n) → (n : ℕ) → count_at n placed ≡ length (trace_of traces n)
+pub whole_at_ends : (traces : Traces) (placed : List (ℕ × ℕ)) (positions : List ℕ) (has : List ℕ → Bool) →
+    IsKept traces placed positions has →
+    ((n : ℕ) → n < length traces → length (trace_of traces n) ≤ slice_index positions n) → (n : ℕ) →
+    count_at n placed ≡ length (trace_of traces n)
 whole_at_ends traces placed positions has kept ends n =
     let within : count_at n placed ≤ length (trace_of traces n) = count_within traces placed kept.run n in
     elim (leb_tells (length traces) n) [
@@ -248,9 +293,12 @@ whole_at_ends traces placed positions has kept ends n =
     ]
 
 -- the place at which every order gets stuck
-pub stuck_with : (traces : Traces) (placed : List (ℕ × ℕ)) (positions : List ℕ) (has : List ℕ → Bool) (node index : ℕ) → IsKept traces placed positions has →
-    ((n : ℕ) → n < length traces → IsStuckAt traces placed n) → node < length traces → slice_index positions node ≡ index →
-    slice_index positions node < length (trace_of traces node) → ((n : ℕ) → n < node → length (trace_of traces n) ≤ slice_index positions n) →
+pub stuck_with : (traces : Traces) (placed : List (ℕ × ℕ)) (positions : List ℕ) (has : List ℕ → Bool) (node index : ℕ) →
+    IsKept traces placed positions has →
+    ((n : ℕ) → n < length traces → IsStuckAt traces placed n) → node < length traces →
+    slice_index positions node ≡ index →
+    slice_index positions node < length (trace_of traces node) →
+    ((n : ℕ) → n < node → length (trace_of traces n) ≤ slice_index positions n) →
     IsStuckWith traces node index × NoneFits traces
 stuck_with traces placed positions has node index kept stuck below at more least =
     let everywhere = stuck_everywhere traces placed stuck in
@@ -272,10 +320,13 @@ stuck_with traces placed positions has node index kept stuck below at more least
     )
 
 -- wherever two runs get stuck, they have come as far as each other
-pub same_counts : (traces : Traces) {n i m j : ℕ} (a : IsStuckWith traces n i) (b : IsStuckWith traces m j) → (k : ℕ) → count_at k a.placed ≡ count_at k b.placed
+pub same_counts : (traces : Traces) {n i m j : ℕ} (a : IsStuckWith traces n i) (b : IsStuckWith traces m j) → (k : ℕ) →
+    count_at k a.placed ≡ count_at k b.placed
 same_counts traces a b k =
-    let up : count_at k b.placed ≤ count_at k a.placed = (no_further traces a.placed a.run a.stuck b.placed b.run).fewer k in
-    let down : count_at k a.placed ≤ count_at k b.placed = (no_further traces b.placed b.run b.stuck a.placed a.run).fewer k in
+    let up : count_at k b.placed ≤ count_at k a.placed = (no_further traces a.placed a.run a.stuck b.placed b.run).fewer
+    k in
+    let down : count_at k a.placed ≤ count_at k b.placed = (no_further traces b.placed b.run b.stuck a.placed
+    a.run).fewer k in
     omega (arith, up, down)
 
 not_before : (traces : Traces) {n i m j : ℕ} (a : IsStuckWith traces n i) (b : IsStuckWith traces m j) → n < m → ⊥

@@ -38,7 +38,8 @@ use Rattle.audit.proofs.Steps.{take_one_more, take_whole, step_of, steps_more, e
 
 -- ---- lists
 
-get_map : (f : Entry → Call) (xs : List Entry) (k : ℕ) (x : Entry) → slice_get xs k ≡ Some x → slice_get (map f xs) k ≡ Some (f x)
+get_map : (f : Entry → Call) (xs : List Entry) (k : ℕ) (x : Entry) → slice_get xs k ≡ Some x →
+    slice_get (map f xs) k ≡ Some (f x)
 get_map f [] k x is = absurd (cc is)
 get_map f (y ∷ ys) zero x is = let same : y ≡ x = cc is in ap (λ z. Some (f z)) same
 get_map f (y ∷ ys) (suc k) x is = get_map f ys k x is
@@ -49,12 +50,14 @@ take_map f [] (suc k) = refl
 take_map f (x ∷ xs) zero = refl
 take_map f (x ∷ xs) (suc k) = ap (λ ys. f x ∷ ys) (take_map f xs k)
 
-length_taken : (f : Entry → Call) (xs : List Entry) (k : ℕ) (x : Entry) → slice_get xs k ≡ Some x → length (map f (take k xs)) ≡ k
+length_taken : (f : Entry → Call) (xs : List Entry) (k : ℕ) (x : Entry) → slice_get xs k ≡ Some x →
+    length (map f (take k xs)) ≡ k
 length_taken f [] k x is = absurd (cc is)
 length_taken f (y ∷ ys) zero x is = refl
 length_taken f (y ∷ ys) (suc k) x is = let rest = length_taken f ys k x is in omega (arith, rest)
 
-in_taken : (f : Entry → Call) (xs : List Entry) (k i : ℕ) (x : Entry) → slice_get xs i ≡ Some x → i < k → IsIn (f x) (map f (take k xs))
+in_taken : (f : Entry → Call) (xs : List Entry) (k i : ℕ) (x : Entry) → slice_get xs i ≡ Some x → i < k →
+    IsIn (f x) (map f (take k xs))
 in_taken f [] k i x is below = absurd (cc is)
 in_taken f (y ∷ ys) zero i x is below = absurd (omega (arith, below))
 in_taken f (y ∷ ys) (suc k) zero x is below = inl (let same : y ≡ x = cc is in ap f (sym same))
@@ -88,7 +91,8 @@ record IsBrought (nodes : ℕ) (ask : Ask) (read : Result Message WireFault) : T
   pub is : delivered_in ask ≡ Some bytes
   pub brings : read ≡ message_read nodes bytes
 
-received : (nodes : ℕ) (ask : Ask) (reply : Reply) (read : Result Message WireFault) → ask_value nodes ask reply ≡ asks.Deliver read → IsBrought nodes ask read
+received : (nodes : ℕ) (ask : Ask) (reply : Reply) (read : Result Message WireFault) →
+    ask_value nodes ask reply ≡ asks.Deliver read → IsBrought nodes ask read
 unfolding is_delivery
 received nodes (asked.Deliver bytes) reply read h =
     let same : message_read nodes bytes.items ≡ read = cc in
@@ -105,10 +109,12 @@ received nodes (asked.Shift name term to amount) reply read h = absurd (let impo
 received nodes (asked.Grant name term amount) reply read h = absurd (let impossible : ⊥ = cc in impossible)
 
 -- a delivery that is accepted is of a message
-read_ok : (config : Config) (entries : ℕ) (n : Node) (read : Result Message WireFault) (words : List ℕ) → refusal_at config entries n (asks.Deliver read) words ≡ None →
+read_ok : (config : Config) (entries : ℕ) (n : Node) (read : Result Message WireFault) (words : List ℕ) →
+    refusal_at config entries n (asks.Deliver read) words ≡ None →
     (m : Message) × (read ≡ Ok m)
 read_ok config entries n (Ok m) words h = (m, refl)
-read_ok config entries n (Err fault) words h = absurd (at (no_entry config entries) (too_many_told config n (Err fault)) (spare_words words) h)
+read_ok config entries n (Err fault) words h = absurd (at (no_entry config entries) (too_many_told config n (Err fault))
+    (spare_words words) h)
   where
     at : (a b d : Option NodeFault) → first_fault (a ∷ b ∷ d ∷ faults_of_message config n (Err fault)) ≡ None → ⊥
     at (Some x) b d h = cc
@@ -116,7 +122,8 @@ read_ok config entries n (Err fault) words h = absurd (at (no_entry config entri
     at None None (Some x) h = cc
     at None None None h = cc
 
-allowed : (w : World) (i : ℕ) (ask : Asked) → SendsDelta (w.node i) ask → ((read : Result Message WireFault) → ask ≡ asks.Deliver read → IsIn (message_in read) w.messages) →
+allowed : (w : World) (i : ℕ) (ask : Asked) → SendsDelta (w.node i) ask →
+    ((read : Result Message WireFault) → ask ≡ asks.Deliver read → IsIn (message_in read) w.messages) →
     AllowsDelta w i (Some ask)
 allowed w i (asks.Emit to versions chosen) sends given = sends
 allowed w i (asks.Deliver read) sends given = given read refl
@@ -127,7 +134,8 @@ allowed w i (asks.Pass name) sends given = tt
 allowed w i (asks.Shift name term to amount) sends given = tt
 allowed w i (asks.Grant name term amount) sends given = tt
 
-replied : (nodes : ℕ) (reply : Reply) (bytes : List ℕ) → emitted_in reply ≡ Some bytes → reply_value nodes reply ≡ asks.IsEmitted (message_read nodes bytes)
+replied : (nodes : ℕ) (reply : Reply) (bytes : List ℕ) → emitted_in reply ≡ Some bytes →
+    reply_value nodes reply ≡ asks.IsEmitted (message_read nodes bytes)
 replied nodes (replies.Emit given) bytes h =
     let same : given.items ≡ bytes = cc in
     ap (λ b. asks.IsEmitted (message_read nodes b)) same
@@ -144,10 +152,12 @@ record HasEmitted (traces : Traces) (node index : ℕ) (bytes : List ℕ) : Type
   pub there : entry_at traces node index ≡ Some entry
   pub is : emitted_in entry.reply ≡ Some bytes
 
-has_emitted : (traces : Traces) (node index : ℕ) (bytes : List ℕ) → emitted_at traces node index ≡ Some bytes → HasEmitted traces node index bytes
+has_emitted : (traces : Traces) (node index : ℕ) (bytes : List ℕ) → emitted_at traces node index ≡ Some bytes →
+    HasEmitted traces node index bytes
 has_emitted traces node index bytes h = at (entry_at traces node index) refl h
   where
-    at : (o : Option Entry) → entry_at traces node index ≡ o → option_and_then bytes_emitted o ≡ Some bytes → HasEmitted traces node index bytes
+    at : (o : Option Entry) → entry_at traces node index ≡ o → option_and_then bytes_emitted o ≡ Some bytes →
+        HasEmitted traces node index bytes
     at (Some entry) p q = record { entry = entry; there = p; is = q }
     at None p q = absurd (let impossible : ⊥ = cc in impossible)
 
@@ -165,17 +175,21 @@ module _ (nodes : ℕ) (traces : Traces) (sized : IsSized nodes traces) (legal :
 
   -- so far the world is what the places say
   record IsUp (placed : List (ℕ × ℕ)) : Type 0 where
-    pub told : (i : ℕ) → (world c (events placed)).trace i ≡ map (call nodes) (take (count_at i placed) (trace_of traces i))
+    pub told : (i : ℕ) → (world c (events placed)).trace i ≡ map (call nodes)
+        (take (count_at i placed) (trace_of traces i))
     pub schedule : IsDeltaSchedule c (events placed)
 
-  sent_message : (placed : List (ℕ × ℕ)) → IsRun traces placed → IsUp placed → (bytes : List ℕ) (m : Message) → IsSent traces placed bytes → message_read nodes bytes ≡ Ok m →
+  sent_message : (placed : List (ℕ × ℕ)) → IsRun traces placed → IsUp placed → (bytes : List ℕ) (m : Message) →
+      IsSent traces placed bytes → message_read nodes bytes ≡ Ok m →
       IsIn m (world c (events placed)).messages
   unfolding entry_at
   sent_message placed run up bytes m sent read =
       let from = sent_from traces placed run bytes sent in
       let emit = has_emitted traces from.node from.index bytes from.is in
-      let held : IsIn (call nodes emit.entry) (map (call nodes) (take (count_at from.node placed) (trace_of traces from.node))) =
-      in_taken (call nodes) (trace_of traces from.node) (count_at from.node placed) from.index emit.entry emit.there from.inside in
+      let held : IsIn (call nodes emit.entry) (map (call nodes)
+      (take (count_at from.node placed) (trace_of traces from.node))) =
+      in_taken (call nodes) (trace_of traces from.node) (count_at from.node placed) from.index emit.entry emit.there
+      from.inside in
       ((messages_are_replies c (events placed) from.node m).1 (record {
         call = call nodes emit.entry;
         held = subst (λ t. IsIn (call nodes emit.entry) t) (sym (up.told from.node)) held;
@@ -211,16 +225,21 @@ module _ (nodes : ℕ) (traces : Traces) (sized : IsSized nodes traces) (legal :
 
     is_legal : IsLegalCall config (length so_far) (replay place.0 so_far) next_call
     is_legal =
-        let at = legal_at config 0 start (map (call nodes) (trace_of traces place.0)) place.1 next_call (legal place.0) (get_map (call nodes) (trace_of traces place.0) place.1 ready.entry there) in
+        let at = legal_at config 0 start (map (call nodes) (trace_of traces place.0)) place.1 next_call (legal place.0)
+        (get_map (call nodes) (trace_of traces place.0) place.1 ready.entry there) in
         let first : 0 + place.1 ≡ place.1 = omega arith in
-        let long : 0 + place.1 ≡ length so_far = first ∙ sym (ap (λ t. length t) taken ∙ length_taken (call nodes) (trace_of traces place.0) place.1 ready.entry there) in
+        let long : 0 + place.1 ≡ length so_far = first ∙ sym
+        (ap (λ t. length t) taken ∙ length_taken (call nodes) (trace_of traces place.0) place.1 ready.entry
+        there) in
         subst (λ k. IsLegalCall config k (replay place.0 so_far) next_call) long
-        (subst (λ t. IsLegalCall config (0 + place.1) (replay place.0 t) next_call) (take_map (call nodes) (trace_of traces place.0) place.1 ∙ sym taken) at)
+        (subst (λ t. IsLegalCall config (0 + place.1) (replay place.0 t) next_call)
+        (take_map (call nodes) (trace_of traces place.0) place.1 ∙ sym taken) at)
 
     low : place.0 < nodes
     low = elim (leb_tells (length traces) place.0) [
       | inl w ↦
-          let inside : place.1 < length (trace_of traces place.0) = entry_within traces place.0 place.1 ready.entry ready.there in
+          let inside : place.1 < length (trace_of traces place.0) =
+          entry_within traces place.0 place.1 ready.entry ready.there in
           let none : length (trace_of traces place.0) ≡ 0 = ap (λ t. length t) (trace_past traces place.0 w.1) in
           absurd (omega (arith, inside, none))
       | inr w ↦ (let below : place.0 < length traces = w.1 in omega (arith, below, sized.each))
@@ -238,7 +257,8 @@ module _ (nodes : ℕ) (traces : Traces) (sized : IsSized nodes traces) (legal :
     given : (read : Result Message WireFault) → e.ask ≡ asks.Deliver read → IsIn (message_in read) (world c es).messages
     given read is =
         let bring = received nodes ready.entry.ask ready.entry.reply read is in
-        let ok = read_ok config (length so_far) ((world c es).node place.0) read e.words (subst (λ a. refusal_at config (length so_far) ((world c es).node place.0) a e.words ≡ None) is agreed) in
+        let ok = read_ok config (length so_far) ((world c es).node place.0) read e.words
+        (subst (λ a. refusal_at config (length so_far) ((world c es).node place.0) a e.words ≡ None) is agreed) in
         let sent : IsSent traces earlier bring.bytes = ready.fed bring.bytes bring.is in
         subst (λ r. IsIn (message_in r) (world c es).messages) (sym ok.1)
         (sent_message earlier run.1 up bring.bytes ok.0 sent (sym bring.brings ∙ ok.1))
@@ -259,7 +279,8 @@ module _ (nodes : ℕ) (traces : Traces) (sized : IsSized nodes traces) (legal :
         ∙ sym (map-append (call nodes) (take place.1 (trace_of traces place.0)) (ready.entry ∷ []))
         ∙ ap (λ t. map (call nodes) t) (sym (take_one_more (trace_of traces place.0) place.1 ready.entry there))
 
-    told_next : (i : ℕ) → (world c (e ∷ es)).trace i ≡ map (call nodes) (take (count_at i (place ∷ earlier)) (trace_of traces i))
+    told_next : (i : ℕ) → (world c (e ∷ es)).trace i ≡ map (call nodes)
+        (take (count_at i (place ∷ earlier)) (trace_of traces i))
     told_next i = elim (count_cases i place earlier) [
       | inl w ↦
           let next : place.1 ≡ count_at place.0 earlier = ready.next in
@@ -276,7 +297,8 @@ module _ (nodes : ℕ) (traces : Traces) (sized : IsSized nodes traces) (legal :
 
     is_up : IsUp (place ∷ earlier)
     is_up =
-        let more : e ∷ es ≡ events (place ∷ earlier) = ap (λ s. events_of nodes s) (sym (steps_more traces earlier place ready)) in
+        let more : e ∷ es ≡ events (place ∷ earlier) = ap (λ s. events_of nodes s)
+        (sym (steps_more traces earlier place ready)) in
         record {
           told = λ i. ap (λ l. (world c l).trace i) (sym more) ∙ told_next i;
           schedule = subst (λ l. IsDeltaSchedule c l) more (allows, up.schedule);
@@ -297,7 +319,8 @@ module _ (nodes : ℕ) (traces : Traces) (sized : IsSized nodes traces) (legal :
           schedule = up.schedule;
           fed = fed_of_run traces (reverse order) fits.run;
           told = λ i. up.told i ∙ ap (λ t. map (call nodes) t) (sym (entries_taken traces (reverse order) fits.run i));
-          whole = λ i. entries_taken traces (reverse order) fits.run i ∙ ap (λ k. take k (trace_of traces i)) (fits.whole i) ∙ take_whole (trace_of traces i);
+          whole = λ i. entries_taken traces (reverse order) fits.run i ∙
+              ap (λ k. take k (trace_of traces i)) (fits.whole i) ∙ take_whole (trace_of traces i);
         };
       }
 
@@ -314,18 +337,24 @@ module _ (nodes : ℕ) (traces : Traces) (sized : IsSized nodes traces) (legal :
 pub legal_of_fits : (nodes : ℕ) (traces : Traces) → SomeFits nodes traces → AllLegal nodes traces
 legal_of_fits nodes traces some i =
     let c = cluster_of nodes some.trace_cap in
-    let calls : (world c (events_of nodes some.steps)).trace i ≡ map (call nodes) (trace_of traces i) = some.fits.told i ∙ ap (λ t. map (call nodes) t) (some.fits.whole i) in
+    let calls : (world c (events_of nodes some.steps)).trace i ≡ map (call nodes) (trace_of traces i) =
+    some.fits.told i ∙ ap (λ t. map (call nodes) t) (some.fits.whole i) in
     let legal : IsLegal (config_of c i) (map (call nodes) (trace_of traces i)) =
-    subst (λ t. IsLegal (config_of c i) t) calls (traces_are_legal c (events_of nodes some.steps) some.fits.schedule i) in
-    let short : 0 + length (map (call nodes) (trace_of traces i)) ≤ some.trace_cap = legal_short (config_of c i) 0 start (map (call nodes) (trace_of traces i)) legal (omega arith) in
+    subst (λ t. IsLegal (config_of c i) t) calls (traces_are_legal c (events_of nodes some.steps) some.fits.schedule
+    i) in
+    let short : 0 + length (map (call nodes) (trace_of traces i)) ≤ some.trace_cap =
+    legal_short (config_of c i) 0 start (map (call nodes) (trace_of traces i)) legal (omega arith) in
     let small : some.trace_cap < 2 ^ 32 = some.small in
     let great : 0 + length (map (call nodes) (trace_of traces i)) ≤ 2 ^ 32 - 1 = omega (arith, short, small) in
     legal_wider nodes i some.trace_cap (2 ^ 32 - 1) 0 start (map (call nodes) (trace_of traces i)) great legal
 
 pub all_short : (nodes : ℕ) (traces : Traces) → AllLegal nodes traces → AreShort traces
 all_short nodes traces legal n =
-    let short : 0 + length (map (call nodes) (trace_of traces n)) ≤ 2 ^ 32 - 1 = legal_short (config_of (audited nodes) n) 0 start (map (call nodes) (trace_of traces n)) (legal n) (omega arith) in
-    let same : length (map (call nodes) (trace_of traces n)) ≡ length (trace_of traces n) = length-map (trace_of traces n) (call nodes) in
+    let short : 0 + length (map (call nodes) (trace_of traces n)) ≤ 2 ^ 32 - 1 =
+    legal_short (config_of (audited nodes) n) 0 start (map (call nodes) (trace_of traces n)) (legal n)
+    (omega arith) in
+    let same : length (map (call nodes) (trace_of traces n)) ≡ length (trace_of traces n) =
+    length-map (trace_of traces n) (call nodes) in
     omega (arith, short, same)
 
 few_numbers : (n : ℕ) → n ≤ max_nodes → n ≤ node_numbers
@@ -333,18 +362,22 @@ unfolding node_numbers
 few_numbers n few = omega (arith, few)
 
 -- in a schedule that fits no term was executed more often than it was counted and granted
-pub escrow_of : (nodes : ℕ) (traces : Traces) → IsSized nodes traces → (order : List (ℕ × ℕ)) → IsOrder nodes traces order → EscrowHolds (audited nodes) (events_of nodes (steps_at traces (reverse order)))
+pub escrow_of : (nodes : ℕ) (traces : Traces) → IsSized nodes traces → (order : List (ℕ × ℕ)) →
+    IsOrder nodes traces order → EscrowHolds (audited nodes) (events_of nodes (steps_at traces (reverse order)))
 escrow_of nodes traces sized order is =
     conserved (audited nodes) (events_of nodes (steps_at traces (reverse order))) (few_numbers nodes sized.few)
     (deltas_are_schedules (audited nodes) (events_of nodes (steps_at traces (reverse order))) is.schedule.schedule)
 
 pub order_of_fits : (nodes : ℕ) (traces : Traces) → SomeFits nodes traces → (order : List (ℕ × ℕ)) × Fits traces order
 order_of_fits nodes traces some =
-    let run = run_of_steps traces some.steps (λ node k e is. ap (λ es. slice_get es k) (sym (some.fits.whole node)) ∙ is) some.fits.fed in
-    let back : reverse (reverse (places_of some.steps)) ≡ places_of some.steps = reverse-reverse (places_of some.steps) in (
+    let run = run_of_steps traces some.steps (λ node k e is. ap (λ es. slice_get es k) (sym (some.fits.whole node)) ∙
+    is) some.fits.fed in
+    let back : reverse (reverse (places_of some.steps)) ≡ places_of some.steps =
+    reverse-reverse (places_of some.steps) in (
       reverse (places_of some.steps),
       record {
         run = subst (λ ps. IsRun traces ps) (sym back) run;
-        whole = λ node. ap (λ ps. count_at node ps) back ∙ count_entries node some.steps ∙ ap (λ es. length es) (some.fits.whole node);
+        whole = λ node. ap (λ ps. count_at node ps) back ∙ count_entries node some.steps ∙
+            ap (λ es. length es) (some.fits.whole node);
       },
     )

@@ -22,13 +22,15 @@ pub same_place : (n i m j : ℕ) → is_eq (ordering_then (nat_cmp n m) (nat_cmp
 same_place n i m j = grind (arith, nat_tests)
 
 -- a receipt of a node that has no trace names no entry
-pub none_past : (traces : Traces) (node index : ℕ) (entry : Entry) → length traces ≤ node → entry_at traces node index ≡ Some entry → ⊥
+pub none_past : (traces : Traces) (node index : ℕ) (entry : Entry) → length traces ≤ node →
+    entry_at traces node index ≡ Some entry → ⊥
 none_past traces node index entry past is =
     let inside : index < length (trace_of traces node) = entry_within traces node index entry is in
     let none : length (trace_of traces node) ≡ 0 = ap (λ t. length t) (trace_past traces node past) in
     omega (arith, inside, none)
 
-pub told_past : (traces : Traces) (node index : ℕ) (t : Told) → length traces ≤ node → option_map told (entry_at traces node index) ≡ Some t → ⊥
+pub told_past : (traces : Traces) (node index : ℕ) (t : Told) → length traces ≤ node →
+    option_map told (entry_at traces node index) ≡ Some t → ⊥
 told_past traces node index t past is = at (entry_at traces node index) refl is
   where
     at : (o : Option Entry) → entry_at traces node index ≡ o → option_map told o ≡ Some t → ⊥
@@ -45,12 +47,16 @@ note_first old new node index fresh put n i =
       | inl w ↦ (elim (eqb_tells index i) [
         | inl v ↦
             let was : old n i ≡ false = ap (λ m. old m i) (sym w.1) ∙ ap (λ j. old node j) (sym v.1) ∙ fresh in
-            let now : new n i ≡ true = is ∙ ap (λ b. cond (b && (index == i)) true (old n i)) w.0 ∙ ap (λ b. cond b true (old n i)) v.0 in
-            let one : cond ((node == n) && (index == i)) 1 0 ≡ 1 = ap {B = ℕ} (λ b. cond (b && (index == i)) 1 0) w.0 ∙ ap {B = ℕ} (λ b. cond b 1 0) v.0 in
+            let now : new n i ≡ true = is ∙ ap (λ b. cond (b && (index == i)) true (old n i)) w.0 ∙
+            ap (λ b. cond b true (old n i)) v.0 in
+            let one : cond ((node == n) && (index == i)) 1 0 ≡ 1 = ap {B = ℕ} (λ b. cond (b && (index == i)) 1 0) w.0 ∙
+            ap {B = ℕ} (λ b. cond b 1 0) v.0 in
             omega (arith, ap {B = ℕ} (λ b. cond b 1 0) was, ap {B = ℕ} (λ b. cond b 1 0) now, one)
         | inr v ↦
-            let now : new n i ≡ old n i = is ∙ ap (λ b. cond (b && (index == i)) true (old n i)) w.0 ∙ ap (λ b. cond b true (old n i)) v.0 in
-            let none : cond ((node == n) && (index == i)) 1 0 ≡ 0 = ap {B = ℕ} (λ b. cond (b && (index == i)) 1 0) w.0 ∙ ap {B = ℕ} (λ b. cond b 1 0) v.0 in
+            let now : new n i ≡ old n i = is ∙ ap (λ b. cond (b && (index == i)) true (old n i)) w.0 ∙
+            ap (λ b. cond b true (old n i)) v.0 in
+            let none : cond ((node == n) && (index == i)) 1 0 ≡ 0 = ap {B = ℕ} (λ b. cond (b && (index == i)) 1 0) w.0 ∙
+            ap {B = ℕ} (λ b. cond b 1 0) v.0 in
             omega (arith, ap {B = ℕ} (λ b. cond b 1 0) now, none)
       ])
       | inr w ↦
@@ -76,10 +82,12 @@ seen_once seen n i = at_most_one (contains place_cmp seen.places (n, i))
     at_most_one true = omega arith
     at_most_one false = omega arith
 
-pub given_once : (seen : Seen) (lists : List (Vec Receipt Global)) → ((n i : ℕ) → times_seen seen n i ≡ given_all n i lists) → GivenOnce lists
+pub given_once : (seen : Seen) (lists : List (Vec Receipt Global)) →
+    ((n i : ℕ) → times_seen seen n i ≡ given_all n i lists) → GivenOnce lists
 given_once seen lists counted = λ n i. omega (arith, seen_once seen n i, counted n i)
 
-pub given_everywhere : (traces : Traces) (seen : Seen) (lists : List (Vec Receipt Global)) → ((n i : ℕ) → times_seen seen n i ≡ given_all n i lists) →
+pub given_everywhere : (traces : Traces) (seen : Seen) (lists : List (Vec Receipt Global)) →
+    ((n i : ℕ) → times_seen seen n i ≡ given_all n i lists) →
     ((n i : ℕ) → n < length traces → i < length (trace_of traces n) → times_seen seen n i ≡ 1) → GivenAll traces lists
 given_everywhere traces seen lists counted present = λ n i inside. elim (leb_tells (length traces) n) [
   | inl w ↦

@@ -9,7 +9,8 @@ use Rattle.audit.specs.Schedules.{Step, entries_at, WasEmitted, AreFed}
 use Rattle.audit.specs.Places.{count_at, emitted_at, IsSent, IsReady, IsRun, step_with, steps_at}
 use Rattle.audit.proofs.Runs.{count_cases}
 
-pub take_one_more : (es : List Entry) (k : ℕ) (e : Entry) → slice_get es k ≡ Some e → take (suc k) es ≡ take k es ++ e ∷ []
+pub take_one_more : (es : List Entry) (k : ℕ) (e : Entry) → slice_get es k ≡ Some e →
+    take (suc k) es ≡ take k es ++ e ∷ []
 take_one_more [] k e is = absurd (cc is)
 take_one_more (f ∷ es) zero e is = let same : f ≡ e = cc is in ap (λ x. x ∷ []) same
 take_one_more (f ∷ es) (suc k) e is = ap (λ xs. f ∷ xs) (take_one_more es k e is)
@@ -28,7 +29,8 @@ at_cases node step steps = elim (eqb_tells step.node node) [
 ]
 
 -- an element keeps its place where one is put behind it
-slice_get_front : (xs : List Entry) (y : Entry) (k : ℕ) (e : Entry) → slice_get xs k ≡ Some e → slice_get (xs ++ y ∷ []) k ≡ Some e
+slice_get_front : (xs : List Entry) (y : Entry) (k : ℕ) (e : Entry) → slice_get xs k ≡ Some e →
+    slice_get (xs ++ y ∷ []) k ≡ Some e
 slice_get_front [] y k e is = absurd (cc is)
 slice_get_front (x ∷ xs) y zero e is = is
 slice_get_front (x ∷ xs) y (suc k) e is = slice_get_front xs y k e is
@@ -52,11 +54,13 @@ pub entries_taken : (traces : Traces) (placed : List (ℕ × ℕ)) → IsRun tra
 unfolding entry_at
 entries_taken traces [] run node = refl
 entries_taken traces (place ∷ earlier) run node =
-    ap (λ s. entries_at node s) (steps_more traces earlier place run.0) ∙ (elim (at_cases node (step_of traces earlier place run.0) (steps_at traces earlier)) [
+    ap (λ s. entries_at node s) (steps_more traces earlier place run.0) ∙
+    (elim (at_cases node (step_of traces earlier place run.0) (steps_at traces earlier)) [
       | inl w ↦ (elim (count_cases node place earlier) [
         | inl v ↦
             let is : slice_get (trace_of traces node) (count_at node earlier) ≡ Some run.0.entry =
-            ap (λ n. slice_get (trace_of traces n) (count_at n earlier)) (sym w.0) ∙ ap (λ i. slice_get (trace_of traces place.0) i) (sym run.0.next) ∙ run.0.there in
+            ap (λ n. slice_get (trace_of traces n) (count_at n earlier)) (sym w.0) ∙
+            ap (λ i. slice_get (trace_of traces place.0) i) (sym run.0.next) ∙ run.0.there in
             let more : count_at node (place ∷ earlier) ≡ suc (count_at node earlier) = omega (arith, v.1) in
             w.1 ∙ ap (λ es. es ++ run.0.entry ∷ []) (entries_taken traces earlier run.1 node)
             ∙ sym (take_one_more (trace_of traces node) (count_at node earlier) run.0.entry is)
@@ -69,7 +73,8 @@ entries_taken traces (place ∷ earlier) run node =
       ])
     ])
 
-pub emitted_of_sent : (traces : Traces) (placed : List (ℕ × ℕ)) → IsRun traces placed → (bytes : List ℕ) → IsSent traces placed bytes → WasEmitted (steps_at traces placed) bytes
+pub emitted_of_sent : (traces : Traces) (placed : List (ℕ × ℕ)) → IsRun traces placed → (bytes : List ℕ) →
+    IsSent traces placed bytes → WasEmitted (steps_at traces placed) bytes
 emitted_of_sent traces [] run bytes sent = sent
 emitted_of_sent traces (place ∷ earlier) run bytes sent =
     subst (λ s. WasEmitted s bytes) (sym (steps_more traces earlier place run.0)) (elim sent [
@@ -90,7 +95,8 @@ pub record IsSentFrom (traces : Traces) (placed : List (ℕ × ℕ)) (bytes : Li
   pub inside : index < count_at node placed
   pub is : emitted_at traces node index ≡ Some bytes
 
-pub sent_from : (traces : Traces) (placed : List (ℕ × ℕ)) → IsRun traces placed → (bytes : List ℕ) → IsSent traces placed bytes → IsSentFrom traces placed bytes
+pub sent_from : (traces : Traces) (placed : List (ℕ × ℕ)) → IsRun traces placed → (bytes : List ℕ) →
+    IsSent traces placed bytes → IsSentFrom traces placed bytes
 sent_from traces [] run bytes sent = absurd sent
 sent_from traces (place ∷ earlier) run bytes sent = elim sent [
   | inl is ↦
@@ -99,7 +105,8 @@ sent_from traces (place ∷ earlier) run bytes sent = elim sent [
         node = place.0;
         index = place.1;
         inside = elim (count_cases place.0 place earlier) [
-          | inl v ↦ (let more : count_at place.0 (place ∷ earlier) ≡ 1 + count_at place.0 earlier = v.1 in omega (arith, next, more))
+          | inl v ↦ (let more : count_at place.0 (place ∷ earlier) ≡ 1 + count_at place.0 earlier = v.1 in
+              omega (arith, next, more))
           | inr v ↦ absurd (v.0 refl)
         ];
         is = is;
@@ -111,8 +118,10 @@ sent_from traces (place ∷ earlier) run bytes sent = elim sent [
         node = from.node;
         index = from.index;
         inside = elim (count_cases from.node place earlier) [
-          | inl v ↦ (let more : count_at from.node (place ∷ earlier) ≡ 1 + count_at from.node earlier = v.1 in omega (arith, below, more))
-          | inr v ↦ (let same : count_at from.node (place ∷ earlier) ≡ count_at from.node earlier = v.1 in omega (arith, below, same))
+          | inl v ↦ (let more : count_at from.node (place ∷ earlier) ≡ 1 + count_at from.node earlier = v.1 in
+              omega (arith, below, more))
+          | inr v ↦ (let same : count_at from.node (place ∷ earlier) ≡ count_at from.node earlier = v.1 in
+              omega (arith, below, same))
         ];
         is = from.is;
       }
@@ -131,7 +140,8 @@ count_entries node (step ∷ earlier) = elim (at_cases node step earlier) [
   | inl w ↦ (elim (count_cases node (step.node, length (entries_at step.node earlier)) (places_of earlier)) [
     | inl v ↦
         let rest : count_at node (places_of earlier) ≡ length (entries_at node earlier) = count_entries node earlier in
-        let long : length (entries_at node (step ∷ earlier)) ≡ length (entries_at node earlier) + 1 = ap (λ es. length es) w.1 ∙ length-append (entries_at node earlier) (step.entry ∷ []) in
+        let long : length (entries_at node (step ∷ earlier)) ≡ length (entries_at node earlier) + 1 =
+        ap (λ es. length es) w.1 ∙ length-append (entries_at node earlier) (step.entry ∷ []) in
         omega (arith, v.1, rest, long)
     | inr v ↦ absurd (v.0 w.0)
   ])
@@ -143,11 +153,14 @@ count_entries node (step ∷ earlier) = elim (at_cases node step earlier) [
 
 -- the entries at each node begin its trace
 abbrev pub Begins : Traces → List Step → Type 0
-Begins traces steps = (node k : ℕ) (e : Entry) → slice_get (entries_at node steps) k ≡ Some e → slice_get (trace_of traces node) k ≡ Some e
+Begins traces steps = (node k : ℕ) (e : Entry) → slice_get (entries_at node steps) k ≡ Some e →
+    slice_get (trace_of traces node) k ≡ Some e
 
-begins_earlier : (traces : Traces) (step : Step) (earlier : List Step) → Begins traces (step ∷ earlier) → Begins traces earlier
+begins_earlier : (traces : Traces) (step : Step) (earlier : List Step) → Begins traces (step ∷ earlier) →
+    Begins traces earlier
 begins_earlier traces step earlier begins node k e is = elim (at_cases node step earlier) [
-  | inl w ↦ begins node k e (ap (λ es. slice_get es k) w.1 ∙ slice_get_front (entries_at node earlier) step.entry k e is)
+  | inl w ↦ begins node k e (ap (λ es. slice_get es k) w.1 ∙
+      slice_get_front (entries_at node earlier) step.entry k e is)
   | inr w ↦ begins node k e (ap (λ es. slice_get es k) w.1 ∙ is)
 ]
 
@@ -155,11 +168,14 @@ place_there : (traces : Traces) (step : Step) (earlier : List Step) → Begins t
     entry_at traces step.node (length (entries_at step.node earlier)) ≡ Some step.entry
 unfolding entry_at
 place_there traces step earlier begins = elim (at_cases step.node step earlier) [
-  | inl w ↦ begins step.node (length (entries_at step.node earlier)) step.entry (ap (λ es. slice_get es (length (entries_at step.node earlier))) w.1 ∙ slice_get_end (entries_at step.node earlier) step.entry)
+  | inl w ↦ begins step.node (length (entries_at step.node earlier)) step.entry
+      (ap (λ es. slice_get es (length (entries_at step.node earlier))) w.1 ∙
+      slice_get_end (entries_at step.node earlier) step.entry)
   | inr w ↦ absurd (w.0 refl)
 ]
 
-sent_of_emitted : (traces : Traces) (steps : List Step) → Begins traces steps → (bytes : List ℕ) → WasEmitted steps bytes → IsSent traces (places_of steps) bytes
+sent_of_emitted : (traces : Traces) (steps : List Step) → Begins traces steps → (bytes : List ℕ) →
+    WasEmitted steps bytes → IsSent traces (places_of steps) bytes
 unfolding places_of
 sent_of_emitted traces [] begins bytes was = was
 sent_of_emitted traces (step ∷ earlier) begins bytes was = elim was [
@@ -167,7 +183,8 @@ sent_of_emitted traces (step ∷ earlier) begins bytes was = elim was [
   | inr later ↦ inr (sent_of_emitted traces earlier (begins_earlier traces step earlier begins) bytes later)
 ]
 
-pub run_of_steps : (traces : Traces) (steps : List Step) → Begins traces steps → AreFed steps → IsRun traces (places_of steps)
+pub run_of_steps : (traces : Traces) (steps : List Step) → Begins traces steps → AreFed steps →
+    IsRun traces (places_of steps)
 unfolding places_of
 run_of_steps traces [] begins fed = tt
 run_of_steps traces (step ∷ earlier) begins fed =

@@ -14,7 +14,8 @@ and_both true q r = refl
 and_both false q r = refl
 
 -- two places compare equal where all three numbers are
-pub same_places : (a b c x y z : ℕ) → (a == x && (b == y && (c == z))) ≡ is_eq (ordering_then (ordering_then (nat_cmp a x) (nat_cmp b y)) (nat_cmp c z))
+pub same_places : (a b c x y z : ℕ) → (a == x && (b == y && (c == z))) ≡ is_eq
+    (ordering_then (ordering_then (nat_cmp a x) (nat_cmp b y)) (nat_cmp c z))
 same_places a b c x y z =
     and_both (a == x) (b == y) (c == z)
     ∙ both_tied (a == x && (b == y)) (c == z) (ordering_then (nat_cmp a x) (nat_cmp b y)) (nat_cmp c z)
@@ -26,7 +27,8 @@ pub grown : (f g : ℕ → ℕ → ℕ → Option ℕ) (a b c amount x y z : ℕ
     unwrap_or (g x y z) 0 ≡ unwrap_or (f x y z) 0 + cond (a == x && (b == y && (c == z))) amount 0
 grown f g a b c amount x y z put = at (a == x && (b == y && (c == z))) refl
   where
-    at : (t : Bool) → (a == x && (b == y && (c == z))) ≡ t → unwrap_or (g x y z) 0 ≡ unwrap_or (f x y z) 0 + cond t amount 0
+    at : (t : Bool) → (a == x && (b == y && (c == z))) ≡ t →
+        unwrap_or (g x y z) 0 ≡ unwrap_or (f x y z) 0 + cond t amount 0
     at true h =
         let first = and_parts (a == x) _ h in
         let rest = and_parts (b == y) _ first.1 in
@@ -34,7 +36,8 @@ grown f g a b c amount x y z put = at (a == x && (b == y && (c == z))) refl
         let f1 : b ≡ y = eqb-true b y rest.0 in
         let f2 : c ≡ z = eqb-true c z rest.1 in
         let here : f a b c ≡ f x y z = ap (λ n. f n b c) e ∙ ap (λ n. f x n c) f1 ∙ ap (λ n. f x y n) f2 in
-        let now : g x y z ≡ Some (unwrap_or (f a b c) 0 + amount) = put ∙ ap (λ t. cond t (Some (unwrap_or (f a b c) 0 + amount)) (f x y z)) h in
+        let now : g x y z ≡ Some (unwrap_or (f a b c) 0 + amount) = put ∙
+        ap (λ t. cond t (Some (unwrap_or (f a b c) 0 + amount)) (f x y z)) h in
         ap (λ o. unwrap_or o 0) now ∙ ap (λ o. unwrap_or o 0 + amount) here
     at false h =
         let now : g x y z ≡ f x y z = put ∙ ap (λ t. cond t (Some (unwrap_or (f a b c) 0 + amount)) (f x y z)) h in

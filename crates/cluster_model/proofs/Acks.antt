@@ -26,40 +26,50 @@ pub record HasAcks (w : World) : Type 0 where
 raised : (from base upto j : ℕ) (known : ℕ → ℕ) → known j ≤ known_raised from base upto known j
 raised from base upto j known = at (j == from && (nat_le base (known j) && nat_lt (known j) upto)) refl
   where
-    at : (t : Bool) → (j == from && (nat_le base (known j) && nat_lt (known j) upto)) ≡ t → known j ≤ cond t upto (known j)
+    at : (t : Bool) → (j == from && (nat_le base (known j) && nat_lt (known j) upto)) ≡ t →
+        known j ≤ cond t upto (known j)
     at true e =
         let below = ltb-true (known j) upto (and_parts (nat_le base (known j)) _ (and_parts (j == from) _ e).1).1 in
         omega (arith, below)
     at false e = omega arith
 
-known_grows : (i : ℕ) (n : Node) (a : Option Asked) (words : List ℕ) (j : ℕ) → n.marks.known j ≤ (node_after i n a words).marks.known j
+known_grows : (i : ℕ) (n : Node) (a : Option Asked) (words : List ℕ) (j : ℕ) →
+    n.marks.known j ≤ (node_after i n a words).marks.known j
 unfolding after
 known_grows i n None words j = omega arith
-known_grows i n (Some (asks.Deliver read)) words j = raised (message_in read).from (message_in read).base (message_in read).upto j n.marks.known
+known_grows i n (Some (asks.Deliver read)) words j = raised (message_in read).from (message_in read).base
+    (message_in read).upto j n.marks.known
 known_grows i n (Some ask) words j = omega arith
 
 -- ---- one event
 
 -- a message is accepted by the node that it is for
-pub delivered_to : (c : Cluster) (w : World) (e : Event) (i : ℕ) (read : Result Message WireFault) → accepted c w e i ≡ Some (asks.Deliver read) → (message_in read).to ≡ i
+pub delivered_to : (c : Cluster) (w : World) (e : Event) (i : ℕ) (read : Result Message WireFault) →
+    accepted c w e i ≡ Some (asks.Deliver read) → (message_in read).to ≡ i
 delivered_to c w e i read p =
-    let all = none_applies (faults_of (config_of c i) (length (w.trace i)) (w.node i) (asks.Deliver read) e.words) (asked_is c w e i (asks.Deliver read) p).agreed in
+    let all = none_applies (faults_of (config_of c i) (length (w.trace i)) (w.node i) (asks.Deliver read) e.words)
+    (asked_is c w e i (asks.Deliver read) p).agreed in
     eqb-true (message_in read).to i (not-false _ (not_true _ _ all.1.1.1.1.0))
 
-acked_known : (c : Cluster) (w : World) (e : Event) (i j : ℕ) → HasAcks w → Allows w e.node (accepted c w e e.node) → (node_after i (w.node i) (accepted c w e i) e.words).marks.acked j ≤ (w.node j).marks.known i
+acked_known : (c : Cluster) (w : World) (e : Event) (i j : ℕ) → HasAcks w → Allows w e.node (accepted c w e e.node) →
+    (node_after i (w.node i) (accepted c w e i) e.words).marks.acked j ≤ (w.node j).marks.known i
 unfolding after
 acked_known c w e i j has allowed = at (accepted c w e i) refl
   where
-    of : (m : Message) (t : Bool) → (t ≡ true → j ≡ m.from) → m.to ≡ i → IsIn m w.messages → cond t (max ((w.node i).marks.acked j) m.ack) ((w.node i).marks.acked j) ≤ (w.node j).marks.known i
+    of : (m : Message) (t : Bool) → (t ≡ true → j ≡ m.from) → m.to ≡ i → IsIn m w.messages →
+        cond t (max ((w.node i).marks.acked j) m.ack) ((w.node i).marks.acked j) ≤ (w.node j).marks.known i
     of m true f mine h =
-        let told : m.ack ≤ (w.node j).marks.known i = subst (λ k. m.ack ≤ (w.node k).marks.known i) (sym (f refl)) (subst (λ k. m.ack ≤ (w.node m.from).marks.known k) mine (has.ack m h)) in
+        let told : m.ack ≤ (w.node j).marks.known i = subst (λ k. m.ack ≤ (w.node k).marks.known i) (sym (f refl))
+        (subst (λ k. m.ack ≤ (w.node m.from).marks.known k) mine (has.ack m h)) in
         let before = has.acked i j in
         omega (arith, told, before)
     of m false f mine h = has.acked i j
 
-    at : (a : Option Asked) → accepted c w e i ≡ a → (node_after i (w.node i) a e.words).marks.acked j ≤ (w.node j).marks.known i
+    at : (a : Option Asked) → accepted c w e i ≡ a → (node_after i (w.node i) a e.words).marks.acked j ≤
+        (w.node j).marks.known i
     at None p = has.acked i j
-    at (Some (asks.Deliver read)) p = of (message_in read) (j == (message_in read).from) (eqb-true j (message_in read).from) (delivered_to c w e i read p) (delivered_was_sent c w e i read allowed p)
+    at (Some (asks.Deliver read)) p = of (message_in read) (j == (message_in read).from)
+        (eqb-true j (message_in read).from) (delivered_to c w e i read p) (delivered_was_sent c w e i read allowed p)
     at (Some ask) p = has.acked i j
 
 record IsAcked (w : World) (m : Message) : Type 0 where
@@ -69,19 +79,29 @@ record IsAcked (w : World) (m : Message) : Type 0 where
 up : (a b c : ℕ) → a ≤ b → b ≤ c → a ≤ c
 up a b c h k = omega (arith, h, k)
 
-sent_acked : (i : ℕ) (w : World) (a : Option Asked) (m : Message) → Allows w i a → IsIn m (sent i (w.node i) a) → HasAcks w → IsAcked w m
+sent_acked : (i : ℕ) (w : World) (a : Option Asked) (m : Message) → Allows w i a → IsIn m (sent i (w.node i) a) →
+    HasAcks w → IsAcked w m
 sent_acked i w None m allowed h has = absurd h
-sent_acked i w (Some (asks.Emit to versions chosen)) m allowed (inl h) has = subst (λ (l : Message). IsAcked w l) (sym h) (record { ack = allowed.0.ack; base = up _ _ _ allowed.0.base (has.acked i to) })
+sent_acked i w (Some (asks.Emit to versions chosen)) m allowed (inl h) has =
+    subst (λ (l : Message). IsAcked w l) (sym h) (record {
+      ack = allowed.0.ack;
+      base =
+          up _ _ _ allowed.0.base (has.acked i to);
+    })
 sent_acked i w (Some (asks.Emit to versions chosen)) m allowed (inr h) has = absurd h
 sent_acked i w (Some ask) m allowed h has = absurd h
 
-acks_after : (c : Cluster) (w : World) (e : Event) → HasAcks w → Allows w e.node (accepted c w e e.node) → HasAcks (happens c w e)
+acks_after : (c : Cluster) (w : World) (e : Event) → HasAcks w → Allows w e.node (accepted c w e e.node) →
+    HasAcks (happens c w e)
 acks_after c w e has allowed =
-    let grows : (i j : ℕ) → (w.node i).marks.known j ≤ ((happens c w e).node i).marks.known j = λ i j. known_grows i (w.node i) (accepted c w e i) e.words j in
+    let grows : (i j : ℕ) → (w.node i).marks.known j ≤ ((happens c w e).node i).marks.known j =
+    λ i j. known_grows i (w.node i) (accepted c w e i) e.words j in
     record {
       acked = λ i j. up _ _ _ (acked_known c w e i j has allowed) (grows j i);
-      ack = λ m h. up _ _ _ (⊎_elim (has.ack m) (λ k. (sent_acked e.node w (accepted c w e e.node) m allowed k has).ack) (IsIn-append_cases m _ _ h)) (grows m.from m.to);
-      base = λ m h. up _ _ _ (⊎_elim (has.base m) (λ k. (sent_acked e.node w (accepted c w e e.node) m allowed k has).base) (IsIn-append_cases m _ _ h)) (grows m.to m.from);
+      ack = λ m h. up _ _ _ (⊎_elim (has.ack m) (λ k. (sent_acked e.node w (accepted c w e e.node) m allowed k has).ack)
+          (IsIn-append_cases m _ _ h)) (grows m.from m.to);
+      base = λ m h. up _ _ _ (⊎_elim (has.base m) (λ k. (sent_acked e.node w (accepted c w e e.node) m allowed k
+          has).base) (IsIn-append_cases m _ _ h)) (grows m.to m.from);
     }
 
 pub has_acks : (c : Cluster) (es : List Event) → IsSchedule c es → HasAcks (world c es)

@@ -20,10 +20,12 @@ pub spent_at_most : (b : Budget) → ((i : ℕ) → gone_from b i ≤ given_to b
 spent_at_most b h =
     let all = sum-le node_numbers (gone_from b) (given_to b) h in
     let gone = sum-add node_numbers (λ i. sum_others node_numbers i (λ j. b.shifted i j)) b.spent in
-    let given = sum-add node_numbers (λ i. cond (i == b.setter) b.count 0 + granted_by b i) (λ i. sum_others node_numbers i (λ j. b.shifted j i)) in
+    let given = sum-add node_numbers (λ i. cond (i == b.setter) b.count 0 + granted_by b i)
+    (λ i. sum_others node_numbers i (λ j. b.shifted j i)) in
     let had = sum-add node_numbers (λ i. cond (i == b.setter) b.count 0) (granted_by b) in
     let moved = from_to node_numbers b.shifted in
-    let own = sum-one node_numbers (λ i. cond (i == b.setter) b.count 0) b.setter b.count (λ i ne. other (i == b.setter) (λ e. ne (eqb-true i b.setter e))) (at_most (b.setter == b.setter)) in
+    let own = sum-one node_numbers (λ i. cond (i == b.setter) b.count 0) b.setter b.count
+    (λ i ne. other (i == b.setter) (λ e. ne (eqb-true i b.setter e))) (at_most (b.setter == b.setter)) in
     omega (arith, all, gone, given, had, moved, own)
   where
     other : (t : Bool) → (t ≡ true → ⊥) → cond t b.count 0 ≡ 0
@@ -34,7 +36,8 @@ spent_at_most b h =
     at_most true = omega arith
     at_most false = omega arith
 
-module _ (v w : State) (j : ℕ) (as_of : IsAsOf v w j) (name : List ℕ) (key : KeyValue) (term count : ℕ) (under : v.key name ≡ Some key) where
+module _ (v w : State) (j : ℕ) (as_of : IsAsOf v w j) (name : List ℕ) (key : KeyValue) (term count : ℕ)
+    (under : v.key name ≡ Some key) where
   -- of what node j wrote there is as much, where that is under the key
   execs_are : v.execs name term j ≡ number_under w (Execs name key term j)
   execs_are = same_number v w j as_of (Execs name key term j) refl (v.execs name term j) (under, refl)
@@ -46,19 +49,26 @@ module _ (v w : State) (j : ℕ) (as_of : IsAsOf v w j) (name : List ℕ) (key :
   given_upto : w.key name ≡ Some key → (from : ℕ) → w.shifts name term from j ≤ v.shifts name term from j
   given_upto e from = (upto_below w v name (as_of.above name)).shifts (e ∙ sym under) term from j
 
-  pub solvent_as_of : (w.key name ≡ Some key → gone_from (budget w name term key.node count) j ≤ given_to (budget w name term key.node count) j) → gone_from (budget v name term key.node count) j ≤ given_to (budget v name term key.node count) j
+  pub solvent_as_of : (w.key name ≡ Some key → gone_from (budget w name term key.node count) j ≤ given_to
+      (budget w name term key.node count) j) → gone_from (budget v name term key.node count) j ≤ given_to
+      (budget v name term key.node count) j
   solvent_as_of solvent = at (is_key key (w.key name)) refl
     where
-      at : (t : Bool) → is_key key (w.key name) ≡ t → gone_from (budget v name term key.node count) j ≤ given_to (budget v name term key.node count) j
+      at : (t : Bool) → is_key key (w.key name) ≡ t → gone_from (budget v name term key.node count) j ≤ given_to
+          (budget v name term key.node count) j
       at true e =
           let there = is_key-of key (w.key name) e in
           let enough = solvent there in
-          let spent : v.execs name term j ≡ w.execs name term j = execs_are ∙ ap (λ t. cond t (w.execs name term j) 0) e in
-          let out = sum_others-same node_numbers j (v.shifts name term j) (w.shifts name term j) (λ to. shifts_are to ∙ ap (λ t. cond t (w.shifts name term j to) 0) e) in
-          let came = sum_others-le node_numbers j (λ from. w.shifts name term from j) (λ from. v.shifts name term from j) (given_upto there) in
+          let spent : v.execs name term j ≡ w.execs name term j = execs_are ∙
+          ap (λ t. cond t (w.execs name term j) 0) e in
+          let out = sum_others-same node_numbers j (v.shifts name term j) (w.shifts name term j)
+          (λ to. shifts_are to ∙ ap (λ t. cond t (w.shifts name term j to) 0) e) in
+          let came = sum_others-le node_numbers j (λ from. w.shifts name term from j)
+          (λ from. v.shifts name term from j) (given_upto there) in
           let grants : w.shifts name term j j ≤ v.shifts name term j j = given_upto there j in
           omega (arith, enough, spent, out, came, grants)
       at false e =
           let spent : v.execs name term j ≡ 0 = execs_are ∙ ap (λ t. cond t (w.execs name term j) 0) e in
-          let out = sum_others-zero node_numbers j (v.shifts name term j) (λ to. shifts_are to ∙ ap (λ t. cond t (w.shifts name term j to) 0) e) in
+          let out = sum_others-zero node_numbers j (v.shifts name term j)
+          (λ to. shifts_are to ∙ ap (λ t. cond t (w.shifts name term j to) 0) e) in
           omega (arith, spent, out)

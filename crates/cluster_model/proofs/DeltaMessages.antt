@@ -15,15 +15,19 @@ use Rattle.cluster_model.proofs.Honest.{own_reason}
 use Rattle.cluster_model.proofs.NotOverspent.{merge_not_overspent}
 
 module _ (c : Cluster) (es : List Event) (s : IsDeltaSchedule c es) (i : ℕ) (message : Message) where
-  pub delta_messages : IsIn message (world c es).messages → (message.to ≡ i → merge_overspends c es i message ≡ false) × IsOwnReason (refusal (kept c es i) (asks.Deliver (Ok message)) [])
+  pub delta_messages : IsIn message (world c es).messages → (message.to ≡ i → merge_overspends c es i message ≡ false) ×
+      IsOwnReason (refusal (kept c es i) (asks.Deliver (Ok message)) [])
   delta_messages h = (
     merge_not_overspent c es s i message h,
-    subst (λ (n : Node). IsOwnReason (refusal_at (config_of c i) (length ((world c es).trace i)) n (asks.Deliver (Ok message)) [])) (node_is_replay c es i)
+    subst (λ (n : Node). IsOwnReason (refusal_at (config_of c i) (length ((world c es).trace i)) n
+        (asks.Deliver (Ok message)) [])) (node_is_replay c es i)
         (own_reason c es (deltas_are_schedules c es s) i message h (merge_not_overspent c es s i message h)),
   )
 
-  pub delta_message_bytes : (bytes : List ℕ) → IsIn message (world c es).messages → message_read c.nodes bytes ≡ Ok message →
-      AllowsDelta (world c es) i (Some (delivery_of (kept c es i) bytes)) × IsOwnReason (refusal (kept c es i) (delivery_of (kept c es i) bytes) [])
+  pub delta_message_bytes : (bytes : List ℕ) → IsIn message (world c es).messages →
+      message_read c.nodes bytes ≡ Ok message →
+      AllowsDelta (world c es) i (Some (delivery_of (kept c es i) bytes)) × IsOwnReason
+      (refusal (kept c es i) (delivery_of (kept c es i) bytes) [])
   delta_message_bytes bytes h read = (
     subst (λ r. AllowsDelta (world c es) i (Some (asks.Deliver r))) (sym read) h,
     subst (λ r. IsOwnReason (refusal (kept c es i) (asks.Deliver r) [])) (sym read) (delta_messages h).1,

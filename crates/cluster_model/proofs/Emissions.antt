@@ -17,7 +17,8 @@ use Rattle.cluster_model.proofs.Replays.{node_is_replay}
 use Rattle.cluster_model.proofs.Closed.{told_may, delta_may_send}
 
 -- what is allowed of an ask is allowed of what is accepted of it
-once_accepted : (c : Cluster) (es : List Event) (e : Event) (P : Option Asked → Type 0) → P None → P (Some e.ask) → P (accepted c (world c es) e e.node)
+once_accepted : (c : Cluster) (es : List Event) (e : Event) (P : Option Asked → Type 0) → P None → P (Some e.ask) →
+    P (accepted c (world c es) e e.node)
 once_accepted c es e P none some = at (accepted c (world c es) e e.node) refl
   where
     at : (a : Option Asked) → accepted c (world c es) e e.node ≡ a → P a
@@ -34,18 +35,24 @@ module _ (c : Cluster) (es : List Event) (i to : ℕ) (bytes : List ℕ) (told :
   differs : AllowsDelta (world c es) i (Some ask)
   differs = of (message_read c.nodes bytes) sends
     where
-      of : (read : Result Message WireFault) → SendsDelta ((world c es).node i) (emit_of to read) → AllowsDelta (world c es) i (Some (emit_of to read))
+      of : (read : Result Message WireFault) → SendsDelta ((world c es).node i) (emit_of to read) →
+          AllowsDelta (world c es) i (Some (emit_of to read))
       of (Ok m) h = h
       of (Err fault) h = h
 
   allowed : IsSchedule c es → Allows (world c es) i (Some ask)
   allowed s = of (message_read c.nodes bytes) sends
     where
-      may : (versions : Versions) (chosen : List Operation) → SendsDelta ((world c es).node i) (asks.Emit to versions chosen) → Allows (world c es) i (Some (asks.Emit to versions chosen))
-      may versions chosen h =
-          (subst (MayTell ((world c es).node i).marks to) (sym h.0) (told_may ((world c es).node i).marks to), delta_may_send c es s i (((world c es).node i).past versions.base) chosen h.1)
+      may : (versions : Versions) (chosen : List Operation) →
+          SendsDelta ((world c es).node i) (asks.Emit to versions chosen) →
+          Allows (world c es) i (Some (asks.Emit to versions chosen))
+      may versions chosen h = (
+        subst (MayTell ((world c es).node i).marks to) (sym h.0) (told_may ((world c es).node i).marks to),
+        delta_may_send c es s i (((world c es).node i).past versions.base) chosen h.1,
+      )
 
-      of : (read : Result Message WireFault) → SendsDelta ((world c es).node i) (emit_of to read) → Allows (world c es) i (Some (emit_of to read))
+      of : (read : Result Message WireFault) → SendsDelta ((world c es).node i) (emit_of to read) →
+          Allows (world c es) i (Some (emit_of to read))
       of (Ok m) h = may _ m.ops h
       of (Err fault) h = may _ [] h
 
@@ -60,5 +67,8 @@ module _ (c : Cluster) (es : List Event) (i to : ℕ) (bytes : List ℕ) (told :
         differs = differs;
         allowed = allowed;
         schedule = λ s. (once_accepted c es (emission c es i to bytes) (Allows (world c es) i) tt (allowed s), s);
-        delta_schedule = λ s. (once_accepted c es (emission c es i to bytes) (AllowsDelta (world c es) i) tt differs, s);
+        delta_schedule = λ s. (
+          once_accepted c es (emission c es i to bytes) (AllowsDelta (world c es) i) tt differs,
+          s,
+        );
       }

@@ -60,13 +60,15 @@ answered : answers (nodes 2) script ≡
     Some (asks.IsPassed (Act (stamp 1 0) 0 off)) ∷
     Some (asks.IsEmitted (Ok second)) ∷
     Some (asks.IsDelivered true) ∷ []
-unfolding digits node_numbers after fold same_cell terms_in_text choice number_at short_number_at decimals_at percent_at pieces trimmed_text argument_at chance_at count_at time_at task_at term_at terms_at reading
+unfolding digits node_numbers after fold same_cell terms_in_text choice number_at short_number_at decimals_at percent_at
+    pieces trimmed_text argument_at chance_at count_at time_at task_at term_at terms_at reading
 answered = refl
 
 -- ---- each message tells what differs from nothing, which is what its receiver is known to have
 
 setting_differs : IsDelta (fold []) (fold setting) setting
-unfolding digits node_numbers after fold same_cell terms_in_text choice number_at short_number_at decimals_at percent_at pieces trimmed_text argument_at chance_at count_at time_at task_at term_at terms_at reading
+unfolding digits node_numbers after fold same_cell terms_in_text choice number_at short_number_at decimals_at percent_at
+    pieces trimmed_text argument_at chance_at count_at time_at task_at term_at terms_at reading
 setting_differs = all_of_one a key setting setting refl (inl refl) told (λ op h t. h)
   where
     told : (op : Operation) → IsIn op setting → IsTold (fold setting) op
@@ -78,7 +80,8 @@ abbrev known : List Operation
 known = Count (Execs a key 0 1) 1 ∷ Count (Hits a 1) 2 ∷ Count (Shifts a key 0 1 1) 3 ∷ Count (Hits a 1) 1 ∷ setting
 
 spends_differ : IsDelta (fold []) (fold known) spends
-unfolding digits node_numbers after fold same_cell terms_in_text choice number_at short_number_at decimals_at percent_at pieces trimmed_text argument_at chance_at count_at time_at task_at term_at terms_at reading
+unfolding digits node_numbers after fold same_cell terms_in_text choice number_at short_number_at decimals_at percent_at
+    pieces trimmed_text argument_at chance_at count_at time_at task_at term_at terms_at reading
 spends_differ = all_of_one a key known spends refl (inr (inr (inr (inr (inl refl))))) told rest
   where
     told : (op : Operation) → IsIn op spends → IsTold (fold known) op
@@ -99,39 +102,60 @@ spends_differ = all_of_one a key known spends refl (inr (inr (inr (inr (inl refl
     rest op (inr (inr (inr (inr h)))) t = inr (inr (inr h))
 
 is_schedule : IsDeltaSchedule (nodes 2) (reverse script)
-unfolding digits node_numbers after fold same_cell terms_in_text choice number_at short_number_at decimals_at percent_at pieces trimmed_text argument_at chance_at count_at time_at task_at term_at terms_at reading
-is_schedule = (inr (inl refl), ((refl, spends_differ), (tt, (tt, (tt, (inl refl, ((refl, setting_differs), (tt, tt))))))))
+unfolding digits node_numbers after fold same_cell terms_in_text choice number_at short_number_at decimals_at percent_at
+    pieces trimmed_text argument_at chance_at count_at time_at task_at term_at terms_at reading
+is_schedule = (
+  inr (inl refl),
+  (
+    (refl, spends_differ),
+    (
+      tt,
+      (
+        tt,
+        (tt, (inl refl, ((refl, setting_differs), (tt, tt)))),
+      ),
+    ),
+  ),
+)
 
 -- what node 0 then knows of both
 granted_seen : granted_in (state_of (nodes 2) (reverse script) 0) a 0 1 ≡ 3
-unfolding digits node_numbers after fold same_cell terms_in_text choice number_at short_number_at decimals_at percent_at pieces trimmed_text argument_at chance_at count_at time_at task_at term_at terms_at reading
+unfolding digits node_numbers after fold same_cell terms_in_text choice number_at short_number_at decimals_at percent_at
+    pieces trimmed_text argument_at chance_at count_at time_at task_at term_at terms_at reading
 granted_seen = refl
 
 granter_has : rights_of (state_of (nodes 2) (reverse script) 0) a 0 1 ≡ pos 2
-unfolding digits node_numbers after fold same_cell terms_in_text choice number_at short_number_at decimals_at percent_at pieces trimmed_text argument_at chance_at count_at time_at task_at term_at terms_at reading
+unfolding digits node_numbers after fold same_cell terms_in_text choice number_at short_number_at decimals_at percent_at
+    pieces trimmed_text argument_at chance_at count_at time_at task_at term_at terms_at reading
 granter_has = refl
 
 setter_has : rights_of (state_of (nodes 2) (reverse script) 0) a 0 0 ≡ pos 2
-unfolding digits node_numbers after fold same_cell terms_in_text choice number_at short_number_at decimals_at percent_at pieces trimmed_text argument_at chance_at count_at time_at task_at term_at terms_at reading
+unfolding digits node_numbers after fold same_cell terms_in_text choice number_at short_number_at decimals_at percent_at
+    pieces trimmed_text argument_at chance_at count_at time_at task_at term_at terms_at reading
 setter_has = refl
 
 spent_seen : spent_of (state_of (nodes 2) (reverse script) 0) a 0 ≡ 1
-unfolding digits node_numbers after fold same_cell terms_in_text choice number_at short_number_at decimals_at percent_at pieces trimmed_text argument_at chance_at count_at time_at task_at term_at terms_at reading
+unfolding digits node_numbers after fold same_cell terms_in_text choice number_at short_number_at decimals_at percent_at
+    pieces trimmed_text argument_at chance_at count_at time_at task_at term_at terms_at reading
 spent_seen = refl
 
 -- 4 held, none in transit and 1 executed are 2 counted and 3 granted
 held_then : all_held (nodes 2) (reverse script) a key 0 2 ≡ pos 4
-unfolding digits node_numbers after fold same_cell terms_in_text choice number_at short_number_at decimals_at percent_at pieces trimmed_text argument_at chance_at count_at time_at task_at term_at terms_at reading
+unfolding digits node_numbers after fold same_cell terms_in_text choice number_at short_number_at decimals_at percent_at
+    pieces trimmed_text argument_at chance_at count_at time_at task_at term_at terms_at reading
 held_then = refl
 
 in_transit_then : all_in_transit (nodes 2) (reverse script) a key 0 ≡ pos 0
-unfolding digits node_numbers after fold same_cell terms_in_text choice number_at short_number_at decimals_at percent_at pieces trimmed_text argument_at chance_at count_at time_at task_at term_at terms_at reading
+unfolding digits node_numbers after fold same_cell terms_in_text choice number_at short_number_at decimals_at percent_at
+    pieces trimmed_text argument_at chance_at count_at time_at task_at term_at terms_at reading
 in_transit_then = refl
 
 executed_then : all_executions (nodes 2) (reverse script) (stamp 1 0) 0 ≡ 1
-unfolding digits node_numbers after fold same_cell terms_in_text choice number_at short_number_at decimals_at percent_at pieces trimmed_text argument_at chance_at count_at time_at task_at term_at terms_at reading
+unfolding digits node_numbers after fold same_cell terms_in_text choice number_at short_number_at decimals_at percent_at
+    pieces trimmed_text argument_at chance_at count_at time_at task_at term_at terms_at reading
 executed_then = refl
 
 granted_then : all_granted (nodes 2) (reverse script) a key 0 ≡ 3
-unfolding digits node_numbers after fold same_cell terms_in_text choice number_at short_number_at decimals_at percent_at pieces trimmed_text argument_at chance_at count_at time_at task_at term_at terms_at reading
+unfolding digits node_numbers after fold same_cell terms_in_text choice number_at short_number_at decimals_at percent_at
+    pieces trimmed_text argument_at chance_at count_at time_at task_at term_at terms_at reading
 granted_then = refl

@@ -41,7 +41,8 @@ module _ (name : List ℕ) (key : KeyValue) (v : State) (new : v.key name ≡ So
   unfolding with_key
   other_execs n term node e = sym (ap (λ t. cond t 0 (v.execs n term node)) e)
 
-  other_shifts : (n : List ℕ) (term from to : ℕ) → bytes_eq name n ≡ false → v.shifts n term from to ≡ w.shifts n term from to
+  other_shifts : (n : List ℕ) (term from to : ℕ) → bytes_eq name n ≡ false →
+      v.shifts n term from to ≡ w.shifts n term from to
   unfolding with_key
   other_shifts n term from to e = sym (ap (λ t. cond t 0 (v.shifts n term from to)) e)
 
@@ -67,7 +68,10 @@ module _ (name : List ℕ) (key : KeyValue) (v : State) (new : v.key name ≡ So
   others_same n e (Set m k) h =
       let here = ap (bytes_eq name) h ∙ e in
       (λ told. sym (other_key m here) ∙ told, λ told. other_key m here ∙ told)
-  others_same n e (Count (Hits m node) number) h = (λ told. (sym (same_hits m node) ∙ told.0, told.1), λ told. (same_hits m node ∙ told.0, told.1))
+  others_same n e (Count (Hits m node) number) h = (
+    λ told. (sym (same_hits m node) ∙ told.0, told.1),
+    λ told. (same_hits m node ∙ told.0, told.1),
+  )
   others_same n e (Count (Execs m k term node) number) h =
       let here = ap (bytes_eq name) h ∙ e in (
         λ told. ((sym (other_key m here) ∙ told.0.0, sym (other_execs m term node here) ∙ told.0.1), told.1),
@@ -102,7 +106,11 @@ module _ (name : List ℕ) (key : KeyValue) (v : State) (new : v.key name ≡ So
       at false e = absurd (d.1 ((others_same n e (Count (Shifts n k term from to) number) refl).1 d.0))
 
   the_setting : IsInDelta v w (Set name key)
-  the_setting = (own_key name (bytes_eq-refl name), λ same. new ((same (Set name key) refl).1 (own_key name (bytes_eq-refl name))))
+  the_setting = (
+    own_key name (bytes_eq-refl name),
+    λ same. new
+        ((same (Set name key) refl).1 (own_key name (bytes_eq-refl name))),
+  )
 
   setting_differs : IsDelta v w (Set name key ∷ [])
   setting_differs op = (told, λ d. inl (only_setting op d))
@@ -112,9 +120,11 @@ module _ (name : List ℕ) (key : KeyValue) (v : State) (new : v.key name ≡ So
       told (inr h) = absurd h
 
 -- a setting under a later clock than all before it
-set_differs : (name : List ℕ) (key : KeyValue) (ops : List Operation) → clock_of ops < key.clock → ((fold ops).key name ≡ Some key → ⊥) → IsDelta (fold ops) (fold (Set name key ∷ ops)) (Set name key ∷ [])
+set_differs : (name : List ℕ) (key : KeyValue) (ops : List Operation) → clock_of ops < key.clock →
+    ((fold ops).key name ≡ Some key → ⊥) → IsDelta (fold ops) (fold (Set name key ∷ ops)) (Set name key ∷ [])
 set_differs name key ops later new =
-    subst (λ (s : State). IsDelta (fold ops) s (Set name key ∷ [])) (sym (fold_key key name ops later)) (setting_differs name key (fold ops) new)
+    subst (λ (s : State). IsDelta (fold ops) s (Set name key ∷ [])) (sym (fold_key key name ops later))
+    (setting_differs name key (fold ops) new)
 
 -- ---- a schedule
 
@@ -164,39 +174,48 @@ answered : answers (nodes 2) script ≡
     Some (asks.IsSet (stamp 2 0)) ∷
     Some (asks.IsEmitted (Ok third)) ∷
     Some (asks.IsDelivered true) ∷ []
-unfolding digits node_numbers after fold same_cell terms_in_text choice number_at short_number_at decimals_at percent_at pieces trimmed_text argument_at chance_at count_at time_at task_at term_at terms_at reading
+unfolding digits node_numbers after fold same_cell terms_in_text choice number_at short_number_at decimals_at percent_at
+    pieces trimmed_text argument_at chance_at count_at time_at task_at term_at terms_at reading
 answered = refl
 
 differs_a : IsDelta (fold []) (fold (Set a key_a ∷ [])) (Set a key_a ∷ [])
 unfolding fold
 differs_a = set_differs a key_a [] (omega arith) (λ e. cc)
 
-differs_b : IsDelta (fold (Set a key_a ∷ Set a key_a ∷ [])) (fold (Set b key_b ∷ Set a key_a ∷ Set a key_a ∷ [])) (Set b key_b ∷ [])
+differs_b : IsDelta (fold (Set a key_a ∷ Set a key_a ∷ [])) (fold (Set b key_b ∷ Set a key_a ∷ Set a key_a ∷ []))
+    (Set b key_b ∷ [])
 unfolding fold
 differs_b = set_differs b key_b (Set a key_a ∷ Set a key_a ∷ []) (omega arith) (λ e. cc)
 
 heard_is_schedule : IsDeltaSchedule (nodes 2) (reverse heard)
-unfolding digits node_numbers after fold same_cell terms_in_text choice number_at short_number_at decimals_at percent_at pieces trimmed_text argument_at chance_at count_at time_at task_at term_at terms_at reading
+unfolding digits node_numbers after fold same_cell terms_in_text choice number_at short_number_at decimals_at percent_at
+    pieces trimmed_text argument_at chance_at count_at time_at task_at term_at terms_at reading
 heard_is_schedule = (inr (inl refl), ((refl, differs_a), (inl refl, ((refl, differs_a), (tt, tt)))))
 
 is_schedule : IsDeltaSchedule (nodes 2) (reverse script)
-unfolding digits node_numbers after fold same_cell terms_in_text choice number_at short_number_at decimals_at percent_at pieces trimmed_text argument_at chance_at count_at time_at task_at term_at terms_at reading
+unfolding digits node_numbers after fold same_cell terms_in_text choice number_at short_number_at decimals_at percent_at
+    pieces trimmed_text argument_at chance_at count_at time_at task_at term_at terms_at reading
 is_schedule = (inr (inr (inl refl)), ((refl, differs_b), (tt, heard_is_schedule)))
 
 -- each knows the other's present version, and they hold the same state
-known_by_0 : ((world (nodes 2) (reverse heard)).node 0).marks.known 1 ≡ ((world (nodes 2) (reverse heard)).node 1).marks.version
-unfolding digits node_numbers after fold same_cell terms_in_text choice number_at short_number_at decimals_at percent_at pieces trimmed_text argument_at chance_at count_at time_at task_at term_at terms_at reading
+known_by_0 : ((world (nodes 2) (reverse heard)).node 0).marks.known 1 ≡
+    ((world (nodes 2) (reverse heard)).node 1).marks.version
+unfolding digits node_numbers after fold same_cell terms_in_text choice number_at short_number_at decimals_at percent_at
+    pieces trimmed_text argument_at chance_at count_at time_at task_at term_at terms_at reading
 known_by_0 = refl
 
-known_by_1 : ((world (nodes 2) (reverse heard)).node 1).marks.known 0 ≡ ((world (nodes 2) (reverse heard)).node 0).marks.version
-unfolding digits node_numbers after fold same_cell terms_in_text choice number_at short_number_at decimals_at percent_at pieces trimmed_text argument_at chance_at count_at time_at task_at term_at terms_at reading
+known_by_1 : ((world (nodes 2) (reverse heard)).node 1).marks.known 0 ≡
+    ((world (nodes 2) (reverse heard)).node 0).marks.version
+unfolding digits node_numbers after fold same_cell terms_in_text choice number_at short_number_at decimals_at percent_at
+    pieces trimmed_text argument_at chance_at count_at time_at task_at term_at terms_at reading
 known_by_1 = refl
 
 same_then : state_of (nodes 2) (reverse heard) 0 ≡ state_of (nodes 2) (reverse heard) 1
 same_then = known_is_same (nodes 2) (reverse heard) heard_is_schedule 0 1 known_by_1 known_by_0
 
 known_at_last : ((world (nodes 2) (reverse script)).node 1).marks.known 0 ≡ 2
-unfolding digits node_numbers after fold same_cell terms_in_text choice number_at short_number_at decimals_at percent_at pieces trimmed_text argument_at chance_at count_at time_at task_at term_at terms_at reading
+unfolding digits node_numbers after fold same_cell terms_in_text choice number_at short_number_at decimals_at percent_at
+    pieces trimmed_text argument_at chance_at count_at time_at task_at term_at terms_at reading
 known_at_last = refl
 
 -- ---- what is known where messages were lost, by messages of node 0 to node 1 that tell nothing else

@@ -1,4 +1,5 @@
--- Two nodes: one spends a right that the other granted and moved to it, and wasn't told of the grant. A message that tells
+-- Two nodes: one spends a right that the other granted and moved to it, and wasn't told of the grant. A message that
+-- tells
 -- no execution is then refused, until the grant is told.
 use Rattle.std.proofs.Common.{◌≡◌, ℕ, true, false, List, [], ◌∷◌, ◌++◌, Some, None, Ok, inl, inr, refl, arith}
 use Rattle.std.specs.Prelude.{reverse, codes}
@@ -79,11 +80,14 @@ answered : answers (nodes 2) script ≡
     Some (asks.IsEmitted (Ok (message 1 0 3 grants))) ∷
     Some (asks.IsDelivered true) ∷
     Some (asks.IsDelivered false) ∷ []
-unfolding digits node_numbers after fold same_cell terms_in_text choice number_at short_number_at decimals_at percent_at pieces trimmed_text argument_at chance_at count_at time_at task_at term_at terms_at reading
+unfolding digits node_numbers after fold same_cell terms_in_text choice number_at short_number_at decimals_at percent_at
+    pieces trimmed_text argument_at chance_at count_at time_at task_at term_at terms_at reading
 answered = refl
 
-refused : refusal_at (config_of (nodes 2) 0) 4 ((world (nodes 2) (reverse before)).node 0) (asks.Deliver (Ok (message 1 0 3 setting))) [] ≡ Some faults.Overspent
-unfolding digits node_numbers after fold same_cell terms_in_text choice number_at short_number_at decimals_at percent_at pieces trimmed_text argument_at chance_at count_at time_at task_at term_at terms_at reading
+refused : refusal_at (config_of (nodes 2) 0) 4 ((world (nodes 2) (reverse before)).node 0)
+    (asks.Deliver (Ok (message 1 0 3 setting))) [] ≡ Some faults.Overspent
+unfolding digits node_numbers after fold same_cell terms_in_text choice number_at short_number_at decimals_at percent_at
+    pieces trimmed_text argument_at chance_at count_at time_at task_at term_at terms_at reading
 refused = refl
 
 -- node 0 knows one execution and no grant, and one right was granted
@@ -91,23 +95,28 @@ abbrev known : State
 known = merged (nodes 2) (reverse before) 0 (message 1 0 3 setting)
 
 one_executed : sum_below node_numbers (known.execs a 0) ≡ 1
-unfolding digits node_numbers after fold same_cell terms_in_text choice number_at short_number_at decimals_at percent_at pieces trimmed_text argument_at chance_at count_at time_at task_at term_at terms_at reading
+unfolding digits node_numbers after fold same_cell terms_in_text choice number_at short_number_at decimals_at percent_at
+    pieces trimmed_text argument_at chance_at count_at time_at task_at term_at terms_at reading
 one_executed = refl
 
 no_grant_known : sum_below node_numbers (granted_in known a 0) ≡ 0
-unfolding digits node_numbers after fold same_cell terms_in_text choice number_at short_number_at decimals_at percent_at pieces trimmed_text argument_at chance_at count_at time_at task_at term_at terms_at reading
+unfolding digits node_numbers after fold same_cell terms_in_text choice number_at short_number_at decimals_at percent_at
+    pieces trimmed_text argument_at chance_at count_at time_at task_at term_at terms_at reading
 no_grant_known = refl
 
 one_granted : all_granted (nodes 2) (reverse before) a key 0 ≡ 1
-unfolding digits node_numbers after fold same_cell terms_in_text choice number_at short_number_at decimals_at percent_at pieces trimmed_text argument_at chance_at count_at time_at task_at term_at terms_at reading
+unfolding digits node_numbers after fold same_cell terms_in_text choice number_at short_number_at decimals_at percent_at
+    pieces trimmed_text argument_at chance_at count_at time_at task_at term_at terms_at reading
 one_granted = refl
 
 under_key : known.key a ≡ Some key
-unfolding digits node_numbers after fold same_cell terms_in_text choice number_at short_number_at decimals_at percent_at pieces trimmed_text argument_at chance_at count_at time_at task_at term_at terms_at reading
+unfolding digits node_numbers after fold same_cell terms_in_text choice number_at short_number_at decimals_at percent_at
+    pieces trimmed_text argument_at chance_at count_at time_at task_at term_at terms_at reading
 under_key = refl
 
 counted : count_of key 0 ≡ Some 0
-unfolding terms_in_text number_at short_number_at decimals_at percent_at pieces trimmed_text argument_at chance_at count_at time_at task_at term_at terms_at reading
+unfolding terms_in_text number_at short_number_at decimals_at percent_at pieces trimmed_text argument_at chance_at
+    count_at time_at task_at term_at terms_at reading
 counted = refl
 
 lacks : LacksGrant (nodes 2) (reverse before) known a
@@ -122,7 +131,8 @@ lacks = record {
 }
 
 is_schedule : IsSchedule (nodes 2) (reverse script)
-unfolding digits node_numbers after fold same_cell terms_in_text choice number_at short_number_at decimals_at percent_at pieces trimmed_text argument_at chance_at count_at time_at task_at term_at terms_at reading
+unfolding digits node_numbers after fold same_cell terms_in_text choice number_at short_number_at decimals_at percent_at
+    pieces trimmed_text argument_at chance_at count_at time_at task_at term_at terms_at reading
 is_schedule = (
   inr (inr (inl refl)),
   (
@@ -139,7 +149,23 @@ is_schedule = (
               inr (inl refl),
               (
                 (may_tell _ 0 3 refl, may_send_one a key held moves moves_held refl refl (inr (inl refl))),
-                (tt, (tt, (inl refl, ((may_tell _ 1 1 refl, may_send_one a key setting setting (λ op h. h) refl refl (inl refl)), (tt, tt))))),
+                (
+                  tt,
+                  (
+                    tt,
+                    (
+                      inl refl,
+                      (
+                        (
+                          may_tell _ 1 1 refl,
+                          may_send_one a key setting setting (λ op h. h) refl refl
+                              (inl refl),
+                        ),
+                        (tt, tt),
+                      ),
+                    ),
+                  ),
+                ),
               ),
             ),
           ),

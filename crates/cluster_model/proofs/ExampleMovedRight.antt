@@ -58,15 +58,18 @@ stays_answers : answers (nodes 2) stays ≡
     Some (asks.IsEmitted (Ok first)) ∷
     Some (asks.IsDelivered true) ∷
     Some (asks.IsPassed (NoTerm (stamp 1 0))) ∷ []
-unfolding digits node_numbers after fold same_cell terms_in_text choice number_at short_number_at decimals_at percent_at pieces trimmed_text argument_at chance_at count_at time_at task_at term_at terms_at reading
+unfolding digits node_numbers after fold same_cell terms_in_text choice number_at short_number_at decimals_at percent_at
+    pieces trimmed_text argument_at chance_at count_at time_at task_at term_at terms_at reading
 stays_answers = refl
 
 setter_has_rights : rights_of (state_of (nodes 2) (reverse stays) 0) a 0 0 ≡ pos 2
-unfolding digits node_numbers after fold same_cell terms_in_text choice number_at short_number_at decimals_at percent_at pieces trimmed_text argument_at chance_at count_at time_at task_at term_at terms_at reading
+unfolding digits node_numbers after fold same_cell terms_in_text choice number_at short_number_at decimals_at percent_at
+    pieces trimmed_text argument_at chance_at count_at time_at task_at term_at terms_at reading
 setter_has_rights = refl
 
 other_has_none : rights_of (state_of (nodes 2) (reverse stays) 1) a 0 1 ≡ pos 0
-unfolding digits node_numbers after fold same_cell terms_in_text choice number_at short_number_at decimals_at percent_at pieces trimmed_text argument_at chance_at count_at time_at task_at term_at terms_at reading
+unfolding digits node_numbers after fold same_cell terms_in_text choice number_at short_number_at decimals_at percent_at
+    pieces trimmed_text argument_at chance_at count_at time_at task_at term_at terms_at reading
 other_has_none = refl
 
 moved_answers : answers (nodes 2) moved_on ≡
@@ -80,21 +83,57 @@ moved_answers : answers (nodes 2) moved_on ≡
     Some (asks.IsDelivered false) ∷
     Some (asks.IsPassed (Act (stamp 1 0) 0 off)) ∷
     Some (asks.IsPassed (NoTerm (stamp 1 0))) ∷ []
-unfolding digits node_numbers after fold same_cell terms_in_text choice number_at short_number_at decimals_at percent_at pieces trimmed_text argument_at chance_at count_at time_at task_at term_at terms_at reading
+unfolding digits node_numbers after fold same_cell terms_in_text choice number_at short_number_at decimals_at percent_at
+    pieces trimmed_text argument_at chance_at count_at time_at task_at term_at terms_at reading
 moved_answers = refl
 
 moved_is_schedule : IsSchedule (nodes 2) (reverse moved_on)
-unfolding digits node_numbers after fold same_cell terms_in_text choice number_at short_number_at decimals_at percent_at pieces trimmed_text argument_at chance_at count_at time_at task_at term_at terms_at reading
-moved_is_schedule = (tt, (tt, (inr (inl refl), (inr (inl refl), ((may_tell _ 1 2 refl, may_send_one a key moves moves (λ op h. h) refl refl (inr (inl refl))), (tt, (tt, (inl refl, ((may_tell _ 1 1 refl, may_send_one a key (Set a key ∷ []) (Set a key ∷ []) (λ op h. h) refl refl (inl refl)), (tt, tt))))))))))
+unfolding digits node_numbers after fold same_cell terms_in_text choice number_at short_number_at decimals_at percent_at
+    pieces trimmed_text argument_at chance_at count_at time_at task_at term_at terms_at reading
+moved_is_schedule = (
+  tt,
+  (
+    tt,
+    (
+      inr (inl refl),
+      (
+        inr (inl refl),
+        (
+          (may_tell _ 1 2 refl, may_send_one a key moves moves (λ op h. h) refl refl (inr (inl refl))),
+          (
+            tt,
+            (
+              tt,
+              (
+                inl refl,
+                (
+                  (
+                    may_tell _ 1 1 refl,
+                    may_send_one a key (Set a key ∷ []) (Set a key ∷ []) (λ op h. h) refl
+                        refl (inl refl),
+                  ),
+                  (tt, tt),
+                ),
+              ),
+            ),
+          ),
+        ),
+      ),
+    ),
+  ),
+)
 
 seen_all_that_moved : seen (nodes 2) (reverse moved_on) a key 0 0 1 ≡ moved (nodes 2) (reverse moved_on) a key 0 0 1
-unfolding digits node_numbers after fold same_cell terms_in_text choice number_at short_number_at decimals_at percent_at pieces trimmed_text argument_at chance_at count_at time_at task_at term_at terms_at reading
+unfolding digits node_numbers after fold same_cell terms_in_text choice number_at short_number_at decimals_at percent_at
+    pieces trimmed_text argument_at chance_at count_at time_at task_at term_at terms_at reading
 seen_all_that_moved = refl
 
 held_then : all_held (nodes 2) (reverse moved_on) a key 0 2 ≡ pos 1
-unfolding digits node_numbers after fold same_cell terms_in_text choice number_at short_number_at decimals_at percent_at pieces trimmed_text argument_at chance_at count_at time_at task_at term_at terms_at reading
+unfolding digits node_numbers after fold same_cell terms_in_text choice number_at short_number_at decimals_at percent_at
+    pieces trimmed_text argument_at chance_at count_at time_at task_at term_at terms_at reading
 held_then = refl
 
 executed_then : all_executions (nodes 2) (reverse moved_on) (stamp 1 0) 0 ≡ 1
-unfolding digits node_numbers after fold same_cell terms_in_text choice number_at short_number_at decimals_at percent_at pieces trimmed_text argument_at chance_at count_at time_at task_at term_at terms_at reading
+unfolding digits node_numbers after fold same_cell terms_in_text choice number_at short_number_at decimals_at percent_at
+    pieces trimmed_text argument_at chance_at count_at time_at task_at term_at terms_at reading
 executed_then = refl

@@ -53,25 +53,55 @@ answered : answers (nodes 2) script ≡
     Some (asks.IsPassed (Act (stamp 2 0) 0 off)) ∷
     Some (asks.IsPassed (Act (stamp 1 0) 0 (panic None))) ∷
     Some (asks.IsPassed (NoTerm (stamp 1 0))) ∷ []
-unfolding digits node_numbers after fold same_cell terms_in_text choice number_at short_number_at decimals_at percent_at pieces trimmed_text argument_at chance_at count_at time_at task_at term_at terms_at reading
+unfolding digits node_numbers after fold same_cell terms_in_text choice number_at short_number_at decimals_at percent_at
+    pieces trimmed_text argument_at chance_at count_at time_at task_at term_at terms_at reading
 answered = refl
 
 is_schedule : IsSchedule (nodes 2) (reverse script)
-unfolding digits node_numbers after fold same_cell terms_in_text choice number_at short_number_at decimals_at percent_at pieces trimmed_text argument_at chance_at count_at time_at task_at term_at terms_at reading
-is_schedule = (tt, (tt, (tt, (tt, (tt, (inl refl, ((may_tell _ 1 2 refl, may_send_one p key moves moves (λ op h. h) refl refl (inr (inl refl))), (tt, (tt, tt)))))))))
+unfolding digits node_numbers after fold same_cell terms_in_text choice number_at short_number_at decimals_at percent_at
+    pieces trimmed_text argument_at chance_at count_at time_at task_at term_at terms_at reading
+is_schedule = (
+  tt,
+  (
+    tt,
+    (
+      tt,
+      (
+        tt,
+        (
+          tt,
+          (
+            inl refl,
+            (
+              (
+                may_tell _ 1 2 refl,
+                may_send_one p key moves moves (λ op h. h) refl refl (inr (inl refl)),
+              ),
+              (tt, (tt, tt)),
+            ),
+          ),
+        ),
+      ),
+    ),
+  ),
+)
 
 executed : all_executions (nodes 2) (reverse script) (stamp 1 0) 0 ≡ 2
-unfolding digits node_numbers after fold same_cell terms_in_text choice number_at short_number_at decimals_at percent_at pieces trimmed_text argument_at chance_at count_at time_at task_at term_at terms_at reading
+unfolding digits node_numbers after fold same_cell terms_in_text choice number_at short_number_at decimals_at percent_at
+    pieces trimmed_text argument_at chance_at count_at time_at task_at term_at terms_at reading
 executed = refl
 
 held_by_setter : held (nodes 2) (reverse script) p key 0 3 0 ≡ pos 1
-unfolding digits node_numbers after fold same_cell terms_in_text choice number_at short_number_at decimals_at percent_at pieces trimmed_text argument_at chance_at count_at time_at task_at term_at terms_at reading
+unfolding digits node_numbers after fold same_cell terms_in_text choice number_at short_number_at decimals_at percent_at
+    pieces trimmed_text argument_at chance_at count_at time_at task_at term_at terms_at reading
 held_by_setter = refl
 
 held_by_other : held (nodes 2) (reverse script) p key 0 3 1 ≡ pos 0
-unfolding digits node_numbers after fold same_cell terms_in_text choice number_at short_number_at decimals_at percent_at pieces trimmed_text argument_at chance_at count_at time_at task_at term_at terms_at reading
+unfolding digits node_numbers after fold same_cell terms_in_text choice number_at short_number_at decimals_at percent_at
+    pieces trimmed_text argument_at chance_at count_at time_at task_at term_at terms_at reading
 held_by_other = refl
 
 none_in_transit : all_in_transit (nodes 2) (reverse script) p key 0 ≡ pos 0
-unfolding digits node_numbers after fold same_cell terms_in_text choice number_at short_number_at decimals_at percent_at pieces trimmed_text argument_at chance_at count_at time_at task_at term_at terms_at reading
+unfolding digits node_numbers after fold same_cell terms_in_text choice number_at short_number_at decimals_at percent_at
+    pieces trimmed_text argument_at chance_at count_at time_at task_at term_at terms_at reading
 none_in_transit = refl

@@ -39,36 +39,44 @@ abbrev both : List Operation
 both = Count (Shifts a key 0 0 1) 1 ∷ spend
 
 setter_before : rights_of (fold spend) a 0 0 ≡ pos 2
-unfolding digits node_numbers after fold same_cell terms_in_text choice number_at short_number_at decimals_at percent_at pieces trimmed_text argument_at chance_at count_at time_at task_at term_at terms_at reading
+unfolding digits node_numbers after fold same_cell terms_in_text choice number_at short_number_at decimals_at percent_at
+    pieces trimmed_text argument_at chance_at count_at time_at task_at term_at terms_at reading
 setter_before = refl
 
 spender_before : rights_of (fold spend) a 0 1 ≡ pos 0 -ℤ pos 1
-unfolding digits node_numbers after fold same_cell terms_in_text choice number_at short_number_at decimals_at percent_at pieces trimmed_text argument_at chance_at count_at time_at task_at term_at terms_at reading
+unfolding digits node_numbers after fold same_cell terms_in_text choice number_at short_number_at decimals_at percent_at
+    pieces trimmed_text argument_at chance_at count_at time_at task_at term_at terms_at reading
 spender_before = refl
 
 spent_before : spent_of (fold spend) a 0 ≡ 1
-unfolding digits node_numbers after fold same_cell terms_in_text choice number_at short_number_at decimals_at percent_at pieces trimmed_text argument_at chance_at count_at time_at task_at term_at terms_at reading
+unfolding digits node_numbers after fold same_cell terms_in_text choice number_at short_number_at decimals_at percent_at
+    pieces trimmed_text argument_at chance_at count_at time_at task_at term_at terms_at reading
 spent_before = refl
 
 setter_then : rights_of (fold both) a 0 0 ≡ pos 1
-unfolding digits node_numbers after fold same_cell terms_in_text choice number_at short_number_at decimals_at percent_at pieces trimmed_text argument_at chance_at count_at time_at task_at term_at terms_at reading
+unfolding digits node_numbers after fold same_cell terms_in_text choice number_at short_number_at decimals_at percent_at
+    pieces trimmed_text argument_at chance_at count_at time_at task_at term_at terms_at reading
 setter_then = refl
 
 spender_then : rights_of (fold both) a 0 1 ≡ pos 0
-unfolding digits node_numbers after fold same_cell terms_in_text choice number_at short_number_at decimals_at percent_at pieces trimmed_text argument_at chance_at count_at time_at task_at term_at terms_at reading
+unfolding digits node_numbers after fold same_cell terms_in_text choice number_at short_number_at decimals_at percent_at
+    pieces trimmed_text argument_at chance_at count_at time_at task_at term_at terms_at reading
 spender_then = refl
 
 spent_then : spent_of (fold both) a 0 ≡ 1
-unfolding digits node_numbers after fold same_cell terms_in_text choice number_at short_number_at decimals_at percent_at pieces trimmed_text argument_at chance_at count_at time_at task_at term_at terms_at reading
+unfolding digits node_numbers after fold same_cell terms_in_text choice number_at short_number_at decimals_at percent_at
+    pieces trimmed_text argument_at chance_at count_at time_at task_at term_at terms_at reading
 spent_then = refl
 
 -- either again, or an earlier copy, changes nothing
 nothing_new : changes (fold both) both ≡ false
-unfolding digits node_numbers after fold same_cell terms_in_text choice number_at short_number_at decimals_at percent_at pieces trimmed_text argument_at chance_at count_at time_at task_at term_at terms_at reading
+unfolding digits node_numbers after fold same_cell terms_in_text choice number_at short_number_at decimals_at percent_at
+    pieces trimmed_text argument_at chance_at count_at time_at task_at term_at terms_at reading
 nothing_new = refl
 
 earlier_copy : changes (fold both) spend ≡ false
-unfolding digits node_numbers after fold same_cell terms_in_text choice number_at short_number_at decimals_at percent_at pieces trimmed_text argument_at chance_at count_at time_at task_at term_at terms_at reading
+unfolding digits node_numbers after fold same_cell terms_in_text choice number_at short_number_at decimals_at percent_at
+    pieces trimmed_text argument_at chance_at count_at time_at task_at term_at terms_at reading
 earlier_copy = refl
 
 same_state : fold (both ++ both) ≡ fold both
@@ -107,11 +115,13 @@ answered : answers (nodes 3) later ≡
     Some (asks.IsDelivered true) ∷
     Some (asks.IsEmitted (Ok (message 0 2 2 moves))) ∷
     Some (asks.IsDelivered true) ∷ []
-unfolding digits node_numbers after fold same_cell terms_in_text choice number_at short_number_at decimals_at percent_at pieces trimmed_text argument_at chance_at count_at time_at task_at term_at terms_at reading
+unfolding digits node_numbers after fold same_cell terms_in_text choice number_at short_number_at decimals_at percent_at
+    pieces trimmed_text argument_at chance_at count_at time_at task_at term_at terms_at reading
 answered = refl
 
 is_schedule : IsSchedule (nodes 3) (reverse later)
-unfolding digits node_numbers after fold same_cell terms_in_text choice number_at short_number_at decimals_at percent_at pieces trimmed_text argument_at chance_at count_at time_at task_at term_at terms_at reading
+unfolding digits node_numbers after fold same_cell terms_in_text choice number_at short_number_at decimals_at percent_at
+    pieces trimmed_text argument_at chance_at count_at time_at task_at term_at terms_at reading
 is_schedule = (
   inr (inr (inl refl)),
   (
@@ -119,8 +129,21 @@ is_schedule = (
     (
       inr (inl refl),
       (
-        (may_tell _ 2 2 refl, may_send_one a key (Count (Execs a key 0 1) 1 ∷ Count (Hits a 1) 1 ∷ moves) spend held_by_1 refl refl (inr (inl refl))),
-        (tt, (inl refl, ((may_tell _ 1 2 refl, may_send_one a key moves moves (λ op h. h) refl refl (inr (inl refl))), (tt, (tt, tt))))),
+        (
+          may_tell _ 2 2 refl,
+          may_send_one a key (Count (Execs a key 0 1) 1 ∷ Count (Hits a 1) 1 ∷ moves) spend
+              held_by_1 refl refl (inr (inl refl)),
+        ),
+        (
+          tt,
+          (
+            inl refl,
+            (
+              (may_tell _ 1 2 refl, may_send_one a key moves moves (λ op h. h) refl refl (inr (inl refl))),
+              (tt, (tt, tt)),
+            ),
+          ),
+        ),
       ),
     ),
   ),
@@ -132,11 +155,13 @@ is_schedule = (
     held_by_1 op (inr (inr h)) = absurd h
 
 seen_first : rights_of (state_of (nodes 3) (reverse script) 2) a 0 1 ≡ pos 0 -ℤ pos 1
-unfolding digits node_numbers after fold same_cell terms_in_text choice number_at short_number_at decimals_at percent_at pieces trimmed_text argument_at chance_at count_at time_at task_at term_at terms_at reading
+unfolding digits node_numbers after fold same_cell terms_in_text choice number_at short_number_at decimals_at percent_at
+    pieces trimmed_text argument_at chance_at count_at time_at task_at term_at terms_at reading
 seen_first = refl
 
 seen_at_last : rights_of (state_of (nodes 3) (reverse later) 2) a 0 1 ≡ pos 0
-unfolding digits node_numbers after fold same_cell terms_in_text choice number_at short_number_at decimals_at percent_at pieces trimmed_text argument_at chance_at count_at time_at task_at term_at terms_at reading
+unfolding digits node_numbers after fold same_cell terms_in_text choice number_at short_number_at decimals_at percent_at
+    pieces trimmed_text argument_at chance_at count_at time_at task_at term_at terms_at reading
 seen_at_last = refl
 
 -- ---- node 2 then sees node 1 at none of its versions: the spend is told without the shift that paid for it
@@ -148,38 +173,46 @@ abbrev held_at : ℕ → State
 held_at = ((world (nodes 3) (reverse script)).node 1).past
 
 reached_upto : ((world (nodes 3) (reverse script)).node 1).marks.version ≡ 2
-unfolding digits node_numbers after fold same_cell terms_in_text choice number_at short_number_at decimals_at percent_at pieces trimmed_text argument_at chance_at count_at time_at task_at term_at terms_at reading
+unfolding digits node_numbers after fold same_cell terms_in_text choice number_at short_number_at decimals_at percent_at
+    pieces trimmed_text argument_at chance_at count_at time_at task_at term_at terms_at reading
 reached_upto = refl
 
 told_spend : IsTold seen (Count (Execs a key 0 1) 1)
-unfolding digits node_numbers after fold same_cell terms_in_text choice number_at short_number_at decimals_at percent_at pieces trimmed_text argument_at chance_at count_at time_at task_at term_at terms_at reading
+unfolding digits node_numbers after fold same_cell terms_in_text choice number_at short_number_at decimals_at percent_at
+    pieces trimmed_text argument_at chance_at count_at time_at task_at term_at terms_at reading
 told_spend = ((refl, refl), λ e. omega (arith, e))
 
 -- at its first versions node 1 hadn't spent, and at the last one it had the shift
 not_spent_at_0 : (held_at 0).execs a 0 1 ≡ 0
-unfolding digits node_numbers after fold same_cell terms_in_text choice number_at short_number_at decimals_at percent_at pieces trimmed_text argument_at chance_at count_at time_at task_at term_at terms_at reading
+unfolding digits node_numbers after fold same_cell terms_in_text choice number_at short_number_at decimals_at percent_at
+    pieces trimmed_text argument_at chance_at count_at time_at task_at term_at terms_at reading
 not_spent_at_0 = refl
 
 not_spent_at_1 : (held_at 1).execs a 0 1 ≡ 0
-unfolding digits node_numbers after fold same_cell terms_in_text choice number_at short_number_at decimals_at percent_at pieces trimmed_text argument_at chance_at count_at time_at task_at term_at terms_at reading
+unfolding digits node_numbers after fold same_cell terms_in_text choice number_at short_number_at decimals_at percent_at
+    pieces trimmed_text argument_at chance_at count_at time_at task_at term_at terms_at reading
 not_spent_at_1 = refl
 
 same_key_at_2 : (held_at 2).key a ≡ seen.key a
-unfolding digits node_numbers after fold same_cell terms_in_text choice number_at short_number_at decimals_at percent_at pieces trimmed_text argument_at chance_at count_at time_at task_at term_at terms_at reading
+unfolding digits node_numbers after fold same_cell terms_in_text choice number_at short_number_at decimals_at percent_at
+    pieces trimmed_text argument_at chance_at count_at time_at task_at term_at terms_at reading
 same_key_at_2 = refl
 
 moved_at_2 : (held_at 2).shifts a 0 0 1 ≡ 1
-unfolding digits node_numbers after fold same_cell terms_in_text choice number_at short_number_at decimals_at percent_at pieces trimmed_text argument_at chance_at count_at time_at task_at term_at terms_at reading
+unfolding digits node_numbers after fold same_cell terms_in_text choice number_at short_number_at decimals_at percent_at
+    pieces trimmed_text argument_at chance_at count_at time_at task_at term_at terms_at reading
 moved_at_2 = refl
 
 not_moved : seen.shifts a 0 0 1 ≡ 0
-unfolding digits node_numbers after fold same_cell terms_in_text choice number_at short_number_at decimals_at percent_at pieces trimmed_text argument_at chance_at count_at time_at task_at term_at terms_at reading
+unfolding digits node_numbers after fold same_cell terms_in_text choice number_at short_number_at decimals_at percent_at
+    pieces trimmed_text argument_at chance_at count_at time_at task_at term_at terms_at reading
 not_moved = refl
 
 not_as_of : (v : ℕ) → v ≤ 2 → IsAsOf seen (held_at v) 1 → ⊥
 not_as_of v l h = ⊎_elim
     (λ e. unspent (ap (λ u. (held_at u).execs a 0 1) e ∙ not_spent_at_0))
-    (λ ne. ⊎_elim (λ e. unspent (ap (λ u. (held_at u).execs a 0 1) e ∙ not_spent_at_1)) (λ n. moved (omega (arith, l, ne, n))) (cases_eq v 1))
+    (λ ne. ⊎_elim (λ e. unspent (ap (λ u. (held_at u).execs a 0 1) e ∙ not_spent_at_1))
+    (λ n. moved (omega (arith, l, ne, n))) (cases_eq v 1))
     (cases_eq v 0)
   where
     unspent : (held_at v).execs a 0 1 ≡ 0 → ⊥
@@ -189,7 +222,8 @@ not_as_of v l h = ⊎_elim
 
     moved : v ≡ 2 → ⊥
     moved e =
-        let upto = (upto_below (held_at v) seen a (h.above a)).shifts (ap (λ u. (held_at u).key a) e ∙ same_key_at_2) 0 0 1 in
+        let upto = (upto_below (held_at v) seen a (h.above a)).shifts (ap (λ u. (held_at u).key a) e ∙ same_key_at_2) 0
+        0 1 in
         let one : (held_at v).shifts a 0 0 1 ≡ 1 = ap (λ u. (held_at u).shifts a 0 0 1) e ∙ moved_at_2 in
         let none = not_moved in
         absurd (omega (arith, upto, one, none))

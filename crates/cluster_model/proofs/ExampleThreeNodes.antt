@@ -69,22 +69,54 @@ answered : answers (nodes 3) script ≡
     Some (asks.IsEmitted (Ok last)) ∷
     Some (asks.IsDelivered true) ∷
     Some (asks.IsDelivered false) ∷ []
-unfolding digits node_numbers after fold same_cell terms_in_text choice number_at short_number_at decimals_at percent_at pieces trimmed_text argument_at chance_at count_at time_at task_at term_at terms_at reading
+unfolding digits node_numbers after fold same_cell terms_in_text choice number_at short_number_at decimals_at percent_at
+    pieces trimmed_text argument_at chance_at count_at time_at task_at term_at terms_at reading
 answered = refl
 
 is_schedule : IsSchedule (nodes 3) (reverse script)
-unfolding digits node_numbers after fold same_cell terms_in_text choice number_at short_number_at decimals_at percent_at pieces trimmed_text argument_at chance_at count_at time_at task_at term_at terms_at reading
+unfolding digits node_numbers after fold same_cell terms_in_text choice number_at short_number_at decimals_at percent_at
+    pieces trimmed_text argument_at chance_at count_at time_at task_at term_at terms_at reading
 is_schedule = (
   inr (inr (inl refl)),
   (
     inr (inr (inl refl)),
     (
-      (may_tell _ 0 3 refl, may_send_one p key (Count (Hits p 2) 2 ∷ Count (Execs p key 0 2) 1 ∷ Count (Hits p 2) 1 ∷ from_1) from_2 held_by_2 refl refl (inr (inr (inr (inr (inr (inr (inl refl)))))))),
+      (
+        may_tell _ 0 3 refl,
+        may_send_one p key (Count (Hits p 2) 2 ∷ Count (Execs p key 0 2) 1 ∷ Count (Hits p 2) 1 ∷
+            from_1) from_2 held_by_2 refl refl (inr (inr (inr (inr (inr (inr (inl refl))))))),
+      ),
       (
         tt,
         (
           tt,
-          (inr (inl refl), ((may_tell _ 2 3 refl, may_send_one p key from_1 from_1 (λ op h. h) refl refl (inr (inr (inr (inr (inl refl)))))), (tt, (tt, (inl refl, ((may_tell _ 1 2 refl, may_send_one p key from_0 from_0 (λ op h. h) refl refl (inr (inl refl))), (tt, (tt, tt)))))))),
+          (
+            inr (inl refl),
+            (
+              (
+                may_tell _ 2 3 refl,
+                may_send_one p key from_1 from_1 (λ op h. h) refl refl
+                    (inr (inr (inr (inr (inl refl))))),
+              ),
+              (
+                tt,
+                (
+                  tt,
+                  (
+                    inl refl,
+                    (
+                      (
+                        may_tell _ 1 2 refl,
+                        may_send_one p key from_0 from_0 (λ op h. h) refl refl
+                            (inr (inl refl)),
+                      ),
+                      (tt, (tt, tt)),
+                    ),
+                  ),
+                ),
+              ),
+            ),
+          ),
         ),
       ),
     ),
@@ -92,39 +124,48 @@ is_schedule = (
 )
   where
     -- the earlier hit isn't sent
-    held_by_2 : (op : Operation) → IsIn op from_2 → IsIn op (Count (Hits p 2) 2 ∷ Count (Execs p key 0 2) 1 ∷ Count (Hits p 2) 1 ∷ from_1)
+    held_by_2 : (op : Operation) → IsIn op from_2 → IsIn op (Count (Hits p 2) 2 ∷ Count (Execs p key 0 2) 1 ∷
+        Count (Hits p 2) 1 ∷ from_1)
     held_by_2 op (inl e) = inl e
     held_by_2 op (inr (inl e)) = inr (inl e)
     held_by_2 op (inr (inr h)) = inr (inr (inr h))
 
 spent_there : spent_of (state_of (nodes 3) (reverse script) 0) p 0 ≡ 2
-unfolding digits node_numbers after fold same_cell terms_in_text choice number_at short_number_at decimals_at percent_at pieces trimmed_text argument_at chance_at count_at time_at task_at term_at terms_at reading
+unfolding digits node_numbers after fold same_cell terms_in_text choice number_at short_number_at decimals_at percent_at
+    pieces trimmed_text argument_at chance_at count_at time_at task_at term_at terms_at reading
 spent_there = refl
 
 hits_there : total_hits (state_of (nodes 3) (reverse script) 0) p ≡ 3
-unfolding digits node_numbers after fold same_cell terms_in_text choice number_at short_number_at decimals_at percent_at pieces trimmed_text argument_at chance_at count_at time_at task_at term_at terms_at reading
+unfolding digits node_numbers after fold same_cell terms_in_text choice number_at short_number_at decimals_at percent_at
+    pieces trimmed_text argument_at chance_at count_at time_at task_at term_at terms_at reading
 hits_there = refl
 
 rights_of_0 : rights_of (state_of (nodes 3) (reverse script) 0) p 0 0 ≡ pos 3
-unfolding digits node_numbers after fold same_cell terms_in_text choice number_at short_number_at decimals_at percent_at pieces trimmed_text argument_at chance_at count_at time_at task_at term_at terms_at reading
+unfolding digits node_numbers after fold same_cell terms_in_text choice number_at short_number_at decimals_at percent_at
+    pieces trimmed_text argument_at chance_at count_at time_at task_at term_at terms_at reading
 rights_of_0 = refl
 
 rights_of_1 : rights_of (state_of (nodes 3) (reverse script) 0) p 0 1 ≡ pos 0
-unfolding digits node_numbers after fold same_cell terms_in_text choice number_at short_number_at decimals_at percent_at pieces trimmed_text argument_at chance_at count_at time_at task_at term_at terms_at reading
+unfolding digits node_numbers after fold same_cell terms_in_text choice number_at short_number_at decimals_at percent_at
+    pieces trimmed_text argument_at chance_at count_at time_at task_at term_at terms_at reading
 rights_of_1 = refl
 
 rights_of_2 : rights_of (state_of (nodes 3) (reverse script) 0) p 0 2 ≡ pos 0
-unfolding digits node_numbers after fold same_cell terms_in_text choice number_at short_number_at decimals_at percent_at pieces trimmed_text argument_at chance_at count_at time_at task_at term_at terms_at reading
+unfolding digits node_numbers after fold same_cell terms_in_text choice number_at short_number_at decimals_at percent_at
+    pieces trimmed_text argument_at chance_at count_at time_at task_at term_at terms_at reading
 rights_of_2 = refl
 
 executed : all_executions (nodes 3) (reverse script) (stamp 1 0) 0 ≡ 2
-unfolding digits node_numbers after fold same_cell terms_in_text choice number_at short_number_at decimals_at percent_at pieces trimmed_text argument_at chance_at count_at time_at task_at term_at terms_at reading
+unfolding digits node_numbers after fold same_cell terms_in_text choice number_at short_number_at decimals_at percent_at
+    pieces trimmed_text argument_at chance_at count_at time_at task_at term_at terms_at reading
 executed = refl
 
 left : all_held (nodes 3) (reverse script) p key 0 5 ≡ pos 3
-unfolding digits node_numbers after fold same_cell terms_in_text choice number_at short_number_at decimals_at percent_at pieces trimmed_text argument_at chance_at count_at time_at task_at term_at terms_at reading
+unfolding digits node_numbers after fold same_cell terms_in_text choice number_at short_number_at decimals_at percent_at
+    pieces trimmed_text argument_at chance_at count_at time_at task_at term_at terms_at reading
 left = refl
 
 none_in_transit : all_in_transit (nodes 3) (reverse script) p key 0 ≡ pos 0
-unfolding digits node_numbers after fold same_cell terms_in_text choice number_at short_number_at decimals_at percent_at pieces trimmed_text argument_at chance_at count_at time_at task_at term_at terms_at reading
+unfolding digits node_numbers after fold same_cell terms_in_text choice number_at short_number_at decimals_at percent_at
+    pieces trimmed_text argument_at chance_at count_at time_at task_at term_at terms_at reading
 none_in_transit = refl

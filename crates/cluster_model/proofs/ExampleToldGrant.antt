@@ -1,4 +1,5 @@
--- Two nodes that send what differs: one grants itself a right beyond a count of none and spends it. The message that tells
+-- Two nodes that send what differs: one grants itself a right beyond a count of none and spends it. The message that
+-- tells
 -- the execution tells the grant too, and so it isn't refused, as it would be without.
 use Rattle.std.proofs.Common.{◌≡◌, ℕ, true, false, List, [], ◌∷◌, ◌++◌, Some, Ok, inl, inr, refl, sym, subst, arith}
 use Rattle.std.specs.Prelude.{reverse, codes}
@@ -65,11 +66,13 @@ answered : answers (nodes 2) script ≡
     Some (asks.IsPassed (Act (stamp 1 0) 0 off)) ∷
     Some (asks.IsEmitted (Ok second)) ∷
     Some (asks.IsDelivered true) ∷ []
-unfolding digits node_numbers after fold same_cell terms_in_text choice number_at short_number_at decimals_at percent_at pieces trimmed_text argument_at chance_at count_at time_at task_at term_at terms_at reading
+unfolding digits node_numbers after fold same_cell terms_in_text choice number_at short_number_at decimals_at percent_at
+    pieces trimmed_text argument_at chance_at count_at time_at task_at term_at terms_at reading
 answered = refl
 
 setting_differs : IsDelta (fold []) (fold setting) setting
-unfolding digits node_numbers after fold same_cell terms_in_text choice number_at short_number_at decimals_at percent_at pieces trimmed_text argument_at chance_at count_at time_at task_at term_at terms_at reading
+unfolding digits node_numbers after fold same_cell terms_in_text choice number_at short_number_at decimals_at percent_at
+    pieces trimmed_text argument_at chance_at count_at time_at task_at term_at terms_at reading
 setting_differs = all_of_one a key setting setting refl (inl refl) told (λ op h t. h)
   where
     told : (op : Operation) → IsIn op setting → IsTold (fold setting) op
@@ -77,7 +80,8 @@ setting_differs = all_of_one a key setting setting refl (inl refl) told (λ op h
     told op (inr h) = absurd h
 
 spends_differ : IsDelta (fold []) (fold spends) spends
-unfolding digits node_numbers after fold same_cell terms_in_text choice number_at short_number_at decimals_at percent_at pieces trimmed_text argument_at chance_at count_at time_at task_at term_at terms_at reading
+unfolding digits node_numbers after fold same_cell terms_in_text choice number_at short_number_at decimals_at percent_at
+    pieces trimmed_text argument_at chance_at count_at time_at task_at term_at terms_at reading
 spends_differ = all_of_one a key spends spends refl (inr (inr (inr (inl refl)))) told (λ op h t. h)
   where
     told : (op : Operation) → IsIn op spends → IsTold (fold spends) op
@@ -88,11 +92,13 @@ spends_differ = all_of_one a key spends spends refl (inr (inr (inr (inl refl))))
     told op (inr (inr (inr (inr h)))) = absurd h
 
 is_schedule : IsDeltaSchedule (nodes 2) (reverse before)
-unfolding digits node_numbers after fold same_cell terms_in_text choice number_at short_number_at decimals_at percent_at pieces trimmed_text argument_at chance_at count_at time_at task_at term_at terms_at reading
+unfolding digits node_numbers after fold same_cell terms_in_text choice number_at short_number_at decimals_at percent_at
+    pieces trimmed_text argument_at chance_at count_at time_at task_at term_at terms_at reading
 is_schedule = ((refl, spends_differ), (tt, (tt, (inl refl, ((refl, setting_differs), (tt, tt))))))
 
 is_sent : IsIn second (world (nodes 2) (reverse before)).messages
-unfolding digits node_numbers after fold same_cell terms_in_text choice number_at short_number_at decimals_at percent_at pieces trimmed_text argument_at chance_at count_at time_at task_at term_at terms_at reading
+unfolding digits node_numbers after fold same_cell terms_in_text choice number_at short_number_at decimals_at percent_at
+    pieces trimmed_text argument_at chance_at count_at time_at task_at term_at terms_at reading
 is_sent = inr (inl refl)
 
 -- so by the law it isn't refused for what it says
@@ -104,5 +110,6 @@ not_overspent = (delta_messages (nodes 2) (reverse before) is_schedule 0 second 
 
 -- and without the grant it would be
 overspent_untold : merge_overspends (nodes 2) (reverse before) 0 untold ≡ true
-unfolding digits node_numbers after fold same_cell terms_in_text choice number_at short_number_at decimals_at percent_at pieces trimmed_text argument_at chance_at count_at time_at task_at term_at terms_at reading
+unfolding digits node_numbers after fold same_cell terms_in_text choice number_at short_number_at decimals_at percent_at
+    pieces trimmed_text argument_at chance_at count_at time_at task_at term_at terms_at reading
 overspent_untold = refl

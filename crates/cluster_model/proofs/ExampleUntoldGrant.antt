@@ -67,19 +67,24 @@ answered : answers (nodes 2) script ≡
     None ∷
     Some (asks.IsEmitted (Ok (message 1 0 3 both))) ∷
     Some (asks.IsDelivered true) ∷ []
-unfolding digits node_numbers after fold same_cell terms_in_text choice number_at short_number_at decimals_at percent_at pieces trimmed_text argument_at chance_at count_at time_at task_at term_at terms_at reading
+unfolding digits node_numbers after fold same_cell terms_in_text choice number_at short_number_at decimals_at percent_at
+    pieces trimmed_text argument_at chance_at count_at time_at task_at term_at terms_at reading
 answered = refl
 
-refused : refusal_at (config_of (nodes 2) 0) 3 ((world (nodes 2) (reverse before)).node 0) (asks.Deliver (Ok (message 1 0 3 spend))) [] ≡ Some faults.Overspent
-unfolding digits node_numbers after fold same_cell terms_in_text choice number_at short_number_at decimals_at percent_at pieces trimmed_text argument_at chance_at count_at time_at task_at term_at terms_at reading
+refused : refusal_at (config_of (nodes 2) 0) 3 ((world (nodes 2) (reverse before)).node 0)
+    (asks.Deliver (Ok (message 1 0 3 spend))) [] ≡ Some faults.Overspent
+unfolding digits node_numbers after fold same_cell terms_in_text choice number_at short_number_at decimals_at percent_at
+    pieces trimmed_text argument_at chance_at count_at time_at task_at term_at terms_at reading
 refused = refl
 
 spent_then : spent_of (state_of (nodes 2) (reverse script) 0) a 0 ≡ 2
-unfolding digits node_numbers after fold same_cell terms_in_text choice number_at short_number_at decimals_at percent_at pieces trimmed_text argument_at chance_at count_at time_at task_at term_at terms_at reading
+unfolding digits node_numbers after fold same_cell terms_in_text choice number_at short_number_at decimals_at percent_at
+    pieces trimmed_text argument_at chance_at count_at time_at task_at term_at terms_at reading
 spent_then = refl
 
 is_schedule : IsSchedule (nodes 2) (reverse script)
-unfolding digits node_numbers after fold same_cell terms_in_text choice number_at short_number_at decimals_at percent_at pieces trimmed_text argument_at chance_at count_at time_at task_at term_at terms_at reading
+unfolding digits node_numbers after fold same_cell terms_in_text choice number_at short_number_at decimals_at percent_at
+    pieces trimmed_text argument_at chance_at count_at time_at task_at term_at terms_at reading
 is_schedule = (
   inr (inr (inl refl)),
   (
@@ -88,7 +93,23 @@ is_schedule = (
       tt,
       (
         (may_tell _ 0 3 refl, may_send_one a key held spend (λ op h. both_held op (inr h)) refl refl (inr (inl refl))),
-        (tt, (tt, (inl refl, ((may_tell _ 1 2 refl, may_send_one a key known_by_0 (Set a key ∷ []) set_known refl refl (inl refl)), (tt, (tt, tt)))))),
+        (
+          tt,
+          (
+            tt,
+            (
+              inl refl,
+              (
+                (
+                  may_tell _ 1 2 refl,
+                  may_send_one a key known_by_0 (Set a key ∷ []) set_known refl refl
+                      (inl refl),
+                ),
+                (tt, (tt, tt)),
+              ),
+            ),
+          ),
+        ),
       ),
     ),
   ),

@@ -87,30 +87,38 @@ abbrev pub is_once : List Operation → Bool
 is_once [] = true
 is_once (op ∷ ops) = is_first op ops && is_once ops
 
-each_of : (name : List ℕ) (key : KeyValue) (ops : List Operation) → are_of name key ops ≡ true → (op : Operation) → IsIn op ops → is_of name key op ≡ true
+each_of : (name : List ℕ) (key : KeyValue) (ops : List Operation) → are_of name key ops ≡ true → (op : Operation) →
+    IsIn op ops → is_of name key op ≡ true
 each_of name key [] h op m = absurd m
 each_of name key (o ∷ ops) h op (inl e) = ap (is_of name key) e ∙ (and_parts _ _ h).0
 each_of name key (o ∷ ops) h op (inr m) = each_of name key ops (and_parts _ _ h).1 op m
 
-none_same : (cell : Cell) (ops : List Operation) → are_others cell ops ≡ true → (number : ℕ) → IsIn (Count cell number) ops → ⊥
+none_same : (cell : Cell) (ops : List Operation) → are_others cell ops ≡ true → (number : ℕ) →
+    IsIn (Count cell number) ops → ⊥
 none_same cell [] h number m = m
-none_same cell (op ∷ ops) h number (inl e) = true≢false (sym (same_cell-refl cell) ∙ not-true _ (ap (is_other cell) e ∙ (and_parts _ _ h).0))
+none_same cell (op ∷ ops) h number (inl e) = true≢false (sym (same_cell-refl cell) ∙
+    not-true _ (ap (is_other cell) e ∙ (and_parts _ _ h).0))
 none_same cell (op ∷ ops) h number (inr m) = none_same cell ops (and_parts _ _ h).1 number m
 
-each_once : (ops : List Operation) → is_once ops ≡ true → (cell : Cell) (a b : ℕ) → IsIn (Count cell a) ops → IsIn (Count cell b) ops → a ≡ b
+each_once : (ops : List Operation) → is_once ops ≡ true → (cell : Cell) (a b : ℕ) → IsIn (Count cell a) ops →
+    IsIn (Count cell b) ops → a ≡ b
 each_once [] h cell a b p q = absurd p
 each_once (op ∷ ops) h cell a b (inl p) (inl q) = let both : Count cell a ≡ Count cell b = p ∙ sym q in cc
-each_once (op ∷ ops) h cell a b (inl p) (inr q) = absurd (none_same cell ops (ap (λ o. is_first o ops) p ∙ (and_parts _ _ h).0) b q)
-each_once (op ∷ ops) h cell a b (inr p) (inl q) = absurd (none_same cell ops (ap (λ o. is_first o ops) q ∙ (and_parts _ _ h).0) a p)
+each_once (op ∷ ops) h cell a b (inl p) (inr q) = absurd (none_same cell ops
+    (ap (λ o. is_first o ops) p ∙ (and_parts _ _ h).0) b q)
+each_once (op ∷ ops) h cell a b (inr p) (inl q) = absurd (none_same cell ops
+    (ap (λ o. is_first o ops) q ∙ (and_parts _ _ h).0) a p)
 each_once (op ∷ ops) h cell a b (inr p) (inr q) = each_once ops (and_parts _ _ h).1 cell a b p q
 
 -- the name and the key that an operation carries
-of_one : (name other : List ℕ) (key k : KeyValue) (op : Operation) → is_of name key op ≡ true → key_in other op ≡ Some k → (name ≡ other) × (key ≡ k)
+of_one : (name other : List ℕ) (key k : KeyValue) (op : Operation) → is_of name key op ≡ true →
+    key_in other op ≡ Some k → (name ≡ other) × (key ≡ k)
 of_one name other key k (Set n l) h c =
     let test = and_parts (bytes_eq n name) _ h in
     let parts = carried_name other n k l c in
     (sym (bytes_eq-true n name test.0) ∙ parts.0, sym (same_key-true l key test.1) ∙ parts.1)
-of_one name other key k (Count (Hits n node) number) h c = absurd (let impossible : ◌≡◌ {A = Option KeyValue} None (Some k) = c in cc)
+of_one name other key k (Count (Hits n node) number) h c = absurd
+    (let impossible : ◌≡◌ {A = Option KeyValue} None (Some k) = c in cc)
 of_one name other key k (Count (Execs n l term node) number) h c =
     let test = and_parts (bytes_eq n name) _ h in
     let parts = carried_name other n k l c in
@@ -121,30 +129,42 @@ of_one name other key k (Count (Shifts n l term from to) number) h c =
     (sym (bytes_eq-true n name test.0) ∙ parts.0, sym (same_key-true l key test.1) ∙ parts.1)
 
 -- operations of one name and one key, with its setting and each cell once
-pub may_send_one : (name : List ℕ) (key : KeyValue) (known chosen : List Operation) → ((op : Operation) → IsIn op chosen → IsIn op known) →
+pub may_send_one : (name : List ℕ) (key : KeyValue) (known chosen : List Operation) →
+    ((op : Operation) → IsIn op chosen → IsIn op known) →
     are_of name key chosen ≡ true → is_once chosen ≡ true → IsIn (Set name key) chosen → MaySend known chosen
 may_send_one name key known chosen held of once setting =
     record {
       held = held;
-      one_key = λ other a b o p m n c d. sym (of_one name other key a o (each_of name key chosen of o m) c).1 ∙ (of_one name other key b p (each_of name key chosen of p n) d).1;
-      named = λ other k op m c. let parts = of_one name other key k op (each_of name key chosen of op m) c in subst (λ (o : Operation). IsIn o chosen) (λ i. Set (parts.0 i) (parts.1 i)) setting;
-      with_hits = λ other node number m. (key, subst (λ n. IsIn (Set n key) chosen) (sym (bytes_eq-true other name (each_of name key chosen of (Count (Hits other node) number) m))) setting);
+      one_key = λ other a b o p m n c d. sym (of_one name other key a o (each_of name key chosen of o m) c).1 ∙
+          (of_one name other key b p (each_of name key chosen of p n) d).1;
+      named = λ other k op m c. let parts = of_one name other key k op (each_of name key chosen of op m) c in
+          subst (λ (o : Operation). IsIn o chosen) (λ i. Set (parts.0 i) (parts.1 i)) setting;
+      with_hits = λ other node number m. (
+        key,
+        subst (λ n. IsIn (Set n key) chosen)
+            (sym (bytes_eq-true other name (each_of name key chosen of (Count (Hits other node) number) m))) setting,
+      );
       once = each_once chosen once;
     }
 
 -- ---- what may be sent where each node sends what differs, of one name, to a node that is known to have nothing
 
 -- what a set of one name and key tells, with its setting, it holds
-told_held : (name : List ℕ) (key : KeyValue) (known : List Operation) → are_of name key known ≡ true → IsIn (Set name key) known → (op : Operation) → IsTold (fold known) op → IsIn op known
+told_held : (name : List ℕ) (key : KeyValue) (known : List Operation) → are_of name key known ≡ true →
+    IsIn (Set name key) known → (op : Operation) → IsTold (fold known) op → IsIn op known
 unfolding fold
 told_held name key known of setting (Set n k) t =
     let found = key_of-found n k known t in
     let parts = of_one name n key k found.op (each_of name key known of found.op found.held) found.carries in
     subst (λ (o : Operation). IsIn o known) (λ i. Set (parts.0 i) (parts.1 i)) setting
-told_held name key known of setting (Count cell number) t = held_number cell known number (told_number known cell number t) t.1
+told_held name key known of setting (Count cell number) t = held_number cell known number
+    (told_number known cell number t) t.1
 
 -- so it is enough to look at what it holds
-pub all_of_one : (name : List ℕ) (key : KeyValue) (known chosen : List Operation) → are_of name key known ≡ true → IsIn (Set name key) known →
-    ((op : Operation) → IsIn op chosen → IsTold (fold known) op) → ((op : Operation) → IsIn op known → IsTold (fold known) op → IsIn op chosen) → IsDelta (fold []) (fold known) chosen
+pub all_of_one : (name : List ℕ) (key : KeyValue) (known chosen : List Operation) → are_of name key known ≡ true →
+    IsIn (Set name key) known →
+    ((op : Operation) → IsIn op chosen → IsTold (fold known) op) →
+    ((op : Operation) → IsIn op known → IsTold (fold known) op → IsIn op chosen) →
+    IsDelta (fold []) (fold known) chosen
 all_of_one name key known chosen of setting told rest =
     all_differs (fold known) chosen (λ op. (told op, λ t. rest op (told_held name key known of setting op t) t))

@@ -54,19 +54,24 @@ other_not_ahead i v op ne = at (writer_of op == i) (eqb-true (writer_of op) i)
     at true f = absurd (ne (f refl))
     at false f = refl
 
-not_ahead : (c : Cluster) (es : List Event) → IsSchedule c es → (i : ℕ) (m : Message) → IsIn m (world c es).messages → (op : Operation) → IsIn op m.ops → is_ahead i (state_of c es i) op ≡ false
+not_ahead : (c : Cluster) (es : List Event) → IsSchedule c es → (i : ℕ) (m : Message) → IsIn m (world c es).messages →
+    (op : Operation) → IsIn op m.ops → is_ahead i (state_of c es i) op ≡ false
 not_ahead c es s i m h op k = at (writer_of op == i) (eqb-true (writer_of op) i) (eq-eqb (writer_of op) i)
   where
-    at : (t : Bool) → (t ≡ true → writer_of op ≡ i) → (writer_of op ≡ i → t ≡ true) → is_ahead i (state_of c es i) op ≡ false
-    at true f g = held_not_ahead i ((world c es).node i).ops op (subst (λ j. IsIn op ((world c es).node j).ops) (f refl) ((known c es s).sent m h op k))
+    at : (t : Bool) → (t ≡ true → writer_of op ≡ i) → (writer_of op ≡ i → t ≡ true) →
+        is_ahead i (state_of c es i) op ≡ false
+    at true f g = held_not_ahead i ((world c es).node i).ops op
+        (subst (λ j. IsIn op ((world c es).node j).ops) (f refl) ((known c es s).sent m h op k))
     at false f g = other_not_ahead i (state_of c es i) op (λ e. true≢false (sym (g e)))
 
 -- ---- where a term is overspent, a grant is not known
 
-executed_by_none : (c : Cluster) (es : List Event) (stamp : Stamp) (term i : ℕ) → c.nodes ≤ i → executions c es stamp term i ≡ 0
+executed_by_none : (c : Cluster) (es : List Event) (stamp : Stamp) (term i : ℕ) → c.nodes ≤ i →
+    executions c es stamp term i ≡ 0
 executed_by_none c [] stamp term i l = refl
 executed_by_none c (e ∷ es) stamp term i l =
-    let more = executed_more stamp term i ((world c es).node i) ((world c es).trace i) (accepted c (world c es) e i) e.words in
+    let more = executed_more stamp term i ((world c es).node i) ((world c es).trace i) (accepted c (world c es) e i)
+    e.words in
     let before = executed_by_none c es stamp term i l in
     let here = at (accepted c (world c es) e i) refl in
     omega (arith, more, before, here)
@@ -77,7 +82,8 @@ executed_by_none c (e ∷ es) stamp term i l =
         let below = (asked_is c (world c es) e i ask p).below in
         absurd (omega (arith, below, l))
 
-under_execs : (ops : List Operation) (name : List ℕ) (key : KeyValue) (term j : ℕ) → (fold ops).key name ≡ Some key → (fold ops).execs name term j ≡ number_at (Execs name key term j) ops
+under_execs : (ops : List Operation) (name : List ℕ) (key : KeyValue) (term j : ℕ) → (fold ops).key name ≡ Some key →
+    (fold ops).execs name term j ≡ number_at (Execs name key term j) ops
 unfolding fold
 under_execs ops name key term j e = ap (λ k. at_key k (λ l. number_at (Execs name l term j) ops)) e
 
@@ -90,7 +96,8 @@ some_below : (n : ℕ) (test : ℕ → Bool) → any_below n test ≡ true → (
 some_below zero test h = absurd (true≢false (sym h))
 some_below (suc n) test h = ⊎_elim (λ e. (n, e)) (λ e. some_below n test e) (either_true (test n) (any_below n test) h)
 
-some_in : (test : Operation → Bool) (ops : List Operation) → list_any test ops ≡ true → (op : Operation) × IsIn op ops × (test op ≡ true)
+some_in : (test : Operation → Bool) (ops : List Operation) → list_any test ops ≡ true →
+    (op : Operation) × IsIn op ops × (test op ≡ true)
 some_in test [] h = absurd (true≢false (sym h))
 some_in test (op ∷ ops) h = ⊎_elim
     (λ e. (op, inl refl, e))
@@ -106,16 +113,20 @@ record IsOverspent (v : State) (name : List ℕ) : Type 0 where
   pub counted : count_of key term ≡ Some count
   pub above : count + sum_below node_numbers (granted_in v name term) < sum_below node_numbers (v.execs name term)
 
-overspent_term : (v : State) (name : List ℕ) → is_overspent v name (terms_in (setting_of v name)) ≡ true → IsOverspent v name
+overspent_term : (v : State) (name : List ℕ) → is_overspent v name (terms_in (setting_of v name)) ≡ true →
+    IsOverspent v name
 overspent_term v name = at (setting_of v name) refl
   where
-    at : (o : Option (KeyValue × List TermValue)) → setting_of v name ≡ o → is_overspent v name (terms_in o) ≡ true → IsOverspent v name
+    at : (o : Option (KeyValue × List TermValue)) → setting_of v name ≡ o → is_overspent v name (terms_in o) ≡ true →
+        IsOverspent v name
     at None p h = absurd (true≢false (sym h))
     at (Some setting) p h =
         let found = some_below (length setting.1) _ h in
         of found.0 (count_at setting.1 found.0) refl found.1
       where
-        of : (term : ℕ) (o : Option ℕ) → count_at setting.1 term ≡ o → exceeds_count o (sum_below node_numbers (granted_in v name term)) (sum_below node_numbers (v.execs name term)) ≡ true → IsOverspent v name
+        of : (term : ℕ) (o : Option ℕ) → count_at setting.1 term ≡ o →
+            exceeds_count o (sum_below node_numbers (granted_in v name term))
+            (sum_below node_numbers (v.execs name term)) ≡ true → IsOverspent v name
         of term None q above = absurd (true≢false (sym above))
         of term (Some count) q above =
             let is = setting_parts (v.key name) setting.0 setting.1 p in
@@ -129,7 +140,9 @@ overspent_term v name = at (setting_of v name) refl
             }
 
 -- where no term is executed more often than it is counted and granted, none is overspent
-pub none_overspent : (v : State) → ((name : List ℕ) (key : KeyValue) (term count : ℕ) → v.key name ≡ Some key → count_of key term ≡ Some count → sum_below node_numbers (v.execs name term) ≤ count + sum_below node_numbers (granted_in v name term)) →
+pub none_overspent : (v : State) → ((name : List ℕ) (key : KeyValue) (term count : ℕ) → v.key name ≡ Some key →
+    count_of key term ≡ Some count → sum_below node_numbers (v.execs name term) ≤ count + sum_below node_numbers
+    (granted_in v name term)) →
     (name : List ℕ) → is_overspent v name (terms_in (setting_of v name)) ≡ false
 none_overspent v at_most name = is_false _ (λ h.
     let is = overspent_term v name h in
@@ -138,16 +151,20 @@ none_overspent v at_most name = is_false _ (λ h.
     omega (arith, above, most))
 
 -- a key that a message brings, or finds, was issued
-pub merged_issued : (c : Cluster) (es : List Event) → IsSchedule c es → (i : ℕ) (m : Message) → IsIn m (world c es).messages → (name : List ℕ) (key : KeyValue) →
+pub merged_issued : (c : Cluster) (es : List Event) → IsSchedule c es → (i : ℕ) (m : Message) →
+    IsIn m (world c es).messages → (name : List ℕ) (key : KeyValue) →
     (fold (m.ops ++ ((world c es).node i).ops)).key name ≡ Some key → IsIssued c es name key
 merged_issued c es s i m sent_then name key p =
     let found = held_carrier (m.ops ++ ((world c es).node i).ops) name key p in
-    ⊎_elim (λ l. (carried c es s).sent m sent_then found.op l name key found.carries) (λ l. (carried c es s).held i found.op l name key found.carries) (IsIn-append_cases found.op _ _ found.held)
+    ⊎_elim (λ l. (carried c es s).sent m sent_then found.op l name key found.carries)
+    (λ l. (carried c es s).held i found.op l name key found.carries) (IsIn-append_cases found.op _ _ found.held)
 
 -- the refusal of a message, by what applies
 abbrev first_of : Bool → Bool → Bool → Bool → Bool → Bool → Option NodeFault
 first_of full many other ahead above over =
-    first_fault (then_some full faults.TraceFull ∷ then_some many faults.TooManyPoints ∷ None ∷ None ∷ then_some other faults.NotForMe ∷ then_some ahead faults.OwnAhead ∷ then_some above faults.AckAhead ∷ then_some over faults.Overspent ∷ [])
+    first_fault (then_some full faults.TraceFull ∷ then_some many faults.TooManyPoints ∷ None ∷ None ∷
+    then_some other faults.NotForMe ∷ then_some ahead faults.OwnAhead ∷ then_some above faults.AckAhead ∷
+    then_some over faults.Overspent ∷ [])
 
 -- it overspends a term, at the node that it is for, and that is the refusal
 record IsOverspending (other over : Bool) (fault : Option NodeFault) : Type 0 where
@@ -156,7 +173,8 @@ record IsOverspending (other over : Bool) (fault : Option NodeFault) : Type 0 wh
   pub fault_is : fault ≡ Some faults.Overspent
 
 first_is : (full many other ahead above over : Bool) → (other ≡ false → above ≡ false) → ahead ≡ false →
-    IsOwnReason (first_of full many other ahead above over) ⊎ IsOverspending other over (first_of full many other ahead above over)
+    IsOwnReason (first_of full many other ahead above over) ⊎ IsOverspending other over
+    (first_of full many other ahead above over)
 first_is true many other ahead above over p q = inl tt
 first_is false true other ahead above over p q = inl tt
 first_is false false true ahead above over p q = inl tt
@@ -165,7 +183,8 @@ first_is false false false false true over p q = absurd (true≢false (p refl))
 first_is false false false false false true p q = inr (record { over_is = refl; other_is = refl; fault_is = refl })
 first_is false false false false false false p q = inl tt
 
-module _ (c : Cluster) (es : List Event) (s : IsSchedule c es) (i : ℕ) (m : Message) (sent_then : IsIn m (world c es).messages) where
+module _ (c : Cluster) (es : List Event) (s : IsSchedule c es) (i : ℕ) (m : Message)
+    (sent_then : IsIn m (world c es).messages) where
   abbrev ops_then : List Operation
   ops_then = m.ops ++ ((world c es).node i).ops
 
@@ -173,22 +192,28 @@ module _ (c : Cluster) (es : List Event) (s : IsSchedule c es) (i : ℕ) (m : Me
   fault = refusal_at (config_of c i) (length ((world c es).trace i)) ((world c es).node i) (asks.Deliver (Ok m)) []
 
   with_writer : (op : Operation) → IsIn op ops_then → IsIn op ((world c es).node (writer_of op)).ops
-  with_writer op l = ⊎_elim (λ k. (known c es s).sent m sent_then op k) (λ k. (known c es s).held i op k) (IsIn-append_cases op _ _ l)
+  with_writer op l = ⊎_elim (λ k. (known c es s).sent m sent_then op k) (λ k. (known c es s).held i op k)
+      (IsIn-append_cases op _ _ l)
 
-  at_most : c.nodes ≤ node_numbers → (name : List ℕ) (key : KeyValue) (term count : ℕ) → (merged c es i m).key name ≡ Some key → count_of key term ≡ Some count →
+  at_most : c.nodes ≤ node_numbers → (name : List ℕ) (key : KeyValue) (term count : ℕ) →
+      (merged c es i m).key name ≡ Some key → count_of key term ≡ Some count →
       sum_below node_numbers ((merged c es i m).execs name term) ≤ count + all_granted c es name key term
   at_most few name key term count p q =
       let issued = merged_issued c es s i m sent_then name key p in
       let each = sum-le node_numbers ((merged c es i m).execs name term) (executions c es (stamp_of key) term) (λ j.
       let here = under_execs ops_then name key term j p in
       let own = own_execs c es s name key term count q (one_stamp c es name key issued) j in
-      let upto : number_at (Execs name key term j) ops_then ≤ number_at (Execs name key term j) ((world c es).node j).ops = number_at-mono (Execs name key term j) _ _ (λ k. with_writer (Count (Execs name key term j) k)) in
+      let upto : number_at (Execs name key term j) ops_then ≤ number_at (Execs name key term j)
+      ((world c es).node j).ops = number_at-mono (Execs name key term j) _ _
+      (λ k. with_writer (Count (Execs name key term j) k)) in
       omega (arith, here, own, upto)) in
-      let narrow = sum-narrow c.nodes node_numbers (executions c es (stamp_of key) term) few (λ j l. executed_by_none c es (stamp_of key) term j l) in
+      let narrow = sum-narrow c.nodes node_numbers (executions c es (stamp_of key) term) few
+      (λ j l. executed_by_none c es (stamp_of key) term j l) in
       let most = (conserved c es few s name key term count issued q).at_most in
       omega (arith, each, narrow, most)
 
-  lacks : c.nodes ≤ node_numbers → (op : Operation) → overspends (merged c es i m) op ≡ true → LacksGrant c es (merged c es i m) (name_in op)
+  lacks : c.nodes ≤ node_numbers → (op : Operation) → overspends (merged c es i m) op ≡ true →
+      LacksGrant c es (merged c es i m) (name_in op)
   lacks few op h =
       let is = overspent_term (merged c es i m) (name_in op) h in
       record {
@@ -218,9 +243,12 @@ module _ (c : Cluster) (es : List Event) (s : IsSchedule c es) (i : ℕ) (m : Me
 
   found : IsOwnReason fault ⊎ IsOverspending (not (m.to == i)) (merge_overspends c es i m) fault
   found = first_is (is_full (config_of c i) (length ((world c es).trace i)))
-      (is_none (first_fault (faults_of_message (config_of c i) ((world c es).node i) (Ok m))) && too_many (merged c es i m).names)
-      (not (m.to == i)) (list_any (is_ahead i (state_of c es i)) m.ops) (nat_lt ((world c es).node i).marks.version m.ack) (merge_overspends c es i m)
-      (λ e. le-ltb _ _ (subst (λ j. m.ack ≤ ((world c es).node j).marks.version) (for_me e) ((marked c es s).ack m sent_then)))
+      (is_none (first_fault (faults_of_message (config_of c i) ((world c es).node i) (Ok m))) && too_many
+      (merged c es i m).names)
+      (not (m.to == i)) (list_any (is_ahead i (state_of c es i)) m.ops)
+      (nat_lt ((world c es).node i).marks.version m.ack) (merge_overspends c es i m)
+      (λ e. le-ltb _ _ (subst (λ j. m.ack ≤ ((world c es).node j).marks.version) (for_me e)
+      ((marked c es s).ack m sent_then)))
       (false_any _ m.ops (not_ahead c es s i m sent_then))
 
   -- so it is refused for what it says only where a grant isn't known yet

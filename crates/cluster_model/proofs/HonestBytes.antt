@@ -13,17 +13,22 @@ use Rattle.cluster_model.specs.Laws.{kept, IsHonest, IsHonestReason}
 use Rattle.cluster_model.proofs.Replays.{node_is_replay}
 use Rattle.cluster_model.proofs.Honest.{honest_message, honest_reason}
 
-module _ (c : Cluster) (es : List Event) (few : c.nodes ≤ node_numbers) (s : IsSchedule c es) (i : ℕ) (message : Message) where
-  pub honest_messages : IsIn message (world c es).messages → IsHonest c es i message × IsHonestReason c es i message (refusal (kept c es i) (asks.Deliver (Ok message)) [])
+module _ (c : Cluster) (es : List Event) (few : c.nodes ≤ node_numbers) (s : IsSchedule c es) (i : ℕ)
+    (message : Message) where
+  pub honest_messages : IsIn message (world c es).messages →
+      IsHonest c es i message × IsHonestReason c es i message (refusal (kept c es i) (asks.Deliver (Ok message)) [])
   honest_messages h = (
     honest_message c es s i message h few,
-    subst (λ (n : Node). IsHonestReason c es i message (refusal_at (config_of c i) (length ((world c es).trace i)) n (asks.Deliver (Ok message)) [])) (node_is_replay c es i)
+    subst (λ (n : Node). IsHonestReason c es i message (refusal_at (config_of c i) (length ((world c es).trace i)) n
+        (asks.Deliver (Ok message)) [])) (node_is_replay c es i)
         (honest_reason c es s i message h few),
   )
 
   pub honest_bytes : (bytes : List ℕ) → IsIn message (world c es).messages → message_read c.nodes bytes ≡ Ok message →
-      Allows (world c es) i (Some (delivery_of (kept c es i) bytes)) × IsHonestReason c es i message (refusal (kept c es i) (delivery_of (kept c es i) bytes) [])
+      Allows (world c es) i (Some (delivery_of (kept c es i) bytes)) × IsHonestReason c es i message
+      (refusal (kept c es i) (delivery_of (kept c es i) bytes) [])
   honest_bytes bytes h read = (
     subst (λ r. Allows (world c es) i (Some (asks.Deliver r))) (sym read) h,
-    subst (λ r. IsHonestReason c es i message (refusal (kept c es i) (asks.Deliver r) [])) (sym read) (honest_messages h).1,
+    subst (λ r. IsHonestReason c es i message (refusal (kept c es i) (asks.Deliver r) [])) (sym read)
+        (honest_messages h).1,
   )

@@ -23,7 +23,8 @@ record IsLegalCall (config : Config) (entries : ℕ) (n : Node) (c : Call) : Typ
   pub sends : SendsDelta n c.ask
   pub reply : c.reply ≡ reply config.node n c.ask c.words
 
-legal_parts : (config : Config) (entries : ℕ) (n : Node) (trace : List Call) (c : Call) → IsLegalFrom config entries n (trace ++ c ∷ []) →
+legal_parts : (config : Config) (entries : ℕ) (n : Node) (trace : List Call) (c : Call) →
+    IsLegalFrom config entries n (trace ++ c ∷ []) →
     IsLegalFrom config entries n trace × IsLegalCall config (entries + length trace) (replay_from config.node n trace) c
 unfolding IsLegalFrom replay_from
 legal_parts config entries n [] c legal =
@@ -31,11 +32,15 @@ legal_parts config entries n [] c legal =
     (tt, subst (λ k. IsLegalCall config k n c) here (record { agreed = legal.0; sends = legal.1; reply = legal.2 }))
 legal_parts config entries n (d ∷ trace) c legal =
     let rest = legal_parts config (entries + 1) (after config.node n d.ask d.words) trace c legal.3 in
-    let places : entries + 1 + length trace ≡ entries + length (d ∷ trace) = omega arith in
-    ((legal.0, legal.1, legal.2, rest.0), subst (λ k. IsLegalCall config k (replay_from config.node (after config.node n d.ask d.words) trace) c) places rest.1)
+    let places : entries + 1 + length trace ≡ entries + length (d ∷ trace) = omega arith in (
+      (legal.0, legal.1, legal.2, rest.0),
+      subst (λ k. IsLegalCall config k
+          (replay_from config.node (after config.node n d.ask d.words) trace) c) places rest.1,
+    )
 
 -- an emit is refused for its receiver and a full trace alone, whatever it sends
-same_refusal : (k : Kept) (to : ℕ) (read : Result Message WireFault) → refusal k (emit_of to read) [] ≡ refusal k (bare_emit to) []
+same_refusal : (k : Kept) (to : ℕ) (read : Result Message WireFault) →
+    refusal k (emit_of to read) [] ≡ refusal k (bare_emit to) []
 same_refusal k to (Ok m) = refl
 same_refusal k to (Err fault) = refl
 
@@ -56,7 +61,9 @@ read_by nodes bytes m h = at (message_at nodes bytes) refl h
     at (Err fault) p q = absurd (let impossible : ◌≡◌ {A = Result Message WireFault} (Err fault) (Ok m) = q in cc)
 
 module _ (k : Kept) (to : ℕ) (bytes : List ℕ) (few : k.config.nodes ≤ 2 ^ 8) (fits : IsBytes bytes) where
-  told : (read : Result Message WireFault) → message_read k.config.nodes bytes ≡ read → SendsDelta (node_of k) (emit_of to read) → IsEmitted read ≡ reply k.config.node (node_of k) (emit_of to read) [] → TellsDelta k to bytes
+  told : (read : Result Message WireFault) → message_read k.config.nodes bytes ≡ read →
+      SendsDelta (node_of k) (emit_of to read) → IsEmitted read ≡ reply k.config.node (node_of k) (emit_of to read) [] →
+      TellsDelta k to bytes
   told (Err fault) p sends e = absurd (cc)
   told (Ok m) p sends e =
       let r = read_by k.config.nodes bytes m p in
@@ -71,19 +78,23 @@ module _ (k : Kept) (to : ℕ) (bytes : List ℕ) (few : k.config.nodes ≤ 2 ^ 
         delta = subst (λ (l : Message). IsDelta ((node_of k).past l.base) (state_known k) l.ops) r.is sends.1;
       }
 
-  pub legal_emit : IsLegal k.config (k.trace ++ emit_call k to bytes ∷ []) ↔ (IsLegal k.config k.trace × (refusal k (bare_emit to) [] ≡ None) × TellsDelta k to bytes)
+  pub legal_emit : IsLegal k.config (k.trace ++ emit_call k to bytes ∷ []) ↔
+      (IsLegal k.config k.trace × (refusal k (bare_emit to) [] ≡ None) × TellsDelta k to bytes)
   legal_emit = (
     λ legal.
         let parts = legal_parts k.config 0 start k.trace (emit_call k to bytes) legal in
         let from_0 : 0 + length k.trace ≡ length k.trace = omega arith in (
           parts.0,
-          sym (same_refusal k to (message_read k.config.nodes bytes)) ∙ subst (λ l. refusal_at k.config l (node_of k) (emission_of k to bytes) [] ≡ None) from_0 parts.1.agreed,
+          sym (same_refusal k to (message_read k.config.nodes bytes)) ∙
+              subst (λ l. refusal_at k.config l (node_of k) (emission_of k to bytes) [] ≡ None) from_0 parts.1.agreed,
           told (message_read k.config.nodes bytes) refl parts.1.sends parts.1.reply,
         ),
     λ h.
         let to_0 : length k.trace ≡ 0 + length k.trace = omega arith in
         let agreed = same_refusal k to (message_read k.config.nodes bytes) ∙ h.1 in
-        subst (λ r. IsLegal k.config (k.trace ++ record { ask = emission_of k to bytes; words = []; reply = r } ∷ [])) (delta_replied k to bytes h.2)
+        subst (λ r. IsLegal k.config (k.trace ++ record { ask = emission_of k to bytes; words = []; reply = r } ∷ []))
+        (delta_replied k to bytes h.2)
         (legal_more k.config 0 start k.trace (emission_of k to bytes) [] h.0
-        (subst (λ l. refusal_at k.config l (node_of k) (emission_of k to bytes) [] ≡ None) to_0 agreed) (delta_sends k to bytes h.2)),
+        (subst (λ l. refusal_at k.config l (node_of k) (emission_of k to bytes) [] ≡ None) to_0 agreed)
+        (delta_sends k to bytes h.2)),
   )

@@ -35,7 +35,8 @@ module _ {A : Type 0} where
   get_last [] x = refl
   get_last (y ∷ xs) x = get_last xs x
 
-  pub get_push : (xs : List A) (y : A) (i : ℕ) (x : A) → slice_get (xs ++ y ∷ []) i ≡ Some x → i ≢ length xs → slice_get xs i ≡ Some x
+  pub get_push : (xs : List A) (y : A) (i : ℕ) (x : A) → slice_get (xs ++ y ∷ []) i ≡ Some x → i ≢ length xs →
+      slice_get xs i ≡ Some x
   get_push [] y zero x h ne = absurd (ne refl)
   get_push [] y (suc i) x h ne = h
   get_push (z ∷ xs) y zero x h ne = h
@@ -47,7 +48,8 @@ module _ {A : Type 0} where
   set_twice (z ∷ xs) (suc i) x y = ap (λ r. z ∷ r) (set_twice xs i x y)
 
   -- functions that agree on what stands in a list
-  pub map_same : {B : Type 0} (f g : A → B) (xs : List A) → ((i : ℕ) (x : A) → slice_get xs i ≡ Some x → f x ≡ g x) → map f xs ≡ map g xs
+  pub map_same : {B : Type 0} (f g : A → B) (xs : List A) → ((i : ℕ) (x : A) → slice_get xs i ≡ Some x → f x ≡ g x) →
+      map f xs ≡ map g xs
   map_same f g [] h = refl
   map_same f g (x ∷ xs) h =
       let here = h 0 x refl in

@@ -22,11 +22,14 @@ sum_others-but n i f g h = sum-same n _ _ (λ j below. at j (j == i) (eqb-false 
     at j false ne = h j (ne refl)
 
 -- nothing is moved to oneself, nor to a number that is no node
-not_to : (c : Cluster) (w : World) (e : Event) (i j : ℕ) → (j ≢ i → j < c.nodes → ⊥) → (a : Option Asked) → IsAgreed c w e i a → (name : List ℕ) (key : KeyValue) (term : ℕ) → amount_moved (w.node i) a name key term j ≡ 0
+not_to : (c : Cluster) (w : World) (e : Event) (i j : ℕ) → (j ≢ i → j < c.nodes → ⊥) → (a : Option Asked) →
+    IsAgreed c w e i a → (name : List ℕ) (key : KeyValue) (term : ℕ) → amount_moved (w.node i) a name key term j ≡ 0
 not_to c w e i j bad None g name key term = refl
-not_to c w e i j bad (Some (asks.Shift other t to amount)) g name key term = at (bytes_eq other name && (t == term && (to == j && is_key key ((state_shown (w.node i)).key other)))) refl
+not_to c w e i j bad (Some (asks.Shift other t to amount)) g name key term =
+    at (bytes_eq other name && (t == term && (to == j && is_key key ((state_shown (w.node i)).key other)))) refl
   where
-    at : (b : Bool) → (bytes_eq other name && (t == term && (to == j && is_key key ((state_shown (w.node i)).key other)))) ≡ b → ◌≡◌ {A = ℕ} (cond b amount 0) 0
+    at : (b : Bool) → (bytes_eq other name && (t == term && (to == j && is_key key
+        ((state_shown (w.node i)).key other)))) ≡ b → ◌≡◌ {A = ℕ} (cond b amount 0) 0
     at false f = refl
     at true f =
         let p = and_parts (bytes_eq other name) _ f in
@@ -37,18 +40,22 @@ not_to c w e i j bad (Some (asks.Shift other t to amount)) g name key term = at 
         absurd (bad (λ e. is.other (same ∙ e)) (subst (λ k. k < c.nodes) same is.below))
 not_to c w e i j bad (Some ask) g name key term = refl
 
-pub moved_not_to : (c : Cluster) (es : List Event) (name : List ℕ) (key : KeyValue) (term i j : ℕ) → (j ≢ i → j < c.nodes → ⊥) → moved c es name key term i j ≡ 0
+pub moved_not_to : (c : Cluster) (es : List Event) (name : List ℕ) (key : KeyValue) (term i j : ℕ) →
+    (j ≢ i → j < c.nodes → ⊥) → moved c es name key term i j ≡ 0
 moved_not_to c [] name key term i j bad = refl
 moved_not_to c (e ∷ es) name key term i j bad =
     let before = moved_not_to c es name key term i j bad in
-    let here = not_to c (world c es) e i j bad (accepted c (world c es) e i) (agreed c (world c es) e i) name key term in
+    let here = not_to c (world c es) e i j bad (accepted c (world c es) e i) (agreed c (world c es) e i) name key
+    term in
     omega (arith, before, here)
 
-pub moved_to_self : (c : Cluster) (es : List Event) (name : List ℕ) (key : KeyValue) (term i : ℕ) → moved c es name key term i i ≡ 0
+pub moved_to_self : (c : Cluster) (es : List Event) (name : List ℕ) (key : KeyValue) (term i : ℕ) →
+    moved c es name key term i i ≡ 0
 moved_to_self c es name key term i = moved_not_to c es name key term i i (λ ne l. ne refl)
 
 -- a number that is no node moves nothing
-pub moved_by_none : (c : Cluster) (es : List Event) (name : List ℕ) (key : KeyValue) (term i j : ℕ) → c.nodes ≤ i → moved c es name key term i j ≡ 0
+pub moved_by_none : (c : Cluster) (es : List Event) (name : List ℕ) (key : KeyValue) (term i j : ℕ) → c.nodes ≤ i →
+    moved c es name key term i j ≡ 0
 moved_by_none c [] name key term i j l = refl
 moved_by_none c (e ∷ es) name key term i j l =
     let before = moved_by_none c es name key term i j l in

@@ -24,12 +24,14 @@ module _ (c : Cluster) where
   there : (i : ℕ) → i < c.nodes → slice_get nodes i ≡ Some (new_node c i)
   there i low =
       let inside : i < length nodes = omega (arith, low, size) in
-      slice_get-get_or nodes i (new_node c i) inside ∙ ap (λ (k : Kept). Some k) (get_or-map-range_with_len (new_node c) 0 c.nodes i i (new_node c i) low (omega arith))
+      slice_get-get_or nodes i (new_node c i) inside ∙ ap (λ (k : Kept). Some k)
+      (get_or-map-range_with_len (new_node c) 0 c.nodes i i (new_node c i) low (omega arith))
 
   is_new : (i : ℕ) (k : Kept) → slice_get nodes i ≡ Some k → k ≡ new_node c i
   is_new i k here =
       let inside = get_below nodes i k here in
-      let same : ◌≡◌ {A = Option Kept} (Some k) (Some (new_node c i)) = sym here ∙ there i (omega (arith, inside, size)) in
+      let same : ◌≡◌ {A = Option Kept} (Some k) (Some (new_node c i)) = sym here ∙
+      there i (omega (arith, inside, size)) in
       cc
 
   no_places : IsWorld nodes []
@@ -54,7 +56,8 @@ module _ (c : Cluster) where
   -- as the code makes it
   module _ (items : List Kept) (places : List Place) (made : items ≡ nodes) (none : places ≡ []) where
     pub new_is_world : IsWorld items places
-    new_is_world = subst (λ (ns : List Kept). IsWorld ns places) (sym made) (subst (λ (ps : List Place). IsWorld nodes ps) (sym none) no_places)
+    new_is_world = subst (λ (ns : List Kept). IsWorld ns places) (sym made)
+        (subst (λ (ps : List Place). IsWorld nodes ps) (sym none) no_places)
 
     pub new_is : world_of items places ≡ new_world c
     new_is = ap (λ (ns : List Kept). world_of ns places) made ∙ ap (λ (ps : List Place). world_of nodes ps) none

@@ -47,7 +47,8 @@ passed_as NotSet = Unset
 passed_as (Nothing key) = NoTerm (stamp_of key)
 passed_as (Triggered key term count task) = Act (stamp_of key) term task
 
-pub record HasOutcome (i : ℕ) (v : State) (name words : List ℕ) (setting : Option (KeyValue × List TermValue)) : Type 0 where
+pub record HasOutcome (i : ℕ) (v : State) (name words : List ℕ) (setting : Option (KeyValue × List TermValue)) :
+    Type 0 where
   pub outcome : Outcome
   pub ops : ops_of_pass i v name words setting ≡ ops_of i v name outcome
   pub reply : reply_of_pass i v name words setting ≡ passed_as outcome
@@ -56,24 +57,30 @@ pub record HasOutcome (i : ℕ) (v : State) (name words : List ℕ) (setting : O
 pub outcome_of : (i : ℕ) (v : State) (name words : List ℕ) → HasOutcome i v name words (setting_of v name)
 outcome_of i v name words = at (setting_of v name) refl
   where
-    counted : (key : KeyValue) (terms : List TermValue) (term : ℕ) (count : Option ℕ) → IsSetting (v.key name) key terms → triggered_term i v name words (key, terms) ≡ Some term → count_at terms term ≡ count → HasOutcome i v name words (Some (key, terms))
+    counted : (key : KeyValue) (terms : List TermValue) (term : ℕ) (count : Option ℕ) →
+        IsSetting (v.key name) key terms → triggered_term i v name words (key, terms) ≡ Some term →
+        count_at terms term ≡ count → HasOutcome i v name words (Some (key, terms))
     counted key terms term count s p q =
         record {
           outcome = Triggered key term count (task_in (slice_get terms term));
-          ops = ap (λ (o : Option ℕ). execs_of_choice i v name (key, terms) o ++ next_hit i v name ∷ []) p ∙ ap (λ (o : Option ℕ). execs_of_term i v name key term o ++ next_hit i v name ∷ []) q ∙ ends count;
+          ops = ap (λ (o : Option ℕ). execs_of_choice i v name (key, terms) o ++ next_hit i v name ∷ []) p ∙
+              ap (λ (o : Option ℕ). execs_of_term i v name key term o ++ next_hit i v name ∷ []) q ∙ ends count;
           reply = ap (λ (o : Option ℕ). reply_of_choice (key, terms) o) p;
           is = record {
             under = s.is_key;
             counted = ap (λ (o : Option (List TermValue)). count_under o term) s.is_terms ∙ q;
-            may = λ c e. subst (λ (o : Option ℕ). has_rights_of i v name key term 1 o ≡ true) (q ∙ e) (chosen_may terms words (may_run i v name key terms) term c (sym p) (q ∙ e));
+            may = λ c e. subst (λ (o : Option ℕ). has_rights_of i v name key term 1 o ≡ true) (q ∙ e)
+                (chosen_may terms words (may_run i v name key terms) term c (sym p) (q ∙ e));
           };
         }
       where
-        ends : (o : Option ℕ) → execs_of_term i v name key term o ++ next_hit i v name ∷ [] ≡ ops_of i v name (Triggered key term o (task_in (slice_get terms term)))
+        ends : (o : Option ℕ) → execs_of_term i v name key term o ++ next_hit i v name ∷
+            [] ≡ ops_of i v name (Triggered key term o (task_in (slice_get terms term)))
         ends None = refl
         ends (Some n) = refl
 
-    chosen : (key : KeyValue) (terms : List TermValue) (o : Option ℕ) → IsSetting (v.key name) key terms → triggered_term i v name words (key, terms) ≡ o → HasOutcome i v name words (Some (key, terms))
+    chosen : (key : KeyValue) (terms : List TermValue) (o : Option ℕ) → IsSetting (v.key name) key terms →
+        triggered_term i v name words (key, terms) ≡ o → HasOutcome i v name words (Some (key, terms))
     chosen key terms None s p =
         record {
           outcome = Nothing key;
@@ -85,7 +92,8 @@ outcome_of i v name words = at (setting_of v name) refl
 
     at : (o : Option (KeyValue × List TermValue)) → setting_of v name ≡ o → HasOutcome i v name words o
     at None p = record { outcome = NotSet; ops = refl; reply = refl; is = tt }
-    at (Some setting) p = chosen setting.0 setting.1 (triggered_term i v name words setting) (setting_parts (v.key name) setting.0 setting.1 p) refl
+    at (Some setting) p = chosen setting.0 setting.1 (triggered_term i v name words setting)
+        (setting_parts (v.key name) setting.0 setting.1 p) refl
 
 -- ---- refusals
 
@@ -106,9 +114,12 @@ not_true true fault h = absurd (let impossible : ◌≡◌ {A = Option NodeFault
 pub record IsShifted (config : Config) (v : State) (name : List ℕ) (term to amount : ℕ) : Type 0 where
   pub other : to ≢ config.node
   pub below : to < config.nodes
-  pub may : (key : KeyValue) → v.key name ≡ Some key → has_rights_of config.node v name key term amount (count_of key term) ≡ true
+  pub may : (key : KeyValue) → v.key name ≡ Some key → has_rights_of config.node v name key term amount
+      (count_of key term) ≡ true
 
-pub shifted_is : (config : Config) (entries : ℕ) (n : Node) (name : List ℕ) (term to amount : ℕ) (words : List ℕ) → refusal_at config entries n (asks.Shift name term to amount) words ≡ None → IsShifted config (state_shown n) name term to amount
+pub shifted_is : (config : Config) (entries : ℕ) (n : Node) (name : List ℕ) (term to amount : ℕ) (words : List ℕ) →
+    refusal_at config entries n (asks.Shift name term to amount) words ≡ None →
+    IsShifted config (state_shown n) name term to amount
 shifted_is config entries n name term to amount words h =
     let all = none_applies (faults_of config entries n (asks.Shift name term to amount) words) h in
     let places = (none_applies (faults_of_shift config (state_shown n) name term to amount) all.1.1.0).1.1.1 in
@@ -123,12 +134,16 @@ shifted_is config entries n name term to amount words h =
     v : State
     v = state_shown n
 
-    at : (key : KeyValue) → v.key name ≡ Some key → (o : Option (KeyValue × List TermValue)) → setting_of v name ≡ o → too_few config.node v name term amount o ≡ false → has_rights_of config.node v name key term amount (count_of key term) ≡ true
+    at : (key : KeyValue) → v.key name ≡ Some key → (o : Option (KeyValue × List TermValue)) → setting_of v name ≡ o →
+        too_few config.node v name term amount o ≡ false → has_rights_of config.node v name key term amount
+        (count_of key term) ≡ true
     at key e None p q = absurd (let impossible : true ≡ false = q in cc)
     at key e (Some setting) p q =
         let s = setting_parts (v.key name) setting.0 setting.1 p in
         let keys : Some setting.0 ≡ Some key = sym s.is_key ∙ e in
         let same : setting.0 ≡ key = cc in
-        let counts : count_at setting.1 term ≡ count_of setting.0 term = sym (ap (λ (o : Option (List TermValue)). count_under o term) s.is_terms) in
+        let counts : count_at setting.1 term ≡ count_of setting.0 term =
+        sym (ap (λ (o : Option (List TermValue)). count_under o term) s.is_terms) in
         subst (λ (k : KeyValue). has_rights_of config.node v name k term amount (count_of k term) ≡ true) same
-        (subst (λ (o : Option ℕ). has_rights_of config.node v name setting.0 term amount o ≡ true) counts (not-false _ q))
+        (subst (λ (o : Option ℕ). has_rights_of config.node v name setting.0 term amount o ≡ true) counts
+        (not-false _ q))

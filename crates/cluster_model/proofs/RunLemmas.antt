@@ -32,32 +32,43 @@ use Rattle.cluster_model.proofs.WorldClauses.{answered}
 
 -- ---- one event more
 
-pub answers_more : (w : WorldValue) (es : List EventValue) (answers : List Answer) (e : EventValue) (a : Answer) → AreAnswers w es answers → IsAnswer (after_answers w es answers) e a → AreAnswers w (es ++ e ∷ []) (answers ++ a ∷ [])
+pub answers_more : (w : WorldValue) (es : List EventValue) (answers : List Answer) (e : EventValue) (a : Answer) →
+    AreAnswers w es answers → IsAnswer (after_answers w es answers) e a →
+    AreAnswers w (es ++ e ∷ []) (answers ++ a ∷ [])
 unfolding AreAnswers after_answers
 answers_more w [] [] e a so new = (new, tt)
 answers_more w (f ∷ es) (b ∷ answers) e a so new = (so.0, answers_more (after_answer w f b) es answers e a so.1 new)
 answers_more w [] (b ∷ answers) e a so new = absurd so
 answers_more w (f ∷ es) [] e a so new = absurd so
 
-pub after_more : (w : WorldValue) (es : List EventValue) (answers : List Answer) (e : EventValue) (a : Answer) → AreAnswers w es answers → after_answers w (es ++ e ∷ []) (answers ++ a ∷ []) ≡ after_answer (after_answers w es answers) e a
+pub after_more : (w : WorldValue) (es : List EventValue) (answers : List Answer) (e : EventValue) (a : Answer) →
+    AreAnswers w es answers → after_answers w (es ++ e ∷ []) (answers ++ a ∷ []) ≡ after_answer
+    (after_answers w es answers) e a
 unfolding AreAnswers after_answers
 after_more w [] [] e a so = refl
 after_more w (f ∷ es) (b ∷ answers) e a so = after_more (after_answer w f b) es answers e a so.1
 after_more w [] (b ∷ answers) e a so = absurd so
 after_more w (f ∷ es) [] e a so = absurd so
 
-pub happened_more : (past : List Event) (w : WorldValue) (es : List EventValue) (answers : List Answer) (e : EventValue) (a : Answer) → AreAnswers w es answers
-    → happened_after past w (es ++ e ∷ []) (answers ++ a ∷ []) ≡ happened (after_answers w es answers) e a ++ happened_after past w es answers
+pub happened_more : (past : List Event) (w : WorldValue) (es : List EventValue) (answers : List Answer) (e : EventValue)
+    (a : Answer) → AreAnswers w es answers
+    → happened_after past w (es ++ e ∷ []) (answers ++ a ∷ []) ≡ happened (after_answers w es answers) e a ++
+    happened_after past w es answers
 unfolding AreAnswers after_answers happened_after
 happened_more past w [] [] e a so = refl
-happened_more past w (f ∷ es) (b ∷ answers) e a so = happened_more (happened w f b ++ past) (after_answer w f b) es answers e a so.1
+happened_more past w (f ∷ es) (b ∷ answers) e a so = happened_more (happened w f b ++ past) (after_answer w f b) es
+    answers e a so.1
 happened_more past w [] (b ∷ answers) e a so = absurd so
 happened_more past w (f ∷ es) [] e a so = absurd so
 
-pub honest_more : (w : WorldValue) (es : List EventValue) (answers : List Answer) (e : EventValue) (a : Answer) → AreAnswers w es answers → AreHonest es answers → IsHonestAnswer e a → AreHonest (es ++ e ∷ []) (answers ++ a ∷ [])
+pub honest_more : (w : WorldValue) (es : List EventValue) (answers : List Answer) (e : EventValue) (a : Answer) →
+    AreAnswers w es answers → AreHonest es answers → IsHonestAnswer e a → AreHonest (es ++ e ∷ []) (answers ++ a ∷ [])
 unfolding AreAnswers AreHonest
 honest_more w [] [] e a so honest new = (new, tt)
-honest_more w (f ∷ es) (b ∷ answers) e a so honest new = (honest.0, honest_more (after_answer w f b) es answers e a so.1 honest.1 new)
+honest_more w (f ∷ es) (b ∷ answers) e a so honest new = (
+  honest.0,
+  honest_more (after_answer w f b) es answers e a so.1 honest.1 new,
+)
 honest_more w [] (b ∷ answers) e a so honest new = absurd so
 honest_more w (f ∷ es) [] e a so honest new = absurd so
 
@@ -68,7 +79,8 @@ module _ (c : Cluster) (past : List Event) (w : WorldValue) (has : HasHistory c 
   node_is i k there =
       let below = get_below w.nodes i k there in
       let size = has.size in
-      let same : ◌≡◌ {A = Option Kept} (Some k) (Some (kept c past i)) = sym there ∙ has.nodes i (omega (arith, below, size)) in
+      let same : ◌≡◌ {A = Option Kept} (Some k) (Some (kept c past i)) = sym there ∙
+      has.nodes i (omega (arith, below, size)) in
       cc
 
   pub escrow_holds : EscrowHolds c past
@@ -82,7 +94,8 @@ module _ (c : Cluster) (past : List Event) (w : WorldValue) (has : HasHistory c 
   unfolding answer
   honest_delivery i number = at (slice_get w.nodes i) refl
     where
-      told : (k : Kept) → slice_get w.nodes i ≡ Some k → (o : Option Message) → slice_get w.messages number ≡ o → IsOwnAnswer (answer_to k [] (option_map (λ m. asks.Deliver (Ok m)) o))
+      told : (k : Kept) → slice_get w.nodes i ≡ Some k → (o : Option Message) → slice_get w.messages number ≡ o →
+          IsOwnAnswer (answer_to k [] (option_map (λ m. asks.Deliver (Ok m)) o))
       told k there None p = tt
       told k there (Some m) p =
           own_answer (refusal k (asks.Deliver (Ok m)) []) _
@@ -102,7 +115,8 @@ module _ (c : Cluster) (past : List Event) (w : WorldValue) (has : HasHistory c 
   holds_what_it_learnt =
       record {
         state = state_is;
-        same = λ i j k l here there knows known. state_is i k here ∙ same_fold _ _ knows known ∙ sym (state_is j l there);
+        same = λ i j k l here there knows known. state_is i k here ∙ same_fold _ _ knows known ∙
+            sym (state_is j l there);
       }
     where
       state_is : (i : ℕ) (k : Kept) → slice_get w.nodes i ≡ Some k → state_known k ≡ fold (all_learnt c past i)
@@ -124,7 +138,8 @@ module _ (c : Cluster) (past : List Event) (w : WorldValue) (has : HasHistory c 
     abbrev reply : Answered
     reply = reply_to k ask (words_given e)
 
-    at_node : (j : ℕ) → executions c (event ∷ past) stamp term j ≡ executions c past stamp term j + cond (j == i) (cond (acts stamp term reply) 1 0) 0
+    at_node : (j : ℕ) → executions c (event ∷ past) stamp term j ≡ executions c past stamp term j + cond (j == i)
+        (cond (acts stamp term reply) 1 0) 0
     at_node j = at (cases_eq j i)
       where
         counted : Kept → ℕ
@@ -134,52 +149,68 @@ module _ (c : Cluster) (past : List Event) (w : WorldValue) (has : HasHistory c 
         agreed = subst (λ (k : Kept). refusal k ask event.words ≡ None) (kept_is c past w has e k ask is) is.agreed
 
         here : kept c (event ∷ past) i ≡ after_call k ask event.words
-        here = (event_is_call c past event).accepted (low c past w has e k ask is) agreed ∙ ap (λ (k : Kept). after_call k ask event.words) (sym (kept_is c past w has e k ask is))
+        here = (event_is_call c past event).accepted (low c past w has e k ask is) agreed ∙
+            ap (λ (k : Kept). after_call k ask event.words) (sym (kept_is c past w has e k ask is))
 
-        at : (j ≡ i) ⊎ (j ≢ i) → executions c (event ∷ past) stamp term j ≡ executions c past stamp term j + cond (j == i) (cond (acts stamp term reply) 1 0) 0
+        at : (j ≡ i) ⊎ (j ≢ i) → executions c (event ∷ past) stamp term j ≡ executions c past stamp term j + cond
+            (j == i) (cond (acts stamp term reply) 1 0) 0
         at (inl same) =
-            subst (λ (j : ℕ). executions c (event ∷ past) stamp term j ≡ executions c past stamp term j + cond (j == i) (cond (acts stamp term reply) 1 0) 0) (sym same)
+            subst (λ (j : ℕ). executions c (event ∷ past) stamp term j ≡ executions c past stamp term j + cond (j == i)
+            (cond (acts stamp term reply) 1 0) 0) (sym same)
             (ap counted here
             ∙ sum_by_push (λ (call : Call). cond (acts stamp term call.reply) 1 0) k.trace _
             ∙ ap (λ n. n + cond (acts stamp term reply) 1 0) (ap counted (kept_is c past w has e k ask is))
-            ∙ ap (λ b. executions c past stamp term i + cond b (cond (acts stamp term reply) 1 0) 0) (sym (eq-eqb i i refl)))
+            ∙ ap (λ b. executions c past stamp term i + cond b (cond (acts stamp term reply) 1 0) 0)
+            (sym (eq-eqb i i refl)))
         at (inr other) =
             ap counted ((event_is_call c past event).others j other)
             ∙ rest (executions c past stamp term j) (cond (acts stamp term reply) 1 0)
           where
             rest : (n m : ℕ) → n ≡ n + cond (j == i) m 0
-            rest n m = let no_same = ne_eqb j i other in let zero_more : n ≡ n + 0 = omega arith in zero_more ∙ ap (λ b. n + cond b m 0) (sym no_same)
+            rest n m = let no_same = ne_eqb j i other in let zero_more : n ≡ n + 0 = omega arith in
+                zero_more ∙ ap (λ b. n + cond b m 0) (sym no_same)
 
-    one_more : all_executions c (event ∷ past) stamp term ≡ all_executions c past stamp term + cond (acts stamp term reply) 1 0
+    one_more : all_executions c (event ∷ past) stamp term ≡ all_executions c past stamp term + cond
+        (acts stamp term reply) 1 0
     one_more =
-        sum-same c.nodes (executions c (event ∷ past) stamp term) (λ j. executions c past stamp term j + cond (j == i) (cond (acts stamp term reply) 1 0) 0) (λ j below. at_node j)
+        sum-same c.nodes (executions c (event ∷ past) stamp term)
+        (λ j. executions c past stamp term j + cond (j == i) (cond (acts stamp term reply) 1 0) 0)
+        (λ j below. at_node j)
         ∙ sum-add c.nodes (executions c past stamp term) (λ j. cond (j == i) (cond (acts stamp term reply) 1 0) 0)
-        ∙ ap (λ n. all_executions c past stamp term + n) (sum-at c.nodes i (cond (acts stamp term reply) 1 0) (low c past w has e k ask is))
+        ∙ ap (λ n. all_executions c past stamp term + n) (sum-at c.nodes i (cond (acts stamp term reply) 1 0)
+        (low c past w has e k ask is))
 
-  pub executed : (stamp : Stamp) (term : ℕ) (e : EventValue) (a : Answer) → IsAnswer w e a → all_executions c (happened w e a ++ past) stamp term ≡ all_executions c past stamp term + times stamp term a
+  pub executed : (stamp : Stamp) (term : ℕ) (e : EventValue) (a : Answer) → IsAnswer w e a →
+      all_executions c (happened w e a ++ past) stamp term ≡ all_executions c past stamp term + times stamp term a
   executed stamp term e (Err fault) p = omega arith
-  executed stamp term e (Ok reply) (inl p) = absurd (let impossible : ◌≡◌ {A = Answer} (Ok reply) (Err (Refused OutOfMemory)) = p in cc)
+  executed stamp term e (Ok reply) (inl p) = absurd (let impossible :
+      ◌≡◌ {A = Answer} (Ok reply) (Err (Refused OutOfMemory)) = p in cc)
   executed stamp term e (Ok reply) (inr p) =
       let by = accepts w e reply (sym p) in
       let is = by.2 in
-      let told : ◌≡◌ {A = Answer} (Ok (reply_to by.0 by.1 (words_given e))) (Ok reply) = sym (accepted_answer w e by.0 by.1 is) ∙ sym p in
+      let told : ◌≡◌ {A = Answer} (Ok (reply_to by.0 by.1 (words_given e))) (Ok reply) =
+      sym (accepted_answer w e by.0 by.1 is) ∙ sym p in
       let same : reply_to by.0 by.1 (words_given e) ≡ reply = cc in
       ap (λ (es : List Event). all_executions c (es ++ past) stamp term) (accepted_scheduled w e by.0 by.1 is)
       ∙ one_more stamp term e by.0 by.1 is
       ∙ ap (λ r. all_executions c past stamp term + cond (acts stamp term r) 1 0) same
 
 -- the same of a run: its answers tell of each execution
-pub executions_more : (w : WorldValue) (es : List EventValue) (answers : List Answer) (e : EventValue) (a : Answer) → AreAnswers w es answers → IsAnswer (after_answers w es answers) e a
-    → Afterwards w es answers (λ c past. HasHistory c past (after_answers w es answers)) → TellsExecutions w es answers → TellsExecutions w (es ++ e ∷ []) (answers ++ a ∷ [])
+pub executions_more : (w : WorldValue) (es : List EventValue) (answers : List Answer) (e : EventValue) (a : Answer) →
+    AreAnswers w es answers → IsAnswer (after_answers w es answers) e a
+    → Afterwards w es answers (λ c past. HasHistory c past (after_answers w es answers)) →
+    TellsExecutions w es answers → TellsExecutions w (es ++ e ∷ []) (answers ++ a ∷ [])
 executions_more w es answers e a so new history tells c past has stamp term =
     ap (λ (later : List Event). all_executions c later stamp term) (happened_more past w es answers e a so)
     ∙ executed c (happened_after past w es answers) (after_answers w es answers) (history c past has) stamp term e a new
     ∙ ap (λ n. n + cond (tells_act stamp term a) 1 0) (tells c past has stamp term)
     ∙ counted
   where
-    counted : all_executions c past stamp term + count_by (tells_act stamp term) answers + cond (tells_act stamp term a) 1 0 ≡ all_executions c past stamp term + count_by (tells_act stamp term) (answers ++ a ∷ [])
+    counted : all_executions c past stamp term + count_by (tells_act stamp term) answers + cond (tells_act stamp term a)
+        1 0 ≡ all_executions c past stamp term + count_by (tells_act stamp term) (answers ++ a ∷ [])
     counted =
-        let more : count_by (tells_act stamp term) (answers ++ a ∷ []) ≡ count_by (tells_act stamp term) answers + cond (tells_act stamp term a) 1 0 = sum_by_push (λ b. cond (tells_act stamp term b) 1 0) answers a in
+        let more : count_by (tells_act stamp term) (answers ++ a ∷ []) ≡ count_by (tells_act stamp term) answers + cond
+        (tells_act stamp term a) 1 0 = sum_by_push (λ b. cond (tells_act stamp term b) 1 0) answers a in
         omega (arith, more)
 
 -- ---- a run of nothing
@@ -203,7 +234,8 @@ nothing_refused = tt
 -- ---- one event after the other
 
 -- the nodes are as many after an event
-size_stays : (w : WorldValue) (e : EventValue) (a : Answer) → IsAnswer w e a → length (after_answer w e a).nodes ≡ length w.nodes
+size_stays : (w : WorldValue) (e : EventValue) (a : Answer) → IsAnswer w e a →
+    length (after_answer w e a).nodes ≡ length w.nodes
 size_stays w e (Err fault) p = refl
 size_stays w e (Ok reply) p =
     let by = accepts w e reply (answered w e reply p) in
@@ -231,19 +263,24 @@ begun w =
       honest = λ c past has. nothing_refused;
     }
 
-pub one_more_event : (w : WorldValue) (es : List EventValue) (answers : List Answer) (now : WorldValue) → RunsTo w es answers now → (e : EventValue) (a : Answer) (new : WorldValue)
-    → IsAnswer now e a → new ≡ after_answer now e a → Continues now new (happened now e a) → RunsTo w (es ++ e ∷ []) (answers ++ a ∷ []) new
+pub one_more_event : (w : WorldValue) (es : List EventValue) (answers : List Answer) (now : WorldValue) →
+    RunsTo w es answers now → (e : EventValue) (a : Answer) (new : WorldValue)
+    → IsAnswer now e a → new ≡ after_answer now e a → Continues now new (happened now e a) →
+    RunsTo w (es ++ e ∷ []) (answers ++ a ∷ []) new
 one_more_event w es answers now so e a new told is continues =
     record {
       size = ap (λ (w : WorldValue). length w.nodes) is ∙ size_stays now e a told ∙ so.size;
       answers_are = answers_more w es answers e a so.answers_are told_there;
-      now_is = is ∙ ap (λ (w : WorldValue). after_answer w e a) so.now_is ∙ sym (after_more w es answers e a so.answers_are);
+      now_is = is ∙ ap (λ (w : WorldValue). after_answer w e a) so.now_is ∙
+          sym (after_more w es answers e a so.answers_are);
       history = λ c past has.
-          subst (λ (later : List Event). HasHistory c later new) (sym (happened_more past w es answers e a so.answers_are
+          subst (λ (later : List Event). HasHistory c later new)
+          (sym (happened_more past w es answers e a so.answers_are
           ∙ ap (λ (v : WorldValue). happened v e a ++ happened_after past w es answers) (sym so.now_is)))
           (continues c (happened_after past w es answers) (so.history c past has));
       executions = executions_more w es answers e a so.answers_are told_there
-          (λ c past has. subst (λ (v : WorldValue). HasHistory c (happened_after past w es answers) v) so.now_is (so.history c past has)) so.executions;
+          (λ c past has. subst (λ (v : WorldValue). HasHistory c (happened_after past w es answers) v) so.now_is
+          (so.history c past has)) so.executions;
       honest = λ c past has. honest_more w es answers e a so.answers_are (so.honest c past has)
           (honest_answer c (happened_after past w es answers) now (so.history c past has) e a told);
     }

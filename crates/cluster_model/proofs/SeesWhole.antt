@@ -32,11 +32,13 @@ sees_self : (w : World) (i v : ℕ) → v ≤ (w.node i).marks.version → SeesW
 sees_self w i v l = record { version = v; reached = l; as_of = as_of_self ((w.node i).past v) i }
 
 sees_now : (w : World) → IsSynced w → IsWhole w → (i j : ℕ) → SeesWhole w (fold (w.node i).ops) j
-sees_now w synced whole i j = subst (λ (s : State). SeesWhole w s j) (synced.past i).last (whole i (w.node i).marks.version (omega arith) j)
+sees_now w synced whole i j = subst (λ (s : State). SeesWhole w s j) (synced.past i).last
+    (whole i (w.node i).marks.version (omega arith) j)
 
 -- ---- a message, merged
 
-module _ (w : World) (synced : IsSynced w) (marked : HasMarks w) (acks : HasAcks w) (whole : IsWhole w) (i : ℕ) (m : Message) (sent_then : IsIn m w.messages) (mine : m.to ≡ i) where
+module _ (w : World) (synced : IsSynced w) (marked : HasMarks w) (acks : HasAcks w) (whole : IsWhole w) (i : ℕ)
+    (m : Message) (sent_then : IsIn m w.messages) (mine : m.to ≡ i) where
   abbrev merged : List Operation
   merged = m.ops ++ (w.node i).ops
 
@@ -48,7 +50,8 @@ module _ (w : World) (synced : IsSynced w) (marked : HasMarks w) (acks : HasAcks
 
   -- it comes to all that its sender held
   above_sender : IsBelow sender_then (fold merged)
-  above_sender = brings (w.node m.from) (w.node i).ops m ((w.node i).marks.known m.from) (synced.past m.from) change (synced.above i m.from) (marked.known i m.from)
+  above_sender = brings (w.node m.from) (w.node i).ops m ((w.node i).marks.known m.from) (synced.past m.from) change
+      (synced.above i m.from) (marked.known i m.from)
       (subst (λ k. m.base ≤ (w.node k).marks.known m.from) mine (acks.base m sent_then))
 
   -- and tells what its sender then told or its receiver tells
@@ -72,7 +75,8 @@ module _ (w : World) (synced : IsSynced w) (marked : HasMarks w) (acks : HasAcks
           record {
             version = there.version;
             reached = there.reached;
-            as_of = as_of_later (fold merged) (fold (w.node i).ops) sender_then ((w.node j).past here.version) ((w.node j).past there.version) j above_sender
+            as_of = as_of_later (fold merged) (fold (w.node i).ops) sender_then ((w.node j).past here.version)
+                ((w.node j).past there.version) j above_sender
                 (λ op t. ⊎_elim (λ k. inr k) (λ k. inl k) (told_before op t)) here.as_of there.as_of
                 ((synced.past j).grows here.version there.version (omega (arith, l)) there.reached);
           }
@@ -80,7 +84,8 @@ module _ (w : World) (synced : IsSynced w) (marked : HasMarks w) (acks : HasAcks
           record {
             version = here.version;
             reached = here.reached;
-            as_of = as_of_later (fold merged) sender_then (fold (w.node i).ops) ((w.node j).past there.version) ((w.node j).past here.version) j (union_above_right m.ops (w.node i).ops)
+            as_of = as_of_later (fold merged) sender_then (fold (w.node i).ops) ((w.node j).past there.version)
+                ((w.node j).past here.version) j (union_above_right m.ops (w.node i).ops)
                 told_before there.as_of here.as_of
                 ((synced.past j).grows there.version here.version l here.reached);
           }
@@ -88,7 +93,8 @@ module _ (w : World) (synced : IsSynced w) (marked : HasMarks w) (acks : HasAcks
 -- ---- what a node issues
 
 -- it tells nothing new that another wrote
-issued_tells : (i : ℕ) (n : Node) (a : Option Asked) (words : List ℕ) (op : Operation) → (writer_of op ≡ i → ⊥) → IsTold (fold (ops_issued i n a words)) op → IsTold (state_shown n) op
+issued_tells : (i : ℕ) (n : Node) (a : Option Asked) (words : List ℕ) (op : Operation) → (writer_of op ≡ i → ⊥) →
+    IsTold (fold (ops_issued i n a words)) op → IsTold (state_shown n) op
 unfolding fold
 issued_tells i n a words (Set name key) other t =
     let found = key_of-found name key (ops_issued i n a words) t in
@@ -97,21 +103,26 @@ issued_tells i n a words (Set name key) other t =
     (λ h. h)
     (own_carries i n a words name key found.op found.held found.carries)
 issued_tells i n a words (Count cell number) other t =
-    absurd (other (own_ops i n a words (Count cell number) (held_number cell (ops_issued i n a words) number (told_number (ops_issued i n a words) cell number t) t.1)))
+    absurd (other (own_ops i n a words (Count cell number) (held_number cell (ops_issued i n a words) number
+    (told_number (ops_issued i n a words) cell number t) t.1)))
 
 -- ---- one event
 
-sees_kept : (c : Cluster) (w : World) (e : Event) → IsSynced w → (v : State) (j : ℕ) → SeesWhole w v j → SeesWhole (happens c w e) v j
+sees_kept : (c : Cluster) (w : World) (e : Event) → IsSynced w → (v : State) (j : ℕ) → SeesWhole w v j →
+    SeesWhole (happens c w e) v j
 sees_kept c w e synced v j sees =
-    let grows : (w.node j).marks.version ≤ ((happens c w e).node j).marks.version = version_grows j (w.node j) (accepted c w e j) e.words in
+    let grows : (w.node j).marks.version ≤ ((happens c w e).node j).marks.version =
+    version_grows j (w.node j) (accepted c w e j) e.words in
     let upto = sees.reached in
     record {
       version = sees.version;
       reached = omega (arith, grows, upto);
-      as_of = subst (λ (s : State). IsAsOf v s j) (sym (past_kept j (w.node j) (accepted c w e j) e.words (synced.past j) sees.version sees.reached)) sees.as_of;
+      as_of = subst (λ (s : State). IsAsOf v s j) (sym (past_kept j (w.node j) (accepted c w e j) e.words
+          (synced.past j) sees.version sees.reached)) sees.as_of;
     }
 
-module _ (c : Cluster) (w : World) (e : Event) (synced : IsSynced w) (marked : HasMarks w) (acks : HasAcks w) (whole : IsWhole w) (allowed : Allows w e.node (accepted c w e e.node)) where
+module _ (c : Cluster) (w : World) (e : Event) (synced : IsSynced w) (marked : HasMarks w) (acks : HasAcks w)
+    (whole : IsWhole w) (allowed : Allows w e.node (accepted c w e e.node)) where
   other_sees : (i j : ℕ) → (j ≡ i → ⊥) → SeesWhole w (fold (node_after i (w.node i) (accepted c w e i) e.words).ops) j
   unfolding after
   other_sees i j other = at (accepted c w e i) refl
@@ -121,20 +132,24 @@ module _ (c : Cluster) (w : World) (e : Event) (synced : IsSynced w) (marked : H
 
       at : (a : Option Asked) → accepted c w e i ≡ a → SeesWhole w (fold (node_after i (w.node i) a e.words).ops) j
       at None p = here
-      at (Some (asks.Deliver read)) p = merge_sees_whole w synced marked acks whole i (message_in read) (delivered_was_sent c w e i read allowed p) (delivered_to c w e i read p) j
+      at (Some (asks.Deliver read)) p = merge_sees_whole w synced marked acks whole i (message_in read)
+          (delivered_was_sent c w e i read allowed p) (delivered_to c w e i read p) j
       at (Some ask) p =
           let added = operations_added i (w.node i) ask e.words in
           record {
             version = here.version;
             reached = here.reached;
-            as_of = as_of_more (fold (added ++ (w.node i).ops)) (fold (w.node i).ops) ((w.node j).past here.version) j (union_above_right added (w.node i).ops)
-                (λ op own t. ⊎_elim (issued_tells i (w.node i) (Some ask) e.words op (λ same. other (sym own ∙ same))) (λ k. k) (told_union added (w.node i).ops op t))
+            as_of = as_of_more (fold (added ++ (w.node i).ops)) (fold (w.node i).ops) ((w.node j).past here.version) j
+                (union_above_right added (w.node i).ops)
+                (λ op own t. ⊎_elim (issued_tells i (w.node i) (Some ask) e.words op (λ same. other (sym own ∙ same)))
+                (λ k. k) (told_union added (w.node i).ops op t))
                 here.as_of;
           }
 
   whole_after : IsWhole (happens c w e)
   whole_after i v l j = ⊎_elim
-      (λ same. subst (SeesWhole (happens c w e) (((happens c w e).node i).past v)) (sym same) (sees_self (happens c w e) i v l))
+      (λ same. subst (SeesWhole (happens c w e) (((happens c w e).node i).past v)) (sym same)
+      (sees_self (happens c w e) i v l))
       (λ other. sees_kept c w e synced (((happens c w e).node i).past v) j (⊎_elim
       (λ k. subst (λ (s : State). SeesWhole w s j) (sym k.1) (whole i v k.0 j))
       (λ k. subst (λ (s : State). SeesWhole w s j) (sym k) (other_sees i j other))
@@ -147,10 +162,14 @@ pub sees_whole : (c : Cluster) (es : List Event) → IsDeltaSchedule c es → Is
 sees_whole c [] s = λ i v l j. record { version = 0; reached = omega arith; as_of = as_of_self (fold []) j }
 sees_whole c (e ∷ es) s =
     let before = deltas_are_schedules c es s.1 in
-    whole_after c (world c es) e (all_synced c es s.1) (marked c es before) (has_acks c es before) (sees_whole c es s.1) (deltas_are_schedules c (e ∷ es) s).0
+    whole_after c (world c es) e (all_synced c es s.1) (marked c es before) (has_acks c es before) (sees_whole c es s.1)
+    (deltas_are_schedules c (e ∷ es) s).0
 
 -- what a message brings its receiver to sees each node whole too
-pub merged_sees_whole : (c : Cluster) (es : List Event) → IsDeltaSchedule c es → (i : ℕ) (m : Message) → IsIn m (world c es).messages → m.to ≡ i → (j : ℕ) → SeesWhole (world c es) (fold (m.ops ++ ((world c es).node i).ops)) j
+pub merged_sees_whole : (c : Cluster) (es : List Event) → IsDeltaSchedule c es → (i : ℕ) (m : Message) →
+    IsIn m (world c es).messages → m.to ≡ i → (j : ℕ) → SeesWhole (world c es)
+    (fold (m.ops ++ ((world c es).node i).ops)) j
 merged_sees_whole c es s i m =
     let before = deltas_are_schedules c es s in
-    merge_sees_whole (world c es) (all_synced c es s) (marked c es before) (has_acks c es before) (sees_whole c es s) i m
+    merge_sees_whole (world c es) (all_synced c es s) (marked c es before) (has_acks c es before) (sees_whole c es s) i
+    m

@@ -23,20 +23,24 @@ use Rattle.cluster_model.proofs.WorldSteps.{accepted_answer, accepted_after}
 
 -- ---- no node, no message
 
-pub no_node_answer : (w : WorldValue) (e : EventValue) → slice_get w.nodes (node_asked e) ≡ None → answer w e ≡ Err NoNode
+pub no_node_answer : (w : WorldValue) (e : EventValue) → slice_get w.nodes (node_asked e) ≡ None →
+    answer w e ≡ Err NoNode
 unfolding answer
 no_node_answer w e none = ap (answer_at w.messages e) none
 
-pub no_message_answer : (w : WorldValue) (e : EventValue) (k : Kept) → slice_get w.nodes (node_asked e) ≡ Some k → asked_by w.messages k e ≡ None → answer w e ≡ Err NoMessage
+pub no_message_answer : (w : WorldValue) (e : EventValue) (k : Kept) → slice_get w.nodes (node_asked e) ≡ Some k →
+    asked_by w.messages k e ≡ None → answer w e ≡ Err NoMessage
 unfolding answer
 no_message_answer w e k there none = ap (answer_at w.messages e) there ∙ ap (answer_to k (words_given e)) none
 
-pub refused_answer : (w : WorldValue) (e : EventValue) (k : Kept) (ask : Asked) → slice_get w.nodes (node_asked e) ≡ Some k → asked_by w.messages k e ≡ Some ask
+pub refused_answer : (w : WorldValue) (e : EventValue) (k : Kept) (ask : Asked) →
+    slice_get w.nodes (node_asked e) ≡ Some k → asked_by w.messages k e ≡ Some ask
     → (fault : NodeFault) → IsRefusalOf k ask (words_given e) fault → IsAnswer w e (Err (Refused fault))
 unfolding answer
 refused_answer w e k ask there asked fault (inl memory) = inl (ap (λ (f : NodeFault). Err (Refused f)) memory)
 refused_answer w e k ask there asked fault (inr refused) =
-    inr (sym (ap (answer_at w.messages e) there ∙ ap (answer_to k (words_given e)) asked ∙ ap (λ r. refused_or r (reply_to k ask (words_given e))) refused))
+    inr (sym (ap (answer_at w.messages e) there ∙ ap (answer_to k (words_given e)) asked ∙
+    ap (λ r. refused_or r (reply_to k ask (words_given e))) refused))
 
 -- ---- a call that neither makes nor brings a message
 
@@ -57,7 +61,8 @@ silent k (told.grants name term amount) h = record { asked = refl; replied = λ 
 silent k (told.emits to) h = absurd (true≢false h)
 silent k (told.delivers bytes) h = absurd (true≢false h)
 
-module _ (nodes : List Kept) (places : List Place) (good : IsWorld nodes places) (e : EventValue) (k : Kept) (there : slice_get nodes (node_asked e) ≡ Some k) (ask : Asked) where
+module _ (nodes : List Kept) (places : List Place) (good : IsWorld nodes places) (e : EventValue) (k : Kept)
+    (there : slice_get nodes (node_asked e) ≡ Some k) (ask : Asked) where
   abbrev w : WorldValue
   w = world_of nodes places
 
@@ -67,15 +72,18 @@ module _ (nodes : List Kept) (places : List Place) (good : IsWorld nodes places)
   still : map (message_at nodes_after) places ≡ w.messages
   still = messages_stay nodes (node_asked e) k there ask (words_given e) places good.placed
 
-  pub silent_after : asked_by w.messages k e ≡ Some ask → sent k.config.node (node_of k) (Some ask) ≡ [] → refusal k ask (words_given e) ≡ None
+  pub silent_after : asked_by w.messages k e ≡ Some ask → sent k.config.node (node_of k) (Some ask) ≡ [] →
+      refusal k ask (words_given e) ≡ None
       → world_of nodes_after places ≡ world_after w e
   silent_after asked none agreed =
       sym (accepted_after w e k ask (record { there = there; asked = asked; agreed = agreed })
-      ∙ ap (λ ms. record { nodes = nodes_after; messages = ms }) (ap (λ ms. w.messages ++ ms) none ∙ append-nil w.messages ∙ sym still))
+      ∙ ap (λ ms. record { nodes = nodes_after; messages = ms })
+      (ap (λ ms. w.messages ++ ms) none ∙ append-nil w.messages ∙ sym still))
 
 -- ---- a message
 
-module _ (nodes : List Kept) (places : List Place) (good : IsWorld nodes places) (i to : ℕ) (words : List ℕ) (k : Kept) (there : slice_get nodes i ≡ Some k) (bytes : List ℕ) (delta : TellsDelta k to bytes) where
+module _ (nodes : List Kept) (places : List Place) (good : IsWorld nodes places) (i to : ℕ) (words : List ℕ) (k : Kept)
+    (there : slice_get nodes i ≡ Some k) (bytes : List ℕ) (delta : TellsDelta k to bytes) where
   abbrev world_before : WorldValue
   world_before = world_of nodes places
 
@@ -86,7 +94,8 @@ module _ (nodes : List Kept) (places : List Place) (good : IsWorld nodes places)
   ask = emit_of to (Ok (message_made k to))
 
   pub emission_is : emission_of k to bytes ≡ ask
-  emission_is = ap (emit_of to) (delta_read k to bytes delta ∙ ap (λ m. Ok (message_of m)) (delta_message_is k to bytes delta))
+  emission_is = ap (emit_of to) (delta_read k to bytes delta ∙
+      ap (λ m. Ok (message_of m)) (delta_message_is k to bytes delta))
 
   pub emission_sends : SendsDelta (node_of k) ask
   emission_sends = subst (λ (a : Asked). SendsDelta (node_of k) a) emission_is (delta_sends k to bytes delta)
@@ -105,10 +114,19 @@ module _ (nodes : List Kept) (places : List Place) (good : IsWorld nodes places)
       record {
         node = after_call k ask words;
         there = there_after;
-        emit = (message_made k to, record { call = entry_for k ask words; there = get_last k.trace (entry_for k ask words); reply = refl });
+        emit = (
+          message_made k to,
+          record {
+            call = entry_for k ask words;
+            there =
+                get_last k.trace (entry_for k ask words);
+            reply = refl;
+          },
+        );
       }
 
-  pub emitted_after : refusal k ask words ≡ None → world_of after (places ++ place ∷ []) ≡ world_after world_before event
+  pub emitted_after : refusal k ask words ≡ None → world_of after (places ++ place ∷ []) ≡ world_after world_before
+      event
   unfolding place_made
   emitted_after agreed =
       sym (accepted_after world_before event k ask (record { there = there; asked = refl; agreed = agreed })
@@ -121,4 +139,5 @@ module _ (nodes : List Kept) (places : List Place) (good : IsWorld nodes places)
           ∙ ap (λ m. world_before.messages ++ m ∷ []) (message_is after place place_made)
 
   pub emitted_answer : refusal k ask words ≡ None → answer world_before event ≡ Ok (reply_to k ask words)
-  emitted_answer agreed = accepted_answer world_before event k ask (record { there = there; asked = refl; agreed = agreed })
+  emitted_answer agreed = accepted_answer world_before event k ask
+      (record { there = there; asked = refl; agreed = agreed })

@@ -6,7 +6,8 @@ use Rattle.command_line.specs.declared.peers.PeerFault.{PeerFault}
 use Rattle.command_line.specs.Peers.{IsFirstBad, peer_in}
 
 module _ {X : Type 0} (text : X → List ℕ) (nodes : ℕ) (words : List X) (i : ℕ) (word : X) (peers : List NamedPeer) where
-  pub first_bad : (fault : PeerFault) → i < length words → map (peer_in nodes) (map text (take i words)) ≡ map Ok peers → peer_in nodes (text (get_or words i word)) ≡ Err fault →
+  pub first_bad : (fault : PeerFault) → i < length words → map (peer_in nodes) (map text (take i words)) ≡ map Ok
+      peers → peer_in nodes (text (get_or words i word)) ≡ Err fault →
       IsFirstBad nodes (map text words) (text (get_or words i word)) fault
   first_bad fault more so_far bad = record {
     before = map text (take i words);

@@ -50,14 +50,17 @@ zero-either false = refl
 pub total-entry : (k : ℕ) (v : Max) (rest : Cells) → k < 256 → AreApart ((k, v) ∷ rest)
     → sum_below node_numbers (cell ((k, v) ∷ rest)) ≡ v.0 + sum_below node_numbers (cell rest)
 unfolding cell
-total-entry k v rest below apart = sum-entry zero_max node_numbers (λ q (held : Max). held.0) (λ q. refl) k v rest (below-numbers k below) apart
+total-entry k v rest below apart = sum-entry zero_max node_numbers (λ q (held : Max). held.0) (λ q. refl) k v rest
+    (below-numbers k below) apart
 
 -- unless it is left out
 total_of_others-entry : (node k : ℕ) (v : Max) (rest : Cells) → k < 256 → AreApart ((k, v) ∷ rest)
-    → sum_others node_numbers node (cell ((k, v) ∷ rest)) ≡ cond (k == node) 0 v.0 + sum_others node_numbers node (cell rest)
+    → sum_others node_numbers node (cell ((k, v) ∷ rest)) ≡ cond (k == node) 0 v.0 + sum_others node_numbers node
+    (cell rest)
 unfolding cell
 total_of_others-entry node k v rest below apart =
-    sum-entry zero_max node_numbers (λ q (held : Max). cond (q == node) 0 held.0) (λ q. zero-either (q == node)) k v rest
+    sum-entry zero_max node_numbers (λ q (held : Max). cond (q == node) 0 held.0) (λ q. zero-either (q == node)) k v
+    rest
     (below-numbers k below) apart
 
 -- and a row more its number at the node
@@ -74,7 +77,8 @@ pub total_of_own-entry : (k : ℕ) (v : Cells) (rest : Rows) → k < 256 → Are
     → sum_below node_numbers (λ node. row_cell ((k, v) ∷ rest) node node)
     ≡ cell v k + sum_below node_numbers (λ node. row_cell rest node node)
 unfolding cell row_cell
-total_of_own-entry k v rest below apart = sum-entry [] node_numbers (λ q (held : Cells). cell held q) (λ q. refl) k v rest (below-numbers k below) apart
+total_of_own-entry k v rest below apart = sum-entry [] node_numbers (λ q (held : Cells). cell held q) (λ q. refl) k v
+    rest (below-numbers k below) apart
 
 -- what a test for one node chooses
 pub chosen-same : (i k n m : ℕ) → i ≡ k → cond (i == k) n m ≡ n
@@ -108,7 +112,8 @@ pub total_from_others-counted : (node k : ℕ) (v : Cells) (rest : Rows) → k <
     ≡ cell v node + sum_others node_numbers node (λ from. row_cell rest from node)
 total_from_others-counted node k v rest below apart ne =
     total_from_others-entry node k v rest below apart
-    ∙ ap (λ n. n + sum_others node_numbers node (λ from. row_cell rest from node)) (chosen-other k node 0 (cell v node) ne)
+    ∙ ap (λ n. n + sum_others node_numbers node (λ from. row_cell rest from node))
+    (chosen-other k node 0 (cell v node) ne)
 
 pub total_from_others-left_out : (node k : ℕ) (v : Cells) (rest : Rows) → k < 256 → AreApart ((k, v) ∷ rest)
     → k ≡ node
@@ -116,7 +121,8 @@ pub total_from_others-left_out : (node k : ℕ) (v : Cells) (rest : Rows) → k 
     ≡ 0 + sum_others node_numbers node (λ from. row_cell rest from node)
 total_from_others-left_out node k v rest below apart same =
     total_from_others-entry node k v rest below apart
-    ∙ ap (λ n. n + sum_others node_numbers node (λ from. row_cell rest from node)) (chosen-same k node 0 (cell v node) same)
+    ∙ ap (λ n. n + sum_others node_numbers node (λ from. row_cell rest from node))
+    (chosen-same k node 0 (cell v node) same)
 
 -- each number is one of 64 bits
 pub cell-bound : (cells : Cells) → AreCells cells → (q : ℕ) → cell cells q < 2 ^ 64
@@ -131,7 +137,8 @@ row_cell-bound rows h from to =
 
 -- so all of them fit 128 bits
 bound : (f : ℕ → ℕ) → ((i : ℕ) → f i < 2 ^ 64) → sum_below node_numbers f ≤ 256 * 2 ^ 64
-bound f h = subst (λ (n : ℕ). sum_below node_numbers f ≤ n * 2 ^ 64) numbers-is (sum_below-bound node_numbers (2 ^ 64) f (λ i. let here = h i in omega arith))
+bound f h = subst (λ (n : ℕ). sum_below node_numbers f ≤ n * 2 ^ 64) numbers-is
+    (sum_below-bound node_numbers (2 ^ 64) f (λ i. let here = h i in omega arith))
 
 bound-others : (node : ℕ) (f : ℕ → ℕ) → ((i : ℕ) → f i < 2 ^ 64) → sum_others node_numbers node f ≤ 256 * 2 ^ 64
 bound-others node f h = bound (λ j. cond (j == node) 0 (f j)) (λ j. at (j == node) (h j))
@@ -143,13 +150,17 @@ bound-others node f h = bound (λ j. cond (j == node) 0 (f j)) (λ j. at (j == n
 pub total-bound : (cells : Cells) → AreCells cells → sum_below node_numbers (cell cells) ≤ 256 * 2 ^ 64
 total-bound cells h = bound (cell cells) (cell-bound cells h)
 
-pub total_of_others-bound : (node : ℕ) (cells : Cells) → AreCells cells → sum_others node_numbers node (cell cells) ≤ 256 * 2 ^ 64
+pub total_of_others-bound : (node : ℕ) (cells : Cells) → AreCells cells →
+    sum_others node_numbers node (cell cells) ≤ 256 * 2 ^ 64
 total_of_others-bound node cells h = bound-others node (cell cells) (cell-bound cells h)
 
-pub total_from_others-bound : (node : ℕ) (rows : Rows) → AreRows rows → sum_others node_numbers node (λ from. row_cell rows from node) ≤ 256 * 2 ^ 64
-total_from_others-bound node rows h = bound-others node (λ from. row_cell rows from node) (λ from. row_cell-bound rows h from node)
+pub total_from_others-bound : (node : ℕ) (rows : Rows) → AreRows rows →
+    sum_others node_numbers node (λ from. row_cell rows from node) ≤ 256 * 2 ^ 64
+total_from_others-bound node rows h = bound-others node (λ from. row_cell rows from node)
+    (λ from. row_cell-bound rows h from node)
 
-pub total_of_own-bound : (rows : Rows) → AreRows rows → sum_below node_numbers (λ node. row_cell rows node node) ≤ 256 * 2 ^ 64
+pub total_of_own-bound : (rows : Rows) → AreRows rows → sum_below node_numbers (λ node. row_cell rows node node) ≤ 256 *
+    2 ^ 64
 total_of_own-bound rows h = bound (λ node. row_cell rows node node) (λ node. row_cell-bound rows h node node)
 
 -- nothing is left where no entries are

@@ -8,14 +8,16 @@ use Rattle.counters.specs.Budgets.{given_to, gone_from, granted_by, total_spent,
 use Rattle.counters.proofs.SumLemmas.{sum-same, sum-add, sum-at, sum-swap}
 
 -- a sum of differences
-int_sum-differences : (n : ℕ) (f g : ℕ → ℕ) → int_sum_below n (λ i. pos (f i) -ℤ pos (g i)) ≡ pos (sum_below n f) -ℤ pos (sum_below n g)
+int_sum-differences : (n : ℕ) (f g : ℕ → ℕ) → int_sum_below n (λ i. pos (f i) -ℤ pos (g i)) ≡ pos (sum_below n f) -ℤ pos
+    (sum_below n g)
 int_sum-differences zero f g = refl
 int_sum-differences (suc n) f g =
     let rest = int_sum-differences n f g in
     omega (arith, ints)
 
 -- what node i shifts to j comes from i at j
-pub from_to : (n : ℕ) (s : ℕ → ℕ → ℕ) → sum_below n (λ i. sum_others n i (λ j. s i j)) ≡ sum_below n (λ i. sum_others n i (λ j. s j i))
+pub from_to : (n : ℕ) (s : ℕ → ℕ → ℕ) → sum_below n (λ i. sum_others n i (λ j. s i j)) ≡ sum_below n
+    (λ i. sum_others n i (λ j. s j i))
 from_to n s =
     sum-swap n n (λ i j. cond (j == i) 0 (s i j)) ∙
     sum-same n _ _ (λ j below. sum-same n _ _ (λ i here. either i j (j == i) (i == j) refl refl))
@@ -26,7 +28,8 @@ from_to n s =
     either i j true false e f = absurd (eqb-false i j f (sym (eqb-true j i e)))
     either i j false true e f = absurd (eqb-false j i e (sym (eqb-true i j f)))
 
-balanced : (all came granted had own out spent count all_gone : ℕ) → own ≡ count → had ≡ own + granted → all ≡ had + came
+balanced : (all came granted had own out spent count all_gone : ℕ) → own ≡ count → had ≡ own + granted →
+    all ≡ had + came
     → all_gone ≡ out + spent → out ≡ came → (pos all -ℤ pos all_gone) +ℤ pos spent ≡ pos (count + granted)
 balanced all came granted had own out spent count all_gone a b c d e = omega (arith, ints)
 
@@ -36,6 +39,7 @@ remaining_and_spent b below =
     balanced _ _ _ _ _ _ _ _ _
     (sum-at node_numbers b.setter b.count below)
     (sum-add node_numbers (λ i. cond (i == b.setter) b.count 0) (granted_by b))
-    (sum-add node_numbers (λ i. cond (i == b.setter) b.count 0 + granted_by b i) (λ i. sum_others node_numbers i (λ j. b.shifted j i)))
+    (sum-add node_numbers (λ i. cond (i == b.setter) b.count 0 + granted_by b i)
+    (λ i. sum_others node_numbers i (λ j. b.shifted j i)))
     (sum-add node_numbers (λ i. sum_others node_numbers i (λ j. b.shifted i j)) b.spent)
     (from_to node_numbers b.shifted)

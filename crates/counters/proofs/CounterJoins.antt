@@ -58,7 +58,8 @@ pub cells_join : JoinsByCell AreCells CellsOrder
 unfolding cell
 cells_join x y j join node = max_join _ _ _ (join_at nat_cmp_total max_order is_zero x y j join node)
 
-rows_join : (x y j : Rows) → IsJoin AreRows RowsOrder x y j → (from to : ℕ) → row_cell j from to ≡ max (row_cell x from to) (row_cell y from to)
+rows_join : (x y j : Rows) → IsJoin AreRows RowsOrder x y j → (from to : ℕ) →
+    row_cell j from to ≡ max (row_cell x from to) (row_cell y from to)
 unfolding row_cell
 rows_join x y j join from to =
     cells_join (value_at nat_cmp [] x from) (value_at nat_cmp [] y from) (value_at nat_cmp [] j from)
@@ -71,7 +72,8 @@ shares_join x y j join = (
 )
 
 -- and what has the greater number in each cell is a join
-pub cells_join_from : (x y j : Cells) → AreCells x → AreCells y → AreCells j → HasGreaterCells x y j → IsJoin AreCells CellsOrder x y j
+pub cells_join_from : (x y j : Cells) → AreCells x → AreCells y → AreCells j → HasGreaterCells x y j →
+    IsJoin AreCells CellsOrder x y j
 cells_join_from x y j a b c greater = record {
   admitted_first = a;
   admitted_second = b;
@@ -85,15 +87,26 @@ cells_join_from x y j a b c greater = record {
       omega arith);
 }
 
-pub shares_join_from : (x y j : Shares) → AreShares x → AreShares y → AreShares j → HasGreaterShares x y j → IsJoin AreShares SharesOrder x y j
+pub shares_join_from : (x y j : Shares) → AreShares x → AreShares y → AreShares j → HasGreaterShares x y j →
+    IsJoin AreShares SharesOrder x y j
 shares_join_from x y j a b c greater = record {
   admitted_first = a;
   admitted_second = b;
   admitted_join = c;
-  above_first = (shares_order x j).1 (λ node. let here = greater.0 node in omega arith, λ from to. let here = greater.1 from to in omega arith);
-  above_second = (shares_order y j).1 (λ node. let here = greater.0 node in omega arith, λ from to. let here = greater.1 from to in omega arith);
+  above_first = (shares_order x j).1 (
+    λ node. let here = greater.0 node in
+        omega arith,
+    λ from to. let here = greater.1 from to in omega arith,
+  );
+  above_second = (shares_order y j).1 (
+    λ node. let here = greater.0 node in
+        omega arith,
+    λ from to. let here = greater.1 from to in omega arith,
+  );
   least = λ u d l m. (shares_order j u).1 (
-    λ node. let here = greater.0 node in let first = ((shares_order x u).0 l).0 node in let second = ((shares_order y u).0 m).0 node in omega arith,
-    λ from to. let here = greater.1 from to in let first = ((shares_order x u).0 l).1 from to in let second = ((shares_order y u).0 m).1 from to in omega arith,
+    λ node. let here = greater.0 node in let first = ((shares_order x u).0 l).0 node in
+        let second = ((shares_order y u).0 m).0 node in omega arith,
+    λ from to. let here = greater.1 from to in let first = ((shares_order x u).0 l).1 from to in
+        let second = ((shares_order y u).0 m).1 from to in omega arith,
   );
 }

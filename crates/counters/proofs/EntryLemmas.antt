@@ -21,5 +21,6 @@ module _ {J : Type 0} where
   stored_at-head k v rest = ap (λ (t : Bool). cond t (Some v) (stored_at nat_cmp rest k)) (at_itself k)
 
   -- and at the others what there is without it
-  pub stored_at-tail : (k : ℕ) (v : J) (rest : List (ℕ × J)) (q : ℕ) → q ≢ k → stored_at nat_cmp ((k, v) ∷ rest) q ≡ stored_at nat_cmp rest q
+  pub stored_at-tail : (k : ℕ) (v : J) (rest : List (ℕ × J)) (q : ℕ) → q ≢ k →
+      stored_at nat_cmp ((k, v) ∷ rest) q ≡ stored_at nat_cmp rest q
   stored_at-tail k v rest q ne = ap (λ (t : Bool). cond t (Some v) (stored_at nat_cmp rest q)) (at_other q k ne)

@@ -18,12 +18,15 @@ module _ {J : Type 0} (bottom : J) where
   value_at-head k v rest = ap (λ (o : Option J). unwrap_or o bottom) (stored_at-head k v rest)
 
   -- and at the others what there is without it
-  value_at-tail : (k : ℕ) (v : J) (rest : List (ℕ × J)) (q : ℕ) → q ≢ k → value_at nat_cmp bottom ((k, v) ∷ rest) q ≡ value_at nat_cmp bottom rest q
+  value_at-tail : (k : ℕ) (v : J) (rest : List (ℕ × J)) (q : ℕ) → q ≢ k →
+      value_at nat_cmp bottom ((k, v) ∷ rest) q ≡ value_at nat_cmp bottom rest q
   value_at-tail k v rest q ne = ap (λ (o : Option J). unwrap_or o bottom) (stored_at-tail k v rest q ne)
 
   -- where keys differ, no other entry has the first one's node
-  value_at-past : (k : ℕ) (v : J) (rest : List (ℕ × J)) → IsDistinct (eq_by_cmp nat_cmp) (keys_of ((k, v) ∷ rest)) → value_at nat_cmp bottom rest k ≡ bottom
-  value_at-past k v rest distinct = ap (λ (o : Option J). unwrap_or o bottom) (none_after nat_cmp_total (k, v) rest k distinct (at_itself k))
+  value_at-past : (k : ℕ) (v : J) (rest : List (ℕ × J)) → IsDistinct (eq_by_cmp nat_cmp) (keys_of ((k, v) ∷ rest)) →
+      value_at nat_cmp bottom rest k ≡ bottom
+  value_at-past k v rest distinct = ap (λ (o : Option J). unwrap_or o bottom)
+      (none_after nat_cmp_total (k, v) rest k distinct (at_itself k))
 
   -- an entry more adds what it counts for
   pub sum-entry : (n : ℕ) (counts : ℕ → J → ℕ) → ((q : ℕ) → counts q bottom ≡ 0)
@@ -31,7 +34,8 @@ module _ {J : Type 0} (bottom : J) where
       → sum_below n (λ q. counts q (value_at nat_cmp bottom ((k, v) ∷ rest) q))
       ≡ counts k v + sum_below n (λ q. counts q (value_at nat_cmp bottom rest q))
   sum-entry n counts none k v rest below distinct =
-      sum-same n _ (λ q. cond (q == k) (counts k v) 0 + counts q (value_at nat_cmp bottom rest q)) (λ q l. at q (q == k) refl) ∙
+      sum-same n _ (λ q. cond (q == k) (counts k v) 0 + counts q (value_at nat_cmp bottom rest q))
+      (λ q l. at q (q == k) refl) ∙
       sum-add n (λ q. cond (q == k) (counts k v) 0) (λ q. counts q (value_at nat_cmp bottom rest q)) ∙
       ap (λ m. m + sum_below n (λ q. counts q (value_at nat_cmp bottom rest q))) (sum-at n k (counts k v) below)
     where

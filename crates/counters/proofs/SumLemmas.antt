@@ -50,7 +50,8 @@ pub sum-at : (n : ℕ) (k m : ℕ) → k < n → sum_below n (λ i. cond (i == k
 sum-at zero k m h = absurd (omega arith)
 sum-at (suc n) k m h = ⊎_elim
     (λ e.
-    let rest : sum_below n (λ i. cond (i == k) m 0) ≡ 0 = sum-same n _ (λ i. 0) (λ i b. at i (i == k) refl (omega arith)) ∙ sum-zero n (λ i. 0) (λ i. refl) in
+    let rest : sum_below n (λ i. cond (i == k) m 0) ≡ 0 = sum-same n _ (λ i. 0)
+    (λ i b. at i (i == k) refl (omega arith)) ∙ sum-zero n (λ i. 0) (λ i. refl) in
     let here : cond (n == k) m 0 ≡ m = is n (n == k) refl e in
     omega arith)
     (λ ne.
@@ -67,7 +68,8 @@ sum-at (suc n) k m h = ⊎_elim
     is i true e same = refl
     is i false e same = absurd (eqb-false i k e same)
 
-pub sum-swap : (n m : ℕ) (f : ℕ → ℕ → ℕ) → sum_below n (λ i. sum_below m (λ j. f i j)) ≡ sum_below m (λ j. sum_below n (λ i. f i j))
+pub sum-swap : (n m : ℕ) (f : ℕ → ℕ → ℕ) → sum_below n (λ i. sum_below m (λ j. f i j)) ≡ sum_below m
+    (λ j. sum_below n (λ i. f i j))
 sum-swap zero m f = sym (sum-zero m (λ j. 0) (λ j. refl))
 sum-swap (suc n) m f =
     let rest = sum-swap n m f in
@@ -90,7 +92,8 @@ sum_others-le n i f g h = sum-le n _ _ (λ j. at j (j == i))
     at j false = h j
 
 pub sum_others-add : (n i : ℕ) (f g : ℕ → ℕ) → sum_others n i (λ j. f j + g j) ≡ sum_others n i f + sum_others n i g
-sum_others-add n i f g = sum-same n _ (λ j. cond (j == i) 0 (f j) + cond (j == i) 0 (g j)) (λ j l. at j (j == i)) ∙ sum-add n _ _
+sum_others-add n i f g = sum-same n _ (λ j. cond (j == i) 0 (f j) + cond (j == i) 0 (g j)) (λ j l. at j (j == i)) ∙
+    sum-add n _ _
   where
     at : (j : ℕ) (b : Bool) → cond b 0 (f j + g j) ≡ cond b 0 (f j) + cond b 0 (g j)
     at j true = refl
@@ -111,7 +114,8 @@ sum_others-at_most n i f k m h l = sum-one n _ k m (λ j ne. at j (j == i) (h j 
     one false = l
 
 -- a sum of naturals in the integers
-pub int_sum-pos : (n : ℕ) (z : ℕ → ℤ) (f : ℕ → ℕ) → ((i : ℕ) → z i ≡ pos (f i)) → int_sum_below n z ≡ pos (sum_below n f)
+pub int_sum-pos : (n : ℕ) (z : ℕ → ℤ) (f : ℕ → ℕ) → ((i : ℕ) → z i ≡ pos (f i)) →
+    int_sum_below n z ≡ pos (sum_below n f)
 int_sum-pos zero z f h = refl
 int_sum-pos (suc n) z f h = λ i. h n i +ℤ int_sum-pos n z f h i
 

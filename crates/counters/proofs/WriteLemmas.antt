@@ -32,7 +32,8 @@ apart : (node q : ℕ) → q ≢ node → nat_cmp node q ≢ Equal
 apart node q ne same = ne (sym (exact_unsigned node q same))
 
 -- a number that is put is the cell's
-put_number : (o : Option Max) (value : Max) → IsStored nat_cmp IsNumber IsAtMost zero_max o value → (let held = unwrap_or o zero_max in held.0) ≡ value.0
+put_number : (o : Option Max) (value : Max) → IsStored nat_cmp IsNumber IsAtMost zero_max o value →
+    (let held = unwrap_or o zero_max in held.0) ≡ value.0
 put_number None value h = let below : value.0 ≤ 0 = h in omega arith
 put_number (Some held) value h = ap (λ (m : Max). m.0) h.0
 
@@ -55,12 +56,14 @@ raised_cell old new node number raises = record {
 }
 
 -- the number of an entry that is there
-pub found_cell : (cells : Cells) (node : ℕ) (held : Max) → stored_at nat_cmp cells node ≡ Some held → cell cells node ≡ held.0
+pub found_cell : (cells : Cells) (node : ℕ) (held : Max) → stored_at nat_cmp cells node ≡ Some held →
+    cell cells node ≡ held.0
 unfolding cell
 found_cell cells node held found = ap (λ o. let held = unwrap_or o zero_max in held.0) found
 
 -- a node without an entry has 0
-pub absent_cell : (cells : Cells) (node : ℕ) → (IsSome (stored_at nat_cmp cells node) → false ≡ true) → cell cells node ≡ 0
+pub absent_cell : (cells : Cells) (node : ℕ) → (IsSome (stored_at nat_cmp cells node) → false ≡ true) →
+    cell cells node ≡ 0
 unfolding cell
 absent_cell cells node none = by_entry (stored_at nat_cmp cells node) none
   where
@@ -74,7 +77,8 @@ unfolding cell
 empty_cell q = refl
 
 -- a node without a row has 0 everywhere
-pub absent_row_cell : (rows : Rows) (from to : ℕ) → (IsSome (stored_at nat_cmp rows from) → false ≡ true) → row_cell rows from to ≡ 0
+pub absent_row_cell : (rows : Rows) (from to : ℕ) → (IsSome (stored_at nat_cmp rows from) → false ≡ true) →
+    row_cell rows from to ≡ 0
 unfolding row_cell
 absent_row_cell rows from to none = by_entry (stored_at nat_cmp rows from) none
   where
@@ -83,7 +87,8 @@ absent_row_cell rows from to none = by_entry (stored_at nat_cmp rows from) none
     by_entry (Some held) h = absurd (false≢true (h refl))
 
 -- the cells of a row that is there
-pub found_row_cell : (rows : Rows) (from : ℕ) (held : Cells) → stored_at nat_cmp rows from ≡ Some held → (q : ℕ) → row_cell rows from q ≡ cell held q
+pub found_row_cell : (rows : Rows) (from : ℕ) (held : Cells) → stored_at nat_cmp rows from ≡ Some held → (q : ℕ) →
+    row_cell rows from q ≡ cell held q
 unfolding row_cell
 found_row_cell rows from held found q = ap (λ o. cell (unwrap_or o []) q) found
 
@@ -98,12 +103,14 @@ put_row_cell : (rows : Rows) (from : ℕ) (left : Cells)
 unfolding cell row_cell
 put_row_cell rows from left stored q = by_entry (stored_at nat_cmp rows from) stored
   where
-    by_entry : (o : Option Cells) → IsStored nat_cmp AreCells (MapOrder nat_cmp IsAtMost zero_max) [] o left → cell (unwrap_or o []) q ≡ cell left q
+    by_entry : (o : Option Cells) → IsStored nat_cmp AreCells (MapOrder nat_cmp IsAtMost zero_max) [] o left →
+        cell (unwrap_or o []) q ≡ cell left q
     by_entry None h = let below : cell left q ≤ 0 = h q in omega arith
     by_entry (Some held) h = ap (λ row. cell row q) h.0
 
 -- and so has a row that is raised from nothing
-raised_row_cell : (row new : Cells) → IsJoin AreCells (MapOrder nat_cmp IsAtMost zero_max) [] row new → (q : ℕ) → cell new q ≡ cell row q
+raised_row_cell : (row new : Cells) → IsJoin AreCells (MapOrder nat_cmp IsAtMost zero_max) [] row new → (q : ℕ) →
+    cell new q ≡ cell row q
 unfolding cell
 raised_row_cell row new join q =
     let copy = copy_from_bottom (map_order nat_cmp max_order) row new join in
@@ -112,7 +119,8 @@ raised_row_cell row new join q =
     omega arith
 
 raised_from_none : (old new : Rows) (from : ℕ) (row : Cells) → (IsSome (stored_at nat_cmp old from) → false ≡ true)
-    → IsJoin AreCells (MapOrder nat_cmp IsAtMost zero_max) (value_at nat_cmp [] old from) row (value_at nat_cmp [] new from)
+    → IsJoin AreCells (MapOrder nat_cmp IsAtMost zero_max) (value_at nat_cmp [] old from) row
+    (value_at nat_cmp [] new from)
     → (q : ℕ) → row_cell new from q ≡ cell row q
 unfolding row_cell
 raised_from_none old new from row none join q = by_entry (stored_at nat_cmp old from) none join
@@ -124,12 +132,14 @@ raised_from_none old new from row none join q = by_entry (stored_at nat_cmp old 
     by_entry (Some held) h j = absurd (false≢true (h refl))
 
 -- other rows stay
-other_row_cell : (old new : Rows) (f t : ℕ) → stored_at nat_cmp new f ≡ stored_at nat_cmp old f → row_cell new f t ≡ row_cell old f t
+other_row_cell : (old new : Rows) (f t : ℕ) → stored_at nat_cmp new f ≡ stored_at nat_cmp old f →
+    row_cell new f t ≡ row_cell old f t
 unfolding row_cell
 other_row_cell old new f t same = ap (λ o. cell (unwrap_or o []) t) same
 
 -- a place of another row, or of this one at another node
-other_place : (from to f t : ℕ) (P : Type 0) → ((f ≡ from) × (t ≡ to) → ⊥) → (f ≢ from → P) → (f ≡ from → t ≢ to → P) → P
+other_place : (from to f t : ℕ) (P : Type 0) → ((f ≡ from) × (t ≡ to) → ⊥) → (f ≢ from → P) → (f ≡ from → t ≢ to → P) →
+    P
 other_place from to f t P h other this = ⊎_elim (λ e. this e (λ g. h (e, g))) other (cases_eq f from)
 
 -- a row in which a number was written is put
@@ -153,12 +163,14 @@ pub raised_row : (old new : Rows) (from to number : ℕ) (row : Cells)
     → RaisesOnly nat_cmp AreCells (MapOrder nat_cmp IsAtMost zero_max) [] old new from row
     → WritesRowCell old new from to number
 raised_row old new from to number row none writes raises =
-    let all : (q : ℕ) → row_cell new from q ≡ cell row q = λ q. raised_from_none old new from row none raises.this_key q in
+    let all : (q : ℕ) → row_cell new from q ≡ cell row q = λ q. raised_from_none old new from row none raises.this_key
+    q in
     record {
       this_cell = all to ∙ writes.this_cell;
       other_cells = λ f t h. other_place from to f t (row_cell new f t ≡ row_cell old f t) h
           (λ ne. other_row_cell old new f t (raises.other_keys f (apart from f ne)))
           (λ same ne.
-          let here : row_cell new from t ≡ row_cell old from t = all t ∙ writes.other_cells t ne ∙ empty_cell t ∙ sym (absent_row_cell old from t none) in
+          let here : row_cell new from t ≡ row_cell old from t = all t ∙ writes.other_cells t ne ∙ empty_cell t ∙
+          sym (absent_row_cell old from t none) in
           ap (λ x. row_cell new x t) same ∙ here ∙ ap (λ x. row_cell old x t) (sym same));
     }

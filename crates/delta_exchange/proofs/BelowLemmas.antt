@@ -30,7 +30,8 @@ unfolding IsStrictlySortedBy
 ascends [] h = tt
 ascends (n ∷ ns) h = (all_of (λ m. slice_cmp nat_cmp n m ≡ Less) ns h.0, ascends ns h.1)
 
-pub ascending_append : (xs ys : List (List ℕ)) → IsAscending xs → IsAscending ys → ((x y : List ℕ) → IsIn x xs → IsIn y ys → slice_cmp nat_cmp x y ≡ Less) → IsAscending (xs ++ ys)
+pub ascending_append : (xs ys : List (List ℕ)) → IsAscending xs → IsAscending ys →
+    ((x y : List ℕ) → IsIn x xs → IsIn y ys → slice_cmp nat_cmp x y ≡ Less) → IsAscending (xs ++ ys)
 ascending_append [] ys h k across = k
 ascending_append (x ∷ xs) ys h k across = (
   λ m i. ⊎_elim (h.0 m) (λ j. across x m (inl refl) j) (IsIn-append_cases m xs ys i),
@@ -72,7 +73,8 @@ module _ {C : Type 0} (f : ℕ → List C) where
       omega (arith, a, b)
 
   pub ascending_below : (place : C → List ℕ) (n : ℕ) → ((i : ℕ) → IsAscending (map place (f i)))
-      → ((i j : ℕ) (c d : C) → i < j → IsIn c (f i) → IsIn d (f j) → slice_cmp nat_cmp (place c) (place d) ≡ Less) → IsAscending (map place (each_below f n))
+      → ((i j : ℕ) (c d : C) → i < j → IsIn c (f i) → IsIn d (f j) → slice_cmp nat_cmp (place c) (place d) ≡ Less) →
+      IsAscending (map place (each_below f n))
   unfolding each_below
   ascending_below place zero h across = tt
   ascending_below place (suc n) h across =
@@ -82,4 +84,5 @@ module _ {C : Type 0} (f : ℕ → List C) where
       let c = mapped_from place (each_below f n) x a in
       let d = mapped_from place (f n) y b in
       let r = below_in n c.0 c.1 in
-      subst (λ z. slice_cmp nat_cmp z y ≡ Less) (sym c.2) (subst (λ z. slice_cmp nat_cmp (place c.0) z ≡ Less) (sym d.2) (across r.0 n c.0 d.0 r.1 r.2 d.1))))
+      subst (λ z. slice_cmp nat_cmp z y ≡ Less) (sym c.2) (subst (λ z. slice_cmp nat_cmp (place c.0) z ≡ Less) (sym d.2)
+      (across r.0 n c.0 d.0 r.1 r.2 d.1))))

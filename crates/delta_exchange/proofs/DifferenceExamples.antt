@@ -19,7 +19,8 @@ use Rattle.delta_exchange.proofs.Filters.{passes_not, filter_all, filter_none}
 -- ---- from nothing
 
 module _ (v : State) (nodes : ℕ) where
-  all_untold : (name : List ℕ) (key : KeyValue) → untold_entry (fold []) (entry_of v nodes name key) ≡ entry_of v nodes name key ∷ []
+  all_untold : (name : List ℕ) (key : KeyValue) → untold_entry (fold []) (entry_of v nodes name key) ≡ entry_of v nodes
+      name key ∷ []
   unfolding fold
   all_untold name key = λ i. record {
     name = name;
@@ -40,20 +41,25 @@ module _ (v : State) (nodes : ℕ) where
 
   -- ---- from the state itself
 
-  none_untold : (name : List ℕ) (key : KeyValue) → v.key name ≡ Some key → untold_entry v (entry_of v nodes name key) ≡ []
+  none_untold : (name : List ℕ) (key : KeyValue) → v.key name ≡ Some key →
+      untold_entry v (entry_of v nodes name key) ≡ []
   none_untold name key e = rw (no_hits, no_execs, no_shifts, no_grants, tells_its_key v name key e) refl
     where
       no_hits : filter (λ c. not (tells_hits v name c)) (hit_cells v name nodes) ≡ []
-      no_hits = filter_none (λ c. not (tells_hits v name c)) (hit_cells v name nodes) (λ c h. ap not (tells_its_hits v name c (hit_held v nodes name c h)))
+      no_hits = filter_none (λ c. not (tells_hits v name c)) (hit_cells v name nodes)
+          (λ c h. ap not (tells_its_hits v name c (hit_held v nodes name c h)))
 
       no_execs : filter (λ c. not (tells_execs v name key c)) (exec_cells v name key nodes) ≡ []
-      no_execs = filter_none (λ c. not (tells_execs v name key c)) (exec_cells v name key nodes) (λ c h. ap not (tells_its_execs v name key c (exec_held v nodes name key e c h)))
+      no_execs = filter_none (λ c. not (tells_execs v name key c)) (exec_cells v name key nodes)
+          (λ c h. ap not (tells_its_execs v name key c (exec_held v nodes name key e c h)))
 
       no_shifts : filter (λ c. not (tells_shifts v name key c)) (shift_cells v name key nodes) ≡ []
-      no_shifts = filter_none (λ c. not (tells_shifts v name key c)) (shift_cells v name key nodes) (λ c h. ap not (tells_its_shifts v name key c (shift_held v nodes name key e c h)))
+      no_shifts = filter_none (λ c. not (tells_shifts v name key c)) (shift_cells v name key nodes)
+          (λ c h. ap not (tells_its_shifts v name key c (shift_held v nodes name key e c h)))
 
       no_grants : filter (λ c. not (tells_grants v name key c)) (grant_cells v name key nodes) ≡ []
-      no_grants = filter_none (λ c. not (tells_grants v name key c)) (grant_cells v name key nodes) (λ c h. ap not (tells_its_grants v name key c (grant_held v nodes name key e c h)))
+      no_grants = filter_none (λ c. not (tells_grants v name key c)) (grant_cells v name key nodes)
+          (λ c h. ap not (tells_its_grants v name key c (grant_held v nodes name key e c h)))
 
   pub nothing_from_itself : untold_entries v v nodes ≡ []
   nothing_from_itself = flat_none (untold_entry v) (entries_of v nodes) (λ e h.
@@ -84,8 +90,17 @@ worked : difference_of (fold before) (fold (added ++ before)) 2 0 1 9 11 0 ≡ r
   base = 9;
   upto = 11;
   ack = 0;
-  entries = record { name = codes "a"; key = key_at 1; hits = (1, 1) ∷ []; execs = (0, 1, 1) ∷ []; shifts = []; grants = [] }
+  entries = record {
+    name = codes "a";
+    key = key_at 1;
+    hits = (1, 1) ∷ [];
+    execs = (0, 1, 1) ∷ [];
+    shifts = [];
+    grants =
+        [];
+  }
       ∷ record { name = codes "b"; key = gone; hits = []; execs = []; shifts = []; grants = [] } ∷ [];
 }
-unfolding fold each_below same_cell terms_in_text reading pieces terms_at term_at argument_at trimmed_text chance_at count_at number_at task_at
+unfolding fold each_below same_cell terms_in_text reading pieces terms_at term_at argument_at trimmed_text chance_at
+    count_at number_at task_at
 worked = refl

@@ -24,37 +24,44 @@ module _ {A : Type 0} (test : A → Bool) where
   in_filter [] x h = absurd h
   in_filter (y ∷ xs) x h = by_test (test y) refl (in_filter xs x) h
     where
-      by_test : (b : Bool) → test y ≡ b → (IsIn x (filter test xs) → IsIn x xs × IsTrue (test x)) → IsIn x (cond b (y ∷ filter test xs) (filter test xs)) → IsIn x (y ∷ xs) × IsTrue (test x)
+      by_test : (b : Bool) → test y ≡ b → (IsIn x (filter test xs) → IsIn x xs × IsTrue (test x)) →
+          IsIn x (cond b (y ∷ filter test xs) (filter test xs)) → IsIn x (y ∷ xs) × IsTrue (test x)
       by_test true e rest (inl s) = (inl s, ap test s ∙ e)
       by_test true e rest (inr i) = let r = rest i in (inr r.0, r.1)
       by_test false e rest i = let r = rest i in (inr r.0, r.1)
 
   pub filter_in : (xs : List A) (x : A) → IsIn x xs → IsTrue (test x) → IsIn x (filter test xs)
   filter_in [] x h t = absurd h
-  filter_in (y ∷ xs) x (inl e) t = subst (λ b. IsIn x (cond b (y ∷ filter test xs) (filter test xs))) (sym (sym (ap test e) ∙ t)) (inl e)
+  filter_in (y ∷ xs) x (inl e) t = subst (λ b. IsIn x (cond b (y ∷ filter test xs) (filter test xs)))
+      (sym (sym (ap test e) ∙ t)) (inl e)
   filter_in (y ∷ xs) x (inr h) t = by_test (test y) (filter_in xs x h t)
     where
       by_test : (b : Bool) → IsIn x (filter test xs) → IsIn x (cond b (y ∷ filter test xs) (filter test xs))
       by_test true r = inr r
       by_test false r = r
 
-  pub filter_ascends : (place : A → List ℕ) (xs : List A) → IsAscending (map place xs) → IsAscending (map place (filter test xs))
+  pub filter_ascends : (place : A → List ℕ) (xs : List A) → IsAscending (map place xs) →
+      IsAscending (map place (filter test xs))
   filter_ascends place [] h = tt
   filter_ascends place (x ∷ xs) h = by_test (test x) (filter_ascends place xs h.1)
     where
       first : (m : List ℕ) → IsIn m (map place (filter test xs)) → slice_cmp nat_cmp (place x) m ≡ Less
       first m i =
           let c = mapped_from place (filter test xs) m i in
-          subst (λ z. slice_cmp nat_cmp (place x) z ≡ Less) (sym c.2) (h.0 (place c.0) (mapped_in place xs c.0 (in_filter xs c.0 c.1).0))
+          subst (λ z. slice_cmp nat_cmp (place x) z ≡ Less) (sym c.2)
+          (h.0 (place c.0) (mapped_in place xs c.0 (in_filter xs c.0 c.1).0))
 
-      by_test : (b : Bool) → IsAscending (map place (filter test xs)) → IsAscending (map place (cond b (x ∷ filter test xs) (filter test xs)))
+      by_test : (b : Bool) → IsAscending (map place (filter test xs)) →
+          IsAscending (map place (cond b (x ∷ filter test xs) (filter test xs)))
       by_test true r = (first, r)
       by_test false r = r
 
   pub filter_all : (xs : List A) → ((x : A) → IsIn x xs → IsTrue (test x)) → filter test xs ≡ xs
   filter_all [] h = refl
-  filter_all (x ∷ xs) h = ap (λ b. cond b (x ∷ filter test xs) (filter test xs)) (h x (inl refl)) ∙ ap (λ (ys : List A). x ∷ ys) (filter_all xs (λ y i. h y (inr i)))
+  filter_all (x ∷ xs) h = ap (λ b. cond b (x ∷ filter test xs) (filter test xs)) (h x (inl refl)) ∙
+      ap (λ (ys : List A). x ∷ ys) (filter_all xs (λ y i. h y (inr i)))
 
   pub filter_none : (xs : List A) → ((x : A) → IsIn x xs → test x ≡ false) → filter test xs ≡ []
   filter_none [] h = refl
-  filter_none (x ∷ xs) h = ap (λ b. cond b (x ∷ filter test xs) (filter test xs)) (h x (inl refl)) ∙ filter_none xs (λ y i. h y (inr i))
+  filter_none (x ∷ xs) h = ap (λ b. cond b (x ∷ filter test xs) (filter test xs)) (h x (inl refl)) ∙
+      filter_none xs (λ y i. h y (inr i))

@@ -49,7 +49,8 @@ module _ {C : Type 0} where
   if_length true cs most h = h
   if_length false cs most h = omega arith
 
-  pub if_ascends : (place : C → List ℕ) (b : Bool) (cs : List C) → IsAscending (map place cs) → IsAscending (map place (cond b cs []))
+  pub if_ascends : (place : C → List ℕ) (b : Bool) (cs : List C) → IsAscending (map place cs) →
+      IsAscending (map place (cond b cs []))
   if_ascends place true cs h = h
   if_ascends place false cs h = tt
 
@@ -66,7 +67,8 @@ module _ {C : Type 0} where
   unless_length true cs most h = omega arith
   unless_length false cs most h = h
 
-  pub unless_ascends : (place : C → List ℕ) (b : Bool) (cs : List C) → IsAscending (map place cs) → IsAscending (map place (cond b [] cs))
+  pub unless_ascends : (place : C → List ℕ) (b : Bool) (cs : List C) → IsAscending (map place cs) →
+      IsAscending (map place (cond b [] cs))
   unless_ascends place true cs h = tt
   unless_ascends place false cs h = h
 
@@ -85,15 +87,19 @@ module _ (number : ℕ → ℕ → ℕ) (nodes : ℕ) where
       let one = in_cell (number term r.0) (term, r.0, number term r.0) c r.2 in
       record { node = r.0; below = r.1; some = one.0; is = one.1 }
 
-  row_has_cell : (term node : ℕ) → node < nodes → number term node ≢ 0 → IsIn (term, node, number term node) (term_row number nodes term)
+  row_has_cell : (term node : ℕ) → node < nodes → number term node ≢ 0 →
+      IsIn (term, node, number term node) (term_row number nodes term)
   row_has_cell term node lt some =
-      in_below (λ node. cell_of (number term node) (term, node, number term node)) nodes node (term, node, number term node) lt (cell_in (number term node) (term, node, number term node) some)
+      in_below (λ node. cell_of (number term node) (term, node, number term node)) nodes node
+      (term, node, number term node) lt (cell_in (number term node) (term, node, number term node) some)
 
   few_in_row : (term : ℕ) → nodes ≤ max_nodes → length (term_row number nodes term) ≤ max_nodes * 1
-  few_in_row term few = length_below (λ node. cell_of (number term node) (term, node, number term node)) 1 nodes max_nodes few (λ node. one_cell (number term node) (term, node, number term node))
+  few_in_row term few = length_below (λ node. cell_of (number term node) (term, node, number term node)) 1 nodes
+      max_nodes few (λ node. one_cell (number term node) (term, node, number term node))
 
   row_ascends : (term : ℕ) → IsAscending (map exec_place (term_row number nodes term))
-  row_ascends term = ascending_below (λ node. cell_of (number term node) (term, node, number term node)) exec_place nodes
+  row_ascends term = ascending_below (λ node. cell_of (number term node) (term, node, number term node)) exec_place
+      nodes
       (λ node. cell_ascends exec_place (number term node) (term, node, number term node))
       (λ i j c d lt h k.
       let a = in_cell (number term i) (term, i, number term i) c h in
@@ -113,11 +119,13 @@ module _ (number : ℕ → ℕ → ℕ) (nodes : ℕ) where
         let s = in_if (is_some (count_of key r.0)) (term_row number nodes r.0) c r.2 in
         record { term = r.0; below = r.1; counted = s.0; row = cell_in_row r.0 c s.1 }
 
-    pub member_term : (term node : ℕ) → term < 16 → IsTrue (is_some (count_of key term)) → node < nodes → number term node ≢ 0
+    pub member_term : (term node : ℕ) → term < 16 → IsTrue (is_some (count_of key term)) → node < nodes →
+        number term node ≢ 0
         → IsIn (term, node, number term node) (term_cells number key nodes)
     member_term term node below counted lt some =
         in_below (term_row_of number key nodes) 16 term (term, node, number term node) below
-        (if_in (is_some (count_of key term)) (term_row number nodes term) (term, node, number term node) counted (row_has_cell term node lt some))
+        (if_in (is_some (count_of key term)) (term_row number nodes term) (term, node, number term node) counted
+        (row_has_cell term node lt some))
 
     pub few_terms : nodes ≤ max_nodes → length (term_cells number key nodes) ≤ 512
     few_terms few = length_below (term_row_of number key nodes) max_nodes 16 16 (omega arith)
@@ -146,12 +154,15 @@ module _ (v : State) (name : List ℕ) (nodes : ℕ) where
       let one = in_cell (v.hits name r.0) (r.0, v.hits name r.0) c r.2 in
       record { node = r.0; below = r.1; some = one.0; is = one.1 }
 
-  pub member_hit : (node : ℕ) → node < nodes → v.hits name node ≢ 0 → IsIn (node, v.hits name node) (hit_cells v name nodes)
+  pub member_hit : (node : ℕ) → node < nodes → v.hits name node ≢ 0 →
+      IsIn (node, v.hits name node) (hit_cells v name nodes)
   member_hit node lt some =
-      in_below (λ node. cell_of (v.hits name node) (node, v.hits name node)) nodes node (node, v.hits name node) lt (cell_in (v.hits name node) (node, v.hits name node) some)
+      in_below (λ node. cell_of (v.hits name node) (node, v.hits name node)) nodes node (node, v.hits name node) lt
+      (cell_in (v.hits name node) (node, v.hits name node) some)
 
   pub few_hits : nodes ≤ max_nodes → length (hit_cells v name nodes) ≤ max_nodes * 1
-  few_hits few = length_below (λ node. cell_of (v.hits name node) (node, v.hits name node)) 1 nodes max_nodes few (λ node. one_cell (v.hits name node) (node, v.hits name node))
+  few_hits few = length_below (λ node. cell_of (v.hits name node) (node, v.hits name node)) 1 nodes max_nodes few
+      (λ node. one_cell (v.hits name node) (node, v.hits name node))
 
   pub hits_ascend : IsAscending (map hit_place (hit_cells v name nodes))
   hits_ascend = ascending_below (λ node. cell_of (v.hits name node) (node, v.hits name node)) hit_place nodes
@@ -163,16 +174,21 @@ module _ (v : State) (name : List ℕ) (nodes : ℕ) where
 
   -- ---- shifts
 
-  pub shift_in_cell : (term from to : ℕ) (c : ℕ × ℕ × ℕ × ℕ) → IsIn c (shift_cell v name term from to) → (to ≢ from) × (v.shifts name term from to ≢ 0) × (c ≡ (term, from, to, v.shifts name term from to))
+  pub shift_in_cell : (term from to : ℕ) (c : ℕ × ℕ × ℕ × ℕ) → IsIn c (shift_cell v name term from to) →
+      (to ≢ from) × (v.shifts name term from to ≢ 0) × (c ≡ (term, from, to, v.shifts name term from to))
   shift_in_cell term from to c h =
-      let r = in_unless (to == from) (cell_of (v.shifts name term from to) (term, from, to, v.shifts name term from to)) c h in
-      let apart : to ≢ from = λ e. let same : (to == from) ≡ true = eq-eqb to from e in absurd (let not : false ≡ true = sym r.0 ∙ same in cc) in
+      let r = in_unless (to == from) (cell_of (v.shifts name term from to) (term, from, to, v.shifts name term from to))
+      c h in
+      let apart : to ≢ from = λ e. let same : (to == from) ≡ true = eq-eqb to from e in
+      absurd (let not : false ≡ true = sym r.0 ∙ same in cc) in
       let one = in_cell (v.shifts name term from to) (term, from, to, v.shifts name term from to) c r.1 in
       (apart, one.0, one.1)
 
-  pub cell_in_shift : (term from to : ℕ) → to ≢ from → v.shifts name term from to ≢ 0 → IsIn (term, from, to, v.shifts name term from to) (shift_cell v name term from to)
+  pub cell_in_shift : (term from to : ℕ) → to ≢ from → v.shifts name term from to ≢ 0 →
+      IsIn (term, from, to, v.shifts name term from to) (shift_cell v name term from to)
   cell_in_shift term from to apart some =
-      unless_in (to == from) (cell_of (v.shifts name term from to) (term, from, to, v.shifts name term from to)) (term, from, to, v.shifts name term from to) (others (to == from) refl)
+      unless_in (to == from) (cell_of (v.shifts name term from to) (term, from, to, v.shifts name term from to))
+      (term, from, to, v.shifts name term from to) (others (to == from) refl)
       (cell_in (v.shifts name term from to) (term, from, to, v.shifts name term from to) some)
     where
       others : (b : Bool) → (to == from) ≡ b → b ≡ false
@@ -191,7 +207,8 @@ module _ (v : State) (name : List ℕ) (nodes : ℕ) where
     pub below : from < nodes
     pub row : IsShiftFrom term from c
 
-  shift_in_row : (term from : ℕ) (c : ℕ × ℕ × ℕ × ℕ) → IsIn c (shift_row v name nodes term from) → IsShiftFrom term from c
+  shift_in_row : (term from : ℕ) (c : ℕ × ℕ × ℕ × ℕ) → IsIn c (shift_row v name nodes term from) →
+      IsShiftFrom term from c
   shift_in_row term from c h =
       let r = below_in (shift_cell v name term from) nodes c h in
       let one = shift_in_cell term from r.0 c r.2 in
@@ -204,18 +221,24 @@ module _ (v : State) (name : List ℕ) (nodes : ℕ) where
 
   few_shifts_from : (term from : ℕ) → nodes ≤ max_nodes → length (shift_row v name nodes term from) ≤ max_nodes * 1
   few_shifts_from term from few = length_below (shift_cell v name term from) 1 nodes max_nodes few
-      (λ to. unless_length (to == from) (cell_of (v.shifts name term from to) (term, from, to, v.shifts name term from to)) 1 (one_cell (v.shifts name term from to) (term, from, to, v.shifts name term from to)))
+      (λ to. unless_length (to == from) (cell_of (v.shifts name term from to)
+      (term, from, to, v.shifts name term from to)) 1 (one_cell (v.shifts name term from to)
+      (term, from, to, v.shifts name term from to)))
 
   few_shifts_of : (term : ℕ) → nodes ≤ max_nodes → length (shift_rows v name nodes term) ≤ max_nodes * max_nodes
-  few_shifts_of term few = length_below (shift_row v name nodes term) max_nodes nodes max_nodes few (λ from. few_shifts_from term from few)
+  few_shifts_of term few = length_below (shift_row v name nodes term) max_nodes nodes max_nodes few
+      (λ from. few_shifts_from term from few)
 
   shift_row_ascends : (term from : ℕ) → IsAscending (map shift_place (shift_row v name nodes term from))
   shift_row_ascends term from = ascending_below (shift_cell v name term from) shift_place nodes
-      (λ to. unless_ascends shift_place (to == from) (cell_of (v.shifts name term from to) (term, from, to, v.shifts name term from to)) (cell_ascends shift_place (v.shifts name term from to) (term, from, to, v.shifts name term from to)))
+      (λ to. unless_ascends shift_place (to == from) (cell_of (v.shifts name term from to)
+      (term, from, to, v.shifts name term from to)) (cell_ascends shift_place (v.shifts name term from to)
+      (term, from, to, v.shifts name term from to)))
       (λ i j c d lt h k.
       let a = shift_in_cell term from i c h in
       let b = shift_in_cell term from j d k in
-      rw (a.2, b.2) (by_rest term (from ∷ i ∷ []) (from ∷ j ∷ []) (by_rest from (i ∷ []) (j ∷ []) (by_first i j [] [] lt))))
+      rw (a.2, b.2) (by_rest term (from ∷ i ∷ []) (from ∷ j ∷ [])
+      (by_rest from (i ∷ []) (j ∷ []) (by_first i j [] [] lt))))
 
   shift_rows_ascend : (term : ℕ) → IsAscending (map shift_place (shift_rows v name nodes term))
   shift_rows_ascend term = ascending_below (shift_row v name nodes term) shift_place nodes (shift_row_ascends term)
@@ -237,22 +260,26 @@ module _ (v : State) (name : List ℕ) (nodes : ℕ) where
         let s = in_if (is_some (count_of key r.0)) (shift_rows v name nodes r.0) c r.2 in
         record { term = r.0; below = r.1; counted = s.0; rows = shift_in_rows r.0 c s.1 }
 
-    pub member_shift : (term from to : ℕ) → term < 16 → IsTrue (is_some (count_of key term)) → from < nodes → to < nodes → to ≢ from → v.shifts name term from to ≢ 0
+    pub member_shift : (term from to : ℕ) → term < 16 → IsTrue (is_some (count_of key term)) → from < nodes →
+        to < nodes → to ≢ from → v.shifts name term from to ≢ 0
         → IsIn (term, from, to, v.shifts name term from to) (shift_cells v name key nodes)
     member_shift term from to below counted lt less apart some =
         let cell : ℕ × ℕ × ℕ × ℕ = (term, from, to, v.shifts name term from to) in
         let one = cell_in_shift term from to apart some in
         let row = in_below (shift_cell v name term from) nodes to cell less one in
         let rows = in_below (shift_row v name nodes term) nodes from cell lt row in
-        in_below (shift_rows_of v name key nodes) 16 term cell below (if_in (is_some (count_of key term)) (shift_rows v name nodes term) cell counted rows)
+        in_below (shift_rows_of v name key nodes) 16 term cell below
+        (if_in (is_some (count_of key term)) (shift_rows v name nodes term) cell counted rows)
 
     pub few_shifts : nodes ≤ max_nodes → length (shift_cells v name key nodes) ≤ 16384
     few_shifts few = length_below (shift_rows_of v name key nodes) (max_nodes * max_nodes) 16 16 (omega arith)
-        (λ term. if_length (is_some (count_of key term)) (shift_rows v name nodes term) (max_nodes * max_nodes) (few_shifts_of term few))
+        (λ term. if_length (is_some (count_of key term)) (shift_rows v name nodes term) (max_nodes * max_nodes)
+        (few_shifts_of term few))
 
     pub shifts_ascend : IsAscending (map shift_place (shift_cells v name key nodes))
     shifts_ascend = ascending_below (shift_rows_of v name key nodes) shift_place 16
-        (λ term. if_ascends shift_place (is_some (count_of key term)) (shift_rows v name nodes term) (shift_rows_ascend term))
+        (λ term. if_ascends shift_place (is_some (count_of key term)) (shift_rows v name nodes term)
+        (shift_rows_ascend term))
         (λ i j c d lt h k.
         let a = shift_in_rows i c (in_if (is_some (count_of key i)) (shift_rows v name nodes i) c h).1 in
         let b = shift_in_rows j d (in_if (is_some (count_of key j)) (shift_rows v name nodes j) d k).1 in

@@ -56,17 +56,21 @@ module _ (name : List ℕ) (node : ℕ) (v : State) where
   hits_here : (n : List ℕ) (i : ℕ) → (bytes_eq name n && eqb node i) ≡ true → v.hits n i < v.hits name node + 1
   hits_here n i e =
       let parts = and_parts (bytes_eq name n) (eqb node i) e in
-      let same : v.hits name node ≡ v.hits n i = λ k. v.hits (bytes_eq-true name n parts.0 k) (eqb-true node i parts.1 k) in
+      let same : v.hits name node ≡ v.hits n i = λ k. v.hits (bytes_eq-true name n parts.0 k)
+      (eqb-true node i parts.1 k) in
       omega (arith, same)
 
-  execs_here : (term : ℕ) (n : List ℕ) (t i : ℕ) → (bytes_eq name n && (eqb term t && eqb node i)) ≡ true → v.execs n t i < v.execs name term node + 1
+  execs_here : (term : ℕ) (n : List ℕ) (t i : ℕ) → (bytes_eq name n && (eqb term t && eqb node i)) ≡ true →
+      v.execs n t i < v.execs name term node + 1
   execs_here term n t i e =
       let parts = and_parts (bytes_eq name n) (eqb term t && eqb node i) e in
       let more = and_parts (eqb term t) (eqb node i) parts.1 in
-      let same : v.execs name term node ≡ v.execs n t i = λ k. v.execs (bytes_eq-true name n parts.0 k) (eqb-true term t more.0 k) (eqb-true node i more.1 k) in
+      let same : v.execs name term node ≡ v.execs n t i = λ k. v.execs (bytes_eq-true name n parts.0 k)
+      (eqb-true term t more.0 k) (eqb-true node i more.1 k) in
       omega (arith, same)
 
-  pass_grows : (spent : Option ℕ) → Grows v (with_pass name node spent v) (counts name (Some (Hits node)) (option_map (λ term. Execs term node) spent))
+  pass_grows : (spent : Option ℕ) → Grows v (with_pass name node spent v)
+      (counts name (Some (Hits node)) (option_map (λ term. Execs term node) spent))
   unfolding with_hits with_execs
   pass_grows None = record {
     key = λ n. refl;
@@ -74,12 +78,14 @@ module _ (name : List ℕ) (node : ℕ) (v : State) where
     grows = λ n c e. grows n c e;
   }
     where
-      stays : (n : List ℕ) (c : Counted) → counts name (Some (Hits node)) None n c ≡ false → cell_of v n c ≡ cell_of (with_pass name node None v) n c
+      stays : (n : List ℕ) (c : Counted) → counts name (Some (Hits node)) None n c ≡ false →
+          cell_of v n c ≡ cell_of (with_pass name node None v) n c
       stays n (Hits i) e = stay (bytes_eq name n && eqb node i) _ _ e
       stays n (Execs t i) e = refl
       stays n (Shifts t i j) e = refl
 
-      grows : (n : List ℕ) (c : Counted) → counts name (Some (Hits node)) None n c ≡ true → cell_of v n c < cell_of (with_pass name node None v) n c
+      grows : (n : List ℕ) (c : Counted) → counts name (Some (Hits node)) None n c ≡ true →
+          cell_of v n c < cell_of (with_pass name node None v) n c
       grows n (Hits i) e = grow (bytes_eq name n && eqb node i) _ _ (hits_here n i) e
       grows n (Execs t i) e = never (bytes_eq name n) e
       grows n (Shifts t i j) e = never (bytes_eq name n) e
@@ -89,44 +95,57 @@ module _ (name : List ℕ) (node : ℕ) (v : State) where
     grows = λ n c e. grows n c e;
   }
     where
-      stays : (n : List ℕ) (c : Counted) → counts name (Some (Hits node)) (Some (Execs term node)) n c ≡ false → cell_of v n c ≡ cell_of (with_pass name node (Some term) v) n c
+      stays : (n : List ℕ) (c : Counted) → counts name (Some (Hits node)) (Some (Execs term node)) n c ≡ false →
+          cell_of v n c ≡ cell_of (with_pass name node (Some term) v) n c
       stays n (Hits i) e = stay (bytes_eq name n && eqb node i) _ _ e
-      stays n (Execs t i) e = stay (bytes_eq name n && (eqb term t && eqb node i)) _ _ (ap (λ s. bytes_eq name n && s) (sym (or_false (eqb term t && eqb node i))) ∙ e)
+      stays n (Execs t i) e = stay (bytes_eq name n && (eqb term t && eqb node i)) _ _
+          (ap (λ s. bytes_eq name n && s) (sym (or_false (eqb term t && eqb node i))) ∙ e)
       stays n (Shifts t i j) e = refl
 
-      grows : (n : List ℕ) (c : Counted) → counts name (Some (Hits node)) (Some (Execs term node)) n c ≡ true → cell_of v n c < cell_of (with_pass name node (Some term) v) n c
+      grows : (n : List ℕ) (c : Counted) → counts name (Some (Hits node)) (Some (Execs term node)) n c ≡ true →
+          cell_of v n c < cell_of (with_pass name node (Some term) v) n c
       grows n (Hits i) e = grow (bytes_eq name n && eqb node i) _ _ (hits_here n i) e
-      grows n (Execs t i) e = grow (bytes_eq name n && (eqb term t && eqb node i)) _ _ (execs_here term n t i) (ap (λ s. bytes_eq name n && s) (sym (or_false (eqb term t && eqb node i))) ∙ e)
+      grows n (Execs t i) e = grow (bytes_eq name n && (eqb term t && eqb node i)) _ _ (execs_here term n t i)
+          (ap (λ s. bytes_eq name n && s) (sym (or_false (eqb term t && eqb node i))) ∙ e)
       grows n (Shifts t i j) e = never (bytes_eq name n) e
 
-  pub pass_tells : (spent : Option ℕ) → Tells v (with_pass name node spent v) (λ n. false) (counts name (Some (Hits node)) (option_map (λ term. Execs term node) spent))
+  pub pass_tells : (spent : Option ℕ) → Tells v (with_pass name node spent v) (λ n. false)
+      (counts name (Some (Hits node)) (option_map (λ term. Execs term node) spent))
   pass_tells spent = grown_tells v (with_pass name node spent v) _ (pass_grows spent)
 
 module _ (name : List ℕ) (term from to total : ℕ) (v : State) (less : v.shifts name term from to < total) where
-  shifts_here : (n : List ℕ) (t i j : ℕ) → (bytes_eq name n && (eqb term t && (eqb from i && eqb to j))) ≡ true → v.shifts n t i j < total
+  shifts_here : (n : List ℕ) (t i j : ℕ) → (bytes_eq name n && (eqb term t && (eqb from i && eqb to j))) ≡ true →
+      v.shifts n t i j < total
   shifts_here n t i j e =
       let one = and_parts (bytes_eq name n) (eqb term t && (eqb from i && eqb to j)) e in
       let two = and_parts (eqb term t) (eqb from i && eqb to j) one.1 in
       let three = and_parts (eqb from i) (eqb to j) two.1 in
-      let same : v.shifts name term from to ≡ v.shifts n t i j = λ k. v.shifts (bytes_eq-true name n one.0 k) (eqb-true term t two.0 k) (eqb-true from i three.0 k) (eqb-true to j three.1 k) in
+      let same : v.shifts name term from to ≡ v.shifts n t i j =
+      λ k. v.shifts (bytes_eq-true name n one.0 k) (eqb-true term t two.0 k) (eqb-true from i three.0 k)
+      (eqb-true to j three.1 k) in
       omega (arith, same, less)
 
-  pub shift_tells : Tells v (with_shifts name term from to total v) (λ n. false) (λ n c. bytes_eq name n && same_counted (Shifts term from to) c)
+  pub shift_tells : Tells v (with_shifts name term from to total v) (λ n. false)
+      (λ n c. bytes_eq name n && same_counted (Shifts term from to) c)
   unfolding with_shifts
-  shift_tells = grown_tells v (with_shifts name term from to total v) _ (record { key = same_key; stays = stays; grows = grows })
+  shift_tells = grown_tells v (with_shifts name term from to total v) _
+      (record { key = same_key; stays = stays; grows = grows })
     where
       same_key : (n : List ℕ) → v.key n ≡ (with_shifts name term from to total v).key n
       same_key n = refl
 
-      stays : (n : List ℕ) (c : Counted) → (bytes_eq name n && same_counted (Shifts term from to) c) ≡ false → cell_of v n c ≡ cell_of (with_shifts name term from to total v) n c
+      stays : (n : List ℕ) (c : Counted) → (bytes_eq name n && same_counted (Shifts term from to) c) ≡ false →
+          cell_of v n c ≡ cell_of (with_shifts name term from to total v) n c
       stays n (Hits i) e = refl
       stays n (Execs t i) e = refl
       stays n (Shifts t i j) e = stay (bytes_eq name n && (eqb term t && (eqb from i && eqb to j))) _ _ e
 
-      grows : (n : List ℕ) (c : Counted) → (bytes_eq name n && same_counted (Shifts term from to) c) ≡ true → cell_of v n c < cell_of (with_shifts name term from to total v) n c
+      grows : (n : List ℕ) (c : Counted) → (bytes_eq name n && same_counted (Shifts term from to) c) ≡ true →
+          cell_of v n c < cell_of (with_shifts name term from to total v) n c
       grows n (Hits i) e = never (bytes_eq name n) e
       grows n (Execs t i) e = never (bytes_eq name n) e
-      grows n (Shifts t i j) e = grow (bytes_eq name n && (eqb term t && (eqb from i && eqb to j))) _ _ (shifts_here n t i j) e
+      grows n (Shifts t i j) e = grow (bytes_eq name n && (eqb term t && (eqb from i && eqb to j))) _ _
+          (shifts_here n t i j) e
 
 -- a key above the one that is held
 module _ (name : List ℕ) (key : KeyValue) (v : State) (above : is_upto (Some key) (v.key name) ≡ false) where
@@ -135,7 +154,8 @@ module _ (name : List ℕ) (key : KeyValue) (v : State) (above : is_upto (Some k
 
   key_changes : (n : List ℕ) → bytes_eq name n ≡ true → IsSameKey v (with_key name key v) n → ⊥
   unfolding with_key
-  key_changes n e same = other_key (subst (λ q. v.key q ≡ Some key) (sym (bytes_eq-true name n e)) (same ∙ ap (λ b. cond b (Some key) (v.key n)) e))
+  key_changes n e same = other_key (subst (λ q. v.key q ≡ Some key) (sym (bytes_eq-true name n e))
+      (same ∙ ap (λ b. cond b (Some key) (v.key n)) e))
 
   pub key_tells : Tells v (with_key name key v) (λ n. bytes_eq name n) (λ n c. false)
   unfolding with_key
@@ -150,12 +170,14 @@ module _ (name : List ℕ) (key : KeyValue) (v : State) (above : is_upto (Some k
       keeps : (n : List ℕ) → bytes_eq name n ≡ false → IsSameKey v (with_key name key v) n
       keeps n e = sym (ap (λ b. cond b (Some key) (v.key n)) e)
 
-      stays : (n : List ℕ) (c : Counted) → (is_hits c ≡ false → bytes_eq name n ≡ false) → IsSameCell v (with_key name key v) n c
+      stays : (n : List ℕ) (c : Counted) → (is_hits c ≡ false → bytes_eq name n ≡ false) →
+          IsSameCell v (with_key name key v) n c
       stays n (Hits i) k = (λ h. absurd (true≢false h), refl)
       stays n (Execs t i) k = (λ _. keeps n (k refl), sym (ap (λ b. cond b 0 (v.execs n t i)) (k refl)))
       stays n (Shifts t i j) k = (λ _. keeps n (k refl), sym (ap (λ b. cond b 0 (v.shifts n t i j)) (k refl)))
 
-      none : (n : List ℕ) (c : Counted) → is_hits c ≡ false → bytes_eq name n ≡ true → cell_of (with_key name key v) n c ≡ 0
+      none : (n : List ℕ) (c : Counted) → is_hits c ≡ false → bytes_eq name n ≡ true →
+          cell_of (with_key name key v) n c ≡ 0
       none n (Hits i) h k = absurd (true≢false h)
       none n (Execs t i) h k = ap (λ b. cond b 0 (v.execs n t i)) k
       none n (Shifts t i j) h k = ap (λ b. cond b 0 (v.shifts n t i j)) k

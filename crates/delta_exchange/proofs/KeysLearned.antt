@@ -19,19 +19,27 @@ same_twice key = at (key_le key key)
     at true = refl
     at false = refl
 
-pub by_its_key : (name : List ℕ) (key : KeyValue) → greater (cond (bytes_eq name name) (Some key) None) (Some key) ≡ Some key
+pub by_its_key : (name : List ℕ) (key : KeyValue) → greater (cond (bytes_eq name name) (Some key) None) (Some key) ≡
+    Some key
 by_its_key name key = ap (λ (o : Option KeyValue). greater o (Some key)) (own_name name key) ∙ same_twice key
 
-module _ {C : Type 0} (told : C → Operation) (name : List ℕ) (key : KeyValue) (keeps : (c : C) → greater (key_in name (told c)) (Some key) ≡ Some key) where
-  stays : (cells : List C) (ops : List Operation) → key_of name ops ≡ Some key → key_of name (map told cells ++ ops) ≡ Some key
+module _ {C : Type 0} (told : C → Operation) (name : List ℕ) (key : KeyValue)
+    (keeps : (c : C) → greater (key_in name (told c)) (Some key) ≡ Some key) where
+  stays : (cells : List C) (ops : List Operation) → key_of name ops ≡ Some key →
+      key_of name (map told cells ++ ops) ≡ Some key
   stays [] ops e = e
   stays (c ∷ cells) ops e = ap (λ (o : Option KeyValue). greater (key_in name (told c)) o) (stays cells ops e) ∙ keeps c
 
-  pub has_still : (u v : State) (cells : List C) → HasKeyOf u name (Some key) → HasLearned u v (map told cells) → HasKeyOf v name (Some key)
+  pub has_still : (u v : State) (cells : List C) → HasKeyOf u name (Some key) → HasLearned u v (map told cells) →
+      HasKeyOf v name (Some key)
   unfolding fold
   has_still u v cells (ops, is, k) learned =
-      let after = learned ops is in
-      (map told cells ++ ops, after, ap (λ (s : State). s.key name) after ∙ stays cells ops (sym (ap (λ (s : State). s.key name) is) ∙ k))
+      let after = learned ops is in (
+        map told cells ++ ops,
+        after,
+        ap (λ (s : State). s.key name) after ∙
+            stays cells ops (sym (ap (λ (s : State). s.key name) is) ∙ k),
+      )
 
 -- a state that knows nothing has no key
 pub nothing_held : (name : List ℕ) (v : State) → v ≡ fold [] → HasKeyOf v name None
@@ -39,7 +47,8 @@ unfolding fold
 nothing_held name v is = ([], is, ap (λ (s : State). s.key name) is)
 
 -- a key that is told where there was none
-pub has_now : (u v : State) (name : List ℕ) (key : KeyValue) → HasKeyOf u name None → Learns u v (Set name key) → HasKeyOf v name (Some key)
+pub has_now : (u v : State) (name : List ℕ) (key : KeyValue) → HasKeyOf u name None → Learns u v (Set name key) →
+    HasKeyOf v name (Some key)
 unfolding fold
 has_now u v name key (ops, is, k) learned =
     let after = learned ops is in (
@@ -52,5 +61,6 @@ has_now u v name key (ops, is, k) learned =
 
 -- ---- one of a list
 
-pub formed_at : {C : Type 0} {Is : C → Type 0} (told : C → Operation) → ((c : C) → Is c → IsWellFormed (told c)) → (cs : List C) → AllByRecursion Is cs → (i : ℕ) (d : C) → i < length cs → IsWellFormed (told (get_or cs i d))
+pub formed_at : {C : Type 0} {Is : C → Type 0} (told : C → Operation) → ((c : C) → Is c → IsWellFormed (told c)) →
+    (cs : List C) → AllByRecursion Is cs → (i : ℕ) (d : C) → i < length cs → IsWellFormed (told (get_or cs i d))
 formed_at {Is = Is} told one cs all i d below = one (get_or cs i d) (All-from_recursion Is cs all i d below)

@@ -59,7 +59,8 @@ module _ {C : Type 0} (f : Counted → List C) (key base : ℕ) where
   in_one : (e : Counted × ℕ) (d : C) → IsIn d (later key base f e) → (base < change e) × IsIn d (f e.0)
   in_one e d h = by_test (nat_lt base (change e)) refl h
     where
-      by_test : (b : Bool) → nat_lt base (change e) ≡ b → IsIn d (cond b (f e.0) []) → (base < change e) × IsIn d (f e.0)
+      by_test : (b : Bool) → nat_lt base (change e) ≡ b → IsIn d (cond b (f e.0) []) →
+          (base < change e) × IsIn d (f e.0)
       by_test true t h = (grind (arith, nat_tests), h)
       by_test false t h = absurd h
 
@@ -70,17 +71,30 @@ module _ {C : Type 0} (f : Counted → List C) (key base : ℕ) where
       by_test true t = h
       by_test false t = absurd (grind (arith, nat_tests))
 
-  pub later_member : (es : List (Counted × ℕ)) (d : C) → IsStrictlySortedBy counted_cmp (keys_of es) → IsIn d (flat_map (later key base f) es) → IsLater es d
+  pub later_member : (es : List (Counted × ℕ)) (d : C) → IsStrictlySortedBy counted_cmp (keys_of es) →
+      IsIn d (flat_map (later key base f) es) → IsLater es d
   later_member es d sorted h =
       let r = in_flat (later key base f) es d h in
       let one = in_one r.0 d r.2 in
-      record { counted = r.0.0; mark = r.0.1; marked = value_at counted_cmp counted_total counted_exact es r.0.0 r.0.1 sorted r.1; above = one.0; is = one.1 }
+      record {
+        counted = r.0.0;
+        mark = r.0.1;
+        marked = value_at counted_cmp counted_total counted_exact es r.0.0 r.0.1
+            sorted r.1;
+        above = one.0;
+        is = one.1;
+      }
 
-  pub member_later : (es : List (Counted × ℕ)) (c : Counted) (n : ℕ) (d : C) → lookup (is_at (counted_cmp c)) es ≡ Some n → base < cell_change (is_hits c) n key → IsIn d (f c) → IsIn d (flat_map (later key base f) es)
-  member_later es c n d e lt h = flat_in (later key base f) es (c, n) d (found_in counted_cmp counted_total counted_exact es c n e) (one_in (c, n) d lt h)
+  pub member_later : (es : List (Counted × ℕ)) (c : Counted) (n : ℕ) (d : C) →
+      lookup (is_at (counted_cmp c)) es ≡ Some n → base < cell_change (is_hits c) n key → IsIn d (f c) →
+      IsIn d (flat_map (later key base f) es)
+  member_later es c n d e lt h = flat_in (later key base f) es (c, n) d
+      (found_in counted_cmp counted_total counted_exact es c n e) (one_in (c, n) d lt h)
 
   -- one more cell that changed, taken from what is left
-  pub one_more : (front all : List C) (e : Counted × ℕ) (rest : List (Counted × ℕ)) (d : C) → base < change e → f e.0 ≡ d ∷ [] → front ++ flat_map (later key base f) (e ∷ rest) ≡ all → (front ++ d ∷ []) ++ flat_map (later key base f) rest ≡ all
+  pub one_more : (front all : List C) (e : Counted × ℕ) (rest : List (Counted × ℕ)) (d : C) → base < change e →
+      f e.0 ≡ d ∷ [] → front ++ flat_map (later key base f) (e ∷ rest) ≡ all →
+      (front ++ d ∷ []) ++ flat_map (later key base f) rest ≡ all
   one_more front all e rest d lt is h =
       append_assoc front (d ∷ []) (flat_map (later key base f) rest) ∙ ap (λ ds. front ++ ds) (sym next) ∙ h
     where
@@ -89,9 +103,11 @@ module _ {C : Type 0} (f : Counted → List C) (key base : ℕ) where
       passes false t = absurd (grind (arith, nat_tests))
 
       next : flat_map (later key base f) (e ∷ rest) ≡ d ∷ flat_map (later key base f) rest
-      next = flat_map-cons (later key base f) e rest ∙ ap (λ ds. ds ++ flat_map (later key base f) rest) (passes (nat_lt base (change e)) refl ∙ is)
+      next = flat_map-cons (later key base f) e rest ∙ ap (λ ds. ds ++ flat_map (later key base f) rest)
+          (passes (nat_lt base (change e)) refl ∙ is)
 
-  one_ascends : (place : C → List ℕ) (e : Counted × ℕ) → IsAscending (map place (f e.0)) → IsAscending (map place (later key base f e))
+  one_ascends : (place : C → List ℕ) (e : Counted × ℕ) → IsAscending (map place (f e.0)) →
+      IsAscending (map place (later key base f e))
   one_ascends place e h = by_test (nat_lt base (change e))
     where
       by_test : (b : Bool) → IsAscending (map place (cond b (f e.0) []))
@@ -99,18 +115,22 @@ module _ {C : Type 0} (f : Counted → List C) (key base : ℕ) where
       by_test false = tt
 
   pub later_ascends : (place : C → List ℕ) → ((c : Counted) → IsAscending (map place (f c)))
-      → ((c e : Counted) (x y : C) → counted_cmp c e ≡ Less → IsIn x (f c) → IsIn y (f e) → slice_cmp nat_cmp (place x) (place y) ≡ Less)
-      → (es : List (Counted × ℕ)) → IsStrictlySortedBy counted_cmp (keys_of es) → IsAscending (map place (flat_map (later key base f) es))
+      → ((c e : Counted) (x y : C) → counted_cmp c e ≡ Less → IsIn x (f c) → IsIn y (f e) →
+      slice_cmp nat_cmp (place x) (place y) ≡ Less)
+      → (es : List (Counted × ℕ)) → IsStrictlySortedBy counted_cmp (keys_of es) →
+      IsAscending (map place (flat_map (later key base f) es))
   later_ascends place each across = flat_ascends counted_cmp (later key base f) place
       (λ e. one_ascends place e (each e.0))
       (λ e g x y lt h k. across e.0 g.0 x y lt (in_one e x h).1 (in_one g y k).1)
 
 -- ---- a list in order that is part of another one is no longer
 
-pub part_is_short : (xs ys : List (List ℕ)) → IsAscending xs → IsAscending ys → ((x : List ℕ) → IsIn x xs → IsIn x ys) → length xs ≤ length ys
+pub part_is_short : (xs ys : List (List ℕ)) → IsAscending xs → IsAscending ys → ((x : List ℕ) → IsIn x xs → IsIn x ys) →
+    length xs ≤ length ys
 part_is_short [] ys h k part = omega arith
 part_is_short (x ∷ xs) [] h k part = absurd (part x (inl refl))
-part_is_short (x ∷ xs) (y ∷ ys) h k part = by_place (part x (inl refl)) (part_is_short xs ys h.1 k.1) (part_is_short (x ∷ xs) ys h k.1)
+part_is_short (x ∷ xs) (y ∷ ys) h k part = by_place (part x (inl refl)) (part_is_short xs ys h.1 k.1)
+    (part_is_short (x ∷ xs) ys h k.1)
   where
     -- what is above the first isn't it
     past : (b a : List ℕ) → slice_cmp nat_cmp b a ≡ Less → IsIn a (y ∷ ys) → b ≡ y → IsIn a ys
@@ -125,7 +145,8 @@ part_is_short (x ∷ xs) (y ∷ ys) h k part = by_place (part x (inl refl)) (par
     all above i a (inl s) = subst (λ z. IsIn z ys) (sym s) i
     all above i a (inr j) = past y a (nat_list_cmp_total.trans y x a above (h.0 a j)) (part a (inr j)) refl
 
-    by_place : (x ≡ y) ⊎ IsIn x ys → (((a : List ℕ) → IsIn a xs → IsIn a ys) → length xs ≤ length ys) → (((a : List ℕ) → IsIn a (x ∷ xs) → IsIn a ys) → length (x ∷ xs) ≤ length ys) → length (x ∷ xs) ≤ length (y ∷ ys)
+    by_place : (x ≡ y) ⊎ IsIn x ys → (((a : List ℕ) → IsIn a xs → IsIn a ys) → length xs ≤ length ys) →
+        (((a : List ℕ) → IsIn a (x ∷ xs) → IsIn a ys) → length (x ∷ xs) ≤ length ys) → length (x ∷ xs) ≤ length (y ∷ ys)
     by_place (inl s) rest other =
         let upto = rest (λ a i. past x a (h.0 a i) (part a (inr i)) s) in
         omega (arith, upto)

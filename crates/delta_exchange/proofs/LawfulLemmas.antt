@@ -21,15 +21,18 @@ some_upto (Some k) None upto h = absurd upto
 some_upto (Some k) (Some l) upto h = refl
 
 -- a name of which an operation carries a key has one
-pub is_keyed : (name : List ℕ) (key : KeyValue) (op : Operation) (ops : List Operation) → IsIn op ops → key_in name op ≡ Some key → IsTrue (is_some (key_of name ops))
+pub is_keyed : (name : List ℕ) (key : KeyValue) (op : Operation) (ops : List Operation) → IsIn op ops →
+    key_in name op ≡ Some key → IsTrue (is_some (key_of name ops))
 is_keyed name key op ops h e = some_upto (key_in name op) (key_of name ops) (key_of-is_in name op ops h) (ap is_some e)
 
 -- so has one that is set
-pub set_is_keyed : (name : List ℕ) (key : KeyValue) (ops : List Operation) → IsIn (Set name key) ops → IsTrue (is_some (key_of name ops))
+pub set_is_keyed : (name : List ℕ) (key : KeyValue) (ops : List Operation) → IsIn (Set name key) ops →
+    IsTrue (is_some (key_of name ops))
 set_is_keyed name key ops h = is_keyed name key (Set name key) ops h (own_name name key)
 
 -- a name with a key has one with more operations
-pub keyed_with_more : (name : List ℕ) (a b : List Operation) → ((op : Operation) → IsIn op a → IsIn op b) → IsTrue (is_some (key_of name a)) → IsTrue (is_some (key_of name b))
+pub keyed_with_more : (name : List ℕ) (a b : List Operation) → ((op : Operation) → IsIn op a → IsIn op b) →
+    IsTrue (is_some (key_of name a)) → IsTrue (is_some (key_of name b))
 keyed_with_more name a b more h = some_upto (key_of name a) (key_of name b) (key_of-mono name a b more) h
 
 -- ---- none, and two sets
@@ -37,7 +40,8 @@ keyed_with_more name a b more h = some_upto (key_of name a) (key_of name b) (key
 pub lawful_none : (nodes : ℕ) → AreLawful nodes []
 lawful_none nodes = record { each = λ op h. absurd h; keyed = λ name node number h. absurd h }
 
-pub lawful_together : (nodes : ℕ) (a b : List Operation) → AreLawful nodes a → AreLawful nodes b → AreLawful nodes (a ++ b)
+pub lawful_together : (nodes : ℕ) (a b : List Operation) → AreLawful nodes a → AreLawful nodes b →
+    AreLawful nodes (a ++ b)
 lawful_together nodes a b h k = record {
   each = λ op m. ⊎_elim (h.each op) (k.each op) (IsIn-append_cases op a b m);
   keyed = λ name node number m. ⊎_elim
@@ -68,7 +72,8 @@ module _ (e : EntryValue) where
           subst (IsLawful nodes) (sym s) (h.name, h.key, one.0, one.1, one.1, one.2.0)
 
   -- a hit that the entry tells is of its name
-  hit_has_name : (name : List ℕ) (node number : ℕ) → IsIn (Count (Hits name node) number) (operations_of e) → e.name ≡ name
+  hit_has_name : (name : List ℕ) (node number : ℕ) → IsIn (Count (Hits name node) number) (operations_of e) →
+      e.name ≡ name
   hit_has_name name node number k = by_kind (told_of e (Count (Hits name node) number) k)
     where
       by_kind : IsTold e (Count (Hits name node) number) → e.name ≡ name
@@ -86,5 +91,6 @@ told_lawful nodes m h = record {
   keyed = λ name node number k.
       let r = in_flat operations_of m.entries (Count (Hits name node) number) k in
       let there = flat_in operations_of m.entries r.0 (Set r.0.name r.0.key) r.1 (inl refl) in
-      subst (λ (n : List ℕ). IsTrue (is_some (key_of n (operations_in m)))) (hit_has_name r.0 name node number r.2) (set_is_keyed r.0.name r.0.key (operations_in m) there);
+      subst (λ (n : List ℕ). IsTrue (is_some (key_of n (operations_in m)))) (hit_has_name r.0 name node number r.2)
+      (set_is_keyed r.0.name r.0.key (operations_in m) there);
 }

@@ -15,7 +15,8 @@ use Rattle.delta_exchange.proofs.LawfulLemmas.{set_is_keyed, is_keyed}
 
 -- ---- the key that an operation carries
 
-key_lawful : (nodes : ℕ) (op : Operation) (name : List ℕ) (key : KeyValue) → IsLawful nodes op → key_in name op ≡ Some key → IsKey nodes key
+key_lawful : (nodes : ℕ) (op : Operation) (name : List ℕ) (key : KeyValue) → IsLawful nodes op →
+    key_in name op ≡ Some key → IsKey nodes key
 key_lawful nodes op name key h e = at op h (carried op name key e)
   where
     -- the operation has it
@@ -57,8 +58,10 @@ pub record IsLawfulState (nodes : ℕ) (v : State) : Type 0 where
   pub key : (name : List ℕ) (key : KeyValue) → v.key name ≡ Some key → IsKey nodes key
   pub hit_name : (name : List ℕ) (node : ℕ) → v.hits name node ≢ 0 → IsIn name v.names
   pub hits : (name : List ℕ) (node : ℕ) → v.hits name node ≢ 0 → node < nodes
-  pub execs : (name : List ℕ) (key : KeyValue) (term node : ℕ) → v.key name ≡ Some key → v.execs name term node ≢ 0 → IsCountedTerm key term × (node < nodes)
-  pub shifts : (name : List ℕ) (key : KeyValue) (term from to : ℕ) → v.key name ≡ Some key → v.shifts name term from to ≢ 0
+  pub execs : (name : List ℕ) (key : KeyValue) (term node : ℕ) → v.key name ≡ Some key → v.execs name term node ≢ 0 →
+      IsCountedTerm key term × (node < nodes)
+  pub shifts : (name : List ℕ) (key : KeyValue) (term from to : ℕ) → v.key name ≡ Some key →
+      v.shifts name term from to ≢ 0
       → IsCountedTerm key term × (from < nodes) × (to < nodes)
 
 module _ (nodes : ℕ) (ops : List Operation) (lawful : AreLawful nodes ops) where
@@ -71,8 +74,10 @@ module _ (nodes : ℕ) (ops : List Operation) (lawful : AreLawful nodes ops) whe
   op_keyed : (op : Operation) → IsIn op ops → IsTrue (is_some (key_of (name_in op) ops))
   op_keyed (Set n k) h = set_is_keyed n k ops h
   op_keyed (Count (Hits n node) number) h = lawful.keyed n node number h
-  op_keyed (Count (Execs n k term node) number) h = is_keyed n k (Count (Execs n k term node) number) ops h (own_name n k)
-  op_keyed (Count (Shifts n k term from to) number) h = is_keyed n k (Count (Shifts n k term from to) number) ops h (own_name n k)
+  op_keyed (Count (Execs n k term node) number) h = is_keyed n k (Count (Execs n k term node) number) ops h
+      (own_name n k)
+  op_keyed (Count (Shifts n k term from to) number) h = is_keyed n k (Count (Shifts n k term from to) number) ops h
+      (own_name n k)
 
   has_key : (name : List ℕ) → HoldsName name ops → IsTrue (is_some (key_of name ops))
   has_key name h = subst (λ n. IsTrue (is_some (key_of n ops))) h.named (op_keyed h.op h.held)
@@ -87,7 +92,8 @@ module _ (nodes : ℕ) (ops : List Operation) (lawful : AreLawful nodes ops) whe
       let r = number_held (Hits name node) ops h in
       (lawful.each (Count (Hits name node) r.0) r.1).1
 
-  its_execs : (name : List ℕ) (key : KeyValue) (term node : ℕ) → key_of name ops ≡ Some key → at_key (key_of name ops) (λ k. number_at (Execs name k term node) ops) ≢ 0
+  its_execs : (name : List ℕ) (key : KeyValue) (term node : ℕ) → key_of name ops ≡ Some key →
+      at_key (key_of name ops) (λ k. number_at (Execs name k term node) ops) ≢ 0
       → IsCountedTerm key term × (node < nodes)
   its_execs name key term node e h =
       let some = subst (λ o. at_key o (λ k. number_at (Execs name k term node) ops) ≢ 0) e h in
@@ -95,7 +101,8 @@ module _ (nodes : ℕ) (ops : List Operation) (lawful : AreLawful nodes ops) whe
       let one = lawful.each (Count (Execs name key term node) r.0) r.1 in
       (one.2, one.3)
 
-  its_shifts : (name : List ℕ) (key : KeyValue) (term from to : ℕ) → key_of name ops ≡ Some key → at_key (key_of name ops) (λ k. number_at (Shifts name k term from to) ops) ≢ 0
+  its_shifts : (name : List ℕ) (key : KeyValue) (term from to : ℕ) → key_of name ops ≡ Some key →
+      at_key (key_of name ops) (λ k. number_at (Shifts name k term from to) ops) ≢ 0
       → IsCountedTerm key term × (from < nodes) × (to < nodes)
   its_shifts name key term from to e h =
       let some = subst (λ o. at_key o (λ k. number_at (Shifts name k term from to) ops) ≢ 0) e h in

@@ -22,50 +22,66 @@ operations_told : (ts : List Told) → map (λ (n : Operation × Bool). n.0) (ma
 operations_told [] = refl
 operations_told (t ∷ ts) = ap (λ os. operation_of t ∷ os) (operations_told ts)
 
-operations_new : (v : State) (ops : List Operation) → map (λ (n : Operation × Bool). n.0) (map (λ op. (op, brings_key v op)) ops) ≡ ops
+operations_new : (v : State) (ops : List Operation) → map (λ (n : Operation × Bool). n.0)
+    (map (λ op. (op, brings_key v op)) ops) ≡ ops
 operations_new v [] = refl
 operations_new v (op ∷ ops) = ap (λ os. op ∷ os) (operations_new v ops)
 
 turned : (xs ys : List Operation) (op : Operation) → IsIn op (xs ++ ys) → IsIn op (ys ++ xs)
-turned xs ys op h = ⊎_elim (λ k. IsIn-append_right op ys xs k) (λ k. IsIn-append_left op ys xs k) (IsIn-append_cases op xs ys h)
+turned xs ys op h = ⊎_elim (λ k. IsIn-append_right op ys xs k) (λ k. IsIn-append_left op ys xs k)
+    (IsIn-append_cases op xs ys h)
 
 module _ (v : State) (told : List Operation) (ts : List Told) (e : map news_of ts ≡ news_in v told) where
   pub are_unknown : map operation_of ts ≡ unknown_in v told
-  are_unknown = sym (operations_told ts) ∙ ap (map (λ (n : Operation × Bool). n.0)) e ∙ operations_new v (unknown_in v told)
+  are_unknown = sym (operations_told ts) ∙ ap (map (λ (n : Operation × Bool). n.0)) e ∙
+      operations_new v (unknown_in v told)
 
   pub change_if_any : changes v told ≡ nat_lt 0 (length ts)
-  change_if_any = any_in_part (λ op. not (knows v op)) told ∙ ap (λ n. nat_lt 0 n) (sym (length-map (unknown_in v told) (λ op. (op, brings_key v op))) ∙ ap length (sym e) ∙ length-map ts news_of)
+  change_if_any = any_in_part (λ op. not (knows v op)) told ∙
+      ap (λ n. nat_lt 0 n) (sym (length-map (unknown_in v told) (λ op. (op, brings_key v op))) ∙ ap length (sym e) ∙
+      length-map ts news_of)
 
   -- who knows just the news brings them
-  pub news_received : (received : State) → received ≡ fold (map operation_of ts ++ []) → BringsNews v received (map operation_of ts)
+  pub news_received : (received : State) → received ≡ fold (map operation_of ts ++ []) →
+      BringsNews v received (map operation_of ts)
   news_received received knows a both f union =
       let news = map operation_of ts in
-      union a (news ++ []) f knows ∙ ap (λ os. fold (a ++ os)) (append-nil news) ∙ same_members (a ++ news) (news ++ a) (turned a news) (turned news a)
+      union a (news ++ []) f knows ∙ ap (λ os. fold (a ++ os)) (append-nil news) ∙
+      same_members (a ++ news) (news ++ a) (turned a news) (turned news a)
 
   -- so does who knows enough of what was told
   pub told_received : (received : State) → Brings v received told → BringsNews v received (map operation_of ts)
   told_received received brings a both f union =
-      union a brings.kept f brings.knows ∙ same_members (a ++ brings.kept) (brings.kept ++ a) (turned a brings.kept) (turned brings.kept a)
+      union a brings.kept f brings.knows ∙ same_members (a ++ brings.kept) (brings.kept ++ a) (turned a brings.kept)
+      (turned brings.kept a)
       ∙ brings.enough a f ∙ sym (news_suffice a told)
       ∙ ap (λ (x : State). fold (unknown_in x told ++ a)) (sym f) ∙ ap (λ os. fold (os ++ a)) (sym are_unknown)
 
   -- the state that a merge with them comes to
-  pub learned_state : (w received : State) → BringsNews v received (map operation_of ts) → IsUnion v received w → (a : List Operation) → v ≡ fold a → w ≡ fold (unknown_in v told ++ a)
+  pub learned_state : (w received : State) → BringsNews v received (map operation_of ts) → IsUnion v received w →
+      (a : List Operation) → v ≡ fold a → w ≡ fold (unknown_in v told ++ a)
   learned_state w received brings union a f = brings a w f union ∙ ap (λ os. fold (os ++ a)) are_unknown
 
-  pub learned_all : (w : State) → ((a : List Operation) → v ≡ fold a → w ≡ fold (unknown_in v told ++ a)) → HasLearned v w told
+  pub learned_all : (w : State) → ((a : List Operation) → v ≡ fold a → w ≡ fold (unknown_in v told ++ a)) →
+      HasLearned v w told
   learned_all w state a f = state a f ∙ ap (λ (x : State). fold (unknown_in x told ++ a)) f ∙ news_suffice a told
 
-  pub learned_changes : (w : State) (m : MarksValue) (version : ℕ) → 1 ≤ version → AreUpto m version → ((a : List Operation) → v ≡ fold a → w ≡ fold (unknown_in v told ++ a)) → (a : List Operation) → v ≡ fold a → ChangesAt v w version (last_changes m) (last_changes (with_news version (map news_of ts) m))
+  pub learned_changes : (w : State) (m : MarksValue) (version : ℕ) → 1 ≤ version → AreUpto m version →
+      ((a : List Operation) → v ≡ fold a → w ≡ fold (unknown_in v told ++ a)) → (a : List Operation) → v ≡ fold a →
+      ChangesAt v w version (last_changes m) (last_changes (with_news version (map news_of ts) m))
   learned_changes w m version some upto state a f =
       let changed = news_change a told m version some upto in
-      let same : fold (unknown_in (fold a) told ++ a) ≡ w = sym (state a f ∙ ap (λ (x : State). fold (unknown_in x told ++ a)) f) in
+      let same : fold (unknown_in (fold a) told ++ a) ≡ w = sym
+      (state a f ∙ ap (λ (x : State). fold (unknown_in x told ++ a)) f) in
       subst (λ ns. ChangesAt v w version (last_changes m) (last_changes (with_news version ns m))) (sym e)
-      (subst (λ (x : State). ChangesAt x w version (last_changes m) (last_changes (with_news version (news_in x told) m))) (sym f)
-      (subst (λ (x : State). ChangesAt (fold a) x version (last_changes m) (last_changes (with_news version (news_in (fold a) told) m))) same changed))
+      (subst (λ (x : State). ChangesAt x w version (last_changes m)
+      (last_changes (with_news version (news_in x told) m))) (sym f)
+      (subst (λ (x : State). ChangesAt (fold a) x version (last_changes m)
+      (last_changes (with_news version (news_in (fold a) told) m))) same changed))
 
 -- nothing changes where nothing is news
-pub learns_nothing : (before : VersionedValue) (told : List Operation) → changes before.state told ≡ false → Issues before told before
+pub learns_nothing : (before : VersionedValue) (told : List Operation) → changes before.state told ≡ false →
+    Issues before told before
 learns_nothing before told none = record {
   learned = record {
     state = λ ops e. e ∙ sym (no_change told ops (ap (λ (v : State). changes v told) (sym e) ∙ none));
@@ -84,10 +100,13 @@ learns_nothing before told none = record {
     by_test false e = omega arith
 
 -- operations of a list are well formed where those of the list that they come from are
-pub news_well_formed : (v : State) (told : List Operation) (ts : List Told) → map news_of ts ≡ news_in v told → AllByRecursion IsWellFormed told → AllByRecursion (λ (t : Told). IsWellFormed (operation_of t)) ts
-news_well_formed v told ts e h = each ts (subst (AllByRecursion IsWellFormed) (sym (are_unknown v told ts e)) (all_in_part (λ op. not (knows v op)) told h))
+pub news_well_formed : (v : State) (told : List Operation) (ts : List Told) → map news_of ts ≡ news_in v told →
+    AllByRecursion IsWellFormed told → AllByRecursion (λ (t : Told). IsWellFormed (operation_of t)) ts
+news_well_formed v told ts e h = each ts (subst (AllByRecursion IsWellFormed) (sym (are_unknown v told ts e))
+    (all_in_part (λ op. not (knows v op)) told h))
   where
-    each : (ts : List Told) → AllByRecursion IsWellFormed (map operation_of ts) → AllByRecursion (λ (t : Told). IsWellFormed (operation_of t)) ts
+    each : (ts : List Told) → AllByRecursion IsWellFormed (map operation_of ts) →
+        AllByRecursion (λ (t : Told). IsWellFormed (operation_of t)) ts
     each [] h = tt
     each (t ∷ ts) h = (h.0, each ts h.1)
 
@@ -102,7 +121,8 @@ some_new (suc n) e = grind arith
 pub all_brings : (v received : State) (told : List Operation) → received ≡ fold told → Brings v received told
 all_brings v received told knows = record { kept = told; knows = knows; told_all = λ op h. h; enough = λ ops f. refl }
 
-pub none_brings : (v received : State) (told : List Operation) → received ≡ fold [] → changes v told ≡ false → Brings v received told
+pub none_brings : (v received : State) (told : List Operation) → received ≡ fold [] → changes v told ≡ false →
+    Brings v received told
 none_brings v received told knows none = record {
   kept = [];
   knows = knows;

@@ -13,13 +13,15 @@ use Rattle.message_format.specs.Messages.{MessageValue, operations_in}
 use Rattle.delta_exchange.specs.Wholes.{AreLawful}
 
 -- a number that a set has is known by it
-has_later : (ops : List Operation) (cell : Cell) (number : ℕ) → number ≡ number_at cell ops → number ≢ 0 → HoldsLater ops cell number
+has_later : (ops : List Operation) (cell : Cell) (number : ℕ) → number ≡ number_at cell ops → number ≢ 0 →
+    HoldsLater ops cell number
 has_later ops cell number e some =
     let r = number_held cell ops (λ z. some (e ∙ z)) in
     let upto = r.2 in
     record { later = r.0; at_least = omega (arith, e, upto); held = r.1 }
 
-has_cell : (ops : List Operation) (key : KeyValue) (f : KeyValue → ℕ) (o : Option KeyValue) (number : ℕ) → o ≡ Some key → number ≡ at_key o f → number ≡ f key
+has_cell : (ops : List Operation) (key : KeyValue) (f : KeyValue → ℕ) (o : Option KeyValue) (number : ℕ) →
+    o ≡ Some key → number ≡ at_key o f → number ≡ f key
 has_cell ops key f o number e is = is ∙ ap (λ k. at_key k f) e
 
 module _ (ops told : List Operation) (all : IsAllTold (fold ops) told) where
@@ -38,52 +40,85 @@ module _ (ops told : List Operation) (all : IsAllTold (fold ops) told) where
       has_later ops (Hits name node) number (sym d.0) d.1
   known (Count (Execs name key term node) number) h =
       let d = (all (Count (Execs name key term node) number)).0 h in
-      let is = has_cell ops key (λ k. number_at (Execs name k term node) ops) (key_of name ops) number d.0.0 (sym d.0.1) in
+      let is = has_cell ops key (λ k. number_at (Execs name k term node) ops) (key_of name ops) number d.0.0
+      (sym d.0.1) in
       inl (has_later ops (Execs name key term node) number is d.1)
   known (Count (Shifts name key term from to) number) h =
       let d = (all (Count (Shifts name key term from to) number)).0 h in
-      let is = has_cell ops key (λ k. number_at (Shifts name k term from to) ops) (key_of name ops) number d.0.0 (sym d.0.1) in
+      let is = has_cell ops key (λ k. number_at (Shifts name k term from to) ops) (key_of name ops) number d.0.0
+      (sym d.0.1) in
       inl (has_later ops (Shifts name key term from to) number is d.1)
 
   -- the key that holds over one that is carried
-  over : (name : List ℕ) (key : KeyValue) (op : Operation) → IsIn op ops → key_in name op ≡ Some key → (top : KeyValue) × (key_of name ops ≡ Some top) × (key_le key top ≡ true)
-  over name key op h e = at (key_of name ops) refl (subst (λ k. KeyUpto k (key_of name ops)) e (key_of-is_in name op ops h))
+  over : (name : List ℕ) (key : KeyValue) (op : Operation) → IsIn op ops → key_in name op ≡ Some key →
+      (top : KeyValue) × (key_of name ops ≡ Some top) × (key_le key top ≡ true)
+  over name key op h e = at (key_of name ops) refl (subst (λ k. KeyUpto k (key_of name ops)) e
+      (key_of-is_in name op ops h))
     where
-      at : (o : Option KeyValue) → key_of name ops ≡ o → KeyUpto (Some key) o → (top : KeyValue) × (o ≡ Some top) × (key_le key top ≡ true)
+      at : (o : Option KeyValue) → key_of name ops ≡ o → KeyUpto (Some key) o →
+          (top : KeyValue) × (o ≡ Some top) × (key_le key top ≡ true)
       at None s upto = absurd upto
       at (Some top) s upto = (top, refl, upto)
 
-  under_key : (name : List ℕ) (key : KeyValue) (cell : Cell) (number : ℕ) → key_in name (Count cell number) ≡ Some key → IsIn (Count cell number) ops
-      → (key_of name ops ≡ Some key → IsIn (Count cell (number_at cell ops)) told) → HoldsLater told cell number ⊎ HoldsKey told name (λ other. (key_le key other ≡ true) × (key ≢ other))
+  under_key : (name : List ℕ) (key : KeyValue) (cell : Cell) (number : ℕ) → key_in name (Count cell number) ≡ Some key →
+      IsIn (Count cell number) ops
+      → (key_of name ops ≡ Some key → IsIn (Count cell (number_at cell ops)) told) →
+      HoldsLater told cell number ⊎ HoldsKey told name (λ other. (key_le key other ≡ true) × (key ≢ other))
   under_key name key cell number carries h same =
       let top = over name key (Count cell number) h carries in
       by_key top.0 top.1 top.2 (same_key key top.0) refl
     where
-      by_key : (top : KeyValue) → key_of name ops ≡ Some top → key_le key top ≡ true → (b : Bool) → same_key key top ≡ b → HoldsLater told cell number ⊎ HoldsKey told name (λ other. (key_le key other ≡ true) × (key ≢ other))
+      by_key : (top : KeyValue) → key_of name ops ≡ Some top → key_le key top ≡ true → (b : Bool) →
+          same_key key top ≡ b → HoldsLater told cell number ⊎ HoldsKey told name
+          (λ other. (key_le key other ≡ true) × (key ≢ other))
       by_key top e upto true s =
           let is : key ≡ top = same_key-true key top s in
-          inl (record { later = number_at cell ops; at_least = number_at-is_in cell number ops h; held = same (e ∙ ap Some (sym is)) })
+          inl (record {
+            later = number_at cell ops;
+            at_least = number_at-is_in cell number ops h;
+            held =
+                same (e ∙ ap Some (sym is));
+          })
       by_key top e upto false s =
           let apart : key ≢ top = λ is. true≢false (sym (same_key-refl key) ∙ ap (same_key key) is ∙ s) in
-          inr (record { key = top; op = Set name top; held = key_told name top e; carries = own_name name top; passes = (upto, apart) })
+          inr (record {
+            key = top;
+            op = Set name top;
+            held = key_told name top e;
+            carries = own_name name top;
+            passes =
+                (upto, apart);
+          })
 
   knows : (nodes : ℕ) → AreLawful nodes ops → KnowsAll told ops
   unfolding fold
   knows nodes lawful (Set name key) h =
       let top = over name key (Set name key) h (own_name name key) in
-      record { key = top.0; op = Set name top.0; held = key_told name top.0 top.1; carries = own_name name top.0; passes = top.2 }
+      record {
+        key = top.0;
+        op = Set name top.0;
+        held = key_told name top.0 top.1;
+        carries = own_name name top.0;
+        passes = top.2;
+      }
   knows nodes lawful (Count (Hits name node) number) h =
       let some = (lawful.each (Count (Hits name node) number) h).2 in
       let upto = number_at-is_in (Hits name node) number ops h in
       let not : number_at (Hits name node) ops ≢ 0 = λ z. absurd (omega (arith, z, some, upto)) in
-      record { later = number_at (Hits name node) ops; at_least = upto; held = (all (Count (Hits name node) (number_at (Hits name node) ops))).1 (refl, not) }
+      record {
+        later = number_at (Hits name node) ops;
+        at_least = upto;
+        held =
+            (all (Count (Hits name node) (number_at (Hits name node) ops))).1 (refl, not);
+      }
   knows nodes lawful (Count (Execs name key term node) number) h =
       let cell = Execs name key term node in
       let some = (lawful.each (Count cell number) h).4 in
       let upto = number_at-is_in cell number ops h in
       let not : number_at cell ops ≢ 0 = λ z. absurd (omega (arith, z, some, upto)) in
       under_key name key cell number (own_name name key) h (λ e.
-      let now : number_at cell ops ≡ at_key (key_of name ops) (λ k. number_at (Execs name k term node) ops) = sym (ap (λ o. at_key o (λ k. number_at (Execs name k term node) ops)) e) in
+      let now : number_at cell ops ≡ at_key (key_of name ops) (λ k. number_at (Execs name k term node) ops) =
+      sym (ap (λ o. at_key o (λ k. number_at (Execs name k term node) ops)) e) in
       (all (Count cell (number_at cell ops))).1 ((e, sym now), not))
   knows nodes lawful (Count (Shifts name key term from to) number) h =
       let cell = Shifts name key term from to in
@@ -91,8 +126,11 @@ module _ (ops told : List Operation) (all : IsAllTold (fold ops) told) where
       let upto = number_at-is_in cell number ops h in
       let not : number_at cell ops ≢ 0 = λ z. absurd (omega (arith, z, some, upto)) in
       under_key name key cell number (own_name name key) h (λ e.
-      let now : number_at cell ops ≡ at_key (key_of name ops) (λ k. number_at (Shifts name k term from to) ops) = sym (ap (λ o. at_key o (λ k. number_at (Shifts name k term from to) ops)) e) in
+      let now : number_at cell ops ≡ at_key (key_of name ops) (λ k. number_at (Shifts name k term from to) ops) =
+      sym (ap (λ o. at_key o (λ k. number_at (Shifts name k term from to) ops)) e) in
       (all (Count cell (number_at cell ops))).1 ((e, sym now), not))
 
-pub state_again : (nodes : ℕ) (ops : List Operation) (m : MessageValue) → AreLawful nodes ops → IsAllTold (fold ops) (operations_in m) → fold (operations_in m) ≡ fold ops
-state_again nodes ops m lawful all = same_fold (operations_in m) ops (knows ops (operations_in m) all nodes lawful) (known ops (operations_in m) all)
+pub state_again : (nodes : ℕ) (ops : List Operation) (m : MessageValue) → AreLawful nodes ops →
+    IsAllTold (fold ops) (operations_in m) → fold (operations_in m) ≡ fold ops
+state_again nodes ops m lawful all = same_fold (operations_in m) ops (knows ops (operations_in m) all nodes lawful)
+    (known ops (operations_in m) all)

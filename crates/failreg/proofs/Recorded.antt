@@ -8,9 +8,11 @@ use Rattle.thread_scripts.specs.Outputs.{PlaysTo}
 use Rattle.thread_plans.specs.Plans.{PlanValue, plan_in}
 
 -- the script that was read is the input, and what it prints was written
-pub played : {D O T E : Type 0} (kept : D → Option (List ℕ)) (old_kept new_kept : Watched D) (contents : O → Option (List ℕ)) (old new : Watched O)
+pub played : {D O T E : Type 0} (kept : D → Option (List ℕ)) (old_kept new_kept : Watched D)
+    (contents : O → Option (List ℕ)) (old new : Watched O)
     (script : List ℕ) (plan : PlanValue) (result : Result T E) (input : Option (List ℕ))
-    → IfSome input (λ bytes. script ≡ bytes) → plan_in script ≡ Ok plan → OnOk result (IsRecorded plan kept old_kept new_kept contents old new)
+    → IfSome input (λ bytes. script ≡ bytes) → plan_in script ≡ Ok plan →
+    OnOk result (IsRecorded plan kept old_kept new_kept contents old new)
     → OnOk result (IfSome input (λ bytes. PlaysTo bytes (Writes contents old new)))
 played kept old_kept new_kept contents old new script plan (Err fault) input same planned h = tt
 played kept old_kept new_kept contents old new script plan (Ok done) None same planned h = tt
@@ -18,7 +20,9 @@ played kept old_kept new_kept contents old new script plan (Ok done) (Some bytes
     (plan, h.text, rw same at planned, (h.traces, h.lists, h.output), h.printed)
 
 -- an audit of the drill that was read is one of some drill
-pub says_of_some : {O E : Type 0} (left : Option (List ℕ)) (contents : O → Option (List ℕ)) (old new : Watched O) (result : Result Bool E)
-    → IfOk result (λ yes. SaysVerdict left yes contents old new) → IfOk result (λ yes. SaysVerdict None yes contents old new)
+pub says_of_some : {O E : Type 0} (left : Option (List ℕ)) (contents : O → Option (List ℕ)) (old new : Watched O)
+    (result : Result Bool E)
+    → IfOk result (λ yes. SaysVerdict left yes contents old new) →
+    IfOk result (λ yes. SaysVerdict None yes contents old new)
 says_of_some left contents old new (Err fault) h = tt
 says_of_some left contents old new (Ok explained) h = (h.0, h.1, h.2, tt, h.4, h.5, h.6, h.7)

@@ -20,7 +20,8 @@ both false x y u v p q = q
 only : RouteOf RouteId → RowsOf (RouteOf RouteId)
 only r = ([], r) ∷ []
 
-named-same : (rest : List ℕ) → first ((param_token ∷ [], point_row) ∷ ([], plain (codes "/fail/") routes.Points) ∷ []) rest ≡ named_point rest
+named-same : (rest : List ℕ) → first ((param_token ∷ [], point_row) ∷ ([], plain (codes "/fail/") routes.Points) ∷ [])
+    rest ≡ named_point rest
 unfolding seek
 named-same [] = refl
 named-same (b ∷ q) =
@@ -36,14 +37,18 @@ named-same (b ∷ q) =
 name_rows : RowsOf (RouteOf RouteId)
 name_rows = (param_token ∷ [], point_row) ∷ ([], plain (codes "/fail/") routes.Points) ∷ []
 
-points-same : (rest : List ℕ) → first (behind (47 ∷ []) name_rows ++ only (plain (codes "/fail") routes.Points)) rest ≡ in_points rest
+points-same : (rest : List ℕ) → first (behind (47 ∷ []) name_rows ++ only (plain (codes "/fail") routes.Points)) rest ≡
+    in_points rest
 unfolding seek name_rows only
 points-same [] = refl
 points-same (b ∷ q) =
     let n : (length (b ∷ q) == 0) ≡ false = grind (arith, nat_tests) in
-    let end : first (only (plain (codes "/fail") routes.Points)) (b ∷ q) ≡ None = first-end (plain (codes "/fail") routes.Points) (b ∷ q) ∙ rw n refl in
+    let end : first (only (plain (codes "/fail") routes.Points)) (b ∷ q) ≡ None =
+    first-end (plain (codes "/fail") routes.Points) (b ∷ q) ∙ rw n refl in
     choose-more 47 [] name_rows (only (plain (codes "/fail") routes.Points)) b q (omega arith, tt) refl refl refl
-    ∙ rw n (both (starts_with nat_eq (b ∷ q) (47 ∷ [])) (first name_rows (drop 1 (b ∷ q))) (first (only (plain (codes "/fail") routes.Points)) (b ∷ q)) (named_point (drop 1 (b ∷ q))) None (named-same (drop 1 (b ∷ q))) end)
+    ∙ rw n (both (starts_with nat_eq (b ∷ q) (47 ∷ [])) (first name_rows (drop 1 (b ∷ q)))
+    (first (only (plain (codes "/fail") routes.Points)) (b ∷ q)) (named_point (drop 1 (b ∷ q))) None
+    (named-same (drop 1 (b ∷ q))) end)
 
 next-same : (r : RouteOf RouteId) (t : List ℕ) (f : List ℕ → Found) → ((p : List ℕ) → first ((t, r) ∷ []) p ≡ f p)
     → (rest : List ℕ) → first ((param_token ∷ 47 ∷ t, r) ∷ []) rest ≡ next_part f rest
@@ -51,7 +56,8 @@ unfolding seek
 next-same r t f h [] = refl
 next-same r t f h (b ∷ q) =
     part-row r t b q
-    ∙ both (has_part (b ∷ q)) (first ((t, r) ∷ []) (after_slash (b ∷ q))) None (f (after_slash (b ∷ q))) None (h (after_slash (b ∷ q))) refl
+    ∙ both (has_part (b ∷ q)) (first ((t, r) ∷ []) (after_slash (b ∷ q))) None (f (after_slash (b ∷ q))) None
+    (h (after_slash (b ∷ q))) refl
 
 last-same : (r : RouteOf RouteId) (rest : List ℕ) → first ((param_token ∷ [], r) ∷ []) rest ≡ last_part r rest
 unfolding seek
@@ -80,7 +86,8 @@ parts4 = param_token ∷ 47 ∷ param_token ∷ 47 ∷ param_token ∷ 47 ∷ pa
 shift-same : (rest : List ℕ) → first ((parts4, shift_row) ∷ []) rest ≡ shifts rest
 unfolding parts4
 shift-same rest =
-    next-same shift_row (param_token ∷ 47 ∷ param_token ∷ 47 ∷ param_token ∷ []) (next_part (next_part (last_part shift_row)))
+    next-same shift_row (param_token ∷ 47 ∷ param_token ∷ 47 ∷ param_token ∷ [])
+    (next_part (next_part (last_part shift_row)))
     (next-same shift_row (param_token ∷ 47 ∷ param_token ∷ []) (next_part (last_part shift_row))
     (next-same shift_row (param_token ∷ []) (last_part shift_row) (last-same shift_row)))
     rest
@@ -90,7 +97,8 @@ slashed : (t : List ℕ) (r : RouteOf RouteId) (f : List ℕ → Found) → ((p 
     → (rest : List ℕ) → first (behind (codes "/") ((t, r) ∷ []) ++ []) rest ≡ on_start (codes "/") f nowhere rest
 slashed t r f h rest =
     first-behind (codes "/") ((t, r) ∷ []) rest (omega arith, tt)
-    ∙ both (starts_with nat_eq rest (codes "/")) (first ((t, r) ∷ []) (drop 1 rest)) None (f (drop 1 rest)) None (h (drop 1 rest)) refl
+    ∙ both (starts_with nat_eq rest (codes "/")) (first ((t, r) ∷ []) (drop 1 rest)) None (f (drop 1 rest)) None
+    (h (drop 1 rest)) refl
 
 -- the rows after the first slash, one beginning less each time
 shift_rows : RowsOf (RouteOf RouteId)
@@ -128,7 +136,8 @@ grants_on : List ℕ → Found
 grants_on rest = on_start (codes "/") grants nowhere rest
 
 in_g : List ℕ → Found
-in_g rest = on_start (codes "ossip") (at_end (plain (codes "/gossip") routes.Gossip)) (on_start (codes "rant") grants_on nowhere) rest
+in_g rest = on_start (codes "ossip") (at_end (plain (codes "/gossip") routes.Gossip))
+    (on_start (codes "rant") grants_on nowhere) rest
 
 -- the two routes that begin with `g`, one after the other or behind it
 g-root : (rest : List ℕ) → cond (starts_with nat_eq rest (codes "g")) (in_g (drop 1 rest)) (root3 rest) ≡ root1 rest
@@ -136,7 +145,8 @@ unfolding in_g grants_on
 g-root [] = refl
 g-root (y ∷ q) = by (103 == y) refl
   where
-    by : (v : Bool) → (103 == y) ≡ v → cond (starts_with nat_eq (y ∷ q) (codes "g")) (in_g (drop 1 (y ∷ q))) (root3 (y ∷ q)) ≡ root1 (y ∷ q)
+    by : (v : Bool) → (103 == y) ≡ v → cond (starts_with nat_eq (y ∷ q) (codes "g")) (in_g (drop 1 (y ∷ q)))
+        (root3 (y ∷ q)) ≡ root1 (y ∷ q)
     by true e =
         let same : y ≡ 103 = grind (arith, nat_tests) in
         rw same (refl {a = root1 (103 ∷ q)})
@@ -145,48 +155,69 @@ g-root (y ∷ q) = by (103 == y) refl
 same5 : (rest : List ℕ) → first rows5 rest ≡ root5 rest
 unfolding rows5 shift_rows
 same5 rest =
-    first-behind (codes "shift") shift_rows rest (omega arith, (omega arith, (omega arith, (omega arith, (omega arith, tt)))))
-    ∙ both (starts_with nat_eq rest (codes "shift")) (first shift_rows (drop 5 rest)) None (on_start (codes "/") shifts nowhere (drop 5 rest)) None (slashed parts4 shift_row shifts shift-same (drop 5 rest)) refl
+    first-behind (codes "shift") shift_rows rest (
+      omega arith,
+      (omega arith, (omega arith, (omega arith, (omega arith, tt)))),
+    )
+    ∙ both (starts_with nat_eq rest (codes "shift")) (first shift_rows (drop 5 rest)) None
+    (on_start (codes "/") shifts nowhere (drop 5 rest)) None
+    (slashed parts4 shift_row shifts shift-same (drop 5 rest)) refl
 
 same4 : (rest : List ℕ) → first rows4 rest ≡ root4 rest
 unfolding rows4 rows5 shift_rows parts4 only
 same4 rest =
-    choose 114 (codes "eport") (only (plain (codes "/report") routes.Report)) rows5 rest (omega arith, (omega arith, (omega arith, (omega arith, (omega arith, (omega arith, tt)))))) refl refl refl refl
-    ∙ both (starts_with nat_eq rest (codes "report")) (first (only (plain (codes "/report") routes.Report)) (drop 6 rest)) (first rows5 rest) (at_end (plain (codes "/report") routes.Report) (drop 6 rest)) (root5 rest) (first-end (plain (codes "/report") routes.Report) (drop 6 rest)) (same5 rest)
+    choose 114 (codes "eport") (only (plain (codes "/report") routes.Report)) rows5 rest
+    (omega arith, (omega arith, (omega arith, (omega arith, (omega arith, (omega arith, tt)))))) refl refl refl refl
+    ∙ both (starts_with nat_eq rest (codes "report")) (first (only (plain (codes "/report") routes.Report))
+    (drop 6 rest)) (first rows5 rest) (at_end (plain (codes "/report") routes.Report) (drop 6 rest)) (root5 rest)
+    (first-end (plain (codes "/report") routes.Report) (drop 6 rest)) (same5 rest)
 
 same3 : (rest : List ℕ) → first rows3 rest ≡ root3 rest
 unfolding rows3 rows4 rows5 shift_rows parts4 only
 same3 rest =
-    choose 108 (codes "oad") (only (plain (codes "/load") routes.Load)) rows4 rest (omega arith, (omega arith, (omega arith, (omega arith, tt)))) refl refl refl refl
-    ∙ both (starts_with nat_eq rest (codes "load")) (first (only (plain (codes "/load") routes.Load)) (drop 4 rest)) (first rows4 rest) (at_end (plain (codes "/load") routes.Load) (drop 4 rest)) (root4 rest) (first-end (plain (codes "/load") routes.Load) (drop 4 rest)) (same4 rest)
+    choose 108 (codes "oad") (only (plain (codes "/load") routes.Load)) rows4 rest
+    (omega arith, (omega arith, (omega arith, (omega arith, tt)))) refl refl refl refl
+    ∙ both (starts_with nat_eq rest (codes "load")) (first (only (plain (codes "/load") routes.Load)) (drop 4 rest))
+    (first rows4 rest) (at_end (plain (codes "/load") routes.Load) (drop 4 rest)) (root4 rest)
+    (first-end (plain (codes "/load") routes.Load) (drop 4 rest)) (same4 rest)
 
 rant-same : (rest : List ℕ) → first rant_rows rest ≡ on_start (codes "rant") grants_on nowhere rest
 unfolding rant_rows grant_rows grants_on
 rant-same rest =
     first-behind (codes "rant") grant_rows rest (omega arith, (omega arith, (omega arith, (omega arith, tt))))
-    ∙ both (starts_with nat_eq rest (codes "rant")) (first grant_rows (drop 4 rest)) None (grants_on (drop 4 rest)) None (slashed parts3 grant_row grants grant-same (drop 4 rest)) refl
+    ∙ both (starts_with nat_eq rest (codes "rant")) (first grant_rows (drop 4 rest)) None (grants_on (drop 4 rest)) None
+    (slashed parts3 grant_row grants grant-same (drop 4 rest)) refl
 
 g-same : (rest : List ℕ) → first g_rows rest ≡ in_g rest
 unfolding g_rows in_g rant_rows grant_rows parts3 only
 g-same rest =
-    choose 111 (codes "ssip") (only (plain (codes "/gossip") routes.Gossip)) rant_rows rest (omega arith, (omega arith, (omega arith, (omega arith, (omega arith, tt))))) refl refl refl refl
-    ∙ both (starts_with nat_eq rest (codes "ossip")) (first (only (plain (codes "/gossip") routes.Gossip)) (drop 5 rest)) (first rant_rows rest) (at_end (plain (codes "/gossip") routes.Gossip) (drop 5 rest)) (on_start (codes "rant") grants_on nowhere rest) (first-end (plain (codes "/gossip") routes.Gossip) (drop 5 rest)) (rant-same rest)
+    choose 111 (codes "ssip") (only (plain (codes "/gossip") routes.Gossip)) rant_rows rest
+    (omega arith, (omega arith, (omega arith, (omega arith, (omega arith, tt))))) refl refl refl refl
+    ∙ both (starts_with nat_eq rest (codes "ossip")) (first (only (plain (codes "/gossip") routes.Gossip))
+    (drop 5 rest)) (first rant_rows rest) (at_end (plain (codes "/gossip") routes.Gossip) (drop 5 rest))
+    (on_start (codes "rant") grants_on nowhere rest) (first-end (plain (codes "/gossip") routes.Gossip)
+    (drop 5 rest)) (rant-same rest)
 
 same2 : (rest : List ℕ) → first rows2 rest ≡ root1 rest
 unfolding rows2 g_rows rant_rows grant_rows parts3 rows3 rows4 rows5 shift_rows parts4 only
 same2 rest =
     choose 103 [] g_rows rows3 rest (omega arith, tt) refl refl refl refl
-    ∙ both (starts_with nat_eq rest (codes "g")) (first g_rows (drop 1 rest)) (first rows3 rest) (in_g (drop 1 rest)) (root3 rest) (g-same (drop 1 rest)) (same3 rest)
+    ∙ both (starts_with nat_eq rest (codes "g")) (first g_rows (drop 1 rest)) (first rows3 rest) (in_g (drop 1 rest))
+    (root3 rest) (g-same (drop 1 rest)) (same3 rest)
     ∙ g-root rest
 
 same1 : (rest : List ℕ) → first rows1 rest ≡ root rest
 unfolding rows1 rows2 g_rows rant_rows grant_rows parts3 rows3 rows4 rows5 shift_rows parts4 fail_rows name_rows only
 same1 rest =
-    choose 102 (codes "ail") fail_rows rows2 rest (omega arith, (omega arith, (omega arith, (omega arith, tt)))) refl refl refl refl
-    ∙ both (starts_with nat_eq rest (codes "fail")) (first fail_rows (drop 4 rest)) (first rows2 rest) (in_points (drop 4 rest)) (root1 rest) (points-same (drop 4 rest)) (same2 rest)
+    choose 102 (codes "ail") fail_rows rows2 rest (omega arith, (omega arith, (omega arith, (omega arith, tt)))) refl
+    refl refl refl
+    ∙ both (starts_with nat_eq rest (codes "fail")) (first fail_rows (drop 4 rest)) (first rows2 rest)
+    (in_points (drop 4 rest)) (root1 rest) (points-same (drop 4 rest)) (same2 rest)
 
 pub first_is : (path : List ℕ) → first route_rows path ≡ row_of path
-unfolding row_of rows1 rows2 g_rows rant_rows grant_rows parts3 grant_row rows3 rows4 rows5 shift_rows parts4 fail_rows name_rows only plain point_row shift_row
+unfolding row_of rows1 rows2 g_rows rant_rows grant_rows parts3 grant_row rows3 rows4 rows5 shift_rows parts4 fail_rows
+    name_rows only plain point_row shift_row
 first_is path =
     first-behind (47 ∷ []) rows1 path (omega arith, tt)
-    ∙ both (starts_with nat_eq path (47 ∷ [])) (first rows1 (drop 1 path)) None (root (drop 1 path)) None (same1 (drop 1 path)) refl
+    ∙ both (starts_with nat_eq path (47 ∷ [])) (first rows1 (drop 1 path)) None (root (drop 1 path)) None
+    (same1 (drop 1 path)) refl

@@ -16,12 +16,14 @@ fields_send p below = search (crosses, sendable) depth 30
 fields_sync : (p : Parts knot.frame) → IsSync (rows knot.frame p deep.member-Node) → IsSync (knot.at-Node p)
 fields_sync p below = search (crosses, sendable) depth 30
 
-step_send : (p : Parts knot.frame) → ((j : deep.the_members) → IsSend (rows knot.frame p j)) → (i : deep.the_members) → IsSend (rows knot.frame (knot.step p) i)
+step_send : (p : Parts knot.frame) → ((j : deep.the_members) → IsSend (rows knot.frame p j)) → (i : deep.the_members) →
+    IsSend (rows knot.frame (knot.step p) i)
 step_send p below deep.member-Node =
     let fields = fields_send p (below deep.member-Node) in
     has_of knot.frame send (knot.step p) deep.member-Node (λ d vs x. (fields.owned x.0 vs, tt))
 
-step_sync : (p : Parts knot.frame) → ((j : deep.the_members) → IsSync (rows knot.frame p j)) → (i : deep.the_members) → IsSync (rows knot.frame (knot.step p) i)
+step_sync : (p : Parts knot.frame) → ((j : deep.the_members) → IsSync (rows knot.frame p j)) → (i : deep.the_members) →
+    IsSync (rows knot.frame (knot.step p) i)
 step_sync p below deep.member-Node =
     let fields = fields_sync p (below deep.member-Node) in
     has_of knot.frame sync (knot.step p) deep.member-Node (λ d b o κ x. (fields.shared x.0 b o κ, tt))

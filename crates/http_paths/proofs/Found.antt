@@ -63,7 +63,8 @@ has_part text = nat_lt 0 (length (before_slash text)) && has_slash text
 
 -- what is found after this beginning; for a path without it, what another finds
 abbrev pub on_start : List ℕ → (List ℕ → Found) → (List ℕ → Found) → List ℕ → Found
-on_start start inside other path = if starts_with nat_eq path start then inside (drop (length start) path) else other path
+on_start start inside other path = if starts_with nat_eq path start then inside (drop (length start) path) else other
+    path
 
 abbrev pub nowhere : List ℕ → Found
 nowhere path = None
@@ -84,7 +85,8 @@ named_point rest = if length rest == 0 then Some (plain (codes "/fail/") routes.
 -- after `/fail`
 abbrev pub in_points : List ℕ → Found
 in_points rest =
-    if length rest == 0 then Some (plain (codes "/fail") routes.Points) else on_start (codes "/") named_point nowhere rest
+    if length rest == 0 then Some (plain (codes "/fail") routes.Points) else on_start (codes "/") named_point nowhere
+    rest
 
 -- after `/grant/` and `/shift/`
 abbrev pub grants : List ℕ → Found

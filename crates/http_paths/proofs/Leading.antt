@@ -19,15 +19,19 @@ use Rattle.http_paths.proofs.Taking.{taken, taken-point, taken-grant, taken-shif
 -- what is found leads there; what was taken is text
 abbrev pub Leads : List ℕ → Found → Option TargetValue → Type 0
 Leads path None target = target ≡ None
-Leads path (Some row) target = (IsUtf8 path → AllText (taken row path)) × (target ≡ with_parts row.value (taken row path))
+Leads path (Some row) target = (IsUtf8 path → AllText (taken row path)) ×
+    (target ≡ with_parts row.value (taken row path))
 
-either : (path : List ℕ) (b : Bool) (x y : Found) (u v : Option TargetValue) → (b ≡ true → Leads path x u) → (b ≡ false → Leads path y v) → Leads path (cond b x y) (cond b u v)
+either : (path : List ℕ) (b : Bool) (x y : Found) (u v : Option TargetValue) → (b ≡ true → Leads path x u) →
+    (b ≡ false → Leads path y v) → Leads path (cond b x y) (cond b u v)
 either path true x y u v f g = f refl
 either path false x y u v f g = g refl
 
-taken-leads : (path : List ℕ) (row : RouteOf RouteId) (ts : Taken) (target : TargetValue) → taken row path ≡ ts → (IsUtf8 path → AllText ts) → with_parts row.value ts ≡ Some target → Leads path (Some row) (Some target)
+taken-leads : (path : List ℕ) (row : RouteOf RouteId) (ts : Taken) (target : TargetValue) → taken row path ≡ ts →
+    (IsUtf8 path → AllText ts) → with_parts row.value ts ≡ Some target → Leads path (Some row) (Some target)
 taken-leads path row ts target e text with_ts =
-    subst (λ (x : Taken). (IsUtf8 path → AllText x) × (◌≡◌ {A = Option TargetValue} (Some target) (with_parts row.value x))) (sym e) (text, sym with_ts)
+    subst (λ (x : Taken). (IsUtf8 path → AllText x) × (◌≡◌ {A = Option TargetValue} (Some target)
+    (with_parts row.value x))) (sym e) (text, sym with_ts)
 
 -- ---- after a word that leaves nothing open
 
@@ -57,7 +61,8 @@ named-leads (b ∷ q) h =
     let found : last_part point_row (b ∷ q) ≡ Some point_row = last-alone point_row (b ∷ q) h ∙ rw l refl in
     rw (n, found) (point-text (b ∷ q))
 
-fail-leads : (parts : List (List ℕ)) → Slashless parts → Leads (codes "/fail" ++ led parts) (in_points (led parts)) (after_fail parts)
+fail-leads : (parts : List (List ℕ)) → Slashless parts → Leads (codes "/fail" ++ led parts) (in_points (led parts))
+    (after_fail parts)
 unfolding plain
 fail-leads [] h = (λ u. tt, refl)
 fail-leads (p ∷ []) h =
@@ -71,7 +76,8 @@ fail-leads (p ∷ q ∷ ps) h =
     target [] = refl
     target (b ∷ p) = refl
 
-    more : (p r : List ℕ) (t : Option TargetValue) → t ≡ None → Leads (codes "/fail/" ++ (p ++ 47 ∷ r)) (named_point (p ++ 47 ∷ r)) t
+    more : (p r : List ℕ) (t : Option TargetValue) → t ≡ None →
+        Leads (codes "/fail/" ++ (p ++ 47 ∷ r)) (named_point (p ++ 47 ∷ r)) t
     more p r t e =
         let n : (length (p ++ 47 ∷ r) == 0) ≡ false = grind (arith, nat_tests, length-append p (47 ∷ r)) in
         rw (n, last-more point_row p r) e
@@ -86,8 +92,15 @@ grant-text n t a hn ht =
     ((codes "name", n) ∷ (codes "term", t) ∷ (codes "amount", a) ∷ []) (grant n t a) (taken-grant n t a hn ht) (λ u.
     let after = (cut-utf8 (codes "/grant") (n ++ 47 ∷ (t ++ 47 ∷ a)) u).1 in
     let name = cut-utf8 n (t ++ 47 ∷ a) after in
-    let term = cut-utf8 t a name.1 in
-    (ascii-text (codes "name") refl, name.0, (ascii-text (codes "term") refl, term.0, (ascii-text (codes "amount") refl, term.1, tt))))
+    let term = cut-utf8 t a name.1 in (
+      ascii-text (codes "name") refl,
+      name.0,
+      (
+        ascii-text (codes "term") refl,
+        term.0,
+        (ascii-text (codes "amount") refl, term.1, tt),
+      ),
+    ))
     refl
 
 grant-leads : (parts : List (List ℕ)) → Slashless parts
@@ -98,17 +111,25 @@ grant-leads (n ∷ []) h =
 grant-leads (n ∷ t ∷ []) h =
     rw (next-none (next_part (last_part grant_row)) n t h.0 (next-alone (last_part grant_row) t h.1.0)) refl
 grant-leads (n ∷ t ∷ a ∷ []) h =
-    rw (next-more (next_part (last_part grant_row)) n (t ++ 47 ∷ a) h.0, next-more (last_part grant_row) t a h.1.0, last-alone grant_row a h.1.1.0)
+    rw (
+      next-more (next_part (last_part grant_row)) n (t ++ 47 ∷ a) h.0,
+      next-more (last_part grant_row) t a h.1.0,
+      last-alone grant_row a h.1.1.0,
+    )
     (by (is_part n) (is_part t) (is_part a) (grant-text n t a h.0 h.1.0))
   where
     by : (x y z : Bool) → Leads (codes "/grant/" ++ (n ++ 47 ∷ (t ++ 47 ∷ a))) (Some grant_row) (Some (grant n t a))
-        → Leads (codes "/grant/" ++ (n ++ 47 ∷ (t ++ 47 ∷ a))) (cond x (cond y (cond z (Some grant_row) None) None) None) (cond (x && (y && (z && true))) (Some (grant n t a)) None)
+        → Leads (codes "/grant/" ++ (n ++ 47 ∷ (t ++ 47 ∷ a)))
+        (cond x (cond y (cond z (Some grant_row) None) None) None)
+        (cond (x && (y && (z && true))) (Some (grant n t a)) None)
     by true true true l = l
     by true true false l = refl
     by true false z l = refl
     by false y z l = refl
 grant-leads (n ∷ t ∷ a ∷ b ∷ ps) h =
-    rw (next-none (next_part (last_part grant_row)) n (t ++ 47 ∷ (a ++ 47 ∷ joined (b ∷ ps))) h.0 (next-none (last_part grant_row) t (a ++ 47 ∷ joined (b ∷ ps)) h.1.0 (last-more grant_row a (joined (b ∷ ps))))) refl
+    rw (next-none (next_part (last_part grant_row)) n (t ++ 47 ∷ (a ++ 47 ∷ joined (b ∷ ps))) h.0
+    (next-none (last_part grant_row) t (a ++ 47 ∷ joined (b ∷ ps)) h.1.0 (last-more grant_row a (joined (b ∷ ps)))))
+    refl
 
 -- ---- after `shift`
 
@@ -117,12 +138,20 @@ shift-text : (n t o a : List ℕ) → has_slash n ≡ false → has_slash t ≡ 
 unfolding shift_row
 shift-text n t o a hn ht ho =
     taken-leads (codes "/shift/" ++ (n ++ 47 ∷ (t ++ 47 ∷ (o ++ 47 ∷ a)))) shift_row
-    ((codes "name", n) ∷ (codes "term", t) ∷ (codes "to", o) ∷ (codes "amount", a) ∷ []) (shift n t o a) (taken-shift n t o a hn ht ho) (λ u.
+    ((codes "name", n) ∷ (codes "term", t) ∷ (codes "to", o) ∷ (codes "amount", a) ∷ []) (shift n t o a)
+    (taken-shift n t o a hn ht ho) (λ u.
     let after = (cut-utf8 (codes "/shift") (n ++ 47 ∷ (t ++ 47 ∷ (o ++ 47 ∷ a))) u).1 in
     let name = cut-utf8 n (t ++ 47 ∷ (o ++ 47 ∷ a)) after in
     let term = cut-utf8 t (o ++ 47 ∷ a) name.1 in
-    let to = cut-utf8 o a term.1 in
-    (ascii-text (codes "name") refl, name.0, (ascii-text (codes "term") refl, term.0, (ascii-text (codes "to") refl, to.0, (ascii-text (codes "amount") refl, to.1, tt)))))
+    let to = cut-utf8 o a term.1 in (
+      ascii-text (codes "name") refl,
+      name.0,
+      (
+        ascii-text (codes "term") refl,
+        term.0,
+        (ascii-text (codes "to") refl, to.0, (ascii-text (codes "amount") refl, to.1, tt)),
+      ),
+    ))
     refl
 
 shift-leads : (parts : List (List ℕ)) → Slashless parts
@@ -131,25 +160,36 @@ shift-leads [] h = refl
 shift-leads (n ∷ []) h =
     rw (next-alone (next_part (next_part (last_part shift_row))) n h.0) refl
 shift-leads (n ∷ t ∷ []) h =
-    rw (next-none (next_part (next_part (last_part shift_row))) n t h.0 (next-alone (next_part (last_part shift_row)) t h.1.0)) refl
+    rw (next-none (next_part (next_part (last_part shift_row))) n t h.0
+    (next-alone (next_part (last_part shift_row)) t h.1.0)) refl
 shift-leads (n ∷ t ∷ o ∷ []) h =
     rw (next-none (next_part (next_part (last_part shift_row))) n (t ++ 47 ∷ o) h.0
     (next-none (next_part (last_part shift_row)) t o h.1.0 (next-alone (last_part shift_row) o h.1.1.0))) refl
 shift-leads (n ∷ t ∷ o ∷ a ∷ []) h =
-    rw (next-more (next_part (next_part (last_part shift_row))) n (t ++ 47 ∷ (o ++ 47 ∷ a)) h.0, next-more (next_part (last_part shift_row)) t (o ++ 47 ∷ a) h.1.0, next-more (last_part shift_row) o a h.1.1.0, last-alone shift_row a h.1.1.1.0)
+    rw (
+      next-more (next_part (next_part (last_part shift_row))) n (t ++ 47 ∷ (o ++ 47 ∷ a)) h.0,
+      next-more (next_part (last_part shift_row)) t (o ++ 47 ∷ a) h.1.0,
+      next-more (last_part shift_row) o a h.1.1.0,
+      last-alone shift_row a h.1.1.1.0,
+    )
     (by (is_part n) (is_part t) (is_part o) (is_part a) (shift-text n t o a h.0 h.1.0 h.1.1.0))
   where
-    by : (w x y z : Bool) → Leads (codes "/shift/" ++ (n ++ 47 ∷ (t ++ 47 ∷ (o ++ 47 ∷ a)))) (Some shift_row) (Some (shift n t o a))
-        → Leads (codes "/shift/" ++ (n ++ 47 ∷ (t ++ 47 ∷ (o ++ 47 ∷ a)))) (cond w (cond x (cond y (cond z (Some shift_row) None) None) None) None) (cond (w && (x && (y && (z && true)))) (Some (shift n t o a)) None)
+    by : (w x y z : Bool) → Leads (codes "/shift/" ++ (n ++ 47 ∷ (t ++ 47 ∷ (o ++ 47 ∷ a)))) (Some shift_row)
+        (Some (shift n t o a))
+        → Leads (codes "/shift/" ++ (n ++ 47 ∷ (t ++ 47 ∷ (o ++ 47 ∷ a))))
+        (cond w (cond x (cond y (cond z (Some shift_row) None) None) None) None)
+        (cond (w && (x && (y && (z && true)))) (Some (shift n t o a)) None)
     by true true true true l = l
     by true true true false l = refl
     by true true false z l = refl
     by true false y z l = refl
     by false x y z l = refl
 shift-leads (n ∷ t ∷ o ∷ a ∷ b ∷ ps) h =
-    rw (next-none (next_part (next_part (last_part shift_row))) n (t ++ 47 ∷ (o ++ 47 ∷ (a ++ 47 ∷ joined (b ∷ ps)))) h.0
+    rw (next-none (next_part (next_part (last_part shift_row))) n (t ++ 47 ∷ (o ++ 47 ∷ (a ++ 47 ∷ joined (b ∷ ps))))
+    h.0
     (next-none (next_part (last_part shift_row)) t (o ++ 47 ∷ (a ++ 47 ∷ joined (b ∷ ps))) h.1.0
-    (next-none (last_part shift_row) o (a ++ 47 ∷ joined (b ∷ ps)) h.1.1.0 (last-more shift_row a (joined (b ∷ ps)))))) refl
+    (next-none (last_part shift_row) o (a ++ 47 ∷ joined (b ∷ ps)) h.1.1.0 (last-more shift_row a (joined (b ∷ ps))))))
+    refl
 
 -- ---- after the first slash
 
@@ -159,7 +199,8 @@ at_end-stops row x r e =
     let n : (length (x ∷ r) == 0) ≡ false = grind (arith, nat_tests) in
     rw n refl
 
-slash-stops : (f : List ℕ → Found) (x : ℕ) (r : List ℕ) → (x == 47) ≡ false → on_start (codes "/") f nowhere (x ∷ r) ≡ None
+slash-stops : (f : List ℕ → Found) (x : ℕ) (r : List ℕ) → (x == 47) ≡ false →
+    on_start (codes "/") f nowhere (x ∷ r) ≡ None
 slash-stops f x r e =
     let g : (47 == x) ≡ false = grind (arith, nat_tests) in
     rw g refl
@@ -184,7 +225,8 @@ module _ (word : List ℕ) (parts : List (List ℕ)) (h : has_slash word ≡ fal
       subst (λ (x : Found). Leads path x (cond (bytes_eq word w) target others))
       (sym (word-found inside stops w other k apart word parts h))
       (either path (bytes_eq word w) (inside (led parts)) (other (word ++ led parts)) target others
-      (λ e. subst (λ (x : List ℕ). Leads (47 ∷ (x ++ led parts)) (inside (led parts)) target) (sym ((bytes_decides word w).0 e)) there)
+      (λ e. subst (λ (x : List ℕ). Leads (47 ∷ (x ++ led parts)) (inside (led parts)) target)
+      (sym ((bytes_decides word w).0 e)) there)
       (λ e. else))
 
   gossip_row : RouteOf RouteId
@@ -200,15 +242,19 @@ module _ (word : List ℕ) (parts : List (List ℕ)) (h : has_slash word ≡ fal
   unfolding gossip_row load_row report_row
   root-leads =
       word-leads (codes "fail") in_points root1 (after_fail parts) _ refl points-stop (λ r. refl) (fail-leads parts hs)
-      (word-leads (codes "gossip") (at_end gossip_row) root2 (alone gossip parts) _ refl (at_end-stops gossip_row) (λ r. refl)
+      (word-leads (codes "gossip") (at_end gossip_row) root2 (alone gossip parts) _ refl (at_end-stops gossip_row)
+      (λ r. refl)
       (alone-leads (codes "/gossip" ++ led parts) (codes "/gossip") routes.Gossip gossip refl parts)
-      (word-leads (codes "grant") (on_start (codes "/") grants nowhere) root3 (after_grant parts) _ refl (slash-stops grants) (λ r. refl)
+      (word-leads (codes "grant") (on_start (codes "/") grants nowhere) root3 (after_grant parts) _ refl
+      (slash-stops grants) (λ r. refl)
       (grant-leads parts hs)
       (word-leads (codes "load") (at_end load_row) root4 (alone load parts) _ refl (at_end-stops load_row) (λ r. refl)
       (alone-leads (codes "/load" ++ led parts) (codes "/load") routes.Load load refl parts)
-      (word-leads (codes "report") (at_end report_row) root5 (alone report parts) _ refl (at_end-stops report_row) (λ r. refl)
+      (word-leads (codes "report") (at_end report_row) root5 (alone report parts) _ refl (at_end-stops report_row)
+      (λ r. refl)
       (alone-leads (codes "/report" ++ led parts) (codes "/report") routes.Report report refl parts)
-      (word-leads (codes "shift") (on_start (codes "/") shifts nowhere) nowhere (after_shift parts) None refl (slash-stops shifts) (λ r. refl)
+      (word-leads (codes "shift") (on_start (codes "/") shifts nowhere) nowhere (after_shift parts) None refl
+      (slash-stops shifts) (λ r. refl)
       (shift-leads parts hs) refl)))))
 
 -- ---- any path
@@ -226,7 +272,8 @@ leads (b ∷ q) = by (47 == b) refl (segments q) refl (segments-join q) (segment
     by true e (word ∷ ps) s j h =
         let same : b ≡ 47 = grind (arith, nat_tests) in
         rw (same, s)
-        (subst (λ (x : List ℕ). Leads (47 ∷ x) (root x) (after_word word ps)) (sym (joined-led word ps) ∙ j) (root-leads word ps h.0 h.1))
+        (subst (λ (x : List ℕ). Leads (47 ∷ x) (root x) (after_word word ps)) (sym (joined-led word ps) ∙ j)
+        (root-leads word ps h.0 h.1))
     by false e [] s j h =
         let f : (b == 47) ≡ false = grind (arith, nat_tests) in
         rw (e, f, s) refl

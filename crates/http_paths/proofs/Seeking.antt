@@ -17,7 +17,8 @@ longer b y s =
     let m : length (b ∷ y ∷ s) - 1 ≡ suc (length (y ∷ s) - 1) = omega arith in
     rw m refl
 
-alone : (y : ℕ) (s : List ℕ) → (y == 47) ≡ false → ends_with nat_eq (y ∷ s) (47 ∷ []) ≡ (ltb 1 (length (y ∷ s)) && ends_with nat_eq (y ∷ s) (47 ∷ []))
+alone : (y : ℕ) (s : List ℕ) → (y == 47) ≡ false → ends_with nat_eq (y ∷ s) (47 ∷ []) ≡
+    (ltb 1 (length (y ∷ s)) && ends_with nat_eq (y ∷ s) (47 ∷ []))
 alone y [] e =
     let f : (47 == y) ≡ false = grind (arith, nat_tests) in
     rw f refl
@@ -26,11 +27,14 @@ alone y (x ∷ s) e =
     rw l refl
 
 -- a segment of more than one byte ends with a slash where there is one
-ends-slash : (b : ℕ) (q : List ℕ) → (ltb 1 (length (b ∷ segment q)) && ends_with nat_eq (b ∷ segment q) (47 ∷ [])) ≡ has_slash q
+ends-slash : (b : ℕ) (q : List ℕ) → (ltb 1 (length (b ∷ segment q)) && ends_with nat_eq (b ∷ segment q) (47 ∷ [])) ≡
+    has_slash q
 ends-slash b [] = refl
 ends-slash b (y ∷ r) = by (y == 47) refl (ends-slash y r)
   where
-    by : (v : Bool) → (y == 47) ≡ v → (ltb 1 (length (y ∷ segment r)) && ends_with nat_eq (y ∷ segment r) (47 ∷ [])) ≡ has_slash r → (ltb 1 (length (b ∷ segment (y ∷ r))) && ends_with nat_eq (b ∷ segment (y ∷ r)) (47 ∷ [])) ≡ has_slash (y ∷ r)
+    by : (v : Bool) → (y == 47) ≡ v → (ltb 1 (length (y ∷ segment r)) && ends_with nat_eq (y ∷ segment r) (47 ∷ [])) ≡
+        has_slash r → (ltb 1 (length (b ∷ segment (y ∷ r))) && ends_with nat_eq (b ∷ segment (y ∷ r)) (47 ∷ [])) ≡
+        has_slash (y ∷ r)
     by true e later =
         let f : (47 == y) ≡ true = grind (arith, nat_tests) in
         rw (e, f) refl
@@ -47,7 +51,8 @@ past-segment : (q : List ℕ) → has_slash q ≡ true → drop (length (segment
 past-segment [] h = absurd (grind arith)
 past-segment (y ∷ r) h = by (y == 47) refl (past-segment r)
   where
-    by : (v : Bool) → (y == 47) ≡ v → (has_slash r ≡ true → drop (length (segment r) - 1) r ≡ 47 ∷ after_slash r) → drop (length (segment (y ∷ r)) - 1) (y ∷ r) ≡ 47 ∷ after_slash (y ∷ r)
+    by : (v : Bool) → (y == 47) ≡ v → (has_slash r ≡ true → drop (length (segment r) - 1) r ≡ 47 ∷ after_slash r) →
+        drop (length (segment (y ∷ r)) - 1) (y ∷ r) ≡ 47 ∷ after_slash (y ∷ r)
     by true e past =
         let f : y ≡ 47 = grind (arith, nat_tests) in
         rw (e, f) refl
@@ -110,7 +115,11 @@ module _ {K : Type 0} where
   unfolding seek
   seek-empty k [] = refl
   seek-empty (suc k) (b ∷ p) = seek-empty k p
-  seek-empty zero (b ∷ p) = simp (seek-empty 0 p, param_step-empty (b ∷ p), seek-empty (((param_step {K = K} [] (b ∷ p)).0) - 1) p)
+  seek-empty zero (b ∷ p) = simp (
+    seek-empty 0 p,
+    param_step-empty (b ∷ p),
+    seek-empty (((param_step {K = K} [] (b ∷ p)).0) - 1) p,
+  )
 
   pub seek-drop : (k : ℕ) (r : RowsOf K) (p : List ℕ) → seek k r p ≡ seek 0 r (drop k p)
   unfolding seek
@@ -119,21 +128,28 @@ module _ {K : Type 0} where
   seek-drop (suc k) r (b ∷ p) = seek-drop k r p
 
   -- rows none of which begins with a part that is left open
-  pub seek-plain : (r : RowsOf K) (y : ℕ) (p : List ℕ) → step param_token r ≡ [] → step catch_all_token r ≡ [] → seek 0 r (y ∷ p) ≡ seek 0 (step y r) p
+  pub seek-plain : (r : RowsOf K) (y : ℕ) (p : List ℕ) → step param_token r ≡ [] → step catch_all_token r ≡ [] →
+      seek 0 r (y ∷ p) ≡ seek 0 (step y r) p
   unfolding seek
   seek-plain r y p h1 h2 =
       simp (h1, h2, param_step-empty (y ∷ p), seek-empty ((param_step {K = K} [] (y ∷ p)).0 - 1) p, or_else-none)
 
-  pub behind-step : (x b : ℕ) (w : List ℕ) (r s : RowsOf K) → x < 256 → 256 ≤ b → step b s ≡ [] → step b (behind (x ∷ w) r ++ s) ≡ []
+  pub behind-step : (x b : ℕ) (w : List ℕ) (r s : RowsOf K) → x < 256 → 256 ≤ b → step b s ≡ [] →
+      step b (behind (x ∷ w) r ++ s) ≡ []
   behind-step x b w r s h k e = let n : x ≢ b = λ q. omega arith in step-miss b x w r s n ∙ e
 
-  pub first-behind : (w : List ℕ) (t : RowsOf K) (path : List ℕ) → IsText w → first (behind w t ++ []) path ≡ cond (starts_with nat_eq path w) (first t (drop (length w) path)) None
+  pub first-behind : (w : List ℕ) (t : RowsOf K) (path : List ℕ) → IsText w →
+      first (behind w t ++ []) path ≡ cond (starts_with nat_eq path w) (first t (drop (length w) path)) None
   unfolding seek
   first-behind [] t path h = ap (λ r. first r path) (append-nil (behind [] t) ∙ behind-nil t)
   first-behind (x ∷ w) t [] h = own-behind x w t []
-  first-behind (x ∷ w) t (y ∷ p) h = seek-plain (behind (x ∷ w) t ++ []) y p (behind-step x param_token w t [] h.0 (omega arith) refl) (behind-step x catch_all_token w t [] h.0 (omega arith) refl) ∙ by (x == y) refl (first-behind w t p h.1)
+  first-behind (x ∷ w) t (y ∷ p) h = seek-plain (behind (x ∷ w) t ++ []) y p
+      (behind-step x param_token w t [] h.0 (omega arith) refl)
+      (behind-step x catch_all_token w t [] h.0 (omega arith) refl) ∙ by (x == y) refl (first-behind w t p h.1)
     where
-      by : (v : Bool) → (x == y) ≡ v → first (behind w t ++ []) p ≡ cond (starts_with nat_eq p w) (first t (drop (length w) p)) None → seek 0 (step y (behind (x ∷ w) t ++ [])) p ≡ cond (starts_with nat_eq (y ∷ p) (x ∷ w)) (first t (drop (length (x ∷ w)) (y ∷ p))) None
+      by : (v : Bool) → (x == y) ≡ v → first (behind w t ++ []) p ≡ cond (starts_with nat_eq p w)
+          (first t (drop (length w) p)) None → seek 0 (step y (behind (x ∷ w) t ++ [])) p ≡ cond
+          (starts_with nat_eq (y ∷ p) (x ∷ w)) (first t (drop (length (x ∷ w)) (y ∷ p))) None
       by true e ih =
           let xy : x ≡ y = grind (arith, nat_tests) in
           rw (e, ← xy, step-hit x w t []) ih
@@ -142,12 +158,17 @@ module _ {K : Type 0} where
           rw (step-miss y x w t [] n, e) (seek-empty 0 p)
 
   -- rows that begin with this, and others, none of which begins with its first byte
-  pub choose-more : (x : ℕ) (w : List ℕ) (t rest : RowsOf K) (y : ℕ) (q : List ℕ) → IsText (x ∷ w) → step x rest ≡ [] → step param_token rest ≡ [] → step catch_all_token rest ≡ []
-      → first (behind (x ∷ w) t ++ rest) (y ∷ q) ≡ cond (starts_with nat_eq (y ∷ q) (x ∷ w)) (first t (drop (length (x ∷ w)) (y ∷ q))) (first rest (y ∷ q))
+  pub choose-more : (x : ℕ) (w : List ℕ) (t rest : RowsOf K) (y : ℕ) (q : List ℕ) → IsText (x ∷ w) → step x rest ≡ [] →
+      step param_token rest ≡ [] → step catch_all_token rest ≡ []
+      → first (behind (x ∷ w) t ++ rest) (y ∷ q) ≡ cond (starts_with nat_eq (y ∷ q) (x ∷ w))
+      (first t (drop (length (x ∷ w)) (y ∷ q))) (first rest (y ∷ q))
   unfolding seek
-  choose-more x w t rest y q h s p c = seek-plain (behind (x ∷ w) t ++ rest) y q (behind-step x param_token w t rest h.0 (omega arith) p) (behind-step x catch_all_token w t rest h.0 (omega arith) c) ∙ by (x == y) refl
+  choose-more x w t rest y q h s p c = seek-plain (behind (x ∷ w) t ++ rest) y q
+      (behind-step x param_token w t rest h.0 (omega arith) p)
+      (behind-step x catch_all_token w t rest h.0 (omega arith) c) ∙ by (x == y) refl
     where
-      by : (v : Bool) → (x == y) ≡ v → seek 0 (step y (behind (x ∷ w) t ++ rest)) q ≡ cond (starts_with nat_eq (y ∷ q) (x ∷ w)) (first t (drop (length (x ∷ w)) (y ∷ q))) (first rest (y ∷ q))
+      by : (v : Bool) → (x == y) ≡ v → seek 0 (step y (behind (x ∷ w) t ++ rest)) q ≡ cond
+          (starts_with nat_eq (y ∷ q) (x ∷ w)) (first t (drop (length (x ∷ w)) (y ∷ q))) (first rest (y ∷ q))
       by true e =
           let xy : x ≡ y = grind (arith, nat_tests) in
           let none : first rest (y ∷ q) ≡ None = seek-plain rest y q p c ∙ rw (← xy, s) (seek-empty 0 q) in
@@ -156,8 +177,10 @@ module _ {K : Type 0} where
           let n : x ≢ y = λ q. grind (arith, nat_tests) in
           rw (step-miss y x w t rest n, e, seek-plain rest y q p c) refl
 
-  pub choose : (x : ℕ) (w : List ℕ) (t rest : RowsOf K) (path : List ℕ) → IsText (x ∷ w) → own rest ≡ None → step x rest ≡ [] → step param_token rest ≡ [] → step catch_all_token rest ≡ []
-      → first (behind (x ∷ w) t ++ rest) path ≡ cond (starts_with nat_eq path (x ∷ w)) (first t (drop (length (x ∷ w)) path)) (first rest path)
+  pub choose : (x : ℕ) (w : List ℕ) (t rest : RowsOf K) (path : List ℕ) → IsText (x ∷ w) → own rest ≡ None →
+      step x rest ≡ [] → step param_token rest ≡ [] → step catch_all_token rest ≡ []
+      → first (behind (x ∷ w) t ++ rest) path ≡ cond (starts_with nat_eq path (x ∷ w))
+      (first t (drop (length (x ∷ w)) path)) (first rest path)
   unfolding seek
   choose x w t rest [] h o s p c = own-behind x w t rest
   choose x w t rest (y ∷ q) h o s p c = choose-more x w t rest y q h s p c
@@ -172,25 +195,30 @@ module _ {K : Type 0} where
 
   -- a part that is left open at the end takes the rest, if that has no slash
   part-tail : (k : K) (b : ℕ) (q : List ℕ) (v : Bool) → has_slash (b ∷ q) ≡ v
-      → or_else (seek ((param_step {K = K} (([], k) ∷ []) (b ∷ q)).0 - 1) (param_step {K = K} (([], k) ∷ []) (b ∷ q)).1 q) None ≡ cond v None (Some k)
+      → or_else (seek ((param_step {K = K} (([], k) ∷ []) (b ∷ q)).0 - 1) (param_step {K = K} (([], k) ∷ []) (b ∷ q)).1
+      q) None ≡ cond v None (Some k)
   unfolding seek param_step
   part-tail k b q true e = rw e (ap (λ a. or_else a None) (seek-empty (0 - 1) q))
   part-tail k b q false e =
       let z : (length (drop (length (b ∷ q) - 1) q) == 0) ≡ true = grind (arith, nat_tests, length-drop) in
       let end : cond (length (drop (length (b ∷ q) - 1) q) == 0) (Some k) None ≡ Some k = rw z refl in
-      let got : seek (length (b ∷ q) - 1) (([], k) ∷ []) q ≡ Some k = seek-drop (length (b ∷ q) - 1) (([], k) ∷ []) q ∙ (first-end k (drop (length (b ∷ q) - 1) q) ∙ end) in
+      let got : seek (length (b ∷ q) - 1) (([], k) ∷ []) q ≡ Some k = seek-drop (length (b ∷ q) - 1) (([], k) ∷ []) q ∙
+      (first-end k (drop (length (b ∷ q) - 1) q) ∙ end) in
       rw e (ap (λ a. or_else a None) got)
 
   -- a route whose last part is left open, beside others that may end here
-  pub part-end : (k : K) (b : ℕ) (q : List ℕ) (rest : RowsOf K) → step b rest ≡ [] → step param_token rest ≡ [] → step catch_all_token rest ≡ []
+  pub part-end : (k : K) (b : ℕ) (q : List ℕ) (rest : RowsOf K) → step b rest ≡ [] → step param_token rest ≡ [] →
+      step catch_all_token rest ≡ []
       → first ((param_token ∷ [], k) ∷ rest) (b ∷ q) ≡ cond (has_slash (b ∷ q)) None (Some k)
   unfolding seek
   part-end k b q rest s p c = by (param_token == b) refl q
     where
-      tail : (q : List ℕ) → or_else (seek ((param_step {K = K} (([], k) ∷ []) (b ∷ q)).0 - 1) (param_step {K = K} (([], k) ∷ []) (b ∷ q)).1 q) None ≡ cond (has_slash (b ∷ q)) None (Some k)
+      tail : (q : List ℕ) → or_else (seek ((param_step {K = K} (([], k) ∷ []) (b ∷ q)).0 - 1)
+          (param_step {K = K} (([], k) ∷ []) (b ∷ q)).1 q) None ≡ cond (has_slash (b ∷ q)) None (Some k)
       tail q = part-tail k b q (has_slash (b ∷ q)) refl
 
-      by : (v : Bool) → (param_token == b) ≡ v → (q : List ℕ) → first ((param_token ∷ [], k) ∷ rest) (b ∷ q) ≡ cond (has_slash (b ∷ q)) None (Some k)
+      by : (v : Bool) → (param_token == b) ≡ v → (q : List ℕ) →
+          first ((param_token ∷ [], k) ∷ rest) (b ∷ q) ≡ cond (has_slash (b ∷ q)) None (Some k)
       by false e q = rw (e, s, p, c, seek-empty 0 q) (tail q)
       by true e [] =
           let n : (b == 47) ≡ false = grind (arith, nat_tests) in
@@ -201,7 +229,9 @@ module _ {K : Type 0} where
 
   -- a part that is left open, with a slash after it, takes what stands before the slash
   part-step : (k : K) (t : List ℕ) (b : ℕ) (q : List ℕ)
-      → or_else (seek ((param_step {K = K} ((47 ∷ t, k) ∷ []) (b ∷ q)).0 - 1) (param_step {K = K} ((47 ∷ t, k) ∷ []) (b ∷ q)).1 q) None ≡ cond (has_part (b ∷ q)) (first ((t, k) ∷ []) (after_slash (b ∷ q))) None
+      → or_else (seek ((param_step {K = K} ((47 ∷ t, k) ∷ []) (b ∷ q)).0 - 1)
+      (param_step {K = K} ((47 ∷ t, k) ∷ []) (b ∷ q)).1 q) None ≡ cond (has_part (b ∷ q))
+      (first ((t, k) ∷ []) (after_slash (b ∷ q))) None
   unfolding seek param_step
   part-step k t b q = by (b == 47) refl (has_slash q) refl
     where
@@ -209,22 +239,30 @@ module _ {K : Type 0} where
       row = (47 ∷ t, k) ∷ []
 
       taken : (v : Bool) → (b == 47) ≡ false → has_slash q ≡ v
-          → or_else (seek ((param_step {K = K} ((47 ∷ t, k) ∷ []) (b ∷ q)).0 - 1) (param_step {K = K} ((47 ∷ t, k) ∷ []) (b ∷ q)).1 q) None ≡ cond (has_part (b ∷ q)) (first ((t, k) ∷ []) (after_slash (b ∷ q))) None
+          → or_else (seek ((param_step {K = K} ((47 ∷ t, k) ∷ []) (b ∷ q)).0 - 1)
+          (param_step {K = K} ((47 ∷ t, k) ∷ []) (b ∷ q)).1 q) None ≡ cond (has_part (b ∷ q))
+          (first ((t, k) ∷ []) (after_slash (b ∷ q))) None
       taken true e h =
           let n : nat_lt 0 (length (b ∷ before_slash q)) ≡ true = grind (arith, nat_tests) in
           let m : length (b ∷ segment q) - 1 - 1 ≡ length (segment q) - 1 = omega arith in
-          let past : seek 0 ((47 ∷ t, k) ∷ []) (drop (length (segment q) - 1) q) ≡ first ((t, k) ∷ []) (after_slash q) = ap (λ p. seek 0 ((47 ∷ t, k) ∷ []) p) (past-segment q h) ∙ seek-plain ((47 ∷ t, k) ∷ []) 47 (after_slash q) refl refl in
-          let got : seek (length (segment q) - 1) ((47 ∷ t, k) ∷ []) q ≡ first ((t, k) ∷ []) (after_slash q) = seek-drop (length (segment q) - 1) ((47 ∷ t, k) ∷ []) q ∙ past in
+          let past : seek 0 ((47 ∷ t, k) ∷ []) (drop (length (segment q) - 1) q) ≡ first ((t, k) ∷ []) (after_slash q) =
+          ap (λ p. seek 0 ((47 ∷ t, k) ∷ []) p) (past-segment q h) ∙
+          seek-plain ((47 ∷ t, k) ∷ []) 47 (after_slash q) refl refl in
+          let got : seek (length (segment q) - 1) ((47 ∷ t, k) ∷ []) q ≡ first ((t, k) ∷ []) (after_slash q) =
+          seek-drop (length (segment q) - 1) ((47 ∷ t, k) ∷ []) q ∙ past in
           rw (e, n, ends-slash b q, h, m, got) (or_else-none (first ((t, k) ∷ []) (after_slash q)))
       taken false e h =
           let n : nat_lt 0 (length (b ∷ before_slash q)) ≡ true = grind (arith, nat_tests) in
           let m : length (b ∷ q) - 1 ≡ length q = omega arith in
           let z : drop (length q) q ≡ [] = drop-length q in
-          let got : seek (length q) ((47 ∷ t, k) ∷ []) q ≡ None = seek-drop (length q) ((47 ∷ t, k) ∷ []) q ∙ rw z refl in
+          let got : seek (length q) ((47 ∷ t, k) ∷ []) q ≡ None = seek-drop (length q) ((47 ∷ t, k) ∷ []) q ∙
+          rw z refl in
           rw (e, n, ends-slash b q, h, m, got) refl
 
       by : (w : Bool) → (b == 47) ≡ w → (v : Bool) → has_slash q ≡ v
-          → or_else (seek ((param_step {K = K} ((47 ∷ t, k) ∷ []) (b ∷ q)).0 - 1) (param_step {K = K} ((47 ∷ t, k) ∷ []) (b ∷ q)).1 q) None ≡ cond (has_part (b ∷ q)) (first ((t, k) ∷ []) (after_slash (b ∷ q))) None
+          → or_else (seek ((param_step {K = K} ((47 ∷ t, k) ∷ []) (b ∷ q)).0 - 1)
+          (param_step {K = K} ((47 ∷ t, k) ∷ []) (b ∷ q)).1 q) None ≡ cond (has_part (b ∷ q))
+          (first ((t, k) ∷ []) (after_slash (b ∷ q))) None
       by true e v h = rw e (ap (λ a. or_else a None) (seek-empty (0 - 1) q))
       by false e v h = taken v e h
 
@@ -239,22 +277,31 @@ module _ {K : Type 0} where
   second a p y h i = rw h i
 
   -- a route that goes on with a slash after a part that is left open
-  pub part-row : (k : K) (t : List ℕ) (b : ℕ) (q : List ℕ) → first ((param_token ∷ 47 ∷ t, k) ∷ []) (b ∷ q) ≡ cond (has_part (b ∷ q)) (first ((t, k) ∷ []) (after_slash (b ∷ q))) None
+  pub part-row : (k : K) (t : List ℕ) (b : ℕ) (q : List ℕ) →
+      first ((param_token ∷ 47 ∷ t, k) ∷ []) (b ∷ q) ≡ cond (has_part (b ∷ q))
+      (first ((t, k) ∷ []) (after_slash (b ∷ q))) None
   unfolding seek
   part-row k t b q = by (param_token == b) refl q
     where
-      at : (v : Bool) → (param_token == b) ≡ true → (y : ℕ) (r : List ℕ) → (47 == y) ≡ v → first ((param_token ∷ 47 ∷ t, k) ∷ []) (b ∷ y ∷ r) ≡ cond (has_part (b ∷ y ∷ r)) (first ((t, k) ∷ []) (after_slash (b ∷ y ∷ r))) None
+      at : (v : Bool) → (param_token == b) ≡ true → (y : ℕ) (r : List ℕ) → (47 == y) ≡ v →
+          first ((param_token ∷ 47 ∷ t, k) ∷ []) (b ∷ y ∷ r) ≡ cond (has_part (b ∷ y ∷ r))
+          (first ((t, k) ∷ []) (after_slash (b ∷ y ∷ r))) None
       at true e y r f =
           let n : (b == 47) ≡ false = grind (arith, nat_tests) in
           let g : (y == 47) ≡ true = grind (arith, nat_tests) in
-          let a : seek 0 ((47 ∷ t, k) ∷ []) (y ∷ r) ≡ first ((t, k) ∷ []) r = seek-plain ((47 ∷ t, k) ∷ []) y r refl refl ∙ rw f refl in
-          let c : cond (has_part (b ∷ y ∷ r)) (first ((t, k) ∷ []) (after_slash (b ∷ y ∷ r))) None ≡ first ((t, k) ∷ []) r = rw (n, g) refl in
+          let a : seek 0 ((47 ∷ t, k) ∷ []) (y ∷ r) ≡ first ((t, k) ∷ []) r =
+          seek-plain ((47 ∷ t, k) ∷ []) y r refl refl ∙ rw f refl in
+          let c : cond (has_part (b ∷ y ∷ r)) (first ((t, k) ∷ []) (after_slash (b ∷ y ∷ r))) None ≡ first ((t, k) ∷ [])
+          r = rw (n, g) refl in
           rw e (either-same _ _ _ _ a (part-step k t b (y ∷ r)) c)
       at false e y r f =
-          let a : seek 0 ((47 ∷ t, k) ∷ []) (y ∷ r) ≡ None = seek-plain ((47 ∷ t, k) ∷ []) y r refl refl ∙ rw f (seek-empty 0 r) in
+          let a : seek 0 ((47 ∷ t, k) ∷ []) (y ∷ r) ≡ None = seek-plain ((47 ∷ t, k) ∷ []) y r refl refl ∙
+          rw f (seek-empty 0 r) in
           rw e (second _ _ _ a (part-step k t b (y ∷ r)))
 
-      by : (v : Bool) → (param_token == b) ≡ v → (q : List ℕ) → first ((param_token ∷ 47 ∷ t, k) ∷ []) (b ∷ q) ≡ cond (has_part (b ∷ q)) (first ((t, k) ∷ []) (after_slash (b ∷ q))) None
+      by : (v : Bool) → (param_token == b) ≡ v → (q : List ℕ) →
+          first ((param_token ∷ 47 ∷ t, k) ∷ []) (b ∷ q) ≡ cond (has_part (b ∷ q))
+          (first ((t, k) ∷ []) (after_slash (b ∷ q))) None
       by false e q = rw (e, seek-empty 0 q) (part-step k t b q)
       by true e [] = rw e (part-step k t b [])
       by true e (y ∷ r) = at (47 == y) e y r refl

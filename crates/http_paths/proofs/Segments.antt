@@ -76,14 +76,16 @@ segment-at (x ∷ p) r h =
 
 -- ---- parts with slashes between them
 
-pub next-more : (f : List ℕ → Found) (p r : List ℕ) → has_slash p ≡ false → next_part f (p ++ 47 ∷ r) ≡ cond (is_part p) (f r) None
+pub next-more : (f : List ℕ → Found) (p r : List ℕ) → has_slash p ≡ false →
+    next_part f (p ++ 47 ∷ r) ≡ cond (is_part p) (f r) None
 next-more f p r h = rw (before-at p r h, has-at p r, after-at p r h) (by (is_part p))
   where
     by : (v : Bool) → cond (v && true) (f r) None ≡ cond v (f r) None
     by true = refl
     by false = refl
 
-pub next-none : (f : List ℕ → Found) (p r : List ℕ) → has_slash p ≡ false → f r ≡ None → next_part f (p ++ 47 ∷ r) ≡ None
+pub next-none : (f : List ℕ → Found) (p r : List ℕ) → has_slash p ≡ false → f r ≡ None →
+    next_part f (p ++ 47 ∷ r) ≡ None
 next-none f p r h e = next-more f p r h ∙ rw e (by (is_part p) None)
   where
     by : (v : Bool) (o : Found) → cond v o o ≡ o
@@ -97,7 +99,8 @@ next-alone f p h = rw h (by (nat_lt 0 (length (before_slash p))))
     by true = refl
     by false = refl
 
-pub last-alone : (row : RouteOf RouteId) (p : List ℕ) → has_slash p ≡ false → last_part row p ≡ cond (is_part p) (Some row) None
+pub last-alone : (row : RouteOf RouteId) (p : List ℕ) → has_slash p ≡ false →
+    last_part row p ≡ cond (is_part p) (Some row) None
 last-alone row p h = rw h (by (is_part p))
   where
     by : (v : Bool) → cond (v && true) (Some row) None ≡ cond v (Some row) None
@@ -140,7 +143,8 @@ start-at (x ∷ w) (y ∷ path) h = by (x == y) refl (start-at w path)
 module _ (inside : List ℕ → Found) (stops : (x : ℕ) (r : List ℕ) → (x == 47) ≡ false → inside (x ∷ r) ≡ None) where
   word-on : (w word : List ℕ) (parts : List (List ℕ)) (o : Found) → has_slash w ≡ false → has_slash word ≡ false
       → (starts_with nat_eq (word ++ led parts) w ≡ true → o ≡ None)
-      → cond (starts_with nat_eq (word ++ led parts) w) (inside (drop (length w) (word ++ led parts))) o ≡ cond (bytes_eq word w) (inside (led parts)) o
+      → cond (starts_with nat_eq (word ++ led parts) w) (inside (drop (length w) (word ++ led parts))) o ≡ cond
+      (bytes_eq word w) (inside (led parts)) o
   word-on [] [] parts o h k n = refl
   word-on [] (x ∷ word) parts o h k n = stops x (word ++ led parts) (no-slash x word k).0 ∙ sym (n refl)
   word-on (y ∷ w) [] [] o h k n = refl
@@ -149,8 +153,12 @@ module _ (inside : List ℕ → Found) (stops : (x : ℕ) (r : List ℕ) → (x 
       by (y == x) refl (word-on w word parts o (no-slash y w h).1 (no-slash x word k).1)
     where
       by : (v : Bool) → (y == x) ≡ v
-          → ((starts_with nat_eq (word ++ led parts) w ≡ true → o ≡ None) → cond (starts_with nat_eq (word ++ led parts) w) (inside (drop (length w) (word ++ led parts))) o ≡ cond (bytes_eq word w) (inside (led parts)) o)
-          → cond (starts_with nat_eq ((x ∷ word) ++ led parts) (y ∷ w)) (inside (drop (length (y ∷ w)) ((x ∷ word) ++ led parts))) o ≡ cond (bytes_eq (x ∷ word) (y ∷ w)) (inside (led parts)) o
+          → ((starts_with nat_eq (word ++ led parts) w ≡ true → o ≡ None) →
+          cond (starts_with nat_eq (word ++ led parts) w) (inside (drop (length w) (word ++ led parts))) o ≡ cond
+          (bytes_eq word w) (inside (led parts)) o)
+          → cond (starts_with nat_eq ((x ∷ word) ++ led parts) (y ∷ w))
+          (inside (drop (length (y ∷ w)) ((x ∷ word) ++ led parts))) o ≡ cond (bytes_eq (x ∷ word) (y ∷ w))
+          (inside (led parts)) o
       by true e later =
           let f : (x == y) ≡ true = grind (arith, nat_tests) in
           rw (e, f) (later (rw e at n))
@@ -161,7 +169,8 @@ module _ (inside : List ℕ → Found) (stops : (x : ℕ) (r : List ℕ) → (x 
   -- a word is found by its beginning, where what follows it begins with a slash
   pub word-found : (w : List ℕ) (other : List ℕ → Found) → has_slash w ≡ false → ((r : List ℕ) → other (w ++ r) ≡ None)
       → (word : List ℕ) (parts : List (List ℕ)) → has_slash word ≡ false
-      → on_start w inside other (word ++ led parts) ≡ cond (bytes_eq word w) (inside (led parts)) (other (word ++ led parts))
+      → on_start w inside other (word ++ led parts) ≡ cond (bytes_eq word w) (inside (led parts))
+      (other (word ++ led parts))
   word-found w other h others word parts k =
       word-on w word parts (other (word ++ led parts)) h k
       (λ s. ap other (start-at w (word ++ led parts) s) ∙ others (drop (length w) (word ++ led parts)))
@@ -185,7 +194,8 @@ cut-utf8 p r h =
     let here : get_or bs (length p) 0 ≡ 47 = slash-here p r in
     let ascii : get_or bs (length p) 0 < 128 = rw here (omega arith) in
     let after : drop (length p + 1) bs ≡ r = sym (drop-drop 1 (length p) bs) ∙ ap (λ (z : List ℕ). drop 1 z) at in (
-      subst IsUtf8 (take_at p (47 ∷ r) (length p) refl) (IsUtf8-take bs (length p) h (IsCharBoundary-before_ascii bs (length p) l ascii)),
+      subst IsUtf8 (take_at p (47 ∷ r) (length p) refl) (IsUtf8-take bs (length p) h
+          (IsCharBoundary-before_ascii bs (length p) l ascii)),
       subst IsUtf8 after (IsUtf8-drop bs (length p + 1) h (IsCharBoundary-after_ascii bs (length p) h l ascii)),
     )
   where

@@ -20,7 +20,8 @@ are-parts (p ∷ ps) h e =
     let a = and_parts (is_part p) (list_all is_part ps) e in
     ((ltb-true 0 (length p) a.0, h.0), are-parts ps h.1 a.1)
 
-if-parts : (path : List ℕ) (b : Bool) (target : TargetValue) → (b ≡ true → SpellsTarget target path) → Spelled path (cond b (Some target) None)
+if-parts : (path : List ℕ) (b : Bool) (target : TargetValue) → (b ≡ true → SpellsTarget target path) →
+    Spelled path (cond b (Some target) None)
 if-parts path true target f = f refl
 if-parts path false target f = tt
 
@@ -50,12 +51,14 @@ shift-spelled (n ∷ t ∷ o ∷ a ∷ []) h =
     (λ e. (are-parts (n ∷ t ∷ o ∷ a ∷ []) h e, refl))
 shift-spelled (n ∷ t ∷ o ∷ a ∷ b ∷ ps) h = tt
 
-alone-spelled : (path : List ℕ) (target : TargetValue) → SpellsTarget target path → (parts : List (List ℕ)) → Spelled (path ++ led parts) (alone target parts)
+alone-spelled : (path : List ℕ) (target : TargetValue) → SpellsTarget target path → (parts : List (List ℕ)) →
+    Spelled (path ++ led parts) (alone target parts)
 alone-spelled path target h [] = subst (SpellsTarget target) (sym (append-nil path)) h
 alone-spelled path target h (p ∷ ps) = tt
 
 module _ (word : List ℕ) (parts : List (List ℕ)) where
-  word-spelled : (w : List ℕ) (u v : Option TargetValue) → Spelled (47 ∷ (w ++ led parts)) u → Spelled (47 ∷ (word ++ led parts)) v
+  word-spelled : (w : List ℕ) (u v : Option TargetValue) → Spelled (47 ∷ (w ++ led parts)) u →
+      Spelled (47 ∷ (word ++ led parts)) v
       → Spelled (47 ∷ (word ++ led parts)) (cond (bytes_eq word w) u v)
   word-spelled w u v there else = by (bytes_eq word w) refl
     where
@@ -76,13 +79,15 @@ in-spelled : (parts : List (List ℕ)) → Slashless parts → Spelled (joined p
 in-spelled [] h = tt
 in-spelled ([] ∷ []) h = tt
 in-spelled ([] ∷ word ∷ parts) h =
-    subst (λ (x : List ℕ). Spelled (47 ∷ x) (after_word word parts)) (sym (joined-led word parts)) (root-spelled word parts h.1.1)
+    subst (λ (x : List ℕ). Spelled (47 ∷ x) (after_word word parts)) (sym (joined-led word parts))
+    (root-spelled word parts h.1.1)
 in-spelled ((b ∷ q) ∷ parts) h = tt
 
 spelled : (path : List ℕ) → Spelled path (target_of path)
 unfolding target_of
 spelled path =
-    subst (λ (x : List ℕ). Spelled x (target_in (segments path))) (segments-join path) (in-spelled (segments path) (segments-slashless path))
+    subst (λ (x : List ℕ). Spelled x (target_in (segments path))) (segments-join path)
+    (in-spelled (segments path) (segments-slashless path))
 
 -- ---- a path of a target leads there
 

@@ -30,10 +30,12 @@ wild-word (x ∷ w) rest len token at h l =
 -- a name, once it is known where its part begins and where it ends
 walk-at : (pattern text path : List ℕ) (name : ℕ × ℕ) (names : List (ℕ × ℕ)) (token at t a stop : ℕ)
     → wild_from (drop token pattern) (length path) token at ≡ (t, a) → wild_stop pattern t path a ≡ stop
-    → walk pattern text path (name ∷ names) token at ≡ (part_of text name.0 name.1, part_of path a stop) ∷ walk pattern text path names (after_token t) stop
+    → walk pattern text path (name ∷ names) token at ≡ (part_of text name.0 name.1, part_of path a stop) ∷
+    walk pattern text path names (after_token t) stop
 walk-at pattern text path name names token at t a stop e f = rw (e, f) refl
 
-part-here : (path n more : List ℕ) (a : ℕ) → drop a path ≡ n ++ more → 0 < length (n ++ more) → part_of path a (a + length n) ≡ n
+part-here : (path n more : List ℕ) (a : ℕ) → drop a path ≡ n ++ more → 0 < length (n ++ more) →
+    part_of path a (a + length n) ≡ n
 part-here path n more a e some =
     let there : length path - a ≡ length (n ++ more) = sym (length-drop a path) ∙ ap length e in
     let first : leb a (a + length n) ≡ true = grind (arith, nat_tests) in
@@ -41,16 +43,23 @@ part-here path n more a e some =
     let size : a + length n - a ≡ length n = omega arith in
     rw (first, last, size, e) (take_at n more (length n) refl)
 
-module _ (pattern text path : List ℕ) (name : ℕ × ℕ) (names : List (ℕ × ℕ)) (token at : ℕ) (w rest n : List ℕ) (bytes : IsText w)
+module _ (pattern text path : List ℕ) (name : ℕ × ℕ) (names : List (ℕ × ℕ)) (token at : ℕ) (w rest n : List ℕ)
+    (bytes : IsText w)
     (here : drop token pattern ≡ w ++ param_token ∷ rest) where
   -- a part that a slash follows
   takes-next : (more : List ℕ) → drop at path ≡ w ++ (n ++ 47 ∷ more) → has_slash n ≡ false
-      → (ltb (token + length w) (length pattern) && (get_or pattern (token + length w) 0 == param_token) && ltb (token + length w + 1) (length pattern)) ≡ true
+      → (ltb (token + length w) (length pattern) && (get_or pattern (token + length w) 0 == param_token) && ltb
+      (token + length w + 1) (length pattern)) ≡ true
       → length (segment (drop (token + length w + 1) pattern)) ≡ 1
-      → walk pattern text path (name ∷ names) token at ≡ (part_of text name.0 name.1, n) ∷ walk pattern text path names (after_token (token + length w)) (at + length w + length n)
+      → walk pattern text path (name ∷ names) token at ≡ (part_of text name.0 name.1, n) ∷
+      walk pattern text path names (after_token (token + length w)) (at + length w + length n)
   takes-next more e h tests suffix =
       let there : length path - at ≡ length (w ++ (n ++ 47 ∷ more)) = sym (length-drop at path) ∙ ap length e in
-      let fits : at + length w ≤ length path = omega (arith, length-append w (n ++ 47 ∷ more), length-append n (47 ∷ more)) in
+      let fits : at + length w ≤ length path = omega (
+        arith,
+        length-append w (n ++ 47 ∷ more),
+        length-append n (47 ∷ more),
+      ) in
       let begins : drop (at + length w) path ≡ n ++ 47 ∷ more =
       sym (drop-drop (length w) at path) ∙ ap (drop (length w)) e ∙ drop_at w (n ++ 47 ∷ more) (length w) refl in
       let from : wild_from (drop token pattern) (length path) token at ≡ (token + length w, at + length w) =
@@ -62,12 +71,14 @@ module _ (pattern text path : List ℕ) (name : ℕ × ℕ) (names : List (ℕ �
       rw (tests, long, suffix) size in
       let part : part_of path (at + length w) (at + length w + length n) ≡ n =
       part-here path n (47 ∷ more) (at + length w) begins (omega (arith, length-append n (47 ∷ more))) in
-      walk-at pattern text path name names token at (token + length w) (at + length w) (at + length w + length n) from stop
+      walk-at pattern text path name names token at (token + length w) (at + length w) (at + length w + length n) from
+      stop
       ∙ rw part refl
 
   -- a part that ends the path
   takes-last : drop at path ≡ w ++ n → 0 < length w
-      → (ltb (token + length w) (length pattern) && (get_or pattern (token + length w) 0 == param_token) && ltb (token + length w + 1) (length pattern)) ≡ false
+      → (ltb (token + length w) (length pattern) && (get_or pattern (token + length w) 0 == param_token) && ltb
+      (token + length w + 1) (length pattern)) ≡ false
       → walk pattern text path (name ∷ []) token at ≡ (part_of text name.0 name.1, n) ∷ []
   takes-last e some tests =
       let long : length path - at ≡ length (w ++ n) = sym (length-drop at path) ∙ ap length e in
@@ -79,10 +90,12 @@ module _ (pattern text path : List ℕ) (name : ℕ × ℕ) (names : List (ℕ �
       let stop : wild_stop pattern (token + length w) path (at + length w) ≡ length path = rw tests refl in
       let first : leb (at + length w) (length path) ≡ true = grind (arith, nat_tests) in
       let last : leb (length path) (length path) ≡ true = grind (arith, nat_tests) in
-      let there : length path - (at + length w) ≡ length n = sym (length-drop (at + length w) path) ∙ ap length begins in
+      let there : length path - (at + length w) ≡ length n = sym (length-drop (at + length w) path) ∙
+      ap length begins in
       let part : part_of path (at + length w) (length path) ≡ n =
       rw (first, last, begins) (take_all (length path - (at + length w)) n (omega arith)) in
-      walk-at pattern text path name [] token at (token + length w) (at + length w) (length path) from stop ∙ rw part refl
+      walk-at pattern text path name [] token at (token + length w) (at + length w) (length path) from stop ∙
+      rw part refl
 
 abbrev pub taken : RouteOf RouteId → List ℕ → Taken
 taken row path = walk row.pattern row.text path row.names 0 0
@@ -99,7 +112,8 @@ taken-point n =
     refl (omega arith) refl
 
 pub taken-grant : (n t a : List ℕ) → has_slash n ≡ false → has_slash t ≡ false
-    → taken grant_row (codes "/grant/" ++ (n ++ 47 ∷ (t ++ 47 ∷ a))) ≡ (codes "name", n) ∷ (codes "term", t) ∷ (codes "amount", a) ∷ []
+    → taken grant_row (codes "/grant/" ++ (n ++ 47 ∷ (t ++ 47 ∷ a))) ≡ (codes "name", n) ∷ (codes "term", t) ∷
+    (codes "amount", a) ∷ []
 unfolding grant_row
 taken-grant n t a hn ht =
     let path = codes "/grant/" ++ (n ++ 47 ∷ (t ++ 47 ∷ a)) in
@@ -115,32 +129,38 @@ taken-grant n t a hn ht =
     takes-next row.pattern row.text path (15, 19) ((22, 28) ∷ []) 8 (7 + length n) (codes "/") (drop 10 row.pattern) t
     (omega arith, tt) refl a after-n ht refl refl in
     let amount =
-    takes-last row.pattern row.text path (22, 28) [] 10 (7 + length n + 1 + length t) (codes "/") [] a (omega arith, tt) refl
+    takes-last row.pattern row.text path (22, 28) [] 10 (7 + length n + 1 + length t) (codes "/") [] a (omega arith, tt)
+    refl
     after-t (omega arith) refl in
     name ∙ ap (λ (z : Taken). (codes "name", n) ∷ z) (term ∙ ap (λ (z : Taken). (codes "term", t) ∷ z) amount)
 
 pub taken-shift : (n t o a : List ℕ) → has_slash n ≡ false → has_slash t ≡ false → has_slash o ≡ false
-    → taken shift_row (codes "/shift/" ++ (n ++ 47 ∷ (t ++ 47 ∷ (o ++ 47 ∷ a)))) ≡ (codes "name", n) ∷ (codes "term", t) ∷ (codes "to", o) ∷ (codes "amount", a) ∷ []
+    → taken shift_row (codes "/shift/" ++ (n ++ 47 ∷ (t ++ 47 ∷ (o ++ 47 ∷ a)))) ≡ (codes "name", n) ∷
+    (codes "term", t) ∷ (codes "to", o) ∷ (codes "amount", a) ∷ []
 unfolding shift_row
 taken-shift n t o a hn ht ho =
     let path = codes "/shift/" ++ (n ++ 47 ∷ (t ++ 47 ∷ (o ++ 47 ∷ a))) in
     let row = shift_row in
     let at-t = 7 + length n + 1 in
     let at-o = at-t + length t + 1 in
-    let after-n : drop (7 + length n) path ≡ 47 ∷ (t ++ 47 ∷ (o ++ 47 ∷ a)) = past path n (47 ∷ (t ++ 47 ∷ (o ++ 47 ∷ a))) 7 refl in
+    let after-n : drop (7 + length n) path ≡ 47 ∷ (t ++ 47 ∷ (o ++ 47 ∷ a)) =
+    past path n (47 ∷ (t ++ 47 ∷ (o ++ 47 ∷ a))) 7 refl in
     let after-t : drop (at-t + length t) path ≡ 47 ∷ (o ++ 47 ∷ a) =
     past path t (47 ∷ (o ++ 47 ∷ a)) at-t (past path (47 ∷ []) (t ++ 47 ∷ (o ++ 47 ∷ a)) (7 + length n) after-n) in
     let after-o : drop (at-o + length o) path ≡ 47 ∷ a =
     past path o (47 ∷ a) at-o (past path (47 ∷ []) (o ++ 47 ∷ a) (at-t + length t) after-t) in
     let name =
-    takes-next row.pattern row.text path (8, 12) ((15, 19) ∷ (22, 24) ∷ (27, 33) ∷ []) 0 0 (codes "/shift/") (drop 8 row.pattern) n
+    takes-next row.pattern row.text path (8, 12) ((15, 19) ∷ (22, 24) ∷ (27, 33) ∷ []) 0 0 (codes "/shift/")
+    (drop 8 row.pattern) n
     (omega arith, (omega arith, (omega arith, (omega arith, (omega arith, (omega arith, (omega arith, tt))))))) refl
     (t ++ 47 ∷ (o ++ 47 ∷ a)) refl hn refl refl in
     let term =
-    takes-next row.pattern row.text path (15, 19) ((22, 24) ∷ (27, 33) ∷ []) 8 (7 + length n) (codes "/") (drop 10 row.pattern) t
+    takes-next row.pattern row.text path (15, 19) ((22, 24) ∷ (27, 33) ∷ []) 8 (7 + length n) (codes "/")
+    (drop 10 row.pattern) t
     (omega arith, tt) refl (o ++ 47 ∷ a) after-n ht refl refl in
     let to =
-    takes-next row.pattern row.text path (22, 24) ((27, 33) ∷ []) 10 (at-t + length t) (codes "/") (drop 12 row.pattern) o
+    takes-next row.pattern row.text path (22, 24) ((27, 33) ∷ []) 10 (at-t + length t) (codes "/") (drop 12 row.pattern)
+    o
     (omega arith, tt) refl a after-t ho refl refl in
     let amount =
     takes-last row.pattern row.text path (27, 33) [] 12 (at-o + length o) (codes "/") [] a (omega arith, tt) refl

@@ -24,6 +24,7 @@ done_by k new ask given (Err f) made refused kept told why =
     inl (inr (record { fault = f; refused = refused; kept = kept; told = why }))
 
 -- what holds of a call holds of what is wanted, where this is the call
-pub wanted_call : (ask : AskTold) (wanted : WantedValue) (P : WantedValue → Type 0) → IsWanted wanted (call ask) → P (call ask) → P wanted
+pub wanted_call : (ask : AskTold) (wanted : WantedValue) (P : WantedValue → Type 0) → IsWanted wanted (call ask) →
+    P (call ask) → P wanted
 wanted_call ask wanted P (inl is) holds = subst P is holds
 wanted_call ask wanted P (inr is) holds = absurd (let no : ⊥ = cc in no)

@@ -37,9 +37,11 @@ max_bounds x y a b = record {
   second = omega arith;
 }
 
-module _ {A B : Type 0} {admitted_a : A → Type 0} {order_a : A → A → Type 0} {admitted_b : B → Type 0} {order_b : B → B → Type 0} where
+module _ {A B : Type 0} {admitted_a : A → Type 0} {order_a : A → A → Type 0} {admitted_b : B → Type 0}
+    {order_b : B → B → Type 0} where
   -- a value above both first parts, and one above both second ones
-  pub pair_bounds : HaveBounds admitted_a order_a → HaveBounds admitted_b order_b → HaveBounds (AreBoth admitted_a admitted_b) (PairOrder order_a order_b)
+  pub pair_bounds : HaveBounds admitted_a order_a → HaveBounds admitted_b order_b →
+      HaveBounds (AreBoth admitted_a admitted_b) (PairOrder order_a order_b)
   pair_bounds bounds_a bounds_b x y h k =
       let a = bounds_a x.first y.first h.0 k.0 in
       let b = bounds_b x.second y.second h.1 k.1 in
@@ -52,7 +54,8 @@ module _ {A B : Type 0} {admitted_a : A → Type 0} {order_a : A → A → Type 
 
 module _ {K : Type 0} {cmp : K → K → Ordering} (total : IsTotalOrder cmp) where
   -- a key below another is below all above that one
-  all_above : (k l : K) (ks : List K) → cmp k l ≡ Less → AllByRecursion (λ y. cmp l y ≡ Less) ks → AllByRecursion (λ y. cmp k y ≡ Less) ks
+  all_above : (k l : K) (ks : List K) → cmp k l ≡ Less → AllByRecursion (λ y. cmp l y ≡ Less) ks →
+      AllByRecursion (λ y. cmp k y ≡ Less) ks
   all_above k l [] less h = tt
   all_above k l (y ∷ ks) less h = (total.trans k l y less h.0, all_above k l ks less h.1)
 
@@ -64,7 +67,8 @@ module _ {K J : Type 0} {cmp : K → K → Ordering} (total : IsTotalOrder cmp) 
   stored_at-insert_entry (e ∷ m) k v q = by_order (cmp k e.0) refl (stored_at-insert_entry m k v q)
     where
       same_test : cmp k e.0 ≡ Equal → is_at (cmp q) k ≡ is_at (cmp q) e.0
-      same_test tied = ap is_eq (total.antisymm q k ∙ ap ordering_reverse (total.congr k e.0 q tied) ∙ sym (total.antisymm q e.0))
+      same_test tied = ap is_eq (total.antisymm q k ∙ ap ordering_reverse (total.congr k e.0 q tied) ∙
+          sym (total.antisymm q e.0))
 
       over : (t : Bool) → cond t (Some v) (stored_at cmp m q) ≡ cond t (Some v) (cond t (Some e.1) (stored_at cmp m q))
       over true = refl
@@ -74,7 +78,8 @@ module _ {K J : Type 0} {cmp : K → K → Ordering} (total : IsTotalOrder cmp) 
           → cond s (Some e.1) (cond t (Some v) (stored_at cmp m q))
           ≡ cond t (Some v) (cond s (Some e.1) (stored_at cmp m q))
       past true true here there greater =
-          let c : Equal ≡ Greater = sym (is_eq-true (cmp q e.0) here) ∙ total.congr q k e.0 (is_eq-true (cmp q k) there) ∙ greater in
+          let c : Equal ≡ Greater = sym (is_eq-true (cmp q e.0) here) ∙
+          total.congr q k e.0 (is_eq-true (cmp q k) there) ∙ greater in
           cc
       past true false here there greater = refl
       past false t here there greater = refl
@@ -100,70 +105,87 @@ module _ {K J : Type 0} {cmp : K → K → Ordering} (total : IsTotalOrder cmp) 
       by_order Greater rest = (h.0, rest)
 
   -- and the keys still rise
-  sorted-insert_entry : (m : List (K × J)) (k : K) (v : J) → IsStrictlySortedBy cmp (keys_of m) → IsStrictlySortedBy cmp (keys_of (insert_entry cmp m k v))
+  sorted-insert_entry : (m : List (K × J)) (k : K) (v : J) → IsStrictlySortedBy cmp (keys_of m) →
+      IsStrictlySortedBy cmp (keys_of (insert_entry cmp m k v))
   unfolding IsStrictlySortedBy
   sorted-insert_entry [] k v h = (tt, tt)
   sorted-insert_entry (e ∷ m) k v h = by_order (cmp k e.0) refl (sorted-insert_entry m k v h.1)
     where
       by_order : (r : Ordering) → cmp k e.0 ≡ r → IsStrictlySortedBy cmp (keys_of (insert_entry cmp m k v))
-          → IsStrictlySortedBy cmp (keys_of (match_ordering r ((k, v) ∷ e ∷ m) ((e.0, v) ∷ m) (e ∷ insert_entry cmp m k v)))
+          → IsStrictlySortedBy cmp (keys_of (match_ordering r ((k, v) ∷ e ∷ m) ((e.0, v) ∷ m)
+          (e ∷ insert_entry cmp m k v)))
       by_order Less answer rest = ((answer, all_above total k e.0 (keys_of m) answer h.0), h)
       by_order Equal answer rest = h
-      by_order Greater answer rest = (keys-insert_entry (λ y. cmp e.0 y ≡ Less) m k v h.0 (total.antisymm e.0 k ∙ ap ordering_reverse answer), rest)
+      by_order Greater answer rest = (
+        keys-insert_entry (λ y. cmp e.0 y ≡ Less) m k v h.0
+            (total.antisymm e.0 k ∙ ap ordering_reverse answer),
+        rest,
+      )
 
-  module _ {admitted : J → Type 0} {order : J → J → Type 0} {bottom : J} (laws : IsJoinOrder admitted order bottom) where
-    -- a map without its first entry is one
-    rest_is_map : (e : K × J) (m : List (K × J)) → IsMap cmp admitted order bottom (e ∷ m) → IsMap cmp admitted order bottom m
-    rest_is_map e m h = record { ordered = sorted_tail cmp e.0 (keys_of m) h.ordered; stored = h.stored.1 }
+  module _ {admitted : J → Type 0} {order : J → J → Type 0} {bottom : J} (laws : IsJoinOrder admitted order bottom)
+    where
+      -- a map without its first entry is one
+      rest_is_map : (e : K × J) (m : List (K × J)) → IsMap cmp admitted order bottom (e ∷ m) →
+          IsMap cmp admitted order bottom m
+      rest_is_map e m h = record { ordered = sorted_tail cmp e.0 (keys_of m) h.ordered; stored = h.stored.1 }
 
-    -- a map above x and all but the first entry, with a value at that key above its own and the entry's
-    with_entry : (x rest : List (K × J)) (k : K) (v : J) → IsMap cmp admitted order bottom x
-        → IsMap cmp admitted order bottom ((k, v) ∷ rest)
-        → (b : Bound (IsMap cmp admitted order bottom) (MapOrder cmp order bottom) x rest)
-        → Bound admitted order (value_at cmp bottom b.above k) v
-        → Bound (IsMap cmp admitted order bottom) (MapOrder cmp order bottom) x ((k, v) ∷ rest)
-    with_entry x rest k v h e b w = record {
-      above = new;
-      is_admitted =
-          inserted_is_map cmp admitted order bottom laws m new k w.above b.is_admitted refl
-          (sorted-insert_entry m k w.above b.is_admitted.ordered)
-          (w.is_admitted, λ below. e.stored.0.1 (laws.transitive v w.above bottom e.stored.0.0 w.is_admitted laws.bottom_admitted w.second below));
-      first = λ q. rw (stored_at-insert_entry m k w.above q) (first_at q (is_at (cmp q) k) refl);
-      second = λ q. rw (stored_at-insert_entry m k w.above q) (second_at q (is_at (cmp q) k));
-    }
-      where
-        m : List (K × J)
-        m = b.above
+      -- a map above x and all but the first entry, with a value at that key above its own and the entry's
+      with_entry : (x rest : List (K × J)) (k : K) (v : J) → IsMap cmp admitted order bottom x
+          → IsMap cmp admitted order bottom ((k, v) ∷ rest)
+          → (b : Bound (IsMap cmp admitted order bottom) (MapOrder cmp order bottom) x rest)
+          → Bound admitted order (value_at cmp bottom b.above k) v
+          → Bound (IsMap cmp admitted order bottom) (MapOrder cmp order bottom) x ((k, v) ∷ rest)
+      with_entry x rest k v h e b w = record {
+        above = new;
+        is_admitted =
+            inserted_is_map cmp admitted order bottom laws m new k w.above b.is_admitted refl
+            (sorted-insert_entry m k w.above b.is_admitted.ordered) (
+              w.is_admitted,
+              λ below. e.stored.0.1 (laws.transitive v w.above bottom e.stored.0.0 w.is_admitted
+                  laws.bottom_admitted w.second below),
+            );
+        first = λ q. rw (stored_at-insert_entry m k w.above q) (first_at q (is_at (cmp q) k) refl);
+        second = λ q. rw (stored_at-insert_entry m k w.above q) (second_at q (is_at (cmp q) k));
+      }
+        where
+          m : List (K × J)
+          m = b.above
 
-        new : List (K × J)
-        new = insert_entry cmp m k w.above
+          new : List (K × J)
+          new = insert_entry cmp m k w.above
 
-        value_in : (q : K) → admitted (value_at cmp bottom m q)
-        value_in q = admitted_at cmp admitted order bottom laws m b.is_admitted q
+          value_in : (q : K) → admitted (value_at cmp bottom m q)
+          value_in q = admitted_at cmp admitted order bottom laws m b.is_admitted q
 
-        first_at : (q : K) (t : Bool) → is_at (cmp q) k ≡ t → order (value_at cmp bottom x q) (unwrap_or (cond t (Some w.above) (stored_at cmp m q)) bottom)
-        first_at q true at =
-            let same : value_at cmp bottom m q ≡ value_at cmp bottom m k =
-            ap (λ (o : Option J). unwrap_or o bottom) (stored_at_equal total m q k (is_eq-true (cmp q k) at)) in
-            let below : order (value_at cmp bottom m q) w.above = subst (λ (u : J). order u w.above) (sym same) w.first in
-            laws.transitive (value_at cmp bottom x q) (value_at cmp bottom m q) w.above
-            (admitted_at cmp admitted order bottom laws x h q) (value_in q) w.is_admitted (b.first q) below
-        first_at q false at = b.first q
+          first_at : (q : K) (t : Bool) → is_at (cmp q) k ≡ t →
+              order (value_at cmp bottom x q) (unwrap_or (cond t (Some w.above) (stored_at cmp m q)) bottom)
+          first_at q true at =
+              let same : value_at cmp bottom m q ≡ value_at cmp bottom m k =
+              ap (λ (o : Option J). unwrap_or o bottom) (stored_at_equal total m q k (is_eq-true (cmp q k) at)) in
+              let below : order (value_at cmp bottom m q) w.above =
+              subst (λ (u : J). order u w.above) (sym same) w.first in
+              laws.transitive (value_at cmp bottom x q) (value_at cmp bottom m q) w.above
+              (admitted_at cmp admitted order bottom laws x h q) (value_in q) w.is_admitted (b.first q) below
+          first_at q false at = b.first q
 
-        second_at : (q : K) (t : Bool)
-            → order (unwrap_or (cond t (Some v) (stored_at cmp rest q)) bottom) (unwrap_or (cond t (Some w.above) (stored_at cmp m q)) bottom)
-        second_at q true = w.second
-        second_at q false = b.second q
+          second_at : (q : K) (t : Bool)
+              → order (unwrap_or (cond t (Some v) (stored_at cmp rest q)) bottom)
+              (unwrap_or (cond t (Some w.above) (stored_at cmp m q)) bottom)
+          second_at q true = w.second
+          second_at q false = b.second q
 
-    -- so the entries of one map go into the other, each above what is there
-    pub map_bounds : HaveBounds admitted order → HaveBounds (IsMap cmp admitted order bottom) (MapOrder cmp order bottom)
-    map_bounds bounds x [] h k = record {
-      above = x;
-      is_admitted = h;
-      first = λ q. laws.reflexive (value_at cmp bottom x q) (admitted_at cmp admitted order bottom laws x h q);
-      second = λ q. laws.bottom_least (value_at cmp bottom x q) (admitted_at cmp admitted order bottom laws x h q);
-    }
-    map_bounds bounds x (e ∷ rest) h k =
-        let b = map_bounds bounds x rest h (rest_is_map e rest k) in
-        with_entry x rest e.0 e.1 h k b
-        (bounds (value_at cmp bottom b.above e.0) e.1 (admitted_at cmp admitted order bottom laws b.above b.is_admitted e.0) k.stored.0.0)
+      -- so the entries of one map go into the other, each above what is there
+      pub map_bounds : HaveBounds admitted order → HaveBounds (IsMap cmp admitted order bottom)
+          (MapOrder cmp order bottom)
+      map_bounds bounds x [] h k = record {
+        above = x;
+        is_admitted = h;
+        first = λ q. laws.reflexive (value_at cmp bottom x q) (admitted_at cmp admitted order bottom laws x h q);
+        second = λ q. laws.bottom_least (value_at cmp bottom x q) (admitted_at cmp admitted order bottom laws x h q);
+      }
+      map_bounds bounds x (e ∷ rest) h k =
+          let b = map_bounds bounds x rest h (rest_is_map e rest k) in
+          with_entry x rest e.0 e.1 h k b
+          (bounds (value_at cmp bottom b.above e.0) e.1 (admitted_at cmp admitted order bottom laws b.above
+          b.is_admitted
+          e.0) k.stored.0.0)

@@ -42,25 +42,30 @@ module _ {K X : Type 0} (P : X → Type 0) where
       by_order Greater rest = (h.0, rest)
 
   -- and of each value after one of which it holds is written
-  pub All-set_value : (test : K → Bool) (m : List (K × X)) (w : X) → AllByRecursion (λ e. P e.1) m → P w → AllByRecursion (λ e. P e.1) (set_value test m w)
+  pub All-set_value : (test : K → Bool) (m : List (K × X)) (w : X) → AllByRecursion (λ e. P e.1) m → P w →
+      AllByRecursion (λ e. P e.1) (set_value test m w)
   All-set_value test [] w h p = tt
   All-set_value test (e ∷ m) w h p = by_test (test e.0) (All-set_value test m w h.1 p)
     where
-      by_test : (t : Bool) → AllByRecursion (λ e. P e.1) (set_value test m w) → AllByRecursion (λ e. P e.1) (cond t ((e.0, w) ∷ m) (e ∷ set_value test m w))
+      by_test : (t : Bool) → AllByRecursion (λ e. P e.1) (set_value test m w) →
+          AllByRecursion (λ e. P e.1) (cond t ((e.0, w) ∷ m) (e ∷ set_value test m w))
       by_test true rest = (p, h.1)
       by_test false rest = (h.0, rest)
 
   -- and of each value after one is taken out
-  pub All-remove_entry : (test : K → Bool) (m : List (K × X)) → AllByRecursion (λ e. P e.1) m → AllByRecursion (λ e. P e.1) (remove_entry test m)
+  pub All-remove_entry : (test : K → Bool) (m : List (K × X)) → AllByRecursion (λ e. P e.1) m →
+      AllByRecursion (λ e. P e.1) (remove_entry test m)
   All-remove_entry test [] h = tt
   All-remove_entry test (e ∷ m) h = by_test (test e.0) (All-remove_entry test m h.1)
     where
-      by_test : (t : Bool) → AllByRecursion (λ e. P e.1) (remove_entry test m) → AllByRecursion (λ e. P e.1) (cond t m (e ∷ remove_entry test m))
+      by_test : (t : Bool) → AllByRecursion (λ e. P e.1) (remove_entry test m) →
+          AllByRecursion (λ e. P e.1) (cond t m (e ∷ remove_entry test m))
       by_test true rest = h.1
       by_test false rest = (h.0, rest)
 
 -- what was written to an entry goes with it
-pub remove_entry-set_value : {K X : Type 0} (test : K → Bool) (m : List (K × X)) (w : X) → remove_entry test (set_value test m w) ≡ remove_entry test m
+pub remove_entry-set_value : {K X : Type 0} (test : K → Bool) (m : List (K × X)) (w : X) →
+    remove_entry test (set_value test m w) ≡ remove_entry test m
 remove_entry-set_value test [] w = refl
 remove_entry-set_value {K} {X} test (e ∷ m) w = by_test (test e.0) refl (remove_entry-set_value test m w)
   where
@@ -72,7 +77,8 @@ remove_entry-set_value {K} {X} test (e ∷ m) w = by_test (test e.0) refl (remov
 -- a value that is written over itself changes nothing
 pub written_over_itself : {K X : Type 0} (test : K → Bool) (m n : List (K × X)) (held left : X)
     → Some held ≡ lookup test m → left ≡ held → n ≡ set_value test m left → n ≡ m
-written_over_itself test m n held left found same written = written ∙ set_value_same test m left (sym found ∙ ap (λ v. Some v) (sym same))
+written_over_itself test m n held left found same written = written ∙
+    set_value_same test m left (sym found ∙ ap (λ v. Some v) (sym same))
 
 module _ {K J : Type 0} (cmp : K → K → Ordering) (admitted : J → Type 0) (order : J → J → Type 0) (bottom : J) where
   -- a value that may be stored was written at the key
@@ -114,17 +120,23 @@ module _ {K J : Type 0} (cmp : K → K → Ordering) (admitted : J → Type 0) (
         rw g (All-remove_entry (MayBeStored cmp admitted order bottom) test m h.stored);
   }
 
-module _ {K J : Type 0} (cmp : K → K → Ordering) (admitted : J → Type 0) (order : J → J → Type 0) (bottom : J) (laws : IsJoinOrder admitted order bottom) where
+module _ {K J : Type 0} (cmp : K → K → Ordering) (admitted : J → Type 0) (order : J → J → Type 0) (bottom : J)
+    (laws : IsJoinOrder admitted order bottom) where
   -- a join of a value that may be stored may be stored
-  pub join_may_be_stored : (x y j : J) → IsJoin admitted order x y j → MayBeStored cmp admitted order bottom x → MayBeStored cmp admitted order bottom j
-  join_may_be_stored x y j join stored =
-      (join.admitted_join, λ below. stored.1 (laws.transitive x j bottom join.admitted_first join.admitted_join laws.bottom_admitted join.above_first below))
+  pub join_may_be_stored : (x y j : J) → IsJoin admitted order x y j → MayBeStored cmp admitted order bottom x →
+      MayBeStored cmp admitted order bottom j
+  join_may_be_stored x y j join stored = (
+    join.admitted_join,
+    λ below. stored.1 (laws.transitive x j bottom join.admitted_first join.admitted_join
+        laws.bottom_admitted join.above_first below),
+  )
 
   -- what is found in a map may be stored
   pub found_may_be_stored : (m : List (K × J)) (k : K) (v : J) → IsMap cmp admitted order bottom m
       → Some v ≡ stored_at cmp m k → MayBeStored cmp admitted order bottom v
   found_may_be_stored m k v h e =
-      let F : Option J → Type 0 = λ o. IfSome o (MayBeStored cmp admitted order bottom) in subst F (sym e) (All-found (MayBeStored cmp admitted order bottom) (is_at (cmp k)) m h.stored)
+      let F : Option J → Type 0 = λ o. IfSome o (MayBeStored cmp admitted order bottom) in
+      subst F (sym e) (All-found (MayBeStored cmp admitted order bottom) (is_at (cmp k)) m h.stored)
 
   -- a map stays one with an entry more
   pub inserted_is_map : (m n : List (K × J)) (k : K) (v : J) → IsMap cmp admitted order bottom m
@@ -137,7 +149,8 @@ module _ {K J : Type 0} (cmp : K → K → Ordering) (admitted : J → Type 0) (
 
 module _ {A J : Type 0} (P : J → Type 0) where
   -- what holds of a value that was found holds of the reference to it
-  pub IfSome-through : (shows : A → J) (r : Option A) (o : Option J) → option_map shows r ≡ o → IfSome o P → IfSome r (λ v. P (shows v))
+  pub IfSome-through : (shows : A → J) (r : Option A) (o : Option J) → option_map shows r ≡ o → IfSome o P →
+      IfSome r (λ v. P (shows v))
   IfSome-through shows None o e h = tt
   IfSome-through shows (Some v) o e h = let F : Option J → Type 0 = λ x. IfSome x P in subst F (sym e) h
 

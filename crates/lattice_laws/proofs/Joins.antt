@@ -2,7 +2,8 @@
 use Rattle.std.specs.Prelude.{Result, Ok, Err, IfOk}
 use Rattle.lattice_laws.specs.Order.{IsCopy, IsJoin, IsJoinOrder, Same}
 
-module _ {J : Type 0} {admitted : J → Type 0} {order : J → J → Type 0} {bottom : J} (laws : IsJoinOrder admitted order bottom) where
+module _ {J : Type 0} {admitted : J → Type 0} {order : J → J → Type 0} {bottom : J}
+    (laws : IsJoinOrder admitted order bottom) where
   -- the order is passed on
   through : {x y z : J} → admitted x → admitted y → admitted z → order x y → order y z → order x z
   through {x} {y} {z} a b c p q = laws.transitive x y z a b c p q
@@ -13,11 +14,13 @@ module _ {J : Type 0} {admitted : J → Type 0} {order : J → J → Type 0} {bo
       let la = outer.admitted_join in
       let ra = other.admitted_join in (
         outer.least right ra
-            (first_two.least right ra other.above_first (through last_two.admitted_first last_two.admitted_join ra last_two.above_first other.above_second))
+            (first_two.least right ra other.above_first (through last_two.admitted_first last_two.admitted_join ra
+            last_two.above_first other.above_second))
             (through last_two.admitted_second last_two.admitted_join ra last_two.above_second other.above_second),
         other.least left la
             (through first_two.admitted_first first_two.admitted_join la first_two.above_first outer.above_first)
-            (last_two.least left la (through first_two.admitted_second first_two.admitted_join la first_two.above_second outer.above_first) outer.above_second),
+            (last_two.least left la (through first_two.admitted_second first_two.admitted_join la first_two.above_second
+            outer.above_first) outer.above_second),
       )
 
   -- where x is below y, a copy of y joins them
@@ -43,20 +46,29 @@ module _ {J : Type 0} {admitted : J → Type 0} {order : J → J → Type 0} {bo
   }
 
   -- the same of copies that may have failed
-  pub may_join_second : {E : Type 0} (x y : J) (r : Result J E) → admitted x → order x y → IfOk r (IsCopy admitted order y) → IfOk r (IsJoin admitted order x y)
+  pub may_join_second : {E : Type 0} (x y : J) (r : Result J E) → admitted x → order x y →
+      IfOk r (IsCopy admitted order y) → IfOk r (IsJoin admitted order x y)
   may_join_second x y (Ok k) a p copy = copy_joins_second x y k a p copy
   may_join_second x y (Err e) a p copy = tt
 
-  pub may_join_first : {E : Type 0} (x y : J) (r : Result J E) → admitted y → order y x → IfOk r (IsCopy admitted order x) → IfOk r (IsJoin admitted order x y)
+  pub may_join_first : {E : Type 0} (x y : J) (r : Result J E) → admitted y → order y x →
+      IfOk r (IsCopy admitted order x) → IfOk r (IsJoin admitted order x y)
   may_join_first x y (Ok k) b p copy = copy_joins_first x y k b p copy
   may_join_first x y (Err e) b p copy = tt
 
   -- a value is a copy of itself
   pub copy_of_itself : (x : J) → admitted x → IsCopy admitted order x x
-  copy_of_itself x a = record { admitted_source = a; admitted_copy = a; above = laws.reflexive x a; below = laws.reflexive x a }
+  copy_of_itself x a = record {
+    admitted_source = a;
+    admitted_copy = a;
+    above = laws.reflexive x a;
+    below =
+        laws.reflexive x a;
+  }
 
   -- what joins a value with a copy joins it with the source
-  pub join_with_copy : (x y k j : J) → IsCopy admitted order y k → IsJoin admitted order x k j → IsJoin admitted order x y j
+  pub join_with_copy : (x y k j : J) → IsCopy admitted order y k → IsJoin admitted order x k j →
+      IsJoin admitted order x y j
   join_with_copy x y k j copy join = record {
     admitted_first = join.admitted_first;
     admitted_second = copy.admitted_source;
@@ -72,10 +84,12 @@ module _ {J : Type 0} {admitted : J → Type 0} {order : J → J → Type 0} {bo
     admitted_source = join.admitted_second;
     admitted_copy = join.admitted_join;
     above = join.above_second;
-    below = join.least x join.admitted_second (laws.bottom_least x join.admitted_second) (laws.reflexive x join.admitted_second);
+    below = join.least x join.admitted_second (laws.bottom_least x join.admitted_second)
+        (laws.reflexive x join.admitted_second);
   }
 
-  pub join_from_copy : (x k y j : J) → IsCopy admitted order x k → IsJoin admitted order k y j → IsJoin admitted order x y j
+  pub join_from_copy : (x k y j : J) → IsCopy admitted order x k → IsJoin admitted order k y j →
+      IsJoin admitted order x y j
   join_from_copy x k y j copy join = record {
     admitted_first = copy.admitted_source;
     admitted_second = join.admitted_second;
@@ -99,7 +113,8 @@ join_with_below laws x y j a below join = record {
 }
 
 -- the order of two values does not matter
-pub join_swapped : {J : Type 0} {admitted : J → Type 0} {order : J → J → Type 0} {x y j : J} → IsJoin admitted order x y j → IsJoin admitted order y x j
+pub join_swapped : {J : Type 0} {admitted : J → Type 0} {order : J → J → Type 0} {x y j : J} →
+    IsJoin admitted order x y j → IsJoin admitted order y x j
 join_swapped join = record {
   admitted_first = join.admitted_second;
   admitted_second = join.admitted_first;

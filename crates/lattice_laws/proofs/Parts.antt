@@ -23,19 +23,23 @@ use Rattle.lattice_laws.proofs.LexJoins.{lex_equal, lex_greater, lex_less}
 
 module _ {K J : Type 0} (cmp : K → K → Ordering) (test : K → Bool) where
   -- what holds of each key holds without an entry
-  keys-remove_entry : (P : K → Type 0) (m : List (K × J)) → AllByRecursion P (keys_of m) → AllByRecursion P (keys_of (remove_entry test m))
+  keys-remove_entry : (P : K → Type 0) (m : List (K × J)) → AllByRecursion P (keys_of m) →
+      AllByRecursion P (keys_of (remove_entry test m))
   keys-remove_entry P [] h = tt
   keys-remove_entry P (e ∷ m) h = by_test (test e.0) (keys-remove_entry P m h.1)
     where
-      by_test : (t : Bool) → AllByRecursion P (keys_of (remove_entry test m)) → AllByRecursion P (keys_of (cond t m (e ∷ remove_entry test m)))
+      by_test : (t : Bool) → AllByRecursion P (keys_of (remove_entry test m)) →
+          AllByRecursion P (keys_of (cond t m (e ∷ remove_entry test m)))
       by_test true rest = h.1
       by_test false rest = (h.0, rest)
 
   -- and the keys still rise
-  sorted-remove_entry : (m : List (K × J)) → IsStrictlySortedBy cmp (keys_of m) → IsStrictlySortedBy cmp (keys_of (remove_entry test m))
+  sorted-remove_entry : (m : List (K × J)) → IsStrictlySortedBy cmp (keys_of m) →
+      IsStrictlySortedBy cmp (keys_of (remove_entry test m))
   unfolding IsStrictlySortedBy
   sorted-remove_entry [] h = tt
-  sorted-remove_entry (e ∷ m) h = by_test (test e.0) (keys-remove_entry (λ y. cmp e.0 y ≡ Less) m h.0) (sorted-remove_entry m h.1)
+  sorted-remove_entry (e ∷ m) h = by_test (test e.0) (keys-remove_entry (λ y. cmp e.0 y ≡ Less) m h.0)
+      (sorted-remove_entry m h.1)
     where
       by_test : (t : Bool) → AllByRecursion (λ y. cmp e.0 y ≡ Less) (keys_of (remove_entry test m))
           → IsStrictlySortedBy cmp (keys_of (remove_entry test m))
@@ -61,7 +65,8 @@ module _ {K J : Type 0} {cmp : K → K → Ordering} (total : IsTotalOrder cmp) 
   without m k h =
       let found : (q : K) → stored_at cmp (remove_entry (is_at (cmp k)) m) q
       ≡ cond (is_at (cmp k) q) None (stored_at cmp m q) =
-      λ q. lookup-remove_entry (eq_by_cmp_equiv total) (is_at (cmp k)) (one_key k) q m (IsDistinct-from_sorted cmp (keys_of m) h.ordered) in
+      λ q. lookup-remove_entry (eq_by_cmp_equiv total) (is_at (cmp k)) (one_key k) q m
+      (IsDistinct-from_sorted cmp (keys_of m) h.ordered) in
       record {
         edit = remove_entry (is_at (cmp k)) m;
         is_map =
@@ -69,8 +74,10 @@ module _ {K J : Type 0} {cmp : K → K → Ordering} (total : IsTotalOrder cmp) 
               ordered = sorted-remove_entry cmp (is_at (cmp k)) m h.ordered;
               stored = All-remove_entry (MayBeStored cmp admitted order bottom) (is_at (cmp k)) m h.stored;
             };
-        this = ap (λ o. unwrap_or o bottom) (found k ∙ ap (λ (t : Bool). cond t None (stored_at cmp m k)) (ap is_eq (tied_itself total k)));
-        others = λ q apart. ap (λ o. unwrap_or o bottom) (found q ∙ ap (λ (t : Bool). cond t None (stored_at cmp m q)) apart);
+        this = ap (λ o. unwrap_or o bottom) (found k ∙ ap (λ (t : Bool). cond t None (stored_at cmp m k))
+            (ap is_eq (tied_itself total k)));
+        others = λ q apart. ap (λ o. unwrap_or o bottom) (found q ∙
+            ap (λ (t : Bool). cond t None (stored_at cmp m q)) apart);
       }
 
   -- an entry that is there may be written over
@@ -87,8 +94,10 @@ module _ {K J : Type 0} {cmp : K → K → Ordering} (total : IsTotalOrder cmp) 
               ordered = subst (IsStrictlySortedBy cmp) (sym (keys-set_value (is_at (cmp k)) m value)) h.ordered;
               stored = All-set_value (MayBeStored cmp admitted order bottom) (is_at (cmp k)) m value h.stored stored;
             };
-        this = ap (λ o. unwrap_or o bottom) (found k ∙ ap (λ (t : Bool). cond t (Some value) (stored_at cmp m k)) (ap is_eq (tied_itself total k)));
-        others = λ q apart. ap (λ o. unwrap_or o bottom) (found q ∙ ap (λ (t : Bool). cond t (Some value) (stored_at cmp m q)) apart);
+        this = ap (λ o. unwrap_or o bottom) (found k ∙ ap (λ (t : Bool). cond t (Some value) (stored_at cmp m k))
+            (ap is_eq (tied_itself total k)));
+        others = λ q apart. ap (λ o. unwrap_or o bottom) (found q ∙
+            ap (λ (t : Bool). cond t (Some value) (stored_at cmp m q)) apart);
       }
 
   -- what is below j everywhere is below an edit of it, where it is below the value that is put
@@ -112,7 +121,8 @@ module _ {K J : Type 0} {cmp : K → K → Ordering} (total : IsTotalOrder cmp) 
       → order (value_at cmp bottom j k) value
   below_value x y j k value e join first second =
       subst (λ (v : J). order (value_at cmp bottom j k) v) e.this
-      (join.least e.edit e.is_map (below_edit x j k value e join.above_first first) (below_edit y j k value e join.above_second second) k)
+      (join.least e.edit e.is_map (below_edit x j k value e join.above_first first)
+      (below_edit y j k value e join.above_second second) k)
 
   -- a join of maps is the join at each key, if it can be told whether a value is the bottom
   pub join_at : ((v : J) → admitted v → order v bottom ⊎ (order v bottom → ⊥)) → (x y j : List (K × J))
@@ -141,18 +151,23 @@ module _ {K J : Type 0} {cmp : K → K → Ordering} (total : IsTotalOrder cmp) 
     where
       by_entry : (u : J) → admitted u → order (value_at cmp bottom x k) u → order (value_at cmp bottom y k) u
           → (order u bottom → ⊥) → (o : Option J) → stored_at cmp j k ≡ o → order (value_at cmp bottom j k) u
-      by_entry u a l m high None found = subst (λ (o : Option J). order (unwrap_or o bottom) u) (sym found) (laws.bottom_least u a)
+      by_entry u a l m high None found = subst (λ (o : Option J). order (unwrap_or o bottom) u) (sym found)
+          (laws.bottom_least u a)
       by_entry u a l m high (Some v) found =
-          below_value x y j k u (written j k u join.admitted_join (subst (λ (o : Option J). IsSome o) (sym found) refl) (a, high)) join l m
+          below_value x y j k u (written j k u join.admitted_join (subst (λ (o : Option J). IsSome o) (sym found) refl)
+          (a, high)) join l m
 
   -- it can be told of a map too, for only the empty one is the bottom
-  pub is_empty : (m : List (K × J)) → IsMap cmp admitted order bottom m → MapOrder cmp order bottom m [] ⊎ (MapOrder cmp order bottom m [] → ⊥)
+  pub is_empty : (m : List (K × J)) → IsMap cmp admitted order bottom m →
+      MapOrder cmp order bottom m [] ⊎ (MapOrder cmp order bottom m [] → ⊥)
   is_empty [] h = inl (λ k. laws.reflexive bottom laws.bottom_admitted)
   is_empty (e ∷ m) h =
       inr
-      (λ below. h.stored.0.1 (subst (λ (t : Bool). order (unwrap_or (cond t (Some e.1) (stored_at cmp m e.0)) bottom) bottom) (ap is_eq (tied_itself total e.0)) (below e.0)))
+      (λ below. h.stored.0.1 (subst (λ (t : Bool). order (unwrap_or (cond t (Some e.1) (stored_at cmp m e.0)) bottom)
+      bottom) (ap is_eq (tied_itself total e.0)) (below e.0)))
 
-module _ {A B : Type 0} (admitted_a : A → Type 0) (order_a : A → A → Type 0) (admitted_b : B → Type 0) (order_b : B → B → Type 0) where
+module _ {A B : Type 0} (admitted_a : A → Type 0) (order_a : A → A → Type 0) (admitted_b : B → Type 0)
+    (order_b : B → B → Type 0) where
   -- a join of pairs is that of the first parts
   pub join_first : (x y j : PairOf A B) → IsJoin (AreBoth admitted_a admitted_b) (PairOrder order_a order_b) x y j
       → IsJoin admitted_a order_a x.first y.first j.first
@@ -162,7 +177,8 @@ module _ {A B : Type 0} (admitted_a : A → Type 0) (order_a : A → A → Type 
     admitted_join = join.admitted_join.0;
     above_first = join.above_first.0;
     above_second = join.above_second.0;
-    least = λ u a l m. (join.least (pair_of u j.second) (a, join.admitted_join.1) (l, join.above_first.1) (m, join.above_second.1)).0;
+    least = λ u a l m. (join.least (pair_of u j.second) (a, join.admitted_join.1) (l, join.above_first.1)
+        (m, join.above_second.1)).0;
   }
 
   -- and that of the second ones
@@ -174,16 +190,19 @@ module _ {A B : Type 0} (admitted_a : A → Type 0) (order_a : A → A → Type 
     admitted_join = join.admitted_join.1;
     above_first = join.above_first.1;
     above_second = join.above_second.1;
-    least = λ u a l m. (join.least (pair_of j.first u) (join.admitted_join.0, a) (join.above_first.0, l) (join.above_second.0, m)).1;
+    least = λ u a l m. (join.least (pair_of j.first u) (join.admitted_join.0, a) (join.above_first.0, l)
+        (join.above_second.0, m)).1;
   }
 
-module _ {S J : Type 0} {cmp : S → S → Ordering} (total : IsTotalOrder cmp) (admitted : J → Type 0) (order : J → J → Type 0) where
+module _ {S J : Type 0} {cmp : S → S → Ordering} (total : IsTotalOrder cmp) (admitted : J → Type 0)
+    (order : J → J → Type 0) where
   -- under equal keys a join is that of the values, if some value is above both: where none is, it
   -- may be under a greater key
   pub lex_join_equal : (p q r : S × J) → cmp p.0 q.0 ≡ Equal → (u : J) → admitted u → order p.1 u → order q.1 u
       → IsJoin (HoldsOnly admitted) (LexOrder cmp order) (Some p) (Some q) (Some r)
       → (cmp r.0 p.0 ≡ Equal) × IsJoin admitted order p.1 q.1 r.1
-  lex_join_equal p q r e u a l m join = by_answers (cmp p.0 r.0) refl join.above_first (not_less (cmp r.0 p.0) refl below_top)
+  lex_join_equal p q r e u a l m join = by_answers (cmp p.0 r.0) refl join.above_first
+      (not_less (cmp r.0 p.0) refl below_top)
     where
       second_below : (v : J) → order q.1 v → LexOrder cmp order (Some q) (Some (p.0, v))
       second_below v h = lex_equal cmp order q.0 p.0 q.1 v (tied_back total p.0 q.0 e) h
@@ -198,11 +217,14 @@ module _ {S J : Type 0} {cmp : S → S → Ordering} (total : IsTotalOrder cmp) 
       below_top = join_below u a l m
 
       not_less : (s : Ordering) → cmp r.0 p.0 ≡ s → ByKey s (order r.1 u) → cmp p.0 r.0 ≢ Less
-      not_less Less f h below = let c : Less ≡ ordering_reverse Less = sym below ∙ total.antisymm p.0 r.0 ∙ ap ordering_reverse f in cc
-      not_less Equal f h below = let c : Less ≡ ordering_reverse Equal = sym below ∙ total.antisymm p.0 r.0 ∙ ap ordering_reverse f in cc
+      not_less Less f h below = let c : Less ≡ ordering_reverse Less = sym below ∙ total.antisymm p.0 r.0 ∙
+          ap ordering_reverse f in cc
+      not_less Equal f h below = let c : Less ≡ ordering_reverse Equal = sym below ∙ total.antisymm p.0 r.0 ∙
+          ap ordering_reverse f in cc
       not_less Greater f h below = absurd h
 
-      by_answers : (s : Ordering) → cmp p.0 r.0 ≡ s → ByKey s (order p.1 r.1) → cmp p.0 r.0 ≢ Less → (cmp r.0 p.0 ≡ Equal) × IsJoin admitted order p.1 q.1 r.1
+      by_answers : (s : Ordering) → cmp p.0 r.0 ≡ s → ByKey s (order p.1 r.1) → cmp p.0 r.0 ≢ Less →
+          (cmp r.0 p.0 ≡ Equal) × IsJoin admitted order p.1 q.1 r.1
       by_answers Less f h apart = absurd (apart f)
       by_answers Greater f h apart = absurd h
       by_answers Equal f h apart =
@@ -227,11 +249,17 @@ module _ {S J : Type 0} {cmp : S → S → Ordering} (total : IsTotalOrder cmp) 
   pub lex_join_less : (p q r : S × J) → cmp p.0 q.0 ≡ Less
       → IsJoin (HoldsOnly admitted) (LexOrder cmp order) (Some p) (Some q) (Some r)
       → Same (LexOrder cmp order) (Some r) (Some q)
-  lex_join_less p q r e join =
-      (join.least (Some q) join.admitted_second (lex_less cmp order p.0 q.0 p.1 q.1 e) ((lex_order total laws).reflexive (Some q) join.admitted_second), join.above_second)
+  lex_join_less p q r e join = (
+    join.least (Some q) join.admitted_second (lex_less cmp order p.0 q.0 p.1 q.1 e)
+        ((lex_order total laws).reflexive (Some q) join.admitted_second),
+    join.above_second,
+  )
 
   pub lex_join_greater : (p q r : S × J) → cmp p.0 q.0 ≡ Greater
       → IsJoin (HoldsOnly admitted) (LexOrder cmp order) (Some p) (Some q) (Some r)
       → Same (LexOrder cmp order) (Some r) (Some p)
-  lex_join_greater p q r e join =
-      (join.least (Some p) join.admitted_first ((lex_order total laws).reflexive (Some p) join.admitted_first) (lex_greater total admitted order p.0 q.0 p.1 q.1 e), join.above_first)
+  lex_join_greater p q r e join = (
+    join.least (Some p) join.admitted_first ((lex_order total laws).reflexive (Some p) join.admitted_first)
+        (lex_greater total admitted order p.0 q.0 p.1 q.1 e),
+    join.above_first,
+  )

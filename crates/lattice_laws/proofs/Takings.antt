@@ -55,7 +55,8 @@ module _ {K J : Type 0} {cmp : K → K → Ordering} (total : IsTotalOrder cmp) 
 module _ {K J : Type 0} {cmp : K → K → Ordering} (total : IsTotalOrder cmp) (admitted : J → Type 0)
     (order : J → J → Type 0) (bottom : J) (laws : IsJoinOrder admitted order bottom) where
   -- a map joined with the empty one stays
-  pub joins-none : (x : List (K × J)) → IsMap cmp admitted order bottom x → IsMap cmp admitted order bottom [] → JoinsAll cmp admitted order bottom x [] x
+  pub joins-none : (x : List (K × J)) → IsMap cmp admitted order bottom x → IsMap cmp admitted order bottom [] →
+      JoinsAll cmp admitted order bottom x [] x
   joins-none x h e = record {
     first_is_map = h;
     second_is_map = e;
@@ -72,7 +73,9 @@ module _ {K J : Type 0} {cmp : K → K → Ordering} (total : IsTotalOrder cmp) 
       → RaisesOnly cmp admitted order bottom x new k v → JoinsAll cmp admitted order bottom x ((k, v) ∷ []) new
   joins-one x new k v h e n raises =
       raised-end total admitted order bottom laws x ((k, v) ∷ []) new h e n
-      (raised-step total admitted order bottom laws x ((k, v) ∷ []) x new [] k k v v (raised-init total admitted order bottom laws x ((k, v) ∷ []) h e) (tied_itself total k) (copy_of_itself laws v e.stored.0.0) raises)
+      (raised-step total admitted order bottom laws x ((k, v) ∷ []) x new [] k k v v
+      (raised-init total admitted order bottom laws x ((k, v) ∷ []) h e) (tied_itself total k)
+      (copy_of_itself laws v e.stored.0.0) raises)
 
   -- a joined value goes to its key when the others are in
   pub joins-beside : (x rest mid new : List (K × J)) (k : K) (held v j : J)
@@ -88,7 +91,8 @@ module _ {K J : Type 0} {cmp : K → K → Ordering} (total : IsTotalOrder cmp) 
   }
     where
       by_test : (q : K) (t : Bool) → is_at (cmp q) k ≡ t
-          → IsJoin admitted order (value_at cmp bottom x q) (unwrap_or (cond t (Some v) (stored_at cmp rest q)) bottom) (value_at cmp bottom new q)
+          → IsJoin admitted order (value_at cmp bottom x q) (unwrap_or (cond t (Some v) (stored_at cmp rest q)) bottom)
+          (value_at cmp bottom new q)
       by_test q true at =
           let tied : cmp q k ≡ Equal = is_eq-true (cmp q k) at in
           rw (stored_at_equal total x q k tied ∙ sym found, stored_at_equal total new q k tied ∙ here) join
@@ -107,13 +111,18 @@ module _ {K J : Type 0} {cmp : K → K → Ordering} (total : IsTotalOrder cmp) 
     where
       by_test : (q : K) (t : Bool) → is_at (cmp q) k ≡ t
           → IsJoin admitted order (value_at cmp bottom x q) (value_at cmp bottom rest q) (value_at cmp bottom new q)
-          → IsJoin admitted order (value_at cmp bottom x q) (unwrap_or (cond t (Some v) (stored_at cmp rest q)) bottom) (value_at cmp bottom new q)
+          → IsJoin admitted order (value_at cmp bottom x q) (unwrap_or (cond t (Some v) (stored_at cmp rest q)) bottom)
+          (value_at cmp bottom new q)
       by_test q true at joined =
-          let none : stored_at cmp rest q ≡ None = none_after total (k, v) rest q (IsDistinct-from_sorted cmp (keys_of ((k, v) ∷ rest)) e.ordered) at in
-          let joined' : IsJoin admitted order (value_at cmp bottom x q) bottom (value_at cmp bottom new q) = rw none at joined in
+          let none : stored_at cmp rest q ≡ None = none_after total (k, v) rest q
+          (IsDistinct-from_sorted cmp (keys_of ((k, v) ∷ rest)) e.ordered) at in
+          let joined' : IsJoin admitted order (value_at cmp bottom x q) bottom (value_at cmp bottom new q) =
+          rw none at joined in
           let held_here : value_at cmp bottom x q ≡ held =
-          ap (λ (o : Option J). unwrap_or o bottom) (stored_at_equal total x q k (is_eq-true (cmp q k) at) ∙ sym found) in
-          join_with_below laws (value_at cmp bottom x q) v (value_at cmp bottom new q) e.stored.0.0 (rw held_here below) joined'
+          ap (λ (o : Option J). unwrap_or o bottom) (stored_at_equal total x q k (is_eq-true (cmp q k) at) ∙
+          sym found) in
+          join_with_below laws (value_at cmp bottom x q) v (value_at cmp bottom new q) e.stored.0.0 (rw held_here below)
+          joined'
       by_test q false at joined = joined
 
   -- the others go in after a new key
@@ -130,18 +139,22 @@ module _ {K J : Type 0} {cmp : K → K → Ordering} (total : IsTotalOrder cmp) 
     where
       by_test : (q : K) (t : Bool) → is_at (cmp q) k ≡ t
           → IsJoin admitted order (value_at cmp bottom mid q) (value_at cmp bottom rest q) (value_at cmp bottom new q)
-          → IsJoin admitted order (value_at cmp bottom x q) (unwrap_or (cond t (Some v) (stored_at cmp rest q)) bottom) (value_at cmp bottom new q)
+          → IsJoin admitted order (value_at cmp bottom x q) (unwrap_or (cond t (Some v) (stored_at cmp rest q)) bottom)
+          (value_at cmp bottom new q)
       by_test q true at joined =
           let tied : cmp q k ≡ Equal = is_eq-true (cmp q k) at in
-          let none : stored_at cmp rest q ≡ None = none_after total (k, v) rest q (IsDistinct-from_sorted cmp (keys_of ((k, v) ∷ rest)) e.ordered) at in
-          let joined' : IsJoin admitted order v bottom (value_at cmp bottom new q) = rw (stored_at_equal total mid q k tied ∙ here, none) at joined in
+          let none : stored_at cmp rest q ≡ None = none_after total (k, v) rest q
+          (IsDistinct-from_sorted cmp (keys_of ((k, v) ∷ rest)) e.ordered) at in
+          let joined' : IsJoin admitted order v bottom (value_at cmp bottom new q) =
+          rw (stored_at_equal total mid q k tied ∙ here, none) at joined in
           rw (stored_at_equal total x q k tied ∙ absent) (join_swapped joined')
       by_test q false at joined = rw (sym (others q (apart total k q at))) joined
 
   -- a value that is there stays one
   pub still-stored : (x rest mid : List (K × J)) (k : K) (held : J) → MayBeStored cmp admitted order bottom held
       → Some held ≡ stored_at cmp x k → JoinsAll cmp admitted order bottom x rest mid → IsSome (stored_at cmp mid k)
-  still-stored x rest mid k held stored found after = by_cases (stored_at cmp mid k) (rw (sym found) at (after.at_each_key k).above_first)
+  still-stored x rest mid k held stored found after = by_cases (stored_at cmp mid k)
+      (rw (sym found) at (after.at_each_key k).above_first)
     where
       by_cases : (o : Option J) → order held (unwrap_or o bottom) → IsSome o
       by_cases None below = absurd (stored.1 below)

@@ -35,7 +35,8 @@ before (Set name key) l = record {
   execs = [];
   shifts = [];
   grants = [];
-  entries = record { name = name; key = key; hits = l.hits; execs = l.execs; shifts = l.shifts; grants = l.grants } ∷ l.entries;
+  entries = record { name = name; key = key; hits = l.hits; execs = l.execs; shifts = l.shifts; grants = l.grants } ∷
+      l.entries;
 }
 before (Count cell number) l = before_cell cell number l
 
@@ -52,43 +53,86 @@ others : (from to : ℕ) → to ≢ from → (to == from) ≡ false
 others from to apart = ne_eqb to from apart
 
 module _ (name : List ℕ) (key : KeyValue) (rest : List Operation) (es : List EntryValue) where
-  with_grants : entries_in rest ≡ record { hits = []; execs = []; shifts = []; grants = []; entries = es } → (cells : List (ℕ × ℕ × ℕ))
-      → entries_in (grants_in name key cells ++ rest) ≡ record { hits = []; execs = []; shifts = []; grants = cells; entries = es }
+  with_grants : entries_in rest ≡ record { hits = []; execs = []; shifts = []; grants = []; entries = es } →
+      (cells : List (ℕ × ℕ × ℕ))
+      → entries_in (grants_in name key cells ++ rest) ≡ record
+      { hits = []; execs = []; shifts = []; grants = cells; entries = es }
   with_grants h [] = h
   with_grants h (c ∷ cells) =
       ap (before (Count (Shifts name key c.0 c.1 c.1) c.2)) (with_grants h cells)
-      ∙ ap (λ t. before_shift t c.0 c.1 c.1 c.2 (record { hits = []; execs = []; shifts = []; grants = cells; entries = es })) (own c.1)
+      ∙ ap (λ t. before_shift t c.0 c.1 c.1 c.2 (record {
+        hits = [];
+        execs = [];
+        shifts = [];
+        grants = cells;
+        entries =
+            es;
+      })) (own c.1)
 
-  with_shifts : (grants : List (ℕ × ℕ × ℕ)) → entries_in rest ≡ record { hits = []; execs = []; shifts = []; grants = grants; entries = es } → (cells : List (ℕ × ℕ × ℕ × ℕ)) → AllByRecursion (λ c. c.2 ≢ c.1) cells
-      → entries_in (shifts_in name key cells ++ rest) ≡ record { hits = []; execs = []; shifts = cells; grants = grants; entries = es }
+  with_shifts : (grants : List (ℕ × ℕ × ℕ)) → entries_in rest ≡ record
+      { hits = []; execs = []; shifts = []; grants = grants; entries = es } → (cells : List (ℕ × ℕ × ℕ × ℕ)) →
+      AllByRecursion (λ c. c.2 ≢ c.1) cells
+      → entries_in (shifts_in name key cells ++ rest) ≡ record
+      { hits = []; execs = []; shifts = cells; grants = grants; entries = es }
   with_shifts grants h [] apart = h
   with_shifts grants h (c ∷ cells) apart =
       ap (before (Count (Shifts name key c.0 c.1 c.2) c.3)) (with_shifts grants h cells apart.1)
-      ∙ ap (λ t. before_shift t c.0 c.1 c.2 c.3 (record { hits = []; execs = []; shifts = cells; grants = grants; entries = es })) (others c.1 c.2 apart.0)
+      ∙ ap (λ t. before_shift t c.0 c.1 c.2 c.3 (record {
+        hits = [];
+        execs = [];
+        shifts = cells;
+        grants = grants;
+        entries = es;
+      })) (others c.1 c.2 apart.0)
 
-  with_execs : (shifts : List (ℕ × ℕ × ℕ × ℕ)) (grants : List (ℕ × ℕ × ℕ)) → entries_in rest ≡ record { hits = []; execs = []; shifts = shifts; grants = grants; entries = es } → (cells : List (ℕ × ℕ × ℕ))
-      → entries_in (execs_in name key cells ++ rest) ≡ record { hits = []; execs = cells; shifts = shifts; grants = grants; entries = es }
+  with_execs : (shifts : List (ℕ × ℕ × ℕ × ℕ)) (grants : List (ℕ × ℕ × ℕ)) →
+      entries_in rest ≡ record { hits = []; execs = []; shifts = shifts; grants = grants; entries = es } →
+      (cells : List (ℕ × ℕ × ℕ))
+      → entries_in (execs_in name key cells ++ rest) ≡ record
+      { hits = []; execs = cells; shifts = shifts; grants = grants; entries = es }
   with_execs shifts grants h [] = h
-  with_execs shifts grants h (c ∷ cells) = ap (before (Count (Execs name key c.0 c.1) c.2)) (with_execs shifts grants h cells)
+  with_execs shifts grants h (c ∷ cells) = ap (before (Count (Execs name key c.0 c.1) c.2))
+      (with_execs shifts grants h cells)
 
-  with_hits : (execs : List (ℕ × ℕ × ℕ)) (shifts : List (ℕ × ℕ × ℕ × ℕ)) (grants : List (ℕ × ℕ × ℕ)) → entries_in rest ≡ record { hits = []; execs = execs; shifts = shifts; grants = grants; entries = es } → (cells : List (ℕ × ℕ))
-      → entries_in (hits_in name cells ++ rest) ≡ record { hits = cells; execs = execs; shifts = shifts; grants = grants; entries = es }
+  with_hits : (execs : List (ℕ × ℕ × ℕ)) (shifts : List (ℕ × ℕ × ℕ × ℕ)) (grants : List (ℕ × ℕ × ℕ)) →
+      entries_in rest ≡ record { hits = []; execs = execs; shifts = shifts; grants = grants; entries = es } →
+      (cells : List (ℕ × ℕ))
+      → entries_in (hits_in name cells ++ rest) ≡ record {
+        hits = cells;
+        execs = execs;
+        shifts = shifts;
+        grants =
+            grants;
+        entries = es;
+      }
   with_hits execs shifts grants h [] = h
-  with_hits execs shifts grants h (c ∷ cells) = ap (before (Count (Hits name c.0) c.1)) (with_hits execs shifts grants h cells)
+  with_hits execs shifts grants h (c ∷ cells) = ap (before (Count (Hits name c.0) c.1))
+      (with_hits execs shifts grants h cells)
 
-with_entry : (e : EntryValue) → AllByRecursion (λ c. c.2 ≢ c.1) e.shifts → (rest : List Operation) (es : List EntryValue) → entries_in rest ≡ record { hits = []; execs = []; shifts = []; grants = []; entries = es }
-    → entries_in (operations_of e ++ rest) ≡ record { hits = []; execs = []; shifts = []; grants = []; entries = e ∷ es }
+with_entry : (e : EntryValue) → AllByRecursion (λ c. c.2 ≢ c.1) e.shifts →
+    (rest : List Operation) (es : List EntryValue) → entries_in rest ≡ record
+    { hits = []; execs = []; shifts = []; grants = []; entries = es }
+    → entries_in (operations_of e ++ rest) ≡ record {
+      hits = [];
+      execs = [];
+      shifts = [];
+      grants = [];
+      entries = e ∷
+          es;
+    }
 with_entry e apart rest es h =
     let hits = hits_in e.name e.hits in
     let execs = execs_in e.name e.key e.execs in
     let shifts = shifts_in e.name e.key e.shifts in
     let grants = grants_in e.name e.key e.grants in
     let regrouped : (hits ++ (execs ++ (shifts ++ grants))) ++ rest ≡ hits ++ (execs ++ (shifts ++ (grants ++ rest))) =
-    append_assoc hits (execs ++ (shifts ++ grants)) rest ∙ ap (λ ops. hits ++ ops) (append_assoc execs (shifts ++ grants) rest ∙ ap (λ ops. execs ++ ops) (append_assoc shifts grants rest)) in
+    append_assoc hits (execs ++ (shifts ++ grants)) rest ∙ ap (λ ops. hits ++ ops)
+    (append_assoc execs (shifts ++ grants) rest ∙ ap (λ ops. execs ++ ops) (append_assoc shifts grants rest)) in
     let granted = with_grants e.name e.key rest es h e.grants in
     let moved = with_shifts e.name e.key (grants ++ rest) es e.grants granted e.shifts apart in
     let executed = with_execs e.name e.key (shifts ++ (grants ++ rest)) es e.shifts e.grants moved e.execs in
-    let cells = with_hits e.name e.key (execs ++ (shifts ++ (grants ++ rest))) es e.execs e.shifts e.grants executed e.hits in
+    let cells = with_hits e.name e.key (execs ++ (shifts ++ (grants ++ rest))) es e.execs e.shifts e.grants executed
+    e.hits in
     ap (λ ops. before (Set e.name e.key) (entries_in ops)) regrouped ∙ ap (before (Set e.name e.key)) cells
 
 -- ---- a message
@@ -96,12 +140,16 @@ with_entry e apart rest es h =
 abbrev MoveToOthers : List EntryValue → Type 0
 MoveToOthers es = AllByRecursion (λ e. AllByRecursion (λ c. c.2 ≢ c.1) e.shifts) es
 
-entries_again : (es : List EntryValue) → MoveToOthers es → entries_in (flat_map operations_of es) ≡ record { hits = []; execs = []; shifts = []; grants = []; entries = es }
+entries_again : (es : List EntryValue) → MoveToOthers es → entries_in (flat_map operations_of es) ≡ record
+    { hits = []; execs = []; shifts = []; grants = []; entries = es }
 entries_again [] apart = refl
-entries_again (e ∷ es) apart = ap entries_in (flat_map-cons operations_of e es) ∙ with_entry e apart.0 (flat_map operations_of es) es (entries_again es apart.1)
+entries_again (e ∷ es) apart = ap entries_in (flat_map-cons operations_of e es) ∙
+    with_entry e apart.0 (flat_map operations_of es) es (entries_again es apart.1)
 
-same_entries : (es fs : List EntryValue) → MoveToOthers es → MoveToOthers fs → flat_map operations_of es ≡ flat_map operations_of fs → es ≡ fs
-same_entries es fs a b h = ap (λ (l : Last). l.entries) (sym (entries_again es a) ∙ ap entries_in h ∙ entries_again fs b)
+same_entries : (es fs : List EntryValue) → MoveToOthers es → MoveToOthers fs →
+    flat_map operations_of es ≡ flat_map operations_of fs → es ≡ fs
+same_entries es fs a b h = ap (λ (l : Last). l.entries) (sym (entries_again es a) ∙ ap entries_in h ∙
+    entries_again fs b)
 
 pub same_message : (m n : MessageValue) → MovesToOthers m → MovesToOthers n → TellSame m n → m ≡ n
 same_message m n a b h = λ i. record {
@@ -114,7 +162,8 @@ same_message m n a b h = λ i. record {
 }
 
 -- shifts of a message that can be written go from one node to another
-shifts_move : (nodes : ℕ) (key : KeyValue) (cells : List (ℕ × ℕ × ℕ × ℕ)) → AllByRecursion (IsShift nodes key) cells → AllByRecursion (λ c. c.2 ≢ c.1) cells
+shifts_move : (nodes : ℕ) (key : KeyValue) (cells : List (ℕ × ℕ × ℕ × ℕ)) → AllByRecursion (IsShift nodes key) cells →
+    AllByRecursion (λ c. c.2 ≢ c.1) cells
 shifts_move nodes key [] h = tt
 shifts_move nodes key (c ∷ cells) h = (h.0.3, shifts_move nodes key cells h.1)
 
@@ -130,4 +179,5 @@ pub same_bytes : (nodes : ℕ) (a b : List ℕ) (m n : MessageValue) → nodes �
 same_bytes nodes a b m n few fits others d e h =
     let first = message_takes nodes a m few fits d in
     let second = message_takes nodes b n few others e in
-    first.1 ∙ ap message_bytes (same_message m n (message_moves nodes m first.0) (message_moves nodes n second.0) h) ∙ sym second.1
+    first.1 ∙ ap message_bytes (same_message m n (message_moves nodes m first.0) (message_moves nodes n second.0) h) ∙
+    sym second.1

@@ -51,7 +51,8 @@ a_set = record {
   grants = [];
 }
 
-one_name_bytes : message_bytes (record { from = 0; to = 1; base = 0; upto = 2; ack = 0; entries = a_set ∷ [] }) ≡ 0x46 ∷ 0x50 ∷ 0x47 ∷ 0x31 ∷ 0 ∷ 1
+one_name_bytes : message_bytes (record { from = 0; to = 1; base = 0; upto = 2; ack = 0; entries = a_set ∷ [] }) ≡ 0x46 ∷
+    0x50 ∷ 0x47 ∷ 0x31 ∷ 0 ∷ 1
     ∷ 0 ∷ 0 ∷ 0 ∷ 0 ∷ 0 ∷ 0 ∷ 0 ∷ 0
     ∷ 0 ∷ 0 ∷ 0 ∷ 0 ∷ 0 ∷ 0 ∷ 0 ∷ 2
     ∷ 0 ∷ 0 ∷ 0 ∷ 0 ∷ 0 ∷ 0 ∷ 0 ∷ 0
@@ -99,7 +100,8 @@ pub setting_has_spelling : (name text : List ℕ) → is_name name ≡ true → 
 unfolding IsStrictlySortedBy
 setting_has_spelling name text named short canonical =
     let few : length text ≤ 1024 = canonical.2.short in
-    let one : AreEntries 2 (setting name text ∷ []) = record { few = lit< tt; each = (setting_is_entry name text named canonical, tt); ascend = (tt, tt) } in (
+    let one : AreEntries 2 (setting name text ∷ []) = record
+    { few = lit< tt; each = (setting_is_entry name text named canonical, tt); ascend = (tt, tt) } in (
       2,
       (
         record {

@@ -18,14 +18,18 @@ last_of-push xs x =
     let long : length (xs ++ x ∷ []) ≡ length xs + 1 = length_push xs x in
     let i : length (xs ++ x ∷ []) - 1 ≡ length xs = omega (arith, long) in
     let lt : length xs < length (xs ++ x ∷ []) = omega (arith, long) in
-    ap (λ (k : ℕ). slice_get (xs ++ x ∷ []) k) i ∙ slice_get-get_or (xs ++ x ∷ []) (length xs) x lt ∙ ap Some (get_or_push xs x x (length xs) refl)
+    ap (λ (k : ℕ). slice_get (xs ++ x ∷ []) k) i ∙ slice_get-get_or (xs ++ x ∷ []) (length xs) x lt ∙
+    ap Some (get_or_push xs x x (length xs) refl)
 
 -- the last of what elements mean
-pub last_of-map : {A B : Type 0} (view : A → B) (xs : List A) (found : Option (Bor A)) → option_copied found ≡ slice_get xs (length xs - 1)
+pub last_of-map : {A B : Type 0} (view : A → B) (xs : List A) (found : Option (Bor A)) →
+    option_copied found ≡ slice_get xs (length xs - 1)
     → option_map (λ x. view x.now) found ≡ last_of (map view xs)
 last_of-map view xs found e =
-    let viewed : option_map (λ x. view x.now) found ≡ option_map view (slice_get xs (length xs - 1)) = through found ∙ ap (option_map view) e in
-    viewed ∙ sym (ap (λ (k : ℕ). slice_get (map view xs) (k - 1)) (length-map xs view) ∙ slice_get-map view xs (length xs - 1))
+    let viewed : option_map (λ x. view x.now) found ≡ option_map view (slice_get xs (length xs - 1)) = through found ∙
+    ap (option_map view) e in
+    viewed ∙ sym (ap (λ (k : ℕ). slice_get (map view xs) (k - 1)) (length-map xs view) ∙
+    slice_get-map view xs (length xs - 1))
   where
     through : (o : Option (Bor _)) → option_map (λ x. view x.now) o ≡ option_map view (option_copied o)
     through None = refl
@@ -46,22 +50,27 @@ module _ {C : Type 0} (one_at : Option C → List ℕ → Result (C × List ℕ)
   progress front count i left = with_front front (each_at one_at (count - i) (last_of front) left)
 
   pub begins : (count : ℕ) (left : List ℕ) → progress [] count 0 left ≡ each_at one_at count None left
-  begins count left = ap (λ (k : ℕ). with_front [] (each_at one_at k None left)) (omega arith) ∙ same (each_at one_at count None left)
+  begins count left = ap (λ (k : ℕ). with_front [] (each_at one_at k None left)) (omega arith) ∙
+      same (each_at one_at count None left)
     where
       same : (read : Result (List C × List ℕ) WireFault) → with_front [] read ≡ read
       same (Ok x) = refl
       same (Err f) = refl
 
-  pub goes_on : (front : List C) (count i : ℕ) (left : List ℕ) (x : C) (after : List ℕ) (total : Result (List C × List ℕ) WireFault) → i < count
-      → one_at (last_of front) left ≡ Ok (x, after) → progress front count i left ≡ total → progress (front ++ x ∷ []) count (i + 1) after ≡ total
+  pub goes_on : (front : List C) (count i : ℕ) (left : List ℕ) (x : C) (after : List ℕ)
+      (total : Result (List C × List ℕ) WireFault) → i < count
+      → one_at (last_of front) left ≡ Ok (x, after) → progress front count i left ≡ total →
+      progress (front ++ x ∷ []) count (i + 1) after ≡ total
   unfolding each_at
   goes_on front count i left x after total lt h so_far =
       let k : count - i ≡ suc (count - (i + 1)) = omega arith in
-      let one : progress front count i left ≡ with_front (front ++ x ∷ []) (each_at one_at (count - (i + 1)) (Some x) after) =
+      let one : progress front count i left ≡ with_front (front ++ x ∷ [])
+      (each_at one_at (count - (i + 1)) (Some x) after) =
       rw (k, h) (regroup front x (each_at one_at (count - (i + 1)) (Some x) after)) in
       rw (last_of-push front x) (sym one ∙ so_far)
 
-  stops : (f : WireFault) (front : List C) (count i : ℕ) (left : List ℕ) (total : Result (List C × List ℕ) WireFault) → i < count
+  stops : (f : WireFault) (front : List C) (count i : ℕ) (left : List ℕ) (total : Result (List C × List ℕ) WireFault) →
+      i < count
       → one_at (last_of front) left ≡ Err f → progress front count i left ≡ total → total ≡ Err f
   unfolding each_at
   stops f front count i left total lt h so_far =
@@ -69,14 +78,18 @@ module _ {C : Type 0} (one_at : Option C → List ℕ → Result (C × List ℕ)
       let one : progress front count i left ≡ Err f = rw (k, h) refl in
       sym so_far ∙ one
 
-  pub ends : (e : WireFault) (front : List C) (count i : ℕ) (left : List ℕ) (total : Result (List C × List ℕ) WireFault) → i < count
+  pub ends : (e : WireFault) (front : List C) (count i : ℕ) (left : List ℕ)
+      (total : Result (List C × List ℕ) WireFault) → i < count
       → Fails e (one_at (last_of front) left) → progress front count i left ≡ total → Fails e total
   ends e front count i left total lt h so_far =
-      fails_along is_out_of_memory e (one_at (last_of front) left) total (λ f refused. stops f front count i left total lt refused so_far) h
+      fails_along is_out_of_memory e (one_at (last_of front) left) total
+      (λ f refused. stops f front count i left total lt refused so_far) h
 
-  pub is_done : (front : List C) (count i : ℕ) (left : List ℕ) (total : Result (List C × List ℕ) WireFault) → count ≤ i → progress front count i left ≡ total → total ≡ Ok (front, left)
+  pub is_done : (front : List C) (count i : ℕ) (left : List ℕ) (total : Result (List C × List ℕ) WireFault) →
+      count ≤ i → progress front count i left ≡ total → total ≡ Ok (front, left)
   unfolding each_at
   is_done front count i left total le so_far =
       let k : count - i ≡ 0 = omega arith in
-      let one : progress front count i left ≡ Ok (front, left) = rw k (ap (λ (xs : List C). Ok (xs, left)) (append-nil front)) in
+      let one : progress front count i left ≡ Ok (front, left) =
+      rw k (ap (λ (xs : List C). Ok (xs, left)) (append-nil front)) in
       sym so_far ∙ one

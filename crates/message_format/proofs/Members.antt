@@ -41,13 +41,17 @@ module _ {A B : Type 0} (f : A → List B) where
 
   pub flat_in : (xs : List A) (x : A) (y : B) → IsIn x xs → IsIn y (f x) → IsIn y (flat_map f xs)
   flat_in [] x y h k = absurd h
-  flat_in (z ∷ xs) x y (inl e) k = subst (IsIn y) (sym (flat_map-cons f z xs)) (IsIn-append_left y (f z) (flat_map f xs) (subst (λ u. IsIn y (f u)) e k))
-  flat_in (z ∷ xs) x y (inr h) k = subst (IsIn y) (sym (flat_map-cons f z xs)) (IsIn-append_right y (f z) (flat_map f xs) (flat_in xs x y h k))
+  flat_in (z ∷ xs) x y (inl e) k = subst (IsIn y) (sym (flat_map-cons f z xs))
+      (IsIn-append_left y (f z) (flat_map f xs) (subst (λ u. IsIn y (f u)) e k))
+  flat_in (z ∷ xs) x y (inr h) k = subst (IsIn y) (sym (flat_map-cons f z xs))
+      (IsIn-append_right y (f z) (flat_map f xs) (flat_in xs x y h k))
 
   pub flat_none : (xs : List A) → ((x : A) → IsIn x xs → f x ≡ []) → flat_map f xs ≡ []
   flat_none [] h = refl
-  flat_none (x ∷ xs) h = flat_map-cons f x xs ∙ (λ i. h x (inl refl) i ++ flat_map f xs) ∙ flat_none xs (λ y k. h y (inr k))
+  flat_none (x ∷ xs) h = flat_map-cons f x xs ∙ (λ i. h x (inl refl) i ++ flat_map f xs) ∙
+      flat_none xs (λ y k. h y (inr k))
 
 pub flat_same : {A : Type 0} (f : A → List A) (xs : List A) → ((x : A) → IsIn x xs → f x ≡ x ∷ []) → flat_map f xs ≡ xs
 flat_same f [] h = refl
-flat_same f (x ∷ xs) h = flat_map-cons f x xs ∙ (λ i. h x (inl refl) i ++ flat_map f xs) ∙ ap (λ ys. x ∷ ys) (flat_same f xs (λ y k. h y (inr k)))
+flat_same f (x ∷ xs) h = flat_map-cons f x xs ∙ (λ i. h x (inl refl) i ++ flat_map f xs) ∙
+    ap (λ ys. x ∷ ys) (flat_same f xs (λ y k. h y (inr k)))

@@ -19,7 +19,8 @@ abbrev pub IsShort : EntryValue → Type 0
 IsShort e = (form : Form) → length (entry_bytes form e) ≤ 191924
 
 -- at most so many, where each has at most so many
-pub length_flat : {A B : Type 0} (f : A → List B) (k : ℕ) (xs : List A) → ((x : A) → IsIn x xs → length (f x) ≤ k) → length (flat_map f xs) ≤ length xs * k
+pub length_flat : {A B : Type 0} (f : A → List B) (k : ℕ) (xs : List A) → ((x : A) → IsIn x xs → length (f x) ≤ k) →
+    length (flat_map f xs) ≤ length xs * k
 length_flat f k [] h = omega arith
 length_flat f k (x ∷ xs) h =
     let one = h x (inl refl) in
@@ -49,7 +50,8 @@ grants_short WithGrants cells few =
     let all = length_flat exec_bytes 10 cells (λ c i. omega arith) in
     simp length-append (omega (arith, all, few))
 
-pub entry_short : (nodes : ℕ) (e : EntryValue) → IsEntry nodes e → length e.hits ≤ max_nodes → length e.execs ≤ 512 → length e.shifts ≤ 16384 → length e.grants ≤ 512 → IsShort e
+pub entry_short : (nodes : ℕ) (e : EntryValue) → IsEntry nodes e → length e.hits ≤ max_nodes → length e.execs ≤ 512 →
+    length e.shifts ≤ 16384 → length e.grants ≤ 512 → IsShort e
 entry_short nodes e h hits execs shifts grants form =
     let name = name_short e.name h.name in
     let body = body_short e.key.body h.key.body in

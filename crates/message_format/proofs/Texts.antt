@@ -21,11 +21,13 @@ name_byte_is_ascii b h = grind (arith, nat_tests)
 name_bytes_are_ascii : (bs : List ℕ) → list_all is_name_byte bs ≡ true → IsAscii bs
 name_bytes_are_ascii [] h i = omega arith
 name_bytes_are_ascii (b ∷ bs) h zero = name_byte_is_ascii b (and_parts (is_name_byte b) (list_all is_name_byte bs) h).0
-name_bytes_are_ascii (b ∷ bs) h (suc i) = name_bytes_are_ascii bs (and_parts (is_name_byte b) (list_all is_name_byte bs) h).1 i
+name_bytes_are_ascii (b ∷ bs) h (suc i) = name_bytes_are_ascii bs
+    (and_parts (is_name_byte b) (list_all is_name_byte bs) h).1 i
 
 pub name_is_utf8 : (bs : List ℕ) → is_name bs ≡ true → IsUtf8 bs
 name_is_utf8 bs h =
-    IsUtf8-from_ascii bs (name_bytes_are_ascii bs (and_parts (nat_lt 0 (length bs) && nat_le (length bs) max_name) (list_all is_name_byte bs) h).1)
+    IsUtf8-from_ascii bs (name_bytes_are_ascii bs (and_parts (nat_lt 0 (length bs) && nat_le (length bs) max_name)
+    (list_all is_name_byte bs) h).1)
 
 false_from : (b : Bool) → (b ≡ true → ⊥) → b ≡ false
 false_from true never = absurd (never refl)
@@ -37,7 +39,8 @@ not_name bs never = false_from (is_name bs) (λ h. never (name_is_utf8 bs h))
 pub not_utf8 : (bs : List ℕ) → (IsUtf8 bs → ⊥) → is_utf8 bs ≡ false
 not_utf8 bs never = false_from (is_utf8 bs) (λ h. never (IsUtf8-from_is_utf8 bs h))
 
-pub canonical_wanted : (at : ℕ) (bytes : List ℕ) (terms : List TermValue) → IsUtf8 bytes → reading bytes ≡ Ok terms → canonical terms ≡ bytes
+pub canonical_wanted : (at : ℕ) (bytes : List ℕ) (terms : List TermValue) → IsUtf8 bytes → reading bytes ≡ Ok terms →
+    canonical terms ≡ bytes
     → wants (is_canonical_text bytes) (faults.NotCanonical at) bytes ≡ Ok (canonical terms)
 unfolding is_canonical_text
 canonical_wanted at bytes terms utf8 e same =

@@ -29,5 +29,10 @@ module _ (e : EntryValue) where
   told_of op (inl h) = inl h
   told_of op (inr h) = inr (⊎_elim
       (λ l. inl (mapped_from hit_told e.hits op l))
-      (λ l. inr (⊎_elim (λ k. inl (mapped_from exec_told e.execs op k)) (λ k. inr (⊎_elim (λ j. inl (mapped_from shift_told e.shifts op j)) (λ j. inr (mapped_from grant_told e.grants op j)) (IsIn-append_cases op (map shift_told e.shifts) (map grant_told e.grants) k))) (IsIn-append_cases op (map exec_told e.execs) (map shift_told e.shifts ++ map grant_told e.grants) l)))
-      (IsIn-append_cases op (map hit_told e.hits) (map exec_told e.execs ++ (map shift_told e.shifts ++ map grant_told e.grants)) h))
+      (λ l. inr (⊎_elim (λ k. inl (mapped_from exec_told e.execs op k))
+      (λ k. inr (⊎_elim (λ j. inl (mapped_from shift_told e.shifts op j))
+      (λ j. inr (mapped_from grant_told e.grants op j)) (IsIn-append_cases op (map shift_told e.shifts)
+      (map grant_told e.grants) k))) (IsIn-append_cases op (map exec_told e.execs)
+      (map shift_told e.shifts ++ map grant_told e.grants) l)))
+      (IsIn-append_cases op (map hit_told e.hits) (map exec_told e.execs ++
+      (map shift_told e.shifts ++ map grant_told e.grants)) h))

@@ -6,11 +6,13 @@ use Rattle.operations.specs.Operations.{Operation, Count, Hits, Execs, Shifts, I
 use Rattle.message_format.specs.Messages.{EntryValue, operations_of}
 use Rattle.message_format.specs.Spelling.{IsHit, IsExec, IsShift, IsEntry}
 
-each_told : {C : Type 0} {Is : C → Type 0} (told : C → Operation) → ((c : C) → Is c → IsWellFormed (told c)) → (cs : List C) → AllByRecursion Is cs → AllByRecursion IsWellFormed (map told cs)
+each_told : {C : Type 0} {Is : C → Type 0} (told : C → Operation) → ((c : C) → Is c → IsWellFormed (told c)) →
+    (cs : List C) → AllByRecursion Is cs → AllByRecursion IsWellFormed (map told cs)
 each_told told one [] h = tt
 each_told told one (c ∷ cs) h = (one c h.0, each_told told one cs h.1)
 
-both : (xs ys : List Operation) → AllByRecursion IsWellFormed xs → AllByRecursion IsWellFormed ys → AllByRecursion IsWellFormed (xs ++ ys)
+both : (xs ys : List Operation) → AllByRecursion IsWellFormed xs → AllByRecursion IsWellFormed ys →
+    AllByRecursion IsWellFormed (xs ++ ys)
 both [] ys h k = k
 both (x ∷ xs) ys h k = (h.0, both xs ys h.1 k)
 
@@ -26,10 +28,13 @@ entry_told nodes e h =
     let grants = each_told {Is = IsExec nodes e.key} grant (λ c i. (omega (arith, i.2), i.0.0)) e.grants h.grants in (
       tt,
       both (map hit e.hits) (map exec e.execs ++ (map shift e.shifts ++ map grant e.grants)) hits
-          (both (map exec e.execs) (map shift e.shifts ++ map grant e.grants) execs (both (map shift e.shifts) (map grant e.grants) shifts grants)),
+          (both (map exec e.execs) (map shift e.shifts ++ map grant e.grants) execs
+          (both (map shift e.shifts) (map grant e.grants) shifts grants)),
     )
 
-pub entries_told : (nodes : ℕ) (es : List EntryValue) → AllByRecursion (IsEntry nodes) es → AllByRecursion IsWellFormed (flat_map operations_of es)
+pub entries_told : (nodes : ℕ) (es : List EntryValue) → AllByRecursion (IsEntry nodes) es →
+    AllByRecursion IsWellFormed (flat_map operations_of es)
 entries_told nodes [] h = tt
 entries_told nodes (e ∷ es) h =
-    subst (AllByRecursion IsWellFormed) (sym (flat_map-cons operations_of e es)) (both (operations_of e) (flat_map operations_of es) (entry_told nodes e h.0) (entries_told nodes es h.1))
+    subst (AllByRecursion IsWellFormed) (sym (flat_map-cons operations_of e es))
+    (both (operations_of e) (flat_map operations_of es) (entry_told nodes e h.0) (entries_told nodes es h.1))

@@ -5,7 +5,8 @@ use Rattle.stamp_register.specs.Keys.{KeyValue}
 use Rattle.message_format.specs.Messages.{EntryValue, MessageValue}
 use Rattle.message_format.specs.Spelling.{IsHit, IsExec, IsShift, IsEntry, IsMessage}
 
-each_widens : {C : Type 0} {P Q : C → Type 0} (widens : (c : C) → P c → Q c) (cs : List C) → AllByRecursion P cs → AllByRecursion Q cs
+each_widens : {C : Type 0} {P Q : C → Type 0} (widens : (c : C) → P c → Q c) (cs : List C) → AllByRecursion P cs →
+    AllByRecursion Q cs
 each_widens widens [] h = tt
 each_widens widens (c ∷ cs) h = (widens c h.0, each_widens widens cs h.1)
 
@@ -46,5 +47,10 @@ module _ (nodes more : ℕ) (le : nodes ≤ more) where
     base = h.base;
     upto = h.upto;
     ack = h.ack;
-    entries = record { few = h.entries.few; each = each_widens entry_widens m.entries h.entries.each; ascend = h.entries.ascend };
+    entries = record {
+      few = h.entries.few;
+      each = each_widens entry_widens m.entries h.entries.each;
+      ascend =
+          h.entries.ascend;
+    };
   }

@@ -9,7 +9,8 @@ use Rattle.node_calls.specs.Asks.{read_of}
 use Rattle.node_core.specs.Refusals.{bad_message, wire_refusal}
 
 -- the refusal is the fault that was read, or out of memory
-pub refused_so : (fault : WireFault) (read : Result MessageValue WireFault) → Fails fault read → (wire_refusal fault ≡ faults.OutOfMemory) ⊎ (bad_message (read_of read) ≡ Some (wire_refusal fault))
+pub refused_so : (fault : WireFault) (read : Result MessageValue WireFault) → Fails fault read →
+    (wire_refusal fault ≡ faults.OutOfMemory) ⊎ (bad_message (read_of read) ≡ Some (wire_refusal fault))
 refused_so wires.OutOfMemory read h = inl refl
 refused_so (wires.Magic offset) read h = inr (ap (λ r. bad_message (read_of r)) h)
 refused_so (wires.Short offset) read h = inr (ap (λ r. bad_message (read_of r)) h)

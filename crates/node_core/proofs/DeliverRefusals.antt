@@ -26,36 +26,44 @@ use Rattle.node_core.specs.Holds.{IsInStep}
 use Rattle.node_core.specs.Deliveries.{IsDelivery, is_overspent_below}
 use Rattle.node_core.proofs.Merged.{merged_names, overspends_told}
 
-module _ (config : Config) (entries : ℕ) (n : Node) (room : entries < config.trace_cap) (read : Result Message WireFault) where
+module _ (config : Config) (entries : ℕ) (n : Node) (room : entries < config.trace_cap)
+    (read : Result Message WireFault) where
   has_room : nat_le config.trace_cap entries ≡ false
   has_room = grind (arith, nat_tests, room)
 
-  pub no_message : (fault : NodeFault) → bad_message read ≡ Some fault → refusal_at config entries n (Deliver read) [] ≡ Some fault
+  pub no_message : (fault : NodeFault) → bad_message read ≡ Some fault →
+      refusal_at config entries n (Deliver read) [] ≡ Some fault
   no_message fault bad = rw (has_room, bad) refl
 
   module _ (m : Message) (is : read ≡ Ok m) where
-    pub not_for_me : (m.to == config.node) ≡ false → refusal_at config entries n (Deliver read) [] ≡ Some faults.NotForMe
+    pub not_for_me : (m.to == config.node) ≡ false → refusal_at config entries n (Deliver read) [] ≡ Some
+        faults.NotForMe
     not_for_me other = rw (has_room, is, other) refl
 
     module _ (mine : (m.to == config.node) ≡ true) where
-      pub own_ahead : list_any (is_ahead config.node (state_shown n)) m.ops ≡ true → refusal_at config entries n (Deliver read) [] ≡ Some faults.OwnAhead
+      pub own_ahead : list_any (is_ahead config.node (state_shown n)) m.ops ≡ true →
+          refusal_at config entries n (Deliver read) [] ≡ Some faults.OwnAhead
       own_ahead ahead = rw (has_room, is, mine, ahead) refl
 
       module _ (behind : list_any (is_ahead config.node (state_shown n)) m.ops ≡ false) where
-        pub ack_ahead : nat_lt n.marks.version m.ack ≡ true → refusal_at config entries n (Deliver read) [] ≡ Some faults.AckAhead
+        pub ack_ahead : nat_lt n.marks.version m.ack ≡ true →
+            refusal_at config entries n (Deliver read) [] ≡ Some faults.AckAhead
         ack_ahead high = rw (has_room, is, mine, behind, high) refl
 
         module _ (known : nat_lt n.marks.version m.ack ≡ false) where
-          pub overspent : list_any (overspends (fold (m.ops ++ n.ops))) m.ops ≡ true → refusal_at config entries n (Deliver read) [] ≡ Some faults.Overspent
+          pub overspent : list_any (overspends (fold (m.ops ++ n.ops))) m.ops ≡ true →
+              refusal_at config entries n (Deliver read) [] ≡ Some faults.Overspent
           overspent over = rw (has_room, is, mine, behind, known, over) refl
 
           module _ (within : list_any (overspends (fold (m.ops ++ n.ops))) m.ops ≡ false) where
-            pub too_many_points : 256 < length (fold (m.ops ++ n.ops)).names → refusal_at config entries n (Deliver read) [] ≡ Some faults.TooManyPoints
+            pub too_many_points : 256 < length (fold (m.ops ++ n.ops)).names →
+                refusal_at config entries n (Deliver read) [] ≡ Some faults.TooManyPoints
             too_many_points many =
                 let full : too_many (fold (m.ops ++ n.ops)).names ≡ true = grind (arith, nat_tests, many) in
                 rw (has_room, is, mine, behind, known, within, full) refl
 
-            pub not_refused : length (fold (m.ops ++ n.ops)).names ≤ 256 → refusal_at config entries n (Deliver read) [] ≡ None
+            pub not_refused : length (fold (m.ops ++ n.ops)).names ≤ 256 →
+                refusal_at config entries n (Deliver read) [] ≡ None
             not_refused few =
                 let fits : too_many (fold (m.ops ++ n.ops)).names ≡ false = grind (arith, nat_tests, few) in
                 rw (has_room, is, mine, behind, known, within, fits) refl
@@ -80,7 +88,8 @@ pub record FindsExecutions (k : Kept) (state received : State) (m : MessageValue
   pub is : over ≡ list_any (λ e. is_overspent_below k.config.nodes state received e.name) entries
 
 -- the same by what the node's code finds
-module _ {k : Kept} {clock version : ℕ} {state : State} {bytes : List ℕ} {m : MessageValue} (x : Checked k clock version state bytes m) {ahead : Bool} (own : FindsOwn k state m ahead) where
+module _ {k : Kept} {clock version : ℕ} {state : State} {bytes : List ℕ} {m : MessageValue}
+    (x : Checked k clock version state bytes m) {ahead : Bool} (own : FindsOwn k state m ahead) where
   abbrev n : Node
   n = node_of k
 
@@ -91,16 +100,19 @@ module _ {k : Kept} {clock version : ℕ} {state : State} {bytes : List ℕ} {m 
   ahead_of = own.is ∙ sym (ap (λ (v : State). list_any (is_ahead k.config.node v) (operations_in m)) x.step.0.state_is)
 
   pub refused_ahead : ahead ≡ true → refusal k (delivery_of k bytes) [] ≡ Some faults.OwnAhead
-  refused_ahead so = own_ahead k.config (length k.trace) n x.room (message_read k.config.nodes bytes) (message_of m) x.read mine_is (sym ahead_of ∙ so)
+  refused_ahead so = own_ahead k.config (length k.trace) n x.room (message_read k.config.nodes bytes) (message_of m)
+      x.read mine_is (sym ahead_of ∙ so)
 
   module _ (behind : ahead ≡ false) where
     pub refused_ack : version < m.ack → refusal k (delivery_of k bytes) [] ≡ Some faults.AckAhead
     refused_ack high =
         let at = x.step.1.version_is in
         let above : nat_lt n.marks.version m.ack ≡ true = grind (arith, nat_tests, at, high) in
-        ack_ahead k.config (length k.trace) n x.room (message_read k.config.nodes bytes) (message_of m) x.read mine_is (sym ahead_of ∙ behind) above
+        ack_ahead k.config (length k.trace) n x.room (message_read k.config.nodes bytes) (message_of m) x.read mine_is
+        (sym ahead_of ∙ behind) above
 
-    module _ (known : m.ack ≤ version) {received : State} {over : Bool} (executions : FindsExecutions k state received m over) where
+    module _ (known : m.ack ≤ version) {received : State} {over : Bool}
+        (executions : FindsExecutions k state received m over) where
       known_is : nat_lt n.marks.version m.ack ≡ false
       known_is = let at = x.step.1.version_is in grind (arith, nat_tests, at, known)
 
@@ -117,32 +129,40 @@ module _ {k : Kept} {clock version : ℕ} {state : State} {bytes : List ℕ} {m 
 
       over_of : over ≡ list_any (overspends (fold (operations_in m ++ n.ops))) (operations_in m)
       over_of =
-          executions.is ∙ overspends_told k.config.nodes few_nodes (operations_in m) n.ops state received (sym x.step.0.state_is) executions.brings x.step.1.lawful
+          executions.is ∙ overspends_told k.config.nodes few_nodes (operations_in m) n.ops state received
+          (sym x.step.0.state_is) executions.brings x.step.1.lawful
           (told_lawful k.config.nodes m x.spelled) executions.entries (ap (flat_map operations_of) (sym executions.are))
 
       pub refused_overspent : over ≡ true → refusal k (delivery_of k bytes) [] ≡ Some faults.Overspent
-      refused_overspent so = overspent k.config (length k.trace) n x.room (message_read k.config.nodes bytes) (message_of m) x.read mine_is (sym ahead_of ∙ behind) known_is (sym over_of ∙ so)
+      refused_overspent so = overspent k.config (length k.trace) n x.room (message_read k.config.nodes bytes)
+          (message_of m) x.read mine_is (sym ahead_of ∙ behind) known_is (sym over_of ∙ so)
 
-      module _ (within : over ≡ false) {names : ℕ} (names_are : names ≡ length (with_names received.names state.names)) where
-        names_of_both : names ≡ length (fold (operations_in m ++ n.ops)).names
-        names_of_both = names_are ∙ merged_names (operations_in m) n.ops state received (sym x.step.0.state_is) executions.brings
+      module _ (within : over ≡ false) {names : ℕ} (names_are : names ≡ length (with_names received.names state.names))
+        where
+          names_of_both : names ≡ length (fold (operations_in m ++ n.ops)).names
+          names_of_both = names_are ∙ merged_names (operations_in m) n.ops state received (sym x.step.0.state_is)
+              executions.brings
 
-        pub refused_many : 256 < names → refusal k (delivery_of k bytes) [] ≡ Some faults.TooManyPoints
-        refused_many many =
-            let same = names_of_both in
-            too_many_points k.config (length k.trace) n x.room (message_read k.config.nodes bytes) (message_of m) x.read mine_is (sym ahead_of ∙ behind) known_is (sym over_of ∙ within) (omega (arith, same, many))
+          pub refused_many : 256 < names → refusal k (delivery_of k bytes) [] ≡ Some faults.TooManyPoints
+          refused_many many =
+              let same = names_of_both in
+              too_many_points k.config (length k.trace) n x.room (message_read k.config.nodes bytes) (message_of m)
+              x.read
+              mine_is (sym ahead_of ∙ behind) known_is (sym over_of ∙ within) (omega (arith, same, many))
 
-        pub delivery_accepted : names ≤ 256 → refusal k (delivery_of k bytes) [] ≡ None
-        delivery_accepted few =
-            let same = names_of_both in
-            not_refused k.config (length k.trace) n x.room (message_read k.config.nodes bytes) (message_of m) x.read mine_is (sym ahead_of ∙ behind) known_is (sym over_of ∙ within) (omega (arith, same, few))
+          pub delivery_accepted : names ≤ 256 → refusal k (delivery_of k bytes) [] ≡ None
+          delivery_accepted few =
+              let same = names_of_both in
+              not_refused k.config (length k.trace) n x.room (message_read k.config.nodes bytes) (message_of m) x.read
+              mine_is (sym ahead_of ∙ behind) known_is (sym over_of ∙ within) (omega (arith, same, few))
 
-        pub delivery_is : names ≤ 256 → (later : ℕ) → later ≡ clock_of (operations_in m) → IsDelivery k.config n (message_read k.config.nodes bytes) later
-        delivery_is few later last =
-            subst (λ r. IsDelivery k.config n r later) (sym x.read)
-            (record {
-              clock_is = last;
-              lawful = told_lawful k.config.nodes m x.spelled;
-              behind = sym ahead_of ∙ behind;
-              few_names = (let same = names_of_both in omega (arith, same, few));
-            })
+          pub delivery_is : names ≤ 256 → (later : ℕ) → later ≡ clock_of (operations_in m) →
+              IsDelivery k.config n (message_read k.config.nodes bytes) later
+          delivery_is few later last =
+              subst (λ r. IsDelivery k.config n r later) (sym x.read)
+              (record {
+                clock_is = last;
+                lawful = told_lawful k.config.nodes m x.spelled;
+                behind = sym ahead_of ∙ behind;
+                few_names = (let same = names_of_both in omega (arith, same, few));
+              })

@@ -14,7 +14,9 @@ use Rattle.node_core.proofs.OwnRights.{HasOwn}
 use Rattle.node_core.proofs.OwnDelivered.{own_hits_kept, own_execs_kept, own_delivered}
 
 -- a message that is made changes nothing of the state
-pub holds_emit : (config : Config) (clock : ℕ) (state : State) (len : ℕ) (n : Node) (to : ℕ) (read : Result Message WireFault) → Holds config clock state len n → len < config.trace_cap → Holds config clock state (len + 1) (after config.node n (emit_of to read) [])
+pub holds_emit : (config : Config) (clock : ℕ) (state : State) (len : ℕ) (n : Node) (to : ℕ)
+    (read : Result Message WireFault) → Holds config clock state len n → len < config.trace_cap →
+    Holds config clock state (len + 1) (after config.node n (emit_of to read) [])
 unfolding after
 holds_emit config clock state len n to (Ok m) h room =
     record {
@@ -44,10 +46,12 @@ holds_emit config clock state len n to (Err fault) h room =
     }
 
 -- a delivery leaves what the node itself wrote
-pub holds_delivered : (config : Config) (clock : ℕ) (state next : State) (len : ℕ) (n : Node) (read : Result Message WireFault) (later : ℕ) → Holds config clock state len n → len < config.trace_cap →
-    IsDelivery config n read later → next ≡ fold ((message_in read).ops ++ n.ops) → Holds config (max clock later) next (len + 1) (after config.node n (Deliver read) [])
+pub holds_delivered : (config : Config) {clock : ℕ} {state next : State} {len : ℕ} (n : Node)
+    (read : Result Message WireFault) (later : ℕ) → Holds config clock state len n → len < config.trace_cap →
+    IsDelivery config n read later → next ≡ fold ((message_in read).ops ++ n.ops) →
+    Holds config (max clock later) next (len + 1) (after config.node n (Deliver read) [])
 unfolding after
-holds_delivered config clock state next len n read later h room d e =
+holds_delivered config {clock} {state} {next} {len} n read later h room d e =
     let same : fold n.ops ≡ state = h.state_is in
     let was : clock_of n.ops ≤ clock = h.carried in
     let at = h.clock_is in
@@ -71,5 +75,7 @@ holds_delivered config clock state next len n read later h room d e =
           let y = own_execs_kept config.node (message_in read).ops n.ops d.behind q k in
           let s = ap (λ (v : State). v.execs q k config.node) same in
           let z = h.execs_few q k in omega (arith, x, y, s, z);
-      own_rights = subst (λ (v : State). HasOwn v config.node) (sym e) (own_delivered config.node (message_in read).ops n.ops d.behind (subst (λ (v : State). HasOwn v config.node) (sym same) h.own_rights));
+      own_rights = subst (λ (v : State). HasOwn v config.node) (sym e)
+          (own_delivered config.node (message_in read).ops n.ops d.behind
+          (subst (λ (v : State). HasOwn v config.node) (sym same) h.own_rights));
     }

@@ -24,7 +24,8 @@ module _ (config : Config) (v : State) (name : List ℕ) (term amount : ℕ) whe
   not_set e = ap refusal_under e
 
   module _ (key : KeyValue) (terms : List TermValue) (set : setting_of v name ≡ Some (key, terms)) where
-    pub no_such_term : None ≡ slice_get terms term → first_fault (faults_of_grant config v name term amount) ≡ Some faults.NoSuchTerm
+    pub no_such_term : None ≡ slice_get terms term → first_fault (faults_of_grant config v name term amount) ≡ Some
+        faults.NoSuchTerm
     no_such_term none =
         let past = past_length terms term none in
         let is : nat_le (length terms) term ≡ true = grind (arith, nat_tests, past) in
@@ -34,7 +35,8 @@ module _ (config : Config) (v : State) (name : List ℕ) (term amount : ℕ) whe
       is_below : nat_le (length terms) term ≡ false
       is_below = let low = below_length terms term t here in grind (arith, nat_tests, low)
 
-      pub not_counted : t.count ≡ None → first_fault (faults_of_grant config v name term amount) ≡ Some faults.NotCounted
+      pub not_counted : t.count ≡ None → first_fault (faults_of_grant config v name term amount) ≡ Some
+          faults.NotCounted
       not_counted none =
           let count : count_at terms term ≡ None = ap count_in here ∙ none in
           ap refusal_under set ∙ rw (is_below, count) refl
@@ -43,7 +45,9 @@ module _ (config : Config) (v : State) (name : List ℕ) (term amount : ℕ) whe
         count_here : count_at terms term ≡ Some n
         count_here = ap count_in here ∙ counted
 
-        same : first_fault (faults_of_grant config v name term amount) ≡ first_fault (then_some (amount == 0) faults.ZeroAmount ∷ then_some (nat_lt most (granted_in v name term config.node + amount)) faults.CellFull ∷ [])
+        same : first_fault (faults_of_grant config v name term amount) ≡ first_fault
+            (then_some (amount == 0) faults.ZeroAmount ∷ then_some
+            (nat_lt most (granted_in v name term config.node + amount)) faults.CellFull ∷ [])
         same = ap refusal_under set ∙ rw (is_below, count_here) refl
 
         pub zero_amount : amount ≡ 0 → first_fault (faults_of_grant config v name term amount) ≡ Some faults.ZeroAmount
@@ -52,8 +56,10 @@ module _ (config : Config) (v : State) (name : List ℕ) (term amount : ℕ) whe
         some_amount : (m : ℕ) → 0 < m → (m == 0) ≡ false
         some_amount m low = grind (arith, nat_tests, low)
 
-        pub cell_full : 0 < amount → nat_lt most (granted_in v name term config.node + amount) ≡ true → first_fault (faults_of_grant config v name term amount) ≡ Some faults.CellFull
+        pub cell_full : 0 < amount → nat_lt most (granted_in v name term config.node + amount) ≡ true →
+            first_fault (faults_of_grant config v name term amount) ≡ Some faults.CellFull
         cell_full some full = same ∙ rw (some_amount amount some, full) refl
 
-        pub no_refusal : 0 < amount → nat_lt most (granted_in v name term config.node + amount) ≡ false → first_fault (faults_of_grant config v name term amount) ≡ None
+        pub no_refusal : 0 < amount → nat_lt most (granted_in v name term config.node + amount) ≡ false →
+            first_fault (faults_of_grant config v name term amount) ≡ None
         no_refusal some fits = same ∙ rw (some_amount amount some, fits) refl

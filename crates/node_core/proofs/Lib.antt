@@ -7,6 +7,7 @@ pub mod Listing
 pub mod ListedAgain
 pub mod SettingSteps
 pub mod ShiftSteps
+pub mod CallFacts
 pub mod Kept
 pub mod ShiftRefusals
 pub mod GrantRefusals

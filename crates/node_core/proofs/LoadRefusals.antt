@@ -28,13 +28,16 @@ names_of_settings [] = refl
 names_of_settings (point ∷ points) = ap (λ ns. point.0 ∷ ns) (names_of_settings points)
 
 -- what a node has found when a setting text is read and its names are known by themselves
-pub record Loads (k : Kept) (clock version : ℕ) (state : State) (named : List (List ℕ)) (text : List ℕ) (points : Points) : Type 0 where
+pub record Loads (k : Kept) (clock version : ℕ) (state : State) (named : List (List ℕ)) (text : List ℕ)
+    (points : Points) : Type 0 where
   pub step : IsInStep k clock version state
   pub room : HasRoom k
   pub read : setting_reading text ≡ Ok points
   pub named_is : named ≡ with_names (map (λ point. point.0) points) []
 
-module _ {k : Kept} {clock version : ℕ} {state : State} {named : List (List ℕ)} {text : List ℕ} {points : Points} (x : Loads k clock version state named text points) {together : ℕ} (counted : together ≡ length (with_names named state.names)) where
+module _ {k : Kept} {clock version : ℕ} {state : State} {named : List (List ℕ)} {text : List ℕ} {points : Points}
+    (x : Loads k clock version state named text points) {together : ℕ}
+    (counted : together ≡ length (with_names named state.names)) where
   abbrev n : Node
   n = node_of k
 
@@ -67,7 +70,8 @@ module _ {k : Kept} {clock version : ℕ} {state : State} {named : List (List �
 
   loaded_together : length (with_names (state_loaded k text).names (state_shown n).names) ≡ together
   loaded_together =
-      ap (λ r. length (with_names (state_set k.config.node (last_clock k) (settings_of (points_read r)) (fold [])).names (state_shown n).names)) x.read
+      ap (λ r. length (with_names (state_set k.config.node (last_clock k) (settings_of (points_read r)) (fold [])).names
+      (state_shown n).names)) x.read
       ∙ ap (λ ns. length (with_names ns (state_shown n).names)) (named_alone (last_clock k))
       ∙ with_known
 

@@ -9,7 +9,8 @@ use Rattle.message_format.proofs.EntriesAgain.{same_bytes}
 use Rattle.node_calls.specs.Asks.{Message, message_of, read_of, message_read}
 
 -- the message with its entries
-with_entries : (read : Result MessageValue WireFault) (m : Message) → read_of read ≡ Ok m → (v : MessageValue) × (read ≡ Ok v) × (message_of v ≡ m)
+with_entries : (read : Result MessageValue WireFault) (m : Message) → read_of read ≡ Ok m →
+    (v : MessageValue) × (read ≡ Ok v) × (message_of v ≡ m)
 with_entries (Ok v) m e = (v, refl, ok_is (message_of v) m e)
 with_entries (Err fault) m e = absurd cc
 
@@ -23,7 +24,8 @@ tell_same v w e = record {
   operations = ap (λ (m : Message). m.ops) e;
 }
 
-pub one_spelling : (nodes : ℕ) (a b : List ℕ) (m : Message) → nodes ≤ 2 ^ 8 → IsBytes a → IsBytes b → message_read nodes a ≡ Ok m → message_read nodes b ≡ Ok m → a ≡ b
+pub one_spelling : (nodes : ℕ) (a b : List ℕ) (m : Message) → nodes ≤ 2 ^ 8 → IsBytes a → IsBytes b →
+    message_read nodes a ≡ Ok m → message_read nodes b ≡ Ok m → a ≡ b
 unfolding message_read
 one_spelling nodes a b m few fits others d e =
     let v = with_entries (message_at nodes a) m d in

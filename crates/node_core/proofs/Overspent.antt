@@ -21,7 +21,8 @@ below_next (suc a) (suc b) l = up (below_next a b (omega (arith, l)))
     up (inl m) = inl (omega (arith, m))
     up (inr e) = inr (ap suc e)
 
-any_next : (n k : ℕ) (test : ℕ → Bool) → test k ≡ true → (k < n) ⊎ (k ≡ n) → (k < n → any_below n test ≡ true) → (test n || any_below n test) ≡ true
+any_next : (n k : ℕ) (test : ℕ → Bool) → test k ≡ true → (k < n) ⊎ (k ≡ n) → (k < n → any_below n test ≡ true) →
+    (test n || any_below n test) ≡ true
 any_next n k test h (inr s) rest = rw (← s, h) refl
 any_next n k test h (inl l) rest = by_test (test n)
   where
@@ -37,18 +38,24 @@ pub clock-append : (xs ys : List Operation) → clock_of (xs ++ ys) ≡ max (clo
 clock-append [] ys = omega arith
 clock-append (x ∷ xs) ys = let rest = clock-append xs ys in omega (arith, rest)
 
-none_later : {C : Type 0} (f : C → Operation) (clock : ℕ) → ((c : C) → clock_in (f c) ≤ clock) → (cs : List C) → clock_of (map f cs) ≤ clock
+none_later : {C : Type 0} (f : C → Operation) (clock : ℕ) → ((c : C) → clock_in (f c) ≤ clock) → (cs : List C) →
+    clock_of (map f cs) ≤ clock
 none_later f clock h [] = omega arith
 none_later f clock h (c ∷ cs) = let first = h c in let rest = none_later f clock h cs in omega (arith, first, rest)
 
 entry_clock : (e : EntryValue) → clock_of (operations_of e) ≡ e.key.clock
 entry_clock e =
     let hits = none_later (λ (c : ℕ × ℕ). Count (Hits e.name c.0) c.1) e.key.clock (λ c. omega arith) e.hits in
-    let execs = none_later (λ (c : ℕ × ℕ × ℕ). Count (Execs e.name e.key c.0 c.1) c.2) e.key.clock (λ c. omega arith) e.execs in
-    let shifts = none_later (λ (c : ℕ × ℕ × ℕ × ℕ). Count (Shifts e.name e.key c.0 c.1 c.2) c.3) e.key.clock (λ c. omega arith) e.shifts in
-    let grants = none_later (λ (c : ℕ × ℕ × ℕ). Count (Shifts e.name e.key c.0 c.1 c.1) c.2) e.key.clock (λ c. omega arith) e.grants in
-    let first = clock-append (hits_in e.name e.hits) (execs_in e.name e.key e.execs ++ (shifts_in e.name e.key e.shifts ++ grants_in e.name e.key e.grants)) in
-    let second = clock-append (execs_in e.name e.key e.execs) (shifts_in e.name e.key e.shifts ++ grants_in e.name e.key e.grants) in
+    let execs = none_later (λ (c : ℕ × ℕ × ℕ). Count (Execs e.name e.key c.0 c.1) c.2) e.key.clock (λ c. omega arith)
+    e.execs in
+    let shifts = none_later (λ (c : ℕ × ℕ × ℕ × ℕ). Count (Shifts e.name e.key c.0 c.1 c.2) c.3) e.key.clock
+    (λ c. omega arith) e.shifts in
+    let grants = none_later (λ (c : ℕ × ℕ × ℕ). Count (Shifts e.name e.key c.0 c.1 c.1) c.2) e.key.clock
+    (λ c. omega arith) e.grants in
+    let first = clock-append (hits_in e.name e.hits) (execs_in e.name e.key e.execs ++
+    (shifts_in e.name e.key e.shifts ++ grants_in e.name e.key e.grants)) in
+    let second = clock-append (execs_in e.name e.key e.execs)
+    (shifts_in e.name e.key e.shifts ++ grants_in e.name e.key e.grants) in
     let third = clock-append (shifts_in e.name e.key e.shifts) (grants_in e.name e.key e.grants) in
     omega (arith, hits, execs, shifts, grants, first, second, third)
 
@@ -56,15 +63,18 @@ entry_clock e =
 abbrev pub clock_upto : List NameEntry → ℕ → ℕ
 clock_upto es i = clock_of (flat_map operations_of (map entry_value (take i es)))
 
-pub clock_more : (es : List NameEntry) (i : ℕ) (d : NameEntry) → i < length es → clock_upto es (i + 1) ≡ max (slice_index_or es i d).key.clock (clock_upto es i)
+pub clock_more : (es : List NameEntry) (i : ℕ) (d : NameEntry) → i < length es →
+    clock_upto es (i + 1) ≡ max (slice_index_or es i d).key.clock (clock_upto es i)
 clock_more es i d low =
     let e : NameEntry = slice_index_or es i d in
-    let grown : flat_map operations_of (map entry_value (take (i + 1) es)) ≡ flat_map operations_of (map entry_value (take i es)) ++ flat_map operations_of (entry_value e ∷ []) =
+    let grown : flat_map operations_of (map entry_value (take (i + 1) es)) ≡ flat_map operations_of
+    (map entry_value (take i es)) ++ flat_map operations_of (entry_value e ∷ []) =
     ap (λ xs. flat_map operations_of (map entry_value xs)) (take_more es i d low)
     ∙ ap (flat_map operations_of) (map-append entry_value (take i es) (e ∷ []))
     ∙ flat_map-append operations_of (map entry_value (take i es)) (entry_value e ∷ []) in
     let whole = ap clock_of grown in
-    let parts = clock-append (flat_map operations_of (map entry_value (take i es))) (flat_map operations_of (entry_value e ∷ [])) in
+    let parts = clock-append (flat_map operations_of (map entry_value (take i es)))
+    (flat_map operations_of (entry_value e ∷ [])) in
     let last = clock-append (operations_of (entry_value e)) [] in
     let one = entry_clock (entry_value e) in
     omega (arith, whole, parts, last, one)

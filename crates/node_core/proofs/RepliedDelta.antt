@@ -22,7 +22,8 @@ module _ (k : Kept) (to : ℕ) (bytes : List ℕ) (told : TellsDelta k to bytes)
   delta_read = ap read_of (message_again k.config.nodes bytes told.message told.spelled)
 
   -- the message is that of an emit with these versions and operations
-  pub delta_message : message_of told.message ≡ message_to k.config.node to (versions_in told.message) (operations_in told.message)
+  pub delta_message : message_of told.message ≡ message_to k.config.node to (versions_in told.message)
+      (operations_in told.message)
   delta_message = λ i. record {
     from = told.sender i;
     to = told.receiver i;
@@ -41,7 +42,8 @@ module _ (k : Kept) (to : ℕ) (bytes : List ℕ) (told : TellsDelta k to bytes)
   pub delta_sends : SendsDelta (node_of k) (emission_of k to bytes)
   delta_sends = subst (λ r. SendsDelta (node_of k) (emit_of to r)) (sym delta_read) (told.versions, told.delta)
 
-emit_sends : (k : Kept) (to : ℕ) (reply : Reply) → TellsIfEmit k (told.emits to) reply → SendsDelta (node_of k) (emit_asked k.config.nodes to reply)
+emit_sends : (k : Kept) (to : ℕ) (reply : Reply) → TellsIfEmit k (told.emits to) reply →
+    SendsDelta (node_of k) (emit_asked k.config.nodes to reply)
 emit_sends k to (replies.Emit bytes) tells = delta_sends k to bytes.items tells
 emit_sends k to (replies.Set stamp) tells = absurd tells
 emit_sends k to (replies.Remove stamp) tells = absurd tells
@@ -52,7 +54,8 @@ emit_sends k to (replies.Grant total) tells = absurd tells
 emit_sends k to (replies.Deliver changed) tells = absurd tells
 
 -- so is each call whose reply tells what differs, if it is an emit
-pub call_sends : (k : Kept) (ask : AskTold) (reply : Reply) → TellsIfEmit k ask reply → SendsDelta (node_of k) (asked_from k.config.nodes ask (reply_told reply))
+pub call_sends : (k : Kept) (ask : AskTold) (reply : Reply) → TellsIfEmit k ask reply →
+    SendsDelta (node_of k) (asked_from k.config.nodes ask (reply_told reply))
 call_sends k (told.emits to) reply tells = emit_sends k to reply tells
 call_sends k (told.sets name text) reply tells = tt
 call_sends k (told.removes name) reply tells = tt
@@ -84,4 +87,5 @@ delta_bytes k to a b told other =
     bases = ap (λ (v : Versions). v.base) versions
 
     other_delta : IsDelta ((node_of k).past told.message.base) (state_known k) (operations_in other.message)
-    other_delta = subst (λ base. IsDelta ((node_of k).past base) (state_known k) (operations_in other.message)) (sym bases) other.delta
+    other_delta = subst (λ base. IsDelta ((node_of k).past base) (state_known k) (operations_in other.message))
+        (sym bases) other.delta

@@ -45,7 +45,8 @@ no_sum (Some m) P n e h = absurd (let impossible : ◌≡◌ {A = Option ℕ} (S
 pub is_other : (config : Config) (to : ℕ) → to < config.nodes → (to ≡ config.node → ⊥) → is_bad_node config to ≡ false
 is_other config to low apart = grind (arith, nat_tests, low, apart)
 
-pub is_none_other : (config : Config) (to : ℕ) → (config.nodes ≤ to) ⊎ ((to < config.nodes) × (to ≡ config.node)) → is_bad_node config to ≡ true
+pub is_none_other : (config : Config) (to : ℕ) → (config.nodes ≤ to) ⊎ ((to < config.nodes) × (to ≡ config.node)) →
+    is_bad_node config to ≡ true
 is_none_other config to (inl high) = grind (arith, nat_tests, high)
 is_none_other config to (inr both) = let same = both.1 in grind (arith, nat_tests, same)
 
@@ -60,70 +61,88 @@ module _ (config : Config) (v : State) (name : List ℕ) (term to amount : ℕ) 
   abbrev refusal_under : Option (KeyValue × List TermValue) → Option NodeFault
   refusal_under setting = first_fault (faults_of_shift_under config v name term to amount setting)
 
-  pub not_set : setting_of v name ≡ None → first_fault (faults_of_shift config v name term to amount) ≡ Some faults.NotSet
+  pub not_set : setting_of v name ≡ None → first_fault (faults_of_shift config v name term to amount) ≡ Some
+      faults.NotSet
   not_set e = ap refusal_under e
 
-  pub no_such_term : (key : KeyValue) (terms : List TermValue) → setting_of v name ≡ Some (key, terms) → None ≡ slice_get terms term → first_fault (faults_of_shift config v name term to amount) ≡ Some faults.NoSuchTerm
+  pub no_such_term : (key : KeyValue) (terms : List TermValue) → setting_of v name ≡ Some (key, terms) →
+      None ≡ slice_get terms term → first_fault (faults_of_shift config v name term to amount) ≡ Some faults.NoSuchTerm
   no_such_term key terms set none =
       let past = past_length terms term none in
       let is : nat_le (length terms) term ≡ true = grind (arith, nat_tests, past) in
       ap refusal_under set ∙ rw is refl
 
-  pub not_counted : (key : KeyValue) (terms : List TermValue) → setting_of v name ≡ Some (key, terms) → (t : TermValue) → slice_get terms term ≡ Some t → t.count ≡ None → first_fault (faults_of_shift config v name term to amount) ≡ Some faults.NotCounted
+  pub not_counted : (key : KeyValue) (terms : List TermValue) → setting_of v name ≡ Some (key, terms) →
+      (t : TermValue) → slice_get terms term ≡ Some t → t.count ≡ None →
+      first_fault (faults_of_shift config v name term to amount) ≡ Some faults.NotCounted
   not_counted key terms set t here none =
       let low = below_length terms term t here in
       let is : nat_le (length terms) term ≡ false = grind (arith, nat_tests, low) in
       let count : count_at terms term ≡ None = ap count_in here ∙ none in
       ap refusal_under set ∙ rw (is, count) refl
 
-module _ (config : Config) (v : State) (name : List ℕ) (term to amount : ℕ) (key : KeyValue) (terms : List TermValue) (t : TermValue) (n : ℕ)
-    (set : setting_of v name ≡ Some (key, terms)) (here : slice_get terms term ≡ Some t) (counted : t.count ≡ Some n) where
-  abbrev b : Budget
-  b = budget v name term key.node n
+module _ (config : Config) (v : State) (name : List ℕ) (term to amount : ℕ) (key : KeyValue) (terms : List TermValue)
+    (t : TermValue) (n : ℕ)
+    (set : setting_of v name ≡ Some (key, terms)) (here : slice_get terms term ≡ Some t) (counted : t.count ≡ Some n)
+  where
+    abbrev b : Budget
+    b = budget v name term key.node n
 
-  abbrev i : ℕ
-  i = config.node
+    abbrev i : ℕ
+    i = config.node
 
-  abbrev refusals : List (Option NodeFault)
-  refusals = then_some (is_bad_node config to) faults.BadNode ∷ then_some (amount == 0) faults.ZeroAmount ∷
-      then_some (not (has_rights b i amount)) (faults.TooFewRights (given_to b i - gone_from b i)) ∷ then_some (nat_lt most (v.shifts name term i to + amount)) faults.CellFull ∷ []
+    abbrev refusals : List (Option NodeFault)
+    refusals = then_some (is_bad_node config to) faults.BadNode ∷ then_some (amount == 0) faults.ZeroAmount ∷
+        then_some (not (has_rights b i amount)) (faults.TooFewRights (given_to b i - gone_from b i)) ∷
+        then_some (nat_lt most (v.shifts name term i to + amount)) faults.CellFull ∷ []
 
-  count_here : count_at terms term ≡ Some n
-  count_here = ap count_in here ∙ counted
+    count_here : count_at terms term ≡ Some n
+    count_here = ap count_in here ∙ counted
 
-  is_below : nat_le (length terms) term ≡ false
-  is_below = let low = below_length terms term t here in grind (arith, nat_tests, low)
+    is_below : nat_le (length terms) term ≡ false
+    is_below = let low = below_length terms term t here in grind (arith, nat_tests, low)
 
-  same : first_fault (faults_of_shift config v name term to amount) ≡ first_fault refusals
-  same = ap (λ s. first_fault (faults_of_shift_under config v name term to amount s)) set ∙ rw (is_below, count_here) refl
+    same : first_fault (faults_of_shift config v name term to amount) ≡ first_fault refusals
+    same = ap (λ s. first_fault (faults_of_shift_under config v name term to amount s)) set ∙
+        rw (is_below, count_here) refl
 
-  pub bad_node : is_bad_node config to ≡ true → first_fault (faults_of_shift config v name term to amount) ≡ Some faults.BadNode
-  bad_node h = same ∙ rw h refl
+    pub bad_node : is_bad_node config to ≡ true → first_fault (faults_of_shift config v name term to amount) ≡ Some
+        faults.BadNode
+    bad_node h = same ∙ rw h refl
 
-  pub zero_amount : is_bad_node config to ≡ false → amount ≡ 0 → first_fault (faults_of_shift config v name term to amount) ≡ Some faults.ZeroAmount
-  zero_amount h z = same ∙ rw (h, z) refl
+    pub zero_amount : is_bad_node config to ≡ false → amount ≡ 0 →
+        first_fault (faults_of_shift config v name term to amount) ≡ Some faults.ZeroAmount
+    zero_amount h z = same ∙ rw (h, z) refl
 
-  amounts : rights_of v name term i ≡ rights b i
-  amounts = counted_rights i v name key terms term set ∙ ap (λ (o : Option ℕ). option_map_or (λ (x : Budget). rights x i) (option_map (λ m. budget v name term key.node m) o) (pos 0)) count_here
+    amounts : rights_of v name term i ≡ rights b i
+    amounts = counted_rights i v name key terms term set ∙ ap (λ (o : Option ℕ). option_map_or
+        (λ (x : Budget). rights x i) (option_map (λ m. budget v name term key.node m) o) (pos 0)) count_here
 
-  some_amount : (m : ℕ) → 0 < m → (m == 0) ≡ false
-  some_amount m low = grind (arith, nat_tests, low)
+    some_amount : (m : ℕ) → 0 < m → (m == 0) ≡ false
+    some_amount m low = grind (arith, nat_tests, low)
 
-  pub too_few_rights : is_bad_node config to ≡ false → 0 < amount → (have : ℕ) → rights_of v name term i ≡ pos have → have < amount → first_fault (faults_of_shift config v name term to amount) ≡ Some (faults.TooFewRights have)
-  too_few_rights h some have is few =
-      let balance : rights b i ≡ pos have = sym amounts ∙ is in
-      let few_there : has_rights b i amount ≡ false = (let less : given_to b i < gone_from b i + amount = omega (arith, ints, balance, few) in grind (arith, nat_tests, less)) in
-      let left : given_to b i - gone_from b i ≡ have = omega (arith, ints, balance) in
-      same ∙ rw (h, some_amount amount some, few_there, left) refl
+    pub too_few_rights : is_bad_node config to ≡ false → 0 < amount → (have : ℕ) → rights_of v name term i ≡ pos have →
+        have < amount → first_fault (faults_of_shift config v name term to amount) ≡ Some (faults.TooFewRights have)
+    too_few_rights h some have is few =
+        let balance : rights b i ≡ pos have = sym amounts ∙ is in
+        let few_there : has_rights b i amount ≡ false = (let less :
+        given_to b i < gone_from b i + amount = omega (arith, ints, balance, few) in
+        grind (arith, nat_tests, less)) in
+        let left : given_to b i - gone_from b i ≡ have = omega (arith, ints, balance) in
+        same ∙ rw (h, some_amount amount some, few_there, left) refl
 
-  enough_there : pos amount ≤ℤ rights_of v name term i → has_rights b i amount ≡ true
-  enough_there enough =
-      let balance : pos amount ≤ℤ rights b i = subst (λ (z : ℤ). pos amount ≤ℤ z) amounts enough in
-      let most : gone_from b i + amount ≤ given_to b i = omega (arith, ints, balance) in
-      grind (arith, nat_tests, most)
+    enough_there : pos amount ≤ℤ rights_of v name term i → has_rights b i amount ≡ true
+    enough_there enough =
+        let balance : pos amount ≤ℤ rights b i = subst (λ (z : ℤ). pos amount ≤ℤ z) amounts enough in
+        let most : gone_from b i + amount ≤ given_to b i = omega (arith, ints, balance) in
+        grind (arith, nat_tests, most)
 
-  pub cell_full : is_bad_node config to ≡ false → 0 < amount → pos amount ≤ℤ rights_of v name term i → nat_lt most (v.shifts name term i to + amount) ≡ true → first_fault (faults_of_shift config v name term to amount) ≡ Some faults.CellFull
-  cell_full h some enough full = same ∙ rw (h, some_amount amount some, enough_there enough, full) refl
+    pub cell_full : is_bad_node config to ≡ false → 0 < amount → pos amount ≤ℤ rights_of v name term i →
+        nat_lt most (v.shifts name term i to + amount) ≡ true →
+        first_fault (faults_of_shift config v name term to amount) ≡ Some faults.CellFull
+    cell_full h some enough full = same ∙ rw (h, some_amount amount some, enough_there enough, full) refl
 
-  pub no_refusal : is_bad_node config to ≡ false → 0 < amount → pos amount ≤ℤ rights_of v name term i → nat_lt most (v.shifts name term i to + amount) ≡ false → first_fault (faults_of_shift config v name term to amount) ≡ None
-  no_refusal h some enough fits = same ∙ rw (h, some_amount amount some, enough_there enough, fits) refl
+    pub no_refusal : is_bad_node config to ≡ false → 0 < amount → pos amount ≤ℤ rights_of v name term i →
+        nat_lt most (v.shifts name term i to + amount) ≡ false →
+        first_fault (faults_of_shift config v name term to amount) ≡ None
+    no_refusal h some enough fits = same ∙ rw (h, some_amount amount some, enough_there enough, fits) refl

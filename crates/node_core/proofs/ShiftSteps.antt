@@ -27,7 +27,8 @@ use Rattle.node_core.proofs.TraceLemmas.{held_clock}
 -- ---- rights
 
 -- of a cell that grew by an amount
-grown : (a b d : Bool) (x y amount : ℕ) → (a ≡ true → b ≡ true → d ≡ true → x ≡ y + amount) → cond (a && (b && (true && d))) x y ≤ y + cond d (cond (a && b) amount 0) 0
+grown : (a b d : Bool) (x y amount : ℕ) → (a ≡ true → b ≡ true → d ≡ true → x ≡ y + amount) →
+    cond (a && (b && (true && d))) x y ≤ y + cond d (cond (a && b) amount 0) 0
 grown true true true x y amount h = let same = h refl refl refl in omega (arith, same)
 grown true true false x y amount h = omega arith
 grown true false true x y amount h = omega arith
@@ -44,14 +45,16 @@ kept true false c d x y h = refl
 kept false b c d x y h = refl
 
 -- a shift takes its amount of the rights that are there
-module _ (v : State) (name : List ℕ) (k i to amount : ℕ) (own : HasOwn v i) (apart : to ≢ i) (enough : pos amount ≤ℤ rights_of v name k i) (q : List ℕ) (t : ℕ) where
+module _ (v : State) (name : List ℕ) (k i to amount : ℕ) (own : HasOwn v i) (apart : to ≢ i)
+    (enough : pos amount ≤ℤ rights_of v name k i) (q : List ℕ) (t : ℕ) where
   abbrev then : State
   then = with_shifts name k i to (v.shifts name k i to + amount) v
 
   abbrev test : Bool
   test = bytes_eq name q && (k == t)
 
-  same_cell : (j : ℕ) → bytes_eq name q ≡ true → (k == t) ≡ true → (to == j) ≡ true → v.shifts name k i to + amount ≡ v.shifts q t i j + amount
+  same_cell : (j : ℕ) → bytes_eq name q ≡ true → (k == t) ≡ true → (to == j) ≡ true →
+      v.shifts name k i to + amount ≡ v.shifts q t i j + amount
   same_cell j e f g = λ p. v.shifts ((bytes_eq-Decides name q).0 e p) (eqb-true k t f p) i (eqb-true to j g p) + amount
 
   itself : (j : ℕ) → (i == i) ≡ true
@@ -62,29 +65,37 @@ module _ (v : State) (name : List ℕ) (k i to amount : ℕ) (own : HasOwn v i) 
 
   went : (j : ℕ) → then.shifts q t i j ≤ v.shifts q t i j + cond (to == j) (cond test amount 0) 0
   unfolding with_shifts
-  went j = subst (λ (b : Bool). cond (bytes_eq name q && ((k == t) && (b && (to == j)))) (v.shifts name k i to + amount) (v.shifts q t i j) ≤ v.shifts q t i j + cond (to == j) (cond test amount 0) 0) (sym (itself j))
-      (grown (bytes_eq name q) (k == t) (to == j) (v.shifts name k i to + amount) (v.shifts q t i j) amount (same_cell j))
+  went j = subst (λ (b : Bool). cond (bytes_eq name q && ((k == t) && (b && (to == j)))) (v.shifts name k i to + amount)
+      (v.shifts q t i j) ≤ v.shifts q t i j + cond (to == j) (cond test amount 0) 0) (sym (itself j))
+      (grown (bytes_eq name q) (k == t) (to == j) (v.shifts name k i to + amount) (v.shifts q t i j) amount
+      (same_cell j))
 
   came : (j : ℕ) → then.shifts q t j i ≡ v.shifts q t j i
   unfolding with_shifts
-  came j = kept (bytes_eq name q) (k == t) (i == j) (to == i) (v.shifts name k i to + amount) (v.shifts q t j i) (ne_eqb to i apart)
+  came j = kept (bytes_eq name q) (k == t) (i == j) (to == i) (v.shifts name k i to + amount) (v.shifts q t j i)
+      (ne_eqb to i apart)
 
-  others_went : sum_others node_numbers i (λ j. then.shifts q t i j) ≤ sum_others node_numbers i (λ j. v.shifts q t i j) + cond test amount 0
+  others_went : sum_others node_numbers i (λ j. then.shifts q t i j) ≤ sum_others node_numbers i
+      (λ j. v.shifts q t i j) + cond test amount 0
   others_went =
-      let all = sum_others-le node_numbers i (λ j. then.shifts q t i j) (λ j. v.shifts q t i j + cond (to == j) (cond test amount 0) 0) went in
+      let all = sum_others-le node_numbers i (λ j. then.shifts q t i j)
+      (λ j. v.shifts q t i j + cond (to == j) (cond test amount 0) 0) went in
       let apart = sum_others-add node_numbers i (λ j. v.shifts q t i j) (λ j. cond (to == j) (cond test amount 0) 0) in
-      let one = sum_others-at_most node_numbers i (λ j. cond (to == j) (cond test amount 0) 0) to (cond test amount 0) (λ j ne. ap (λ b. cond b (cond test amount 0) 0) (ne_eqb to j (λ e. ne (sym e)))) (most (to == to)) in
+      let one = sum_others-at_most node_numbers i (λ j. cond (to == j) (cond test amount 0) 0) to (cond test amount 0)
+      (λ j ne. ap (λ b. cond b (cond test amount 0) 0) (ne_eqb to j (λ e. ne (sym e)))) (most (to == to)) in
       omega (arith, all, apart, one)
     where
       most : (b : Bool) → cond b (cond test amount 0) 0 ≤ cond test amount 0
       most true = omega arith
       most false = omega arith
 
-  left : (n : ℕ) (key : KeyValue) → pos 0 ≤ℤ rights (budget v q t key.node n) i → (test ≡ true → pos amount ≤ℤ rights (budget v q t key.node n) i) → pos 0 ≤ℤ rights (budget then q t key.node n) i
+  left : (n : ℕ) (key : KeyValue) → pos 0 ≤ℤ rights (budget v q t key.node n) i →
+      (test ≡ true → pos amount ≤ℤ rights (budget v q t key.node n) i) → pos 0 ≤ℤ rights (budget then q t key.node n) i
   unfolding with_shifts
   left n key p more = by_test test refl
     where
-      same_given : sum_others node_numbers i (λ j. then.shifts q t j i) ≡ sum_others node_numbers i (λ j. v.shifts q t j i)
+      same_given : sum_others node_numbers i (λ j. then.shifts q t j i) ≡ sum_others node_numbers i
+          (λ j. v.shifts q t j i)
       same_given = sum_others-same node_numbers i (λ j. then.shifts q t j i) (λ j. v.shifts q t j i) came
 
       same_granted : then.shifts q t i i ≡ v.shifts q t i i
@@ -93,10 +104,14 @@ module _ (v : State) (name : List ℕ) (k i to amount : ℕ) (own : HasOwn v i) 
       by_test : (b : Bool) → test ≡ b → pos 0 ≤ℤ rights (budget then q t key.node n) i
       by_test true e =
           let amounts : pos amount ≤ℤ rights (budget v q t key.node n) i = more e in
-          let most : sum_others node_numbers i (λ j. then.shifts q t i j) ≤ sum_others node_numbers i (λ j. v.shifts q t i j) + amount = subst (λ b. sum_others node_numbers i (λ j. then.shifts q t i j) ≤ sum_others node_numbers i (λ j. v.shifts q t i j) + cond b amount 0) e others_went in
+          let most : sum_others node_numbers i (λ j. then.shifts q t i j) ≤ sum_others node_numbers i
+          (λ j. v.shifts q t i j) + amount = subst (λ b. sum_others node_numbers i (λ j. then.shifts q t i j) ≤
+          sum_others node_numbers i (λ j. v.shifts q t i j) + cond b amount 0) e others_went in
           omega (arith, ints, amounts, most, same_given, same_granted)
       by_test false e =
-          let most : sum_others node_numbers i (λ j. then.shifts q t i j) ≤ sum_others node_numbers i (λ j. v.shifts q t i j) + 0 = subst (λ b. sum_others node_numbers i (λ j. then.shifts q t i j) ≤ sum_others node_numbers i (λ j. v.shifts q t i j) + cond b amount 0) e others_went in
+          let most : sum_others node_numbers i (λ j. then.shifts q t i j) ≤ sum_others node_numbers i
+          (λ j. v.shifts q t i j) + 0 = subst (λ b. sum_others node_numbers i (λ j. then.shifts q t i j) ≤
+          sum_others node_numbers i (λ j. v.shifts q t i j) + cond b amount 0) e others_went in
           omega (arith, ints, p, most, same_given, same_granted)
 
   abbrev old : Option KeyValue → ℤ
@@ -105,15 +120,20 @@ module _ (v : State) (name : List ℕ) (k i to amount : ℕ) (own : HasOwn v i) 
   more : test ≡ true → pos amount ≤ℤ old (v.key q)
   more h =
       let p = and_parts (bytes_eq name q) (k == t) h in
-      subst (λ (r : List ℕ). pos amount ≤ℤ rights_of v r t i) ((bytes_eq-Decides name q).0 p.0) (subst (λ u. pos amount ≤ℤ rights_of v name u i) (eqb-true k t p.1) enough)
+      subst (λ (r : List ℕ). pos amount ≤ℤ rights_of v r t i) ((bytes_eq-Decides name q).0 p.0)
+      (subst (λ u. pos amount ≤ℤ rights_of v name u i) (eqb-true k t p.1) enough)
 
-  by_held : (held : Option KeyValue) → pos 0 ≤ℤ old held → (test ≡ true → pos amount ≤ℤ old held) → pos 0 ≤ℤ option_map_or (λ (b : Budget). rights b i) (budget_under then q t held) (pos 0)
+  by_held : (held : Option KeyValue) → pos 0 ≤ℤ old held → (test ≡ true → pos amount ≤ℤ old held) →
+      pos 0 ≤ℤ option_map_or (λ (b : Budget). rights b i) (budget_under then q t held) (pos 0)
   by_held None p r = p
   by_held (Some key) p r = by_count (count_of key t) p r
     where
-      by_count : (found : Option ℕ) → pos 0 ≤ℤ option_map_or (λ (b : Budget). rights b i) (option_map (λ n. budget v q t key.node n) found) (pos 0) →
-          (test ≡ true → pos amount ≤ℤ option_map_or (λ (b : Budget). rights b i) (option_map (λ n. budget v q t key.node n) found) (pos 0)) →
-          pos 0 ≤ℤ option_map_or (λ (b : Budget). rights b i) (option_map (λ n. budget then q t key.node n) found) (pos 0)
+      by_count : (found : Option ℕ) → pos 0 ≤ℤ option_map_or (λ (b : Budget). rights b i)
+          (option_map (λ n. budget v q t key.node n) found) (pos 0) →
+          (test ≡ true → pos amount ≤ℤ option_map_or (λ (b : Budget). rights b i)
+          (option_map (λ n. budget v q t key.node n) found) (pos 0)) →
+          pos 0 ≤ℤ option_map_or (λ (b : Budget). rights b i) (option_map (λ n. budget then q t key.node n) found)
+          (pos 0)
       by_count None p r = p
       by_count (Some n) p r = left n key p r
 
@@ -121,7 +141,8 @@ module _ (v : State) (name : List ℕ) (k i to amount : ℕ) (own : HasOwn v i) 
   unfolding with_shifts
   own_shift_at = by_held (v.key q) (own q t) more
 
-own_shift : (v : State) (name : List ℕ) (k i to amount : ℕ) → HasOwn v i → to ≢ i → pos amount ≤ℤ rights_of v name k i → HasOwn (with_shifts name k i to (v.shifts name k i to + amount) v) i
+own_shift : (v : State) (name : List ℕ) (k i to amount : ℕ) → HasOwn v i → to ≢ i → pos amount ≤ℤ rights_of v name k i →
+    HasOwn (with_shifts name k i to (v.shifts name k i to + amount) v) i
 own_shift v name k i to amount own apart enough q t = own_shift_at v name k i to amount own apart enough q t
 
 others_same : (n i : ℕ) (f g : ℕ → ℕ) → ((j : ℕ) → j ≢ i → f j ≡ g j) → sum_others n i f ≡ sum_others n i g
@@ -154,31 +175,42 @@ module _ (v : State) (name : List ℕ) (k i amount : ℕ) (own : HasOwn v i) (q 
   unfolding with_shifts
   granted_more = raised _ (v.shifts name k i i + amount) (v.shifts q t i i) more_here
     where
-      more_here : (bytes_eq name q && ((k == t) && ((i == i) && (i == i)))) ≡ true → v.shifts q t i i ≤ v.shifts name k i i + amount
+      more_here : (bytes_eq name q && ((k == t) && ((i == i) && (i == i)))) ≡ true →
+          v.shifts q t i i ≤ v.shifts name k i i + amount
       more_here h =
           let p = and_parts (bytes_eq name q) _ h in
           let r = and_parts (k == t) _ p.1 in
-          let same : v.shifts name k i i ≡ v.shifts q t i i = λ s. v.shifts ((bytes_eq-Decides name q).0 p.0 s) (eqb-true k t r.0 s) i i in
+          let same : v.shifts name k i i ≡ v.shifts q t i i =
+          λ s. v.shifts ((bytes_eq-Decides name q).0 p.0 s) (eqb-true k t r.0 s) i i in
           omega (arith, same)
 
-  none_came : sum_others node_numbers i (λ j. granted_then.shifts q t j i) ≡ sum_others node_numbers i (λ j. v.shifts q t j i)
+  none_came : sum_others node_numbers i (λ j. granted_then.shifts q t j i) ≡ sum_others node_numbers i
+      (λ j. v.shifts q t j i)
   unfolding with_shifts
-  none_came = others_same node_numbers i _ _ (λ j ne. unraised (bytes_eq name q) (k == t) _ (v.shifts name k i i + amount) (v.shifts q t j i) (ap (λ b. b && (i == i)) (ne_eqb i j (λ e. ne (sym e)))))
+  none_came = others_same node_numbers i _ _ (λ j ne. unraised (bytes_eq name q) (k == t) _
+      (v.shifts name k i i + amount) (v.shifts q t j i) (ap (λ b. b && (i == i)) (ne_eqb i j (λ e. ne (sym e)))))
 
-  none_went : sum_others node_numbers i (λ j. granted_then.shifts q t i j) ≡ sum_others node_numbers i (λ j. v.shifts q t i j)
+  none_went : sum_others node_numbers i (λ j. granted_then.shifts q t i j) ≡ sum_others node_numbers i
+      (λ j. v.shifts q t i j)
   unfolding with_shifts
-  none_went = others_same node_numbers i _ _ (λ j ne. unraised (bytes_eq name q) (k == t) _ (v.shifts name k i i + amount) (v.shifts q t i j) (none_last (i == i) (i == j) (ne_eqb i j (λ e. ne (sym e)))))
+  none_went = others_same node_numbers i _ _ (λ j ne. unraised (bytes_eq name q) (k == t) _
+      (v.shifts name k i i + amount) (v.shifts q t i j) (none_last (i == i) (i == j) (ne_eqb i j (λ e. ne (sym e)))))
 
-  granted_left : (n : ℕ) (key : KeyValue) → pos 0 ≤ℤ rights (budget v q t key.node n) i → pos 0 ≤ℤ rights (budget granted_then q t key.node n) i
+  granted_left : (n : ℕ) (key : KeyValue) → pos 0 ≤ℤ rights (budget v q t key.node n) i →
+      pos 0 ≤ℤ rights (budget granted_then q t key.node n) i
   unfolding with_shifts
   granted_left n key p = omega (arith, ints, p, granted_more, none_came, none_went)
 
-  granted_held : (held : Option KeyValue) → pos 0 ≤ℤ option_map_or (λ (b : Budget). rights b i) (budget_under v q t held) (pos 0) → pos 0 ≤ℤ option_map_or (λ (b : Budget). rights b i) (budget_under granted_then q t held) (pos 0)
+  granted_held : (held : Option KeyValue) → pos 0 ≤ℤ option_map_or (λ (b : Budget). rights b i)
+      (budget_under v q t held) (pos 0) → pos 0 ≤ℤ option_map_or (λ (b : Budget). rights b i)
+      (budget_under granted_then q t held) (pos 0)
   granted_held None p = p
   granted_held (Some key) p = by_count (count_of key t) p
     where
-      by_count : (found : Option ℕ) → pos 0 ≤ℤ option_map_or (λ (b : Budget). rights b i) (option_map (λ n. budget v q t key.node n) found) (pos 0) →
-          pos 0 ≤ℤ option_map_or (λ (b : Budget). rights b i) (option_map (λ n. budget granted_then q t key.node n) found) (pos 0)
+      by_count : (found : Option ℕ) → pos 0 ≤ℤ option_map_or (λ (b : Budget). rights b i)
+          (option_map (λ n. budget v q t key.node n) found) (pos 0) →
+          pos 0 ≤ℤ option_map_or (λ (b : Budget). rights b i)
+          (option_map (λ n. budget granted_then q t key.node n) found) (pos 0)
       by_count None p = p
       by_count (Some n) p = granted_left n key p
 
@@ -186,7 +218,8 @@ module _ (v : State) (name : List ℕ) (k i amount : ℕ) (own : HasOwn v i) (q 
   unfolding with_shifts
   own_grant_at = granted_held (v.key q) (own q t)
 
-own_grant : (v : State) (name : List ℕ) (k i amount : ℕ) → HasOwn v i → HasOwn (with_shifts name k i i (v.shifts name k i i + amount) v) i
+own_grant : (v : State) (name : List ℕ) (k i amount : ℕ) → HasOwn v i →
+    HasOwn (with_shifts name k i i (v.shifts name k i i + amount) v) i
 own_grant v name k i amount own q t = own_grant_at v name k i amount own q t
 
 -- ---- the asks
@@ -194,12 +227,14 @@ own_grant v name k i amount own q t = own_grant_at v name k i amount own q t
 -- by this ask node i moves so many rights more of a term to a node, or grants itself so many more where
 -- both are one
 pub record MovesAs (i : ℕ) (ask : Asked) (name : List ℕ) (term to amount : ℕ) : Type 0 where
-  pub adds : (n : Node) → operations_added i n ask [] ≡ shift_under i (state_shown n) name term to amount ((state_shown n).key name)
+  pub adds : (n : Node) → operations_added i n ask [] ≡ shift_under i (state_shown n) name term to amount
+      ((state_shown n).key name)
   pub clock : (n : Node) → clock_after n ask ≡ n.marks.clock
   pub known : (n : Node) → known_after n ask ≡ n.marks.known
   pub acked : (n : Node) → acked_after n ask ≡ n.marks.acked
 
-pub shift_moves : (i : ℕ) (name : List ℕ) (term to amount : ℕ) → MovesAs i (Shift name term to amount) name term to amount
+pub shift_moves : (i : ℕ) (name : List ℕ) (term to amount : ℕ) →
+    MovesAs i (Shift name term to amount) name term to amount
 shift_moves i name term to amount = record { adds = λ n. refl; clock = λ n. refl; known = λ n. refl; acked = λ n. refl }
 
 pub grant_moves : (i : ℕ) (name : List ℕ) (term amount : ℕ) → MovesAs i (Grant name term amount) name term i amount
@@ -210,9 +245,12 @@ pub record MayMove (config : Config) (v : State) (name : List ℕ) (term to amou
   pub counted : IsSome (budget_of v name term)
   pub there : to < config.nodes
   pub some : 0 < amount
-  pub own : HasOwn v config.node → HasOwn (with_shifts name term config.node to (v.shifts name term config.node to + amount) v) config.node
+  pub own : HasOwn v config.node → HasOwn (with_shifts name term config.node to
+      (v.shifts name term config.node to + amount) v) config.node
 
-pub may_shift : (config : Config) (v : State) (name : List ℕ) (term to amount : ℕ) → (to ≢ config.node) × (pos amount ≤ℤ rights_of v name term config.node) → (to < config.nodes) × (0 < amount) → MayMove config v name term to amount
+pub may_shift : (config : Config) (v : State) (name : List ℕ) (term to amount : ℕ) →
+    (to ≢ config.node) × (pos amount ≤ℤ rights_of v name term config.node) → (to < config.nodes) × (0 < amount) →
+    MayMove config v name term to amount
 may_shift config v name term to amount enough there = record {
   counted = counted_by_rights v name term config.node amount there.1 enough.1;
   there = there.0;
@@ -220,7 +258,8 @@ may_shift config v name term to amount enough there = record {
   own = λ own. own_shift v name term config.node to amount own enough.0 enough.1;
 }
 
-pub may_grant : (config : Config) (v : State) (name : List ℕ) (term amount : ℕ) → IsSome (budget_of v name term) → config.node < config.nodes → 0 < amount → MayMove config v name term config.node amount
+pub may_grant : (config : Config) (v : State) (name : List ℕ) (term amount : ℕ) → IsSome (budget_of v name term) →
+    config.node < config.nodes → 0 < amount → MayMove config v name term config.node amount
 may_grant config v name term amount counted there some = record {
   counted = counted;
   there = there;
@@ -230,53 +269,73 @@ may_grant config v name term amount counted there some = record {
 
 -- ---- the node
 
-shift_leaves_hits : (name : List ℕ) (k i to total : ℕ) (v : State) (q : List ℕ) (j : ℕ) → (with_shifts name k i to total v).hits q j ≡ v.hits q j
+shift_leaves_hits : (name : List ℕ) (k i to total : ℕ) (v : State) (q : List ℕ) (j : ℕ) →
+    (with_shifts name k i to total v).hits q j ≡ v.hits q j
 unfolding with_shifts
 shift_leaves_hits name k i to total v q j = refl
 
-shift_leaves_execs : (name : List ℕ) (k i to total : ℕ) (v : State) (q : List ℕ) (t j : ℕ) → (with_shifts name k i to total v).execs q t j ≡ v.execs q t j
+shift_leaves_execs : (name : List ℕ) (k i to total : ℕ) (v : State) (q : List ℕ) (t j : ℕ) →
+    (with_shifts name k i to total v).execs q t j ≡ v.execs q t j
 unfolding with_shifts
 shift_leaves_execs name k i to total v q t j = refl
 
 -- the state of a set with one shift more
-fold_shifted : (name : List ℕ) (key : KeyValue) (ops : List Operation) (k i to amount : ℕ) → key_of name ops ≡ Some key → with_name name (names_of ops) ≡ names_of ops →
-    fold (Count (Shifts name key k i to) ((fold ops).shifts name k i to + amount) ∷ ops) ≡ with_shifts name k i to ((fold ops).shifts name k i to + amount) (fold ops)
+fold_shifted : (name : List ℕ) (key : KeyValue) (ops : List Operation) (k i to amount : ℕ) →
+    key_of name ops ≡ Some key → with_name name (names_of ops) ≡ names_of ops →
+    fold (Count (Shifts name key k i to) ((fold ops).shifts name k i to + amount) ∷ ops) ≡ with_shifts name k i to
+    ((fold ops).shifts name k i to + amount) (fold ops)
 unfolding fold
 fold_shifted name key ops k i to amount here names =
-    let at : (fold ops).shifts name k i to ≡ number_at (Shifts name key k i to) ops = ap (λ (o : Option KeyValue). at_key o (λ a. number_at (Shifts name a k i to) ops)) here in
+    let at : (fold ops).shifts name k i to ≡ number_at (Shifts name key k i to) ops =
+    ap (λ (o : Option KeyValue). at_key o (λ a. number_at (Shifts name a k i to) ops)) here in
     fold_shifts name key ops here k i to ((fold ops).shifts name k i to + amount) (omega (arith, at)) names
 
-shown_key : (ops : List Operation) (name : List ℕ) (key : KeyValue) → (fold ops).key name ≡ Some key → key_of name ops ≡ Some key
+shown_key : (ops : List Operation) (name : List ℕ) (key : KeyValue) → (fold ops).key name ≡ Some key →
+    key_of name ops ≡ Some key
 unfolding fold
 shown_key ops name key h = h
 
-shown_names : (ops : List Operation) (name : List ℕ) → IsHeld (fold ops) name → with_name name (names_of ops) ≡ names_of ops
+shown_names : (ops : List Operation) (name : List ℕ) → IsHeld (fold ops) name →
+    with_name name (names_of ops) ≡ names_of ops
 unfolding fold
 shown_names ops name h = h
 
-module _ (config : Config) (clock : ℕ) (state next : State) (len : ℕ) (n : Node) (ask : Asked) (name : List ℕ) (term to amount : ℕ) (key : KeyValue) (moves : MovesAs config.node ask name term to amount) where
+module _ (config : Config) {clock : ℕ} {state next : State} {len : ℕ} (n : Node) (ask : Asked) {name : List ℕ}
+    {term to amount : ℕ} {key : KeyValue} (moves : MovesAs config.node ask name term to amount) where
   -- after rights were moved or granted
-  pub holds_moved : Holds config clock state len n → len < config.trace_cap → state.key name ≡ Some key → IsHeld state name → MayMove config state name term to amount →
-      next ≡ with_shifts name term config.node to (state.shifts name term config.node to + amount) state → Holds config clock next (len + 1) (after config.node n ask [])
+  pub holds_moved : Holds config clock state len n → len < config.trace_cap → state.key name ≡ Some key →
+      IsHeld state name → MayMove config state name term to amount →
+      next ≡ with_shifts name term config.node to (state.shifts name term config.node to + amount) state →
+      Holds config clock next (len + 1) (after config.node n ask [])
   unfolding after
   holds_moved h room set names may e =
       let same : fold n.ops ≡ state = h.state_is in
       let here : (fold n.ops).key name ≡ Some key = ap (λ (v : State). v.key name) same ∙ set in
-      let op : Operation = Count (Shifts name key term config.node to) ((fold n.ops).shifts name term config.node to + amount) in
-      let adds : operations_added config.node n ask [] ≡ op ∷ [] = moves.adds n ∙ ap (shift_under config.node (fold n.ops) name term to amount) here in
+      let op : Operation = Count (Shifts name key term config.node to)
+      ((fold n.ops).shifts name term config.node to + amount) in
+      let adds : operations_added config.node n ask [] ≡ op ∷ [] = moves.adds n ∙
+      ap (shift_under config.node (fold n.ops) name term to amount) here in
       let low : key.clock ≤ clock_of n.ops = held_clock name n.ops key (shown_key n.ops name key here) in
       let was : clock_of n.ops ≤ clock = h.carried in
-      let carried : clock_of (operations_added config.node n ask [] ++ n.ops) ≤ clock = subst (λ os. clock_of (os ++ n.ops) ≤ clock) (sym adds) (omega (arith, low, was)) in
+      let carried : clock_of (operations_added config.node n ask [] ++ n.ops) ≤ clock =
+      subst (λ os. clock_of (os ++ n.ops) ≤ clock) (sym adds) (omega (arith, low, was)) in
       record {
         own = h.own;
         few = h.few;
         small = h.small;
         capped = omega arith;
         clock_is = moves.clock n ∙ h.clock_is;
-        state_is = ap (λ os. fold (os ++ n.ops)) adds ∙ fold_shifted name key n.ops term config.node to amount (shown_key n.ops name key here) (shown_names n.ops name (subst (λ (v : State). IsHeld v name) (sym same) names))
-            ∙ ap (λ (v : State). with_shifts name term config.node to (v.shifts name term config.node to + amount) v) same ∙ sym e;
+        state_is = ap (λ os. fold (os ++ n.ops)) adds ∙ fold_shifted name key n.ops term config.node to amount
+            (shown_key n.ops name key here) (shown_names n.ops name
+            (subst (λ (v : State). IsHeld v name) (sym same) names))
+            ∙ ap (λ (v : State). with_shifts name term config.node to (v.shifts name term config.node to + amount) v)
+            same ∙ sym e;
         carried = carried;
-        hits_few = λ q. let x = ap (λ (v : State). v.hits q config.node) e in let y = shift_leaves_hits name term config.node to (state.shifts name term config.node to + amount) state q config.node in let z = h.hits_few q in omega (arith, x, y, z);
-        execs_few = λ q t. let x = ap (λ (v : State). v.execs q t config.node) e in let y = shift_leaves_execs name term config.node to (state.shifts name term config.node to + amount) state q t config.node in let z = h.execs_few q t in omega (arith, x, y, z);
+        hits_few = λ q. let x = ap (λ (v : State). v.hits q config.node) e in
+            let y = shift_leaves_hits name term config.node to (state.shifts name term config.node to + amount) state q
+            config.node in let z = h.hits_few q in omega (arith, x, y, z);
+        execs_few = λ q t. let x = ap (λ (v : State). v.execs q t config.node) e in
+            let y = shift_leaves_execs name term config.node to (state.shifts name term config.node to + amount) state q
+            t config.node in let z = h.execs_few q t in omega (arith, x, y, z);
         own_rights = subst (λ (v : State). HasOwn v config.node) (sym e) (may.own h.own_rights);
       }

@@ -1,4 +1,5 @@
--- Keys can be told apart; and the order of states with no cases: keys at most, and cells at most where the keys are one.
+-- Keys can be told apart; and the order of states with no cases: keys at most, and cells at most where the keys are
+-- one.
 use Rattle.std.proofs.Common.{◌≡◌, ℕ, ◌≤◌, Bool, true, false, List, ◌⊎◌, inl, inr, refl, sym, ◌∙◌, ap, subst, ⊎_elim, Option, Some, None}
 use Rattle.std.proofs.lemmas.Bool.{true≢false}
 use Rattle.stamp_register.specs.Keys.{KeyValue, same_key}
@@ -15,7 +16,8 @@ cases_key None (Some b) = inr (λ e. cc)
 cases_key (Some a) None = inr (λ e. cc)
 cases_key (Some a) (Some b) = at (same_key a b) refl
   where
-    at : (t : Bool) → same_key a b ≡ t → (◌≡◌ {A = Option KeyValue} (Some a) (Some b)) ⊎ (◌≡◌ {A = Option KeyValue} (Some a) (Some b) → ⊥)
+    at : (t : Bool) → same_key a b ≡ t → (◌≡◌ {A = Option KeyValue} (Some a) (Some b)) ⊎
+        (◌≡◌ {A = Option KeyValue} (Some a) (Some b) → ⊥)
     at true e = inl (ap Some (same_key-true a b e))
     at false e = inr (λ (s : ◌≡◌ {A = Option KeyValue} (Some a) (Some b)).
         let same : a ≡ b = cc in

@@ -101,28 +101,41 @@ bytes_eq-flip a b = both (bytes_eq a b) (bytes_eq b a) refl refl
     both : (s t : Bool) → bytes_eq a b ≡ s → bytes_eq b a ≡ t → s ≡ t
     both true true e f = refl
     both false false e f = refl
-    both true false e f = absurd (true≢false (sym (subst (λ x. bytes_eq x a ≡ true) (bytes_eq-true a b e) (bytes_eq-refl a)) ∙ f))
-    both false true e f = absurd (true≢false (sym (subst (λ x. bytes_eq x b ≡ true) (bytes_eq-true b a f) (bytes_eq-refl b)) ∙ e))
+    both true false e f = absurd (true≢false (sym (subst (λ x. bytes_eq x a ≡ true) (bytes_eq-true a b e)
+        (bytes_eq-refl a)) ∙ f))
+    both false true e f = absurd (true≢false (sym (subst (λ x. bytes_eq x b ≡ true) (bytes_eq-true b a f)
+        (bytes_eq-refl b)) ∙ e))
 
-module _ (n : List ℕ) (p : Point) (rest : List (List ℕ × Point)) (sorted : IsStrictlySortedBy (slice_cmp nat_cmp) (keys_of ((n, p) ∷ rest))) where
+module _ (n : List ℕ) (p : Point) (rest : List (List ℕ × Point))
+    (sorted : IsStrictlySortedBy (slice_cmp nat_cmp) (keys_of ((n, p) ∷ rest))) where
   -- a name is that of the first point, of which no other follows, or it isn't
-  first_or_later : (q : List ℕ) (P : Bool → Option Point → Type 0) → (n ≡ q → point_at rest q ≡ None → P true (point_at rest q)) → P false (point_at rest q) → P (bytes_eq n q) (point_at rest q)
+  first_or_later : (q : List ℕ) (P : Bool → Option Point → Type 0) →
+      (n ≡ q → point_at rest q ≡ None → P true (point_at rest q)) → P false (point_at rest q) →
+      P (bytes_eq n q) (point_at rest q)
   first_or_later q P here there = by_test (bytes_eq n q) refl
     where
       by_test : (t : Bool) → bytes_eq n q ≡ t → P t (point_at rest q)
-      by_test true e = here (bytes_eq-true n q e) (none_after nat_list_cmp_total (n, p) rest q (IsDistinct-from_sorted (slice_cmp nat_cmp) (keys_of ((n, p) ∷ rest)) sorted) (is_eq-slice_cmp q n ∙ bytes_eq-flip q n ∙ e))
+      by_test true e = here (bytes_eq-true n q e) (none_after nat_list_cmp_total (n, p) rest q
+          (IsDistinct-from_sorted (slice_cmp nat_cmp) (keys_of ((n, p) ∷ rest)) sorted)
+          (is_eq-slice_cmp q n ∙ bytes_eq-flip q n ∙ e))
       by_test false e = there
 
   -- what is found at a name
   found : (q : List ℕ) → point_at ((n, p) ∷ rest) q ≡ cond (bytes_eq n q) (Some p) (point_at rest q)
   found q = ap (λ t. cond t (Some p) (point_at rest q)) (is_eq-slice_cmp q n ∙ bytes_eq-flip q n)
 
-  turn : (v : State) (q : List ℕ) → both_held (held_at v q) (seen (point_at ((n, p) ∷ rest) q)) ≡ both_held (chosen (bytes_eq n q) (both_held (held_at v n) (seen (Some p))) (held_at v q)) (seen (point_at rest q))
-  turn v q = ap (λ (o : Option Point). both_held (held_at v q) (seen o)) (found q) ∙ first_or_later q (λ t o. both_held (held_at v q) (seen (cond t (Some p) o)) ≡ both_held (chosen t (both_held (held_at v n) (seen (Some p))) (held_at v q)) (seen o))
-      (λ same none. ap (λ (m : List ℕ). both_held (held_at v m) (seen (Some p))) (sym same) ∙ sym (both-unseen (both_held (held_at v n) (seen (Some p)))) ∙ ap (λ (o : Option Point). both_held (both_held (held_at v n) (seen (Some p))) (seen o)) (sym none))
+  turn : (v : State) (q : List ℕ) → both_held (held_at v q) (seen (point_at ((n, p) ∷ rest) q)) ≡ both_held
+      (chosen (bytes_eq n q) (both_held (held_at v n) (seen (Some p))) (held_at v q)) (seen (point_at rest q))
+  turn v q = ap (λ (o : Option Point). both_held (held_at v q) (seen o)) (found q) ∙
+      first_or_later q (λ t o. both_held (held_at v q) (seen (cond t (Some p) o)) ≡ both_held
+      (chosen t (both_held (held_at v n) (seen (Some p))) (held_at v q)) (seen o))
+      (λ same none. ap (λ (m : List ℕ). both_held (held_at v m) (seen (Some p))) (sym same) ∙
+      sym (both-unseen (both_held (held_at v n) (seen (Some p)))) ∙
+      ap (λ (o : Option Point). both_held (both_held (held_at v n) (seen (Some p))) (seen o)) (sym none))
       refl
 
-  pub unites-point : (v : State) → union_of v (shown ((n, p) ∷ rest)) ≡ union_of (with_held n (both_held (held_at v n) (held_of p)) v) (shown rest)
+  pub unites-point : (v : State) → union_of v (shown ((n, p) ∷ rest)) ≡ union_of
+      (with_held n (both_held (held_at v n) (held_of p)) v) (shown rest)
   unfolding union_of shown with_held both_held held_of
   unites-point v = λ i. record {
     names = with_names (keys_of rest) (with_name n v.names);
@@ -134,9 +147,12 @@ module _ (n : List ℕ) (p : Point) (rest : List (List ℕ × Point)) (sorted : 
 
 -- ---- copies and unions of plain replicas
 
-pub copied_state : (set copy : List (List ℕ × Point)) (v : State) → IsStrictlySortedBy (slice_cmp nat_cmp) (keys_of set) → shown copy ≡ union_of v (shown set) → v ≡ fold [] → shown copy ≡ shown set
+pub copied_state : (set copy : List (List ℕ × Point)) (v : State) →
+    IsStrictlySortedBy (slice_cmp nat_cmp) (keys_of set) → shown copy ≡ union_of v (shown set) → v ≡ fold [] →
+    shown copy ≡ shown set
 unfolding shown
-copied_state set copy v sorted e empty = e ∙ ap (λ (s : State). union_of s (shown set)) empty ∙ none-unites (shown set) (sorted_ascends (keys_of set) sorted)
+copied_state set copy v sorted e empty = e ∙ ap (λ (s : State). union_of s (shown set)) empty ∙
+    none-unites (shown set) (sorted_ascends (keys_of set) sorted)
 
 -- ---- which of two knows more
 
@@ -153,23 +169,31 @@ pub record BelowBefore (all rest : List (List ℕ × Point)) (w : State) : Type 
 unseen-below : (g : Held) → IsHeldBelow (seen None) g
 unseen-below g = record { hits = λ node. omega arith; cells = by_key g.key refl }
   where
-    by_key : (k : Option KeyValue) → g.key ≡ k → IsKeyBelow None g.key ⊎ ((None ≡ g.key) × ((term node : ℕ) → 0 ≤ g.number (kinds.Execs term node)) × ((term from to : ℕ) → 0 ≤ g.number (kinds.Shifts term from to)))
+    by_key : (k : Option KeyValue) → g.key ≡ k → IsKeyBelow None g.key ⊎
+        ((None ≡ g.key) × ((term node : ℕ) → 0 ≤ g.number (kinds.Execs term node)) ×
+        ((term from to : ℕ) → 0 ≤ g.number (kinds.Shifts term from to)))
     by_key None e = inr (sym e, λ term node. omega arith, λ term from to. omega arith)
     by_key (Some key) e = inl (subst (IsKeyBelow None) (sym e) tt)
 
-pub below-init : (all : List (List ℕ × Point)) (w : State) → IsStrictlySortedBy (slice_cmp nat_cmp) (keys_of all) → BelowBefore all all w
+pub below-init : (all : List (List ℕ × Point)) (w : State) → IsStrictlySortedBy (slice_cmp nat_cmp) (keys_of all) →
+    BelowBefore all all w
 below-init all w sorted = record { sorted = sorted; each = λ q. to_come q (point_at all q) refl }
   where
     to_come : (q : List ℕ) (o : Option Point) → point_at all q ≡ o → StillOrBelow all w q o
-    to_come q None e = subst (λ (o : Option Point). IsHeldBelow (seen o) (held_at w q)) (sym e) (unseen-below (held_at w q))
+    to_come q None e = subst (λ (o : Option Point). IsHeldBelow (seen o) (held_at w q)) (sym e)
+        (unseen-below (held_at w q))
     to_come q (Some p) e = e
 
-pub below-step : (all rest : List (List ℕ × Point)) (w : State) (n : List ℕ) (p : Point) → BelowBefore all ((n, p) ∷ rest) w → IsHeldBelow (held_of p) (held_at w n) → BelowBefore all rest w
+pub below-step : (all rest : List (List ℕ × Point)) (w : State) (n : List ℕ) (p : Point) →
+    BelowBefore all ((n, p) ∷ rest) w → IsHeldBelow (held_of p) (held_at w n) → BelowBefore all rest w
 unfolding held_of
 below-step all rest w n p before below = record {
   sorted = sorted_tail (slice_cmp nat_cmp) n (keys_of rest) before.sorted;
-  each = λ q. first_or_later n p rest before.sorted q (λ t o. StillOrBelow all w q (cond t (Some p) o) → StillOrBelow all w q o)
-      (λ same none h. subst (StillOrBelow all w q) (sym none) (subst (λ (o : Option Point). IsHeldBelow (seen o) (held_at w q)) (sym h) (subst (λ (m : List ℕ). IsHeldBelow (seen (Some p)) (held_at w m)) same below)))
+  each = λ q. first_or_later n p rest before.sorted q (λ t o. StillOrBelow all w q (cond t (Some p) o) →
+      StillOrBelow all w q o)
+      (λ same none h. subst (StillOrBelow all w q) (sym none)
+      (subst (λ (o : Option Point). IsHeldBelow (seen o) (held_at w q)) (sym h)
+      (subst (λ (m : List ℕ). IsHeldBelow (seen (Some p)) (held_at w m)) same below)))
       (λ h. h)
       (subst (StillOrBelow all w q) (found n p rest before.sorted q) (before.each q));
 }
@@ -178,9 +202,13 @@ pub below-end : (all : List (List ℕ × Point)) (w : State) → BelowBefore all
 unfolding shown
 below-end all w before q = record { hits = λ node. (before.each q).hits node; cells = (before.each q).cells }
 
-pub below-fails : (all rest : List (List ℕ × Point)) (w : State) (n : List ℕ) (p : Point) → BelowBefore all ((n, p) ∷ rest) w → (IsHeldBelow (held_of p) (held_at w n) → ⊥) → IsBelow (shown all) w → ⊥
+pub below-fails : (all rest : List (List ℕ × Point)) (w : State) (n : List ℕ) (p : Point) →
+    BelowBefore all ((n, p) ∷ rest) w → (IsHeldBelow (held_of p) (held_at w n) → ⊥) → IsBelow (shown all) w → ⊥
 unfolding shown held_of
 below-fails all rest w n p before above below =
-    let here : point_at all n ≡ Some p = subst (StillOrBelow all w n) (found n p rest before.sorted n ∙ ap (λ t. cond t (Some p) (point_at rest n)) (bytes_eq-refl n)) (before.each n) in
-    let known : IsHeldBelow (seen (point_at all n)) (held_at w n) = record { hits = λ node. (below n).hits node; cells = (below n).cells } in
+    let here : point_at all n ≡ Some p = subst (StillOrBelow all w n)
+    (found n p rest before.sorted n ∙ ap (λ t. cond t (Some p) (point_at rest n)) (bytes_eq-refl n))
+    (before.each n) in
+    let known : IsHeldBelow (seen (point_at all n)) (held_at w n) =
+    record { hits = λ node. (below n).hits node; cells = (below n).cells } in
     above (subst (λ (o : Option Point). IsHeldBelow (seen o) (held_at w n)) here known)

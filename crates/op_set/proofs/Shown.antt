@@ -34,39 +34,61 @@ use Rattle.std.specs.Borrow.{Bor}
 use Rattle.std.specs.Option.{option_copied}
 
 -- the names after an insertion
-pub names_inserted : (es : List (List ℕ × Point)) (name : List ℕ) (w : Point) → keys_of (insert_entry (slice_cmp nat_cmp) es name w) ≡ with_name name (keys_of es)
+pub names_inserted : (es : List (List ℕ × Point)) (name : List ℕ) (w : Point) →
+    keys_of (insert_entry (slice_cmp nat_cmp) es name w) ≡ with_name name (keys_of es)
 names_inserted [] name w = refl
 names_inserted (e ∷ es) name w = by_order (slice_cmp nat_cmp name e.0) (names_inserted es name w)
   where
-    by_order : (o : Ordering) → keys_of (insert_entry (slice_cmp nat_cmp) es name w) ≡ with_name name (keys_of es) → keys_of (match_ordering o ((name, w) ∷ e ∷ es) ((e.0, w) ∷ es) (e ∷ insert_entry (slice_cmp nat_cmp) es name w)) ≡ match_ordering o (name ∷ e.0 ∷ keys_of es) (e.0 ∷ keys_of es) (e.0 ∷ with_name name (keys_of es))
+    by_order : (o : Ordering) → keys_of (insert_entry (slice_cmp nat_cmp) es name w) ≡ with_name name (keys_of es) →
+        keys_of (match_ordering o ((name, w) ∷ e ∷ es) ((e.0, w) ∷ es)
+        (e ∷ insert_entry (slice_cmp nat_cmp) es name w)) ≡ match_ordering o (name ∷ e.0 ∷ keys_of es)
+        (e.0 ∷ keys_of es) (e.0 ∷ with_name name (keys_of es))
     by_order Less rest = refl
     by_order Equal rest = refl
     by_order Greater rest = ap (λ ns. e.0 ∷ ns) rest
 
 -- a name that is held adds none
-pub names_kept : (es : List (List ℕ × Point)) (name : List ℕ) (p : Point) → IsStrictlySortedBy (slice_cmp nat_cmp) (keys_of es) → point_at es name ≡ Some p → with_name name (keys_of es) ≡ keys_of es
+pub names_kept : (es : List (List ℕ × Point)) (name : List ℕ) (p : Point) →
+    IsStrictlySortedBy (slice_cmp nat_cmp) (keys_of es) → point_at es name ≡ Some p →
+    with_name name (keys_of es) ≡ keys_of es
 names_kept [] name p sorted here = cc
-names_kept (e ∷ es) name p sorted here = by_order (slice_cmp nat_cmp name e.0) refl (names_kept es name p (sorted_tail (slice_cmp nat_cmp) e.0 (keys_of es) sorted))
+names_kept (e ∷ es) name p sorted here = by_order (slice_cmp nat_cmp name e.0) refl
+    (names_kept es name p (sorted_tail (slice_cmp nat_cmp) e.0 (keys_of es) sorted))
   where
-    by_order : (o : Ordering) → slice_cmp nat_cmp name e.0 ≡ o → (point_at es name ≡ Some p → with_name name (keys_of es) ≡ keys_of es) → match_ordering o (name ∷ e.0 ∷ keys_of es) (e.0 ∷ keys_of es) (e.0 ∷ with_name name (keys_of es)) ≡ e.0 ∷ keys_of es
-    by_order Less o rest = let gone : point_at (e ∷ es) name ≡ None = lookup-none (is_at (slice_cmp nat_cmp name)) (e ∷ es) (none_below_head nat_list_cmp_total name e es sorted o) in cc
+    by_order : (o : Ordering) → slice_cmp nat_cmp name e.0 ≡ o →
+        (point_at es name ≡ Some p → with_name name (keys_of es) ≡ keys_of es) →
+        match_ordering o (name ∷ e.0 ∷ keys_of es) (e.0 ∷ keys_of es) (e.0 ∷ with_name name (keys_of es)) ≡ e.0 ∷
+        keys_of es
+    by_order Less o rest = let gone : point_at (e ∷ es) name ≡ None =
+        lookup-none (is_at (slice_cmp nat_cmp name)) (e ∷ es) (none_below_head nat_list_cmp_total name e es sorted o) in
+        cc
     by_order Equal o rest = refl
-    by_order Greater o rest = ap (λ ns. e.0 ∷ ns) (rest (sym (lookup_tail (is_at (slice_cmp nat_cmp name)) e es (ap is_eq o)) ∙ here))
+    by_order Greater o rest = ap (λ ns. e.0 ∷ ns) (rest (sym
+        (lookup_tail (is_at (slice_cmp nat_cmp name)) e es (ap is_eq o)) ∙ here))
 
 -- a name that isn't held adds one
-pub names_added : (es : List (List ℕ × Point)) (name : List ℕ) → point_at es name ≡ None → length (with_name name (keys_of es)) ≡ length (keys_of es) + 1
+pub names_added : (es : List (List ℕ × Point)) (name : List ℕ) → point_at es name ≡ None →
+    length (with_name name (keys_of es)) ≡ length (keys_of es) + 1
 names_added [] name none = refl
 names_added (e ∷ es) name none = by_order (slice_cmp nat_cmp name e.0) refl (names_added es name)
   where
-    by_order : (o : Ordering) → slice_cmp nat_cmp name e.0 ≡ o → (point_at es name ≡ None → length (with_name name (keys_of es)) ≡ length (keys_of es) + 1) → length (match_ordering o (name ∷ e.0 ∷ keys_of es) (e.0 ∷ keys_of es) (e.0 ∷ with_name name (keys_of es))) ≡ length (e.0 ∷ keys_of es) + 1
+    by_order : (o : Ordering) → slice_cmp nat_cmp name e.0 ≡ o →
+        (point_at es name ≡ None → length (with_name name (keys_of es)) ≡ length (keys_of es) + 1) →
+        length (match_ordering o (name ∷ e.0 ∷ keys_of es) (e.0 ∷ keys_of es) (e.0 ∷ with_name name (keys_of es))) ≡
+        length (e.0 ∷ keys_of es) + 1
     by_order Less o rest = omega arith
-    by_order Equal o rest = let some : point_at (e ∷ es) name ≡ Some e.1 = lookup_head (is_at (slice_cmp nat_cmp name)) e es (ap is_eq o) in cc
-    by_order Greater o rest = let r = rest (sym (lookup_tail (is_at (slice_cmp nat_cmp name)) e es (ap is_eq o)) ∙ none) in omega (arith, r)
+    by_order Equal o rest = let some : point_at (e ∷ es) name ≡ Some e.1 =
+        lookup_head (is_at (slice_cmp nat_cmp name)) e es (ap is_eq o) in cc
+    by_order Greater o rest = let r = rest (sym (lookup_tail (is_at (slice_cmp nat_cmp name)) e es (ap is_eq o)) ∙
+        none) in omega (arith, r)
 
 -- a map in which a name holds another point
-module _ (es fs : List (List ℕ × Point)) (name : List ℕ) (w : Point) (at : (q : List ℕ) → point_at fs q ≡ cond (is_at (slice_cmp nat_cmp name) q) (Some w) (point_at es q)) where
-  part : {A : Type 0} (f : Option Point → A) (q : List ℕ) → f (point_at fs q) ≡ cond (bytes_eq name q) (f (Some w)) (f (point_at es q))
-  part {A} f q = ap f (at q ∙ ap (λ t. cond t (Some w) (point_at es q)) (is_eq-slice_cmp name q)) ∙ by_test (bytes_eq name q)
+module _ (es fs : List (List ℕ × Point)) (name : List ℕ) (w : Point)
+    (at : (q : List ℕ) → point_at fs q ≡ cond (is_at (slice_cmp nat_cmp name) q) (Some w) (point_at es q)) where
+  part : {A : Type 0} (f : Option Point → A) (q : List ℕ) → f (point_at fs q) ≡ cond (bytes_eq name q) (f (Some w))
+      (f (point_at es q))
+  part {A} f q = ap f (at q ∙ ap (λ t. cond t (Some w) (point_at es q)) (is_eq-slice_cmp name q)) ∙
+      by_test (bytes_eq name q)
     where
       by_test : (b : Bool) → f (cond b (Some w) (point_at es q)) ≡ cond b (f (Some w)) (f (point_at es q))
       by_test true = refl
@@ -83,7 +105,8 @@ module _ (es fs : List (List ℕ × Point)) (name : List ℕ) (w : Point) (at : 
   }
 
 -- what a name holds is what its point holds
-pub held_seen : (es : List (List ℕ × Point)) (name : List ℕ) (p : Point) → point_at es name ≡ Some p → held_of p ≡ held_at (shown es) name
+pub held_seen : (es : List (List ℕ × Point)) (name : List ℕ) (p : Point) → point_at es name ≡ Some p →
+    held_of p ≡ held_at (shown es) name
 unfolding shown held_of
 held_seen es name p here = λ i. record { key = keys i; number = λ d. numbers d i }
   where
@@ -95,7 +118,8 @@ held_seen es name p here = λ i. record { key = keys i; number = λ d. numbers d
     numbers (Execs t n) = ap (λ (o : Option Point). number_at o (Execs t n)) (sym here)
     numbers (Shifts t m n) = ap (λ (o : Option Point). number_at o (Shifts t m n)) (sym here)
 
-pub nothing_seen : (es : List (List ℕ × Point)) (name : List ℕ) → point_at es name ≡ None → empty_held ≡ held_at (shown es) name
+pub nothing_seen : (es : List (List ℕ × Point)) (name : List ℕ) → point_at es name ≡ None →
+    empty_held ≡ held_at (shown es) name
 unfolding shown empty_held
 nothing_seen es name none = λ i. record { key = keys i; number = λ d. numbers d i }
   where
@@ -111,33 +135,50 @@ nothing_seen es name none = λ i. record { key = keys i; number = λ d. numbers 
 abbrev pub Lent : BTreeMap (List ℕ) Point → (Point → BTreeMap (List ℕ) Point) → List ℕ → Type 0
 Lent m lend name = (w : Point) → WritesThrough (slice_cmp nat_cmp) (slice_cmp nat_cmp name) m w (lend w)
 
-module _ (m : BTreeMap (List ℕ) Point) (lend : Point → BTreeMap (List ℕ) Point) (name : List ℕ) (p w : Point) (lent : Lent m lend name) (sorted : IsStrictlySortedBy (slice_cmp nat_cmp) (keys_of m.entries)) (here : point_at m.entries name ≡ Some p) where
+module _ (m : BTreeMap (List ℕ) Point) (lend : Point → BTreeMap (List ℕ) Point) (name : List ℕ) (p w : Point)
+    (lent : Lent m lend name) (sorted : IsStrictlySortedBy (slice_cmp nat_cmp) (keys_of m.entries))
+    (here : point_at m.entries name ≡ Some p) where
   through : shown (lend w).entries ≡ with_held name (held_of w) (shown m.entries)
-  through = written m.entries (lend w).entries name w (((lent w).3 (subst (λ (o : Option Point). IsSome o) (sym here) refl)).0) ((lent w).1 ∙ sym (names_kept m.entries name p sorted here))
+  through = written m.entries (lend w).entries name w (((lent w).3
+      (subst (λ (o : Option Point). IsSome o) (sym here) refl)).0)
+      ((lent w).1 ∙ sym (names_kept m.entries name p sorted here))
 
-  pub lent_step : (f : Held → Held) → held_of w ≡ f (held_of p) → shown (lend w).entries ≡ with_held name (f (held_at (shown m.entries) name)) (shown m.entries)
-  lent_step f e = through ∙ ap (λ (h : Held). with_held name h (shown m.entries)) (e ∙ ap f (held_seen m.entries name p here))
+  pub lent_step : (f : Held → Held) → held_of w ≡ f (held_of p) →
+      shown (lend w).entries ≡ with_held name (f (held_at (shown m.entries) name)) (shown m.entries)
+  lent_step f e = through ∙ ap (λ (h : Held). with_held name h (shown m.entries))
+      (e ∙ ap f (held_seen m.entries name p here))
 
   pub kept_step : held_of w ≡ held_of p → shown (lend w).entries ≡ shown m.entries
   unfolding shown
   kept_step e = lent_step (λ h. h) e ∙ with_held-same name (shown m.entries) (names_kept m.entries name p sorted here)
 
-pub added_step : (m n : BTreeMap (List ℕ) Point) (name : List ℕ) (w : Point) → n.entries ≡ insert_entry (slice_cmp nat_cmp) m.entries name w → ((q : List ℕ) → point_at n.entries q ≡ cond (is_at (slice_cmp nat_cmp name) q) (Some w) (point_at m.entries q)) → point_at m.entries name ≡ None → (f : Held → Held) → held_of w ≡ f empty_held → shown n.entries ≡ with_held name (f (held_at (shown m.entries) name)) (shown m.entries)
-added_step m n name w e at none f h = written m.entries n.entries name w at (ap (λ es. keys_of es) e ∙ names_inserted m.entries name w) ∙ ap (λ (x : Held). with_held name x (shown m.entries)) (h ∙ ap f (nothing_seen m.entries name none))
+pub added_step : (m n : BTreeMap (List ℕ) Point) (name : List ℕ) (w : Point) →
+    n.entries ≡ insert_entry (slice_cmp nat_cmp) m.entries name w →
+    ((q : List ℕ) → point_at n.entries q ≡ cond (is_at (slice_cmp nat_cmp name) q) (Some w) (point_at m.entries q)) →
+    point_at m.entries name ≡ None → (f : Held → Held) → held_of w ≡ f empty_held →
+    shown n.entries ≡ with_held name (f (held_at (shown m.entries) name)) (shown m.entries)
+added_step m n name w e at none f h = written m.entries n.entries name w at
+    (ap (λ es. keys_of es) e ∙ names_inserted m.entries name w) ∙
+    ap (λ (x : Held). with_held name x (shown m.entries)) (h ∙ ap f (nothing_seen m.entries name none))
 
 -- the budgets of a name, in what its point holds
-pub budget_seen : (es : List (List ℕ × Point)) (name : List ℕ) (term : ℕ) → budget_of (shown es) name term ≡ budget_under (key_at (point_at es name)) (number_at (point_at es name)) term
+pub budget_seen : (es : List (List ℕ × Point)) (name : List ℕ) (term : ℕ) →
+    budget_of (shown es) name term ≡ budget_under (key_at (point_at es name)) (number_at (point_at es name)) term
 unfolding shown
 budget_seen es name term = by_key (key_at (point_at es name))
   where
-    by_key : (k : Option KeyValue) → states.budget_under (shown es) name term k ≡ budget_under k (number_at (point_at es name)) term
+    by_key : (k : Option KeyValue) → states.budget_under (shown es) name term k ≡ budget_under k
+        (number_at (point_at es name)) term
     by_key None = refl
     by_key (Some key) = refl
 
-pub budget_held : (es : List (List ℕ × Point)) (name : List ℕ) (term : ℕ) (p : Point) → Some p ≡ point_at es name → budget_under (option_map key_value p.key) (number_of p.counts.items) term ≡ budget_of (shown es) name term
-budget_held es name term p here = ap (λ (o : Option Point). budget_under (key_at o) (number_at o) term) here ∙ sym (budget_seen es name term)
+pub budget_held : (es : List (List ℕ × Point)) (name : List ℕ) (term : ℕ) (p : Point) → Some p ≡ point_at es name →
+    budget_under (option_map key_value p.key) (number_of p.counts.items) term ≡ budget_of (shown es) name term
+budget_held es name term p here = ap (λ (o : Option Point). budget_under (key_at o) (number_at o) term) here ∙
+    sym (budget_seen es name term)
 
-pub no_hits : (es : List (List ℕ × Point)) (name : List ℕ) → None ≡ point_at es name → (n : ℕ) → 0 ≡ sum_below n (λ i. number_at (point_at es name) (Hits i))
+pub no_hits : (es : List (List ℕ × Point)) (name : List ℕ) → None ≡ point_at es name → (n : ℕ) →
+    0 ≡ sum_below n (λ i. number_at (point_at es name) (Hits i))
 no_hits es name none zero = refl
 no_hits es name none (suc n) =
     let rest = no_hits es name none n in
@@ -149,33 +190,43 @@ pub no_grants : (es : List (List ℕ × Point)) (name : List ℕ) (term : ℕ) �
 no_grants es name term none zero = refl
 no_grants es name term none (suc n) =
     let rest = no_grants es name term none n in
-    let here : 0 ≡ number_at (point_at es name) (Shifts term n n) = ap (λ (o : Option Point). number_at o (Shifts term n n)) none in
+    let here : 0 ≡ number_at (point_at es name) (Shifts term n n) =
+    ap (λ (o : Option Point). number_at o (Shifts term n n)) none in
     omega arith
 
 pub shown_none : shown [] ≡ fold []
 unfolding shown fold
 shown_none = refl
 
-numbers_shown : (points : List (List ℕ × Point)) (name : List ℕ) (o : Option Point) → o ≡ point_at points name → (c : Counted) → number_at o c ≡ cell_of (shown points) name c
+numbers_shown : (points : List (List ℕ × Point)) (name : List ℕ) (o : Option Point) → o ≡ point_at points name →
+    (c : Counted) → number_at o c ≡ cell_of (shown points) name c
 unfolding shown
 numbers_shown points name o e (Hits node) = ap (λ x. number_at x (Hits node)) e
 numbers_shown points name o e (Execs term node) = ap (λ x. number_at x (Execs term node)) e
 numbers_shown points name o e (Shifts term from to) = ap (λ x. number_at x (Shifts term from to)) e
 
 -- what is kept of a name is what is shown of it
-kept_at : (points : List (List ℕ × Point)) (name : List ℕ) (p : Point) → Some p ≡ point_at points name → held_of p ≡ held_at (shown points) name
+kept_at : (points : List (List ℕ × Point)) (name : List ℕ) (p : Point) → Some p ≡ point_at points name →
+    held_of p ≡ held_at (shown points) name
 unfolding shown held_of
 kept_at points name p e = λ i. record { key = key_at (e i); number = λ c. numbers_shown points name (Some p) e c i }
 
-pub kept_is_shown : (points : List (List ℕ × Point)) (name : List ℕ) (o : Option (Bor Point)) → option_copied o ≡ point_at points name → stored_held held_of o ≡ held_at (shown points) name
+pub kept_is_shown : (points : List (List ℕ × Point)) (name : List ℕ) (o : Option (Bor Point)) →
+    option_copied o ≡ point_at points name → stored_held held_of o ≡ held_at (shown points) name
 unfolding shown empty_held
-kept_is_shown points name None e = λ i. record { key = key_at (e i); number = λ c. numbers_shown points name None e c i }
+kept_is_shown points name None e = λ i. record {
+  key = key_at (e i);
+  number =
+      λ c. numbers_shown points name None e c i;
+}
 kept_is_shown points name (Some p) e = kept_at points name p.now e
 
 -- of each point that is kept what it holds is what is shown of its name
-pub points_listed : (points : List (List ℕ × Point)) → IsStrictlySortedBy (slice_cmp nat_cmp) (keys_of points) → AllByRecursion (λ e. held_of e.1 ≡ held_at (shown points) e.0) points
+pub points_listed : (points : List (List ℕ × Point)) → IsStrictlySortedBy (slice_cmp nat_cmp) (keys_of points) →
+    AllByRecursion (λ e. held_of e.1 ≡ held_at (shown points) e.0) points
 points_listed points sorted = each points (all_stored points sorted)
   where
-    each : (xs : List (List ℕ × Point)) → AllByRecursion (λ e. point_at points e.0 ≡ Some e.1) xs → AllByRecursion (λ e. held_of e.1 ≡ held_at (shown points) e.0) xs
+    each : (xs : List (List ℕ × Point)) → AllByRecursion (λ e. point_at points e.0 ≡ Some e.1) xs →
+        AllByRecursion (λ e. held_of e.1 ≡ held_at (shown points) e.0) xs
     each [] h = tt
     each (x ∷ xs) h = (kept_at points x.0 x.1 (sym h.0), each xs h.1)

@@ -21,7 +21,8 @@ err_is_ok d y e = absurd cc
 
 -- one reading fails as another does, where it passes each fault on
 pub fails_along : {F A B : Type 0} (is_out_of_memory : F → Bool) (e : F) (first : Result A F) (whole : Result B F)
-    → ((f : F) → first ≡ Err f → whole ≡ Err f) → FailsUnless is_out_of_memory e first → FailsUnless is_out_of_memory e whole
+    → ((f : F) → first ≡ Err f → whole ≡ Err f) → FailsUnless is_out_of_memory e first →
+    FailsUnless is_out_of_memory e whole
 fails_along is_out_of_memory e first whole passed h = by_test (is_out_of_memory e) h
   where
     by_test : (b : Bool) → OnFalse b (first ≡ Err e) → OnFalse b (whole ≡ Err e)

@@ -27,7 +27,9 @@ either_way same true = same
 either_way same false = refl
 
 -- a count leaves the keys
-pub fold_hits : (name : List ℕ) (i : ℕ) (ops : List Operation) → with_name name (names_of ops) ≡ names_of ops → fold (Count (Hits name i) (number_at (Hits name i) ops + 1) ∷ ops) ≡ with_hits name i (number_at (Hits name i) ops + 1) (fold ops)
+pub fold_hits : (name : List ℕ) (i : ℕ) (ops : List Operation) → with_name name (names_of ops) ≡ names_of ops →
+    fold (Count (Hits name i) (number_at (Hits name i) ops + 1) ∷ ops) ≡ with_hits name i
+    (number_at (Hits name i) ops + 1) (fold ops)
 unfolding fold with_hits same_cell
 fold_hits name i ops kept = λ x. record {
   names = either_way kept (nat_lt 0 (number_at (Hits name i) ops + 1)) x;
@@ -37,11 +39,17 @@ fold_hits name i ops kept = λ x. record {
   shifts = λ q t m j. at_key (key_of q ops) (λ key. max_zero (number_at (Shifts q key t m j) ops) x);
 }
   where
-    cells : (q : List ℕ) (j : ℕ) → max (cond (bytes_eq name q && eqb i j) (number_at (Hits name i) ops + 1) 0) (number_at (Hits q j) ops) ≡ cond (bytes_eq name q && eqb i j) (number_at (Hits name i) ops + 1) (number_at (Hits q j) ops)
-    cells q j = above (bytes_eq name q && eqb i j) (number_at (Hits name i) ops + 1) (number_at (Hits q j) ops) (λ h. low (bytes_eq name q) (eqb i j) refl refl h)
+    cells : (q : List ℕ) (j : ℕ) → max (cond (bytes_eq name q && eqb i j) (number_at (Hits name i) ops + 1) 0)
+        (number_at (Hits q j) ops) ≡ cond (bytes_eq name q && eqb i j) (number_at (Hits name i) ops + 1)
+        (number_at (Hits q j) ops)
+    cells q j = above (bytes_eq name q && eqb i j) (number_at (Hits name i) ops + 1) (number_at (Hits q j) ops)
+        (λ h. low (bytes_eq name q) (eqb i j) refl refl h)
       where
-        low : (a b : Bool) → bytes_eq name q ≡ a → eqb i j ≡ b → a && b ≡ true → number_at (Hits q j) ops ≤ number_at (Hits name i) ops + 1
-        low true true e f h = subst (λ (n : List ℕ). number_at (Hits n j) ops ≤ number_at (Hits name i) ops + 1) ((bytes_eq-Decides name q).0 e) (subst (λ (k : ℕ). number_at (Hits name k) ops ≤ number_at (Hits name i) ops + 1) (eqb-true i j f) (omega arith))
+        low : (a b : Bool) → bytes_eq name q ≡ a → eqb i j ≡ b → a && b ≡ true →
+            number_at (Hits q j) ops ≤ number_at (Hits name i) ops + 1
+        low true true e f h = subst (λ (n : List ℕ). number_at (Hits n j) ops ≤ number_at (Hits name i) ops + 1)
+            ((bytes_eq-Decides name q).0 e) (subst (λ (k : ℕ). number_at (Hits name k) ops ≤ number_at (Hits name i)
+            ops + 1) (eqb-true i j f) (omega arith))
         low true false e f h = cc
         low false b e f h = cc
 
@@ -55,15 +63,23 @@ module _ (name : List ℕ) (key : KeyValue) (ops : List Operation) (here : key_o
       either false = refl
 
       by_test : (b : Bool) → bytes_eq name q ≡ b → greater (cond b (Some key) None) (key_of q ops) ≡ key_of q ops
-      by_test true e = let at : key_of q ops ≡ Some key = subst (λ (n : List ℕ). key_of n ops ≡ Some key) ((bytes_eq-Decides name q).0 e) here in rw at (ap (λ k. Some k) (either (key_le key key)))
+      by_test true e = let at : key_of q ops ≡ Some key = subst (λ (n : List ℕ). key_of n ops ≡ Some key)
+          ((bytes_eq-Decides name q).0 e) here in rw at (ap (λ k. Some k) (either (key_le key key)))
       by_test false e = refl
 
   -- the execution cells after one execution more
-  pub execs_cells : (k i x : ℕ) → x ≡ number_at (Execs name key k i) ops → (q : List ℕ) (t j : ℕ) → at_key (greater (cond (bytes_eq name q) (Some key) None) (key_of q ops)) (λ key'. max (cond (bytes_eq name q && (same_key key key' && (eqb k t && eqb i j))) (x + 1) 0) (number_at (Execs q key' t j) ops)) ≡ cond (bytes_eq name q && (eqb k t && eqb i j)) (x + 1) (at_key (key_of q ops) (λ key'. number_at (Execs q key' t j) ops))
+  pub execs_cells : (k i x : ℕ) → x ≡ number_at (Execs name key k i) ops → (q : List ℕ) (t j : ℕ) →
+      at_key (greater (cond (bytes_eq name q) (Some key) None) (key_of q ops))
+      (λ key'. max (cond (bytes_eq name q && (same_key key key' && (eqb k t && eqb i j))) (x + 1) 0)
+      (number_at (Execs q key' t j) ops)) ≡ cond (bytes_eq name q && (eqb k t && eqb i j)) (x + 1)
+      (at_key (key_of q ops) (λ key'. number_at (Execs q key' t j) ops))
   execs_cells k i x ex q t j = by_test (bytes_eq name q) refl
     where
-      low : (a b : Bool) → eqb k t ≡ a → eqb i j ≡ b → name ≡ q → a && b ≡ true → number_at (Execs q key t j) ops ≤ x + 1
-      low true true e f same h = subst (λ (n : List ℕ). number_at (Execs n key t j) ops ≤ x + 1) same (subst (λ (a : ℕ). number_at (Execs name key a j) ops ≤ x + 1) (eqb-true k t e) (subst (λ (b : ℕ). number_at (Execs name key k b) ops ≤ x + 1) (eqb-true i j f) (omega (arith, ex))))
+      low : (a b : Bool) → eqb k t ≡ a → eqb i j ≡ b → name ≡ q → a && b ≡ true →
+          number_at (Execs q key t j) ops ≤ x + 1
+      low true true e f same h = subst (λ (n : List ℕ). number_at (Execs n key t j) ops ≤ x + 1) same
+          (subst (λ (a : ℕ). number_at (Execs name key a j) ops ≤ x + 1) (eqb-true k t e)
+          (subst (λ (b : ℕ). number_at (Execs name key k b) ops ≤ x + 1) (eqb-true i j f) (omega (arith, ex))))
       low true false e f same h = cc
       low false b e f same h = cc
 
@@ -71,18 +87,28 @@ module _ (name : List ℕ) (key : KeyValue) (ops : List Operation) (here : key_o
       either true = refl
       either false = refl
 
-      by_test : (b : Bool) → bytes_eq name q ≡ b → at_key (greater (cond b (Some key) None) (key_of q ops)) (λ key'. max (cond (b && (same_key key key' && (eqb k t && eqb i j))) (x + 1) 0) (number_at (Execs q key' t j) ops)) ≡ cond (b && (eqb k t && eqb i j)) (x + 1) (at_key (key_of q ops) (λ key'. number_at (Execs q key' t j) ops))
+      by_test : (b : Bool) → bytes_eq name q ≡ b → at_key (greater (cond b (Some key) None) (key_of q ops))
+          (λ key'. max (cond (b && (same_key key key' && (eqb k t && eqb i j))) (x + 1) 0)
+          (number_at (Execs q key' t j) ops)) ≡ cond (b && (eqb k t && eqb i j)) (x + 1)
+          (at_key (key_of q ops) (λ key'. number_at (Execs q key' t j) ops))
       by_test false e = λ p. at_key (key_of q ops) (λ key'. max_zero (number_at (Execs q key' t j) ops) p)
       by_test true e =
           let same : name ≡ q = (bytes_eq-Decides name q).0 e in
           let keys : key_of q ops ≡ Some key = subst (λ (n : List ℕ). key_of n ops ≡ Some key) same here in
-          let top : greater (Some key) (key_of q ops) ≡ Some key = ap (λ (o : Option KeyValue). greater (Some key) o) keys ∙ ap (λ (a : KeyValue). Some a) (either (key_le key key)) in
-          ap (λ (o : Option KeyValue). at_key o (λ key'. max (cond (same_key key key' && (eqb k t && eqb i j)) (x + 1) 0) (number_at (Execs q key' t j) ops))) top ∙
-          ap (λ (r : Bool). max (cond (r && (eqb k t && eqb i j)) (x + 1) 0) (number_at (Execs q key t j) ops)) (same_bytes (key_rank key)) ∙
-          above (eqb k t && eqb i j) (x + 1) (number_at (Execs q key t j) ops) (low (eqb k t) (eqb i j) refl refl same) ∙
-          ap (λ (o : Option KeyValue). cond (eqb k t && eqb i j) (x + 1) (at_key o (λ key'. number_at (Execs q key' t j) ops))) (sym keys)
+          let top : greater (Some key) (key_of q ops) ≡ Some key =
+          ap (λ (o : Option KeyValue). greater (Some key) o) keys ∙
+          ap (λ (a : KeyValue). Some a) (either (key_le key key)) in
+          ap (λ (o : Option KeyValue). at_key o (λ key'. max
+          (cond (same_key key key' && (eqb k t && eqb i j)) (x + 1) 0) (number_at (Execs q key' t j) ops))) top ∙
+          ap (λ (r : Bool). max (cond (r && (eqb k t && eqb i j)) (x + 1) 0) (number_at (Execs q key t j) ops))
+          (same_bytes (key_rank key)) ∙
+          above (eqb k t && eqb i j) (x + 1) (number_at (Execs q key t j) ops)
+          (low (eqb k t) (eqb i j) refl refl same) ∙
+          ap (λ (o : Option KeyValue). cond (eqb k t && eqb i j) (x + 1)
+          (at_key o (λ key'. number_at (Execs q key' t j) ops))) (sym keys)
 
-  pub fold_execs : (k i x : ℕ) → x ≡ number_at (Execs name key k i) ops → with_name name (names_of ops) ≡ names_of ops → fold (Count (Execs name key k i) (x + 1) ∷ ops) ≡ with_execs name k i (x + 1) (fold ops)
+  pub fold_execs : (k i x : ℕ) → x ≡ number_at (Execs name key k i) ops → with_name name (names_of ops) ≡ names_of ops →
+      fold (Count (Execs name key k i) (x + 1) ∷ ops) ≡ with_execs name k i (x + 1) (fold ops)
   unfolding fold with_execs same_cell
   fold_execs k i x ex kept = λ p. record {
     names = kept p;
@@ -93,11 +119,19 @@ module _ (name : List ℕ) (key : KeyValue) (ops : List Operation) (here : key_o
   }
 
   -- the shift cells after a shift of no less in all
-  pub shifts_cells : (k i o total : ℕ) → number_at (Shifts name key k i o) ops ≤ total → (q : List ℕ) (t m j : ℕ) → at_key (greater (cond (bytes_eq name q) (Some key) None) (key_of q ops)) (λ key'. max (cond (bytes_eq name q && (same_key key key' && (eqb k t && (eqb i m && eqb o j)))) total 0) (number_at (Shifts q key' t m j) ops)) ≡ cond (bytes_eq name q && (eqb k t && (eqb i m && eqb o j))) total (at_key (key_of q ops) (λ key'. number_at (Shifts q key' t m j) ops))
+  pub shifts_cells : (k i o total : ℕ) → number_at (Shifts name key k i o) ops ≤ total → (q : List ℕ) (t m j : ℕ) →
+      at_key (greater (cond (bytes_eq name q) (Some key) None) (key_of q ops))
+      (λ key'. max (cond (bytes_eq name q && (same_key key key' && (eqb k t && (eqb i m && eqb o j)))) total 0)
+      (number_at (Shifts q key' t m j) ops)) ≡ cond (bytes_eq name q && (eqb k t && (eqb i m && eqb o j))) total
+      (at_key (key_of q ops) (λ key'. number_at (Shifts q key' t m j) ops))
   shifts_cells k i o total upto q t m j = by_test (bytes_eq name q) refl
     where
-      low : (a b c : Bool) → eqb k t ≡ a → eqb i m ≡ b → eqb o j ≡ c → name ≡ q → a && (b && c) ≡ true → number_at (Shifts q key t m j) ops ≤ total
-      low true true true e f g same h = subst (λ (n : List ℕ). number_at (Shifts n key t m j) ops ≤ total) same (subst (λ (a : ℕ). number_at (Shifts name key a m j) ops ≤ total) (eqb-true k t e) (subst (λ (b : ℕ). number_at (Shifts name key k b j) ops ≤ total) (eqb-true i m f) (subst (λ (c : ℕ). number_at (Shifts name key k i c) ops ≤ total) (eqb-true o j g) upto)))
+      low : (a b c : Bool) → eqb k t ≡ a → eqb i m ≡ b → eqb o j ≡ c → name ≡ q → a && (b && c) ≡ true →
+          number_at (Shifts q key t m j) ops ≤ total
+      low true true true e f g same h = subst (λ (n : List ℕ). number_at (Shifts n key t m j) ops ≤ total) same
+          (subst (λ (a : ℕ). number_at (Shifts name key a m j) ops ≤ total) (eqb-true k t e)
+          (subst (λ (b : ℕ). number_at (Shifts name key k b j) ops ≤ total) (eqb-true i m f)
+          (subst (λ (c : ℕ). number_at (Shifts name key k i c) ops ≤ total) (eqb-true o j g) upto)))
       low true true false e f g same h = cc
       low true false c e f g same h = cc
       low false b c e f g same h = cc
@@ -106,18 +140,30 @@ module _ (name : List ℕ) (key : KeyValue) (ops : List Operation) (here : key_o
       either true = refl
       either false = refl
 
-      by_test : (b : Bool) → bytes_eq name q ≡ b → at_key (greater (cond b (Some key) None) (key_of q ops)) (λ key'. max (cond (b && (same_key key key' && (eqb k t && (eqb i m && eqb o j)))) total 0) (number_at (Shifts q key' t m j) ops)) ≡ cond (b && (eqb k t && (eqb i m && eqb o j))) total (at_key (key_of q ops) (λ key'. number_at (Shifts q key' t m j) ops))
+      by_test : (b : Bool) → bytes_eq name q ≡ b → at_key (greater (cond b (Some key) None) (key_of q ops))
+          (λ key'. max (cond (b && (same_key key key' && (eqb k t && (eqb i m && eqb o j)))) total 0)
+          (number_at (Shifts q key' t m j) ops)) ≡ cond (b && (eqb k t && (eqb i m && eqb o j))) total
+          (at_key (key_of q ops) (λ key'. number_at (Shifts q key' t m j) ops))
       by_test false e = λ p. at_key (key_of q ops) (λ key'. max_zero (number_at (Shifts q key' t m j) ops) p)
       by_test true e =
           let same : name ≡ q = (bytes_eq-Decides name q).0 e in
           let keys : key_of q ops ≡ Some key = subst (λ (n : List ℕ). key_of n ops ≡ Some key) same here in
-          let top : greater (Some key) (key_of q ops) ≡ Some key = ap (λ (o : Option KeyValue). greater (Some key) o) keys ∙ ap (λ (a : KeyValue). Some a) (either (key_le key key)) in
-          ap (λ (h : Option KeyValue). at_key h (λ key'. max (cond (same_key key key' && (eqb k t && (eqb i m && eqb o j))) total 0) (number_at (Shifts q key' t m j) ops))) top ∙
-          ap (λ (r : Bool). max (cond (r && (eqb k t && (eqb i m && eqb o j))) total 0) (number_at (Shifts q key t m j) ops)) (same_bytes (key_rank key)) ∙
-          above (eqb k t && (eqb i m && eqb o j)) total (number_at (Shifts q key t m j) ops) (low (eqb k t) (eqb i m) (eqb o j) refl refl refl same) ∙
-          ap (λ (h : Option KeyValue). cond (eqb k t && (eqb i m && eqb o j)) total (at_key h (λ key'. number_at (Shifts q key' t m j) ops))) (sym keys)
+          let top : greater (Some key) (key_of q ops) ≡ Some key =
+          ap (λ (o : Option KeyValue). greater (Some key) o) keys ∙
+          ap (λ (a : KeyValue). Some a) (either (key_le key key)) in
+          ap (λ (h : Option KeyValue). at_key h (λ key'. max
+          (cond (same_key key key' && (eqb k t && (eqb i m && eqb o j))) total 0)
+          (number_at (Shifts q key' t m j) ops))) top ∙
+          ap (λ (r : Bool). max (cond (r && (eqb k t && (eqb i m && eqb o j))) total 0)
+          (number_at (Shifts q key t m j) ops)) (same_bytes (key_rank key)) ∙
+          above (eqb k t && (eqb i m && eqb o j)) total (number_at (Shifts q key t m j) ops)
+          (low (eqb k t) (eqb i m) (eqb o j) refl refl refl same) ∙
+          ap (λ (h : Option KeyValue). cond (eqb k t && (eqb i m && eqb o j)) total
+          (at_key h (λ key'. number_at (Shifts q key' t m j) ops))) (sym keys)
 
-  pub fold_shifts : (k i o total : ℕ) → number_at (Shifts name key k i o) ops ≤ total → with_name name (names_of ops) ≡ names_of ops → fold (Count (Shifts name key k i o) total ∷ ops) ≡ with_shifts name k i o total (fold ops)
+  pub fold_shifts : (k i o total : ℕ) → number_at (Shifts name key k i o) ops ≤ total →
+      with_name name (names_of ops) ≡ names_of ops → fold (Count (Shifts name key k i o) total ∷ ops) ≡ with_shifts name
+      k i o total (fold ops)
   unfolding fold with_shifts same_cell
   fold_shifts k i o total upto kept = λ p. record {
     names = kept p;
@@ -137,21 +183,32 @@ module _ (key : KeyValue) where
   off_key true false b m n e z = omega arith
   off_key false s b m n e z = omega arith
 
-  pub unheard_execs : (q : List ℕ) (t j : ℕ) (ops : List Operation) → clock_of ops < key.clock → number_at (Execs q key t j) ops ≡ 0
+  pub unheard_execs : (q : List ℕ) (t j : ℕ) (ops : List Operation) → clock_of ops < key.clock →
+      number_at (Execs q key t j) ops ≡ 0
   unfolding same_cell
   unheard_execs q t j [] h = refl
-  unheard_execs q t j (Set n a ∷ ops) h = let rest : number_at (Execs q key t j) ops ≡ 0 = unheard_execs q t j ops (omega arith) in omega arith
-  unheard_execs q t j (Count (Hits n i) m ∷ ops) h = let rest : number_at (Execs q key t j) ops ≡ 0 = unheard_execs q t j ops (omega arith) in omega arith
-  unheard_execs q t j (Count (Execs n a k i) m ∷ ops) h = off_key (bytes_eq n q) (same_key a key) (eqb k t && eqb i j) m (number_at (Execs q key t j) ops) (unheard_key a (omega arith)) (unheard_execs q t j ops (omega arith))
-  unheard_execs q t j (Count (Shifts n a k i o) m ∷ ops) h = let rest : number_at (Execs q key t j) ops ≡ 0 = unheard_execs q t j ops (omega arith) in omega arith
+  unheard_execs q t j (Set n a ∷ ops) h = let rest : number_at (Execs q key t j) ops ≡ 0 =
+      unheard_execs q t j ops (omega arith) in omega arith
+  unheard_execs q t j (Count (Hits n i) m ∷ ops) h = let rest :
+      number_at (Execs q key t j) ops ≡ 0 = unheard_execs q t j ops (omega arith) in omega arith
+  unheard_execs q t j (Count (Execs n a k i) m ∷ ops) h = off_key (bytes_eq n q) (same_key a key) (eqb k t && eqb i j) m
+      (number_at (Execs q key t j) ops) (unheard_key a (omega arith)) (unheard_execs q t j ops (omega arith))
+  unheard_execs q t j (Count (Shifts n a k i o) m ∷ ops) h = let rest :
+      number_at (Execs q key t j) ops ≡ 0 = unheard_execs q t j ops (omega arith) in omega arith
 
-  pub unheard_shifts : (q : List ℕ) (t j l : ℕ) (ops : List Operation) → clock_of ops < key.clock → number_at (Shifts q key t j l) ops ≡ 0
+  pub unheard_shifts : (q : List ℕ) (t j l : ℕ) (ops : List Operation) → clock_of ops < key.clock →
+      number_at (Shifts q key t j l) ops ≡ 0
   unfolding same_cell
   unheard_shifts q t j l [] h = refl
-  unheard_shifts q t j l (Set n a ∷ ops) h = let rest : number_at (Shifts q key t j l) ops ≡ 0 = unheard_shifts q t j l ops (omega arith) in omega arith
-  unheard_shifts q t j l (Count (Hits n i) m ∷ ops) h = let rest : number_at (Shifts q key t j l) ops ≡ 0 = unheard_shifts q t j l ops (omega arith) in omega arith
-  unheard_shifts q t j l (Count (Execs n a k i) m ∷ ops) h = let rest : number_at (Shifts q key t j l) ops ≡ 0 = unheard_shifts q t j l ops (omega arith) in omega arith
-  unheard_shifts q t j l (Count (Shifts n a k i o) m ∷ ops) h = off_key (bytes_eq n q) (same_key a key) (eqb k t && (eqb i j && eqb o l)) m (number_at (Shifts q key t j l) ops) (unheard_key a (omega arith)) (unheard_shifts q t j l ops (omega arith))
+  unheard_shifts q t j l (Set n a ∷ ops) h = let rest : number_at (Shifts q key t j l) ops ≡ 0 =
+      unheard_shifts q t j l ops (omega arith) in omega arith
+  unheard_shifts q t j l (Count (Hits n i) m ∷ ops) h = let rest :
+      number_at (Shifts q key t j l) ops ≡ 0 = unheard_shifts q t j l ops (omega arith) in omega arith
+  unheard_shifts q t j l (Count (Execs n a k i) m ∷ ops) h = let rest :
+      number_at (Shifts q key t j l) ops ≡ 0 = unheard_shifts q t j l ops (omega arith) in omega arith
+  unheard_shifts q t j l (Count (Shifts n a k i o) m ∷ ops) h =
+      off_key (bytes_eq n q) (same_key a key) (eqb k t && (eqb i j && eqb o l)) m (number_at (Shifts q key t j l) ops)
+      (unheard_key a (omega arith)) (unheard_shifts q t j l ops (omega arith))
 
   -- keys that a set holds are no later than its clock
   pub is_later : Option KeyValue → Type 0
@@ -180,10 +237,13 @@ module _ (key : KeyValue) where
   pub all_later : (q : List ℕ) (ops : List Operation) → clock_of ops < key.clock → is_later (key_of q ops)
   unfolding is_later
   all_later q [] h = tt
-  all_later q (Set n a ∷ ops) h = later_carried (cond (bytes_eq n q) (Some a) None) (key_of q ops) (carried_by (bytes_eq n q) a (omega arith)) (all_later q ops (omega arith))
+  all_later q (Set n a ∷ ops) h = later_carried (cond (bytes_eq n q) (Some a) None) (key_of q ops)
+      (carried_by (bytes_eq n q) a (omega arith)) (all_later q ops (omega arith))
   all_later q (Count (Hits n i) m ∷ ops) h = all_later q ops (omega arith)
-  all_later q (Count (Execs n a k i) m ∷ ops) h = later_carried (cond (bytes_eq n q) (Some a) None) (key_of q ops) (carried_by (bytes_eq n q) a (omega arith)) (all_later q ops (omega arith))
-  all_later q (Count (Shifts n a k i o) m ∷ ops) h = later_carried (cond (bytes_eq n q) (Some a) None) (key_of q ops) (carried_by (bytes_eq n q) a (omega arith)) (all_later q ops (omega arith))
+  all_later q (Count (Execs n a k i) m ∷ ops) h = later_carried (cond (bytes_eq n q) (Some a) None) (key_of q ops)
+      (carried_by (bytes_eq n q) a (omega arith)) (all_later q ops (omega arith))
+  all_later q (Count (Shifts n a k i o) m ∷ ops) h = later_carried (cond (bytes_eq n q) (Some a) None) (key_of q ops)
+      (carried_by (bytes_eq n q) a (omega arith)) (all_later q ops (omega arith))
 
   later_greater : (o : Option KeyValue) → is_later o → greater (Some key) o ≡ Some key
   unfolding is_later
@@ -196,7 +256,8 @@ module _ (key : KeyValue) where
   later_above None h = refl
   later_above (Some a) h = grind (arith, nat_tests)
 
-  pub fold_key : (name : List ℕ) (ops : List Operation) → clock_of ops < key.clock → fold (Set name key ∷ ops) ≡ with_key name key (fold ops)
+  pub fold_key : (name : List ℕ) (ops : List Operation) → clock_of ops < key.clock →
+      fold (Set name key ∷ ops) ≡ with_key name key (fold ops)
   unfolding fold with_key
   fold_key name ops h = λ p. record {
     names = with_name name (names_of ops);
@@ -206,14 +267,23 @@ module _ (key : KeyValue) where
     shifts = λ q t m j. shifts q t m j (bytes_eq name q) p;
   }
     where
-      keys : (q : List ℕ) (b : Bool) → greater (cond b (Some key) None) (key_of q ops) ≡ cond b (Some key) (key_of q ops)
+      keys : (q : List ℕ) (b : Bool) → greater (cond b (Some key) None) (key_of q ops) ≡ cond b (Some key)
+          (key_of q ops)
       keys q true = later_greater (key_of q ops) (all_later q ops h)
       keys q false = refl
 
-      execs : (q : List ℕ) (t j : ℕ) (b : Bool) → at_key (greater (cond b (Some key) None) (key_of q ops)) (λ a. max 0 (number_at (Execs q a t j) ops)) ≡ cond b 0 (at_key (key_of q ops) (λ a. number_at (Execs q a t j) ops))
-      execs q t j true = ap (λ (o : Option KeyValue). at_key o (λ a. max 0 (number_at (Execs q a t j) ops))) (later_greater (key_of q ops) (all_later q ops h)) ∙ max_zero (number_at (Execs q key t j) ops) ∙ unheard_execs q t j ops h
+      execs : (q : List ℕ) (t j : ℕ) (b : Bool) → at_key (greater (cond b (Some key) None) (key_of q ops))
+          (λ a. max 0 (number_at (Execs q a t j) ops)) ≡ cond b 0
+          (at_key (key_of q ops) (λ a. number_at (Execs q a t j) ops))
+      execs q t j true = ap (λ (o : Option KeyValue). at_key o (λ a. max 0 (number_at (Execs q a t j) ops)))
+          (later_greater (key_of q ops) (all_later q ops h)) ∙ max_zero (number_at (Execs q key t j) ops) ∙
+          unheard_execs q t j ops h
       execs q t j false = λ p. at_key (key_of q ops) (λ a. max_zero (number_at (Execs q a t j) ops) p)
 
-      shifts : (q : List ℕ) (t m j : ℕ) (b : Bool) → at_key (greater (cond b (Some key) None) (key_of q ops)) (λ a. max 0 (number_at (Shifts q a t m j) ops)) ≡ cond b 0 (at_key (key_of q ops) (λ a. number_at (Shifts q a t m j) ops))
-      shifts q t m j true = ap (λ (o : Option KeyValue). at_key o (λ a. max 0 (number_at (Shifts q a t m j) ops))) (later_greater (key_of q ops) (all_later q ops h)) ∙ max_zero (number_at (Shifts q key t m j) ops) ∙ unheard_shifts q t m j ops h
+      shifts : (q : List ℕ) (t m j : ℕ) (b : Bool) → at_key (greater (cond b (Some key) None) (key_of q ops))
+          (λ a. max 0 (number_at (Shifts q a t m j) ops)) ≡ cond b 0
+          (at_key (key_of q ops) (λ a. number_at (Shifts q a t m j) ops))
+      shifts q t m j true = ap (λ (o : Option KeyValue). at_key o (λ a. max 0 (number_at (Shifts q a t m j) ops)))
+          (later_greater (key_of q ops) (all_later q ops h)) ∙ max_zero (number_at (Shifts q key t m j) ops) ∙
+          unheard_shifts q t m j ops h
       shifts q t m j false = λ p. at_key (key_of q ops) (λ a. max_zero (number_at (Shifts q a t m j) ops) p)

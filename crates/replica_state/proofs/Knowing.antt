@@ -13,7 +13,9 @@ use Rattle.replica_state.proofs.Changes.{upto_true, true_upto, count_known, know
 -- ---- keys
 
 -- the key of the set is carried by an operation of it
-holds_key : (name : List ℕ) (key : KeyValue) (ops : List Operation) (test : KeyValue → Type 0) → KeyUpto (Some key) (key_of name ops) → ((other : KeyValue) → key_of name ops ≡ Some other → key_le key other ≡ true → test other) → HoldsKey ops name test
+holds_key : (name : List ℕ) (key : KeyValue) (ops : List Operation) (test : KeyValue → Type 0) →
+    KeyUpto (Some key) (key_of name ops) → ((other : KeyValue) → key_of name ops ≡ Some other →
+    key_le key other ≡ true → test other) → HoldsKey ops name test
 holds_key name key ops test upto passes = at (key_of name ops) refl upto
   where
     at : (o : Option KeyValue) → key_of name ops ≡ o → KeyUpto (Some key) o → HoldsKey ops name test
@@ -24,7 +26,8 @@ holds_key name key ops test upto passes = at (key_of name ops) refl upto
 
 -- ---- counts
 
-holds_later : (cell : Cell) (number : ℕ) (ops : List Operation) → 1 ≤ number → number ≤ number_at cell ops → HoldsLater ops cell number
+holds_later : (cell : Cell) (number : ℕ) (ops : List Operation) → 1 ≤ number → number ≤ number_at cell ops →
+    HoldsLater ops cell number
 holds_later cell number ops some upto =
     let there = number_held cell ops (λ z. absurd (omega (arith, z, some, upto))) in
     let most = there.2 in
@@ -35,13 +38,15 @@ module _ (name : List ℕ) (kind : Kind name) (key : KeyValue) (number : ℕ) (o
   here : key_of name ops ≡ Some key → value_of kind ops ≡ number_at (kind.cell key) ops
   here e = ap (λ o. at_key o (λ k. number_at (kind.cell k) ops)) e
 
-  count_held : 1 ≤ number → knows_count key number (value_of kind ops) (key_of name ops) ≡ true → HoldsLater ops (kind.cell key) number ⊎ HoldsKey ops name (IsLower key)
+  count_held : 1 ≤ number → knows_count key number (value_of kind ops) (key_of name ops) ≡ true →
+      HoldsLater ops (kind.cell key) number ⊎ HoldsKey ops name (IsLower key)
   count_held some h = at (key_of name ops) refl
     where
       known : KeyUpto (Some key) (key_of name ops) × ((key_of name ops ≡ Some key) → number ≤ value_of kind ops)
       known = count_known key number (value_of kind ops) (key_of name ops) h
 
-      by_key : (other : KeyValue) → key_of name ops ≡ Some other → (b : Bool) → same_key other key ≡ b → HoldsLater ops (kind.cell key) number ⊎ HoldsKey ops name (IsLower key)
+      by_key : (other : KeyValue) → key_of name ops ≡ Some other → (b : Bool) → same_key other key ≡ b →
+          HoldsLater ops (kind.cell key) number ⊎ HoldsKey ops name (IsLower key)
       by_key other e true s =
           let own = e ∙ ap Some (same_key-true other key s) in
           inl (holds_later (kind.cell key) number ops some (subst (λ x. number ≤ x) (here own) (known.1 own)))
@@ -53,18 +58,22 @@ module _ (name : List ℕ) (kind : Kind name) (key : KeyValue) (number : ℕ) (o
             true≢false (sym (subst (λ k. same_key other k ≡ true) one (same_key-refl other)) ∙ s),
       )))
 
-      at : (o : Option KeyValue) → key_of name ops ≡ o → HoldsLater ops (kind.cell key) number ⊎ HoldsKey ops name (IsLower key)
+      at : (o : Option KeyValue) → key_of name ops ≡ o → HoldsLater ops (kind.cell key) number ⊎ HoldsKey ops name
+          (IsLower key)
       at None e = absurd (subst (KeyUpto (Some key)) e known.0)
       at (Some other) e = by_key other e (same_key other key) refl
 
-  held_count : KeyUpto (Some key) (key_of name ops) → HoldsLater ops (kind.cell key) number ⊎ HoldsKey ops name (IsLower key) → knows_count key number (value_of kind ops) (key_of name ops) ≡ true
+  held_count : KeyUpto (Some key) (key_of name ops) → HoldsLater ops (kind.cell key) number ⊎ HoldsKey ops name
+      (IsLower key) → knows_count key number (value_of kind ops) (key_of name ops) ≡ true
   held_count upto h = known_count key number (value_of kind ops) (key_of name ops) upto (λ e.
-      ⊎_elim (λ later. subst (λ x. number ≤ x) (sym (here e)) (later_at (kind.cell key) number ops later)) (λ k. absurd (no_greater name key ops e k)) h)
+      ⊎_elim (λ later. subst (λ x. number ≤ x) (sym (here e)) (later_at (kind.cell key) number ops later))
+      (λ k. absurd (no_greater name key ops e k)) h)
 
 -- ---- operations
 
 -- the key of what the set knows is not above the key of the set
-upto_key : (ops : List Operation) (name : List ℕ) (key : KeyValue) (op : Operation) → key_in name op ≡ Some key → Knows ops op → KeyUpto (Some key) (key_of name ops)
+upto_key : (ops : List Operation) (name : List ℕ) (key : KeyValue) (op : Operation) → key_in name op ≡ Some key →
+    Knows ops op → KeyUpto (Some key) (key_of name ops)
 upto_key ops name key op carries h = subst (λ k. KeyUpto k (key_of name ops)) carries (known_key name ops op h)
 
 pub set_knows : (ops : List Operation) (op : Operation) → Knows ops op → knows (fold ops) op ≡ true
@@ -74,16 +83,23 @@ set_knows ops (Set name key) h =
 set_knows ops (Count (Hits name node) number) h =
     le-leb number (number_at (Hits name node) ops) (later_at (Hits name node) number ops h)
 set_knows ops (Count (Execs name key term node) number) h =
-    held_count name (exec_kind name term node) key number ops (upto_key ops name key (Count (Execs name key term node) number) (own_name name key) h) h
+    held_count name (exec_kind name term node) key number ops
+    (upto_key ops name key (Count (Execs name key term node) number) (own_name name key) h) h
 set_knows ops (Count (Shifts name key term from to) number) h =
-    held_count name (shift_kind name term from to) key number ops (upto_key ops name key (Count (Shifts name key term from to) number) (own_name name key) h) h
+    held_count name (shift_kind name term from to) key number ops
+    (upto_key ops name key (Count (Shifts name key term from to) number) (own_name name key) h) h
 
 knows_set : (ops : List Operation) (op : Operation) → IsWellFormed op → knows (fold ops) op ≡ true → Knows ops op
 unfolding fold exec_kind shift_kind
-knows_set ops (Set name key) wf h = holds_key name key ops _ (upto_true (Some key) (key_of name ops) h) (λ other e upto. upto)
-knows_set ops (Count (Hits name node) number) wf h = holds_later (Hits name node) number ops wf (leb-true number (number_at (Hits name node) ops) h)
-knows_set ops (Count (Execs name key term node) number) wf h = count_held name (exec_kind name term node) key number ops wf.0 h
-knows_set ops (Count (Shifts name key term from to) number) wf h = count_held name (shift_kind name term from to) key number ops wf.0 h
+knows_set ops (Set name key) wf h = holds_key name key ops _ (upto_true (Some key) (key_of name ops) h)
+    (λ other e upto. upto)
+knows_set ops (Count (Hits name node) number) wf h = holds_later (Hits name node) number ops wf
+    (leb-true number (number_at (Hits name node) ops) h)
+knows_set ops (Count (Execs name key term node) number) wf h =
+    count_held name (exec_kind name term node) key number ops wf.0 h
+knows_set ops (Count (Shifts name key term from to) number) wf h =
+    count_held name (shift_kind name term from to) key number ops wf.0 h
 
-pub knows_as_set : (ops : List Operation) (op : Operation) → IsWellFormed op → (knows (fold ops) op ≡ true) ↔ Knows ops op
+pub knows_as_set : (ops : List Operation) (op : Operation) → IsWellFormed op →
+    (knows (fold ops) op ≡ true) ↔ Knows ops op
 knows_as_set ops op wf = (knows_set ops op wf, set_knows ops op)

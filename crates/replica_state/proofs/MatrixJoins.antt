@@ -44,15 +44,18 @@ use Rattle.replica_state.proofs.Slots.{slot_same, no_first, stored_name, name_st
 -- a key with budgets that is joined of two
 record FirstJoined (f g r : First) : Type 0 where
   key : first_key r ≡ greater (first_key f) (first_key g)
-  number : (c : Counted) → under_key r c ≡ number_both (key_order (first_key g) (first_key f)) (under_key f c) (under_key g c)
+  number : (c : Counted) → under_key r c ≡ number_both (key_order (first_key g) (first_key f)) (under_key f c)
+      (under_key g c)
 
 -- what means the same counts the same
-first_same : (f g : First) → Same first_order f g → (first_key f ≡ first_key g) × ((c : Counted) → under_key f c ≡ under_key g c)
+first_same : (f g : First) → Same first_order f g → (first_key f ≡ first_key g) ×
+    ((c : Counted) → under_key f c ≡ under_key g c)
 unfolding slot_held
 first_same f g same = (ap (λ (h : Held). h.key) held, numbers)
   where
     held : slot_held (record { parts = pair_of f [] }) ≡ slot_held (record { parts = pair_of g [] })
-    held = slot_same (record { parts = pair_of f [] }) (record { parts = pair_of g [] }) ((same.0, λ q. omega arith), (same.1, λ q. omega arith))
+    held = slot_same (record { parts = pair_of f [] }) (record { parts = pair_of g [] })
+        ((same.0, λ q. omega arith), (same.1, λ q. omega arith))
 
     no_hits : (o : First) (node : ℕ) → under_key o (Hits node) ≡ 0
     no_hits None node = refl
@@ -67,9 +70,11 @@ first_same f g same = (ap (λ (h : Held). h.key) held, numbers)
 cells_bottom : (cells : Cells) → are_cells cells → cells_order cells [] ⊎ (cells_order cells [] → ⊥)
 cells_bottom = is_empty nat_cmp_total max_order
 
-share_bottom : (shares : Shares) → are_shares shares → shares_order shares no_shares ⊎ (shares_order shares no_shares → ⊥)
+share_bottom : (shares : Shares) → are_shares shares → shares_order shares no_shares ⊎
+    (shares_order shares no_shares → ⊥)
 share_bottom shares h = ⊎_elim
-    (λ low. ⊎_elim (λ moved. inl (low, moved)) (λ not. inr (λ below. not below.1)) (is_empty nat_cmp_total (map_order nat_cmp max_order) shares.second h.1))
+    (λ low. ⊎_elim (λ moved. inl (low, moved)) (λ not. inr (λ below. not below.1))
+    (is_empty nat_cmp_total (map_order nat_cmp max_order) shares.second h.1))
     (λ not. inr (λ below. not below.0))
     (cells_bottom shares.first h.0)
 
@@ -79,18 +84,23 @@ slot_bottom slot h = ⊎_elim
     (λ not. inr (λ below. not below.1))
     (cells_bottom slot.parts.second h.1)
   where
-    by_first : (f : First) → slot.parts.first ≡ f → cells_order slot.parts.second [] → slots_order slot no_slot ⊎ (slots_order slot no_slot → ⊥)
+    by_first : (f : First) → slot.parts.first ≡ f → cells_order slot.parts.second [] →
+        slots_order slot no_slot ⊎ (slots_order slot no_slot → ⊥)
     by_first None e low = inl (subst (λ (o : First). first_order o None) (sym e) tt, low)
     by_first (Some p) e low = inr (λ below. subst (λ (o : First). first_order o None) e below.0)
 
 -- budgets that are joined have the greater numbers
-budgets_joined : (x y j : Budgets) → IsJoin are_budgets budgets_order x y j → (c : Counted) → budgets_number j c ≡ max (budgets_number x c) (budgets_number y c)
+budgets_joined : (x y j : Budgets) → IsJoin are_budgets budgets_order x y j → (c : Counted) →
+    budgets_number j c ≡ max (budgets_number x c) (budgets_number y c)
 budgets_joined x y j join (Hits node) = omega arith
-budgets_joined x y j join (Execs term node) = (shares_join _ _ _ (join_at nat_cmp_total shares_laws share_bottom x y j join term)).0 node
-budgets_joined x y j join (Shifts term from to) = (shares_join _ _ _ (join_at nat_cmp_total shares_laws share_bottom x y j join term)).1 from to
+budgets_joined x y j join (Execs term node) = (shares_join _ _ _
+    (join_at nat_cmp_total shares_laws share_bottom x y j join term)).0 node
+budgets_joined x y j join (Shifts term from to) = (shares_join _ _ _
+    (join_at nat_cmp_total shares_laws share_bottom x y j join term)).1 from to
 
 -- how the second key stands to the first
-turned : (k l : Key) (o : Ordering) → key_cmp k l ≡ o → key_order (Some (key_value l)) (Some (key_value k)) ≡ ordering_reverse o
+turned : (k l : Key) (o : Ordering) → key_cmp k l ≡ o → key_order (Some (key_value l)) (Some (key_value k)) ≡
+    ordering_reverse o
 turned k l o e = nat_list_cmp_total.antisymm (key_rank (key_value l)) (key_rank (key_value k)) ∙ ap ordering_reverse e
 
 first_reflexive : (f : First) → are_firsts f → first_order f f
@@ -115,7 +125,8 @@ is_second f g r same e =
 
 -- two maps of budgets have one above both
 budgets_bounds : HaveBounds are_budgets budgets_order
-budgets_bounds = map_bounds nat_cmp_total shares_laws (pair_bounds cells_bounds (map_bounds nat_cmp_total (map_order nat_cmp max_order) cells_bounds))
+budgets_bounds = map_bounds nat_cmp_total shares_laws (pair_bounds cells_bounds
+    (map_bounds nat_cmp_total (map_order nat_cmp max_order) cells_bounds))
   where
     cells_bounds : HaveBounds are_cells cells_order
     cells_bounds = map_bounds nat_cmp_total max_order max_bounds
@@ -124,21 +135,35 @@ first_joined : (f g r : First) → IsJoin are_firsts first_order f g r → First
 first_joined None None r join =
     let none = no_first r (join.least None tt tt tt) in
     record { key = ap first_key none; number = λ c. ap (λ o. under_key o c) none ∙ omega arith }
-first_joined None (Some q) r join = is_second None (Some q) r (join.least (Some q) join.admitted_second tt (first_reflexive (Some q) join.admitted_second), join.above_second) refl
-first_joined (Some p) None r join = is_first (Some p) None r (join.least (Some p) join.admitted_first (first_reflexive (Some p) join.admitted_first) tt, join.above_first) refl
+first_joined None (Some q) r join = is_second None (Some q) r
+    (join.least (Some q) join.admitted_second tt (first_reflexive (Some q) join.admitted_second), join.above_second)
+    refl
+first_joined (Some p) None r join = is_first (Some p) None r
+    (join.least (Some p) join.admitted_first (first_reflexive (Some p) join.admitted_first) tt, join.above_first) refl
 first_joined (Some p) (Some q) None join = absurd join.above_first
 first_joined (Some p) (Some q) (Some r) join = by_order (key_cmp p.0 q.0) refl
   where
     by_order : (o : Ordering) → key_cmp p.0 q.0 ≡ o → FirstJoined (Some p) (Some q) (Some r)
-    by_order Less e = is_second (Some p) (Some q) (Some r) (join.least (Some q) join.admitted_second (lex_less key_cmp budgets_order p.0 q.0 p.1 q.1 e) (first_reflexive (Some q) join.admitted_second), join.above_second) (turned p.0 q.0 Less e)
-    by_order Greater e = is_first (Some p) (Some q) (Some r) (join.least (Some p) join.admitted_first (first_reflexive (Some p) join.admitted_first) (lex_greater (key_laws.lawful).total are_budgets budgets_order p.0 q.0 p.1 q.1 e), join.above_first) (turned p.0 q.0 Greater e)
+    by_order Less e = is_second (Some p) (Some q) (Some r) (
+      join.least (Some q) join.admitted_second
+          (lex_less key_cmp budgets_order p.0 q.0 p.1 q.1 e) (first_reflexive (Some q) join.admitted_second),
+      join.above_second,
+    ) (turned p.0 q.0 Less e)
+    by_order Greater e = is_first (Some p) (Some q) (Some r) (
+      join.least (Some p) join.admitted_first (first_reflexive (Some p) join.admitted_first)
+          (lex_greater (key_laws.lawful).total are_budgets budgets_order p.0 q.0 p.1 q.1 e),
+      join.above_first,
+    )
+        (turned p.0 q.0 Greater e)
     by_order Equal e =
         let bound = budgets_bounds p.1 q.1 join.admitted_first join.admitted_second in
-        let parts = lex_join_equal (key_laws.lawful).total are_budgets budgets_order p q r e bound.above bound.is_admitted bound.first bound.second join in
+        let parts = lex_join_equal (key_laws.lawful).total are_budgets budgets_order p q r e bound.above
+        bound.is_admitted bound.first bound.second join in
         let same_keys = stands_equal (Some (key_value p.0)) (Some (key_value q.0)) (turned p.0 q.0 Equal e) in
         record {
           key = ap Some (same_rank _ _ (tied _ _ parts.0)) ∙ same_keys.0 ∙ sym same_keys.1;
-          number = λ c. budgets_joined p.1 q.1 r.1 parts.1 c ∙ ap (λ o. number_both o (budgets_number p.1 c) (budgets_number q.1 c)) (sym (turned p.0 q.0 Equal e));
+          number = λ c. budgets_joined p.1 q.1 r.1 parts.1 c ∙
+              ap (λ o. number_both o (budgets_number p.1 c) (budgets_number q.1 c)) (sym (turned p.0 q.0 Equal e));
         }
 
 -- what a joined slot holds
@@ -157,33 +182,42 @@ slots_joined x y j join = λ i. record { key = first.key i; number = λ c. numbe
     }
 
     first : FirstJoined x.parts.first y.parts.first j.parts.first
-    first = first_joined x.parts.first y.parts.first j.parts.first (join_first are_firsts first_order are_cells cells_order x.parts y.parts j.parts parts)
+    first = first_joined x.parts.first y.parts.first j.parts.first
+        (join_first are_firsts first_order are_cells cells_order x.parts y.parts j.parts parts)
 
     numbers : (c : Counted) → slot_number j c ≡ (both_held (slot_held x) (slot_held y)).number c
-    numbers (Hits node) = cells_join x.parts.second y.parts.second j.parts.second (join_second are_firsts first_order are_cells cells_order x.parts y.parts j.parts parts) node
+    numbers (Hits node) = cells_join x.parts.second y.parts.second j.parts.second
+        (join_second are_firsts first_order are_cells cells_order x.parts y.parts j.parts parts) node
     numbers (Execs term node) = first.number (Execs term node)
     numbers (Shifts term from to) = first.number (Shifts term from to)
 
 -- ---- names
 
 -- a name is held where its slot means something
-held_means : (slots : List (List ℕ × Slot)) → slots_map slots → (q : List ℕ) → IsIn q (keys_of slots) → slots_order (slot_at slots q) no_slot → ⊥
+held_means : (slots : List (List ℕ × Slot)) → slots_map slots → (q : List ℕ) → IsIn q (keys_of slots) →
+    slots_order (slot_at slots q) no_slot → ⊥
 held_means slots h q here = by_stored (stored_at (slice_cmp nat_cmp) slots q) refl (name_stored slots q here)
   where
-    by_stored : (o : Option Slot) → stored_at (slice_cmp nat_cmp) slots q ≡ o → IsSome o → slots_order (unwrap_or o no_slot) no_slot → ⊥
+    by_stored : (o : Option Slot) → stored_at (slice_cmp nat_cmp) slots q ≡ o → IsSome o →
+        slots_order (unwrap_or o no_slot) no_slot → ⊥
     by_stored None e some below = true≢false (sym some)
-    by_stored (Some slot) e some below = (found_may_be_stored (slice_cmp nat_cmp) are_slots slots_order no_slot slots_laws slots q slot h (sym e)).1 below
+    by_stored (Some slot) e some below = (found_may_be_stored (slice_cmp nat_cmp) are_slots slots_order no_slot
+        slots_laws slots q slot h (sym e)).1 below
 
-means_held : (slots : List (List ℕ × Slot)) (q : List ℕ) → (slots_order (slot_at slots q) no_slot → ⊥) → IsIn q (keys_of slots)
+means_held : (slots : List (List ℕ × Slot)) (q : List ℕ) → (slots_order (slot_at slots q) no_slot → ⊥) →
+    IsIn q (keys_of slots)
 means_held slots q not = by_stored (stored_at (slice_cmp nat_cmp) slots q) refl not
   where
-    by_stored : (o : Option Slot) → stored_at (slice_cmp nat_cmp) slots q ≡ o → (slots_order (unwrap_or o no_slot) no_slot → ⊥) → IsIn q (keys_of slots)
+    by_stored : (o : Option Slot) → stored_at (slice_cmp nat_cmp) slots q ≡ o →
+        (slots_order (unwrap_or o no_slot) no_slot → ⊥) → IsIn q (keys_of slots)
     by_stored None e means = absurd (means (slots_laws.reflexive no_slot slots_laws.bottom_admitted))
     by_stored (Some slot) e means = stored_name slots q (subst (λ (o : Option Slot). IsSome o) (sym e) refl)
 
 -- what is below slots of names has no more names
-names_below : (x j : List (List ℕ × Slot)) → slots_map x → slots_map j → MapOrder (slice_cmp nat_cmp) slots_order no_slot x j → (q : List ℕ) → IsIn q (keys_of x) → IsIn q (keys_of j)
-names_below x j a b below q here = means_held j q (λ low. held_means x a q here (slots_laws.transitive _ _ _ (at x a) (at j b) slots_laws.bottom_admitted (below q) low))
+names_below : (x j : List (List ℕ × Slot)) → slots_map x → slots_map j →
+    MapOrder (slice_cmp nat_cmp) slots_order no_slot x j → (q : List ℕ) → IsIn q (keys_of x) → IsIn q (keys_of j)
+names_below x j a b below q here = means_held j q (λ low. held_means x a q here
+    (slots_laws.transitive _ _ _ (at x a) (at j b) slots_laws.bottom_admitted (below q) low))
   where
     at : (m : List (List ℕ × Slot)) → slots_map m → are_slots (slot_at m q)
     at m h = admitted_at (slice_cmp nat_cmp) are_slots slots_order no_slot slots_laws m h q
@@ -191,22 +225,32 @@ names_below x j a b below q here = means_held j q (λ low. held_means x a q here
 abbrev IsJoined : List (List ℕ × Slot) → List (List ℕ × Slot) → List (List ℕ × Slot) → Type 0
 IsJoined = IsJoin slots_map (MapOrder (slice_cmp nat_cmp) slots_order no_slot)
 
-at_name : (x y j : List (List ℕ × Slot)) → IsJoined x y j → (name : List ℕ) → IsJoin are_slots slots_order (slot_at x name) (slot_at y name) (slot_at j name)
+at_name : (x y j : List (List ℕ × Slot)) → IsJoined x y j → (name : List ℕ) →
+    IsJoin are_slots slots_order (slot_at x name) (slot_at y name) (slot_at j name)
 at_name x y j join name = join_at nat_list_cmp_total slots_laws slot_bottom x y j join name
 
 names_joined : (x y j : List (List ℕ × Slot)) → IsJoined x y j → keys_of j ≡ with_names (keys_of y) (keys_of x)
-names_joined x y j join = same_ascending (keys_of j) (with_names (keys_of y) (keys_of x)) (sorted_ascends (keys_of j) join.admitted_join.ordered) (with_names-ascending (keys_of y) (keys_of x) (sorted_ascends (keys_of x) join.admitted_first.ordered))
-    (λ q h. from_one q h (slot_bottom (slot_at x q) (at_name x y j join q).admitted_first) (slot_bottom (slot_at y q) (at_name x y j join q).admitted_second))
-    (λ q h. ⊎_elim (λ k. names_below y j join.admitted_second join.admitted_join join.above_second q k) (λ k. names_below x j join.admitted_first join.admitted_join join.above_first q k) (with_names-cases (keys_of y) (keys_of x) q h))
+names_joined x y j join = same_ascending (keys_of j) (with_names (keys_of y) (keys_of x))
+    (sorted_ascends (keys_of j) join.admitted_join.ordered) (with_names-ascending (keys_of y) (keys_of x)
+    (sorted_ascends (keys_of x) join.admitted_first.ordered))
+    (λ q h. from_one q h (slot_bottom (slot_at x q) (at_name x y j join q).admitted_first)
+    (slot_bottom (slot_at y q) (at_name x y j join q).admitted_second))
+    (λ q h. ⊎_elim (λ k. names_below y j join.admitted_second join.admitted_join join.above_second q k)
+    (λ k. names_below x j join.admitted_first join.admitted_join join.above_first q k)
+    (with_names-cases (keys_of y) (keys_of x) q h))
   where
-    from_one : (q : List ℕ) → IsIn q (keys_of j) → slots_order (slot_at x q) no_slot ⊎ (slots_order (slot_at x q) no_slot → ⊥) → slots_order (slot_at y q) no_slot ⊎ (slots_order (slot_at y q) no_slot → ⊥) → IsIn q (with_names (keys_of y) (keys_of x))
-    from_one q h (inl a) (inl b) = absurd (held_means j join.admitted_join q h ((at_name x y j join q).least no_slot slots_laws.bottom_admitted a b))
+    from_one : (q : List ℕ) → IsIn q (keys_of j) → slots_order (slot_at x q) no_slot ⊎
+        (slots_order (slot_at x q) no_slot → ⊥) → slots_order (slot_at y q) no_slot ⊎
+        (slots_order (slot_at y q) no_slot → ⊥) → IsIn q (with_names (keys_of y) (keys_of x))
+    from_one q h (inl a) (inl b) = absurd (held_means j join.admitted_join q h
+        ((at_name x y j join q).least no_slot slots_laws.bottom_admitted a b))
     from_one q h (inr a) b = with_names-old (keys_of y) (keys_of x) q (means_held x q a)
     from_one q h (inl a) (inr b) = with_names-new (keys_of y) (keys_of x) q (means_held y q b)
 
 -- ---- states
 
-shown_joined : (x y j : List (List ℕ × Slot)) → IsJoined x y j → shown_slots j ≡ union_of (shown_slots x) (shown_slots y)
+shown_joined : (x y j : List (List ℕ × Slot)) → IsJoined x y j →
+    shown_slots j ≡ union_of (shown_slots x) (shown_slots y)
 unfolding shown_slots union_of slot_held both_held
 shown_joined x y j join = λ i. record {
   names = names_joined x y j join i;
@@ -216,13 +260,17 @@ shown_joined x y j join = λ i. record {
   shifts = λ name term from to. ap (λ (h : Held). h.number (Shifts term from to)) (held name) i;
 }
   where
-    held : (name : List ℕ) → slot_held (slot_at j name) ≡ both_held (slot_held (slot_at x name)) (slot_held (slot_at y name))
+    held : (name : List ℕ) → slot_held (slot_at j name) ≡ both_held (slot_held (slot_at x name))
+        (slot_held (slot_at y name))
     held name = slots_joined (slot_at x name) (slot_at y name) (slot_at j name) (at_name x y j join name)
 
-pub slots_unite : (x y both : List (List ℕ × Slot)) → IsJoined x y both → (a b : List Operation) → shown_slots x ≡ fold a → shown_slots y ≡ fold b → shown_slots both ≡ fold (a ++ b)
-slots_unite x y both join a b h k = united_folds (shown_slots both) (shown_slots x) (shown_slots y) (shown_joined x y both join) a b h k
+pub slots_unite : (x y both : List (List ℕ × Slot)) → IsJoined x y both → (a b : List Operation) →
+    shown_slots x ≡ fold a → shown_slots y ≡ fold b → shown_slots both ≡ fold (a ++ b)
+slots_unite x y both join a b h k = united_folds (shown_slots both) (shown_slots x) (shown_slots y)
+    (shown_joined x y both join) a b h k
 
-pub slots_copied : (x copy : List (List ℕ × Slot)) → IsCopy slots_map (MapOrder (slice_cmp nat_cmp) slots_order no_slot) x copy → shown_slots copy ≡ shown_slots x
+pub slots_copied : (x copy : List (List ℕ × Slot)) → IsCopy slots_map (MapOrder (slice_cmp nat_cmp) slots_order no_slot)
+    x copy → shown_slots copy ≡ shown_slots x
 unfolding shown_slots slot_held
 slots_copied x copy is = λ i. record {
   names = names i;
@@ -233,7 +281,8 @@ slots_copied x copy is = λ i. record {
 }
   where
     names : keys_of copy ≡ keys_of x
-    names = same_ascending (keys_of copy) (keys_of x) (sorted_ascends (keys_of copy) is.admitted_copy.ordered) (sorted_ascends (keys_of x) is.admitted_source.ordered)
+    names = same_ascending (keys_of copy) (keys_of x) (sorted_ascends (keys_of copy) is.admitted_copy.ordered)
+        (sorted_ascends (keys_of x) is.admitted_source.ordered)
         (names_below copy x is.admitted_copy is.admitted_source is.below)
         (names_below x copy is.admitted_source is.admitted_copy is.above)
 

@@ -38,7 +38,8 @@ with_name-cases name q [] (inl e) = inl e
 with_name-cases name q [] (inr h) = absurd h
 with_name-cases name q (n ∷ ns) h = by_order (slice_cmp nat_cmp name n) (with_name-cases name q ns) h
   where
-    by_order : (o : Ordering) → (IsIn q (with_name name ns) → (q ≡ name) ⊎ IsIn q ns) → IsIn q (match_ordering o (name ∷ n ∷ ns) (n ∷ ns) (n ∷ with_name name ns)) → (q ≡ name) ⊎ IsIn q (n ∷ ns)
+    by_order : (o : Ordering) → (IsIn q (with_name name ns) → (q ≡ name) ⊎ IsIn q ns) →
+        IsIn q (match_ordering o (name ∷ n ∷ ns) (n ∷ ns) (n ∷ with_name name ns)) → (q ≡ name) ⊎ IsIn q (n ∷ ns)
     by_order Less rest (inl e) = inl e
     by_order Less rest (inr h) = inr h
     by_order Equal rest h = inr h
@@ -49,7 +50,8 @@ pub with_name-new : (name : List ℕ) (ns : List (List ℕ)) → IsIn name (with
 with_name-new name [] = inl refl
 with_name-new name (n ∷ ns) = by_order (slice_cmp nat_cmp name n) refl (with_name-new name ns)
   where
-    by_order : (o : Ordering) → slice_cmp nat_cmp name n ≡ o → IsIn name (with_name name ns) → IsIn name (match_ordering o (name ∷ n ∷ ns) (n ∷ ns) (n ∷ with_name name ns))
+    by_order : (o : Ordering) → slice_cmp nat_cmp name n ≡ o → IsIn name (with_name name ns) →
+        IsIn name (match_ordering o (name ∷ n ∷ ns) (n ∷ ns) (n ∷ with_name name ns))
     by_order Less e rest = inl refl
     by_order Equal e rest = inl (tied name n e)
     by_order Greater e rest = inr rest
@@ -58,7 +60,8 @@ pub with_name-old : (name q : List ℕ) (ns : List (List ℕ)) → IsIn q ns →
 with_name-old name q [] h = absurd h
 with_name-old name q (n ∷ ns) h = by_order (slice_cmp nat_cmp name n) (with_name-old name q ns) h
   where
-    by_order : (o : Ordering) → (IsIn q ns → IsIn q (with_name name ns)) → IsIn q (n ∷ ns) → IsIn q (match_ordering o (name ∷ n ∷ ns) (n ∷ ns) (n ∷ with_name name ns))
+    by_order : (o : Ordering) → (IsIn q ns → IsIn q (with_name name ns)) → IsIn q (n ∷ ns) →
+        IsIn q (match_ordering o (name ∷ n ∷ ns) (n ∷ ns) (n ∷ with_name name ns))
     by_order Less rest h = inr h
     by_order Equal rest h = h
     by_order Greater rest (inl e) = inl e
@@ -72,17 +75,24 @@ with_name-ascending name (n ∷ ns) h = by_order (slice_cmp nat_cmp name n) refl
     above e m (inl f) = ap (λ q. slice_cmp nat_cmp name q) f ∙ e
     above e m (inr k) = nat_list_cmp_total.trans name n m e (h.0 m k)
 
-    by_order : (o : Ordering) → slice_cmp nat_cmp name n ≡ o → IsAscending (with_name name ns) → IsAscending (match_ordering o (name ∷ n ∷ ns) (n ∷ ns) (n ∷ with_name name ns))
+    by_order : (o : Ordering) → slice_cmp nat_cmp name n ≡ o → IsAscending (with_name name ns) →
+        IsAscending (match_ordering o (name ∷ n ∷ ns) (n ∷ ns) (n ∷ with_name name ns))
     by_order Less e rest = (above e, h)
     by_order Equal e rest = h
-    by_order Greater e rest = (λ m k. ⊎_elim (λ f. ap (λ q. slice_cmp nat_cmp n q) f ∙ turned name n e) (h.0 m) (with_name-cases name m ns k), rest)
+    by_order Greater e rest = (
+      λ m k. ⊎_elim (λ f. ap (λ q. slice_cmp nat_cmp n q) f ∙ turned name n e) (h.0 m)
+          (with_name-cases name m ns k),
+      rest,
+    )
 
 -- lists in order with the same members are the same
-pub same_ascending : (xs ys : List (List ℕ)) → IsAscending xs → IsAscending ys → ((m : List ℕ) → IsIn m xs → IsIn m ys) → ((m : List ℕ) → IsIn m ys → IsIn m xs) → xs ≡ ys
+pub same_ascending : (xs ys : List (List ℕ)) → IsAscending xs → IsAscending ys →
+    ((m : List ℕ) → IsIn m xs → IsIn m ys) → ((m : List ℕ) → IsIn m ys → IsIn m xs) → xs ≡ ys
 same_ascending [] [] a b h k = refl
 same_ascending [] (y ∷ ys) a b h k = absurd (k y (inl refl))
 same_ascending (x ∷ xs) [] a b h k = absurd (h x (inl refl))
-same_ascending (x ∷ xs) (y ∷ ys) a b h k = λ i. first i ∷ same_ascending xs ys a.1 b.1 (λ m j. later ys x y m first (a.0 m j) (h m (inr j))) (λ m j. later xs y x m (sym first) (b.0 m j) (k m (inr j))) i
+same_ascending (x ∷ xs) (y ∷ ys) a b h k = λ i. first i ∷ same_ascending xs ys a.1 b.1
+    (λ m j. later ys x y m first (a.0 m j) (h m (inr j))) (λ m j. later xs y x m (sym first) (b.0 m j) (k m (inr j))) i
   where
     later : (zs : List (List ℕ)) (u v m : List ℕ) → u ≡ v → slice_cmp nat_cmp u m ≡ Less → IsIn m (v ∷ zs) → IsIn m zs
     later zs u v m s l (inl e) = absurd (never_less m (subst (λ w. slice_cmp nat_cmp w m ≡ Less) (s ∙ sym e) l))
@@ -107,7 +117,8 @@ pub names_of-ascending : (ops : List Operation) → IsAscending (names_of ops)
 names_of-ascending [] = tt
 names_of-ascending (o ∷ ops) = by_test (holds_name o) (names_of-ascending ops)
   where
-    by_test : (b : Bool) → IsAscending (names_of ops) → IsAscending (cond b (with_name (name_in o) (names_of ops)) (names_of ops))
+    by_test : (b : Bool) → IsAscending (names_of ops) → IsAscending
+        (cond b (with_name (name_in o) (names_of ops)) (names_of ops))
     by_test true h = with_name-ascending (name_in o) (names_of ops) h
     by_test false h = h
 
@@ -118,24 +129,30 @@ names_of-holds q (o ∷ ops) h = by_test (holds_name o) refl (names_of-holds q o
     rest : HoldsName q ops → HoldsName q (o ∷ ops)
     rest r = record { op = r.op; held = inr r.held; named = r.named; counted = r.counted }
 
-    by_test : (b : Bool) → holds_name o ≡ b → (IsIn q (names_of ops) → HoldsName q ops) → IsIn q (cond b (with_name (name_in o) (names_of ops)) (names_of ops)) → HoldsName q (o ∷ ops)
-    by_test true e f m = ⊎_elim (λ s. record { op = o; held = inl refl; named = sym s; counted = e }) (λ j. rest (f j)) (with_name-cases (name_in o) q (names_of ops) m)
+    by_test : (b : Bool) → holds_name o ≡ b → (IsIn q (names_of ops) → HoldsName q ops) →
+        IsIn q (cond b (with_name (name_in o) (names_of ops)) (names_of ops)) → HoldsName q (o ∷ ops)
+    by_test true e f m = ⊎_elim (λ s. record { op = o; held = inl refl; named = sym s; counted = e }) (λ j. rest (f j))
+        (with_name-cases (name_in o) q (names_of ops) m)
     by_test false e f m = rest (f m)
 
-pub holds-names_of : (ops : List Operation) (op : Operation) → IsIn op ops → holds_name op ≡ true → IsIn (name_in op) (names_of ops)
+pub holds-names_of : (ops : List Operation) (op : Operation) → IsIn op ops → holds_name op ≡ true →
+    IsIn (name_in op) (names_of ops)
 holds-names_of [] op h t = absurd h
 holds-names_of (o ∷ ops) op (inl e) t = by_test (holds_name o) (ap holds_name (sym e) ∙ t)
   where
     by_test : (b : Bool) → b ≡ true → IsIn (name_in op) (cond b (with_name (name_in o) (names_of ops)) (names_of ops))
-    by_test true f = subst (λ n. IsIn n (with_name (name_in o) (names_of ops))) (ap name_in (sym e)) (with_name-new (name_in o) (names_of ops))
+    by_test true f = subst (λ n. IsIn n (with_name (name_in o) (names_of ops))) (ap name_in (sym e))
+        (with_name-new (name_in o) (names_of ops))
     by_test false f = absurd (true≢false (sym f))
 holds-names_of (o ∷ ops) op (inr h) t = by_test (holds_name o) (holds-names_of ops op h t)
   where
-    by_test : (b : Bool) → IsIn (name_in op) (names_of ops) → IsIn (name_in op) (cond b (with_name (name_in o) (names_of ops)) (names_of ops))
+    by_test : (b : Bool) → IsIn (name_in op) (names_of ops) →
+        IsIn (name_in op) (cond b (with_name (name_in o) (names_of ops)) (names_of ops))
     by_test true j = with_name-old (name_in o) (name_in op) (names_of ops) j
     by_test false j = j
 
-pub names_same : (a b : List Operation) → ((q : List ℕ) → HoldsName q a → HoldsName q b) → ((q : List ℕ) → HoldsName q b → HoldsName q a) → names_of a ≡ names_of b
+pub names_same : (a b : List Operation) → ((q : List ℕ) → HoldsName q a → HoldsName q b) →
+    ((q : List ℕ) → HoldsName q b → HoldsName q a) → names_of a ≡ names_of b
 names_same a b h k = same_ascending (names_of a) (names_of b) (names_of-ascending a) (names_of-ascending b)
     (λ q m. named b q (h q (names_of-holds q a m)))
     (λ q m. named a q (k q (names_of-holds q b m)))
@@ -151,13 +168,15 @@ carried name n a k h = by_test (bytes_eq n name) (bytes_eq-true n name) h
     by_test true f e = f refl
     by_test false f e = cc
 
-pub carries_name : (name : List ℕ) (key : KeyValue) (op : Operation) → key_in name op ≡ Some key → (name_in op ≡ name) × (holds_name op ≡ true)
+pub carries_name : (name : List ℕ) (key : KeyValue) (op : Operation) → key_in name op ≡ Some key →
+    (name_in op ≡ name) × (holds_name op ≡ true)
 carries_name name key (Set n a) h = (carried name n a key h, refl)
 carries_name name key (Count (Hits n node) number) h = cc
 carries_name name key (Count (Execs n a term node) number) h = (carried name n a key h, refl)
 carries_name name key (Count (Shifts n a term from to) number) h = (carried name n a key h, refl)
 
-pub key_named : (name : List ℕ) (ops : List Operation) → (key : KeyValue) × (key_of name ops ≡ Some key) → HoldsName name ops
+pub key_named : (name : List ℕ) (ops : List Operation) → (key : KeyValue) × (key_of name ops ≡ Some key) →
+    HoldsName name ops
 key_named name ops (key, e) =
     let found = key_of-found name key ops e in
     let at = carries_name name key found.op found.carries in
@@ -171,26 +190,37 @@ hit_found name node (Set n key ∷ ops) h = later (Set n key) ops (hit_found nam
     later o ops r = record { op = r.op; held = inr r.held; named = r.named; counted = r.counted }
 hit_found name node (Count c n ∷ ops) h = by_test (same_cell c (Hits name node)) refl (hit_found name node ops) h
   where
-    by_number : c ≡ Hits name node → (0 < number_at (Hits name node) ops → HoldsName name ops) → (b : Bool) → nat_lt 0 n ≡ b → 0 < max n (number_at (Hits name node) ops) → HoldsName name (Count c n ∷ ops)
-    by_number e rest true t h = record { op = Count c n; held = inl refl; named = ap name_in_cell e; counted = ap (λ d. is_counted_cell d n) e ∙ t }
+    by_number : c ≡ Hits name node → (0 < number_at (Hits name node) ops → HoldsName name ops) → (b : Bool) →
+        nat_lt 0 n ≡ b → 0 < max n (number_at (Hits name node) ops) → HoldsName name (Count c n ∷ ops)
+    by_number e rest true t h = record {
+      op = Count c n;
+      held = inl refl;
+      named = ap name_in_cell e;
+      counted =
+          ap (λ d. is_counted_cell d n) e ∙ t;
+    }
     by_number e rest false t h =
         let none : n ≤ 0 = grind (arith, nat_tests) in
         let r = rest (omega arith) in
         record { op = r.op; held = inr r.held; named = r.named; counted = r.counted }
 
-    by_test : (b : Bool) → same_cell c (Hits name node) ≡ b → (0 < number_at (Hits name node) ops → HoldsName name ops) → 0 < max (cond b n 0) (number_at (Hits name node) ops) → HoldsName name (Count c n ∷ ops)
+    by_test : (b : Bool) → same_cell c (Hits name node) ≡ b →
+        (0 < number_at (Hits name node) ops → HoldsName name ops) →
+        0 < max (cond b n 0) (number_at (Hits name node) ops) → HoldsName name (Count c n ∷ ops)
     by_test true e rest h = by_number (same_cell-true c (Hits name node) e) rest (nat_lt 0 n) refl h
     by_test false e rest h =
         let r = rest (omega arith) in
         record { op = r.op; held = inr r.held; named = r.named; counted = r.counted }
 
-pub hit_named : (name : List ℕ) (node number : ℕ) (ops : List Operation) → nat_lt 0 number ≡ true → number ≤ number_at (Hits name node) ops → HoldsName name ops
+pub hit_named : (name : List ℕ) (node number : ℕ) (ops : List Operation) → nat_lt 0 number ≡ true →
+    number ≤ number_at (Hits name node) ops → HoldsName name ops
 hit_named name node number ops some upto =
     let one : 0 < number = grind (arith, nat_tests) in
     hit_found name node ops (omega arith)
 
 -- sets that know each other's operations hold the same names
-key_holds : (name : List ℕ) (ops : List Operation) (test : KeyValue → Type 0) → HoldsKey ops name test → HoldsName name ops
+key_holds : (name : List ℕ) (ops : List Operation) (test : KeyValue → Type 0) → HoldsKey ops name test →
+    HoldsName name ops
 key_holds name ops test h =
     let at = carries_name name h.key h.op h.carries in
     record { op = h.op; held = h.held; named = at.0; counted = at.1 }
@@ -200,9 +230,11 @@ known_name ops (Set n key) t h = key_holds n ops _ h
 known_name ops (Count (Hits n node) number) t h =
     let upto = h.at_least in
     record { op = Count (Hits n node) h.later; held = h.held; named = refl; counted = grind (arith, nat_tests) }
-known_name ops (Count (Execs n key term node) number) t (inl h) = record { op = Count (Execs n key term node) h.later; held = h.held; named = refl; counted = refl }
+known_name ops (Count (Execs n key term node) number) t (inl h) =
+    record { op = Count (Execs n key term node) h.later; held = h.held; named = refl; counted = refl }
 known_name ops (Count (Execs n key term node) number) t (inr h) = key_holds n ops _ h
-known_name ops (Count (Shifts n key term from to) number) t (inl h) = record { op = Count (Shifts n key term from to) h.later; held = h.held; named = refl; counted = refl }
+known_name ops (Count (Shifts n key term from to) number) t (inl h) =
+    record { op = Count (Shifts n key term from to) h.later; held = h.held; named = refl; counted = refl }
 known_name ops (Count (Shifts n key term from to) number) t (inr h) = key_holds n ops _ h
 
 pub names_known : (a b : List Operation) → KnowsAll a b → KnowsAll b a → names_of a ≡ names_of b

@@ -43,7 +43,8 @@ Found name ops = IsSome (key_of name ops) ⊎ ((node : ℕ) × (1 ≤ number_at 
 module _ (name : List ℕ) (ops : List Operation) where
   by_key : (op : Operation) (key : KeyValue) → IsIn op ops → key_in name op ≡ Some key → Found name ops
   unfolding Found
-  by_key op key here e = inl (some_upto key (key_of name ops) (subst (λ o. KeyUpto o (key_of name ops)) e (key_of-is_in name op ops here)))
+  by_key op key here e = inl (some_upto key (key_of name ops)
+      (subst (λ o. KeyUpto o (key_of name ops)) e (key_of-is_in name op ops here)))
 
   own : (n : List ℕ) (key : KeyValue) → n ≡ name → cond (bytes_eq n name) (Some key) None ≡ Some key
   own n key e = ap (λ (t : Bool). cond t (Some key) None) (subst (λ m. bytes_eq n m ≡ true) e (bytes_eq-refl n))
@@ -51,11 +52,14 @@ module _ (name : List ℕ) (ops : List Operation) where
   found : (op : Operation) → IsIn op ops → name_in op ≡ name → holds_name op ≡ true → Found name ops
   unfolding Found
   found (Set n key) here e h = by_key (Set n key) key here (own n key e)
-  found (Count (Execs n key term node) number) here e h = by_key (Count (Execs n key term node) number) key here (own n key e)
-  found (Count (Shifts n key term from to) number) here e h = by_key (Count (Shifts n key term from to) number) key here (own n key e)
+  found (Count (Execs n key term node) number) here e h = by_key (Count (Execs n key term node) number) key here
+      (own n key e)
+  found (Count (Shifts n key term from to) number) here e h =
+      by_key (Count (Shifts n key term from to) number) key here (own n key e)
   found (Count (Hits n node) number) here e h =
       let some : 1 ≤ number = grind (arith, nat_tests) in
-      let upto : number ≤ number_at (Hits name node) ops = number_at-is_in (Hits name node) number ops (subst (λ m. IsIn (Count (Hits m node) number) ops) e here) in
+      let upto : number ≤ number_at (Hits name node) ops = number_at-is_in (Hits name node) number ops
+      (subst (λ m. IsIn (Count (Hits m node) number) ops) e here) in
       inr (node, omega arith)
 
   holds : Found name ops → HoldsName name ops

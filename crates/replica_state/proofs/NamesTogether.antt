@@ -18,11 +18,13 @@ pub shared : (List ℕ → Bool) → List (List ℕ) → ℕ
 shared p [] = 0
 shared p (k ∷ ks) = cond (p k) (shared p ks + 1) (shared p ks)
 
-pub shared-found : (p : List ℕ → Bool) (k : List ℕ) (ks : List (List ℕ)) → p k ≡ true → shared p (k ∷ ks) ≡ shared p ks + 1
+pub shared-found : (p : List ℕ → Bool) (k : List ℕ) (ks : List (List ℕ)) → p k ≡ true →
+    shared p (k ∷ ks) ≡ shared p ks + 1
 unfolding shared
 shared-found p k ks e = ap (λ b. cond b (shared p ks + 1) (shared p ks)) e
 
-pub shared-missing : (p : List ℕ → Bool) (k : List ℕ) (ks : List (List ℕ)) → p k ≡ false → shared p (k ∷ ks) ≡ shared p ks
+pub shared-missing : (p : List ℕ → Bool) (k : List ℕ) (ks : List (List ℕ)) → p k ≡ false →
+    shared p (k ∷ ks) ≡ shared p ks
 unfolding shared
 shared-missing p k ks e = ap (λ b. cond b (shared p ks + 1) (shared p ks)) e
 
@@ -41,10 +43,12 @@ pub record Tells (p : List ℕ → Bool) (ks ns : List (List ℕ)) : Type 0 wher
   pub there : (q : List ℕ) → IsIn q ks → p q ≡ true → IsIn q ns
   pub missing : (q : List ℕ) → IsIn q ks → p q ≡ false → IsIn q ns → ⊥
 
-pub names_together : (p : List ℕ → Bool) (ks ns : List (List ℕ)) → IsAscending ks → IsAscending ns → Tells p ks ns → length ns + length ks ≡ length (with_names ks ns) + shared p ks
+pub names_together : (p : List ℕ → Bool) (ks ns : List (List ℕ)) → IsAscending ks → IsAscending ns → Tells p ks ns →
+    length ns + length ks ≡ length (with_names ks ns) + shared p ks
 unfolding shared
 names_together p [] ns low up tells = refl
-names_together p (k ∷ ks) ns low up tells = by_test (p k) refl (names_together p ks ns low.1 up rest) (names_together p ks (with_name k ns) low.1 (with_name-ascending k ns up) rest_with)
+names_together p (k ∷ ks) ns low up tells = by_test (p k) refl (names_together p ks ns low.1 up rest)
+    (names_together p ks (with_name k ns) low.1 (with_name-ascending k ns up) rest_with)
   where
     later : (q : List ℕ) → IsIn q ks → q ≡ k → ⊥
     later q h e = never_less k (ap (λ r. slice_cmp nat_cmp k r) (sym e) ∙ low.0 q h)
@@ -58,17 +62,20 @@ names_together p (k ∷ ks) ns low up tells = by_test (p k) refl (names_together
       missing = λ q h e m. ⊎_elim (λ s. later q h s) (λ n. tells.missing q (inr h) e n) (with_name-cases k q ns m);
     }
 
-    by_test : (b : Bool) → p k ≡ b → length ns + length ks ≡ length (with_names ks ns) + shared p ks → length (with_name k ns) + length ks ≡ length (with_names ks (with_name k ns)) + shared p ks →
+    by_test : (b : Bool) → p k ≡ b → length ns + length ks ≡ length (with_names ks ns) + shared p ks →
+        length (with_name k ns) + length ks ≡ length (with_names ks (with_name k ns)) + shared p ks →
         length ns + length (k ∷ ks) ≡ length (with_names ks (with_name k ns)) + cond b (shared p ks + 1) (shared p ks)
     by_test true e same more =
-        let kept : length (with_names ks (with_name k ns)) ≡ length (with_names ks ns) = ap (λ (m : List (List ℕ)). length (with_names ks m)) (name_there k ns up (tells.there k (inl refl) e)) in
+        let kept : length (with_names ks (with_name k ns)) ≡ length (with_names ks ns) =
+        ap (λ (m : List (List ℕ)). length (with_names ks m)) (name_there k ns up (tells.there k (inl refl) e)) in
         omega (arith, same, kept)
     by_test false e same more =
         let longer = name_added ns k (tells.missing k (inl refl) e) in
         omega (arith, longer, more)
 
 -- whether a map has a value at a name tells whether it is there
-pub stored_tells : {X : Type 0} (entries : List (List ℕ × X)) (ks : List (List ℕ)) → Tells (λ q. is_some (stored_at (slice_cmp nat_cmp) entries q)) ks (keys_of entries)
+pub stored_tells : {X : Type 0} (entries : List (List ℕ × X)) (ks : List (List ℕ)) →
+    Tells (λ q. is_some (stored_at (slice_cmp nat_cmp) entries q)) ks (keys_of entries)
 stored_tells {X} entries ks = record {
   there = λ q h e. stored_name entries q e;
   missing = λ q h e. name_missing entries q (no_value (stored_at (slice_cmp nat_cmp) entries q) e);

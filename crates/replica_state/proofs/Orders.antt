@@ -25,8 +25,10 @@ eqb-refl a = eq-eqb a a refl
 pub same_cell-refl : (c : Cell) → same_cell c c ≡ true
 unfolding same_cell
 same_cell-refl (Hits n i) = and_from _ _ (bytes_eq-refl n) (eqb-refl i)
-same_cell-refl (Execs n k t i) = and_from _ _ (bytes_eq-refl n) (and_from _ _ (same_key-refl k) (and_from _ _ (eqb-refl t) (eqb-refl i)))
-same_cell-refl (Shifts n k t i j) = and_from _ _ (bytes_eq-refl n) (and_from _ _ (same_key-refl k) (and_from _ _ (eqb-refl t) (and_from _ _ (eqb-refl i) (eqb-refl j))))
+same_cell-refl (Execs n k t i) = and_from _ _ (bytes_eq-refl n)
+    (and_from _ _ (same_key-refl k) (and_from _ _ (eqb-refl t) (eqb-refl i)))
+same_cell-refl (Shifts n k t i j) = and_from _ _ (bytes_eq-refl n)
+    (and_from _ _ (same_key-refl k) (and_from _ _ (eqb-refl t) (and_from _ _ (eqb-refl i) (eqb-refl j))))
 
 pub same_cell-true : (c d : Cell) → same_cell c d ≡ true → c ≡ d
 unfolding same_cell

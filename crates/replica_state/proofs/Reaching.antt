@@ -29,18 +29,26 @@ use Rattle.replica_state.proofs.NamesTogether.{name_there}
 use Rattle.replica_state.proofs.Shown.{took, shift_seen, with_held-same}
 
 -- a call that was refused left the state as it was
-pub after_call : {A E : Type 0} (r : Result A E) (old new : State) → IsReached old → OnOk r (IsReached new) → OnErr r (new ≡ old) → IsReached new
+pub after_call : {A E : Type 0} (r : Result A E) (old new : State) → IsReached old → OnOk r (IsReached new) →
+    OnErr r (new ≡ old) → IsReached new
 after_call (Ok a) old new h reached same = reached
 after_call (Err e) old new h reached same = subst IsReached (sym same) h
 
 -- ---- operations more
 
-all-append : (P : Operation → Type 0) (a b : List Operation) → AllByRecursion P a → AllByRecursion P b → AllByRecursion P (a ++ b)
+all-append : (P : Operation → Type 0) (a b : List Operation) → AllByRecursion P a → AllByRecursion P b →
+    AllByRecursion P (a ++ b)
 all-append P [] b h k = k
 all-append P (op ∷ a) b h k = (h.0, all-append P a b h.1 k)
 
 come_with : (v w : State) (op : Operation) → IsWellFormed op → Learns v w op → ComeTo v → ComeToWith v w op
-come_with v w op formed learns c = record { ops = c.ops; formed = (formed, c.formed); before = c.state; after = learns c.ops c.state }
+come_with v w op formed learns c = record {
+  ops = c.ops;
+  formed = (formed, c.formed);
+  before = c.state;
+  after =
+      learns c.ops c.state;
+}
 
 come_both : (v w both : State) → IsUnion v w both → ComeTo v → ComeTo w → ComeToBoth v w both
 come_both v w both unites c d = record {
@@ -52,21 +60,33 @@ come_both v w both unites c d = record {
   together = unites c.ops d.ops c.state d.state;
 }
 
-pub learned_with : (v w : State) (op : Operation) → IsWellFormed op → Learns v w op → IsReached v → ∥ ComeToWith v w op ∥₁
+pub learned_with : (v w : State) (op : Operation) → IsWellFormed op → Learns v w op → IsReached v →
+    ∥ ComeToWith v w op ∥₁
 learned_with v w op formed learns h = ∥∥₁_map h (come_with v w op formed learns)
 
 pub united_both : (v w both : State) → IsUnion v w both → IsReached v → IsReached w → ∥ ComeToBoth v w both ∥₁
 united_both v w both unites h k = ∥∥₁_map₂ h k (come_both v w both unites)
 
 pub learned : (v w : State) (op : Operation) → IsWellFormed op → Learns v w op → IsReached v → IsReached w
-learned v w op formed learns h = ∥∥₁_map h (λ c. record { ops = op ∷ c.ops; formed = (formed, c.formed); state = learns c.ops c.state })
+learned v w op formed learns h = ∥∥₁_map h (λ c. record {
+  ops = op ∷ c.ops;
+  formed = (formed, c.formed);
+  state =
+      learns c.ops c.state;
+})
 
 pub united : (v w both : State) → IsUnion v w both → IsReached v → IsReached w → IsReached both
-united v w both unites h k = ∥∥₁_map₂ h k (λ c d. record { ops = c.ops ++ d.ops; formed = all-append IsWellFormed c.ops d.ops c.formed d.formed; state = unites c.ops d.ops c.state d.state })
+united v w both unites h k = ∥∥₁_map₂ h k (λ c d. record {
+  ops = c.ops ++ d.ops;
+  formed =
+      all-append IsWellFormed c.ops d.ops c.formed d.formed;
+  state = unites c.ops d.ops c.state d.state;
+})
 
 -- ---- a greater key
 
-above_held : (key : KeyValue) (held : Option KeyValue) → is_upto (Some key) held ≡ false → order_to_held key held ≡ Greater
+above_held : (key : KeyValue) (held : Option KeyValue) → is_upto (Some key) held ≡ false →
+    order_to_held key held ≡ Greater
 above_held key None h = refl
 above_held key (Some a) h = by_order (slice_cmp nat_cmp (key_rank key) (key_rank a)) h
   where
@@ -75,24 +95,29 @@ above_held key (Some a) h = by_order (slice_cmp nat_cmp (key_rank key) (key_rank
     by_order Equal e = absurd (true≢false e)
     by_order Greater e = refl
 
-key_learned : (key : KeyValue) (h : Held) → order_to_held key h.key ≡ Greater → held_after_key key h ≡ held_after_learning (Some key) None h
+key_learned : (key : KeyValue) (h : Held) → order_to_held key h.key ≡ Greater →
+    held_after_key key h ≡ held_after_learning (Some key) None h
 unfolding held_after_key
 key_learned key h s = held_greater h (held_after_key key h) (Some key) None key refl s refl (λ d. refl)
 
-pub keyed : (name : List ℕ) (key : KeyValue) (v : State) → is_upto (Some key) (v.key name) ≡ false → IsReached v → IsReached (with_key name key v)
+pub keyed : (name : List ℕ) (key : KeyValue) (v : State) → is_upto (Some key) (v.key name) ≡ false → IsReached v →
+    IsReached (with_key name key v)
 keyed name key v above h = ∥∥₁_map h (λ c. record {
   ops = Set name key ∷ c.ops;
   formed = (tt, c.formed);
-  state = sym (took name key v) ∙ ap (λ (g : Held). with_held name g v) (key_learned key (held_at v name) (above_held key (v.key name) above))
+  state = sym (took name key v) ∙ ap (λ (g : Held). with_held name g v)
+      (key_learned key (held_at v name) (above_held key (v.key name) above))
       ∙ added_parts v (Set name key) name (Some key) None refl refl refl tt c.ops c.state;
 })
 
 -- ---- counts of a point that has a key
 
-kept : (name : List ℕ) (ops : List Operation) (key : KeyValue) → key_of name ops ≡ Some key → with_name name (names_of ops) ≡ names_of ops
+kept : (name : List ℕ) (ops : List Operation) (key : KeyValue) → key_of name ops ≡ Some key →
+    with_name name (names_of ops) ≡ names_of ops
 kept name ops key e =
     let holds : HoldsName name ops = key_named name ops (key, e) in
-    name_there name (names_of ops) (names_of-ascending ops) (subst (λ n. IsIn n (names_of ops)) holds.named (holds-names_of ops holds.op holds.held holds.counted))
+    name_there name (names_of ops) (names_of-ascending ops) (subst (λ n. IsIn n (names_of ops)) holds.named
+    (holds-names_of ops holds.op holds.held holds.counted))
 
 -- the key of a name, if it has one
 record HasKey (v : State) (name : List ℕ) : Type 0 where
@@ -124,11 +149,13 @@ counts v name term some = by_key (v.key name) refl some
     by_key (Some key) e h = record { key = key; here = e; counted = by_count _ (count_of key term) h }
 
 -- the key of a state is that of the operations that come to it
-carried : (v : State) (name : List ℕ) (key : KeyValue) (ops : List Operation) → v ≡ fold ops → v.key name ≡ Some key → key_of name ops ≡ Some key
+carried : (v : State) (name : List ℕ) (key : KeyValue) (ops : List Operation) → v ≡ fold ops → v.key name ≡ Some key →
+    key_of name ops ≡ Some key
 unfolding fold
 carried v name key ops e here = sym (ap (λ (s : State). s.key name) e) ∙ here
 
-hit_comes : (name : List ℕ) (node : ℕ) (v : State) → HasKey v name → ComeTo v → ComeTo (with_hits name node (v.hits name node + 1) v)
+hit_comes : (name : List ℕ) (node : ℕ) (v : State) → HasKey v name → ComeTo v →
+    ComeTo (with_hits name node (v.hits name node + 1) v)
 unfolding fold
 hit_comes name node v has c = record {
   ops = Count (Hits name node) (number_at (Hits name node) c.ops + 1) ∷ c.ops;
@@ -137,7 +164,8 @@ hit_comes name node v has c = record {
       ∙ sym (fold_hits name node c.ops (kept name c.ops has.key (carried v name has.key c.ops c.state has.here)));
 }
 
-exec_comes : (name : List ℕ) (term node : ℕ) (v : State) → Counts v name term → ComeTo v → ComeTo (with_execs name term node (v.execs name term node + 1) v)
+exec_comes : (name : List ℕ) (term node : ℕ) (v : State) → Counts v name term → ComeTo v →
+    ComeTo (with_execs name term node (v.execs name term node + 1) v)
 unfolding fold
 exec_comes name term node v has c =
     let here : key_of name c.ops ≡ Some has.key = carried v name has.key c.ops c.state has.here in
@@ -146,21 +174,29 @@ exec_comes name term node v has c =
       formed = ((omega arith, has.counted), c.formed);
       state = ap (λ (s : State). with_execs name term node (s.execs name term node + 1) s) c.state
           ∙ sym (fold_execs name has.key c.ops here term node ((fold c.ops).execs name term node)
-          (ap (λ (o : Option KeyValue). at_key o (λ key. number_at (Execs name key term node) c.ops)) here) (kept name c.ops has.key here));
+          (ap (λ (o : Option KeyValue). at_key o (λ key. number_at (Execs name key term node) c.ops)) here)
+          (kept name c.ops has.key here));
     }
 
-pub passed : (name : List ℕ) (node : ℕ) (spent : Option ℕ) (v : State) → IsSome (v.key name) → IfSome spent (λ term. IsSome (budget_of v name term)) → IsReached v → IsReached (with_pass name node spent v)
+pub passed : (name : List ℕ) (node : ℕ) (spent : Option ℕ) (v : State) → IsSome (v.key name) →
+    IfSome spent (λ term. IsSome (budget_of v name term)) → IsReached v → IsReached (with_pass name node spent v)
 unfolding with_hits
 passed name node None v set counted h = ∥∥₁_map h (hit_comes name node v (has_key v name set))
 passed name node (Some term) v set counted h =
-    ∥∥₁_map h (λ c. exec_comes name term node (with_hits name node (v.hits name node + 1) v) (counts (with_hits name node (v.hits name node + 1) v) name term counted) (hit_comes name node v (has_key v name set) c))
+    ∥∥₁_map h (λ c. exec_comes name term node (with_hits name node (v.hits name node + 1) v)
+    (counts (with_hits name node (v.hits name node + 1) v) name term counted)
+    (hit_comes name node v (has_key v name set) c))
 
 -- ---- rights that are moved
 
 -- a total of 0 where nothing was moved changes nothing
 unmoved : (h : Held) (term from to : ℕ) → held_after_shift term from to 0 h ≡ h
 unfolding held_after_count
-unmoved h term from to = λ i. record { key = h.key; number = λ c. same (same_counted (kinds.Shifts term from to) c) (h.number c) i }
+unmoved h term from to = λ i. record {
+  key = h.key;
+  number =
+      λ c. same (same_counted (kinds.Shifts term from to) c) (h.number c) i;
+}
   where
     same : (t : Bool) (n : ℕ) → cond t (max 0 n) n ≡ n
     same true n = omega arith
@@ -173,44 +209,58 @@ module _ (name : List ℕ) (term from to : ℕ) (v : State) (has : Counts v name
   still : v.shifts name term from to ≤ 0 → ComeTo (with_shifts name term from to 0 v)
   unfolding fold
   still low =
-      let named : with_name name v.names ≡ v.names = subst (λ (s : State). with_name name s.names ≡ s.names) (sym c.state) (kept name c.ops has.key here) in
+      let named : with_name name v.names ≡ v.names = subst (λ (s : State). with_name name s.names ≡ s.names)
+      (sym c.state) (kept name c.ops has.key here) in
       record {
         ops = c.ops;
         formed = c.formed;
-        state = sym (shift_seen name term from to 0 v low named) ∙ ap (λ (g : Held). with_held name g v) (unmoved (held_at v name) term from to) ∙ with_held-same name v named ∙ c.state;
+        state = sym (shift_seen name term from to 0 v low named) ∙
+            ap (λ (g : Held). with_held name g v) (unmoved (held_at v name) term from to) ∙
+            with_held-same name v named ∙ c.state;
       }
 
-  shift_comes : (total : ℕ) → 1 ≤ total → v.shifts name term from to ≤ total → ComeTo (with_shifts name term from to total v)
+  shift_comes : (total : ℕ) → 1 ≤ total → v.shifts name term from to ≤ total →
+      ComeTo (with_shifts name term from to total v)
   unfolding fold
   shift_comes total some low =
-      let moved : v.shifts name term from to ≡ number_at (Shifts name has.key term from to) c.ops = ap (λ (s : State). s.shifts name term from to) c.state
+      let moved : v.shifts name term from to ≡ number_at (Shifts name has.key term from to) c.ops =
+      ap (λ (s : State). s.shifts name term from to) c.state
       ∙ ap (λ (o : Option KeyValue). at_key o (λ key. number_at (Shifts name key term from to) c.ops)) here in
       record {
         ops = Count (Shifts name has.key term from to) total ∷ c.ops;
         formed = ((some, has.counted), c.formed);
         state = ap (λ (s : State). with_shifts name term from to total s) c.state
-            ∙ sym (fold_shifts name has.key c.ops here term from to total (omega (arith, moved, low)) (kept name c.ops has.key here));
+            ∙ sym (fold_shifts name has.key c.ops here term from to total (omega (arith, moved, low))
+            (kept name c.ops has.key here));
       }
 
-pub shifted : (name : List ℕ) (term from to total : ℕ) (v : State) → v.shifts name term from to ≤ total → IsSome (budget_of v name term) → IsReached v → IsReached (with_shifts name term from to total v)
-shifted name term from to zero v low counted h = ∥∥₁_map h (λ c. still name term from to v (counts v name term counted) c low)
-shifted name term from to (suc n) v low counted h = ∥∥₁_map h (λ c. shift_comes name term from to v (counts v name term counted) c (suc n) (omega arith) low)
+pub shifted : (name : List ℕ) (term from to total : ℕ) (v : State) → v.shifts name term from to ≤ total →
+    IsSome (budget_of v name term) → IsReached v → IsReached (with_shifts name term from to total v)
+shifted name term from to zero v low counted h = ∥∥₁_map h (λ c. still name term from to v (counts v name term counted)
+    c low)
+shifted name term from to (suc n) v low counted h = ∥∥₁_map h
+    (λ c. shift_comes name term from to v (counts v name term counted) c (suc n) (omega arith) low)
 
 -- ---- what callers know
 
 -- a node has rights to a counted term alone
-pub rights_are_counted : (v : State) (name : List ℕ) (term node amount : ℕ) → 0 < amount → pos amount ≤ℤ rights_of v name term node → IsSome (budget_of v name term)
+pub rights_are_counted : (v : State) (name : List ℕ) (term node amount : ℕ) → 0 < amount →
+    pos amount ≤ℤ rights_of v name term node → IsSome (budget_of v name term)
 rights_are_counted v name term node amount some enough = by_budget (budget_of v name term) enough
   where
     by_budget : (o : Option Budget) → pos amount ≤ℤ option_map_or (λ b. rights b node) o (pos 0) → IsSome o
     by_budget None h = absurd (omega (arith, ints, some, h))
     by_budget (Some b) h = refl
 
-pub spent_is_counted : (v : State) (name : List ℕ) (node : ℕ) (spent : Option ℕ) → ((term : ℕ) → spent ≡ Some term → pos 1 ≤ℤ rights_of v name term node) → IfSome spent (λ term. IsSome (budget_of v name term))
+pub spent_is_counted : (v : State) (name : List ℕ) (node : ℕ) (spent : Option ℕ) →
+    ((term : ℕ) → spent ≡ Some term → pos 1 ≤ℤ rights_of v name term node) →
+    IfSome spent (λ term. IsSome (budget_of v name term))
 spent_is_counted v name node None h = tt
 spent_is_counted v name node (Some term) h = rights_are_counted v name term node 1 (omega arith) (h term refl)
 
 -- a key of a later clock than all that operations carry is above the one that they come to
-pub later_is_above : (key : KeyValue) (name : List ℕ) (v : State) (ops : List Operation) → v ≡ fold ops → clock_of ops < key.clock → is_upto (Some key) (v.key name) ≡ false
+pub later_is_above : (key : KeyValue) (name : List ℕ) (v : State) (ops : List Operation) → v ≡ fold ops →
+    clock_of ops < key.clock → is_upto (Some key) (v.key name) ≡ false
 unfolding fold
-later_is_above key name v ops e later = ap (λ (s : State). is_upto (Some key) (s.key name)) e ∙ later_above key (key_of name ops) (all_later key name ops later)
+later_is_above key name v ops e later = ap (λ (s : State). is_upto (Some key) (s.key name)) e ∙
+    later_above key (key_of name ops) (all_later key name ops later)

@@ -26,14 +26,16 @@ number_at-is_in c n (op ∷ ops) (inr h) =
     omega arith
 
 -- and that is the least bound
-pub number_at-least : (c : Cell) (m : ℕ) (ops : List Operation) → ((n : ℕ) → IsIn (Count c n) ops → n ≤ m) → number_at c ops ≤ m
+pub number_at-least : (c : Cell) (m : ℕ) (ops : List Operation) → ((n : ℕ) → IsIn (Count c n) ops → n ≤ m) →
+    number_at c ops ≤ m
 number_at-least c m [] h = omega arith
 number_at-least c m (op ∷ ops) h =
     let rest = number_at-least c m ops (λ n k. h n (inr k)) in
     let first = one op h in
     omega arith
   where
-    at : (d : Cell) (n : ℕ) → ((k : ℕ) → Count c k ≡ Count d n → k ≤ m) → (b : Bool) → same_cell d c ≡ b → cond b n 0 ≤ m
+    at : (d : Cell) (n : ℕ) → ((k : ℕ) → Count c k ≡ Count d n → k ≤ m) → (b : Bool) → same_cell d c ≡ b →
+        cond b n 0 ≤ m
     at d n f true e =
         let s : d ≡ c = same_cell-true d c e in
         f n cc
@@ -44,7 +46,8 @@ number_at-least c m (op ∷ ops) h =
     one (Count d n) f = at d n (λ k e. f k (inl e)) (same_cell d c) refl
 
 -- a greater set has no smaller cell
-pub number_at-mono : (c : Cell) (a b : List Operation) → ((n : ℕ) → IsIn (Count c n) a → IsIn (Count c n) b) → number_at c a ≤ number_at c b
+pub number_at-mono : (c : Cell) (a b : List Operation) → ((n : ℕ) → IsIn (Count c n) a → IsIn (Count c n) b) →
+    number_at c a ≤ number_at c b
 number_at-mono c a b h = number_at-least c (number_at c b) a (λ n k. number_at-is_in c n b (h n k))
 
 pub number_at-append : (c : Cell) (a b : List Operation) → number_at c (a ++ b) ≡ max (number_at c a) (number_at c b)
@@ -58,16 +61,21 @@ number_is : (cell : Cell) (op : Operation) → (number_in cell op ≡ 0) ⊎ (Co
 number_is cell (Set name key) = inl refl
 number_is cell (Count other n) = at (same_cell other cell) refl
   where
-    at : (t : Bool) → same_cell other cell ≡ t → (◌≡◌ {A = ℕ} (cond t n 0) 0) ⊎ (Count cell (cond t n 0) ≡ Count other n)
+    at : (t : Bool) → same_cell other cell ≡ t → (◌≡◌ {A = ℕ} (cond t n 0) 0) ⊎
+        (Count cell (cond t n 0) ≡ Count other n)
     at true e = inr (ap (λ x. Count x n) (sym (same_cell-true other cell e)))
     at false e = inl refl
 
-pub number_held : (cell : Cell) (ops : List Operation) → number_at cell ops ≢ 0 → (n : ℕ) × IsIn (Count cell n) ops × (number_at cell ops ≤ n)
+pub number_held : (cell : Cell) (ops : List Operation) → number_at cell ops ≢ 0 →
+    (n : ℕ) × IsIn (Count cell n) ops × (number_at cell ops ≤ n)
 number_held cell [] h = absurd (h refl)
-number_held cell (op ∷ ops) h = at (number_held cell ops) (cases_lt (number_in cell op) (number_at cell ops)) (number_is cell op)
+number_held cell (op ∷ ops) h = at (number_held cell ops) (cases_lt (number_in cell op) (number_at cell ops))
+    (number_is cell op)
   where
-    at : (number_at cell ops ≢ 0 → (n : ℕ) × IsIn (Count cell n) ops × (number_at cell ops ≤ n)) → (number_in cell op < number_at cell ops) ⊎ (number_at cell ops ≤ number_in cell op)
-        → (number_in cell op ≡ 0) ⊎ (Count cell (number_in cell op) ≡ op) → (n : ℕ) × IsIn (Count cell n) (op ∷ ops) × (max (number_in cell op) (number_at cell ops) ≤ n)
+    at : (number_at cell ops ≢ 0 → (n : ℕ) × IsIn (Count cell n) ops × (number_at cell ops ≤ n)) →
+        (number_in cell op < number_at cell ops) ⊎ (number_at cell ops ≤ number_in cell op)
+        → (number_in cell op ≡ 0) ⊎ (Count cell (number_in cell op) ≡ op) →
+        (n : ℕ) × IsIn (Count cell n) (op ∷ ops) × (max (number_in cell op) (number_at cell ops) ≤ n)
     at rest (inl less) is =
         let r = rest (λ z. absurd (omega (arith, z, less))) in
         let upto = r.2 in
@@ -130,19 +138,24 @@ greater-least (Some a) (Some b) (Some c) h k = at (key_le a b)
     at true = k
     at false = h
 
-pub key_of-is_in : (name : List ℕ) (op : Operation) (ops : List Operation) → IsIn op ops → KeyUpto (key_in name op) (key_of name ops)
+pub key_of-is_in : (name : List ℕ) (op : Operation) (ops : List Operation) → IsIn op ops →
+    KeyUpto (key_in name op) (key_of name ops)
 key_of-is_in name op [] h = absurd h
 key_of-is_in name op (o ∷ ops) (inl e) =
-    KeyUpto-trans (key_in name op) (key_in name o) (key_of name (o ∷ ops)) (KeyUpto-same _ _ (ap (key_in name) e)) (greater-left (key_in name o) (key_of name ops))
+    KeyUpto-trans (key_in name op) (key_in name o) (key_of name (o ∷ ops)) (KeyUpto-same _ _ (ap (key_in name) e))
+    (greater-left (key_in name o) (key_of name ops))
 key_of-is_in name op (o ∷ ops) (inr h) =
-    KeyUpto-trans (key_in name op) (key_of name ops) (key_of name (o ∷ ops)) (key_of-is_in name op ops h) (greater-right (key_in name o) (key_of name ops))
+    KeyUpto-trans (key_in name op) (key_of name ops) (key_of name (o ∷ ops)) (key_of-is_in name op ops h)
+    (greater-right (key_in name o) (key_of name ops))
 
-pub key_of-least : (name : List ℕ) (k : Option KeyValue) (ops : List Operation) → ((op : Operation) → IsIn op ops → KeyUpto (key_in name op) k) → KeyUpto (key_of name ops) k
+pub key_of-least : (name : List ℕ) (k : Option KeyValue) (ops : List Operation) →
+    ((op : Operation) → IsIn op ops → KeyUpto (key_in name op) k) → KeyUpto (key_of name ops) k
 key_of-least name k [] h = tt
 key_of-least name k (o ∷ ops) h =
     greater-least (key_in name o) (key_of name ops) k (h o (inl refl)) (key_of-least name k ops (λ op m. h op (inr m)))
 
-pub key_of-mono : (name : List ℕ) (a b : List Operation) → ((op : Operation) → IsIn op a → IsIn op b) → KeyUpto (key_of name a) (key_of name b)
+pub key_of-mono : (name : List ℕ) (a b : List Operation) → ((op : Operation) → IsIn op a → IsIn op b) →
+    KeyUpto (key_of name a) (key_of name b)
 key_of-mono name a b h = key_of-least name (key_of name b) a (λ op m. key_of-is_in name op b (h op m))
 
 -- the key is carried by an operation of the set
@@ -151,7 +164,8 @@ pub record Carries (name : List ℕ) (key : KeyValue) (ops : List Operation) : T
   pub held : IsIn op ops
   pub carries : key_in name op ≡ Some key
 
-pub key_of-found : (name : List ℕ) (key : KeyValue) (ops : List Operation) → key_of name ops ≡ Some key → Carries name key ops
+pub key_of-found : (name : List ℕ) (key : KeyValue) (ops : List Operation) → key_of name ops ≡ Some key →
+    Carries name key ops
 key_of-found name key [] h = absurd (cc)
 key_of-found name key (o ∷ ops) h = at (key_in name o) (key_of name ops) (key_of-found name key ops) refl refl h
   where
@@ -161,18 +175,22 @@ key_of-found name key (o ∷ ops) h = at (key_in name o) (key_of name ops) (key_
     in_rest : Carries name key ops → Carries name key (o ∷ ops)
     in_rest r = record { op = r.op; held = inr r.held; carries = r.carries }
 
-    which : (a b : KeyValue) (t : Bool) → (Some b ≡ Some key → Carries name key ops) → key_in name o ≡ Some a → Some (cond t b a) ≡ Some key → Carries name key (o ∷ ops)
+    which : (a b : KeyValue) (t : Bool) → (Some b ≡ Some key → Carries name key ops) → key_in name o ≡ Some a →
+        Some (cond t b a) ≡ Some key → Carries name key (o ∷ ops)
     which a b true rest p e = in_rest (rest e)
     which a b false rest p e = in_first (p ∙ e)
 
-    at : (a b : Option KeyValue) → (b ≡ Some key → Carries name key ops) → key_in name o ≡ a → key_of name ops ≡ b → greater a b ≡ Some key → Carries name key (o ∷ ops)
+    at : (a b : Option KeyValue) → (b ≡ Some key → Carries name key ops) → key_in name o ≡ a → key_of name ops ≡ b →
+        greater a b ≡ Some key → Carries name key (o ∷ ops)
     at None b rest p q e = in_rest (rest e)
     at (Some a) None rest p q e = in_first (p ∙ e)
     at (Some a) (Some b) rest p q e = which a b (key_le a b) rest p e
 
 -- a set has no cell of a key above its own
-pub no_cell_above : (name : List ℕ) (cell : Cell) (key : KeyValue) (ops : List Operation) → key_in_cell name cell ≡ Some key → (KeyUpto (Some key) (key_of name ops) → ⊥) → number_at cell ops ≡ 0
+pub no_cell_above : (name : List ℕ) (cell : Cell) (key : KeyValue) (ops : List Operation) →
+    key_in_cell name cell ≡ Some key → (KeyUpto (Some key) (key_of name ops) → ⊥) → number_at cell ops ≡ 0
 no_cell_above name cell key ops carries above =
     let none : number_at cell ops ≤ 0 = number_at-least cell 0 ops (λ n m.
-    absurd (above (KeyUpto-trans (Some key) (key_in name (Count cell n)) (key_of name ops) (KeyUpto-same _ _ (sym carries)) (key_of-is_in name (Count cell n) ops m)))) in
+    absurd (above (KeyUpto-trans (Some key) (key_in name (Count cell n)) (key_of name ops)
+    (KeyUpto-same _ _ (sym carries)) (key_of-is_in name (Count cell n) ops m)))) in
     omega arith

@@ -15,17 +15,21 @@ use Rattle.replica_state.proofs.Orders.{key_le-antisym}
 -- ---- keys
 
 -- a key above the one that is held is the greater of the two
-pub stands_above : (held key : Option KeyValue) → key_order key held ≡ Greater → IsKeyBelow held key × (greater held key ≡ key)
+pub stands_above : (held key : Option KeyValue) → key_order key held ≡ Greater →
+    IsKeyBelow held key × (greater held key ≡ key)
 stands_above None None e = absurd (cc)
 stands_above (Some a) None e = absurd (cc)
 stands_above None (Some b) e = (tt, refl)
 stands_above (Some a) (Some b) e =
-    let less : slice_cmp nat_cmp (key_rank a) (key_rank b) ≡ Less = nat_list_cmp_total.antisymm (key_rank a) (key_rank b) ∙ ap ordering_reverse e in
+    let less : slice_cmp nat_cmp (key_rank a) (key_rank b) ≡ Less =
+    nat_list_cmp_total.antisymm (key_rank a) (key_rank b) ∙ ap ordering_reverse e in
     let le : key_le a b ≡ true = ap is_le less in (
       (
         le,
-        λ s. let tied : slice_cmp nat_cmp (key_rank b) (key_rank b) ≡ Equal = tied_itself nat_list_cmp_total (key_rank b) in
-            let above : slice_cmp nat_cmp (key_rank b) (key_rank b) ≡ Greater = subst (λ k. slice_cmp nat_cmp (key_rank b) (key_rank k) ≡ Greater) s e in
+        λ s. let tied : slice_cmp nat_cmp (key_rank b) (key_rank b) ≡ Equal =
+            tied_itself nat_list_cmp_total (key_rank b) in
+            let above : slice_cmp nat_cmp (key_rank b) (key_rank b) ≡ Greater =
+            subst (λ k. slice_cmp nat_cmp (key_rank b) (key_rank k) ≡ Greater) s e in
             cc,
       ),
       ap (λ t. Some (cond t b a)) le,
@@ -37,21 +41,26 @@ stands_equal None None e = (refl, refl)
 stands_equal (Some a) None e = absurd (cc)
 stands_equal None (Some b) e = absurd (cc)
 stands_equal (Some a) (Some b) e =
-    let tied : slice_cmp nat_cmp (key_rank a) (key_rank b) ≡ Equal = nat_list_cmp_total.antisymm (key_rank a) (key_rank b) ∙ ap ordering_reverse e in
+    let tied : slice_cmp nat_cmp (key_rank a) (key_rank b) ≡ Equal =
+    nat_list_cmp_total.antisymm (key_rank a) (key_rank b) ∙ ap ordering_reverse e in
     let same : a ≡ b = key_le-antisym a b (ap is_le tied) (ap is_le e) in
     (ap Some same, ap (λ t. Some (cond t b a)) (ap is_le tied))
 
 -- a key below the one that is held leaves that one
-pub stands_below : (held key : Option KeyValue) → key_order key held ≡ Less → IsKeyBelow key held × (greater held key ≡ held)
+pub stands_below : (held key : Option KeyValue) → key_order key held ≡ Less →
+    IsKeyBelow key held × (greater held key ≡ held)
 stands_below None None e = absurd (cc)
 stands_below (Some a) None e = (tt, refl)
 stands_below None (Some b) e = absurd (cc)
 stands_below (Some a) (Some b) e =
-    let above : slice_cmp nat_cmp (key_rank a) (key_rank b) ≡ Greater = nat_list_cmp_total.antisymm (key_rank a) (key_rank b) ∙ ap ordering_reverse e in (
+    let above : slice_cmp nat_cmp (key_rank a) (key_rank b) ≡ Greater =
+    nat_list_cmp_total.antisymm (key_rank a) (key_rank b) ∙ ap ordering_reverse e in (
       (
         ap is_le e,
-        λ s. let tied : slice_cmp nat_cmp (key_rank b) (key_rank b) ≡ Equal = tied_itself nat_list_cmp_total (key_rank b) in
-            let less : slice_cmp nat_cmp (key_rank b) (key_rank b) ≡ Less = subst (λ k. slice_cmp nat_cmp (key_rank b) (key_rank k) ≡ Less) (sym s) e in
+        λ s. let tied : slice_cmp nat_cmp (key_rank b) (key_rank b) ≡ Equal =
+            tied_itself nat_list_cmp_total (key_rank b) in
+            let less : slice_cmp nat_cmp (key_rank b) (key_rank b) ≡ Less =
+            subst (λ k. slice_cmp nat_cmp (key_rank b) (key_rank k) ≡ Less) (sym s) e in
             cc,
       ),
       ap (λ t. Some (cond t b a)) (ap is_le above),
@@ -68,7 +77,10 @@ module _ (v w : State) (name : List ℕ) where
 
   -- what the union has of a cell, where the second key stands so
   abbrev Left : Ordering → Type 0
-  Left o = IsKeyBelow k (greater k l) ⊎ ((k ≡ greater k l) × ((term node : ℕ) → v.execs name term node ≤ number_both o (v.execs name term node) (w.execs name term node)) × ((term from to : ℕ) → v.shifts name term from to ≤ number_both o (v.shifts name term from to) (w.shifts name term from to)))
+  Left o = IsKeyBelow k (greater k l) ⊎ ((k ≡ greater k l) ×
+      ((term node : ℕ) → v.execs name term node ≤ number_both o (v.execs name term node) (w.execs name term node)) ×
+      ((term from to : ℕ) → v.shifts name term from to ≤ number_both o (v.shifts name term from to)
+      (w.shifts name term from to)))
 
   above_left : IsBelowAt v (union_of v w) name
   unfolding union_of
@@ -76,11 +88,18 @@ module _ (v w : State) (name : List ℕ) where
     where
       by_order : (o : Ordering) → key_order l k ≡ o → Left o
       by_order Less e = inr (sym (stands_below k l e).1, λ term node. omega arith, λ term from to. omega arith)
-      by_order Equal e = inr ((stands_equal k l e).0 ∙ sym (stands_equal k l e).1, λ term node. omega arith, λ term from to. omega arith)
+      by_order Equal e = inr (
+        (stands_equal k l e).0 ∙ sym (stands_equal k l e).1,
+        λ term node. omega arith,
+        λ term from to. omega arith,
+      )
       by_order Greater e = inl (subst (IsKeyBelow k) (sym (stands_above k l e).1) (stands_above k l e).0)
 
   abbrev Right : Ordering → Type 0
-  Right o = IsKeyBelow l (greater k l) ⊎ ((l ≡ greater k l) × ((term node : ℕ) → w.execs name term node ≤ number_both o (v.execs name term node) (w.execs name term node)) × ((term from to : ℕ) → w.shifts name term from to ≤ number_both o (v.shifts name term from to) (w.shifts name term from to)))
+  Right o = IsKeyBelow l (greater k l) ⊎ ((l ≡ greater k l) ×
+      ((term node : ℕ) → w.execs name term node ≤ number_both o (v.execs name term node) (w.execs name term node)) ×
+      ((term from to : ℕ) → w.shifts name term from to ≤ number_both o (v.shifts name term from to)
+      (w.shifts name term from to)))
 
   above_right : IsBelowAt w (union_of v w) name
   unfolding union_of
@@ -93,10 +112,15 @@ module _ (v w : State) (name : List ℕ) where
 
   module _ (u : State) where
     abbrev Cells : State → Type 0
-    Cells x = IsKeyBelow (x.key name) (u.key name) ⊎ ((x.key name ≡ u.key name) × ((term node : ℕ) → x.execs name term node ≤ u.execs name term node) × ((term from to : ℕ) → x.shifts name term from to ≤ u.shifts name term from to))
+    Cells x = IsKeyBelow (x.key name) (u.key name) ⊎ ((x.key name ≡ u.key name) ×
+        ((term node : ℕ) → x.execs name term node ≤ u.execs name term node) ×
+        ((term from to : ℕ) → x.shifts name term from to ≤ u.shifts name term from to))
 
     abbrev Under : Ordering → Type 0
-    Under o = IsKeyBelow (greater k l) (u.key name) ⊎ ((greater k l ≡ u.key name) × ((term node : ℕ) → number_both o (v.execs name term node) (w.execs name term node) ≤ u.execs name term node) × ((term from to : ℕ) → number_both o (v.shifts name term from to) (w.shifts name term from to) ≤ u.shifts name term from to))
+    Under o = IsKeyBelow (greater k l) (u.key name) ⊎ ((greater k l ≡ u.key name) ×
+        ((term node : ℕ) → number_both o (v.execs name term node) (w.execs name term node) ≤ u.execs name term node) ×
+        ((term from to : ℕ) → number_both o (v.shifts name term from to) (w.shifts name term from to) ≤ u.shifts name
+        term from to))
 
     least_at : IsBelowAt v u name → IsBelowAt w u name → IsBelowAt (union_of v w) u name
     unfolding union_of
@@ -111,7 +135,8 @@ module _ (v w : State) (name : List ℕ) where
         by_order Greater e a (inl b) = inl (subst (λ x. IsKeyBelow x (u.key name)) (sym (stands_above k l e).1) b)
         by_order Greater e a (inr b) = inr ((stands_above k l e).1 ∙ b.0, b.1, b.2)
         by_order Equal e a (inl b) = inl (subst (λ x. IsKeyBelow x (u.key name)) (sym (stands_equal k l e).1) b)
-        by_order Equal e (inl a) (inr b) = inl (subst (λ x. IsKeyBelow x (u.key name)) ((stands_equal k l e).0 ∙ sym (stands_equal k l e).1) a)
+        by_order Equal e (inl a) (inr b) = inl (subst (λ x. IsKeyBelow x (u.key name))
+            ((stands_equal k l e).0 ∙ sym (stands_equal k l e).1) a)
         by_order Equal e (inr a) (inr b) = inr (
           (stands_equal k l e).1 ∙ b.0,
           λ term node. let p = a.1 term node in let q = b.1 term node in omega arith,

@@ -13,7 +13,14 @@ nothing_told (Count (Execs name key term node) number) h = h.1 (sym h.0.1)
 nothing_told (Count (Shifts name key term from to) number) h = h.1 (sym h.0.1)
 
 told_differs : (v : State) (op : Operation) → (IsInDelta (fold []) v op ↔ IsTold v op)
-told_differs v (Set name key) = (λ d. d.0, λ h. (h, λ same. nothing_told (Set name key) ((same (Set name key) refl).1 h)))
+told_differs v (Set name key) = (
+  λ d. d.0,
+  λ h. (
+    h,
+    λ same. nothing_told (Set name key)
+        ((same (Set name key) refl).1 h),
+  ),
+)
 told_differs v (Count cell number) = (λ d. d.0, λ h. (h, nothing_told (Count cell number)))
 
 pub all_differs : (v : State) (ops : List Operation) → IsAllTold v ops → IsDelta (fold []) v ops

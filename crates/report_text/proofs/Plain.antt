@@ -49,7 +49,8 @@ string_plain deep text = record { read = refl; numbers = tt; shallow = omega ari
 null_plain : (deep : ℕ) → IsPlain deep null
 null_plain deep = record { read = refl; numbers = tt; shallow = omega arith; floatless = refl }
 
-items_plain : {X : Type 0} (g : X → Data) (deep : ℕ) → ((x : X) → IsPlain deep (g x)) → (xs : List X) → ArePlain deep (items_of (map g xs))
+items_plain : {X : Type 0} (g : X → Data) (deep : ℕ) → ((x : X) → IsPlain deep (g x)) → (xs : List X) →
+    ArePlain deep (items_of (map g xs))
 items_plain g deep each [] = record { read = refl; numbers = tt; shallow = omega arith; floatless = refl }
 items_plain g deep each (x ∷ xs) =
     let first = each x in
@@ -63,26 +64,35 @@ items_plain g deep each (x ∷ xs) =
       floatless = ap (λ b. b || items_have_float (items_of (map g xs))) first.floatless ∙ rest.floatless;
     }
 
-list_plain : {X : Type 0} (g : X → Data) (deep : ℕ) → ((x : X) → IsPlain deep (g x)) → (xs : List X) → IsPlain (suc deep) (list_data (map g xs))
+list_plain : {X : Type 0} (g : X → Data) (deep : ℕ) → ((x : X) → IsPlain deep (g x)) → (xs : List X) →
+    IsPlain (suc deep) (list_data (map g xs))
 list_plain g deep each xs =
     let plain = items_plain g deep each xs in
     let bound = plain.shallow in
-    record { read = ap (option_map array) plain.read; numbers = plain.numbers; shallow = omega (arith, bound); floatless = plain.floatless }
+    record {
+      read = ap (option_map array) plain.read;
+      numbers = plain.numbers;
+      shallow = omega (arith, bound);
+      floatless = plain.floatless;
+    }
 
 no_more : (deep : ℕ) → HavePlain deep no_members
 no_more deep = record { read = λ before. refl; numbers = tt; shallow = omega arith; floatless = refl }
 
-and_member : {deep : ℕ} {d : Data} {ms : Members} (key : List ℕ) → IsPlain deep d → HavePlain deep ms → HavePlain deep (member key d ms)
+and_member : {deep : ℕ} {d : Data} {ms : Members} (key : List ℕ) → IsPlain deep d → HavePlain deep ms →
+    HavePlain deep (member key d ms)
 and_member {deep} {d} {ms} key first rest =
     record {
-      read = λ before. ap (option_and_then (λ e. of_members (members_outline ms) (put key e before))) first.read ∙ rest.read (put key d before);
+      read = λ before. ap (option_and_then (λ e. of_members (members_outline ms) (put key e before))) first.read ∙
+          rest.read (put key d before);
       numbers = (first.numbers, rest.numbers);
       shallow = max-le first.shallow rest.shallow;
       floatless = ap (λ b. b || members_have_float ms) first.floatless ∙ rest.floatless;
     }
 
 -- the members stand in the order of their names
-object_plain : (deep : ℕ) (ms : Members) → HavePlain deep ms → put_all ms no_members ≡ ms → IsPlain (suc deep) (object ms)
+object_plain : (deep : ℕ) (ms : Members) → HavePlain deep ms → put_all ms no_members ≡ ms →
+    IsPlain (suc deep) (object ms)
 object_plain deep ms plain ordered =
     let bound = plain.shallow in
     record {
@@ -93,20 +103,27 @@ object_plain deep ms plain ordered =
     }
 
 counted_plain : (deep : ℕ) (count granted rights spent term : Data)
-    → IsPlain deep count → IsPlain deep granted → IsPlain deep rights → IsPlain deep spent → IsPlain deep term → (is_ungranted : Bool)
-    → let last = member (codes "rights") rights (member (codes "spent") spent (member (codes "term") term no_members)) in
-    IsPlain (suc deep) (object (member (codes "count") count (if is_ungranted then last else member (codes "granted") granted last)))
+    → IsPlain deep count → IsPlain deep granted → IsPlain deep rights → IsPlain deep spent → IsPlain deep term →
+    (is_ungranted : Bool)
+    → let last = member (codes "rights") rights (member (codes "spent") spent
+    (member (codes "term") term no_members)) in
+    IsPlain (suc deep) (object (member (codes "count") count
+    (if is_ungranted then last else member (codes "granted") granted last)))
 counted_plain deep count granted rights spent term c g r s t true =
-    object_plain deep _ (and_member (codes "count") c (and_member (codes "rights") r (and_member (codes "spent") s (and_member (codes "term") t (no_more deep))))) refl
+    object_plain deep _ (and_member (codes "count") c (and_member (codes "rights") r
+    (and_member (codes "spent") s (and_member (codes "term") t (no_more deep))))) refl
 counted_plain deep count granted rights spent term c g r s t false =
     object_plain deep _
-    (and_member (codes "count") c (and_member (codes "granted") g (and_member (codes "rights") r (and_member (codes "spent") s (and_member (codes "term") t (no_more deep))))))
+    (and_member (codes "count") c (and_member (codes "granted") g
+    (and_member (codes "rights") r (and_member (codes "spent") s (and_member (codes "term") t (no_more deep))))))
     refl
 
 term_plain : (row : TermRow) → IsPlain 2 (term_data row)
 term_plain row =
-    counted_plain 1 (string (decimal row.count)) (string (decimal row.granted)) (rights_data row.rights) (string (decimal row.spent)) (string (decimal row.term))
-    (string_plain 1 _) (string_plain 1 _) (list_plain _ 0 (λ at. string_plain 0 (signed_decimal at.1)) row.rights) (string_plain 1 _) (string_plain 1 _)
+    counted_plain 1 (string (decimal row.count)) (string (decimal row.granted)) (rights_data row.rights)
+    (string (decimal row.spent)) (string (decimal row.term))
+    (string_plain 1 _) (string_plain 1 _) (list_plain _ 0 (λ at. string_plain 0 (signed_decimal at.1)) row.rights)
+    (string_plain 1 _) (string_plain 1 _)
     (row.granted == 0)
 
 actions_plain : (deep : ℕ) (actions : Option (List ℕ)) → IsPlain deep (actions_data actions)
@@ -138,7 +155,8 @@ plain_read deep d low plain =
     let found : tokens (compact_text d) ≡ json_tokens j =
     ap tokens (sym (print-outline d)) ∙ tokens-print (json_tokens j) (ArePrintable-json_tokens j plain.numbers) in
     let parsed : json.value max_depth (json_tokens j) ≡ Some (j, []) =
-    ap (json.value max_depth) (sym (append-nil (json_tokens j))) ∙ value-json_tokens j max_depth [] (omega (arith, bound)) in
+    ap (json.value max_depth) (sym (append-nil (json_tokens j))) ∙
+    value-json_tokens j max_depth [] (omega (arith, bound)) in
     ap (λ ts. option_and_then of_json (option_and_then (λ p. json.if_last p.0 p.1) (json.value max_depth ts))) found
     ∙ ap (λ o. option_and_then of_json (option_and_then (λ p. json.if_last p.0 p.1) o)) parsed
     ∙ plain.read

@@ -70,10 +70,12 @@ key_le-refl a = at (slice_cmp nat_cmp (key_rank a) (key_rank a)) (sym (same_key-
     at Greater h = absurd (true≢false (sym h))
 
 pub key_le-trans : (a b c : KeyValue) → key_le a b ≡ true → key_le b c ≡ true → key_le a c ≡ true
-key_le-trans a b c h k = not_gt_le _ (upto nat_list_cmp_total (key_rank a) (key_rank b) (key_rank c) (le_not_gt _ h) (le_not_gt _ k))
+key_le-trans a b c h k = not_gt_le _ (upto nat_list_cmp_total (key_rank a) (key_rank b) (key_rank c) (le_not_gt _ h)
+    (le_not_gt _ k))
 
 pub key_le-antisym : (a b : KeyValue) → key_le a b ≡ true → key_le b a ≡ true → a ≡ b
-key_le-antisym a b h k = same_key-true a b (same_key-cmp a b ∙ both_le _ _ (nat_list_cmp_total.antisymm (key_rank a) (key_rank b)) h k)
+key_le-antisym a b h k = same_key-true a b (same_key-cmp a b ∙
+    both_le _ _ (nat_list_cmp_total.antisymm (key_rank a) (key_rank b)) h k)
 
 pub key_le-other : (a b : KeyValue) → key_le a b ≡ false → key_le b a ≡ true
 key_le-other a b h = one_le _ _ (nat_list_cmp_total.antisymm (key_rank a) (key_rank b)) h

@@ -17,7 +17,8 @@ loop-index-preserved c =
     elim c.if-index-gt0.branch [
       | then-index-gt0+in_ok-push_str w ↦
           let with_arrow = ap string_bytes w.text-is ∙ w.in_ok-push_str.ensures.bytes in
-          later terms i t old mid new lt w.if-index-gt0.true at c.loop-index.invariant with_arrow c.in_ok-write.ensures.bytes
+          later terms i t old mid new lt w.if-index-gt0.true at c.loop-index.invariant with_arrow
+          c.in_ok-write.ensures.bytes
       | else-index-gt0 w ↦
           let same = ap string_bytes w.text-is in
           first terms i t old mid new lt w.if-index-gt0.false at c.loop-index.invariant same c.in_ok-write.ensures.bytes

@@ -22,7 +22,8 @@ refused_by : (X : Type 0) (d e : ActionFault) → refused X d ≡ refused X e �
 refused_by X d e h = cc
 
 -- the fault is that of the byte, whatever is returned where there is none
-same_fault : (X Y : Type 0) (found : Option ℕ) (e : ActionFault) → IfSome found (λ i. refused X e ≡ refused X (BadByte i))
+same_fault : (X Y : Type 0) (found : Option ℕ) (e : ActionFault) →
+    IfSome found (λ i. refused X e ≡ refused X (BadByte i))
     → IfSome found (λ i. refused Y e ≡ refused Y (BadByte i))
 same_fault X Y (Some i) e h = ap (refused Y) (refused_by X e (BadByte i) h)
 same_fault X Y None e h = tt
@@ -30,12 +31,14 @@ same_fault X Y None e h = tt
 pub returns-in_err-terms-clause-only : goal.returns-in_err-terms-clause-only
 returns-in_err-terms-clause-only c = λ ts h.
     let p = err_from_is_err_and c.from_residual.result c.from_residual.ensures.1 in
-    rw (p.1, p.2) (subst (FailsUnless is_out_of_memory c.in_err-terms.field-0.0) (reading_complete c.args.text.now ts h) c.in_err-terms.ensures.exact)
+    rw (p.1, p.2) (subst (FailsUnless is_out_of_memory c.in_err-terms.field-0.0) (reading_complete c.args.text.now ts h)
+    c.in_err-terms.ensures.exact)
 
 pub returns-in_err-terms-clause-bad_byte : goal.returns-in_err-terms-clause-bad_byte
 returns-in_err-terms-clause-bad_byte c = λ short.
     let p = err_from_is_err_and c.from_residual.result c.from_residual.ensures.1 in
-    rw (p.1, p.2) (same_fault _ _ (position is_bad_byte c.args.text.now) c.in_err-terms.field-0.0 (c.in_err-terms.ensures.bad_byte short))
+    rw (p.1, p.2) (same_fault _ _ (position is_bad_byte c.args.text.now) c.in_err-terms.field-0.0
+    (c.in_err-terms.ensures.bad_byte short))
 
 pub new-requires-clause-spelled : goal.new-requires-clause-spelled
 new-requires-clause-spelled c =
@@ -50,7 +53,8 @@ new-requires-clause-canonical c =
     c.in_ok-text.ensures ∙ ap (λ (x : List Term). canonical (map term_value x)) c.deref.ensures.value
 
 -- what was read is what the text says
-is_said : (text : List ℕ) (terms actions : List TermValue) → reading text ≡ Ok terms → actions ≡ terms → reading text ≡ Ok actions
+is_said : (text : List ℕ) (terms actions : List TermValue) → reading text ≡ Ok terms → actions ≡ terms →
+    reading text ≡ Ok actions
 is_said text terms actions said same = said ∙ ap Ok (sym same)
 
 pub returns-clause-found : goal.returns-clause-found
@@ -62,7 +66,8 @@ returns-clause-exact c = is_said c.args.text.now _ _ c.in_ok-terms.ensures.exact
 
 pub returns-clause-only : goal.returns-clause-only
 returns-clause-only c =
-    λ ts h. ap Ok (ok_is ts _ (sym (reading_complete c.args.text.now ts h) ∙ is_said c.args.text.now _ _ c.in_ok-terms.ensures.exact c.in_ok-actions.ensures))
+    λ ts h. ap Ok (ok_is ts _ (sym (reading_complete c.args.text.now ts h) ∙
+    is_said c.args.text.now _ _ c.in_ok-terms.ensures.exact c.in_ok-actions.ensures))
 
 pub returns-clause-canonical_text : goal.returns-clause-canonical_text
 returns-clause-canonical_text c =

@@ -9,7 +9,8 @@ pub is_triggered-requires : goal.is_triggered-requires
 is_triggered-requires c =
     let i = c.loop-index.index in
     let t = c.index-terms-index.result in
-    word_left c.args.terms.now i t c.loop-index.next _ c.loop-index-test.true c.index-terms-index.is c.loop-index.invariant.used
+    word_left c.args.terms.now i t c.loop-index.next _ c.loop-index-test.true c.index-terms-index.is
+    c.loop-index.invariant.used
     c.requires.words
 
 pub loop-index-preserved : goal.loop-index-preserved

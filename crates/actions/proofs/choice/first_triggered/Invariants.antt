@@ -6,5 +6,6 @@ use Rattle.actions.proofs.choice.first_triggered.Given as goal
 abbrev pub invariant-loop-index : goal.invariant-loop-index
 invariant-loop-index l = record {
   used : l.next ≡ words_needed (take l.index (map term_value l.terms));
-  none : (j : ℕ) → j < l.index → triggers (map term_value l.terms) l.words (λ k. slice_index_or l.may k false) j ≡ false;
+  none : (j : ℕ) → j < l.index → triggers (map term_value l.terms) l.words (λ k. slice_index_or l.may k false) j ≡
+      false;
 }

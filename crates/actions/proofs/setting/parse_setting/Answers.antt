@@ -12,19 +12,22 @@ use Rattle.actions.proofs.SettingComplete.{setting_complete}
 use Rattle.actions.proofs.setting.parse_setting.Goals as goal
 
 -- a text that isn't too long is read by its entries
-exact : {X : Type 0} (view : X → List Point) (r : Result X SettingFault) (text : List ℕ) (lent parts : List (Bor (List ℕ)))
+exact : {X : Type 0} (view : X → List Point) (r : Result X SettingFault) (text : List ℕ)
+    (lent parts : List (Bor (List ℕ)))
     → length text ≤ 65536 → lent ≡ parts → texts parts ≡ entries text → Gives view r (entries_at 0 (texts lent))
     → Gives view r (setting_reading text)
 unfolding setting_reading
 exact view r text lent parts short same cut given =
     rw (le-ltb 65536 (length text) short) (subst (Gives view r) (ap (entries_at 0) (ap texts same ∙ cut)) given)
 
-found : {X : Type 0} (view : X → List Point) (r : Result X SettingFault) (text : List ℕ) → Gives view r (setting_reading text)
+found : {X : Type 0} (view : X → List Point) (r : Result X SettingFault) (text : List ℕ) →
+    Gives view r (setting_reading text)
     → IfOk r (λ x. SpellsSetting text (view x))
 found view (Ok x) text given = setting_sound text (view x) given
 found view (Err e) text given = tt
 
-few : {X : Type 0} (view : X → List Point) (r : Result X SettingFault) (text : List ℕ) → Gives view r (setting_reading text)
+few : {X : Type 0} (view : X → List Point) (r : Result X SettingFault) (text : List ℕ) →
+    Gives view r (setting_reading text)
     → IfOk r (λ x. length (view x) < 2 ^ 16)
 few view (Ok x) text given = few_points text (view x) given
 few view (Err e) text given = tt
@@ -52,7 +55,8 @@ returns-clause-found c = found (λ v. v.items) c.parse_entries.result c.args.tex
 
 pub returns-clause-only : goal.returns-clause-only
 returns-clause-only c = λ points h.
-    subst (Gives (λ v. v.items) c.parse_entries.result) (setting_complete c.args.text.now points h) (returns-clause-exact c)
+    subst (Gives (λ v. v.items) c.parse_entries.result) (setting_complete c.args.text.now points h)
+    (returns-clause-exact c)
 
 pub returns-clause-few : goal.returns-clause-few
 returns-clause-few c = few (λ v. v.items) c.parse_entries.result c.args.text.now (returns-clause-exact c)

@@ -12,7 +12,10 @@ use Rattle.actions.proofs.setting.split_entries.Goals as goal
 pub returns : goal.returns
 unfolding entries
 returns c =
-    let cut = YieldsList-from_str_split semicolon c.args.text.now (lit< tt) c.split.ensures.text c.split.ensures.has_more c.split.ensures.pattern in
-    let bare = YieldsList-from_map_by _ (λ x. x.now) trimmed_text (YieldsList-at c.map.ensures.source cut) c.map.ensures.closure (λ x r q k. search rules) in
+    let cut = YieldsList-from_str_split semicolon c.args.text.now (lit< tt) c.split.ensures.text
+    c.split.ensures.has_more c.split.ensures.pattern in
+    let bare = YieldsList-from_map_by _ (λ x. x.now) trimmed_text (YieldsList-at c.map.ensures.source cut)
+    c.map.ensures.closure (λ x r q k. search rules) in
     map_from_collect _ c.collect.ensures.ran
-    (YieldsList-from_filter _ nonempty (YieldsList-at c.filter.ensures.source bare) c.filter.ensures.closure (λ x b q k. search (rules, tests)))
+    (YieldsList-from_filter _ nonempty (YieldsList-at c.filter.ensures.source bare) c.filter.ensures.closure
+    (λ x b q k. search (rules, tests)))

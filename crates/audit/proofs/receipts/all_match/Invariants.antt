@@ -5,4 +5,5 @@ use Rattle.audit.specs.Receipts.{IsReceiptOf}
 use Rattle.audit.proofs.receipts.all_match.Given as goal
 
 abbrev pub invariant-loop-list : goal.invariant-loop-list
-invariant-loop-list l = (k : ℕ) (d : Vec Receipt Global) → k < l.list-index → All (IsReceiptOf l.traces) (get_or l.lists k d).items
+invariant-loop-list l = (k : ℕ) (d : Vec Receipt Global) → k < l.list-index →
+    All (IsReceiptOf l.traces) (get_or l.lists k d).items

@@ -11,7 +11,8 @@ returns-in-Some-clause-late c =
     let Q : List Receipt → Type 0 = λ xs. (k : ℕ) → k < c.in-Some.place → IsLate xs k → ⊥ in
     record {
       list = c.index-lists-list.result;
-      there = slice_get_read c.args.lists.now _ c.loop-list.list c.index-lists-list.result refl c.loop-list-test.true c.index-lists-list.is;
+      there = slice_get_read c.args.lists.now _ c.loop-list.list c.index-lists-list.result refl c.loop-list-test.true
+          c.index-lists-list.is;
       late = subst P c.as_slice.ensures.value c.in-Some.ensures.late;
       least = subst Q c.as_slice.ensures.value c.in-Some.ensures.least;
       earlier = c.loop-list.invariant;
@@ -22,8 +23,10 @@ loop-list-preserved c = λ k d below.
     let P : ℕ → Type 0 = λ k. (d : Vec Receipt Global) → Ascends (get_or c.args.lists.now k d).items in
     let Q : List Receipt → Type 0 = λ xs. Ascends xs in
     let here : Ascends c.index-lists-list.result.items = subst Q c.as_slice.ensures.value c.in_default.ensures.none in
-    let there = slice_get_read c.args.lists.now _ c.loop-list.list c.index-lists-list.result refl c.loop-list-test.true c.index-lists-list.is in
-    let last : P c.loop-list.list = λ d. subst Q (ap (λ v. v.items) (sym (get_or_from_slice_get c.args.lists.now c.loop-list.list c.index-lists-list.result d there))) here in
+    let there = slice_get_read c.args.lists.now _ c.loop-list.list c.index-lists-list.result refl c.loop-list-test.true
+    c.index-lists-list.is in
+    let last : P c.loop-list.list = λ d. subst Q (ap (λ v. v.items)
+    (sym (get_or_from_slice_get c.args.lists.now c.loop-list.list c.index-lists-list.result d there))) here in
     below_more P c.loop-list.list (λ k h d. c.loop-list.invariant k d h) last k below d
 
 pub returns-clause-none : goal.returns-clause-none

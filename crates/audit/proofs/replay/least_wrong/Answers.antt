@@ -16,9 +16,11 @@ pub returns-in-Some-clause-wrong : goal.returns-in-Some-clause-wrong
 returns-in-Some-clause-wrong c =
     let below : c.loop-node.node < length c.args.traces.now = omega (arith, c.loop-node-test.true, c.requires.each) in
     let same = trace_read c.args.traces.now c.loop-node.node _ below c.index-traces-node.is in
-    let found = subst (λ o. IfSome o (IsFirstWrong (config_of (audited c.args.nodes) c.loop-node.node) c.index-traces-node.result.items)) c.in-Some.is c.in_ok-index.ensures.wrong in
+    let found = subst (λ o. IfSome o (IsFirstWrong (config_of (audited c.args.nodes) c.loop-node.node)
+    c.index-traces-node.result.items)) c.in-Some.is c.in_ok-index.ensures.wrong in
     record {
-      first = subst (λ (es : List Entry). IsFirstWrong (config_of (audited c.args.nodes) c.loop-node.node) es c.in-Some.index) (sym same) found;
+      first = subst (λ (es : List Entry). IsFirstWrong (config_of (audited c.args.nodes) c.loop-node.node) es
+          c.in-Some.index) (sym same) found;
       least = c.loop-node.invariant.legal;
     }
 
@@ -26,17 +28,24 @@ pub loop-node-preserved : goal.loop-node-preserved
 loop-node-preserved c =
     let below : c.loop-node.node < length c.args.traces.now = omega (arith, c.loop-node-test.true, c.requires.each) in
     let same = trace_read c.args.traces.now c.loop-node.node _ below c.index-traces-node.is in
-    let legal = subst (λ o. IfNone o (IsLegalAlone (config_of (audited c.args.nodes) c.loop-node.node) c.index-traces-node.result.items)) c.in_default.is c.in_ok-index.ensures.legal in
-    let notes = subst (λ o. IfNone o (Notes c.loop-node.tally c.first_wrong.new.tally c.loop-node.node start (map (call c.args.nodes) c.index-traces-node.result.items))) c.in_default.is c.in_ok-index.ensures.noted in
-    let here : IsLegalAlone (config_of (audited c.args.nodes) c.loop-node.node) (trace_of c.args.traces.now c.loop-node.node) = subst (λ (es : List Entry). IsLegalAlone (config_of (audited c.args.nodes) c.loop-node.node) es) (sym same) legal in
+    let legal = subst (λ o. IfNone o (IsLegalAlone (config_of (audited c.args.nodes) c.loop-node.node)
+    c.index-traces-node.result.items)) c.in_default.is c.in_ok-index.ensures.legal in
+    let notes = subst (λ o. IfNone o (Notes c.loop-node.tally c.first_wrong.new.tally c.loop-node.node start
+    (map (call c.args.nodes) c.index-traces-node.result.items))) c.in_default.is c.in_ok-index.ensures.noted in
+    let here : IsLegalAlone (config_of (audited c.args.nodes) c.loop-node.node)
+    (trace_of c.args.traces.now c.loop-node.node) = subst
+    (λ (es : List Entry). IsLegalAlone (config_of (audited c.args.nodes) c.loop-node.node) es) (sym same) legal in
     record {
       legal = below_more _ _ c.loop-node.invariant.legal here;
-      tallied = node_tallied c.loop-node.tally c.first_wrong.new.tally c.args.nodes c.args.traces.now c.loop-node.node (one_short c.args.nodes c.args.traces.now c.loop-node.node here) c.loop-node.invariant.tallied
-          (subst (λ (es : List Entry). Notes c.loop-node.tally c.first_wrong.new.tally c.loop-node.node start (map (call c.args.nodes) es)) (sym same) notes);
+      tallied = node_tallied c.loop-node.tally c.first_wrong.new.tally c.args.nodes c.args.traces.now c.loop-node.node
+          (one_short c.args.nodes c.args.traces.now c.loop-node.node here) c.loop-node.invariant.tallied
+          (subst (λ (es : List Entry). Notes c.loop-node.tally c.first_wrong.new.tally c.loop-node.node start
+          (map (call c.args.nodes) es)) (sym same) notes);
     }
 
 pub returns-clause-legal : goal.returns-clause-legal
-returns-clause-legal c = legal_everywhere c.args.nodes c.args.traces.now (λ n below. c.loop-node.invariant.legal n (omega (arith, below, c.requires.each, c.loop-node-test.false)))
+returns-clause-legal c = legal_everywhere c.args.nodes c.args.traces.now
+    (λ n below. c.loop-node.invariant.legal n (omega (arith, below, c.requires.each, c.loop-node-test.false)))
 
 pub loop-node-init : goal.loop-node-init
 loop-node-init c = record {

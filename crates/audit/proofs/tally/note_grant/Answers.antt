@@ -11,21 +11,28 @@ use Rattle.audit.proofs.tally.note_grant.Goals as goal
 pub returns-in_default-2-clause-value : goal.returns-in_default-2-clause-value
 returns-in_default-2-clause-value c = λ k is stamp term.
     let bad = subst (λ o. IfNone o (is_name c.deref.result.now ≡ false)) c.in_default-2.is c.in_ok-name.ensures.none in
-    absurd (grant_named k c.args.core.now c.args.entry.now is c.in-Grant.name c.in-Grant.term c.in-Grant.amount c.in-Grant.is
+    absurd (grant_named k c.args.core.now c.args.entry.now is c.in-Grant.name c.in-Grant.term c.in-Grant.amount
+    c.in-Grant.is
     (subst (λ n. is_name n ≡ false) c.deref.ensures bad))
 
 pub returns-in_default-stamp_at-clause-value : goal.returns-in_default-stamp_at-clause-value
 returns-in_default-stamp_at-clause-value c = λ k is stamp term.
-    let named = subst (λ o. IfSome o (λ n. (n ≡ c.deref.result.now) × (is_name c.deref.result.now ≡ true))) c.in-Some.is c.in_ok-name.ensures.name in
+    let named = subst (λ o. IfSome o (λ n. (n ≡ c.deref.result.now) × (is_name c.deref.result.now ≡ true))) c.in-Some.is
+    c.in_ok-name.ensures.name in
     let none = sym c.stamp_at.ensures ∙ c.in_default-stamp_at.is in
-    let zero = grant_none k c.args.core.now c.args.entry.now is c.in-Grant.name c.in-Grant.term c.in-Grant.amount c.in-Grant.is
-    (subst (λ n. option_map stamp_of ((state_known c.args.core.now).key n) ≡ None) (named.0 ∙ c.deref.ensures) none) stamp term in
+    let zero = grant_none k c.args.core.now c.args.entry.now is c.in-Grant.name c.in-Grant.term c.in-Grant.amount
+    c.in-Grant.is
+    (subst (λ n. option_map stamp_of ((state_known c.args.core.now).key n) ≡ None) (named.0 ∙ c.deref.ensures) none)
+    stamp term in
     omega (arith, zero)
 
 pub returns-clause-value : goal.returns-clause-value
 returns-clause-value c = on_ok_weaker c.add.result (λ added k is stamp term.
-    let named = subst (λ o. IfSome o (λ n. (n ≡ c.deref.result.now) × (is_name c.deref.result.now ≡ true))) c.in-Some.is c.in_ok-name.ensures.name in
+    let named = subst (λ o. IfSome o (λ n. (n ≡ c.deref.result.now) × (is_name c.deref.result.now ≡ true))) c.in-Some.is
+    c.in_ok-name.ensures.name in
     let some = sym c.stamp_at.ensures ∙ c.in-Some-stamp_at.is in
     added stamp term ∙ ap (λ n. sum_of c.args.granted.now stamp term + n)
-    (sym (grant_adds k c.args.core.now c.args.entry.now is c.in-Grant.name c.in-Grant.term c.in-Grant.amount c.in-Grant.is c.in-Some-stamp_at.stamp
-    (subst (λ n. option_map stamp_of ((state_known c.args.core.now).key n) ≡ Some c.in-Some-stamp_at.stamp) (named.0 ∙ c.deref.ensures) some) stamp term))) c.add.ensures
+    (sym (grant_adds k c.args.core.now c.args.entry.now is c.in-Grant.name c.in-Grant.term c.in-Grant.amount
+    c.in-Grant.is c.in-Some-stamp_at.stamp
+    (subst (λ n. option_map stamp_of ((state_known c.args.core.now).key n) ≡ Some c.in-Some-stamp_at.stamp)
+    (named.0 ∙ c.deref.ensures) some) stamp term))) c.add.ensures

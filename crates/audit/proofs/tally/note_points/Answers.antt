@@ -21,7 +21,9 @@ add_points-requires c =
     let points = c.in_ok-points.ensures k.config.nodes c.args.entry.now.reply in
     let same = c.deref.ensures.value ∙ points in
     let found = sym c.last_stamp.ensures ∙ c.in-Some.is in
-    let last = is_last k c.args.core.now c.args.entry.now is c.in-Some.stamp (subst (λ (ps : Points). found_stamp k c.args.core.now c.args.entry.now is ps ≡ Some c.in-Some.stamp) same found) in
+    let last = is_last k c.args.core.now c.args.entry.now is c.in-Some.stamp
+    (subst (λ (ps : Points). found_stamp k c.args.core.now c.args.entry.now is ps ≡ Some c.in-Some.stamp) same
+    found) in
     let many = ap (λ (ps : Points). length ps) (c.deref-2.ensures.value ∙ points) in
     omega (arith, last.clock, many)
 
@@ -30,5 +32,8 @@ returns c = on_ok_weaker c.add_points.result (λ added k is.
     let points = c.in_ok-points.ensures k.config.nodes c.args.entry.now.reply in
     let found = sym c.last_stamp.ensures ∙ c.in-Some.is in
     points_added k c.args.core.now c.args.entry.now is c.args.counts.now c.add_points.new.self c.in-Some.stamp
-    (subst (λ (ps : Points). found_stamp k c.args.core.now c.args.entry.now is ps ≡ Some c.in-Some.stamp) (c.deref.ensures.value ∙ points) found)
-    (subst (λ (ps : Points). AddsKeys c.args.counts.now c.add_points.new.self (operations_issued c.in-Some.stamp.node (c.in-Some.stamp.clock - length ps) (settings_of ps))) (c.deref-2.ensures.value ∙ points) added)) c.add_points.ensures
+    (subst (λ (ps : Points). found_stamp k c.args.core.now c.args.entry.now is ps ≡ Some c.in-Some.stamp)
+    (c.deref.ensures.value ∙ points) found)
+    (subst (λ (ps : Points). AddsKeys c.args.counts.now c.add_points.new.self
+    (operations_issued c.in-Some.stamp.node (c.in-Some.stamp.clock - length ps) (settings_of ps)))
+    (c.deref-2.ensures.value ∙ points) added)) c.add_points.ensures

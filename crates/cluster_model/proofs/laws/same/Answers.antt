@@ -8,7 +8,8 @@ pub returns-clause-state : goal.returns-clause-state
 returns-clause-state c = state_is_fold
 
 pub returns-clause-order : goal.returns-clause-order
-returns-clause-order r c d es fs i j h = state_is_fold c es i ∙ same_members _ _ (λ op. (h op).0) (λ op. (h op).1) ∙ sym (state_is_fold d fs j)
+returns-clause-order r c d es fs i j h = state_is_fold c es i ∙ same_members _ _ (λ op. (h op).0) (λ op. (h op).1) ∙
+    sym (state_is_fold d fs j)
 
 pub returns-clause-known : goal.returns-clause-known
 returns-clause-known r c d es fs i j h k = state_is_fold c es i ∙ same_fold _ _ h k ∙ sym (state_is_fold d fs j)

@@ -10,5 +10,6 @@ returns-in-Err-clause-bad c word fault e =
     let why : c.in-Err.fault ≡ fault = cc in
     let told : peer_in c.args.nodes (get_or c.args.words.now c.loop-word.word-index nobody).now ≡ Err c.in-Err.fault =
     sym c.read_peer.ensures ∙ c.in-Err.is in
-    rw (← same, ← why) (first_bad (λ w. w.now) c.args.nodes c.args.words.now c.loop-word.word-index nobody c.loop-word.peers.items
+    rw (← same, ← why) (first_bad (λ w. w.now) c.args.nodes c.args.words.now c.loop-word.word-index nobody
+    c.loop-word.peers.items
     c.in-Err.fault c.loop-word-test.true c.loop-word.invariant told)

@@ -11,7 +11,8 @@ returns-in-Some-clause-ok c =
     let leaves = called.leaves in
     let raised : changed.left.0 ≡ max changed.held.0 c.args.number = search rules in
     let was = found_cell c.args.cells.now c.args.node changed.held changed.found in
-    put_cell c.args.cells.now c.change.new.self c.args.node _ changed.left (raised ∙ ap (λ n. max n c.args.number) (sym was)) changed.put
+    put_cell c.args.cells.now c.change.new.self c.args.node _ changed.left
+    (raised ∙ ap (λ n. max n c.args.number) (sym was)) changed.put
 
 pub returns-in-None-clause-ok : goal.returns-in-None-clause-ok
 returns-in-None-clause-ok c =
@@ -19,4 +20,5 @@ returns-in-None-clause-ok c =
     (let same : c.change.new.self ≡ c.args.cells.now = c.in-None.ensures.absent in rw same at c.raise.ensures.ok)
 
 pub returns-in-None-clause-absent : goal.returns-in-None-clause-absent
-returns-in-None-clause-absent c = OnErr-always _ c.raise.result (absent_cell c.args.cells.now c.args.node c.in-None.ensures.found.1)
+returns-in-None-clause-absent c = OnErr-always _ c.raise.result
+    (absent_cell c.args.cells.now c.args.node c.in-None.ensures.found.1)

@@ -16,8 +16,10 @@ overflow_add-sum c =
     let below : c.in-Some.node.now < 256 = omega arith in
     let before = rw c.in-Some.ensures.steps at c.loop-node.invariant in
     let entry = total-entry c.in-Some.node.now c.in-Some.number.now c.next.new.self below before.apart in
-    let all : sum_below node_numbers (cell c.args.cells.now) ≤ 256 * 2 ^ 64 = total-bound c.args.cells.now c.iter-node-items.ensures.is_map in
-    let fits : c.loop-node.sum + c.from-sum.result < 2 ^ 128 = omega (arith, before.sum, entry, all, c.from-sum.ensures) in
+    let all : sum_below node_numbers (cell c.args.cells.now) ≤ 256 * 2 ^ 64 =
+    total-bound c.args.cells.now c.iter-node-items.ensures.is_map in
+    let fits : c.loop-node.sum + c.from-sum.result < 2 ^ 128 =
+    omega (arith, before.sum, entry, all, c.from-sum.ensures) in
     omega arith
 
 pub loop-node-preserved : goal.loop-node-preserved

@@ -16,10 +16,12 @@ overflow_add-sum c =
     let below : c.in-Some.from.now < 256 = omega arith in
     let ne : c.in-Some.from.now ≢ c.args.node = search rules in
     let before = rw c.in-Some.ensures.steps at c.loop-from.invariant in
-    let entry = total_from_others-counted c.args.node c.in-Some.from.now c.in-Some.row.now c.next.new.self below before.apart ne in
+    let entry = total_from_others-counted c.args.node c.in-Some.from.now c.in-Some.row.now c.next.new.self below
+    before.apart ne in
     let all : sum_others node_numbers c.args.node (λ from. row_cell c.args.rows.now from c.args.node) ≤ 256 * 2 ^ 64 =
     total_from_others-bound c.args.node c.args.rows.now c.iter-from-items.ensures.is_map in
-    let fits : c.loop-from.sum + c.from-sum.result < 2 ^ 128 = omega (arith, before.sum, entry, all, c.from-sum.ensures, c.number_of.ensures) in
+    let fits : c.loop-from.sum + c.from-sum.result < 2 ^ 128 =
+    omega (arith, before.sum, entry, all, c.from-sum.ensures, c.number_of.ensures) in
     omega arith
 
 pub loop-from-preserved-then-from-node : goal.loop-from-preserved-then-from-node
@@ -27,7 +29,8 @@ loop-from-preserved-then-from-node c =
     let below : c.in-Some.from.now < 256 = omega arith in
     let ne : c.in-Some.from.now ≢ c.args.node = search rules in
     let before = rw c.in-Some.ensures.steps at c.loop-from.invariant in
-    let entry = total_from_others-counted c.args.node c.in-Some.from.now c.in-Some.row.now c.next.new.self below before.apart ne in
+    let entry = total_from_others-counted c.args.node c.in-Some.from.now c.in-Some.row.now c.next.new.self below
+    before.apart ne in
     record {
       apart = apart-tail c.in-Some.from.now c.in-Some.row.now c.next.new.self before.apart;
       sum = omega (arith, before.sum, entry, c.from-sum.ensures, c.number_of.ensures);
@@ -38,8 +41,13 @@ loop-from-preserved c =
     let below : c.in-Some.from.now < 256 = omega arith in
     let same : c.in-Some.from.now ≡ c.args.node = search rules in
     let before = rw c.in-Some.ensures.steps at c.loop-from.invariant in
-    let entry = total_from_others-left_out c.args.node c.in-Some.from.now c.in-Some.row.now c.next.new.self below before.apart same in
-    record { apart = apart-tail c.in-Some.from.now c.in-Some.row.now c.next.new.self before.apart; sum = omega (arith, before.sum, entry) }
+    let entry = total_from_others-left_out c.args.node c.in-Some.from.now c.in-Some.row.now c.next.new.self below
+    before.apart same in
+    record {
+      apart = apart-tail c.in-Some.from.now c.in-Some.row.now c.next.new.self before.apart;
+      sum =
+          omega (arith, before.sum, entry);
+    }
 
 pub returns-clause-value : goal.returns-clause-value
 returns-clause-value c =

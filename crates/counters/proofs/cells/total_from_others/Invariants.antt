@@ -8,5 +8,6 @@ abbrev pub invariant-loop-from : goal.invariant-loop-from
 invariant-loop-from l =
     record {
       apart : AreApart l.from-iterator;
-      sum : l.sum + sum_others node_numbers l.node (λ from. row_cell l.from-iterator from l.node) ≡ sum_others node_numbers l.node (λ from. row_cell l.rows from l.node);
+      sum : l.sum + sum_others node_numbers l.node (λ from. row_cell l.from-iterator from l.node) ≡ sum_others
+          node_numbers l.node (λ from. row_cell l.rows from l.node);
     }

@@ -16,10 +16,12 @@ overflow_add-sum c =
     let below : c.in-Some.other.now < 256 = omega arith in
     let ne : c.in-Some.other.now ≢ c.args.node = search rules in
     let before = rw c.in-Some.ensures.steps at c.loop-other.invariant in
-    let entry = total_of_others-counted c.args.node c.in-Some.other.now c.in-Some.number.now c.next.new.self below before.apart ne in
+    let entry = total_of_others-counted c.args.node c.in-Some.other.now c.in-Some.number.now c.next.new.self below
+    before.apart ne in
     let all : sum_others node_numbers c.args.node (cell c.args.cells.now) ≤ 256 * 2 ^ 64 =
     total_of_others-bound c.args.node c.args.cells.now c.iter-other-items.ensures.is_map in
-    let fits : c.loop-other.sum + c.from-sum.result < 2 ^ 128 = omega (arith, before.sum, entry, all, c.from-sum.ensures) in
+    let fits : c.loop-other.sum + c.from-sum.result < 2 ^ 128 =
+    omega (arith, before.sum, entry, all, c.from-sum.ensures) in
     omega arith
 
 pub loop-other-preserved-then-other-node : goal.loop-other-preserved-then-other-node
@@ -27,7 +29,8 @@ loop-other-preserved-then-other-node c =
     let below : c.in-Some.other.now < 256 = omega arith in
     let ne : c.in-Some.other.now ≢ c.args.node = search rules in
     let before = rw c.in-Some.ensures.steps at c.loop-other.invariant in
-    let entry = total_of_others-counted c.args.node c.in-Some.other.now c.in-Some.number.now c.next.new.self below before.apart ne in
+    let entry = total_of_others-counted c.args.node c.in-Some.other.now c.in-Some.number.now c.next.new.self below
+    before.apart ne in
     record {
       apart = apart-tail c.in-Some.other.now c.in-Some.number.now c.next.new.self before.apart;
       sum = omega (arith, before.sum, entry, c.from-sum.ensures);
@@ -38,8 +41,13 @@ loop-other-preserved c =
     let below : c.in-Some.other.now < 256 = omega arith in
     let same : c.in-Some.other.now ≡ c.args.node = search rules in
     let before = rw c.in-Some.ensures.steps at c.loop-other.invariant in
-    let entry = total_of_others-left_out c.args.node c.in-Some.other.now c.in-Some.number.now c.next.new.self below before.apart same in
-    record { apart = apart-tail c.in-Some.other.now c.in-Some.number.now c.next.new.self before.apart; sum = omega (arith, before.sum, entry) }
+    let entry = total_of_others-left_out c.args.node c.in-Some.other.now c.in-Some.number.now c.next.new.self below
+    before.apart same in
+    record {
+      apart = apart-tail c.in-Some.other.now c.in-Some.number.now c.next.new.self before.apart;
+      sum =
+          omega (arith, before.sum, entry);
+    }
 
 pub returns-clause-value : goal.returns-clause-value
 returns-clause-value c =

@@ -6,4 +6,8 @@ use Rattle.counters.proofs.cells.total_of_others.Given as goal
 
 abbrev pub invariant-loop-other : goal.invariant-loop-other
 invariant-loop-other l =
-    record { apart : AreApart l.other-iterator; sum : l.sum + sum_others node_numbers l.node (cell l.other-iterator) ≡ sum_others node_numbers l.node (cell l.cells) }
+    record {
+      apart : AreApart l.other-iterator;
+      sum : l.sum + sum_others node_numbers l.node (cell l.other-iterator) ≡
+          sum_others node_numbers l.node (cell l.cells);
+    }

@@ -16,8 +16,10 @@ overflow_add-sum c =
     let below : c.in-Some.node.now < 256 = omega arith in
     let before = rw c.in-Some.ensures.steps at c.loop-node.invariant in
     let entry = total_of_own-entry c.in-Some.node.now c.in-Some.row.now c.next.new.self below before.apart in
-    let all : sum_below node_numbers (λ node. row_cell c.args.rows.now node node) ≤ 256 * 2 ^ 64 = total_of_own-bound c.args.rows.now c.iter-node-items.ensures.is_map in
-    let fits : c.loop-node.sum + c.from-sum.result < 2 ^ 128 = omega (arith, before.sum, entry, all, c.from-sum.ensures, c.number_of.ensures) in
+    let all : sum_below node_numbers (λ node. row_cell c.args.rows.now node node) ≤ 256 * 2 ^ 64 =
+    total_of_own-bound c.args.rows.now c.iter-node-items.ensures.is_map in
+    let fits : c.loop-node.sum + c.from-sum.result < 2 ^ 128 =
+    omega (arith, before.sum, entry, all, c.from-sum.ensures, c.number_of.ensures) in
     omega arith
 
 pub loop-node-preserved : goal.loop-node-preserved

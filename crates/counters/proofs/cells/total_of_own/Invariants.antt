@@ -8,5 +8,6 @@ abbrev pub invariant-loop-node : goal.invariant-loop-node
 invariant-loop-node l =
     record {
       apart : AreApart l.node-iterator;
-      sum : l.sum + sum_below node_numbers (λ node. row_cell l.node-iterator node node) ≡ sum_below node_numbers (λ node. row_cell l.rows node node);
+      sum : l.sum + sum_below node_numbers (λ node. row_cell l.node-iterator node node) ≡ sum_below node_numbers
+          (λ node. row_cell l.rows node node);
     }

@@ -18,4 +18,5 @@ returns-in-Some-clause-value c =
 pub returns-in-None-clause-value : goal.returns-in-None-clause-value
 returns-in-None-clause-value c =
     let none : stored_at nat_cmp c.args.rows.now c.args.node ≡ None = sym c.in-None.ensures.value in
-    sym (sum_others-zero node_numbers c.args.node (row_cell c.args.rows.now c.args.node) (λ q. unheld_row_cell c.args.rows.now c.args.node none q))
+    sym (sum_others-zero node_numbers c.args.node (row_cell c.args.rows.now c.args.node)
+    (λ q. unheld_row_cell c.args.rows.now c.args.node none q))

@@ -16,9 +16,16 @@ learn_count-requires g c =
     let n = c.requires.entry.0 in
     let h = c.requires.entry.1 in
     let i = c.loop-term.term-index in
-    let keyed = has_still told e.name (key_value e.key) (λ x. by_its_key e.name (key_value e.key)) (state c.args.replica.now) (state c.loop-term.replica) (take i e.grants.items) c.requires.keyed c.loop-term.invariant in
-    let formed = formed_at {Is = IsExec n (key_value e.key)} told (λ x i. (omega (arith, i.2), i.0.0)) e.grants.items h.grants i (0, 0, 0) (rw c.deref-term-items.ensures.value at c.loop-term-test.true) in
-    (key_value e.key, keyed.2, subst (λ (t : Counting). IsWellFormed (operation_told e.name (key_value e.key) (Some t))) (sym (rw c.deref-term-items.ensures.value at c.times.ensures)) formed)
+    let keyed = has_still told e.name (key_value e.key) (λ x. by_its_key e.name (key_value e.key))
+    (state c.args.replica.now) (state c.loop-term.replica) (take i e.grants.items) c.requires.keyed
+    c.loop-term.invariant in
+    let formed = formed_at {Is = IsExec n (key_value e.key)} told (λ x i. (omega (arith, i.2), i.0.0)) e.grants.items
+    h.grants i (0, 0, 0) (rw c.deref-term-items.ensures.value at c.loop-term-test.true) in (
+      key_value e.key,
+      keyed.2,
+      subst (λ (t : Counting). IsWellFormed (operation_told e.name (key_value e.key) (Some t)))
+          (sym (rw c.deref-term-items.ensures.value at c.times.ensures)) formed,
+    )
 
 pub loop-term-preserved : goal.loop-term-preserved
 loop-term-preserved g c =
@@ -26,7 +33,11 @@ loop-term-preserved g c =
     let state = g.R.Replica.state in
     let told = λ (x : ℕ × ℕ × ℕ). Count (Shifts e.name (key_value e.key) x.0 x.1 x.1) x.2 in
     let i = c.loop-term.term-index in
-    let keyed = has_still told e.name (key_value e.key) (λ x. by_its_key e.name (key_value e.key)) (state c.args.replica.now) (state c.loop-term.replica) (take i e.grants.items) c.requires.keyed c.loop-term.invariant in
+    let keyed = has_still told e.name (key_value e.key) (λ x. by_its_key e.name (key_value e.key))
+    (state c.args.replica.now) (state c.loop-term.replica) (take i e.grants.items) c.requires.keyed
+    c.loop-term.invariant in
     let learned = c.in_ok-learn_count.ensures.ok (key_value e.key) keyed.2 in
-    learned_next told e.grants.items (state c.args.replica.now) (state c.loop-term.replica) (state c.learn_count.new.self) i (0, 0, 0) (rw c.deref-term-items.ensures.value at c.loop-term-test.true) c.loop-term.invariant
+    learned_next told e.grants.items (state c.args.replica.now) (state c.loop-term.replica)
+    (state c.learn_count.new.self) i (0, 0, 0) (rw c.deref-term-items.ensures.value at c.loop-term-test.true)
+    c.loop-term.invariant
     (rw (rw c.deref-term-items.ensures.value at c.times.ensures) at learned)

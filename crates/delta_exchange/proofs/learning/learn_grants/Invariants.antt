@@ -5,4 +5,6 @@ use Rattle.delta_exchange.specs.Told.{HasLearned}
 use Rattle.delta_exchange.proofs.learning.learn_grants.Given as goal
 
 abbrev pub invariant-loop-term : goal.invariant-loop-term
-invariant-loop-term g l = HasLearned (g.R.Replica.state l.initial.replica) (g.R.Replica.state l.replica) (map (λ c. Count (Shifts l.entry.name (key_value l.entry.key) c.0 c.1 c.1) c.2) (take l.term-index l.entry.grants.items))
+invariant-loop-term g l = HasLearned (g.R.Replica.state l.initial.replica) (g.R.Replica.state l.replica)
+    (map (λ c. Count (Shifts l.entry.name (key_value l.entry.key) c.0 c.1 c.1) c.2)
+    (take l.term-index l.entry.grants.items))

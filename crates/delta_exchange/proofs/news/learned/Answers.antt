@@ -10,10 +10,13 @@ use Rattle.delta_exchange.proofs.news.learned.Goals as goal
 pub learn-requires : goal.learn-requires
 learn-requires g c =
     let all = All-from_recursion (λ (t : Told). IsWellFormed (operation_of t)) c.args.news.now c.requires in
-    subst (λ (t : Told). IsWellFormed (operation_of t)) (sym c.told-item.is) (all c.loop-told.told-index c.told-item.result c.loop-told-test.true)
+    subst (λ (t : Told). IsWellFormed (operation_of t)) (sym c.told-item.is)
+    (all c.loop-told.told-index c.told-item.result c.loop-told-test.true)
 
 pub loop-told-preserved : goal.loop-told-preserved
 loop-told-preserved g c =
     let state = g.R.Replica.state in
-    learned_next operation_of c.args.news.now (state c.empty-replica.result) (state c.loop-told.replica) (state c.learn.new.self) c.loop-told.told-index c.told-item.result c.loop-told-test.true c.loop-told.invariant
-    (subst (λ (t : Told). (ops : List Operation) → state c.loop-told.replica ≡ fold ops → state c.learn.new.self ≡ fold (operation_of t ∷ ops)) c.told-item.is c.in_ok-learn.ensures.ok)
+    learned_next operation_of c.args.news.now (state c.empty-replica.result) (state c.loop-told.replica)
+    (state c.learn.new.self) c.loop-told.told-index c.told-item.result c.loop-told-test.true c.loop-told.invariant
+    (subst (λ (t : Told). (ops : List Operation) → state c.loop-told.replica ≡ fold ops →
+    state c.learn.new.self ≡ fold (operation_of t ∷ ops)) c.told-item.is c.in_ok-learn.ensures.ok)

@@ -26,12 +26,21 @@ returns g c =
     let execs : List Operation = execs_in e.name (key_value e.key) e.execs.items in
     let shifts : List Operation = shifts_in e.name (key_value e.key) e.shifts.items in
     let grants : List Operation = grants_in e.name (key_value e.key) e.grants.items in
-    let one : n1 ≡ n ++ news_held h set = c.in_ok-push_news.ensures ∙ (λ i. n ++ news_held h (operation_told (told.name i) (told.key i) (told.count i) ∷ [])) in
-    let two : n2 ≡ n1 ++ news_held h hits = c.in_ok-push_hits.ensures ∙ (λ i. n1 ++ news_held h (hits_in (told.name i) (c.deref.ensures.value i))) in
-    let three : n3 ≡ n2 ++ news_held h execs = c.in_ok-push_execs.ensures ∙ (λ i. n2 ++ news_held h (execs_in (told.name i) (told.key i) (c.deref-2.ensures.value i))) in
-    let four : n4 ≡ n3 ++ news_held h shifts = c.in_ok-push_shifts.ensures ∙ (λ i. n3 ++ news_held h (shifts_in (told.name i) (told.key i) (c.deref-3.ensures.value i))) in
+    let one : n1 ≡ n ++ news_held h set = c.in_ok-push_news.ensures ∙
+    (λ i. n ++ news_held h (operation_told (told.name i) (told.key i) (told.count i) ∷ [])) in
+    let two : n2 ≡ n1 ++ news_held h hits = c.in_ok-push_hits.ensures ∙
+    (λ i. n1 ++ news_held h (hits_in (told.name i) (c.deref.ensures.value i))) in
+    let three : n3 ≡ n2 ++ news_held h execs = c.in_ok-push_execs.ensures ∙
+    (λ i. n2 ++ news_held h (execs_in (told.name i) (told.key i) (c.deref-2.ensures.value i))) in
+    let four : n4 ≡ n3 ++ news_held h shifts = c.in_ok-push_shifts.ensures ∙
+    (λ i. n3 ++ news_held h (shifts_in (told.name i) (told.key i) (c.deref-3.ensures.value i))) in
     on_ok c.push_grants.result (λ last.
-    let five : n5 ≡ n4 ++ news_held h grants = last ∙ (λ i. n4 ++ news_held h (grants_in (told.name i) (told.key i) (c.deref-4.ensures.value i))) in
-    let all : n5 ≡ n ++ news_held h (operations_of (entry_value e)) = held_both h n n1 n5 set (hits ++ (execs ++ (shifts ++ grants))) one (held_both h n1 n2 n5 hits (execs ++ (shifts ++ grants)) two
+    let five : n5 ≡ n4 ++ news_held h grants = last ∙ (λ i. n4 ++
+    news_held h (grants_in (told.name i) (told.key i) (c.deref-4.ensures.value i))) in
+    let all : n5 ≡ n ++ news_held h (operations_of (entry_value e)) =
+    held_both h n n1 n5 set (hits ++ (execs ++ (shifts ++ grants))) one
+    (held_both h n1 n2 n5 hits (execs ++ (shifts ++ grants)) two
     (held_both h n2 n3 n5 execs (shifts ++ grants) three (held_both h n3 n4 n5 shifts grants four five))) in
-    all ∙ ap (λ h. n ++ news_held h (operations_of (entry_value e))) c.point-held.ensures ∙ ap (λ ns. n ++ ns) (news_of_name v e.name (operations_of (entry_value e)) (entry_named (entry_value e)))) c.push_grants.ensures
+    all ∙ ap (λ h. n ++ news_held h (operations_of (entry_value e))) c.point-held.ensures ∙
+    ap (λ ns. n ++ ns) (news_of_name v e.name (operations_of (entry_value e)) (entry_named (entry_value e))))
+    c.push_grants.ensures

@@ -20,7 +20,8 @@ loop-name-preserved g c =
     record {
       fit = before.fit;
       ordered = λ h. before.ordered (λ lt some. absurd (omega (arith, le, lt)), h);
-      cells = passed_over v base marks n (map entry_value c.loop-name.entries.items) (flat_map (entry_marked v base) c.next.new.self) (entries_since v base marks) le before.cells;
+      cells = passed_over v base marks n (map entry_value c.loop-name.entries.items)
+          (flat_map (entry_marked v base) c.next.new.self) (entries_since v base marks) le before.cells;
     }
 
 pub loop-name-preserved-in-Continue-1 : goal.loop-name-preserved-in-Continue-1
@@ -34,10 +35,13 @@ loop-name-preserved-in-Continue-1 g c =
     let pushed = c.in_ok-push_entry_since.ensures in
     let told = map entry_value c.loop-name.entries.items in
     let more = map entry_value c.push_entry_since.new.entries.items in
-    let entries = subst (λ (h : Held). more ≡ told ++ entry_under h n.0 h.key base n.1) c.point-held.ensures pushed.entries in
-    let in_order = subst (λ (h : Held). IsSome h.key → IsOrdered counted_cmp n.1.cells) c.point-held.ensures pushed.ordered in
+    let entries = subst (λ (h : Held). more ≡ told ++ entry_under h n.0 h.key base n.1) c.point-held.ensures
+    pushed.entries in
+    let in_order = subst (λ (h : Held). IsSome h.key → IsOrdered counted_cmp n.1.cells) c.point-held.ensures
+    pushed.ordered in
     record {
       fit = pushed.fit before.fit;
       ordered = λ h. before.ordered (λ _ some. in_order some, h);
-      cells = looked_at v base marks n told more (flat_map (entry_marked v base) c.next.new.self) (entries_since v base marks) lt entries before.cells;
+      cells = looked_at v base marks n told more (flat_map (entry_marked v base) c.next.new.self)
+          (entries_since v base marks) lt entries before.cells;
     }

@@ -8,6 +8,8 @@ use Rattle.delta_exchange.proofs.since.entries_since.Given as goal
 abbrev pub invariant-loop-name : goal.invariant-loop-name
 invariant-loop-name g l = record {
   fit : EntriesFit (map entry_value l.entries.items);
-  ordered : AllByRecursion (AreCellsOrdered (g.R.Replica.state l.replica) l.base) l.name-iterator → AllByRecursion (AreCellsOrdered (g.R.Replica.state l.replica) l.base) l.marks.names.entries;
-  cells : map entry_value l.entries.items ++ flat_map (entry_marked (g.R.Replica.state l.replica) l.base) l.name-iterator ≡ entries_since (g.R.Replica.state l.replica) l.base l.marks;
+  ordered : AllByRecursion (AreCellsOrdered (g.R.Replica.state l.replica) l.base) l.name-iterator →
+      AllByRecursion (AreCellsOrdered (g.R.Replica.state l.replica) l.base) l.marks.names.entries;
+  cells : map entry_value l.entries.items ++ flat_map (entry_marked (g.R.Replica.state l.replica) l.base)
+      l.name-iterator ≡ entries_since (g.R.Replica.state l.replica) l.base l.marks;
 }

@@ -8,4 +8,5 @@ use Rattle.http_routes.proofs.answering.answer.Goals as goal
 pub returns-in-Do : goal.returns-in-Do
 returns-in-Do c =
     let asked = wanted c.args.method.now c.args.path.now c.args.body.now in
-    wanted_call (ask_told c.in-Do.ask) asked (λ w. Answers c.args.core.now w c.call.new.core (http_value c.call.result)) (rw c.in-Do.is at c.route.ensures) c.call.ensures
+    wanted_call (ask_told c.in-Do.ask) asked (λ w. Answers c.args.core.now w c.call.new.core (http_value c.call.result))
+    (rw c.in-Do.is at c.route.ensures) c.call.ensures

@@ -11,13 +11,20 @@ returns-in_err-exec c =
     let p = err_from_is_err_and from.result from.ensures.1 in
     let last : c.copied.result ≡ last_of c.loop.execs.items = cc in
     let refused = rw last at c.in_err-exec.ensures in
-    rw (p.1, p.2) (ends (exec_at c.args.whole.len c.args.whole.nodes (key_value c.args.key.now)) _ c.loop.execs.items c.in_ok-count.count c.loop.counter c.loop.rest.now (execs_at c.args.whole.len c.args.whole.nodes (key_value c.args.key.now) c.args.bytes.now) c.loop-test.true refused c.loop.invariant)
+    rw (p.1, p.2) (ends (exec_at c.args.whole.len c.args.whole.nodes (key_value c.args.key.now)) _ c.loop.execs.items
+    c.in_ok-count.count c.loop.counter c.loop.rest.now (execs_at c.args.whole.len c.args.whole.nodes
+    (key_value c.args.key.now) c.args.bytes.now) c.loop-test.true refused c.loop.invariant)
 
 pub loop-preserved : goal.loop-preserved
 loop-preserved c =
     let last : c.copied.result ≡ last_of c.loop.execs.items = cc in
     let read = rw last at c.in_ok-exec.ensures in
-    rw c.in_ok-push.ensures.items (goes_on (exec_at c.args.whole.len c.args.whole.nodes (key_value c.args.key.now)) c.loop.execs.items c.in_ok-count.count c.loop.counter c.loop.rest.now c.in_ok-exec.exec c.in_ok-exec.after.now (execs_at c.args.whole.len c.args.whole.nodes (key_value c.args.key.now) c.args.bytes.now) c.loop-test.true read c.loop.invariant)
+    rw c.in_ok-push.ensures.items (goes_on (exec_at c.args.whole.len c.args.whole.nodes (key_value c.args.key.now))
+    c.loop.execs.items c.in_ok-count.count c.loop.counter c.loop.rest.now c.in_ok-exec.exec c.in_ok-exec.after.now
+    (execs_at c.args.whole.len c.args.whole.nodes (key_value c.args.key.now) c.args.bytes.now) c.loop-test.true read
+    c.loop.invariant)
 
 pub returns : goal.returns
-returns c = is_done (exec_at c.args.whole.len c.args.whole.nodes (key_value c.args.key.now)) c.loop.execs.items c.in_ok-count.count c.loop.counter c.loop.rest.now (execs_at c.args.whole.len c.args.whole.nodes (key_value c.args.key.now) c.args.bytes.now) c.loop-test.false c.loop.invariant
+returns c = is_done (exec_at c.args.whole.len c.args.whole.nodes (key_value c.args.key.now)) c.loop.execs.items
+    c.in_ok-count.count c.loop.counter c.loop.rest.now (execs_at c.args.whole.len c.args.whole.nodes
+    (key_value c.args.key.now) c.args.bytes.now) c.loop-test.false c.loop.invariant

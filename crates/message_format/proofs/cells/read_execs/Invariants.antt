@@ -5,4 +5,5 @@ use Rattle.message_format.proofs.Loop.{progress}
 use Rattle.message_format.proofs.cells.read_execs.Given as goal
 
 abbrev pub invariant-loop : goal.invariant-loop
-invariant-loop l = progress (exec_at l.whole.len l.whole.nodes (key_value l.key)) l.execs.items l.count l.counter l.rest ≡ execs_at l.whole.len l.whole.nodes (key_value l.key) l.bytes
+invariant-loop l = progress (exec_at l.whole.len l.whole.nodes (key_value l.key)) l.execs.items l.count l.counter
+    l.rest ≡ execs_at l.whole.len l.whole.nodes (key_value l.key) l.bytes

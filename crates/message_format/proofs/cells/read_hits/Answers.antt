@@ -10,13 +10,18 @@ returns-in_err-hit c =
     let p = err_from_is_err_and from.result from.ensures.1 in
     let last : c.copied.result ≡ last_of c.loop.hits.items = cc in
     let refused = rw last at c.in_err-hit.ensures in
-    rw (p.1, p.2) (ends (hit_at c.args.whole.len c.args.whole.nodes) _ c.loop.hits.items c.in_ok-count.count c.loop.counter c.loop.rest.now (hits_at c.args.whole.len c.args.whole.nodes c.args.bytes.now) c.loop-test.true refused c.loop.invariant)
+    rw (p.1, p.2) (ends (hit_at c.args.whole.len c.args.whole.nodes) _ c.loop.hits.items c.in_ok-count.count
+    c.loop.counter c.loop.rest.now (hits_at c.args.whole.len c.args.whole.nodes c.args.bytes.now) c.loop-test.true
+    refused c.loop.invariant)
 
 pub loop-preserved : goal.loop-preserved
 loop-preserved c =
     let last : c.copied.result ≡ last_of c.loop.hits.items = cc in
     let read = rw last at c.in_ok-hit.ensures in
-    rw c.in_ok-push.ensures.items (goes_on (hit_at c.args.whole.len c.args.whole.nodes) c.loop.hits.items c.in_ok-count.count c.loop.counter c.loop.rest.now c.in_ok-hit.hit c.in_ok-hit.after.now (hits_at c.args.whole.len c.args.whole.nodes c.args.bytes.now) c.loop-test.true read c.loop.invariant)
+    rw c.in_ok-push.ensures.items (goes_on (hit_at c.args.whole.len c.args.whole.nodes) c.loop.hits.items
+    c.in_ok-count.count c.loop.counter c.loop.rest.now c.in_ok-hit.hit c.in_ok-hit.after.now
+    (hits_at c.args.whole.len c.args.whole.nodes c.args.bytes.now) c.loop-test.true read c.loop.invariant)
 
 pub returns : goal.returns
-returns c = is_done (hit_at c.args.whole.len c.args.whole.nodes) c.loop.hits.items c.in_ok-count.count c.loop.counter c.loop.rest.now (hits_at c.args.whole.len c.args.whole.nodes c.args.bytes.now) c.loop-test.false c.loop.invariant
+returns c = is_done (hit_at c.args.whole.len c.args.whole.nodes) c.loop.hits.items c.in_ok-count.count c.loop.counter
+    c.loop.rest.now (hits_at c.args.whole.len c.args.whole.nodes c.args.bytes.now) c.loop-test.false c.loop.invariant

@@ -11,13 +11,20 @@ returns-in_err-shift c =
     let p = err_from_is_err_and from.result from.ensures.1 in
     let last : c.copied.result ≡ last_of c.loop.shifts.items = cc in
     let refused = rw last at c.in_err-shift.ensures in
-    rw (p.1, p.2) (ends (shift_at c.args.whole.len c.args.whole.nodes (key_value c.args.key.now)) _ c.loop.shifts.items c.in_ok-count.count c.loop.counter c.loop.rest.now (shifts_at c.args.whole.len c.args.whole.nodes (key_value c.args.key.now) c.args.bytes.now) c.loop-test.true refused c.loop.invariant)
+    rw (p.1, p.2) (ends (shift_at c.args.whole.len c.args.whole.nodes (key_value c.args.key.now)) _ c.loop.shifts.items
+    c.in_ok-count.count c.loop.counter c.loop.rest.now (shifts_at c.args.whole.len c.args.whole.nodes
+    (key_value c.args.key.now) c.args.bytes.now) c.loop-test.true refused c.loop.invariant)
 
 pub loop-preserved : goal.loop-preserved
 loop-preserved c =
     let last : c.copied.result ≡ last_of c.loop.shifts.items = cc in
     let read = rw last at c.in_ok-shift.ensures in
-    rw c.in_ok-push.ensures.items (goes_on (shift_at c.args.whole.len c.args.whole.nodes (key_value c.args.key.now)) c.loop.shifts.items c.in_ok-count.count c.loop.counter c.loop.rest.now c.in_ok-shift.shift c.in_ok-shift.after.now (shifts_at c.args.whole.len c.args.whole.nodes (key_value c.args.key.now) c.args.bytes.now) c.loop-test.true read c.loop.invariant)
+    rw c.in_ok-push.ensures.items (goes_on (shift_at c.args.whole.len c.args.whole.nodes (key_value c.args.key.now))
+    c.loop.shifts.items c.in_ok-count.count c.loop.counter c.loop.rest.now c.in_ok-shift.shift
+    c.in_ok-shift.after.now (shifts_at c.args.whole.len c.args.whole.nodes (key_value c.args.key.now)
+    c.args.bytes.now) c.loop-test.true read c.loop.invariant)
 
 pub returns : goal.returns
-returns c = is_done (shift_at c.args.whole.len c.args.whole.nodes (key_value c.args.key.now)) c.loop.shifts.items c.in_ok-count.count c.loop.counter c.loop.rest.now (shifts_at c.args.whole.len c.args.whole.nodes (key_value c.args.key.now) c.args.bytes.now) c.loop-test.false c.loop.invariant
+returns c = is_done (shift_at c.args.whole.len c.args.whole.nodes (key_value c.args.key.now)) c.loop.shifts.items
+    c.in_ok-count.count c.loop.counter c.loop.rest.now (shifts_at c.args.whole.len c.args.whole.nodes
+    (key_value c.args.key.now) c.args.bytes.now) c.loop-test.false c.loop.invariant

@@ -7,4 +7,5 @@ returns-clause-message c = same_message
 
 pub returns-clause-bytes : goal.returns-clause-bytes
 returns-clause-bytes c = λ m n.
-    same_bytes c.args.nodes c.args.a.now c.args.b.now m n (omega arith) (λ i. omega (arith, c.type_inv.a i)) (λ i. omega (arith, c.type_inv.b i))
+    same_bytes c.args.nodes c.args.a.now c.args.b.now m n (omega arith) (λ i. omega (arith, c.type_inv.a i))
+    (λ i. omega (arith, c.type_inv.b i))

@@ -9,4 +9,5 @@ use Rattle.message_format.proofs.reading.is_form_of.Goals as goal
 pub returns-in-WithGrants : goal.returns-in-WithGrants
 returns-in-WithGrants c =
     let es = c.args.entries.now in
-    c.have_grants.ensures ∙ any_is has_grants es ∙ ap (λ (form : Form). is_form_of form (map entry_value es)) (sym c.in-WithGrants.is)
+    c.have_grants.ensures ∙ any_is has_grants es ∙ ap (λ (form : Form). is_form_of form (map entry_value es))
+    (sym c.in-WithGrants.is)

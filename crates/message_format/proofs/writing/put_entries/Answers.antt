@@ -8,5 +8,6 @@ use Rattle.message_format.proofs.writing.put_entries.Goals as goal
 pub put_entry-requires : goal.put_entry-requires
 put_entry-requires c =
     let nodes = c.requires.0 in
-    let all = All-from_recursion (λ (e : NameEntry). IsEntry nodes (entry_value e)) c.args.entries.now (each_is nodes c.args.entries.now c.requires.1.each) in
+    let all = All-from_recursion (λ (e : NameEntry). IsEntry nodes (entry_value e)) c.args.entries.now
+    (each_is nodes c.args.entries.now c.requires.1.each) in
     (nodes, rw c.entry-item.is (all c.loop-entry.entry-index _ c.loop-entry-test.true))

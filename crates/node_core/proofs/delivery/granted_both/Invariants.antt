@@ -4,4 +4,8 @@ use Rattle.node_core.specs.Deliveries.{granted_both}
 use Rattle.node_core.proofs.delivery.granted_both.Given as goal
 
 abbrev pub invariant-loop-node : goal.invariant-loop-node
-invariant-loop-node l = record { value : l.sum ≡ granted_both l.node l.order (point_held l.held) (point_held l.received) l.term; small : l.sum ≤ l.node * 2 ^ 64 }
+invariant-loop-node l = record {
+  value : l.sum ≡ granted_both l.node l.order (point_held l.held) (point_held l.received)
+      l.term;
+  small : l.sum ≤ l.node * 2 ^ 64;
+}

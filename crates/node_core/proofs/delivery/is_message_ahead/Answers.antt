@@ -10,4 +10,5 @@ use Rattle.node_core.proofs.delivery.is_message_ahead.Goals as goal
 pub returns : goal.returns
 returns c =
     let test = is_ahead c.args.me (state_in c.args.state.now) in
-    c.is_any_ahead.ensures ∙ sym (any_told test _) ∙ ap (λ (es : List NameEntry). list_any test (flat_map operations_of (map entry_value es))) c.deref.ensures.value
+    c.is_any_ahead.ensures ∙ sym (any_told test _) ∙ ap (λ (es : List NameEntry). list_any test
+    (flat_map operations_of (map entry_value es))) c.deref.ensures.value

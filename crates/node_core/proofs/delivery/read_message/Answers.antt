@@ -15,7 +15,8 @@ returns-in-Ok-clause-ok c = ap read_of c.in-Ok.ensures.exact
 
 pub returns-in-Ok-clause-header : goal.returns-in-Ok-clause-header
 returns-in-Ok-clause-header c =
-    header_is_ok Message c.args.nodes c.args.bytes.now (Ok c.in-Ok.message) c.in-Ok.ensures.header (λ fault same. absurd cc)
+    header_is_ok Message c.args.nodes c.args.bytes.now (Ok c.in-Ok.message) c.in-Ok.ensures.header
+    (λ fault same. absurd cc)
 
 pub returns-in-Err : goal.returns-in-Err
 unfolding message_read
@@ -25,6 +26,8 @@ returns-in-Err c =
       ok = tt;
       spelled = tt;
       header = tt;
-      memory = λ e. header_is_ok Message c.args.nodes c.args.bytes.now (Err c.in-Err.fault) c.in-Err.ensures.header (λ fault same. let told = c.refusal_for.ensures in cc);
-      refused = subst (λ (f : NodeFault). (f ≡ faults.OutOfMemory) ⊎ (bad_message (read_of read) ≡ Some f)) (sym c.refusal_for.ensures) (refused_so c.in-Err.fault read c.in-Err.ensures.exact);
+      memory = λ e. header_is_ok Message c.args.nodes c.args.bytes.now (Err c.in-Err.fault) c.in-Err.ensures.header
+          (λ fault same. let told = c.refusal_for.ensures in cc);
+      refused = subst (λ (f : NodeFault). (f ≡ faults.OutOfMemory) ⊎ (bad_message (read_of read) ≡ Some f))
+          (sym c.refusal_for.ensures) (refused_so c.in-Err.fault read c.in-Err.ensures.exact);
     }

@@ -17,7 +17,8 @@ loop-name-preserved c =
     let before = rw c.in-Some.ensures.steps at c.loop-name.invariant in
     let told = c.in_ok-is_first.ensures in
     (λ i. grown v (told.first i) (told.text i) (map (λ e. e.0) c.next.new.self))
-    ∙ sym (grown_step v c.loop-name.is_first (string_bytes c.loop-name.text) name (map (λ e. e.0) c.next.new.self)) ∙ before
+    ∙ sym (grown_step v c.loop-name.is_first (string_bytes c.loop-name.text) name (map (λ e. e.0) c.next.new.self)) ∙
+    before
 
 pub returns : goal.returns
 returns c =

@@ -6,4 +6,5 @@ use Rattle.node_core.proofs.list.list_of.Given as goal
 
 abbrev pub invariant-loop-name : goal.invariant-loop-name
 invariant-loop-name l =
-    grown (state_in l.state) l.is_first (string_bytes l.text) (map (λ e. e.0) l.name-iterator) ≡ list_text (state_in l.state)
+    grown (state_in l.state) l.is_first (string_bytes l.text) (map (λ e. e.0) l.name-iterator) ≡ list_text
+    (state_in l.state)

@@ -5,4 +5,8 @@ use Rattle.operations.specs.declared.counted.Counted.TheVariants.{Hits}
 use Rattle.op_set.proofs.budget.sum_hits.Given as goal
 
 abbrev pub invariant-loop-node : goal.invariant-loop-node
-invariant-loop-node l = record { value : l.sum ≡ sum_below l.node (λ node. number_of l.counts (Hits node)); small : l.sum ≤ l.node * 2 ^ 64 }
+invariant-loop-node l = record {
+  value : l.sum ≡ sum_below l.node (λ node. number_of l.counts (Hits node));
+  small :
+      l.sum ≤ l.node * 2 ^ 64;
+}

@@ -5,4 +5,8 @@ use Rattle.operations.specs.declared.counted.Counted.TheVariants.{Shifts}
 use Rattle.op_set.proofs.budget.sum_to.Given as goal
 
 abbrev pub invariant-loop-node : goal.invariant-loop-node
-invariant-loop-node l = record { value : l.sum ≡ sum_others l.node l.to (λ from. number_of l.counts (Shifts l.term from l.to)); small : l.sum ≤ l.node * 2 ^ 64 }
+invariant-loop-node l = record {
+  value : l.sum ≡ sum_others l.node l.to
+      (λ from. number_of l.counts (Shifts l.term from l.to));
+  small : l.sum ≤ l.node * 2 ^ 64;
+}

@@ -4,4 +4,5 @@ use Rattle.replica_state.proofs.slot.count.Goals as goal
 
 pub returns-clause-ok : goal.returns-clause-ok
 unfolding slot_held
-returns-clause-ok c = on_ok c.raise.result (λ f. held_counted (slot_held c.args.slot.now) (slot_held c.raise.new.slot) c.args.count c.raise.ensures.key f) c.raise.ensures.ok
+returns-clause-ok c = on_ok c.raise.result (λ f. held_counted (slot_held c.args.slot.now) (slot_held c.raise.new.slot)
+    c.args.count c.raise.ensures.key f) c.raise.ensures.ok

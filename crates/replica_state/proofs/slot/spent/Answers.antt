@@ -9,7 +9,8 @@ returns-in-Some-get c =
     let budgets = c.in-Some.field-0.now.1 in
     let held : c.args.slot.now.parts.first ≡ Some (c.in-Some.field-0.now.0, c.in-Some.field-0.now.1) = search rules in
     c.total_spent.ensures
-    ∙ ap (λ (b : Budget). total_spent b) (budget_seen c.args.slot.now key budgets c.args.term key.node c.in-Some-count_of.field-0 c.in-Some-get.budget.now held c.in-Some-get.ensures.value)
+    ∙ ap (λ (b : Budget). total_spent b) (budget_seen c.args.slot.now key budgets c.args.term key.node
+    c.in-Some-count_of.field-0 c.in-Some-get.budget.now held c.in-Some-get.ensures.value)
     ∙ spent_under c.args.slot.now key budgets c.args.term c.in-Some-count_of.field-0 held c.in-Some-count_of.ensures
 
 pub returns-in-None : goal.returns-in-None
@@ -17,5 +18,6 @@ returns-in-None c =
     let key = c.in-Some.field-0.now.0 in
     let budgets = c.in-Some.field-0.now.1 in
     let held : c.args.slot.now.parts.first ≡ Some (c.in-Some.field-0.now.0, c.in-Some.field-0.now.1) = search rules in
-    sym (fresh_spent c.args.slot.now key budgets c.args.term c.in-Some-count_of.field-0 held c.in-Some-count_of.ensures (sym c.in-None.ensures.value))
+    sym (fresh_spent c.args.slot.now key budgets c.args.term c.in-Some-count_of.field-0 held c.in-Some-count_of.ensures
+    (sym c.in-None.ensures.value))
     ∙ spent_under c.args.slot.now key budgets c.args.term c.in-Some-count_of.field-0 held c.in-Some-count_of.ensures

@@ -9,7 +9,8 @@ use Rattle.replica_state.proofs.slot.total_granted.Goals as goal
 pub returns-in-Some : goal.returns-in-Some
 returns-in-Some c =
     c.total_granted.ensures
-    ∙ sum-same node_numbers (granted_cell c.in-Some.budget.now) (λ node. slot_number c.args.slot.now (Shifts c.args.term node node))
+    ∙ sum-same node_numbers (granted_cell c.in-Some.budget.now)
+    (λ node. slot_number c.args.slot.now (Shifts c.args.term node node))
     (λ node below. sym (c.in-Some.ensures.some (Shifts c.args.term node node) refl))
 
 pub returns-in-None : goal.returns-in-None

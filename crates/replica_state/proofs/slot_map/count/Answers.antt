@@ -13,8 +13,10 @@ returns-in-Some-clause-ok c =
     let met = called.met in
     let shows = called.shows in
     let leaves = called.leaves in
-    let wrote : OnOk c.in-Some.raised (slot_held changed.after ≡ held_after_count c.args.count (slot_held changed.before)) = search rules in
-    on_ok c.in-Some.raised (λ e. writes _ (shown_slots c.args.slots.now) (shown_slots c.change.new.slots) c.args.name.now c.in-Some.raised changed (λ h. held_after_count c.args.count h) e
+    let wrote : OnOk c.in-Some.raised (slot_held changed.after ≡ held_after_count c.args.count
+    (slot_held changed.before)) = search rules in
+    on_ok c.in-Some.raised (λ e. writes _ (shown_slots c.args.slots.now) (shown_slots c.change.new.slots)
+    c.args.name.now c.in-Some.raised changed (λ h. held_after_count c.args.count h) e
     (counted_is_something c.args.count _ c.requires)) wrote
 
 pub returns-in-Some-clause-named : goal.returns-in-Some-clause-named

@@ -15,7 +15,8 @@ change-requires c = λ slot is. (
   subst (λ o. IsSome o) (sym is.key) c.requires.set,
   (
     subst (λ n. n + 1 < 2 ^ 64) (sym (is.number (Hits c.args.node))) c.requires.hits,
-    IfSome_then c.args.spent c.requires.execs (λ term. subst (λ n. n + 1 < 2 ^ 64) (sym (is.number (Execs term c.args.node)))),
+    IfSome_then c.args.spent c.requires.execs (λ term. subst (λ n. n + 1 < 2 ^ 64)
+        (sym (is.number (Execs term c.args.node)))),
   ),
 )
 
@@ -26,7 +27,9 @@ returns-in-Some-clause-ok c =
     let met = called.met in
     let shows = called.shows in
     let leaves = called.leaves in
-    let wrote : OnOk c.in-Some.passed (slot_held changed.after ≡ held_after_pass c.args.node c.args.spent (slot_held changed.before)) = search rules in
-    on_ok c.in-Some.passed (λ e. writes _ (shown_slots c.args.slots.now) (shown_slots c.change.new.slots) c.args.name.now c.in-Some.passed changed (λ h. held_after_pass c.args.node c.args.spent h) e
+    let wrote : OnOk c.in-Some.passed (slot_held changed.after ≡ held_after_pass c.args.node c.args.spent
+    (slot_held changed.before)) = search rules in
+    on_ok c.in-Some.passed (λ e. writes _ (shown_slots c.args.slots.now) (shown_slots c.change.new.slots)
+    c.args.name.now c.in-Some.passed changed (λ h. held_after_pass c.args.node c.args.spent h) e
     (passed_is_something c.args.node c.args.spent _ c.requires.set)
     ∙ pass_seen c.args.name.now c.args.node c.args.spent (shown_slots c.args.slots.now) changed.is_stored.named) wrote

@@ -9,13 +9,16 @@ use Rattle.replica_state.proofs.StoredSlots.{by_change, none_by_test, held_is_no
 use Rattle.replica_state.proofs.slot_map.set_key.Goals as goal
 
 pub returns-then-is_some-clause-ok : goal.returns-then-is_some-clause-ok
-returns-then-is_some-clause-ok c = by_change (shown_slots c.args.slots.now) c.args.name c.get.result c.change.result (sym c.is_some.ensures ∙ c.if-is_some.true) c.get.ensures.some c.change.ensures.none (λ answer changed.
+returns-then-is_some-clause-ok c = by_change (shown_slots c.args.slots.now) c.args.name c.get.result c.change.result
+    (sym c.is_some.ensures ∙ c.if-is_some.true) c.get.ensures.some c.change.ensures.none (λ answer changed.
     let called = changed.is_called in
     let met = called.met in
     let shows = called.shows in
     let leaves = called.leaves in
-    let took_here : slot_held changed.after ≡ held_after_key (key_value c.args.key) (slot_held changed.before) = search rules in
-    writes _ (shown_slots c.args.slots.now) (shown_slots c.change.new.slots) c.args.name answer changed (λ h. held_after_key (key_value c.args.key) h) took_here (taken_is_something (key_value c.args.key) _)
+    let took_here : slot_held changed.after ≡ held_after_key (key_value c.args.key) (slot_held changed.before) =
+    search rules in
+    writes _ (shown_slots c.args.slots.now) (shown_slots c.change.new.slots) c.args.name answer changed
+    (λ h. held_after_key (key_value c.args.key) h) took_here (taken_is_something (key_value c.args.key) _)
     ∙ took c.args.name (key_value c.args.key) (shown_slots c.args.slots.now)) c.change.ensures.some
 
 pub put-requires-clause-some : goal.put-requires-clause-some
@@ -25,5 +28,6 @@ pub returns-clause-ok : goal.returns-clause-ok
 returns-clause-ok c =
     let none = none_by_test c.get.result (sym c.is_some.ensures ∙ c.if-is_some.false) c.get.ensures.none in
     on_ok c.put.result (λ e. e ∙ ap (λ (h : Held). with_held c.args.name h (shown_slots c.args.slots.now))
-    (c.take.ensures ∙ ap (λ h. held_after_key (key_value c.args.key) h) (c.empty-new.ensures ∙ held_is_nothing (shown_slots c.args.slots.now) c.args.name none))
+    (c.take.ensures ∙ ap (λ h. held_after_key (key_value c.args.key) h)
+    (c.empty-new.ensures ∙ held_is_nothing (shown_slots c.args.slots.now) c.args.name none))
     ∙ took c.args.name (key_value c.args.key) (shown_slots c.args.slots.now)) c.put.ensures.ok

@@ -8,5 +8,6 @@ pub loop-node-preserved : goal.loop-node-preserved
 loop-node-preserved g c =
     let hits = (g.R.Replica.state c.args.replica.now).hits c.args.name.now in
     let cell : ℕ × ℕ → Data = λ at. string (decimal at.1) in
-    told _ (c.in_ok-push_value.ensures ∙ ap (λ d. map view c.loop-node.values.items ++ d ∷ []) c.in_ok-hits_at.ensures) c.loop-node.invariant
+    told _ (c.in_ok-push_value.ensures ∙ ap (λ d. map view c.loop-node.values.items ++ d ∷ []) c.in_ok-hits_at.ensures)
+    c.loop-node.invariant
     (data_of_next cell (λ node. (node, hits node)) c.loop-node.node)

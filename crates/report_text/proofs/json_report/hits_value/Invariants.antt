@@ -6,4 +6,5 @@ use Rattle.report_text.specs.Report.{by_node}
 use Rattle.report_text.proofs.json_report.hits_value.Given as goal
 
 abbrev pub invariant-loop-node : goal.invariant-loop-node
-invariant-loop-node g l = map view l.values.items ≡ map (λ at. string (decimal at.1)) (by_node l.node ((g.R.Replica.state l.replica).hits l.name))
+invariant-loop-node g l = map view l.values.items ≡ map (λ at. string (decimal at.1))
+    (by_node l.node ((g.R.Replica.state l.replica).hits l.name))

@@ -12,7 +12,8 @@ pub loop-name-init : goal.loop-name-init
 loop-name-init g c =
     let v = g.R.Replica.state c.args.replica.now in
     rw c.into_iter-name-iterator.ensures.into_iter_gives
-    (λ i. map view (c.new-values.ensures.items i) ++ map point_data (filter_map (point_row v c.args.nodes) (c.points-name-items.ensures.names i)))
+    (λ i. map view (c.new-values.ensures.items i) ++ map point_data
+    (filter_map (point_row v c.args.nodes) (c.points-name-items.ensures.names i)))
 
 pub loop-name-preserved-in_ok-push_value : goal.loop-name-preserved-in_ok-push_value
 loop-name-preserved-in_ok-push_value g c =
@@ -21,7 +22,8 @@ loop-name-preserved-in_ok-push_value g c =
     let row = ap (option_map (keyed_row v c.args.nodes c.in-Some.name.now)) (sym c.in-Some-key.ensures.value) in
     told_before _ _ _
     (c.in_ok-push_value.ensures ∙ ap (λ d. map view c.loop-name.values.items ++ d ∷ []) c.in_ok-point_value.ensures)
-    before (data_of_name point_data (point_row v c.args.nodes) c.in-Some.name.now (map (λ e. e.0) c.next.new.self) _ row)
+    before (data_of_name point_data (point_row v c.args.nodes) c.in-Some.name.now (map (λ e. e.0) c.next.new.self) _
+    row)
 
 pub loop-name-preserved : goal.loop-name-preserved
 loop-name-preserved g c =

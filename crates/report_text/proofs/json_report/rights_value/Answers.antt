@@ -10,5 +10,6 @@ pub loop-node-preserved : goal.loop-node-preserved
 loop-node-preserved g c =
     let rights = rights_of (g.R.Replica.state c.args.replica.now) c.args.name.now c.args.term in
     let cell : ℕ × ℤ → Data = λ at. string (signed_decimal at.1) in
-    told _ (c.in_ok-push_value.ensures ∙ ap (λ d. map view c.loop-node.values.items ++ d ∷ []) c.in_ok-rights_at.ensures) c.loop-node.invariant
+    told _ (c.in_ok-push_value.ensures ∙ ap (λ d. map view c.loop-node.values.items ++ d ∷ [])
+    c.in_ok-rights_at.ensures) c.loop-node.invariant
     (data_of_next cell (λ node. (node, rights node)) c.loop-node.node)

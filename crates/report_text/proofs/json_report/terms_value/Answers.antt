@@ -11,7 +11,8 @@ pub loop-term-preserved : goal.loop-term-preserved
 loop-term-preserved g c =
     let v = g.R.Replica.state c.args.replica.now in
     let counted = option_map (counted_row v c.args.nodes c.args.name.now c.loop-term.term) in
-    let next = data_of_number term_data (term_row v c.args.nodes c.args.name.now (key_value c.args.key.now)) c.loop-term.term in
+    let next = data_of_number term_data (term_row v c.args.nodes c.args.name.now (key_value c.args.key.now))
+    c.loop-term.term in
     elim c.match-count_of.branch [
       | in-Some+in_ok-term_value+in_ok-push_value w ↦
           told _
@@ -20,5 +21,6 @@ loop-term-preserved g c =
           ∙ ap (λ d. map view c.loop-term.values.items ++ d ∷ []) w.in_ok-term_value.ensures)
           c.loop-term.invariant (next _ (ap counted (sym w.in-Some.ensures)))
       | in_default w ↦
-          told _ (none_told (ap (λ values. map view values.items) w.values-is)) c.loop-term.invariant (next _ (ap counted (sym w.in_default.ensures)))
+          told _ (none_told (ap (λ values. map view values.items) w.values-is)) c.loop-term.invariant
+          (next _ (ap counted (sym w.in_default.ensures)))
     ]

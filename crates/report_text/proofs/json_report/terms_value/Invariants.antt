@@ -9,4 +9,5 @@ use Rattle.report_text.proofs.json_report.terms_value.Given as goal
 abbrev pub invariant-loop-term : goal.invariant-loop-term
 invariant-loop-term g l =
     map view l.values.items
-    ≡ map term_data (filter_map (term_row (g.R.Replica.state l.replica) l.nodes l.name (key_value l.key)) (range_with_len 0 l.term))
+    ≡ map term_data (filter_map (term_row (g.R.Replica.state l.replica) l.nodes l.name (key_value l.key))
+    (range_with_len 0 l.term))

@@ -7,4 +7,5 @@ pub loop-node-preserved : goal.loop-node-preserved
 loop-node-preserved g c =
     let hits = (g.R.Replica.state c.args.replica.now).hits c.args.name.now in
     let cell : ℕ × ℕ → List ℕ = λ at. node_text at.0 (decimal at.1) in
-    told_from _ _ _ c.in_ok-push_hits_at.ensures c.loop-node.invariant (text_of_next cell (λ node. (node, hits node)) c.loop-node.node)
+    told_from _ _ _ c.in_ok-push_hits_at.ensures c.loop-node.invariant
+    (text_of_next cell (λ node. (node, hits node)) c.loop-node.node)

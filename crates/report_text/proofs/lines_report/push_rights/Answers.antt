@@ -9,4 +9,5 @@ pub loop-node-preserved : goal.loop-node-preserved
 loop-node-preserved g c =
     let rights = rights_of (g.R.Replica.state c.args.replica.now) c.args.name.now c.args.term in
     let cell : ℕ × ℤ → List ℕ = λ at. node_text at.0 (signed_decimal at.1) in
-    told_from _ _ _ c.in_ok-push_rights_at.ensures c.loop-node.invariant (text_of_next cell (λ node. (node, rights node)) c.loop-node.node)
+    told_from _ _ _ c.in_ok-push_rights_at.ensures c.loop-node.invariant
+    (text_of_next cell (λ node. (node, rights node)) c.loop-node.node)

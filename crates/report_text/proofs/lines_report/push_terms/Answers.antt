@@ -10,9 +10,12 @@ pub loop-term-preserved : goal.loop-term-preserved
 loop-term-preserved g c =
     let v = g.R.Replica.state c.args.replica.now in
     let counted = option_map (counted_row v c.args.nodes c.args.name.now c.loop-term.term) in
-    let next = text_of_number term_line (term_row v c.args.nodes c.args.name.now (key_value c.args.key.now)) c.loop-term.term in
+    let next = text_of_number term_line (term_row v c.args.nodes c.args.name.now (key_value c.args.key.now))
+    c.loop-term.term in
     elim c.match-count_of.branch [
       | in-Some+in_ok-push_term w ↦
-          told_from _ _ _ (ap string_bytes w.text-is ∙ w.in_ok-push_term.ensures) c.loop-term.invariant (next _ (ap counted (sym w.in-Some.ensures)))
-      | in_default w ↦ told_from _ _ _ (none_told (ap string_bytes w.text-is)) c.loop-term.invariant (next _ (ap counted (sym w.in_default.ensures)))
+          told_from _ _ _ (ap string_bytes w.text-is ∙ w.in_ok-push_term.ensures) c.loop-term.invariant
+          (next _ (ap counted (sym w.in-Some.ensures)))
+      | in_default w ↦ told_from _ _ _ (none_told (ap string_bytes w.text-is)) c.loop-term.invariant
+          (next _ (ap counted (sym w.in_default.ensures)))
     ]

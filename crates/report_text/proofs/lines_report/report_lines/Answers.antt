@@ -12,7 +12,8 @@ unfolding report_lines_text
 loop-name-init g c =
     let v = g.R.Replica.state c.args.replica.now in
     rw c.into_iter-name-iterator.ensures.into_iter_gives
-    (λ i. c.new-text.ensures.bytes i ++ flat_map point_lines (filter_map (point_row v c.args.nodes) (c.points-name-items.ensures.names i)))
+    (λ i. c.new-text.ensures.bytes i ++ flat_map point_lines
+    (filter_map (point_row v c.args.nodes) (c.points-name-items.ensures.names i)))
 
 pub loop-name-preserved-in-Continue-1 : goal.loop-name-preserved-in-Continue-1
 loop-name-preserved-in-Continue-1 g c =

@@ -14,10 +14,12 @@ use Rattle.uses.proofs.cluster_model_caller.drill.Goals as goal
 abbrev IsBounded : Cluster → WorldValue → List code.Event → RunReport → Type 0
 IsBounded c w events report = (name : List ℕ) (key : KeyValue) (term count : ℕ) →
     IsIssued c (happened_after [] w (asked events) (told w report)) name key → count_of key term ≡ Some count →
-    count_by (tells_act (stamp_of key) term) (told w report) ≤ count + all_granted c (happened_after [] w (asked events) (told w report)) name key term
+    count_by (tells_act (stamp_of key) term) (told w report) ≤ count + all_granted c
+    (happened_after [] w (asked events) (told w report)) name key term
 
 bounded : (c : Cluster) (w : WorldValue) (events : List code.Event) (report : RunReport) → HasHistory c [] w
-    → TellsExecutions w (asked events) (told w report) → Afterwards w (asked events) (told w report) EscrowHolds → IsBounded c w events report
+    → TellsExecutions w (asked events) (told w report) → Afterwards w (asked events) (told w report) EscrowHolds →
+    IsBounded c w events report
 bounded c w events report has executions escrow name key term count issued counted =
     let told_all = executions c [] has (stamp_of key) term in
     let most = (escrow c [] has name key term count issued counted).at_most in
@@ -27,4 +29,5 @@ pub returns-in-Ok : goal.returns-in-Ok
 returns-in-Ok c =
     let cluster : Cluster = record { nodes = c.args.nodes; trace_cap = c.args.trace_cap } in
     subst (λ (w : WorldValue). IsBounded cluster w c.args.events.now c.in-Ok.report) c.in_ok-world.ensures.ok
-    (bounded cluster c.in_ok-world.world c.args.events.now c.in-Ok.report c.in_ok-world.ensures.history c.in-Ok.ensures.executions c.in-Ok.ensures.escrow)
+    (bounded cluster c.in_ok-world.world c.args.events.now c.in-Ok.report c.in_ok-world.ensures.history
+    c.in-Ok.ensures.executions c.in-Ok.ensures.escrow)

@@ -8,7 +8,8 @@ use Rattle.http_routes.specs.Answers.{Answers}
 use Rattle.uses.proofs.http_routes_caller.look.Goals as goal
 
 -- wherever a path leads, a `GET` asks no call
-same : (k new : Kept) (given : ReplyValue) (target : Option TargetValue) → Answers k (wanted_by target (codes "GET") []) new given → new ≡ k
+same : (k new : Kept) (given : ReplyValue) (target : Option TargetValue) →
+    Answers k (wanted_by target (codes "GET") []) new given → new ≡ k
 same k new given target (inr none) = none.0
 same k new given None (inl kept) = kept.0
 same k new given (Some paths.points) (inl kept) = kept.0
@@ -20,4 +21,5 @@ same k new given (Some paths.gossip) (inl kept) = kept.0
 same k new given (Some paths.report) (inl kept) = kept.0
 
 pub returns : goal.returns
-returns c = same c.args.node.now c.answer.new.core (http_value c.answer.result) (target_of c.args.path.now) c.answer.ensures
+returns c = same c.args.node.now c.answer.new.core (http_value c.answer.result) (target_of c.args.path.now)
+    c.answer.ensures

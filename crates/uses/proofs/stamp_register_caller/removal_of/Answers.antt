@@ -8,4 +8,5 @@ returns-clause-last c = c.next.ensures.last
 
 pub returns-clause-above : goal.returns-clause-above
 returns-clause-above c =
-    IfSome-weaken _ _ c.next.result (λ key above. above (key_value c.args.setting.now) (omega arith)) c.next.ensures.above
+    IfSome-weaken _ _ c.next.result (λ key above. above (key_value c.args.setting.now) (omega arith))
+    c.next.ensures.above

@@ -4,5 +4,6 @@ use Rattle.uses.proofs.thread_scripts_caller.run_workers_of_text.Goals as goal
 
 pub returns : goal.returns
 returns g c =
-    let read : (inner_of c.new-reader.result).now ≡ c.args.script.now = ap (λ s. s.now) c.new-reader.ensures.inner ∙ c.as_bytes.ensures.value in
+    let read : (inner_of c.new-reader.result).now ≡ c.args.script.now = ap (λ s. s.now) c.new-reader.ensures.inner ∙
+    c.as_bytes.ensures.value in
     rw (← read) c.run_threads.ensures.bad_line

@@ -13,7 +13,9 @@ pub returns-clause-value : goal.returns-clause-value
 returns-clause-value c = c.len.ensures ∙ counted c.spelled.result.now c.args.self.now c.spelled.ensures.terms
 
 pub returns-clause-some : goal.returns-clause-some
-returns-clause-some c = rw (c.len.ensures, counted c.spelled.result.now c.args.self.now c.spelled.ensures.terms) c.spelled.ensures.spelled.some
+returns-clause-some c = rw (c.len.ensures, counted c.spelled.result.now c.args.self.now c.spelled.ensures.terms)
+    c.spelled.ensures.spelled.some
 
 pub returns-clause-few : goal.returns-clause-few
-returns-clause-few c = rw (c.len.ensures, counted c.spelled.result.now c.args.self.now c.spelled.ensures.terms) c.spelled.ensures.spelled.few
+returns-clause-few c = rw (c.len.ensures, counted c.spelled.result.now c.args.self.now c.spelled.ensures.terms)
+    c.spelled.ensures.spelled.few

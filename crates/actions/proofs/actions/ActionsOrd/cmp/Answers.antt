@@ -7,4 +7,5 @@ compared : {R : Type 0} (f : List ℕ → List ℕ → R) (a b x y : List ℕ) (
 compared f a b x y r h e k = rw (← e, ← k) h
 
 pub returns : goal.returns
-returns c = compared (slice_cmp nat_cmp) _ _ _ _ _ c.cmp.ensures c.spelled.ensures.canonical c.spelled-2.ensures.canonical
+returns c = compared (slice_cmp nat_cmp) _ _ _ _ _ c.cmp.ensures c.spelled.ensures.canonical
+    c.spelled-2.ensures.canonical

@@ -13,11 +13,13 @@ loop-term-preserved c = λ key stamped body ops are.
     let before = c.loop-term.invariant key stamped body ops are in
     elim c.match-count_of.branch [
       | in-Some+in_ok-copied+in_ok-put w ↦
-          let counted : count_of key c.loop-term.term ≡ Some w.in-Some.count = sym (c.count_of.ensures key body) ∙ w.in-Some.is in
+          let counted : count_of key c.loop-term.term ≡ Some w.in-Some.count = sym (c.count_of.ensures key body) ∙
+          w.in-Some.is in
           let name : w.in_ok-copied.field-0 ≡ c.args.name.now = w.in_ok-copied.ensures in
           subst (λ (t : Counts). AreCountsUpto t ops c.args.name.now key (c.loop-term.term + 1)) (sym w.self-is)
           (subst (λ n. AreCountsUpto w.put.new.self ops n key (c.loop-term.term + 1)) name
-          (upto_more w.in_ok-copied.field-0 key c.args.stamp c.loop-term.term w.in-Some.count c.loop-term.self w.put.new.self stamped counted w.in_ok-put.ensures ops
+          (upto_more w.in_ok-copied.field-0 key c.args.stamp c.loop-term.term w.in-Some.count c.loop-term.self
+          w.put.new.self stamped counted w.in_ok-put.ensures ops
           (subst (λ n. AreCountsUpto c.loop-term.self ops n key c.loop-term.term) (sym name) before)))
       | in_default w ↦
           let none : count_of key c.loop-term.term ≡ None = sym (c.count_of.ensures key body) ∙ w.in_default.is in
@@ -27,5 +29,7 @@ loop-term-preserved c = λ key stamped body ops are.
 
 pub returns : goal.returns
 returns c = λ key stamped body ops are.
-    let many : length c.args.actions.now ≤ c.loop-term.term = omega (arith, c.loop-term-test.false, c.len-term-end.ensures.value) in
-    key_added c.loop-term.self ops c.args.name.now key c.args.actions.now c.loop-term.term body c.is_spelled.ensures many (c.loop-term.invariant key stamped body ops are)
+    let many : length c.args.actions.now ≤ c.loop-term.term =
+    omega (arith, c.loop-term-test.false, c.len-term-end.ensures.value) in
+    key_added c.loop-term.self ops c.args.name.now key c.args.actions.now c.loop-term.term body c.is_spelled.ensures
+    many (c.loop-term.invariant key stamped body ops are)

@@ -8,11 +8,13 @@ use Rattle.audit.proofs.receipts.Seen.note.Goals as goal
 pub returns-clause-first : goal.returns-clause-first
 unfolding times_seen
 returns-clause-first c = OnTrue_from c.in_ok-insert.field-0 _ (λ h.
-    note_first (λ n i. contains place_cmp c.args.self.now.places (n, i)) (λ n i. contains place_cmp c.insert.new.self (n, i))
+    note_first (λ n i. contains place_cmp c.args.self.now.places (n, i))
+    (λ n i. contains place_cmp c.insert.new.self (n, i))
     c.args.receipt.now.node c.args.receipt.now.index
     (was_false _ c.in_ok-insert.field-0 c.in_ok-insert.ensures.added h)
     (λ n i. c.in_ok-insert.ensures.updates.0 (n, i) ∙
-    ap (λ b. cond b true (contains place_cmp c.args.self.now.places (n, i))) (same_place c.args.receipt.now.node c.args.receipt.now.index n i)))
+    ap (λ b. cond b true (contains place_cmp c.args.self.now.places (n, i)))
+    (same_place c.args.receipt.now.node c.args.receipt.now.index n i)))
 
 pub returns-clause-again : goal.returns-clause-again
 unfolding times_seen

@@ -8,30 +8,29 @@ pub returns-in_err-call-clause-answer : goal.returns-in_err-call-clause-answer
 returns-in_err-call-clause-answer c =
     let p = err_from_is_err_and c.from_residual.result c.from_residual.ensures.1 in
     let k = c.index_mut.result.now in
-    let hand = at_hand _ _ c.args.self.now c.args.node k c.self.invariant c.self.view_is c.requires.node c.index_mut.ensures.value in
+    let hand = at_hand _ _ c.args.self.now c.args.node k c.self.invariant c.self.view_is c.requires.node
+    c.index_mut.ensures.value in
     rw (p.1, p.2)
-    (call_refused _ _ c.args.self.now c.args.node k hand (ask_ref_told c.args.ask) c.requires.silent c.args.words.now c.in_err-call.field-0.0 c.in_err-call.ensures.refused)
+    (call_refused hand (ask_ref_told c.args.ask) c.requires.silent c.args.words.now
+    c.in_err-call.field-0.0 c.in_err-call.ensures.refused)
 
 pub invariant_of-self-2 : goal.invariant_of-self-2
 invariant_of-self-2 c =
     let k = c.index_mut.result.now in
-    let hand = at_hand _ _ c.args.self.now c.args.node k c.self.invariant c.self.view_is c.requires.node c.index_mut.ensures.value in
-    (call_fits _ _ c.args.self.now c.args.node k hand (ask_ref_told c.args.ask) c.requires.silent c.args.words.now c.call.new.self c.in_ok-call.field-0 c.in_ok-call.ensures.ok).good
+    let hand = at_hand _ _ c.args.self.now c.args.node k c.self.invariant c.self.view_is c.requires.node
+    c.index_mut.ensures.value in
+    (call_fits hand (ask_ref_told c.args.ask) c.requires.silent c.args.words.now
+    c.call.new.self c.in_ok-call.field-0 c.in_ok-call.ensures.ok).good
 
-pub returns-clause-answer : goal.returns-clause-answer
-returns-clause-answer c =
+pub returns : goal.returns
+returns c =
     let k = c.index_mut.result.now in
-    let hand = at_hand _ _ c.args.self.now c.args.node k c.self.invariant c.self.view_is c.requires.node c.index_mut.ensures.value in
-    inr (sym (call_fits _ _ c.args.self.now c.args.node k hand (ask_ref_told c.args.ask) c.requires.silent c.args.words.now c.call.new.self c.in_ok-call.field-0 c.in_ok-call.ensures.ok).answer_is)
-
-pub returns-clause-after : goal.returns-clause-after
-returns-clause-after c =
-    let k = c.index_mut.result.now in
-    let hand = at_hand _ _ c.args.self.now c.args.node k c.self.invariant c.self.view_is c.requires.node c.index_mut.ensures.value in
-    (call_fits _ _ c.args.self.now c.args.node k hand (ask_ref_told c.args.ask) c.requires.silent c.args.words.now c.call.new.self c.in_ok-call.field-0 c.in_ok-call.ensures.ok).after_is
-
-pub returns-clause-history : goal.returns-clause-history
-returns-clause-history c =
-    let k = c.index_mut.result.now in
-    let hand = at_hand _ _ c.args.self.now c.args.node k c.self.invariant c.self.view_is c.requires.node c.index_mut.ensures.value in
-    (call_fits _ _ c.args.self.now c.args.node k hand (ask_ref_told c.args.ask) c.requires.silent c.args.words.now c.call.new.self c.in_ok-call.field-0 c.in_ok-call.ensures.ok).history
+    let hand = at_hand _ _ c.args.self.now c.args.node k c.self.invariant c.self.view_is c.requires.node
+    c.index_mut.ensures.value in
+    let fits = call_fits hand (ask_ref_told c.args.ask) c.requires.silent c.args.words.now
+    c.call.new.self c.in_ok-call.field-0 c.in_ok-call.ensures.ok in
+    record {
+      answer = inr (sym fits.answer_is);
+      after = fits.after_is;
+      history = fits.history;
+    }

@@ -18,53 +18,47 @@ returns-in_err-record_pass-clause-refused c =
     let few = c.if-node-len.false in
     let len = c.len.ensures in
     let size = c.self.inside.nodes.ok.0 in
-    let low : c.args.node < length c.args.self.now.nodes = subst (λ (w : WorldValue). c.args.node < length w.nodes) c.self.view_is (omega (arith, few, len, size)) in
+    let low : c.args.node < length c.args.self.now.nodes = subst (λ (w : WorldValue). c.args.node < length w.nodes)
+    c.self.view_is (omega (arith, few, len, size)) in
     let k = c.index_mut.result.now in
-    let hand = at_hand _ _ c.args.self.now c.args.node k c.self.invariant c.self.view_is low c.index_mut.ensures.value in
+    let hand = at_hand _ _ c.args.self.now c.args.node k c.self.invariant c.self.view_is low
+    c.index_mut.ensures.value in
     let p = err_from_is_err_and c.from_residual.result c.from_residual.ensures.1 in
     rw (p.1, p.2)
-    (call_refused _ _ c.args.self.now c.args.node k hand (passes c.args.name.now) refl c.args.words.now c.in_err-record_pass.field-0.0 c.in_err-record_pass.ensures.refused)
+    (call_refused hand (passes c.args.name.now) refl c.args.words.now
+    c.in_err-record_pass.field-0.0 c.in_err-record_pass.ensures.refused)
 
 pub invariant_of-self-2 : goal.invariant_of-self-2
 invariant_of-self-2 c =
     let few = c.if-node-len.false in
     let len = c.len.ensures in
     let size = c.self.inside.nodes.ok.0 in
-    let low : c.args.node < length c.args.self.now.nodes = subst (λ (w : WorldValue). c.args.node < length w.nodes) c.self.view_is (omega (arith, few, len, size)) in
+    let low : c.args.node < length c.args.self.now.nodes = subst (λ (w : WorldValue). c.args.node < length w.nodes)
+    c.self.view_is (omega (arith, few, len, size)) in
     let k = c.index_mut.result.now in
-    let hand = at_hand _ _ c.args.self.now c.args.node k c.self.invariant c.self.view_is low c.index_mut.ensures.value in
-    let fits = pass_fits _ _ c.args.self.now c.args.node k hand c.args.name.now c.args.words.now c.record_pass.new.self c.in_ok-record_pass.ensures.ok in
+    let hand = at_hand _ _ c.args.self.now c.args.node k c.self.invariant c.self.view_is low
+    c.index_mut.ensures.value in
+    let fits = pass_fits hand c.args.name.now c.args.words.now c.record_pass.new.self
+    c.in_ok-record_pass.ensures.ok in
     fits.good
 
-pub returns-clause-answer : goal.returns-clause-answer
-returns-clause-answer c =
+pub returns : goal.returns
+returns c =
     let few = c.if-node-len.false in
     let len = c.len.ensures in
     let size = c.self.inside.nodes.ok.0 in
-    let low : c.args.node < length c.args.self.now.nodes = subst (λ (w : WorldValue). c.args.node < length w.nodes) c.self.view_is (omega (arith, few, len, size)) in
+    let low : c.args.node < length c.args.self.now.nodes = subst (λ (w : WorldValue). c.args.node < length w.nodes)
+    c.self.view_is (omega (arith, few, len, size)) in
     let k = c.index_mut.result.now in
-    let hand = at_hand _ _ c.args.self.now c.args.node k c.self.invariant c.self.view_is low c.index_mut.ensures.value in
-    let fits = pass_fits _ _ c.args.self.now c.args.node k hand c.args.name.now c.args.words.now c.record_pass.new.self c.in_ok-record_pass.ensures.ok in
-    recorded c.args.self.now _ (calls c.args.node (passes c.args.name.now) c.args.words.now) _ fits.answer_is fits.after_is
-
-pub returns-clause-after : goal.returns-clause-after
-returns-clause-after c =
-    let few = c.if-node-len.false in
-    let len = c.len.ensures in
-    let size = c.self.inside.nodes.ok.0 in
-    let low : c.args.node < length c.args.self.now.nodes = subst (λ (w : WorldValue). c.args.node < length w.nodes) c.self.view_is (omega (arith, few, len, size)) in
-    let k = c.index_mut.result.now in
-    let hand = at_hand _ _ c.args.self.now c.args.node k c.self.invariant c.self.view_is low c.index_mut.ensures.value in
-    let fits = pass_fits _ _ c.args.self.now c.args.node k hand c.args.name.now c.args.words.now c.record_pass.new.self c.in_ok-record_pass.ensures.ok in
-    fits.after_is
-
-pub returns-clause-history : goal.returns-clause-history
-returns-clause-history c =
-    let few = c.if-node-len.false in
-    let len = c.len.ensures in
-    let size = c.self.inside.nodes.ok.0 in
-    let low : c.args.node < length c.args.self.now.nodes = subst (λ (w : WorldValue). c.args.node < length w.nodes) c.self.view_is (omega (arith, few, len, size)) in
-    let k = c.index_mut.result.now in
-    let hand = at_hand _ _ c.args.self.now c.args.node k c.self.invariant c.self.view_is low c.index_mut.ensures.value in
-    let fits = pass_fits _ _ c.args.self.now c.args.node k hand c.args.name.now c.args.words.now c.record_pass.new.self c.in_ok-record_pass.ensures.ok in
-    fits.history
+    let hand = at_hand _ _ c.args.self.now c.args.node k c.self.invariant c.self.view_is low
+    c.index_mut.ensures.value in
+    let fits = pass_fits hand c.args.name.now c.args.words.now c.record_pass.new.self
+    c.in_ok-record_pass.ensures.ok in
+    record {
+      answer = recorded c.args.self.now _ (calls c.args.node (passes c.args.name.now) c.args.words.now) _ fits.answer_is
+          fits.after_is;
+      after = fits.after_is;
+      history = fits.history;
+      refused = tt;
+      err = tt;
+    }

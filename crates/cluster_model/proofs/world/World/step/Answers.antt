@@ -10,4 +10,5 @@ returns-then-node-len-clause-answer c =
     let len = c.len.ensures in
     let size = c.self.inside.nodes.ok.0 in
     no_node c.args.self.now (event_value c.args.event.now)
-    (subst (λ (w : WorldValue). length w.nodes ≤ node_asked (event_value c.args.event.now)) c.self.view_is (omega (arith, high, node, len, size)))
+    (subst (λ (w : WorldValue). length w.nodes ≤ node_asked (event_value c.args.event.now)) c.self.view_is
+    (omega (arith, high, node, len, size)))

@@ -19,18 +19,23 @@ pub returns : goal.returns
 returns c =
     let budget = budget_of c.args.self.now c.args.setter c.args.count in
     let own : c.if-node-setter.own ≡ cond (c.args.node == c.args.setter) c.args.count 0 = elim c.if-node-setter.branch [
-      | then-node-setter w ↦ w.own-is ∙ w.from-own.ensures ∙ sym (chosen-same c.args.node c.args.setter c.args.count 0 w.if-node-setter.true)
-      | else-node-setter w ↦ w.own-is ∙ sym (chosen-other c.args.node c.args.setter c.args.count 0 w.if-node-setter.false)
+      | then-node-setter w ↦ w.own-is ∙ w.from-own.ensures ∙
+          sym (chosen-same c.args.node c.args.setter c.args.count 0 w.if-node-setter.true)
+      | else-node-setter w ↦ w.own-is ∙ sym (chosen-other c.args.node c.args.setter c.args.count 0
+          w.if-node-setter.false)
     ] in
-    let small : c.if-node-setter.own < 2 ^ 64 = elim c.if-node-setter.branch [ then-node-setter w ↦ omega arith | else-node-setter w ↦ omega arith ] in
-    let granted : c.from-granted.result ≡ granted_cell c.args.self.now c.args.node = c.from-granted.ensures ∙ c.granted.ensures in
+    let small : c.if-node-setter.own < 2 ^ 64 = elim c.if-node-setter.branch
+    [ then-node-setter w ↦ omega arith | else-node-setter w ↦ omega arith ] in
+    let granted : c.from-granted.result ≡ granted_cell c.args.self.now c.args.node = c.from-granted.ensures ∙
+    c.granted.ensures in
     let came : c.total_from_others.result
     ≡ sum_others node_numbers c.args.node (λ from. moved_cell c.args.self.now from c.args.node) =
     rw (← c.self.view_is) c.total_from_others.ensures.value in
     let went : c.total_to_others.result ≡ sum_others node_numbers c.args.node (moved_cell c.args.self.now c.args.node) =
     rw (← c.self.view_is) c.total_to_others.ensures.value in
     let spent : c.from-spent.result ≡ spent_cell c.args.self.now c.args.node = c.from-spent.ensures ∙ c.spent.ensures in
-    difference (c.if-node-setter.own + c.from-granted.result + c.total_from_others.result) (c.total_to_others.result + c.from-spent.result)
+    difference (c.if-node-setter.own + c.from-granted.result + c.total_from_others.result)
+    (c.total_to_others.result + c.from-spent.result)
     (given_to budget c.args.node) (gone_from budget c.args.node)
     (λ i. own i + granted i + came i)
     (λ i. went i + spent i)

@@ -16,8 +16,10 @@ use Rattle.delta_exchange.proofs.marks.Marks.make_room.Goals as goal
 pub returns-in-Some-clause-same : goal.returns-in-Some-clause-same
 returns-in-Some-clause-same c =
     let here = sym c.in-Some.ensures.value in
-    same_marks c.args.self.now (record { names = c.get_mut.follows.lender c.make_room.new.self }) c.args.name.now c.make_room.new.self
-    (lent_at c.args.self.now.names c.get_mut.follows.lender c.args.name.now c.in-Some.marks.now c.make_room.new.self c.get_mut.follows.holds here)
+    same_marks c.args.self.now (record { names = c.get_mut.follows.lender c.make_room.new.self }) c.args.name.now
+    c.make_room.new.self
+    (lent_at c.args.self.now.names c.get_mut.follows.lender c.args.name.now c.in-Some.marks.now c.make_room.new.self
+    c.get_mut.follows.holds here)
     (c.make_room.ensures.latest ∙ ap (λ (o : Option NameMarks). latest_of o) (sym here))
     (c.make_room.ensures.key ∙ ap (λ (o : Option NameMarks). key_of o) (sym here))
     (λ d. c.make_room.ensures.cells d ∙ ap (λ (o : Option NameMarks). cell_of o d) (sym here))
@@ -25,28 +27,37 @@ returns-in-Some-clause-same c =
 pub returns-in-Some-clause-kept : goal.returns-in-Some-clause-kept
 returns-in-Some-clause-kept c =
     let here = sym c.in-Some.ensures.value in
-    kept_room c.args.self.now (record { names = c.get_mut.follows.lender c.make_room.new.self }) c.args.name.now c.make_room.new.self
-    (lent_at c.args.self.now.names c.get_mut.follows.lender c.args.name.now c.in-Some.marks.now c.make_room.new.self c.get_mut.follows.holds here)
+    kept_room c.args.self.now (record { names = c.get_mut.follows.lender c.make_room.new.self }) c.args.name.now
+    c.make_room.new.self
+    (lent_at c.args.self.now.names c.get_mut.follows.lender c.args.name.now c.in-Some.marks.now c.make_room.new.self
+    c.get_mut.follows.holds here)
     (λ d room. c.make_room.ensures.kept d (subst (λ (o : Option NameMarks). IsTrue (is_room o d)) here room))
 
 pub returns-clause-same : goal.returns-clause-same
 returns-clause-same c =
     let none = c.get_mut.follows.holds-at-none in
     let lender : Marks = record { names = c.get_mut.follows.lender-at-none } in
-    let absent = ap (λ (m : BTreeMap (List ℕ) NameMarks). marks_at m.entries c.args.name.now) none ∙ sym c.in_default.ensures.value in
+    let absent = ap (λ (m : BTreeMap (List ℕ) NameMarks). marks_at m.entries c.args.name.now) none ∙
+    sym c.in_default.ensures.value in
     same_marks lender (record { names = c.insert.new.self }) c.args.name.now c.make_room-2.new.self
-    (λ q. c.in_ok-insert.ensures.updates.0 q ∙ ap (λ n. cond (is_at (slice_cmp nat_cmp n) q) (Some c.make_room-2.new.self) (marks_at c.get_mut.follows.lender-at-none.entries q)) c.in_ok-copied.ensures)
-    (c.make_room-2.ensures.latest ∙ c.new-marks.ensures.latest ∙ ap (λ (o : Option NameMarks). latest_of o) (sym absent))
+    (λ q. c.in_ok-insert.ensures.updates.0 q ∙ ap (λ n. cond (is_at (slice_cmp nat_cmp n) q)
+    (Some c.make_room-2.new.self) (marks_at c.get_mut.follows.lender-at-none.entries q)) c.in_ok-copied.ensures)
+    (c.make_room-2.ensures.latest ∙ c.new-marks.ensures.latest ∙
+    ap (λ (o : Option NameMarks). latest_of o) (sym absent))
     (c.make_room-2.ensures.key ∙ c.new-marks.ensures.key ∙ ap (λ (o : Option NameMarks). key_of o) (sym absent))
-    (λ d. c.make_room-2.ensures.cells d ∙ ap (λ (es : List (Counted × ℕ)). unwrap_or (lookup (is_at (counted_cmp d)) es) 0) c.new-marks.ensures.cells ∙ ap (λ (o : Option NameMarks). cell_of o d) (sym absent)) ∙
+    (λ d. c.make_room-2.ensures.cells d ∙ ap (λ (es : List (Counted × ℕ)). unwrap_or (lookup (is_at (counted_cmp d)) es)
+    0) c.new-marks.ensures.cells ∙ ap (λ (o : Option NameMarks). cell_of o d) (sym absent)) ∙
     ap (λ (m : BTreeMap (List ℕ) NameMarks). marks_value (record { names = m })) none
 
 pub returns-clause-kept : goal.returns-clause-kept
 returns-clause-kept c =
     let none = c.get_mut.follows.holds-at-none in
     let lender : Marks = record { names = c.get_mut.follows.lender-at-none } in
-    let absent = ap (λ (m : BTreeMap (List ℕ) NameMarks). marks_at m.entries c.args.name.now) none ∙ sym c.in_default.ensures.value in
-    subst (λ (m : BTreeMap (List ℕ) NameMarks). KeepsRoom (record { names = m }) (record { names = c.insert.new.self })) none
+    let absent = ap (λ (m : BTreeMap (List ℕ) NameMarks). marks_at m.entries c.args.name.now) none ∙
+    sym c.in_default.ensures.value in
+    subst (λ (m : BTreeMap (List ℕ) NameMarks). KeepsRoom (record { names = m }) (record { names = c.insert.new.self }))
+    none
     (kept_room lender (record { names = c.insert.new.self }) c.args.name.now c.make_room-2.new.self
-    (λ q. c.in_ok-insert.ensures.updates.0 q ∙ ap (λ n. cond (is_at (slice_cmp nat_cmp n) q) (Some c.make_room-2.new.self) (marks_at c.get_mut.follows.lender-at-none.entries q)) c.in_ok-copied.ensures)
+    (λ q. c.in_ok-insert.ensures.updates.0 q ∙ ap (λ n. cond (is_at (slice_cmp nat_cmp n) q)
+    (Some c.make_room-2.new.self) (marks_at c.get_mut.follows.lender-at-none.entries q)) c.in_ok-copied.ensures)
     (λ d room. absurd (true≢false (sym (subst (λ (o : Option NameMarks). IsTrue (is_room o d)) absent room)))))

@@ -10,6 +10,27 @@ unfolding value_of
 returns g c nodes can =
     let self = c.args.self.now in
     let held = c.in_ok-entries.ensures in
-    is_message_since (value_of g.R.Replica.state self) self.marks (message_value (record { from = c.args.from; to = c.args.to; base = c.args.base; upto = c.version.result; ack = c.known.result; entries = c.in_ok-entries.entries }))
-    nodes c.args.from c.args.to c.args.base refl self.upto can
-    (record { names = held.names; cells = held.ordered }) held.entries (subst EntriesFit held.entries held.fit) refl refl refl c.version.ensures c.known.ensures c.ranges.base.fits c.version.type_inv c.known.type_inv
+    is_message_since (value_of g.R.Replica.state self) self.marks
+    (message_value (record {
+      from = c.args.from;
+      to = c.args.to;
+      base = c.args.base;
+      upto = c.version.result;
+      ack =
+          c.known.result;
+      entries = c.in_ok-entries.entries;
+    }))
+    nodes c.args.from c.args.to c.args.base (record {
+      last = refl;
+      upto = self.upto;
+      can = can;
+      ordered = record { names = held.names; cells = held.ordered };
+      entries = held.entries;
+      fit = subst EntriesFit held.entries held.fit;
+      sender = refl;
+      receiver = refl;
+      since = refl;
+      version = c.version.ensures;
+      ack = c.known.ensures;
+      low = (c.ranges.base.fits, c.version.type_inv, c.known.type_inv);
+    })

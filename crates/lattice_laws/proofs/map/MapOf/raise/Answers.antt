@@ -13,7 +13,8 @@ invariant_of-self g c =
     let before = c.self.inside.map.entries in
     let same : (c.get_mut.follows.lender left).entries ≡ before =
     written_over_itself (is_at (g.K.Ord.cmp c.args.key)) before
-    (c.get_mut.follows.lender left).entries c.in-Some.held.now left c.in-Some.ensures.value c.in_err-join_in-in-Some.ensures.err (c.get_mut.follows.holds left).0 in
+    (c.get_mut.follows.lender left).entries c.in-Some.held.now left c.in-Some.ensures.value
+    c.in_err-join_in-in-Some.ensures.err (c.get_mut.follows.holds left).0 in
     rw same c.self.invariant
 
 pub returns-in_err-join_in-in-Some-clause-err : goal.returns-in_err-join_in-in-Some-clause-err
@@ -22,7 +23,8 @@ returns-in_err-join_in-in-Some-clause-err g c =
     let before = c.self.inside.map.entries in
     let same : (c.get_mut.follows.lender left).entries ≡ before =
     written_over_itself (is_at (g.K.Ord.cmp c.args.key)) before
-    (c.get_mut.follows.lender left).entries c.in-Some.held.now left c.in-Some.ensures.value c.in_err-join_in-in-Some.ensures.err (c.get_mut.follows.holds left).0 in
+    (c.get_mut.follows.lender left).entries c.in-Some.held.now left c.in-Some.ensures.value
+    c.in_err-join_in-in-Some.ensures.err (c.get_mut.follows.holds left).0 in
     let p = err_from_is_err_and c.from_residual.result c.from_residual.ensures.1 in
     rw p.1 (same ∙ c.self.view_is)
 
@@ -34,9 +36,11 @@ invariant_of-self-in-Some-1 g c =
     let left = c.join_in.new.self in
     let before = c.self.inside.map.entries in
     let found : MayBeStored cmp m.admitted m.order m.bottom c.in-Some.held.now =
-    found_may_be_stored cmp m.admitted m.order m.bottom g.met.J.Join.laws before c.args.key c.in-Some.held.now c.self.invariant c.in-Some.ensures.value in
+    found_may_be_stored cmp m.admitted m.order m.bottom g.met.J.Join.laws before c.args.key c.in-Some.held.now
+    c.self.invariant c.in-Some.ensures.value in
     let stored : MayBeStored cmp m.admitted m.order m.bottom left =
-    join_may_be_stored cmp m.admitted m.order m.bottom g.met.J.Join.laws c.in-Some.held.now c.args.value left c.in_ok-join_in-in-Some.ensures.ok found in
+    join_may_be_stored cmp m.admitted m.order m.bottom g.met.J.Join.laws c.in-Some.held.now c.args.value left
+    c.in_ok-join_in-in-Some.ensures.ok found in
     written_is_map cmp m.admitted m.order m.bottom before (c.get_mut.follows.lender left).entries
     (is_at (cmp c.args.key)) left c.self.invariant (c.get_mut.follows.holds left).0
     (c.get_mut.follows.holds left).4 stored
@@ -49,6 +53,10 @@ invariant_of-self-in_ok-insert-in-None-2 g c =
     let lent = c.get_mut.follows.lender-at-none in
     let same : lent ≡ c.self.inside.map = c.get_mut.follows.holds-at-none in
     let before : IsMap cmp m.admitted m.order m.bottom lent.entries = rw same c.self.invariant in
-    let stored : MayBeStored cmp m.admitted m.order m.bottom c.args.value =
-    (c.is_bottom.ensures.admitted_self, λ below. false≢true (sym c.if-not-is_bottom.true ∙ c.is_bottom.ensures.value.1 below)) in
-    inserted_is_map cmp m.admitted m.order m.bottom g.met.J.Join.laws lent.entries c.insert.new.self.entries c.args.key c.args.value before c.in_ok-insert-in-None.ensures.entries c.insert.ensures.ordered stored
+    let stored : MayBeStored cmp m.admitted m.order m.bottom c.args.value = (
+      c.is_bottom.ensures.admitted_self,
+      λ below. false≢true (sym c.if-not-is_bottom.true ∙
+          c.is_bottom.ensures.value.1 below),
+    ) in
+    inserted_is_map cmp m.admitted m.order m.bottom g.met.J.Join.laws lent.entries c.insert.new.self.entries c.args.key
+    c.args.value before c.in_ok-insert-in-None.ensures.entries c.insert.ensures.ordered stored

@@ -10,4 +10,5 @@ returns-clause-value c =
 pub returns-clause-reached : goal.returns-clause-reached
 returns-clause-reached c =
     subst (λ (acked : ℕ). acked ≤ (node_of c.args.self.now).marks.version) (sym (returns-clause-value c))
-    (subst (λ (k : Kept). (node_of k).marks.acked c.args.to ≤ (node_of k).marks.version) c.self.view_is (c.self.invariant.1.acked_reached c.args.to))
+    (subst (λ (k : Kept). (node_of k).marks.acked c.args.to ≤ (node_of k).marks.version) c.self.view_is
+    (c.self.invariant.1.acked_reached c.args.to))

@@ -22,8 +22,18 @@ invariant_of-self-2 c =
     let counted = rw (← c.self.view_is) at c.requires.counted in
     let some = c.requires.some in
     let total = rw (← c.self.view_is) at c.requires.total in
-    entries_with node.config _ _ node.trace.items _ c.push_reserved.new.self.items _ c.push_reserved.ensures.items c.in_ok-reserve.ensures.items
-    (moved_with k node.clock (value_in node.replica) _ _ c.self.invariant room
-    (Grant c.args.point c.args.term c.args.amount) c.args.point c.args.term node.config.node c.args.amount c.args.total (λ i. Grant (c.into_text.ensures i) c.args.term c.args.amount) c.new.ensures.items
-    (grant_moves node.config.node c.args.point c.args.term c.args.amount)
-    set (may_grant node.config (state_known k) c.args.point c.args.term c.args.amount counted c.self.invariant.0.0.own some) c.ranges.term.fits total c.in_ok-count_shift.ensures.ok)
+    entries_with node.config _ _ node.trace.items _ c.push_reserved.new.self.items _ c.push_reserved.ensures.items
+    c.in_ok-reserve.ensures.items
+    (moved_with k node.clock (value_in node.replica) _ _ c.self.invariant
+    {ask = Grant c.args.point c.args.term c.args.amount} (record {
+      room = room;
+      asks = λ i. Grant (c.into_text.ensures i) c.args.term c.args.amount;
+      drawn = c.new.ensures.items;
+      moves = grant_moves node.config.node c.args.point c.args.term c.args.amount;
+      set = set;
+      may = may_grant node.config (state_known k) c.args.point c.args.term c.args.amount counted
+          c.self.invariant.0.0.own some;
+      low = c.ranges.term.fits;
+      sum = total;
+    })
+    c.in_ok-count_shift.ensures.ok)

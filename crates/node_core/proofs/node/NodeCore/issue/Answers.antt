@@ -12,11 +12,22 @@ invariant_of-self-2 c =
     let setting = rw (← c.self.view_is) at c.requires.setting in
     let clocks = rw (← c.self.view_is) at c.requires.clock in
     let few = rw (← c.self.view_is) at c.requires.few in
-    entries_with node.config _ _ node.trace.items _ c.push_reserved.new.self.items _ c.push_reserved.ensures.items c.in_ok-reserve.ensures.items
-    (set_with k node.clock (value_in node.replica) _ _ c.self.invariant room
-    c.args.point (body_value c.args.body) c.requires.words setting c.in_ok-set_key.ensures.ok clocks c.requires.named c.requires.body few)
+    entries_with node.config _ _ node.trace.items _ c.push_reserved.new.self.items _ c.push_reserved.ensures.items
+    c.in_ok-reserve.ensures.items
+    (set_with k node.clock (value_in node.replica) _ _ c.self.invariant
+    {name = c.args.point} {body = body_value c.args.body} (record {
+      room = room;
+      drawn = c.requires.words;
+      setting = setting;
+      clocks = clocks;
+      named = c.requires.named;
+      bodied = c.requires.body;
+      place = few;
+    })
+    c.in_ok-set_key.ensures.ok)
 
 pub set_key-requires-clause-above : goal.set_key-requires-clause-above
 set_key-requires-clause-above c =
     let node = c.self.inside in
-    key_above (kept_of node.config node.trace.items) node.clock (value_in node.replica) c.self.invariant c.args.point (body_value c.args.body)
+    key_above (kept_of node.config node.trace.items) node.clock (value_in node.replica) c.self.invariant c.args.point
+    (body_value c.args.body)

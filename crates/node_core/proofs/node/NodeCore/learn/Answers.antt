@@ -14,12 +14,19 @@ invariant_of-self-2 c =
     let k = kept_of node.config node.trace.items in
     let room = rw (← c.self.view_is) at c.requires.room in
     let told = rw (← c.self.view_is) at c.requires.delivery in
-    entries_with node.config _ _ node.trace.items _ c.push_reserved.new.self.items _ c.push_reserved.ensures.items c.in_ok-reserve.ensures.items
-    (deliver_with k node.clock (value_in node.replica) _ _ c.self.invariant room
-    (message_read node.config.nodes c.args.bytes.items) (message_value c.args.delivery.message) c.args.delivery.clock _ c.in_ok-changed.changed
-    told.is_read refl c.new.ensures.items told.delivery told.reached c.in_ok-changed.ensures.changed c.in_ok-changed.ensures.ok c.max-self-inside.ensures)
+    entries_with node.config _ _ node.trace.items _ c.push_reserved.new.self.items _ c.push_reserved.ensures.items
+    c.in_ok-reserve.ensures.items
+    (deliver_with k node.clock (value_in node.replica) _ _ c.self.invariant
+    {read = message_read node.config.nodes c.args.bytes.items} {m = message_value c.args.delivery.message}
+    (record {
+      takes = record { room = room; asks = refl; drawn = c.new.ensures.items; delivery = told.delivery };
+      was = told.is_read;
+      reached = told.reached;
+    })
+    c.in_ok-changed.ensures.changed c.in_ok-changed.ensures.ok c.max-self-inside.ensures)
 
 pub receive_replica-requires-clause-received : goal.receive_replica-requires-clause-received
 receive_replica-requires-clause-received c =
     let told = rw (← c.self.view_is) at c.requires.delivery in
-    subst (λ (v : State). Brings v (state_in c.args.delivery.received) (operations_in (message_value c.args.delivery.message))) c.self.invariant.0.0.state_is told.received
+    subst (λ (v : State). Brings v (state_in c.args.delivery.received)
+    (operations_in (message_value c.args.delivery.message))) c.self.invariant.0.0.state_is told.received

@@ -9,4 +9,5 @@ use Rattle.node_core.proofs.node.NodeCore.load.Goals as goal
 
 pub take_in-requires-clause-tellable : goal.take_in-requires-clause-tellable
 take_in-requires-clause-tellable c =
-    subst (λ (text : List ℕ). (s : List ℕ × Option (List ℕ)) → IsIn s (settings (Load text)) → IsTrue (is_name s.0) × IsBody s.1) (sym c.in_ok-from_str.ensures.ok) c.in_ok-ops.ensures.tellable
+    subst (λ (text : List ℕ). (s : List ℕ × Option (List ℕ)) → IsIn s (settings (Load text)) →
+    IsTrue (is_name s.0) × IsBody s.1) (sym c.in_ok-from_str.ensures.ok) c.in_ok-ops.ensures.tellable

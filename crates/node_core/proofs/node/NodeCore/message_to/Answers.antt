@@ -12,7 +12,8 @@ encode-requires c =
     let node = c.self.inside in
     let k = kept_of node.config node.trace.items in
     let to = rw (← c.self.view_is) at c.requires.to in
-    let since = c.in_ok-message.ensures k.config.nodes (can_be_told k node.clock (value_in node.replica) c.self.invariant c.args.to to.0 to.1) in
+    let since = c.in_ok-message.ensures k.config.nodes (can_be_told k node.clock (value_in node.replica)
+    c.self.invariant c.args.to to.0 to.1) in
     (k.config.nodes, (since.spelled, refl, since.short))
 
 if_ok : {T : Type 0} {E : Type 0} (r : Result T E) (P Q : T → Type 0) → ((t : T) → P t → Q t) → IfOk r P → IfOk r Q
@@ -24,7 +25,10 @@ returns c =
     let node = c.self.inside in
     let k = kept_of node.config node.trace.items in
     let to = rw (← c.self.view_is) at c.requires.to in
-    let since = c.in_ok-message.ensures k.config.nodes (can_be_told k node.clock (value_in node.replica) c.self.invariant c.args.to to.0 to.1) in
+    let since = c.in_ok-message.ensures k.config.nodes (can_be_told k node.clock (value_in node.replica)
+    c.self.invariant c.args.to to.0 to.1) in
     let since_known = rw c.acked-base.ensures at since in
-    let told = told_since k c.args.to (value_in node.replica) (message_value c.in_ok-message.message) c.self.invariant.1 since_known in
-    if_ok c.encode.result _ _ (λ b e. subst (λ (kept : Kept). TellsDelta kept c.args.to b.items) c.self.view_is (subst (λ (bytes : List ℕ). TellsDelta k c.args.to bytes) (sym e) told)) c.encode.ensures
+    let told = told_since k c.args.to (value_in node.replica) (message_value c.in_ok-message.message) c.self.invariant.1
+    since_known in
+    if_ok c.encode.result _ _ (λ b e. subst (λ (kept : Kept). TellsDelta kept c.args.to b.items) c.self.view_is
+    (subst (λ (bytes : List ℕ). TellsDelta k c.args.to bytes) (sym e) told)) c.encode.ensures

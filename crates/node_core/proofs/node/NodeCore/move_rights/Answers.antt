@@ -27,8 +27,17 @@ invariant_of-self-2 c =
     let enough = rw (← c.self.view_is) at c.requires.enough in
     let there = rw (← c.self.view_is) at c.requires.there in
     let total = rw (← c.self.view_is) at c.requires.total in
-    entries_with node.config _ _ node.trace.items _ c.push_reserved.new.self.items _ c.push_reserved.ensures.items c.in_ok-reserve.ensures.items
-    (moved_with k node.clock (value_in node.replica) _ _ c.self.invariant room
-    (Shift c.args.point c.args.term c.args.to c.args.amount) c.args.point c.args.term c.args.to c.args.amount c.args.total (λ i. Shift (c.into_text.ensures i) c.args.term c.args.to c.args.amount) c.new.ensures.items
-    (shift_moves node.config.node c.args.point c.args.term c.args.to c.args.amount)
-    set (may_shift node.config (state_known k) c.args.point c.args.term c.args.to c.args.amount enough there) c.ranges.term.fits total c.in_ok-count_shift.ensures.ok)
+    entries_with node.config _ _ node.trace.items _ c.push_reserved.new.self.items _ c.push_reserved.ensures.items
+    c.in_ok-reserve.ensures.items
+    (moved_with k node.clock (value_in node.replica) _ _ c.self.invariant
+    {ask = Shift c.args.point c.args.term c.args.to c.args.amount} (record {
+      room = room;
+      asks = λ i. Shift (c.into_text.ensures i) c.args.term c.args.to c.args.amount;
+      drawn = c.new.ensures.items;
+      moves = shift_moves node.config.node c.args.point c.args.term c.args.to c.args.amount;
+      set = set;
+      may = may_shift node.config (state_known k) c.args.point c.args.term c.args.to c.args.amount enough there;
+      low = c.ranges.term.fits;
+      sum = total;
+    })
+    c.in_ok-count_shift.ensures.ok)

@@ -5,10 +5,12 @@ use Rattle.node_core.proofs.node.NodeCore.pass_with.Goals as goal
 
 pub returns-in_err-check_trace-clause-refused : goal.returns-in_err-check_trace-clause-refused
 returns-in_err-check_trace-clause-refused c =
-    passed_on (IsRefusalOf c.args.self.now (Pass c.args.name.now) c.args.words.now) _ _ c.from_residual.ensures.0 c.from_residual.ensures.1
+    passed_on (IsRefusalOf c.args.self.now (Pass c.args.name.now) c.args.words.now) _ _ c.from_residual.ensures.0
+    c.from_residual.ensures.1
     (trace_refused c.args.self.now _ _ c.in_err-check_trace.ensures.full)
 
 pub returns-in_err-point-clause-refused : goal.returns-in_err-point-clause-refused
 returns-in_err-point-clause-refused c =
-    passed_on (IsRefusalOf c.args.self.now (Pass c.args.name.now) c.args.words.now) _ _ c.from_residual-in_err-point.ensures.0 c.from_residual-in_err-point.ensures.1
+    passed_on (IsRefusalOf c.args.self.now (Pass c.args.name.now) c.args.words.now) _ _
+    c.from_residual-in_err-point.ensures.0 c.from_residual-in_err-point.ensures.1
     (name_refused c.args.self.now c.args.name.now _ _ c.in_ok-check_trace.ensures.ok c.in_err-point.ensures.refused)

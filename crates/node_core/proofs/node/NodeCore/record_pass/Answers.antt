@@ -14,9 +14,12 @@ last_of-push calls call =
     let long : length (calls ++ call ∷ []) ≡ length calls + 1 = length_push calls call in
     let place : length (calls ++ call ∷ []) - 1 ≡ length calls = omega (arith, long) in
     let lt : length calls < length (calls ++ call ∷ []) = omega (arith, long) in
-    ap (λ (k : ℕ). slice_get (calls ++ call ∷ []) k) place ∙ slice_get-get_or (calls ++ call ∷ []) (length calls) call lt ∙ ap Some (get_or_push calls call call (length calls) refl)
+    ap (λ (k : ℕ). slice_get (calls ++ call ∷ []) k) place ∙
+    slice_get-get_or (calls ++ call ∷ []) (length calls) call lt ∙
+    ap Some (get_or_push calls call call (length calls) refl)
 
-last_after : (k new : Kept) (ask : Asked) (words : List ℕ) → new ≡ after_call k ask words → last_call new.trace ≡ Some (entry_for k ask words)
+last_after : (k new : Kept) (ask : Asked) (words : List ℕ) → new ≡ after_call k ask words →
+    last_call new.trace ≡ Some (entry_for k ask words)
 last_after k new ask words e = ap (λ (n : Kept). last_call n.trace) e ∙ last_of-push k.trace (entry_for k ask words)
 
 pub returns-clause-ok : goal.returns-clause-ok
@@ -27,16 +30,21 @@ returns-clause-last c =
     let accepted = c.in_ok-pass.ensures.ok in
     let named = c.in_ok-point.ensures.ok in
     let given = c.new-given.ensures in
-    ap (λ o. option_map (λ p. IsPassed p) (passed_at o)) (last_after c.args.self.now c.pass.new.self (Pass c.in_ok-point.point) c.new-given.result.words.now accepted.2)
-    ∙ ap (λ words. Some (IsPassed (pass_reply c.args.self.now.config.node (state_known c.args.self.now) c.in_ok-point.point words))) given
-    ∙ ap (λ name. Some (IsPassed (pass_reply c.args.self.now.config.node (state_known c.args.self.now) name c.args.words.now))) named.1
+    ap (λ o. option_map (λ p. IsPassed p) (passed_at o)) (last_after c.args.self.now c.pass.new.self
+    (Pass c.in_ok-point.point) c.new-given.result.words.now accepted.2)
+    ∙ ap (λ words. Some (IsPassed (pass_reply c.args.self.now.config.node (state_known c.args.self.now)
+    c.in_ok-point.point words))) given
+    ∙ ap (λ name. Some (IsPassed (pass_reply c.args.self.now.config.node (state_known c.args.self.now) name
+    c.args.words.now))) named.1
 
 pub returns-in_err-check_trace-clause-refused : goal.returns-in_err-check_trace-clause-refused
 returns-in_err-check_trace-clause-refused c =
-    passed_on (IsRefusalOf c.args.self.now (Pass c.args.name.now) c.args.words.now) _ _ c.from_residual.ensures.0 c.from_residual.ensures.1
+    passed_on (IsRefusalOf c.args.self.now (Pass c.args.name.now) c.args.words.now) _ _ c.from_residual.ensures.0
+    c.from_residual.ensures.1
     (trace_refused c.args.self.now _ _ c.in_err-check_trace.ensures.full)
 
 pub returns-in_err-point-clause-refused : goal.returns-in_err-point-clause-refused
 returns-in_err-point-clause-refused c =
-    passed_on (IsRefusalOf c.args.self.now (Pass c.args.name.now) c.args.words.now) _ _ c.from_residual-in_err-point.ensures.0 c.from_residual-in_err-point.ensures.1
+    passed_on (IsRefusalOf c.args.self.now (Pass c.args.name.now) c.args.words.now) _ _
+    c.from_residual-in_err-point.ensures.0 c.from_residual-in_err-point.ensures.1
     (name_refused c.args.self.now c.args.name.now _ _ c.in_ok-check_trace.ensures.ok c.in_err-point.ensures.refused)

@@ -8,26 +8,32 @@ use Rattle.node_core.proofs.node.NodeCore.set_checked.Goals as goal
 
 pub returns-in_err-check_trace-clause-refused : goal.returns-in_err-check_trace-clause-refused
 returns-in_err-check_trace-clause-refused c =
-    passed_on (IsRefusalOf c.args.self.now (Set c.args.name.now c.args.text.now) []) _ _ c.from_residual.ensures.0 c.from_residual.ensures.1
+    passed_on (IsRefusalOf c.args.self.now (Set c.args.name.now c.args.text.now) []) _ _ c.from_residual.ensures.0
+    c.from_residual.ensures.1
     (trace_refused c.args.self.now _ _ c.in_err-check_trace.ensures.full)
 
 pub returns-in_err-actions-clause-refused : goal.returns-in_err-actions-clause-refused
 returns-in_err-actions-clause-refused c =
-    passed_on (IsRefusalOf c.args.self.now (Set c.args.name.now c.args.text.now) []) _ _ c.from_residual-in_err-actions.ensures.0 c.from_residual-in_err-actions.ensures.1
-    (⊎_elim (λ memory. inl memory) (λ bad. inr (set_text c.args.self.now c.args.name.now c.in_ok-check_trace.ensures.ok c.in-Ok.ensures.ok.0 c.args.text.now _ bad)) c.in_err-actions.ensures.refused)
+    passed_on (IsRefusalOf c.args.self.now (Set c.args.name.now c.args.text.now) []) _ _
+    c.from_residual-in_err-actions.ensures.0 c.from_residual-in_err-actions.ensures.1
+    (⊎_elim (λ memory. inl memory) (λ bad. inr (set_text c.args.self.now c.args.name.now c.in_ok-check_trace.ensures.ok
+    c.in-Ok.ensures.ok.0 c.args.text.now _ bad)) c.in_err-actions.ensures.refused)
 
 pub returns-in_err-check_room-clause-refused : goal.returns-in_err-check_room-clause-refused
 returns-in_err-check_room-clause-refused c =
     let named = c.in-Ok.ensures.ok in
-    passed_on (IsRefusalOf c.args.self.now (Set c.args.name.now c.args.text.now) []) _ _ c.from_residual-in_err-check_room.ensures.0 c.from_residual-in_err-check_room.ensures.1
-    (inr (set_later c.args.self.now c.args.name.now c.in_ok-check_trace.ensures.ok named.0 c.args.text.now _ c.in_ok-actions.ensures.ok
+    passed_on (IsRefusalOf c.args.self.now (Set c.args.name.now c.args.text.now) []) _ _
+    c.from_residual-in_err-check_room.ensures.0 c.from_residual-in_err-check_room.ensures.1
+    (inr (set_later c.args.self.now c.args.name.now c.in_ok-check_trace.ensures.ok named.0 c.args.text.now _
+    c.in_ok-actions.ensures.ok
     ∙ ap (λ (n : List ℕ). key_refusal (node_of c.args.self.now) n) (sym named.1) ∙ c.in_err-check_room.ensures.refused))
 
 pub returns-clause-ok : goal.returns-clause-ok
 returns-clause-ok c =
     let named = c.in-Ok.ensures.ok in
     let room = c.in_ok-check_room.ensures.ok in (
-      set_fits c.args.self.now c.args.name.now c.in_ok-check_trace.ensures.ok named.0 c.args.text.now _ c.in_ok-actions.ensures.ok (subst (λ (n : List ℕ). HasPlace c.args.self.now n) named.1 room.0) room.1,
+      set_fits c.args.self.now c.args.name.now c.in_ok-check_trace.ensures.ok named.0 c.args.text.now _
+          c.in_ok-actions.ensures.ok (subst (λ (n : List ℕ). HasPlace c.args.self.now n) named.1 room.0) room.1,
       named.1,
       c.in_ok-actions.ensures.ok,
     )

@@ -9,12 +9,14 @@ use Rattle.node_core.proofs.node.NodeCore.shift_checked.Goals as goal
 
 pub returns-in_err-check_trace-clause-refused : goal.returns-in_err-check_trace-clause-refused
 returns-in_err-check_trace-clause-refused c =
-    passed_on (IsRefusalOf c.args.self.now (Shift c.args.name.now c.args.term c.args.to c.args.amount) []) _ _ c.from_residual.ensures.0 c.from_residual.ensures.1
+    passed_on (IsRefusalOf c.args.self.now (Shift c.args.name.now c.args.term c.args.to c.args.amount) []) _ _
+    c.from_residual.ensures.0 c.from_residual.ensures.1
     (trace_refused c.args.self.now _ _ c.in_err-check_trace.ensures.full)
 
 pub returns-in_err-point-clause-refused : goal.returns-in_err-point-clause-refused
 returns-in_err-point-clause-refused c =
-    passed_on (IsRefusalOf c.args.self.now (Shift c.args.name.now c.args.term c.args.to c.args.amount) []) _ _ c.from_residual-in_err-point.ensures.0 c.from_residual-in_err-point.ensures.1
+    passed_on (IsRefusalOf c.args.self.now (Shift c.args.name.now c.args.term c.args.to c.args.amount) []) _ _
+    c.from_residual-in_err-point.ensures.0 c.from_residual-in_err-point.ensures.1
     (name_refused c.args.self.now c.args.name.now _ _ c.in_ok-check_trace.ensures.ok c.in_err-point.ensures.refused)
 
 pub returns-in_err-total-clause-refused : goal.returns-in_err-total-clause-refused
@@ -24,11 +26,14 @@ returns-in_err-total-clause-refused c =
     let room = rw (← c.self.view_is) at c.in_ok-check_trace.ensures.ok in
     let value = value_in node.replica in
     let found = rw c.state.ensures at c.in_err-total.ensures in
-    passed_on (IsRefusalOf c.args.self.now (Shift c.args.name.now c.args.term c.args.to c.args.amount) []) _ _ c.from_residual-in_err-total.ensures.0 c.from_residual-in_err-total.ensures.1
+    passed_on (IsRefusalOf c.args.self.now (Shift c.args.name.now c.args.term c.args.to c.args.amount) []) _ _
+    c.from_residual-in_err-total.ensures.0 c.from_residual-in_err-total.ensures.1
     (inr (rw (← c.self.view_is)
     (shift_later k c.args.name.now room c.in_ok-point.ensures.ok.0 c.args.term c.args.to c.args.amount
-    ∙ ap (λ (v : State). shift_refusal node.config v c.args.name.now c.args.term c.args.to c.args.amount) c.self.invariant.1.state_is
-    ∙ ap (λ (n : List ℕ). shift_refusal node.config value.state n c.args.term c.args.to c.args.amount) (sym c.in_ok-point.ensures.ok.1)
+    ∙ ap (λ (v : State). shift_refusal node.config v c.args.name.now c.args.term c.args.to c.args.amount)
+    c.self.invariant.1.state_is
+    ∙ ap (λ (n : List ℕ). shift_refusal node.config value.state n c.args.term c.args.to c.args.amount)
+    (sym c.in_ok-point.ensures.ok.1)
     ∙ found.refused)))
 
 pub returns-clause-ok : goal.returns-clause-ok
@@ -40,9 +45,15 @@ returns-clause-ok c =
     let found = rw c.state.ensures at c.in_ok-total.ensures in (
       rw (← c.self.view_is)
           (shift_later k c.args.name.now room c.in_ok-point.ensures.ok.0 c.args.term c.args.to c.args.amount
-          ∙ ap (λ (v : State). shift_refusal node.config v c.args.name.now c.args.term c.args.to c.args.amount) c.self.invariant.1.state_is
-          ∙ ap (λ (n : List ℕ). shift_refusal node.config value.state n c.args.term c.args.to c.args.amount) (sym c.in_ok-point.ensures.ok.1)
+          ∙ ap (λ (v : State). shift_refusal node.config v c.args.name.now c.args.term c.args.to c.args.amount)
+          c.self.invariant.1.state_is
+          ∙ ap (λ (n : List ℕ). shift_refusal node.config value.state n c.args.term c.args.to c.args.amount)
+          (sym c.in_ok-point.ensures.ok.1)
           ∙ found.ok.0),
       c.in_ok-point.ensures.ok.1,
-      found.ok.1 ∙ ap (λ (v : State). v.shifts c.in_ok-point.point c.args.term node.config.node c.args.to + c.args.amount) (sym c.self.invariant.1.state_is) ∙ ap (λ (n : List ℕ). (state_known k).shifts n c.args.term node.config.node c.args.to + c.args.amount) c.in_ok-point.ensures.ok.1 ∙ ap (λ (kept : Kept). (state_known kept).shifts c.args.name.now c.args.term kept.config.node c.args.to + c.args.amount) c.self.view_is,
+      found.ok.1 ∙ ap (λ (v : State). v.shifts c.in_ok-point.point c.args.term node.config.node c.args.to +
+          c.args.amount) (sym c.self.invariant.1.state_is) ∙
+          ap (λ (n : List ℕ). (state_known k).shifts n c.args.term node.config.node c.args.to + c.args.amount)
+          c.in_ok-point.ensures.ok.1 ∙ ap (λ (kept : Kept). (state_known kept).shifts c.args.name.now c.args.term
+          kept.config.node c.args.to + c.args.amount) c.self.view_is,
     )

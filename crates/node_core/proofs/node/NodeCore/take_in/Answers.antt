@@ -13,11 +13,13 @@ use Rattle.node_core.proofs.node.NodeCore.take_in.Goals as goal
 pub issue-requires-clause-formed : goal.issue-requires-clause-formed
 issue-requires-clause-formed c =
     subst (λ (ops : List Operation). AllByRecursion IsWellFormed ops) (sym c.requires.ops)
-    (issued_formed c.args.self.now.config.node (last_clock c.args.self.now) (settings (Load (string_bytes c.args.text))))
+    (issued_formed c.args.self.now.config.node (last_clock c.args.self.now)
+    (settings (Load (string_bytes c.args.text))))
 
 pub issue-requires-clause-others : goal.issue-requires-clause-others
 issue-requires-clause-others c =
-    issued_stay c.args.self.now.config.node (last_clock c.args.self.now) (settings (Load (string_bytes c.args.text))) c.args.ops.now c.requires.ops
+    issued_stay c.args.self.now.config.node (last_clock c.args.self.now) (settings (Load (string_bytes c.args.text)))
+    c.args.ops.now c.requires.ops
 
 pub invariant_of-self-2 : goal.invariant_of-self-2
 invariant_of-self-2 c =
@@ -27,8 +29,19 @@ invariant_of-self-2 c =
     let ops = rw (← c.self.view_is) at c.requires.ops in
     let clocks = rw (← c.self.view_is) at c.requires.clock in
     let few = rw (← c.self.view_is) at c.requires.few in
-    entries_with node.config _ _ node.trace.items _ c.push_reserved.new.self.items _ c.push_reserved.ensures.items c.in_ok-reserve.ensures.items
-    (load_with k node.clock (value_in node.replica) _ _ c.self.invariant room
-    (string_bytes c.args.text) (map operation c.args.ops.now) (state_loaded k (string_bytes c.args.text)) c.args.entries c.from.result c.from.ensures refl c.new.ensures.items c.requires.entries refl
-    (ops ∙ ap (λ at. operations_issued node.config.node at (settings (Load (string_bytes c.args.text)))) c.self.invariant.0.0.clock_is)
-    c.in_ok-issue.ensures.ok clocks c.requires.tellable few)
+    entries_with node.config _ _ node.trace.items _ c.push_reserved.new.self.items _ c.push_reserved.ensures.items
+    c.in_ok-reserve.ensures.items
+    (load_with k node.clock (value_in node.replica) _ _ c.self.invariant
+    {text = string_bytes c.args.text} {entries = c.args.entries} (record {
+      room = room;
+      asks = refl;
+      drawn = c.new.ensures.items;
+      count = c.requires.entries;
+      clocks = clocks;
+      each = c.requires.tellable;
+      places = few;
+    })
+    c.from.ensures
+    (ops ∙ ap (λ at. operations_issued node.config.node at (settings (Load (string_bytes c.args.text))))
+    c.self.invariant.0.0.clock_is)
+    c.in_ok-issue.ensures.ok)

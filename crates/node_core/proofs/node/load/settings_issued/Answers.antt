@@ -21,7 +21,8 @@ loop-name-init c =
       ops = ap (map operation) c.in_ok-ops.ensures.items;
       many = c.in_ok-ops.ensures.len;
       room = c.in_ok-ops.ensures.exact ∙ c.len.ensures ∙ c.args.points.ok.0;
-      left = c.into_iter-name-iterator.ensures.into_iter_gives.1 ∙ c.args.points.ok.0 ∙ ap length (sym c.into_iter-name-iterator.ensures.into_iter_gives.0);
+      left = c.into_iter-name-iterator.ensures.into_iter_gives.1 ∙ c.args.points.ok.0 ∙
+          ap length (sym c.into_iter-name-iterator.ensures.into_iter_gives.0);
       bodies = λ s h. absurd h;
       whole = sym c.into_iter-name-iterator.ensures.into_iter_gives.0;
     }
@@ -37,19 +38,33 @@ loop-name-preserved c =
     let many = before.many in
     let grown = c.push_reserved.ensures.len in
     let same = length-map c.loop-name.yielded setting in
-    let issued : Op = ops.Set c.in-Some.name (record { clock = c.loop-name.last + 1; node = c.args.me; body = c.set_to.result }) in
+    let issued : Op = ops.Set c.in-Some.name (record {
+      clock = c.loop-name.last + 1;
+      node = c.args.me;
+      body =
+          c.set_to.result;
+    }) in
     record {
       last = omega (arith, longer, last);
       ops =
           ap (map operation) c.push_reserved.ensures.items
           ∙ map-append operation c.loop-name.ops.items (issued ∷ [])
           ∙ ap (λ (told : List Operation). told ++ operation issued ∷ []) before.ops
-          ∙ ap (λ b. operations_issued c.args.me c.args.clock settings ++ Set c.in-Some.name (record { clock = c.loop-name.last + 1; node = c.args.me; body = b }) ∷ []) c.set_to.ensures.value
-          ∙ sym (issued-more c.args.me c.args.clock c.loop-name.last settings (c.in-Some.name, body) (omega (arith, last, same)))
-          ∙ ap (operations_issued c.args.me c.args.clock) (sym (map-append setting c.loop-name.yielded ((c.in-Some.name, c.in-Some.actions) ∷ [])));
+          ∙ ap (λ b. operations_issued c.args.me c.args.clock settings ++
+          Set c.in-Some.name (record { clock = c.loop-name.last + 1; node = c.args.me; body = b }) ∷ [])
+          c.set_to.ensures.value
+          ∙ sym (issued-more c.args.me c.args.clock c.loop-name.last settings (c.in-Some.name, body)
+          (omega (arith, last, same)))
+          ∙ ap (operations_issued c.args.me c.args.clock) (sym
+          (map-append setting c.loop-name.yielded ((c.in-Some.name, c.in-Some.actions) ∷ [])));
       many = omega (arith, longer, many, grown);
       room = c.push_reserved.ensures.capacity ∙ before.room;
-      left = (let taken = c.in-Some.ensures.steps.1 in let items = ap length c.in-Some.ensures.steps.0 in let left = before.left in omega (arith, taken, items, left));
-      bodies = λ s h. ⊎_elim (before.bodies s) (λ k. ⊎_elim (λ e. subst (λ (p : List ℕ × List TermValue). IsBody (Some (canonical p.1))) (sym e) (subst IsBody c.set_to.ensures.value c.set_to.ensures.tellable)) (λ none. absurd none) k) (IsIn-append_cases s c.loop-name.yielded ((c.in-Some.name, c.in-Some.actions) ∷ []) h);
-      whole = before.whole ∙ ap (λ rest. c.loop-name.yielded ++ rest) c.in-Some.ensures.steps.0 ∙ sym (append_assoc c.loop-name.yielded ((c.in-Some.name, c.in-Some.actions) ∷ []) c.next.new.self.rest.items);
+      left = (let taken = c.in-Some.ensures.steps.1 in let items = ap length c.in-Some.ensures.steps.0 in
+          let left = before.left in omega (arith, taken, items, left));
+      bodies = λ s h. ⊎_elim (before.bodies s) (λ k. ⊎_elim (λ e. subst
+          (λ (p : List ℕ × List TermValue). IsBody (Some (canonical p.1))) (sym e)
+          (subst IsBody c.set_to.ensures.value c.set_to.ensures.tellable)) (λ none. absurd none) k)
+          (IsIn-append_cases s c.loop-name.yielded ((c.in-Some.name, c.in-Some.actions) ∷ []) h);
+      whole = before.whole ∙ ap (λ rest. c.loop-name.yielded ++ rest) c.in-Some.ensures.steps.0 ∙
+          sym (append_assoc c.loop-name.yielded ((c.in-Some.name, c.in-Some.actions) ∷ []) c.next.new.self.rest.items);
     }

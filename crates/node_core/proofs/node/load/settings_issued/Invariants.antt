@@ -10,7 +10,8 @@ use Rattle.node_core.proofs.node.load.settings_issued.Given as goal
 abbrev pub invariant-loop-name : goal.invariant-loop-name
 invariant-loop-name l = record {
   last : l.last ≡ l.fn.clock + length l.yielded;
-  ops : map operation l.ops.items ≡ operations_issued l.me l.fn.clock (map (λ point. (point.0, Some (canonical point.1))) l.yielded);
+  ops : map operation l.ops.items ≡ operations_issued l.me l.fn.clock
+      (map (λ point. (point.0, Some (canonical point.1))) l.yielded);
   many : vec_len l.ops ≡ length l.yielded;
   room : vec_capacity l.ops ≡ length l.fn.points.items;
   left : l.name-iterator.rest.len ≡ length l.name-iterator.rest.items;

@@ -10,18 +10,25 @@ use Rattle.node_core.proofs.node.load.state_of_names.Goals as goal
 
 pub loop-name-init : goal.loop-name-init
 unfolding fold
-loop-name-init c = record { known = ([], c.empty-named.ensures); names = ap (λ (v : State). v.names) c.empty-named.ensures }
+loop-name-init c = record {
+  known = ([], c.empty-named.ensures);
+  names =
+      ap (λ (v : State). v.names) c.empty-named.ensures;
+}
 
 pub loop-name-preserved : goal.loop-name-preserved
 loop-name-preserved c =
     let before = c.loop-name.invariant in
     let item = c.loop-name-item.result in
     let points = c.args.points.now in
-    let so_far = with_names (map (λ (point : List ℕ × List TermValue). point.0) (take c.loop-name.name-index points)) [] in
+    let so_far = with_names (map (λ (point : List ℕ × List TermValue). point.0) (take c.loop-name.name-index points))
+    [] in
     record {
-      known = known_next (state_in c.loop-name.named) (state_in c.learn.new.self) item.0 _ before.known c.in_ok-learn.ensures.ok;
+      known = known_next (state_in c.loop-name.named) (state_in c.learn.new.self) item.0 _ before.known
+          c.in_ok-learn.ensures.ok;
       names =
-          names_more (state_in c.loop-name.named) (state_in c.learn.new.self) item.0 _ before.known c.in_ok-learn.ensures.ok
+          names_more (state_in c.loop-name.named) (state_in c.learn.new.self) item.0 _ before.known
+          c.in_ok-learn.ensures.ok
           ∙ ap (with_name item.0) before.names
           ∙ ap (λ (point : List ℕ × List TermValue). with_name point.0 so_far) c.loop-name-item.is
           ∙ sym (names_next points c.loop-name.name-index item c.loop-name-test.true);
@@ -30,4 +37,5 @@ loop-name-preserved c =
 pub returns : goal.returns
 returns c =
     c.loop-name.invariant.names
-    ∙ ap (λ (points : List (List ℕ × List TermValue)). with_names (map (λ point. point.0) points) []) (take_all c.loop-name.name-index c.args.points.now c.loop-name-test.false)
+    ∙ ap (λ (points : List (List ℕ × List TermValue)). with_names (map (λ point. point.0) points) [])
+    (take_all c.loop-name.name-index c.args.points.now c.loop-name-test.false)

@@ -6,4 +6,5 @@ use Rattle.replica_state.specs.Points.{order_to_held}
 use Rattle.op_set.proofs.point.Point.order_to_held.Goals as goal
 
 pub returns-in-Some : goal.returns-in-Some
-returns-in-Some c = c.cmp.ensures ∙ ap (λ (o : Option Key). order_to_held (key_value c.args.key.now) (option_map key_value o)) (sym c.in-Some.is)
+returns-in-Some c = c.cmp.ensures ∙ ap (λ (o : Option Key). order_to_held (key_value c.args.key.now)
+    (option_map key_value o)) (sym c.in-Some.is)

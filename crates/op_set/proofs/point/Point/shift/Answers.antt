@@ -10,7 +10,9 @@ pub returns-clause-ok : goal.returns-clause-ok
 unfolding held_of
 returns-clause-ok c =
     let raised = rw c.times.ensures at c.count.ensures.ok in
-    on_ok c.count.result (λ f. held_counted (held_of c.args.self.now) (held_of c.count.new.self) _ (ap (λ (o : Option Key). option_map key_value o) c.count.ensures.key) f) raised
+    on_ok c.count.result (λ f. held_counted (held_of c.args.self.now) (held_of c.count.new.self) _
+    (ap (λ (o : Option Key). option_map key_value o) c.count.ensures.key) f) raised
 
 pub returns-clause-err : goal.returns-clause-err
-returns-clause-err c = on_err c.count.result (λ e. same_held c.args.self.now c.count.new.self c.count.ensures.key e) c.count.ensures.err
+returns-clause-err c = on_err c.count.result (λ e. same_held c.args.self.now c.count.new.self c.count.ensures.key e)
+    c.count.ensures.err

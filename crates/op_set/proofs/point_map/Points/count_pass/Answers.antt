@@ -11,11 +11,19 @@ use Rattle.op_set.proofs.point_map.Points.count_pass.Goals as goal
 pub pass-requires-clause-execs : goal.pass-requires-clause-execs
 unfolding shown
 pass-requires-clause-execs c =
-    subst (λ (o : Option Point). IfSome c.args.spent (λ term. number_at o (Execs term c.args.node) + 1 < 2 ^ 64)) (sym c.in-Some.ensures.value) (rw c.self.view_is c.requires.execs)
+    subst (λ (o : Option Point). IfSome c.args.spent (λ term. number_at o (Execs term c.args.node) + 1 < 2 ^ 64))
+    (sym c.in-Some.ensures.value) (rw c.self.view_is c.requires.execs)
 
 pub returns-in-Some-clause-ok : goal.returns-in-Some-clause-ok
 unfolding shown
-returns-in-Some-clause-ok c = rw (← c.self.view_is) (on_ok c.pass.result (λ h. lent_step c.self.inside.map c.get_mut.follows.lender c.args.name.now c.in-Some.point.now _ c.get_mut.follows.holds c.get_mut.ensures.ordered (sym c.in-Some.ensures.value) (held_after_pass c.args.node c.args.spent) h ∙ pass_seen c.args.name.now c.args.node c.args.spent (shown c.self.inside.map.entries) (names_kept c.self.inside.map.entries c.args.name.now c.in-Some.point.now c.get_mut.ensures.ordered (sym c.in-Some.ensures.value))) c.pass.ensures.ok)
+returns-in-Some-clause-ok c = rw (← c.self.view_is) (on_ok c.pass.result
+    (λ h. lent_step c.self.inside.map c.get_mut.follows.lender c.args.name.now c.in-Some.point.now _
+    c.get_mut.follows.holds c.get_mut.ensures.ordered (sym c.in-Some.ensures.value)
+    (held_after_pass c.args.node c.args.spent) h ∙ pass_seen c.args.name.now c.args.node c.args.spent
+    (shown c.self.inside.map.entries) (names_kept c.self.inside.map.entries c.args.name.now c.in-Some.point.now
+    c.get_mut.ensures.ordered (sym c.in-Some.ensures.value))) c.pass.ensures.ok)
 
 pub returns-in-Some-clause-err : goal.returns-in-Some-clause-err
-returns-in-Some-clause-err c = rw (← c.self.view_is) (on_err c.pass.result (kept_step c.self.inside.map c.get_mut.follows.lender c.args.name.now c.in-Some.point.now _ c.get_mut.follows.holds c.get_mut.ensures.ordered (sym c.in-Some.ensures.value)) c.pass.ensures.err)
+returns-in-Some-clause-err c = rw (← c.self.view_is) (on_err c.pass.result
+    (kept_step c.self.inside.map c.get_mut.follows.lender c.args.name.now c.in-Some.point.now _ c.get_mut.follows.holds
+    c.get_mut.ensures.ordered (sym c.in-Some.ensures.value)) c.pass.ensures.err)

@@ -14,7 +14,9 @@ loop-name-preserved c =
     let before = rw c.in-Some.ensures.steps at c.loop-name.invariant in
     record {
       sorted = sorted_tail (slice_cmp nat_cmp) c.in-Some.name.now (keys_of c.next.new.self) before.sorted;
-      same = ap (λ (v : State). union_of v (shown c.next.new.self)) c.in_ok-take_point.ensures ∙ sym (unites-point c.in-Some.name.now c.in-Some.point.now c.next.new.self before.sorted (shown c.loop-name.self)) ∙ before.same;
+      same = ap (λ (v : State). union_of v (shown c.next.new.self)) c.in_ok-take_point.ensures ∙
+          sym (unites-point c.in-Some.name.now c.in-Some.point.now c.next.new.self before.sorted
+          (shown c.loop-name.self)) ∙ before.same;
     }
 
 pub returns : goal.returns

@@ -18,8 +18,11 @@ invariant_of-result c = record {
 
 pub returns-clause-join : goal.returns-clause-join
 unfolding state_of
-returns-clause-join c = union_joins c.args.self.now c.args.other.now _ (c.in_ok-take_in.ensures ∙ ap (λ (v : State). union_of v (shown c.args.other.now.points)) c.in_ok-points.ensures)
+returns-clause-join c = union_joins c.args.self.now c.args.other.now _
+    (c.in_ok-take_in.ensures ∙ ap (λ (v : State). union_of v (shown c.args.other.now.points)) c.in_ok-points.ensures)
 
 pub returns-clause-union : goal.returns-clause-union
 unfolding state_of
-returns-clause-union c = united_folds (shown c.take_in.new.self) (shown c.args.self.now.points) (shown c.args.other.now.points) (c.in_ok-take_in.ensures ∙ ap (λ (v : State). union_of v (shown c.args.other.now.points)) c.in_ok-points.ensures)
+returns-clause-union c = united_folds (shown c.take_in.new.self) (shown c.args.self.now.points)
+    (shown c.args.other.now.points) (c.in_ok-take_in.ensures ∙
+    ap (λ (v : State). union_of v (shown c.args.other.now.points)) c.in_ok-points.ensures)

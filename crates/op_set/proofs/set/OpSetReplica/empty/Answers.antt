@@ -7,7 +7,10 @@ use Rattle.op_set.proofs.Shown.{shown_none}
 use Rattle.op_set.proofs.set.OpSetReplica.empty.Goals as goal
 
 pub invariant_of-result : goal.invariant_of-result
-invariant_of-result c = record { reached = subst (λ (points : List (List ℕ × Point)). IsReached (shown points)) (sym c.new.ensures) nothing_reached }
+invariant_of-result c = record {
+  reached = subst (λ (points : List (List ℕ × Point)). IsReached (shown points))
+      (sym c.new.ensures) nothing_reached;
+}
 
 pub returns : goal.returns
 unfolding state_of

@@ -16,29 +16,38 @@ pub loop-name-init : goal.loop-name-init
 loop-name-init c =
     let own = sorted_ascends (keys_of c.args.self.now.points) c.len.ensures.ordered in
     let others = sorted_ascends (keys_of c.args.other.now.points) c.len-2.ensures.ordered in
-    let both = names_together (λ q. is_some (stored_at (slice_cmp nat_cmp) c.args.self.now.points q)) (keys_of c.args.other.now.points) (keys_of c.args.self.now.points) others own (stored_tells c.args.self.now.points (keys_of c.args.other.now.points)) in
+    let both = names_together (λ q. is_some (stored_at (slice_cmp nat_cmp) c.args.self.now.points q))
+    (keys_of c.args.other.now.points) (keys_of c.args.self.now.points) others own
+    (stored_tells c.args.self.now.points (keys_of c.args.other.now.points)) in
     let a = length-keys_of c.args.self.now.points in
     let b = length-keys_of c.args.other.now.points in
     let m = c.len.ensures.len in
     let n = c.len-2.ensures.len in
-    rw (c.into_iter-name-iterator.ensures.into_iter_gives, c.iter-name-items.ensures.rest) (omega (arith, both, a, b, m, n))
+    rw (c.into_iter-name-iterator.ensures.into_iter_gives, c.iter-name-items.ensures.rest)
+    (omega (arith, both, a, b, m, n))
 
 pub overflow_sub-names : goal.overflow_sub-names
 overflow_sub-names c =
     let before = rw (c.in-Some.ensures.steps) at c.loop-name.invariant in
-    let found = shared-found (λ q. is_some (stored_at (slice_cmp nat_cmp) c.args.self.now.points q)) c.in-Some.name.now (keys_of c.next.new.self) (ap is_some (sym c.get.ensures.value) ∙ seen_is c.get.result ∙ sym (c.is_some.ensures) ∙ c.if-is_some.true) in
+    let found = shared-found (λ q. is_some (stored_at (slice_cmp nat_cmp) c.args.self.now.points q)) c.in-Some.name.now
+    (keys_of c.next.new.self) (ap is_some (sym c.get.ensures.value) ∙ seen_is c.get.result ∙
+    sym (c.is_some.ensures) ∙ c.if-is_some.true) in
     omega (arith, before, found)
 
 pub loop-name-preserved-then-is_some : goal.loop-name-preserved-then-is_some
 loop-name-preserved-then-is_some c =
     let before = rw (c.in-Some.ensures.steps) at c.loop-name.invariant in
-    let found = shared-found (λ q. is_some (stored_at (slice_cmp nat_cmp) c.args.self.now.points q)) c.in-Some.name.now (keys_of c.next.new.self) (ap is_some (sym c.get.ensures.value) ∙ seen_is c.get.result ∙ sym (c.is_some.ensures) ∙ c.if-is_some.true) in
+    let found = shared-found (λ q. is_some (stored_at (slice_cmp nat_cmp) c.args.self.now.points q)) c.in-Some.name.now
+    (keys_of c.next.new.self) (ap is_some (sym c.get.ensures.value) ∙ seen_is c.get.result ∙
+    sym (c.is_some.ensures) ∙ c.if-is_some.true) in
     (omega (arith, before, found))
 
 pub loop-name-preserved : goal.loop-name-preserved
 loop-name-preserved c =
     let before = rw (c.in-Some.ensures.steps) at c.loop-name.invariant in
-    let missing = shared-missing (λ q. is_some (stored_at (slice_cmp nat_cmp) c.args.self.now.points q)) c.in-Some.name.now (keys_of c.next.new.self) (ap is_some (sym c.get.ensures.value) ∙ seen_is c.get.result ∙ sym (c.is_some.ensures) ∙ c.if-is_some.false) in
+    let missing = shared-missing (λ q. is_some (stored_at (slice_cmp nat_cmp) c.args.self.now.points q))
+    c.in-Some.name.now (keys_of c.next.new.self) (ap is_some (sym c.get.ensures.value) ∙ seen_is c.get.result ∙
+    sym (c.is_some.ensures) ∙ c.if-is_some.false) in
     (omega (arith, before, missing))
 
 pub returns : goal.returns

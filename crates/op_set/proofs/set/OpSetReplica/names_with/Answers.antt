@@ -8,7 +8,8 @@ use Rattle.op_set.proofs.set.OpSetReplica.names_with.Goals as goal
 pub returns-in-Some : goal.returns-in-Some
 unfolding state_of shown
 returns-in-Some c =
-    let e = ap length (names_kept c.args.self.now.points c.args.name.now c.in-Some.field-0.now c.len-len.ensures.ordered (sym c.in-Some.ensures.value)) in
+    let e = ap length (names_kept c.args.self.now.points c.args.name.now c.in-Some.field-0.now c.len-len.ensures.ordered
+    (sym c.in-Some.ensures.value)) in
     let l = length-keys_of c.args.self.now.points in
     let n = c.len-len.ensures.len in
     (omega (arith, e, l, n))

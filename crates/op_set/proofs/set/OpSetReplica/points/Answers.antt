@@ -15,5 +15,6 @@ returns-clause-names c = ap (map (λ (e : List ℕ × Point). e.0)) c.iter.ensur
 pub returns-clause-held : goal.returns-clause-held
 unfolding state_of
 returns-clause-held c =
-    subst (AllByRecursion (λ (e : List ℕ × Point). held_of e.1 ≡ held_at (shown c.args.self.now.points) e.0)) (sym c.iter.ensures.rest)
+    subst (AllByRecursion (λ (e : List ℕ × Point). held_of e.1 ≡ held_at (shown c.args.self.now.points) e.0))
+    (sym c.iter.ensures.rest)
     (points_listed c.args.self.now.points c.iter.ensures.ordered)

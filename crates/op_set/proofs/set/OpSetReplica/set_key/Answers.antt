@@ -10,7 +10,9 @@ use Rattle.op_set.proofs.set.OpSetReplica.set_key.Goals as goal
 pub invariant_of-self : goal.invariant_of-self
 unfolding state_of
 invariant_of-self c = record {
-  reached = after_call c.set_key.result (shown c.args.self.now.points) (shown c.set_key.new.self) c.args.self.now.reached
-      (on_ok c.set_key.result (λ h. subst IsReached (sym h) (keyed c.args.name (key_value c.args.key) (shown c.args.self.now.points) c.requires.above c.args.self.now.reached)) c.set_key.ensures.ok)
+  reached = after_call c.set_key.result (shown c.args.self.now.points) (shown c.set_key.new.self)
+      c.args.self.now.reached
+      (on_ok c.set_key.result (λ h. subst IsReached (sym h) (keyed c.args.name (key_value c.args.key)
+      (shown c.args.self.now.points) c.requires.above c.args.self.now.reached)) c.set_key.ensures.ok)
       c.set_key.ensures.err;
 }

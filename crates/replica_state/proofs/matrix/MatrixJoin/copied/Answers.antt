@@ -11,11 +11,21 @@ use Rattle.replica_state.specs.MatrixOrder.{slots_order, slots_map, IsMatrix, Is
 use Rattle.replica_state.proofs.MatrixJoins.{slots_copied}
 use Rattle.replica_state.proofs.matrix.MatrixJoin.copied.Goals as goal
 
-copies : (x y : Matrix) → IsCopy slots_map (MapOrder (slice_cmp nat_cmp) slots_order no_slot) x.slots y.slots → IsCopy IsMatrix IsMatrixBelow x y
-copies x y copy = record { admitted_source = copy.admitted_source; admitted_copy = copy.admitted_copy; above = copy.above; below = copy.below }
+copies : (x y : Matrix) → IsCopy slots_map (MapOrder (slice_cmp nat_cmp) slots_order no_slot) x.slots y.slots →
+    IsCopy IsMatrix IsMatrixBelow x y
+copies x y copy = record {
+  admitted_source = copy.admitted_source;
+  admitted_copy = copy.admitted_copy;
+  above =
+      copy.above;
+  below = copy.below;
+}
 
 pub invariant_of-result : goal.invariant_of-result
-invariant_of-result c = record { reached = subst IsReached (sym (slots_copied c.args.self.now.slots c.in_ok-slots.slots c.in_ok-slots.ensures)) c.args.self.now.reached }
+invariant_of-result c = record {
+  reached = subst IsReached (sym
+      (slots_copied c.args.self.now.slots c.in_ok-slots.slots c.in_ok-slots.ensures)) c.args.self.now.reached;
+}
 
 pub returns-clause-copy : goal.returns-clause-copy
 returns-clause-copy c = copies c.args.self.now _ c.in_ok-slots.ensures

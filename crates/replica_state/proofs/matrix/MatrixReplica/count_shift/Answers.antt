@@ -9,7 +9,10 @@ use Rattle.replica_state.proofs.matrix.MatrixReplica.count_shift.Goals as goal
 pub invariant_of-self : goal.invariant_of-self
 unfolding matrix_state
 invariant_of-self c = record {
-  reached = after_call c.count_shift.result (shown_slots c.args.self.now.slots) (shown_slots c.count_shift.new.slots) c.args.self.now.reached
-      (on_ok c.count_shift.result (λ h. subst IsReached (sym h) (shifted c.args.name.now c.args.term c.args.from c.args.to c.args.total (shown_slots c.args.self.now.slots) c.requires.more c.requires.counted c.args.self.now.reached)) c.count_shift.ensures.ok)
+  reached = after_call c.count_shift.result (shown_slots c.args.self.now.slots) (shown_slots c.count_shift.new.slots)
+      c.args.self.now.reached
+      (on_ok c.count_shift.result (λ h. subst IsReached (sym h)
+      (shifted c.args.name.now c.args.term c.args.from c.args.to c.args.total (shown_slots c.args.self.now.slots)
+      c.requires.more c.requires.counted c.args.self.now.reached)) c.count_shift.ensures.ok)
       c.count_shift.ensures.err;
 }

@@ -8,7 +8,10 @@ use Rattle.replica_state.proofs.Slots.{nothing_shown}
 use Rattle.replica_state.proofs.matrix.MatrixReplica.empty.Goals as goal
 
 pub invariant_of-result : goal.invariant_of-result
-invariant_of-result c = record { reached = subst (λ (slots : List (List ℕ × Slot)). IsReached (shown_slots slots)) (sym c.new.ensures) nothing_reached }
+invariant_of-result c = record {
+  reached = subst (λ (slots : List (List ℕ × Slot)). IsReached (shown_slots slots))
+      (sym c.new.ensures) nothing_reached;
+}
 
 pub returns : goal.returns
 unfolding matrix_state

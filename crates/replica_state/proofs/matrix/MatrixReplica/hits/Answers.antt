@@ -3,7 +3,8 @@ use Rattle.replica_state.specs.States.{State}
 use Rattle.replica_state.specs.MatrixStates.{matrix_state}
 use Rattle.replica_state.proofs.matrix.MatrixReplica.hits.Goals as goal
 
-hits_of : (v : State) (name : List ℕ) (node given result : ℕ) → result ≡ v.hits name given → node ≡ given → result ≡ v.hits name node
+hits_of : (v : State) (name : List ℕ) (node given result : ℕ) → result ≡ v.hits name given → node ≡ given →
+    result ≡ v.hits name node
 hits_of v name node given result read same = subst (λ n. result ≡ v.hits name n) (sym same) read
 
 pub returns : goal.returns

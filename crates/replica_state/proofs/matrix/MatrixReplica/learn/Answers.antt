@@ -10,12 +10,16 @@ use Rattle.replica_state.proofs.matrix.MatrixReplica.learn.Goals as goal
 
 pub invariant_of-self : goal.invariant_of-self
 invariant_of-self c = record {
-  reached = after_call c.learn.result (shown_slots c.args.self.now.slots) (shown_slots c.learn.new.slots) c.args.self.now.reached
-      (on_ok c.learn.result (λ h. learned (shown_slots c.args.self.now.slots) (shown_slots c.learn.new.slots) (operation_told c.args.name.now (key_value c.args.key.now) c.args.count) c.requires
-      (λ ops e. h ∙ added_told (shown_slots c.args.self.now.slots) c.args.name.now (key_value c.args.key.now) c.args.count _ c.key_with.ensures c.requires ops e) c.args.self.now.reached) c.learn.ensures.ok)
+  reached = after_call c.learn.result (shown_slots c.args.self.now.slots) (shown_slots c.learn.new.slots)
+      c.args.self.now.reached
+      (on_ok c.learn.result (λ h. learned (shown_slots c.args.self.now.slots) (shown_slots c.learn.new.slots)
+      (operation_told c.args.name.now (key_value c.args.key.now) c.args.count) c.requires
+      (λ ops e. h ∙ added_told (shown_slots c.args.self.now.slots) c.args.name.now (key_value c.args.key.now)
+      c.args.count _ c.key_with.ensures c.requires ops e) c.args.self.now.reached) c.learn.ensures.ok)
       c.learn.ensures.err;
 }
 
 pub returns-clause-ok : goal.returns-clause-ok
 unfolding matrix_state
-returns-clause-ok c = on_ok c.learn.result (λ h ops e. h ∙ added_told (shown_slots c.args.self.now.slots) c.args.name.now (key_value c.args.key.now) c.args.count _ c.key_with.ensures c.requires ops e) c.learn.ensures.ok
+returns-clause-ok c = on_ok c.learn.result (λ h ops e. h ∙ added_told (shown_slots c.args.self.now.slots)
+    c.args.name.now (key_value c.args.key.now) c.args.count _ c.key_with.ensures c.requires ops e) c.learn.ensures.ok

@@ -7,4 +7,5 @@ use Rattle.replica_state.proofs.matrix.MatrixReplica.name_at.Goals as goal
 
 pub returns : goal.returns
 unfolding matrix_state shown_slots
-returns c = ap (λ o. option_map (λ e. e.0) o) (sym (ap (λ o. option_map (λ e. (e.0.now, e.1.now)) o) c.in_ok-name.was) ∙ c.at.ensures) ∙ sym (key_place c.args.self.now.slots c.args.index)
+returns c = ap (λ o. option_map (λ e. e.0) o) (sym (ap (λ o. option_map (λ e. (e.0.now, e.1.now)) o) c.in_ok-name.was) ∙
+    c.at.ensures) ∙ sym (key_place c.args.self.now.slots c.args.index)

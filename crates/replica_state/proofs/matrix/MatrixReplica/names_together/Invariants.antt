@@ -9,4 +9,5 @@ use Rattle.replica_state.proofs.NamesTogether.{shared}
 use Rattle.replica_state.proofs.matrix.MatrixReplica.names_together.Given as goal
 
 abbrev pub invariant-loop-name : goal.invariant-loop-name
-invariant-loop-name l = l.names ≡ length (with_names (keys_of l.other.slots) (keys_of l.self.slots)) + shared (λ q. is_some (stored_at (slice_cmp nat_cmp) l.self.slots q)) (keys_of l.name-iterator)
+invariant-loop-name l = l.names ≡ length (with_names (keys_of l.other.slots) (keys_of l.self.slots)) + shared
+    (λ q. is_some (stored_at (slice_cmp nat_cmp) l.self.slots q)) (keys_of l.name-iterator)

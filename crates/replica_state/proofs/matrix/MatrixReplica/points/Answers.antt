@@ -14,5 +14,6 @@ returns-clause-names c = ap (map (λ (e : List ℕ × Slot). e.0)) c.iter.ensure
 pub returns-clause-held : goal.returns-clause-held
 unfolding matrix_state
 returns-clause-held c =
-    subst (AllByRecursion (λ (e : List ℕ × Slot). slot_held e.1 ≡ held_at (shown_slots c.args.self.now.slots) e.0)) (sym c.iter.ensures.rest)
+    subst (AllByRecursion (λ (e : List ℕ × Slot). slot_held e.1 ≡ held_at (shown_slots c.args.self.now.slots) e.0))
+    (sym c.iter.ensures.rest)
     (slots_listed c.args.self.now.slots c.iter.ensures.is_map)

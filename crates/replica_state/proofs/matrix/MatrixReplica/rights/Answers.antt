@@ -6,4 +6,6 @@ use Rattle.replica_state.proofs.StoredSlots.{rights_are}
 use Rattle.replica_state.proofs.matrix.MatrixReplica.rights.Goals as goal
 
 pub returns-in-Some : goal.returns-in-Some
-returns-in-Some c = to_z-of_z w128 c.rights.result (record { sfits = c.rights.type_inv }) ∙ c.rights.ensures ∙ rights_are (matrix_state c.args.self.now) c.args.name.now c.in-Some.held.now c.in-Some.ensures.some c.args.term c.args.node
+returns-in-Some c = to_z-of_z w128 c.rights.result (record { sfits = c.rights.type_inv }) ∙ c.rights.ensures ∙
+    rights_are (matrix_state c.args.self.now) c.args.name.now c.in-Some.held.now c.in-Some.ensures.some c.args.term
+    c.args.node

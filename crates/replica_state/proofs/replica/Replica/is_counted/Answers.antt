@@ -8,7 +8,8 @@ use Rattle.replica_state.specs.States.{State, budget_of, budget_under}
 use Rattle.replica_state.proofs.replica.Replica.is_counted.Goals as goal
 
 -- a key counts a term where the state has a budget of it under that key
-budget_there : (v : State) (name : List ℕ) (term : ℕ) (key : KeyValue) → Some key ≡ v.key name → is_some (count_of key term) ≡ is_some (budget_of v name term)
+budget_there : (v : State) (name : List ℕ) (term : ℕ) (key : KeyValue) → Some key ≡ v.key name →
+    is_some (count_of key term) ≡ is_some (budget_of v name term)
 budget_there v name term key e = by_count _ (count_of key term) ∙ ap (λ o. is_some (budget_under v name term o)) e
   where
     by_count : {A B : Type 0} (f : A → B) (o : Option A) → is_some o ≡ is_some (option_map f o)
@@ -21,8 +22,10 @@ no_budget v name term e h = true≢false (sym (subst (λ o. IsSome (budget_under
 
 pub returns-in-Some : goal.returns-in-Some
 returns-in-Some g c =
-    let same : c.is_some.result ≡ is_some (budget_of (g.Self.Replica.state c.args.self.now) c.args.name.now c.args.term) = c.is_some.ensures ∙ ap is_some c.count_of.ensures
-    ∙ budget_there (g.Self.Replica.state c.args.self.now) c.args.name.now c.args.term (key_value c.in-Some.key.now) c.in-Some.ensures.value in
+    let same : c.is_some.result ≡ is_some (budget_of (g.Self.Replica.state c.args.self.now) c.args.name.now
+    c.args.term) = c.is_some.ensures ∙ ap is_some c.count_of.ensures
+    ∙ budget_there (g.Self.Replica.state c.args.self.now) c.args.name.now c.args.term (key_value c.in-Some.key.now)
+    c.in-Some.ensures.value in
     (λ h. sym same ∙ h, λ h. same ∙ h)
 
 pub returns-in-None : goal.returns-in-None

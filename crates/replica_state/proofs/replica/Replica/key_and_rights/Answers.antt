@@ -7,7 +7,10 @@ pub loop-term-init : goal.loop-term-init
 loop-term-init g c = none_marked _ _ refl refl
 
 pub loop-term-preserved : goal.loop-term-preserved
-loop-term-preserved g c = one_more _ _ _ _ (let few = c.terms_of-term-end.ensures.few in omega arith) (search rules) c.loop-term.invariant
+loop-term-preserved g c = one_more _ _ _ _ (let few = c.terms_of-term-end.ensures.few in omega arith) (search rules)
+    c.loop-term.invariant
 
 pub returns-clause-rights : goal.returns-clause-rights
-returns-clause-rights g c = all_marked _ _ _ c.loop-term.invariant (λ j past. no_rights (g.Self.Replica.state c.args.self.now) c.args.name.now (key_value c.in_ok-key.key.now) j c.args.node (search rules) (c.terms_of-term-end.ensures.no_more j (omega arith)))
+returns-clause-rights g c = all_marked _ _ _ c.loop-term.invariant
+    (λ j past. no_rights (g.Self.Replica.state c.args.self.now) c.args.name.now (key_value c.in_ok-key.key.now) j
+    c.args.node (search rules) (c.terms_of-term-end.ensures.no_more j (omega arith)))

@@ -9,4 +9,5 @@ returns c =
     let other = c.args.other.now in
     let stamps : c.then.result ≡ ordering_then (nat_cmp key.clock other.clock) (nat_cmp key.node other.node) =
     c.then.ensures ∙ (λ i. ordering_then (c.cmp.ensures i) (c.cmp-2.ensures i)) in
-    c.then-2.ensures ∙ (λ i. ordering_then (stamps i) (c.cmp-3.ensures i)) ∙ then_assoc (nat_cmp key.clock other.clock) _ _
+    c.then-2.ensures ∙ (λ i. ordering_then (stamps i) (c.cmp-3.ensures i)) ∙
+    then_assoc (nat_cmp key.clock other.clock) _ _
