@@ -11,7 +11,7 @@ ghost use Rattle.http_routes.specs.Requests.{grant_wanted, is_allowed, shift_wan
 ghost use Rattle.http_routes.specs.Requests.{max_amount, texted, wanted, wanted_at};
 
 use crate::reply::HttpReply;
-use decimals::number;
+use decimals::byte;
 use delta_exchange::MAX_MESSAGE;
 use http_paths::{Routes, Target};
 use node_core::{Ask, AskRef};
@@ -64,12 +64,12 @@ fn shift_wanted(alloc: Global, name: &str, term: &str, to: &str, amount: &str) -
     ensures { IsWanted (shift_wanted name.now (number_of 255 term.now) (number_of 255 to.now)
         (number_of max_amount amount.now)) (wanted_value result) }
 {
-    match (number(term, 255), number(to, 255), number(amount, u64::MAX)) {
+    match (byte(term), byte(to), decimals::amount(amount)) {
         (Some(term), Some(to), Some(amount)) => {
             let shift = AskRef::Shift {
                 name,
-                term: term as u8,
-                to: to as u8,
+                term,
+                to,
                 amount,
             };
             doing(alloc, shift.copied(alloc))
@@ -83,13 +83,9 @@ fn grant_wanted(alloc: Global, name: &str, term: &str, amount: &str) -> Wanted
     ensures { IsWanted (grant_wanted name.now (number_of 255 term.now)
         (number_of max_amount amount.now)) (wanted_value result) }
 {
-    match (number(term, 255), number(amount, u64::MAX)) {
+    match (byte(term), decimals::amount(amount)) {
         (Some(term), Some(amount)) => {
-            let grant = AskRef::Grant {
-                name,
-                term: term as u8,
-                amount,
-            };
+            let grant = AskRef::Grant { name, term, amount };
             doing(alloc, grant.copied(alloc))
         }
         _ => refused(alloc, 400, "bad number"),
