@@ -57,11 +57,8 @@ fn numbers(alloc: Global, node: &NodeCore, name: &Name) -> Result<String, AllocE
 /// execute the first term, the executions of that term and the passes.
 pub(super) fn view(alloc: Global, node: &NodeCore) -> Result<String, AllocError> {
     let mut view = node.list(alloc)?;
-    let state = node.state();
-    for index in 0..state.names() {
-        if let Some(name) = state.name_at(index) {
-            view.push_str(numbers(alloc, node, name)?.as_str())?;
-        }
+    for (name, _) in node.state().points() {
+        view.push_str(numbers(alloc, node, name)?.as_str())?;
     }
     Ok(view)
 }
