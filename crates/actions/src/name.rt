@@ -60,18 +60,18 @@ pub struct Name {
     // are, and no text is looked at.
     front: u64,
     text: String,
+    ghost front_is: { front ≡ first_bytes 8 (string_bytes text) },
 }
 
 impl Model for Name {
     ghost use Rattle.std.specs.Prelude.{◌≡◌, ℕ, List, true, string_bytes};
-    ghost use Rattle.actions.specs.Names.{is_name, first_bytes};
+    ghost use Rattle.actions.specs.Names.{is_name};
 
     ghost Value = { List ℕ };
 
     ghost view = { λ n. string_bytes n.text };
 
-    ghost invariant = { λ n. (is_name (string_bytes n.text) ≡ true)
-        × (n.front ≡ first_bytes 8 (string_bytes n.text)) };
+    ghost invariant = { λ n. is_name (string_bytes n.text) ≡ true };
 }
 
 fn has_name_bytes(text: &str) -> bool

@@ -9,6 +9,6 @@ returns-in-Less c =
     let mine = string_bytes c.self.inside.text in
     let other = string_bytes c.other.inside.text in
     ordered_so c.cmp.result c.self.inside.front c.other.inside.front mine other c.in-Less.is c.cmp.ensures
-    c.self.invariant c.other.invariant ∙
+    (c.self.invariant, c.self.inside.front_is) (c.other.invariant, c.other.inside.front_is) ∙
     ap (λ (bs : List ℕ). slice_cmp nat_cmp bs other) c.self.view_is ∙
     ap (λ (bs : List ℕ). slice_cmp nat_cmp c.args.self.now bs) c.other.view_is
