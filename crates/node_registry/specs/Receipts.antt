@@ -1,5 +1,5 @@
 -- What a caller is told.
-use Rattle.std.specs.Prelude.{◌≡◌, ℕ, length}
+use Rattle.std.specs.Prelude.{◌≡◌, ◌≤◌, ℕ, ◌+◌, List, [], ◌∷◌, length}
 use Rattle.node_calls.specs.declared.ask.Ask.{Ask}
 use Rattle.node_core.specs.declared.config.Config.{Config}
 use Rattle.node_calls.specs.declared.fault.NodeFault.{NodeFault}
@@ -36,3 +36,9 @@ IsAnswered config ask reply =
 -- some lawful cell of the node refuses the ask so
 abbrev pub IsRefused : Config → Asked → NodeFault → Type 0
 IsRefused config ask fault = (c : Cell) × IsLawfulAt config c × IsRefusedBy c ask fault
+
+-- receipts that the node gave a seat that had made so many calls: the next call's first, and each of an
+-- entry behind as many as the seat had made calls
+abbrev pub AreGivenSince : Config → ℕ → List Receipt → Type 0
+AreGivenSince config calls [] = Unit {0}
+AreGivenSince config calls (r ∷ rs) = IsGiven config r × (calls ≤ r.index) × AreGivenSince config (calls + 1) rs
