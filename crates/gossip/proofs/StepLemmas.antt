@@ -8,10 +8,11 @@ use Rattle.node_core.specs.declared.config.Config.{Config}
 use Rattle.node_calls.specs.declared.receipt.Receipt.{Receipt}
 use Rattle.message_format.specs.declared.fault.WireFault.{WireFault}
 use Rattle.node_calls.specs.Asks.{Asked, Message, Shift, Deliver, ask_value, bare_emit, emit_asked}
-use Rattle.node_registry.specs.Receipts.{IsGiven}
+use Rattle.node_registry.specs.Receipts.{AreGivenSince, IsGiven}
+use Rattle.node_registry.proofs.SeatReceipts.{given_on}
 use Rattle.gossip.specs.declared.report.GossipReport.{GossipReport}
 use Rattle.gossip.specs.Parts.{IsPartOf}
-use Rattle.gossip.specs.Reports.{AreGivenSince, IsTold, asked_in, asks_in, is_delivery, is_emit, own_asks_in}
+use Rattle.gossip.specs.Reports.{IsTold, asked_in, asks_in, is_delivery, is_emit, own_asks_in}
 use Rattle.gossip.specs.Steps.{Adds}
 use Rattle.gossip.specs.Parts as parts
 use Rattle.gossip.proofs.AskLemmas.{first_of_delivery, first_of_emit, first_of_shift}
@@ -23,12 +24,6 @@ count_one p x = omega arith
 
 count_both : {X : Type 0} (p : X → Bool) (xs ys : List X) → count_by p (xs ++ ys) ≡ count_by p xs + count_by p ys
 count_both p xs ys = sum_by-append (λ x. cond (p x) 1 0) xs ys
-
-given_on : (config : Config) (was : ℕ) (xs ys : List Receipt) → AreGivenSince config was xs → AreGivenSince config (was + length xs) ys → AreGivenSince config was (xs ++ ys)
-given_on config was [] ys p q = let e : was + 0 ≡ was = omega arith in subst (λ n. AreGivenSince config n ys) e q
-given_on config was (x ∷ xs) ys p q =
-    let e : was + length (x ∷ xs) ≡ was + 1 + length xs = omega arith in
-    (p.0, p.1, given_on config (was + 1) xs ys p.2 (subst (λ n. AreGivenSince config n ys) e q))
 
 own_both : (config : Config) (xs ys : List Receipt) → own_asks_in config (xs ++ ys) ≡ own_asks_in config xs ++ own_asks_in config ys
 own_both config xs ys =

@@ -3,9 +3,10 @@ use Rattle.std.specs.Prelude.{◌≡◌, ℕ, ◌+◌, List, ◌++◌, length, c
 use Rattle.node_core.specs.declared.config.Config.{Config}
 use Rattle.node_calls.specs.declared.receipt.Receipt.{Receipt}
 use Rattle.node_calls.specs.Asks.{Asked}
+use Rattle.node_registry.specs.Receipts.{AreGivenSince}
 use Rattle.gossip.specs.declared.report.GossipReport.{GossipReport}
 use Rattle.gossip.specs.Parts.{IsPartOf}
-use Rattle.gossip.specs.Reports.{AreGivenSince, asks_in, is_delivery, is_emit, own_asks_in}
+use Rattle.gossip.specs.Reports.{asks_in, is_delivery, is_emit, own_asks_in}
 
 -- calls of a seat that had made so many add their receipts, of which those that took in no message ask some
 -- of these, in order
