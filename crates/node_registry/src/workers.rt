@@ -79,7 +79,7 @@ fn work<L: Label, G: Gate, R: Wait>(
     worker: u16,
     task: Task<'_, L>,
 ) -> Done<L>
-    ensures { IsDone L.config (G.says gate.now worker) (G.hears gate.now worker)
+    ensures { IsDone L.config L.seed (G.says gate.now worker) (G.hears gate.now worker)
         task.entry.job.seat task.entry.job.asks.items result }
 {
     let Task {
@@ -146,7 +146,7 @@ fn run<L: Label, G: Gate, R: Wait>(
     worker: u16,
     task: Task<'_, L>,
 ) -> Done<L>
-    ensures { IsDone L.config (G.says gate.now worker) (G.hears gate.now worker)
+    ensures { IsDone L.config L.seed (G.says gate.now worker) (G.hears gate.now worker)
         task.entry.job.seat task.entry.job.asks.items result }
 {
     if refused.load(Ordering::SeqCst) == u64::from(worker) + 1 {
@@ -168,7 +168,7 @@ struct Does<L: Label, G: Gate> {
 }
 
 impl<L: Label, G: Gate> Promise<Done<L>> for Does<L, G> {
-    ghost kept_by = { λ p d. IsDone L.config (G.says p.gate.value p.worker)
+    ghost kept_by = { λ p d. IsDone L.config L.seed (G.says p.gate.value p.worker)
         (G.hears p.gate.value p.worker) p.was p.asks.value.items d };
 }
 
@@ -189,7 +189,7 @@ fn start_one<'s, E, L: Label + Send + Sync + 's, G: Gate + Sync, R: Wait + Sync>
         (λ h. (h.promise.worker ≡ worker) × (h.promise.gate.value ≡ gate.now)
         × (h.promise.was ≡ task.entry.job.seat)
         × (h.promise.asks.value.items ≡ task.entry.job.asks.items))
-        (λ d. IsDone L.config (G.says gate.now worker) (G.hears gate.now worker)
+        (λ d. IsDone L.config L.seed (G.says gate.now worker) (G.hears gate.now worker)
         task.entry.job.seat task.entry.job.asks.items d) }
 {
     let promise = Does {
@@ -202,7 +202,7 @@ fn start_one<'s, E, L: Label + Send + Sync + 's, G: Gate + Sync, R: Wait + Sync>
     let started = scope.spawn_with(
         promise,
         move || -> Done<L>
-            ensures { IsDone L.config (G.says gate.entry.now worker)
+            ensures { IsDone L.config L.seed (G.says gate.entry.now worker)
                 (G.hears gate.entry.now worker) task.entry.job.seat task.entry.job.asks.items
                 result }
         { run(rt, alloc, gate, refused, worker, task) },
@@ -308,7 +308,7 @@ fn start_all<'s, E, L: Label + Send + Sync + 's, G: Gate + Sync, R: Wait + Sync>
     ensures each { AllNumbered (λ n t w. MatchResult w
         (λ h. (h.promise.worker ≡ n) × (h.promise.gate.value ≡ gate.now)
         × (h.promise.was ≡ t.job.seat) × (h.promise.asks.value.items ≡ t.job.asks.items))
-        (λ d. IsDone L.config (G.says gate.now n) (G.hears gate.now n) t.job.seat
+        (λ d. IsDone L.config L.seed (G.says gate.now n) (G.hears gate.now n) t.job.seat
         t.job.asks.items d)) 0
         (reverse tasks.entry.items) result.items }
 {
@@ -330,7 +330,7 @@ fn join_all<L: Label, G: Gate, R: Threads>(
     requires none { dones.items ≡ [] }
     requires room { vec_len workers ≤ vec_capacity dones }
     ensures { AllZip (λ w d. MatchResult w
-        (λ h. IsDone L.config (G.says h.promise.gate.value h.promise.worker)
+        (λ h. IsDone L.config L.seed (G.says h.promise.gate.value h.promise.worker)
         (G.hears h.promise.gate.value h.promise.worker) h.promise.was
         h.promise.asks.value.items d) (λ e. d ≡ e))
         workers.items result.items }
@@ -355,7 +355,7 @@ fn run_all<'s, E, L: Label + Send + Sync + 's, G: Gate + Sync, R: Threads + Wait
     crew: Crew<'s, L, G>,
 ) -> Vec<Done<L>>
     ensures len { vec_len result ≡ vec_len crew.entry.tasks }
-    ensures each { AllNumbered (λ n j d. IsDone L.config (G.says gate.now n)
+    ensures each { AllNumbered (λ n j d. IsDone L.config L.seed (G.says gate.now n)
         (G.hears gate.now n) j.seat j.asks.items d) 0
         (map (λ t. t.job) (reverse crew.entry.tasks.items)) result.items }
 {
@@ -381,7 +381,7 @@ pub fn run_workers<'a, L: Label + Send + Sync, G: Gate + Sync, R: Threads + Wait
     requires few { All (λ j. vec_len j.asks < 2 ^ 32) jobs.items }
     ensures len { IfOk result (λ ds. vec_len ds ≡ vec_len jobs.entry) }
     ensures done { IfOk result (λ ds. AllNumbered (λ n j d. IsDone L.config
-        (G.says gate.now n) (G.hears gate.now n) j.seat j.asks.items d) 0
+        L.seed (G.says gate.now n) (G.hears gate.now n) j.seat j.asks.items d) 0
         jobs.entry.items ds.items) }
     ensures back { IfErr result (λ js. js.items ≡ jobs.entry.items) }
 {
@@ -404,7 +404,7 @@ pub fn run_workers<'a, L: Label + Send + Sync, G: Gate + Sync, R: Threads + Wait
         rt,
         |scope| -> Vec<Done<L>>
             ensures len { vec_len result ≡ vec_len crew.entry.tasks }
-            ensures each { AllNumbered (λ n j d. IsDone L.config (G.says gate.entry.now n)
+            ensures each { AllNumbered (λ n j d. IsDone L.config L.seed (G.says gate.entry.now n)
                 (G.hears gate.entry.now n) j.seat j.asks.items d) 0
                 (map (λ t. t.job) (reverse crew.entry.tasks.items)) result.items }
         { run_all(scope, rt, alloc, gate, refused, crew) },
