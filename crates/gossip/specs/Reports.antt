@@ -29,9 +29,9 @@ own_asks_in config receipts = filter (λ ask. not (is_delivery ask)) (asks_in co
 
 -- a seat that had made so many calls has made as many more as the report has receipts, which the node gave it since; the
 -- report counts the messages that they made and took in
-pub record IsTold (config : Config) (was now : ℕ) (r : GossipReport) : Type 0 where
+pub record IsTold (config : Config) (seed : List ℕ) (was now : ℕ) (r : GossipReport) : Type 0 where
   pub counted : now ≡ was + length r.receipts.items
-  pub given : AreGivenSince config was r.receipts.items
+  pub given : AreGivenSince config seed was r.receipts.items
   pub emitted : r.emitted ≡ count_by is_emit (asks_in config r.receipts.items)
   pub delivered : r.delivered ≡ count_by is_delivery (asks_in config r.receipts.items)
 
