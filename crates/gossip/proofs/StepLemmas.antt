@@ -8,10 +8,11 @@ use Rattle.node_core.specs.declared.config.Config.{Config}
 use Rattle.node_calls.specs.declared.receipt.Receipt.{Receipt}
 use Rattle.message_format.specs.declared.fault.WireFault.{WireFault}
 use Rattle.node_calls.specs.Asks.{Asked, Message, Shift, Deliver, ask_value, bare_emit, emit_asked}
-use Rattle.node_registry.specs.Receipts.{IsGiven}
+use Rattle.node_registry.specs.Receipts.{AreGivenSince, IsGiven}
+use Rattle.node_registry.proofs.SeatReceipts.{given_on}
 use Rattle.gossip.specs.declared.report.GossipReport.{GossipReport}
 use Rattle.gossip.specs.Parts.{IsPartOf}
-use Rattle.gossip.specs.Reports.{AreGivenSince, IsTold, asked_in, asks_in, is_delivery, is_emit, own_asks_in}
+use Rattle.gossip.specs.Reports.{IsTold, asked_in, asks_in, is_delivery, is_emit, own_asks_in}
 use Rattle.gossip.specs.Steps.{Adds}
 use Rattle.gossip.specs.Parts as parts
 use Rattle.gossip.proofs.AskLemmas.{first_of_delivery, first_of_emit, first_of_shift}
@@ -24,12 +25,6 @@ count_one p x = omega arith
 count_both : {X : Type 0} (p : X → Bool) (xs ys : List X) → count_by p (xs ++ ys) ≡ count_by p xs + count_by p ys
 count_both p xs ys = sum_by-append (λ x. cond (p x) 1 0) xs ys
 
-given_on : (config : Config) (was : ℕ) (xs ys : List Receipt) → AreGivenSince config was xs → AreGivenSince config (was + length xs) ys → AreGivenSince config was (xs ++ ys)
-given_on config was [] ys p q = let e : was + 0 ≡ was = omega arith in subst (λ n. AreGivenSince config n ys) e q
-given_on config was (x ∷ xs) ys p q =
-    let e : was + length (x ∷ xs) ≡ was + 1 + length xs = omega arith in
-    (p.0, p.1, given_on config (was + 1) xs ys p.2 (subst (λ n. AreGivenSince config n ys) e q))
-
 own_both : (config : Config) (xs ys : List Receipt) → own_asks_in config (xs ++ ys) ≡ own_asks_in config xs ++ own_asks_in config ys
 own_both config xs ys =
     ap (filter (λ ask. not (is_delivery ask))) (map-append (asked_in config) xs ys)
@@ -39,10 +34,10 @@ counts_both : (config : Config) (p : Asked → Bool) (xs ys : List Receipt) → 
 counts_both config p xs ys = ap (count_by p) (map-append (asked_in config) xs ys) ∙ count_both p (asks_in config xs) (asks_in config ys)
 
 -- no call
-pub adds_none : (config : Config) (was now : ℕ) (old new : GossipReport) (wanted : List Asked)
+pub adds_none : (config : Config) (seed : List ℕ) (was now : ℕ) (old new : GossipReport) (wanted : List Asked)
     → now ≡ was → new.receipts.items ≡ old.receipts.items → new.emitted ≡ old.emitted → new.delivered ≡ old.delivered → new.ended ≡ old.ended
-    → Adds config was now old new wanted
-adds_none config was now old new wanted counted receipts emitted delivered ended = record {
+    → Adds config seed was now old new wanted
+adds_none config seed was now old new wanted counted receipts emitted delivered ended = record {
   more = [];
   receipts = receipts ∙ sym (append-nil old.receipts.items);
   counted = omega arith;
@@ -54,15 +49,15 @@ adds_none config was now old new wanted counted receipts emitted delivered ended
 }
 
 -- one call
-pub adds_one : (config : Config) (was now : ℕ) (old new : GossipReport) (r : Receipt) (ask : Asked) (wanted : List Asked)
-    → asked_in config r ≡ ask → IsGiven config r → was ≤ r.index → now ≡ was + 1
+pub adds_one : (config : Config) (seed : List ℕ) (was now : ℕ) (old new : GossipReport) (r : Receipt) (ask : Asked) (wanted : List Asked)
+    → asked_in config r ≡ ask → IsGiven config seed r → was ≤ r.index → now ≡ was + 1
     → new.receipts.items ≡ old.receipts.items ++ r ∷ []
     → new.emitted ≡ old.emitted + cond (is_emit ask) 1 0
     → new.delivered ≡ old.delivered + cond (is_delivery ask) 1 0
     → IsPartOf (filter (λ a. not (is_delivery a)) (ask ∷ [])) wanted
     → new.ended ≡ old.ended
-    → Adds config was now old new wanted
-adds_one config was now old new r ask wanted asks given since counted receipts emitted delivered part ended = record {
+    → Adds config seed was now old new wanted
+adds_one config seed was now old new r ask wanted asks given since counted receipts emitted delivered part ended = record {
   more = r ∷ [];
   receipts = receipts;
   counted = omega arith;
@@ -74,46 +69,46 @@ adds_one config was now old new r ask wanted asks given since counted receipts e
 }
 
 -- an emit, a delivery and a shift
-pub adds_emit : (config : Config) (was now to : ℕ) (old new : GossipReport) (between : List Receipt) (r : Receipt)
+pub adds_emit : (config : Config) (seed : List ℕ) (was now to : ℕ) (old new : GossipReport) (between : List Receipt) (r : Receipt)
     → ask_value config.nodes r.entry.ask r.entry.reply ≡ emit_asked config.nodes to r.entry.reply
-    → IsGiven config r → was ≤ r.index → now ≡ was + 1
+    → IsGiven config seed r → was ≤ r.index → now ≡ was + 1
     → between ≡ old.receipts.items → new.receipts.items ≡ between ++ r ∷ []
     → new.emitted ≡ old.emitted + 1 → new.delivered ≡ old.delivered → new.ended ≡ old.ended
-    → Adds config was now old new (bare_emit to ∷ [])
-adds_emit config was now to old new between r asked given since counted kept more emitted delivered ended =
-    adds_one config was now old new r (bare_emit to) (bare_emit to ∷ []) (first_of_emit config.nodes to r.entry.ask r.entry.reply asked)
+    → Adds config seed was now old new (bare_emit to ∷ [])
+adds_emit config seed was now to old new between r asked given since counted kept more emitted delivered ended =
+    adds_one config seed was now old new r (bare_emit to) (bare_emit to ∷ []) (first_of_emit config.nodes to r.entry.ask r.entry.reply asked)
     given since counted (more ∙ ap (λ l. l ++ r ∷ []) kept) emitted (omega arith) (parts.kept parts.none) ended
 
-pub adds_delivery : (config : Config) (was now : ℕ) (read : Result Message WireFault) (old new : GossipReport) (r : Receipt)
+pub adds_delivery : (config : Config) (seed : List ℕ) (was now : ℕ) (read : Result Message WireFault) (old new : GossipReport) (r : Receipt)
     → ask_value config.nodes r.entry.ask r.entry.reply ≡ Deliver read
-    → IsGiven config r → was ≤ r.index → now ≡ was + 1
+    → IsGiven config seed r → was ≤ r.index → now ≡ was + 1
     → new.receipts.items ≡ old.receipts.items ++ r ∷ []
     → new.emitted ≡ old.emitted → new.delivered ≡ old.delivered + 1 → new.ended ≡ old.ended
-    → Adds config was now old new []
-adds_delivery config was now read old new r asked given since counted more emitted delivered ended =
-    adds_one config was now old new r (Deliver read) [] (first_of_delivery config.nodes read r.entry.ask r.entry.reply asked)
+    → Adds config seed was now old new []
+adds_delivery config seed was now read old new r asked given since counted more emitted delivered ended =
+    adds_one config seed was now old new r (Deliver read) [] (first_of_delivery config.nodes read r.entry.ask r.entry.reply asked)
     given since counted more (omega arith) delivered parts.none ended
 
-pub adds_shift : (config : Config) (was now : ℕ) (name : List ℕ) (term to amount : ℕ) (old new : GossipReport) (between : List Receipt) (r : Receipt)
+pub adds_shift : (config : Config) (seed : List ℕ) (was now : ℕ) (name : List ℕ) (term to amount : ℕ) (old new : GossipReport) (between : List Receipt) (r : Receipt)
     → ask_value config.nodes r.entry.ask r.entry.reply ≡ Shift name term to amount
-    → IsGiven config r → was ≤ r.index → now ≡ was + 1
+    → IsGiven config seed r → was ≤ r.index → now ≡ was + 1
     → between ≡ old.receipts.items → new.receipts.items ≡ between ++ r ∷ []
     → new.emitted ≡ old.emitted → new.delivered ≡ old.delivered → new.ended ≡ old.ended
-    → Adds config was now old new (Shift name term to amount ∷ [])
-adds_shift config was now name term to amount old new between r asked given since counted kept more emitted delivered ended =
-    adds_one config was now old new r (Shift name term to amount) (Shift name term to amount ∷ [])
+    → Adds config seed was now old new (Shift name term to amount ∷ [])
+adds_shift config seed was now name term to amount old new between r asked given since counted kept more emitted delivered ended =
+    adds_one config seed was now old new r (Shift name term to amount) (Shift name term to amount ∷ [])
     (first_of_shift config.nodes name term to amount r.entry.ask r.entry.reply asked)
     given since counted (more ∙ ap (λ l. l ++ r ∷ []) kept) (omega arith) (omega arith) (parts.kept parts.none) ended
 
 -- calls, and then more
-pub adds_then : {config : Config} {was between now : ℕ} {old middle new : GossipReport} {first second : List Asked}
-    → Adds config was between old middle first → Adds config between now middle new second
-    → Adds config was now old new (first ++ second)
-adds_then {config = config} {was = was} {between = between} {now = now} {old = old} {middle = middle} {new = new} {first = first} {second = second} p q = record {
+pub adds_then : {config : Config} {seed : List ℕ} {was between now : ℕ} {old middle new : GossipReport} {first second : List Asked}
+    → Adds config seed was between old middle first → Adds config seed between now middle new second
+    → Adds config seed was now old new (first ++ second)
+adds_then {config = config} {seed = seed} {was = was} {between = between} {now = now} {old = old} {middle = middle} {new = new} {first = first} {second = second} p q = record {
   more = p.more ++ q.more;
   receipts = q.receipts ∙ ap (λ l. l ++ q.more) p.receipts ∙ append_assoc old.receipts.items p.more q.more;
   counted = omega (arith, length-append p.more q.more, p.counted, q.counted);
-  given = given_on config was p.more q.more p.given (subst (λ n. AreGivenSince config n q.more) p.counted q.given);
+  given = given_on config seed was p.more q.more p.given (subst (λ n. AreGivenSince config seed n q.more) p.counted q.given);
   emitted = omega (arith, p.emitted, q.emitted, counts_both config is_emit p.more q.more);
   delivered = omega (arith, p.delivered, q.delivered, counts_both config is_delivery p.more q.more);
   part = subst (λ l. IsPartOf l (first ++ second)) (sym (own_both config p.more q.more)) (joined_parts p.part q.part);
@@ -121,8 +116,8 @@ adds_then {config = config} {was = was} {between = between} {now = now} {old = o
 }
 
 -- calls of these are calls of some of more
-pub adds_of_more : {config : Config} {was now : ℕ} {old new : GossipReport} {wanted : List Asked}
-    → Adds config was now old new wanted → (rest : List Asked) → Adds config was now old new (wanted ++ rest)
+pub adds_of_more : {config : Config} {seed : List ℕ} {was now : ℕ} {old new : GossipReport} {wanted : List Asked}
+    → Adds config seed was now old new wanted → (rest : List Asked) → Adds config seed was now old new (wanted ++ rest)
 adds_of_more p rest = record {
   more = p.more;
   receipts = p.receipts;
@@ -134,36 +129,36 @@ adds_of_more p rest = record {
   ended = p.ended;
 }
 
-pub adds_as : {config : Config} {was now : ℕ} {old new : GossipReport} {wanted other : List Asked}
-    → Adds config was now old new wanted → wanted ≡ other → Adds config was now old new other
-adds_as {config = config} {was = was} {now = now} {old = old} {new = new} p e = subst (λ w. Adds config was now old new w) e p
+pub adds_as : {config : Config} {seed : List ℕ} {was now : ℕ} {old new : GossipReport} {wanted other : List Asked}
+    → Adds config seed was now old new wanted → wanted ≡ other → Adds config seed was now old new other
+adds_as {config = config} {seed = seed} {was = was} {now = now} {old = old} {new = new} p e = subst (λ w. Adds config seed was now old new w) e p
 
 -- a report of all calls
-pub told_of : {config : Config} {was now : ℕ} {old new : GossipReport} {wanted : List Asked}
-    → Adds config was now old new wanted → old.receipts.items ≡ [] → old.emitted ≡ 0 → old.delivered ≡ 0 → IsTold config was now new
-told_of {config = config} {was = was} {now = now} {new = new} p empty none none_too =
+pub told_of : {config : Config} {seed : List ℕ} {was now : ℕ} {old new : GossipReport} {wanted : List Asked}
+    → Adds config seed was now old new wanted → old.receipts.items ≡ [] → old.emitted ≡ 0 → old.delivered ≡ 0 → IsTold config seed was now new
+told_of {config = config} {seed = seed} {was = was} {now = now} {new = new} p empty none none_too =
     let e : new.receipts.items ≡ p.more = p.receipts ∙ ap (λ l. l ++ p.more) empty in
     record {
       counted = p.counted ∙ ap (λ l. was + length l) (sym e);
-      given = subst (λ l. AreGivenSince config was l) (sym e) p.given;
+      given = subst (λ l. AreGivenSince config seed was l) (sym e) p.given;
       emitted = omega (arith, p.emitted, none, ap (λ l. count_by is_emit (asks_in config l)) e);
       delivered = omega (arith, p.delivered, none_too, ap (λ l. count_by is_delivery (asks_in config l)) e);
     }
 
-pub part_of_all : {config : Config} {was now : ℕ} {old new : GossipReport} {wanted : List Asked}
-    → Adds config was now old new wanted → old.receipts.items ≡ [] → IsPartOf (own_asks_in config new.receipts.items) wanted
+pub part_of_all : {config : Config} {seed : List ℕ} {was now : ℕ} {old new : GossipReport} {wanted : List Asked}
+    → Adds config seed was now old new wanted → old.receipts.items ≡ [] → IsPartOf (own_asks_in config new.receipts.items) wanted
 part_of_all {config = config} {new = new} {wanted = wanted} p empty =
     let e : new.receipts.items ≡ p.more = p.receipts ∙ ap (λ l. l ++ p.more) empty in
     subst (λ l. IsPartOf (own_asks_in config l) wanted) (sym e) p.part
 
 -- one more of the others, and up to all of them
-pub adds_next : {config : Config} {was between now : ℕ} {old middle new : GossipReport} (f : ℕ → Asked) (own n : ℕ) → n ≢ own
-    → Adds config was between old middle (map f (but own n)) → Adds config between now middle new (f n ∷ [])
-    → Adds config was now old new (map f (but own (n + 1)))
+pub adds_next : {config : Config} {seed : List ℕ} {was between now : ℕ} {old middle new : GossipReport} (f : ℕ → Asked) (own n : ℕ) → n ≢ own
+    → Adds config seed was between old middle (map f (but own n)) → Adds config seed between now middle new (f n ∷ [])
+    → Adds config seed was now old new (map f (but own (n + 1)))
 adds_next f own n ne p q = adds_as (adds_then p q) (sym (but_another f own n ne))
 
-pub adds_itself : {config : Config} {was now : ℕ} {old new : GossipReport} (f : ℕ → Asked) (own n : ℕ) → n ≡ own
-    → Adds config was now old new (map f (but own n)) → Adds config was now old new (map f (but own (n + 1)))
+pub adds_itself : {config : Config} {seed : List ℕ} {was now : ℕ} {old new : GossipReport} (f : ℕ → Asked) (own n : ℕ) → n ≡ own
+    → Adds config seed was now old new (map f (but own n)) → Adds config seed was now old new (map f (but own (n + 1)))
 adds_itself f own n e p = adds_as p (sym (but_itself f own n e))
 
 up_to : (f : ℕ → Asked) (own n all : ℕ) → n ≤ all → map f (but own all) ≡ map f (but own n) ++ map f (filter (λ k. not (k == own)) (range_with_len (0 + n) (all - n)))
@@ -171,8 +166,8 @@ up_to f own n all le =
     let e : all ≡ n + (all - n) = omega arith in
     ap (λ k. map f (but own k)) e ∙ but_rest f own n (all - n)
 
-pub adds_up_to : {config : Config} {was now : ℕ} {old new : GossipReport} (f : ℕ → Asked) (own n all : ℕ) → n ≤ all
-    → Adds config was now old new (map f (but own n)) → Adds config was now old new (map f (but own all))
+pub adds_up_to : {config : Config} {seed : List ℕ} {was now : ℕ} {old new : GossipReport} (f : ℕ → Asked) (own n all : ℕ) → n ≤ all
+    → Adds config seed was now old new (map f (but own n)) → Adds config seed was now old new (map f (but own all))
 adds_up_to f own n all le p = adds_as (adds_of_more p _) (sym (up_to f own n all le))
 
 pub length_up_to : (f : ℕ → Asked) (own n all : ℕ) → n ≤ all → length (map f (but own n)) ≤ length (map f (but own all))
@@ -185,9 +180,9 @@ pub length_itself : (f : ℕ → Asked) (own n : ℕ) → n ≡ own → length (
 length_itself f own n e = ap length (but_itself f own n e)
 
 -- the same over the rounds, or the terms
-pub adds_turn : {config : Config} {was between now : ℕ} {old middle new : GossipReport} (f : ℕ → List Asked) (n : ℕ)
-    → Adds config was between old middle (flat_map f (range_with_len 0 n)) → Adds config between now middle new (f n)
-    → Adds config was now old new (flat_map f (range_with_len 0 (n + 1)))
+pub adds_turn : {config : Config} {seed : List ℕ} {was between now : ℕ} {old middle new : GossipReport} (f : ℕ → List Asked) (n : ℕ)
+    → Adds config seed was between old middle (flat_map f (range_with_len 0 n)) → Adds config seed between now middle new (f n)
+    → Adds config seed was now old new (flat_map f (range_with_len 0 (n + 1)))
 adds_turn f n p q = adds_as (adds_then p q) (sym (over_more f n))
 
 turns_to : (f : ℕ → List Asked) (n all : ℕ) → n ≤ all → flat_map f (range_with_len 0 all) ≡ flat_map f (range_with_len 0 n) ++ flat_map f (range_with_len (0 + n) (all - n))
@@ -195,8 +190,8 @@ turns_to f n all le =
     let e : all ≡ n + (all - n) = omega arith in
     ap (λ k. flat_map f (range_with_len 0 k)) e ∙ over_rest f n (all - n)
 
-pub adds_turns : {config : Config} {was now : ℕ} {old new : GossipReport} (f : ℕ → List Asked) (n all : ℕ) → n ≤ all
-    → Adds config was now old new (flat_map f (range_with_len 0 n)) → Adds config was now old new (flat_map f (range_with_len 0 all))
+pub adds_turns : {config : Config} {seed : List ℕ} {was now : ℕ} {old new : GossipReport} (f : ℕ → List Asked) (n all : ℕ) → n ≤ all
+    → Adds config seed was now old new (flat_map f (range_with_len 0 n)) → Adds config seed was now old new (flat_map f (range_with_len 0 all))
 adds_turns f n all le p = adds_as (adds_of_more p _) (sym (turns_to f n all le))
 
 pub length_turn : (f : ℕ → List Asked) (n : ℕ) → length (flat_map f (range_with_len 0 (n + 1))) ≡ length (flat_map f (range_with_len 0 n)) + length (f n)

@@ -1,11 +1,11 @@
 -- What a report tells of the calls that were made.
-use Rattle.std.specs.Prelude.{◌≡◌, ◌≤◌, ℕ, ◌+◌, ◌==◌, Bool, true, false, not, List, [], ◌∷◌, length, map, count_by}
+use Rattle.std.specs.Prelude.{◌≡◌, ℕ, ◌+◌, ◌==◌, Bool, true, false, not, List, [], ◌∷◌, length, map, count_by}
 use Rattle.std.specs.List.{filter, flat_map, range_with_len}
 use Rattle.node_core.specs.declared.config.Config.{Config}
 use Rattle.node_calls.specs.declared.receipt.Receipt.{Receipt}
 use Rattle.node_calls.specs.Asks as asks
 use Rattle.node_calls.specs.Asks.{Asked, ask_value_first, bare_emit}
-use Rattle.node_registry.specs.Receipts.{IsGiven}
+use Rattle.node_registry.specs.Receipts.{AreGivenSince}
 use Rattle.gossip.specs.declared.report.GossipReport.{GossipReport}
 
 -- what receipts say was asked, of an emit only to whom
@@ -27,17 +27,11 @@ is_delivery _ = false
 abbrev pub own_asks_in : Config → List Receipt → List Asked
 own_asks_in config receipts = filter (λ ask. not (is_delivery ask)) (asks_in config receipts)
 
--- receipts that the node gave a seat that had made so many calls: the next call's first, and each of an
--- entry behind as many as the seat had made calls
-abbrev pub AreGivenSince : Config → ℕ → List Receipt → Type 0
-AreGivenSince config calls [] = Unit {0}
-AreGivenSince config calls (r ∷ rs) = IsGiven config r × (calls ≤ r.index) × AreGivenSince config (calls + 1) rs
-
--- a seat that had made so many calls has made as many more as the report has receipts, and these are in
--- the order of the calls; the report counts the messages that they made and took in
-pub record IsTold (config : Config) (was now : ℕ) (r : GossipReport) : Type 0 where
+-- a seat that had made so many calls has made as many more as the report has receipts, which the node gave it since; the
+-- report counts the messages that they made and took in
+pub record IsTold (config : Config) (seed : List ℕ) (was now : ℕ) (r : GossipReport) : Type 0 where
   pub counted : now ≡ was + length r.receipts.items
-  pub given : AreGivenSince config was r.receipts.items
+  pub given : AreGivenSince config seed was r.receipts.items
   pub emitted : r.emitted ≡ count_by is_emit (asks_in config r.receipts.items)
   pub delivered : r.delivered ≡ count_by is_delivery (asks_in config r.receipts.items)
 

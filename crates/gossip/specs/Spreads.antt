@@ -36,9 +36,9 @@ shifts_of k name = shifts_in k.config name (shares_of k name) 16
 
 -- the calls were shifts of the shares of what a lawful node had at one time, in order, and but for out of memory each
 -- shift was made or refused
-abbrev pub Spreads : Config → List ℕ → GossipReport → Type 0
-Spreads config name r =
-    (c : Cell) × IsLawfulAt config c
+abbrev pub Spreads : Config → List ℕ → List ℕ → GossipReport → Type 0
+Spreads config seed name r =
+    (c : Cell) × IsLawfulAt config seed c
     × IsPartOf (own_asks_in config r.receipts.items) (shifts_of c.node name)
     × (r.ended ≡ Done → length r.receipts.items + r.refused ≡ length (shifts_of c.node name))
 

@@ -33,7 +33,7 @@ pub fn gossip_rounds<L: Label, W: Wire, R: Wait>(
     wire: &mut W,
     rounds: u32,
 ) -> GossipReport
-    ensures told { IsTold L.config seat.old seat.new result }
+    ensures told { IsTold L.config L.seed seat.old seat.new result }
     // What the node was asked beside taking messages in.
     ensures emits { IsPartOf (own_asks_in L.config result.receipts.items)
         (emits_of_rounds L.config rounds) }
@@ -67,7 +67,7 @@ fn do_rounds<L: Label, W: Wire, R: Wait>(
 ) -> Result<(), AllocError>
     requires place { (node ≡ L.config.node) × (nodes ≡ L.config.nodes) }
     requires room { calls_of report.old ≡ 0 }
-    ensures adds { Adds L.config seat.old seat.new report.old report.new
+    ensures adds { Adds L.config L.seed seat.old seat.new report.old report.new
         (emits_of_rounds L.config rounds) }
     ensures tried { OnOk result (tried_of report.old + length (emits_of_rounds L.config rounds)
         ≤ tried_of report.new) }
@@ -91,7 +91,7 @@ fn round<L: Label, W: Wire, R: Wait>(
 ) -> Result<(), AllocError>
     requires place { (node ≡ L.config.node) × (nodes ≡ L.config.nodes) }
     requires room { calls_of report.old < 2 ^ 62 }
-    ensures adds { Adds L.config seat.old seat.new report.old report.new
+    ensures adds { Adds L.config L.seed seat.old seat.new report.old report.new
         (emits_below L.config L.config.nodes) }
     ensures tried { OnOk result (tried_of report.old + length (emits_below L.config L.config.nodes)
         ≤ tried_of report.new) }
@@ -113,7 +113,7 @@ fn tell<L: Label, W: Wire, R: Wait>(
 ) -> Result<(), AllocError>
     requires place { (node ≡ L.config.node) × (nodes ≡ L.config.nodes) }
     requires room { calls_of report.old < 2 ^ 62 }
-    ensures adds { Adds L.config seat.old seat.new report.old report.new
+    ensures adds { Adds L.config L.seed seat.old seat.new report.old report.new
         (emits_below L.config L.config.nodes) }
     ensures tried { OnOk result (tried_of report.old + length (emits_below L.config L.config.nodes)
         ≤ tried_of report.new) }
@@ -137,7 +137,8 @@ fn tell_one<L: Label, W: Wire, R: Wait>(
     report: &mut GossipReport,
 ) -> Result<(), AllocError>
     requires { calls_of report.old < 2 ^ 63 }
-    ensures adds { Adds L.config seat.old seat.new report.old report.new (bare_emit to ∷ []) }
+    ensures adds { Adds L.config L.seed seat.old seat.new
+        report.old report.new (bare_emit to ∷ []) }
     ensures tried { OnOk result (tried_of report.old + 1 ≤ tried_of report.new) }
     ensures few { calls_of report.new ≤ calls_of report.old + 1 }
 {
@@ -162,7 +163,7 @@ fn send<L: Label, W: Wire, R: Wait>(
     to: u8,
     receipt: &Receipt,
 ) -> Result<(), WireError>
-    requires given { IsGiven L.config receipt.now }
+    requires given { IsGiven L.config L.seed receipt.now }
     requires emit { is_emit (asked_in L.config receipt.now) ≡ true }
 {
     match &receipt.entry.reply {
@@ -179,7 +180,7 @@ fn hear<L: Label, W: Wire, R: Wait>(
     report: &mut GossipReport,
 ) -> Result<(), AllocError>
     requires { calls_of report.old < 2 ^ 63 }
-    ensures adds { Adds L.config seat.old seat.new report.old report.new [] }
+    ensures adds { Adds L.config L.seed seat.old seat.new report.old report.new [] }
     ensures tried { tried_of report.old ≤ tried_of report.new }
     ensures few { calls_of report.new ≤ calls_of report.old + MOST_TAKEN }
 {
@@ -200,7 +201,7 @@ fn hear_one<L: Label, W: Wire, R: Wait>(
     report: &mut GossipReport,
 ) -> Result<bool, AllocError>
     requires { calls_of report.old < 2 ^ 64 - 1 }
-    ensures adds { Adds L.config seat.old seat.new report.old report.new [] }
+    ensures adds { Adds L.config L.seed seat.old seat.new report.old report.new [] }
     ensures tried { tried_of report.old ≤ tried_of report.new }
     ensures few { calls_of report.new ≤ calls_of report.old + 1 }
 {
@@ -224,7 +225,7 @@ fn take_in<L: Label, R: Wait>(
 ) -> Result<(), AllocError>
     requires room { vec_len report.old.receipts < vec_capacity report.old.receipts }
     requires few { calls_of report.old < 2 ^ 64 - 1 }
-    ensures adds { Adds L.config seat.old seat.new report.old report.new [] }
+    ensures adds { Adds L.config L.seed seat.old seat.new report.old report.new [] }
     ensures tried { tried_of report.old ≤ tried_of report.new }
     ensures few { calls_of report.new ≤ calls_of report.old + 1 }
 {

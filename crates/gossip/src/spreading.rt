@@ -27,8 +27,8 @@ pub fn spread<L: Label, R: Wait>(
     seat: &mut Seat<L>,
     name: &str,
 ) -> GossipReport
-    ensures told { IsTold L.config seat.old seat.new result }
-    ensures spread { Spreads L.config name.now result ⊎ SpreadsNothing name.now result }
+    ensures told { IsTold L.config L.seed seat.old seat.new result }
+    ensures spread { Spreads L.config L.seed name.now result ⊎ SpreadsNothing name.now result }
     ensures no_message { HasNoMessage result }
 {
     let caller = Caller {
@@ -95,7 +95,7 @@ fn shift_all<L: Label, R: Wait>(
 ) -> Result<(), AllocError>
     requires config { shares.now.config ≡ L.config }
     requires few { report.old.refused ≡ 0 }
-    ensures adds { Adds L.config seat.old seat.new report.old report.new
+    ensures adds { Adds L.config L.seed seat.old seat.new report.old report.new
         (shifts_in L.config name.now shares.now.amounts 16) }
     ensures emitted { report.new.emitted ≡ report.old.emitted }
     ensures delivered { report.new.delivered ≡ report.old.delivered }
@@ -121,7 +121,8 @@ fn shift_term<L: Label, R: Wait>(
     requires config { shares.now.config ≡ L.config }
     requires term { term < 16 }
     requires few { report.old.refused < 2 ^ 63 }
-    ensures adds { Adds L.config seat.old seat.new report.old report.new (shifts_below L.config
+    ensures adds { Adds L.config L.seed seat.old seat.new
+        report.old report.new (shifts_below L.config
         name.now term (slice_index shares.now.amounts term) L.config.nodes) }
     ensures emitted { report.new.emitted ≡ report.old.emitted }
     ensures delivered { report.new.delivered ≡ report.old.delivered }
@@ -153,7 +154,7 @@ fn shift_one<L: Label, R: Wait>(
     report: &mut GossipReport,
 ) -> Result<(), AllocError>
     requires { report.old.refused + 1 < 2 ^ 64 }
-    ensures adds { Adds L.config seat.old seat.new report.old report.new
+    ensures adds { Adds L.config L.seed seat.old seat.new report.old report.new
         (asks.Shift name.now term to amount ∷ []) }
     ensures emitted { report.new.emitted ≡ report.old.emitted }
     ensures delivered { report.new.delivered ≡ report.old.delivered }

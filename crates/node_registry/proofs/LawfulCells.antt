@@ -1,10 +1,8 @@
 -- A lawful cell stays lawful.
-use Rattle.std.proofs.Common.{◌≡◌, ℕ, ◌+◌, ◌*◌, ◌<◌, ◌≤◌, ◌^◌, Bool, true, false, List, [], ◌∷◌, ◌++◌, length, Option, Some, None, Result, Ok, Err, refl, sym, ap, ◌∙◌, subst, arith, length-append, append_assoc, append-nil}
-use Rattle.std.specs.Prelude.{nat_le}
+use Rattle.std.proofs.Common.{◌≡◌, ℕ, ◌+◌, ◌<◌, ◌^◌, Bool, true, false, List, [], ◌∷◌, ◌++◌, length, Option, None, Result, Ok, Err, refl, sym, ap, ◌∙◌, subst, arith, length-append, append_assoc, append-nil}
 use Rattle.std.proofs.lemmas.Bool.Decides.{nat_tests}
 use Rattle.std.specs.Bool.{then_some}
 use Rattle.refusals.specs.Refusals.{first_fault}
-use Rattle.rand_chacha.specs.ChaCha.{ChaCha}
 use Rattle.node_calls.specs.declared.ask.Ask.{Ask}
 use Rattle.node_calls.specs.declared.ask.Ask.TheVariants as asked
 use Rattle.node_core.specs.declared.config.Config.{Config}
@@ -17,15 +15,15 @@ use Rattle.message_format.specs.declared.fault.WireFault.{WireFault}
 use Rattle.node_calls.specs.Asks.{Asked, Call, ask_value, ask_value_first, emit_asked, emit_of, message_read, Message}
 use Rattle.node_calls.specs.Asks as asks
 use Rattle.node_calls.specs.Told.{ask_told}
-use Rattle.node_core.specs.Nodes.{Node, start}
-use Rattle.node_core.specs.Steps.{after, reply}
+use Rattle.node_core.specs.Nodes.{start}
+use Rattle.node_core.specs.Steps.{reply}
 use Rattle.node_core.specs.Refusals.{refusal_at, is_full}
-use Rattle.node_core.specs.Traces.{Kept, SendsDelta, IsLegal, IsLegalFrom, Accepts, Records, node_of, refusal, entry_for, after_call, call_of, replay_from}
+use Rattle.node_core.specs.Traces.{Kept, SendsDelta, node_of, refusal, entry_for, after_call, call_of}
 use Rattle.node_core.proofs.LegalTraces.{legal_more, nothing_legal}
 use Rattle.node_core.proofs.RepliedDelta.{call_sends}
-use Rattle.node_core.specs.Words.{words_from, words_next, place_after}
+use Rattle.node_core.specs.Words.{words_from}
 use Rattle.node_registry.specs.Words.{words_of, words_taken}
-use Rattle.node_registry.specs.Cells.{Cell, cell_of, new_cell, next_words, Enters, IsLawful, IsWithinBounds}
+use Rattle.node_registry.specs.Cells.{Cell, new_cell, next_words, Enters, IsLawful, IsWithinBounds}
 use Rattle.node_core.proofs.StreamWords.{words_from-add}
 
 -- the random draws of a trace with a call more

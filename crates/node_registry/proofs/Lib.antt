@@ -2,3 +2,4 @@ pub mod LawfulCells
 pub mod EnteredCells
 pub mod GivenReceipts
 pub mod WorkersLemmas
+pub mod SeatReceipts

@@ -7,7 +7,7 @@ use Rattle.node_calls.specs.declared.ask.Ask.{Ask}
 use Rattle.node_calls.specs.declared.reply.Reply.{Reply}
 use Rattle.node_calls.specs.declared.trace.Entry.{Entry}
 use Rattle.node_core.specs.Applied.{TellsIfEmit}
-use Rattle.node_calls.specs.Asks.{Asked}
+use Rattle.node_calls.specs.Asks.{Asked, Call}
 use Rattle.node_calls.specs.Told.{ask_told}
 use Rattle.node_core.specs.Traces.{Kept, IsLegal, IsRefusalOf, Records, call_of}
 use Rattle.node_core.specs.Words.{words_from}
@@ -51,9 +51,13 @@ pub record IsLawful (c : Cell) : Type 0 where
   pub legal : IsLegal c.node.config c.node.trace
   pub drawn : words_of c.node.trace ≡ words_from c.key c.node.config.node 0 c.place
 
--- a lawful cell of a node of this configuration
-abbrev pub IsLawfulAt : Config → Cell → Type 0
-IsLawfulAt config c = IsLawful c × (c.node.config ≡ config)
+-- a lawful cell of a node of this configuration, whose key is that of this seed
+abbrev pub IsLawfulAt : Config → List ℕ → Cell → Type 0
+IsLawfulAt config seed c = IsLawful c × (c.node.config ≡ config) × (c.key ≡ key_of seed)
+
+-- the random draws of a trace are the first ones of this seed, on the stream of the node's number
+abbrev pub IsDrawnBy : Config → List ℕ → List Call → Type 0
+IsDrawnBy config seed trace = (n : ℕ) × (words_of trace ≡ words_from (key_of seed) config.node 0 n)
 
 -- there are few calls, and so few words that the stream has more
 pub record IsWithinBounds (c : Cell) : Type 0 where

@@ -1,5 +1,5 @@
 -- What a caller is told.
-use Rattle.std.specs.Prelude.{◌≡◌, ℕ, length}
+use Rattle.std.specs.Prelude.{◌≡◌, ◌≤◌, ℕ, ◌+◌, List, [], ◌∷◌, length}
 use Rattle.node_calls.specs.declared.ask.Ask.{Ask}
 use Rattle.node_core.specs.declared.config.Config.{Config}
 use Rattle.node_calls.specs.declared.fault.NodeFault.{NodeFault}
@@ -24,15 +24,22 @@ abbrev pub IsReceiptOf : Config → Asked → Receipt → Type 0
 IsReceiptOf config ask r = (r.node ≡ config.node) × (ask_value config.nodes r.entry.ask r.entry.reply ≡ ask)
 
 -- some lawful cell of the node accepts the call of the entry, and this is the receipt
-abbrev pub IsGiven : Config → Receipt → Type 0
-IsGiven config r =
-    (c : Cell) × (d : Cell) × IsLawfulAt config c × Enters c d r.entry × (r ≡ receipt_of c r.entry)
+abbrev pub IsGiven : Config → List ℕ → Receipt → Type 0
+IsGiven config seed r =
+    (c : Cell) × (d : Cell) × IsLawfulAt config seed c × Enters c d r.entry × (r ≡ receipt_of c r.entry)
 
 -- so is an ask answered: some receipt of it may be given that has this reply
-abbrev pub IsAnswered : Config → Ask → Reply → Type 0
-IsAnswered config ask reply =
-    (r : Receipt) × (r.node ≡ config.node) × (r.entry.ask ≡ ask) × (r.entry.reply ≡ reply) × IsGiven config r
+abbrev pub IsAnswered : Config → List ℕ → Ask → Reply → Type 0
+IsAnswered config seed ask reply =
+    (r : Receipt) × (r.node ≡ config.node) × (r.entry.ask ≡ ask) × (r.entry.reply ≡ reply) × IsGiven config seed r
 
 -- some lawful cell of the node refuses the ask so
-abbrev pub IsRefused : Config → Asked → NodeFault → Type 0
-IsRefused config ask fault = (c : Cell) × IsLawfulAt config c × IsRefusedBy c ask fault
+abbrev pub IsRefused : Config → List ℕ → Asked → NodeFault → Type 0
+IsRefused config seed ask fault = (c : Cell) × IsLawfulAt config seed c × IsRefusedBy c ask fault
+
+-- receipts that the node gave a seat that had made so many calls: the next call's first, and each of an
+-- entry behind as many as the seat had made calls
+abbrev pub AreGivenSince : Config → List ℕ → ℕ → List Receipt → Type 0
+AreGivenSince config seed calls [] = Unit {0}
+AreGivenSince config seed calls (r ∷ rs) =
+    IsGiven config seed r × (calls ≤ r.index) × AreGivenSince config seed (calls + 1) rs

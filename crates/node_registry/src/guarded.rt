@@ -2,10 +2,12 @@
 
 ghost use Rattle.std.specs.Prelude.{◌≡◌, ℕ, ◌+◌, ◌≤◌, ◌<◌, ◌⊎◌, length, map, sum, vec_len, All};
 ghost use Rattle.std.specs.Prelude.{IfOk, IfErr, OnErr, OnOk, IsTrue, false};
+ghost use Rattle.rand_chacha.specs.ChaCha.{key_of};
 ghost use Rattle.node_calls.specs.Asks.{ask_value_first, call};
 ghost use Rattle.node_core.specs.Refusals.{is_bad_config};
 ghost use Rattle.node_core.specs.Traces.{IsLegal};
-ghost use Rattle.node_registry.specs.Cells.{Cell, Enters, IsLawfulAt, IsRefusedBy, Submits, new_cell};
+ghost use Rattle.node_registry.specs.Cells.{Cell, Enters, IsDrawnBy, IsLawfulAt, IsRefusedBy};
+ghost use Rattle.node_registry.specs.Cells.{Submits, new_cell};
 ghost use Rattle.node_registry.specs.Receipts.{IsEntryFor, receipt_of};
 
 use crate::cell::NodeCell;
@@ -54,7 +56,7 @@ impl<L: Label> Model for Guarded<L> {
     ghost view = { λ g. g.cell };
 
     ghost invariant = { λ g. (g.book.total ≡ length g.cell.node.trace)
-        × (g.cell.node.config ≡ L.config) };
+        × (g.cell.node.config ≡ L.config) × (g.cell.key ≡ key_of L.seed) };
 }
 
 /// What is left of a registry: the trace of its node, and how many calls were accepted from its
@@ -77,6 +79,7 @@ impl<L: Label> Guarded<L> {
         requires name { blank.name ≡ L.name }
         requires parts { (blank.parts ≡ L.parts) × (L.parts ≡ seats) × (0 < seats) }
         requires config { config ≡ L.config }
+        requires seed { seed ≡ L.seed }
         ensures ok { IfOk result (λ r. r.0 ≡ new_cell config seed) }
         ensures seats { IfOk result (λ r.
             (vec_len r.1 ≡ seats) × All (λ calls. calls ≡ 0) r.1.items) }
@@ -93,7 +96,7 @@ impl<L: Label> Guarded<L> {
     /// The node, which is the label's.
     pub fn core(&self) -> &NodeCore
         ensures core { result.now ≡ self.now.node }
-        ensures lawful { IsLawfulAt L.config self.now }
+        ensures lawful { IsLawfulAt L.config L.seed self.now }
     {
         self.cell.core()
     }
@@ -130,7 +133,7 @@ impl<L: Label> Guarded<L> {
         ensures receipt { IfOk result (λ r. r ≡ receipt_of self.old r.entry) }
         ensures counted { OnOk result (seat.new ≡ seat.old + 1) }
         ensures since { OnOk result (seat.old ≤ length self.old.node.trace) }
-        ensures lawful { IsLawfulAt L.config self.old }
+        ensures lawful { IsLawfulAt L.config L.seed self.old }
         ensures refused { IfErr result
             (IsRefusedBy self.old (ask_value_first self.old.node.config.nodes ask)) }
         ensures err { OnErr result ((self.new ≡ self.old) × (seat.new ≡ seat.old)) }
@@ -157,7 +160,7 @@ impl<L: Label> Guarded<L> {
         ensures ok { IfOk result (λ r. Submits self.old self.new ask r) }
         ensures counted { OnOk result (seat.new ≡ seat.old + 1) }
         ensures since { OnOk result (seat.old ≤ length self.old.node.trace) }
-        ensures lawful { IsLawfulAt L.config self.old }
+        ensures lawful { IsLawfulAt L.config L.seed self.old }
         ensures refused { IfErr result
             (IsRefusedBy self.old (ask_value_first self.old.node.config.nodes ask)) }
         ensures err { OnErr result ((self.new ≡ self.old) × (seat.new ≡ seat.old)) }
@@ -173,12 +176,14 @@ impl<L: Label> Guarded<L> {
         Ok(reply)
     }
 
-    /// Takes all seats back. The trace is legal, and has as many entries as the seats made calls.
+    /// Takes all seats back. The trace is legal, has as many entries as the seats made calls, and its
+    /// random draws are the first ones of the seed.
     pub fn close(self, seats: Vec<Seat<L>>) -> Closed
         requires all { vec_len seats ≡ L.parts }
         requires some { 0 < L.parts }
         ensures trace { map (call L.config.nodes) result.trace.items ≡ self.node.trace }
         ensures legal { IsLegal L.config (map (call L.config.nodes) result.trace.items) }
+        ensures drawn { IsDrawnBy L.config L.seed (map (call L.config.nodes) result.trace.items) }
         ensures entries { length result.trace.items ≡ result.calls }
         ensures calls { result.calls ≡ sum seats.items }
     {

@@ -3,14 +3,22 @@
 use std::marker::Brand;
 use std::sync::ledger::Ledger;
 
-/// Names one registry: the ledger of its calls, cut into as many parts as the registry has seats,
-/// and the configuration of its node. So a seat belongs to its registry by its type.
+/// Names one registry: the ledger of its calls, cut into as many parts as the registry has seats, the
+/// configuration of its node, and the seed of its random draws. So a seat belongs to its registry by
+/// its type.
 pub trait Label: Ledger {
+    ghost use Rattle.std.specs.Prelude.{ℕ, List};
     ghost use Rattle.node_core.specs.declared.config.Config.{Config};
 
     ghost config: { Config };
+
+    ghost seed: { List ℕ };
 }
 
 impl Label for Brand {
+    ghost use Rattle.std.specs.Prelude.{[]};
+
     ghost config = { record { node = 0; nodes = 1; trace_cap = 0 } };
+
+    ghost seed = { [] };
 }

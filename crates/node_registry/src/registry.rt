@@ -9,8 +9,9 @@ ghost use Rattle.node_calls.specs.Told.{ask_told, bytes_of};
 ghost use Rattle.node_calls.specs.Asks.{emit_asked, message_read};
 ghost use Rattle.node_core.specs.Refusals.{is_bad_config};
 ghost use Rattle.node_core.specs.Traces.{IsLegal};
-ghost use Rattle.node_registry.specs.Cells.{Cell, IsLawfulAt};
-ghost use Rattle.node_registry.specs.Receipts.{IsAnswered, IsEntryFor, IsGiven, IsReceiptOf, IsRefused};
+ghost use Rattle.node_registry.specs.Cells.{Cell, IsDrawnBy, IsLawfulAt};
+ghost use Rattle.node_registry.specs.Receipts.{IsAnswered, IsEntryFor, IsGiven, IsReceiptOf};
+ghost use Rattle.node_registry.specs.Receipts.{IsRefused};
 
 use crate::guarded::{Closed, Guarded, Seat};
 use crate::label::Label;
@@ -43,6 +44,7 @@ impl<L: Label> Registry<L> {
         requires name { blank.name ≡ L.name }
         requires parts { (blank.parts ≡ L.parts) × (L.parts ≡ seats) × (0 < seats) }
         requires config { config ≡ L.config }
+        requires seed { seed ≡ L.seed }
         ensures seats { IfOk result (λ r.
             (vec_len r.1 ≡ seats) × All (λ calls. calls ≡ 0) r.1.items) }
         ensures good { OnOk result (is_bad_config config ≡ false) }
@@ -80,11 +82,11 @@ impl<L: Label> Registry<L> {
     ) -> Result<Receipt, NodeFault>
         ensures receipt { IfOk result (λ r. (r.node ≡ L.config.node)
             × IsEntryFor L.config.nodes ask.now r.entry) }
-        ensures given { IfOk result (IsGiven L.config) }
+        ensures given { IfOk result (IsGiven L.config L.seed) }
         ensures since { IfOk result (λ r. seat.old ≤ r.index) }
         ensures counted { OnOk result (seat.new ≡ seat.old + 1) }
         ensures refused { IfErr result
-            (IsRefused L.config (ask_value_first L.config.nodes ask.now)) }
+            (IsRefused L.config L.seed (ask_value_first L.config.nodes ask.now)) }
         ensures err { OnErr result (seat.new ≡ seat.old) }
     {
         let copy = ask.copied(alloc)?;
@@ -101,11 +103,11 @@ impl<L: Label> Registry<L> {
     ) -> Result<Receipt, NodeFault>
         ensures node { IfOk result (λ r. r.node ≡ L.config.node) }
         ensures asked { IfOk result (λ r. r.entry.ask ≡ ask) }
-        ensures given { IfOk result (IsGiven L.config) }
+        ensures given { IfOk result (IsGiven L.config L.seed) }
         ensures since { IfOk result (λ r. seat.old ≤ r.index) }
         ensures counted { OnOk result (seat.new ≡ seat.old + 1) }
         ensures refused { IfErr result
-            (IsRefused L.config (ask_value_first L.config.nodes ask)) }
+            (IsRefused L.config L.seed (ask_value_first L.config.nodes ask)) }
         ensures err { OnErr result (seat.new ≡ seat.old) }
     {
         let mut guarded = self.held(rt);
@@ -122,10 +124,10 @@ impl<L: Label> Registry<L> {
         seat: &mut Seat<L>,
         ask: Ask,
     ) -> Result<Reply, NodeFault>
-        ensures answered { IfOk result (IsAnswered L.config ask) }
+        ensures answered { IfOk result (IsAnswered L.config L.seed ask) }
         ensures counted { OnOk result (seat.new ≡ seat.old + 1) }
         ensures refused { IfErr result
-            (IsRefused L.config (ask_value_first L.config.nodes ask)) }
+            (IsRefused L.config L.seed (ask_value_first L.config.nodes ask)) }
         ensures err { OnErr result (seat.new ≡ seat.old) }
     {
         let mut guarded = self.held(rt);
@@ -142,10 +144,10 @@ impl<L: Label> Registry<L> {
         text: &str,
     ) -> Result<Receipt, NodeFault>
         ensures receipt { IfOk result (IsReceiptOf L.config (asks.Set name.now text.now)) }
-        ensures given { IfOk result (IsGiven L.config) }
+        ensures given { IfOk result (IsGiven L.config L.seed) }
         ensures since { IfOk result (λ r. seat.old ≤ r.index) }
         ensures counted { OnOk result (seat.new ≡ seat.old + 1) }
-        ensures refused { IfErr result (IsRefused L.config (asks.Set name.now text.now)) }
+        ensures refused { IfErr result (IsRefused L.config L.seed (asks.Set name.now text.now)) }
         ensures err { OnErr result (seat.new ≡ seat.old) }
     {
         let name = String::from_str(alloc, name)?;
@@ -163,10 +165,10 @@ impl<L: Label> Registry<L> {
         name: &str,
     ) -> Result<Receipt, NodeFault>
         ensures receipt { IfOk result (IsReceiptOf L.config (asks.Remove name.now)) }
-        ensures given { IfOk result (IsGiven L.config) }
+        ensures given { IfOk result (IsGiven L.config L.seed) }
         ensures since { IfOk result (λ r. seat.old ≤ r.index) }
         ensures counted { OnOk result (seat.new ≡ seat.old + 1) }
-        ensures refused { IfErr result (IsRefused L.config (asks.Remove name.now)) }
+        ensures refused { IfErr result (IsRefused L.config L.seed (asks.Remove name.now)) }
         ensures err { OnErr result (seat.new ≡ seat.old) }
     {
         let name = String::from_str(alloc, name)?;
@@ -183,10 +185,10 @@ impl<L: Label> Registry<L> {
         text: &str,
     ) -> Result<Receipt, NodeFault>
         ensures receipt { IfOk result (IsReceiptOf L.config (asks.Load text.now)) }
-        ensures given { IfOk result (IsGiven L.config) }
+        ensures given { IfOk result (IsGiven L.config L.seed) }
         ensures since { IfOk result (λ r. seat.old ≤ r.index) }
         ensures counted { OnOk result (seat.new ≡ seat.old + 1) }
-        ensures refused { IfErr result (IsRefused L.config (asks.Load text.now)) }
+        ensures refused { IfErr result (IsRefused L.config L.seed (asks.Load text.now)) }
         ensures err { OnErr result (seat.new ≡ seat.old) }
     {
         let text = String::from_str(alloc, text)?;
@@ -203,10 +205,10 @@ impl<L: Label> Registry<L> {
         name: &str,
     ) -> Result<Receipt, NodeFault>
         ensures receipt { IfOk result (IsReceiptOf L.config (asks.Pass name.now)) }
-        ensures given { IfOk result (IsGiven L.config) }
+        ensures given { IfOk result (IsGiven L.config L.seed) }
         ensures since { IfOk result (λ r. seat.old ≤ r.index) }
         ensures counted { OnOk result (seat.new ≡ seat.old + 1) }
-        ensures refused { IfErr result (IsRefused L.config (asks.Pass name.now)) }
+        ensures refused { IfErr result (IsRefused L.config L.seed (asks.Pass name.now)) }
         ensures err { OnErr result (seat.new ≡ seat.old) }
     {
         let name = String::from_str(alloc, name)?;
@@ -226,10 +228,11 @@ impl<L: Label> Registry<L> {
         amount: u64,
     ) -> Result<Receipt, NodeFault>
         ensures receipt { IfOk result (IsReceiptOf L.config (asks.Shift name.now term to amount)) }
-        ensures given { IfOk result (IsGiven L.config) }
+        ensures given { IfOk result (IsGiven L.config L.seed) }
         ensures since { IfOk result (λ r. seat.old ≤ r.index) }
         ensures counted { OnOk result (seat.new ≡ seat.old + 1) }
-        ensures refused { IfErr result (IsRefused L.config (asks.Shift name.now term to amount)) }
+        ensures refused { IfErr result
+            (IsRefused L.config L.seed (asks.Shift name.now term to amount)) }
         ensures err { OnErr result (seat.new ≡ seat.old) }
     {
         let name = String::from_str(alloc, name)?;
@@ -253,10 +256,11 @@ impl<L: Label> Registry<L> {
         amount: u64,
     ) -> Result<Receipt, NodeFault>
         ensures receipt { IfOk result (IsReceiptOf L.config (asks.Grant name.now term amount)) }
-        ensures given { IfOk result (IsGiven L.config) }
+        ensures given { IfOk result (IsGiven L.config L.seed) }
         ensures since { IfOk result (λ r. seat.old ≤ r.index) }
         ensures counted { OnOk result (seat.new ≡ seat.old + 1) }
-        ensures refused { IfErr result (IsRefused L.config (asks.Grant name.now term amount)) }
+        ensures refused { IfErr result
+            (IsRefused L.config L.seed (asks.Grant name.now term amount)) }
         ensures err { OnErr result (seat.new ≡ seat.old) }
     {
         let name = String::from_str(alloc, name)?;
@@ -274,10 +278,10 @@ impl<L: Label> Registry<L> {
     ) -> Result<Receipt, NodeFault>
         ensures receipt { IfOk result (λ r.
             IsReceiptOf L.config (emit_asked L.config.nodes to r.entry.reply) r) }
-        ensures given { IfOk result (IsGiven L.config) }
+        ensures given { IfOk result (IsGiven L.config L.seed) }
         ensures since { IfOk result (λ r. seat.old ≤ r.index) }
         ensures counted { OnOk result (seat.new ≡ seat.old + 1) }
-        ensures refused { IfErr result (IsRefused L.config (bare_emit to)) }
+        ensures refused { IfErr result (IsRefused L.config L.seed (bare_emit to)) }
         ensures err { OnErr result (seat.new ≡ seat.old) }
     {
         let ask = Ask::Emit { to };
@@ -295,11 +299,11 @@ impl<L: Label> Registry<L> {
         ensures receipt { IfOk result
             (IsReceiptOf L.config (asks.Deliver (message_read L.config.nodes message.now))) }
         ensures bytes { IfOk result (λ r. bytes_of (ask_told r.entry.ask) ≡ message.now) }
-        ensures given { IfOk result (IsGiven L.config) }
+        ensures given { IfOk result (IsGiven L.config L.seed) }
         ensures since { IfOk result (λ r. seat.old ≤ r.index) }
         ensures counted { OnOk result (seat.new ≡ seat.old + 1) }
         ensures refused { IfErr result
-            (IsRefused L.config (asks.Deliver (message_read L.config.nodes message.now))) }
+            (IsRefused L.config L.seed (asks.Deliver (message_read L.config.nodes message.now))) }
         ensures err { OnErr result (seat.new ≡ seat.old) }
     {
         let message = Vec::from_slice(alloc, message)?;
@@ -311,17 +315,20 @@ impl<L: Label> Registry<L> {
     /// its trace is legal, and its passes were given the random draws of the stream in order.
     pub fn with<R: Wait, T, F: FnOnce(&NodeCore) -> T>(&self, rt: &R, f: F) -> T
         requires { F.IsAlwaysCallable f }
-        ensures { (c : Cell) × IsLawfulAt L.config c × FnOnceReturnsAt F.FnOnce f c.node result }
+        ensures { (c : Cell) × IsLawfulAt L.config L.seed c
+            × FnOnceReturnsAt F.FnOnce f c.node result }
     {
         let guarded = self.held(rt);
         f(guarded.core())
     }
 
-    /// Takes all seats back. The trace is legal, and has as many entries as the seats made calls.
+    /// Takes all seats back. The trace is legal, has as many entries as the seats made calls, and its
+    /// random draws are the first ones of the seed.
     pub fn close(self, seats: Vec<Seat<L>>) -> Closed
         requires all { vec_len seats ≡ L.parts }
         requires some { 0 < L.parts }
         ensures legal { IsLegal L.config (map (call L.config.nodes) result.trace.items) }
+        ensures drawn { IsDrawnBy L.config L.seed (map (call L.config.nodes) result.trace.items) }
         ensures entries { length result.trace.items ≡ result.calls }
         ensures calls { result.calls ≡ sum seats.items }
     {

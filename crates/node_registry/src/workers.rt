@@ -2,9 +2,9 @@
 
 ghost use Rattle.std.specs.Prelude.{◌≡◌, ℕ, [], ◌+◌, ◌≤◌, ◌<◌, ◌^◌, ◌⊎◌, ◌++◌, length, IfOk, IfErr};
 ghost use Rattle.std.specs.Prelude.{OnErr, OnOk, MatchResult, map, reverse, vec_len, vec_capacity};
-ghost use Rattle.std.specs.Prelude.{sum, All};
+ghost use Rattle.std.specs.Prelude.{false, sum, All};
 ghost use Rattle.std.specs.List.{AllZip};
-ghost use Rattle.node_registry.specs.Workers.{IsDone};
+ghost use Rattle.node_registry.specs.Workers.{AllNumbered, IsDone};
 
 use crate::guarded::Seat;
 use crate::label::Label;
@@ -12,6 +12,7 @@ use crate::registry::Registry;
 use node_core::{Ask, NodeFault, Receipt};
 use std::alloc::{AllocError, Global};
 use std::marker::PhantomData;
+use std::snapshot::Snapshot;
 use std::sync::Wait;
 use std::sync::atomic::{AtomicU64, Ordering};
 use std::thread;
@@ -20,11 +21,22 @@ use std::thread::{Promise, PromisedHandle, Scope, Threads};
 /// Says when a worker may make a call, and is told when the call was answered. Workers are numbered
 /// from 0 in the order of their jobs, and calls from 0 in the order of the worker's asks.
 pub trait Gate {
-    /// Asked before each call. At false the worker ends.
-    fn turn(&self, worker: u16, index: u32) -> bool;
+    ghost use Rattle.std.specs.Prelude.{ℕ, Bool, true};
 
-    /// Told after each call.
-    fn answered(&self, worker: u16, index: u32);
+    /// What an answer to a worker's turn says. So a clause can tell for which turns the gate was asked.
+    ghost says: { Self → ℕ → ℕ → Bool → Type 0 } = { λ _ _ _ _. Unit {0} };
+
+    /// What was said by telling that a worker's call was answered.
+    ghost hears: { Self → ℕ → ℕ → Type 0 } = { λ _ _ _. Unit {0} };
+
+    /// Asked before each call. At false the worker ends.
+    fn turn(&self, worker: u16, index: u32) -> bool
+        ensures { says self.now worker index result };
+
+    /// Told after each call, and of no other.
+    fn answered(&self, worker: u16, index: u32)
+        requires { says self.now worker index true }
+        ensures { hears self.now worker index };
 }
 
 /// The calls of one worker, which are made in their order.
@@ -67,7 +79,8 @@ fn work<L: Label, G: Gate, R: Wait>(
     worker: u16,
     task: Task<'_, L>,
 ) -> Done<L>
-    ensures { IsDone L.config.node task.entry.job.seat result.seat result.receipts.items }
+    ensures { IsDone L.config L.seed (G.says gate.now worker) (G.hears gate.now worker)
+        task.entry.job.seat task.entry.job.asks.items result }
 {
     let Task {
         job,
@@ -101,7 +114,9 @@ fn work<L: Label, G: Gate, R: Wait>(
 
 // A job that made no call.
 fn idle<L: Label>(task: Task<'_, L>) -> Done<L>
-    ensures { IsDone L.config.node task.entry.job.seat result.seat result.receipts.items }
+    ensures started { result.started ≡ false }
+    ensures seat { result.seat ≡ task.entry.job.seat }
+    ensures none { (result.receipts.items ≡ []) × (result.faults.items ≡ []) }
 {
     let Task {
         job,
@@ -131,7 +146,8 @@ fn run<L: Label, G: Gate, R: Wait>(
     worker: u16,
     task: Task<'_, L>,
 ) -> Done<L>
-    ensures { IsDone L.config.node task.entry.job.seat result.seat result.receipts.items }
+    ensures { IsDone L.config L.seed (G.says gate.now worker) (G.hears gate.now worker)
+        task.entry.job.seat task.entry.job.asks.items result }
 {
     if refused.load(Ordering::SeqCst) == u64::from(worker) + 1 {
         idle(task)
@@ -140,19 +156,24 @@ fn run<L: Label, G: Gate, R: Wait>(
     }
 }
 
-// A worker's result has as many receipts as its seat's calls grew from `was`.
+// The worker of this number makes these asks from a seat that had made so many calls, and asks this
+// gate for each.
 #[derive(Drop)]
-struct Grows<L: Label> {
+struct Does<L: Label, G: Gate> {
+    worker: u16,
+    gate: Snapshot<G>,
     was: u64,
+    asks: Snapshot<Vec<Ask>>,
     of: PhantomData<L>,
 }
 
-impl<L: Label> Promise<Done<L>> for Grows<L> {
-    ghost kept_by = { λ p d. IsDone L.config.node p.was d.seat d.receipts.items };
+impl<L: Label, G: Gate> Promise<Done<L>> for Does<L, G> {
+    ghost kept_by = { λ p d. IsDone L.config L.seed (G.says p.gate.value p.worker)
+        (G.hears p.gate.value p.worker) p.was p.asks.value.items d };
 }
 
 // A worker: its thread, or what it hands back where it has none.
-type Worker<L> = Result<PromisedHandle<Done<L>, Grows<L>>, Done<L>>;
+type Worker<L, G> = Result<PromisedHandle<Done<L>, Does<L, G>>, Done<L>>;
 
 // Starts a worker's thread.
 fn start_one<'s, E, L: Label + Send + Sync + 's, G: Gate + Sync, R: Wait + Sync>(
@@ -163,18 +184,27 @@ fn start_one<'s, E, L: Label + Send + Sync + 's, G: Gate + Sync, R: Wait + Sync>
     refused: &'s AtomicU64,
     worker: u16,
     task: Task<'s, L>,
-) -> Worker<L>
-    ensures { MatchResult result (λ h. h.promise.was ≡ task.entry.job.seat)
-        (λ d. IsDone L.config.node task.entry.job.seat d.seat d.receipts.items) }
+) -> Worker<L, G>
+    ensures { MatchResult result
+        (λ h. (h.promise.worker ≡ worker) × (h.promise.gate.value ≡ gate.now)
+        × (h.promise.was ≡ task.entry.job.seat)
+        × (h.promise.asks.value.items ≡ task.entry.job.asks.items))
+        (λ d. IsDone L.config L.seed (G.says gate.now worker) (G.hears gate.now worker)
+        task.entry.job.seat task.entry.job.asks.items d) }
 {
-    let promise = Grows {
+    let promise = Does {
+        worker,
+        gate: Snapshot::of(gate),
         was: task.job.seat.calls(),
+        asks: Snapshot::of(&task.job.asks),
         of: PhantomData,
     };
     let started = scope.spawn_with(
         promise,
         move || -> Done<L>
-            ensures { IsDone L.config.node task.entry.job.seat result.seat result.receipts.items }
+            ensures { IsDone L.config L.seed (G.says gate.entry.now worker)
+                (G.hears gate.entry.now worker) task.entry.job.seat task.entry.job.asks.items
+                result }
         { run(rt, alloc, gate, refused, worker, task) },
     );
     match started {
@@ -251,9 +281,9 @@ fn prepared<'a, L: Label>(
 
 // The tasks, the last job first, with room for their workers and for what they hand back.
 #[derive(Drop)]
-struct Crew<'a, L: Label> {
+struct Crew<'a, L: Label, G: Gate> {
     tasks: Vec<Task<'a, L>>,
-    workers: Vec<Worker<L>>,
+    workers: Vec<Worker<L, G>>,
     dones: Vec<Done<L>>,
     ghost few: { vec_len tasks ≤ 65536 },
     ghost none: { (vec_len workers ≡ 0) × (vec_len dones ≡ 0) },
@@ -269,14 +299,17 @@ fn start_all<'s, E, L: Label + Send + Sync + 's, G: Gate + Sync, R: Wait + Sync>
     gate: &'s G,
     refused: &'s AtomicU64,
     mut tasks: Vec<Task<'s, L>>,
-    mut workers: Vec<Worker<L>>,
-) -> Vec<Worker<L>>
+    mut workers: Vec<Worker<L, G>>,
+) -> Vec<Worker<L, G>>
     requires few { vec_len tasks ≤ 65536 }
     requires none { workers.items ≡ [] }
     requires room { vec_len tasks ≤ vec_capacity workers }
     ensures len { vec_len result ≡ vec_len tasks.entry }
-    ensures each { AllZip (λ t w. MatchResult w (λ h. h.promise.was ≡ t.job.seat)
-        (λ d. IsDone L.config.node t.job.seat d.seat d.receipts.items))
+    ensures each { AllNumbered (λ n t w. MatchResult w
+        (λ h. (h.promise.worker ≡ n) × (h.promise.gate.value ≡ gate.now)
+        × (h.promise.was ≡ t.job.seat) × (h.promise.asks.value.items ≡ t.job.asks.items))
+        (λ d. IsDone L.config L.seed (G.says gate.now n) (G.hears gate.now n) t.job.seat
+        t.job.asks.items d)) 0
         (reverse tasks.entry.items) result.items }
 {
     let mut number = 0u32;
@@ -289,15 +322,17 @@ fn start_all<'s, E, L: Label + Send + Sync + 's, G: Gate + Sync, R: Wait + Sync>
 }
 
 // Joins all threads.
-fn join_all<L: Label, R: Threads>(
+fn join_all<L: Label, G: Gate, R: Threads>(
     rt: &R,
-    workers: Vec<Worker<L>>,
+    workers: Vec<Worker<L, G>>,
     mut dones: Vec<Done<L>>,
 ) -> Vec<Done<L>>
     requires none { dones.items ≡ [] }
     requires room { vec_len workers ≤ vec_capacity dones }
     ensures { AllZip (λ w d. MatchResult w
-        (λ h. IsDone L.config.node h.promise.was d.seat d.receipts.items) (λ e. d ≡ e))
+        (λ h. IsDone L.config L.seed (G.says h.promise.gate.value h.promise.worker)
+        (G.hears h.promise.gate.value h.promise.worker) h.promise.was
+        h.promise.asks.value.items d) (λ e. d ≡ e))
         workers.items result.items }
 {
     for worker in workers {
@@ -317,10 +352,11 @@ fn run_all<'s, E, L: Label + Send + Sync + 's, G: Gate + Sync, R: Threads + Wait
     alloc: Global,
     gate: &'s G,
     refused: &'s AtomicU64,
-    crew: Crew<'s, L>,
+    crew: Crew<'s, L, G>,
 ) -> Vec<Done<L>>
     ensures len { vec_len result ≡ vec_len crew.entry.tasks }
-    ensures each { AllZip (λ j d. IsDone L.config.node j.seat d.seat d.receipts.items)
+    ensures each { AllNumbered (λ n j d. IsDone L.config L.seed (G.says gate.now n)
+        (G.hears gate.now n) j.seat j.asks.items d) 0
         (map (λ t. t.job) (reverse crew.entry.tasks.items)) result.items }
 {
     let Crew {
@@ -344,8 +380,9 @@ pub fn run_workers<'a, L: Label + Send + Sync, G: Gate + Sync, R: Threads + Wait
     requires number { vec_len jobs ≤ 65536 }
     requires few { All (λ j. vec_len j.asks < 2 ^ 32) jobs.items }
     ensures len { IfOk result (λ ds. vec_len ds ≡ vec_len jobs.entry) }
-    ensures done { IfOk result (λ ds. AllZip
-        (λ j d. IsDone L.config.node j.seat d.seat d.receipts.items) jobs.entry.items ds.items) }
+    ensures done { IfOk result (λ ds. AllNumbered (λ n j d. IsDone L.config
+        L.seed (G.says gate.now n) (G.hears gate.now n) j.seat j.asks.items d) 0
+        jobs.entry.items ds.items) }
     ensures back { IfErr result (λ js. js.items ≡ jobs.entry.items) }
 {
     let Ok(workers) = Vec::with_capacity(alloc, jobs.len()) else {
@@ -367,7 +404,8 @@ pub fn run_workers<'a, L: Label + Send + Sync, G: Gate + Sync, R: Threads + Wait
         rt,
         |scope| -> Vec<Done<L>>
             ensures len { vec_len result ≡ vec_len crew.entry.tasks }
-            ensures each { AllZip (λ j d. IsDone L.config.node j.seat d.seat d.receipts.items)
+            ensures each { AllNumbered (λ n j d. IsDone L.config L.seed (G.says gate.entry.now n)
+                (G.hears gate.entry.now n) j.seat j.asks.items d) 0
                 (map (λ t. t.job) (reverse crew.entry.tasks.items)) result.items }
         { run_all(scope, rt, alloc, gate, refused, crew) },
     ))

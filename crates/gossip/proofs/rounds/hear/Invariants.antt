@@ -7,7 +7,7 @@ abbrev pub invariant-loop-taken : goal.invariant-loop-taken
 invariant-loop-taken g l =
     let config = g.L.Label.config in
     record {
-      adds : Adds config l.initial.seat l.seat l.initial.report l.report [];
+      adds : Adds config g.L.Label.seed l.initial.seat l.seat l.initial.report l.report [];
       tried : tried_of l.initial.report ≤ tried_of l.report;
       few : calls_of l.report ≤ calls_of l.initial.report + l._taken;
     }

@@ -7,7 +7,7 @@ abbrev pub invariant-loop-to : goal.invariant-loop-to
 invariant-loop-to g l =
     let config = g.L.Label.config in
     record {
-      adds : Adds config l.initial.seat l.seat l.initial.report l.report (emits_below config l.to);
+      adds : Adds config g.L.Label.seed l.initial.seat l.seat l.initial.report l.report (emits_below config l.to);
       tried : tried_of l.initial.report + length (emits_below config l.to) ≤ tried_of l.report;
       few : calls_of l.report ≤ calls_of l.initial.report + length (emits_below config l.to);
     }

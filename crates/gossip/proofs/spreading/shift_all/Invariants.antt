@@ -8,7 +8,7 @@ invariant-loop-term g l =
     let config = g.L.Label.config in
     let shifts = shifts_in config l.name l.shares.amounts l.term in
     record {
-      adds : Adds config l.initial.seat l.seat l.initial.report l.report shifts;
+      adds : Adds config g.L.Label.seed l.initial.seat l.seat l.initial.report l.report shifts;
       emitted : l.report.emitted ≡ l.initial.report.emitted;
       delivered : l.report.delivered ≡ l.initial.report.delivered;
       tried : length l.report.receipts.items + l.report.refused

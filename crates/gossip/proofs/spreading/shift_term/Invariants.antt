@@ -9,7 +9,7 @@ invariant-loop-to g l =
     let config = g.L.Label.config in
     let shifts = map (λ to. Shift l.name l.term to l.amount) (others_below config l.to) in
     record {
-      adds : Adds config l.initial.seat l.seat l.initial.report l.report shifts;
+      adds : Adds config g.L.Label.seed l.initial.seat l.seat l.initial.report l.report shifts;
       emitted : l.report.emitted ≡ l.initial.report.emitted;
       delivered : l.report.delivered ≡ l.initial.report.delivered;
       tried : length l.report.receipts.items + l.report.refused

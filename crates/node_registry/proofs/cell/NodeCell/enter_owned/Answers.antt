@@ -1,7 +1,7 @@
 use Rattle.rand_chacha.specs.ChaCha.{ChaCha}
 use Rattle.node_calls.specs.declared.trace.Entry.{Entry}
 use Rattle.node_core.specs.Traces.{Kept}
-use Rattle.node_registry.proofs.EnteredCells.{Draws, entered, stays, refused_cell}
+use Rattle.node_registry.proofs.EnteredCells.{Draws, entered, stays}
 use Rattle.node_registry.proofs.cell.NodeCell.enter_owned.Goals as goal
 
 pub invariant_of-self-2 : goal.invariant_of-self-2

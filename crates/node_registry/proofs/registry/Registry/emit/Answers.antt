@@ -13,5 +13,5 @@ returns-clause-receipt g c =
 pub returns-clause-refused : goal.returns-clause-refused
 returns-clause-refused g c =
     let config = g.L.Label.config in
-    refused_as config (ask_value_first config.nodes (calls.Emit c.args.to)) (bare_emit c.args.to) refl
+    refused_as config g.L.Label.seed (ask_value_first config.nodes (calls.Emit c.args.to)) (bare_emit c.args.to) refl
     c.enter_owned.result c.enter_owned.ensures.refused
