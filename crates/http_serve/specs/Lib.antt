@@ -1,2 +1,3 @@
+pub mod Exchanges
 pub mod FaultText
 pub mod Served
