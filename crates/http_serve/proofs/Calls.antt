@@ -1,5 +1,5 @@
 -- What a call of a handler comes to, by its outcome.
-use Rattle.std.proofs.Common.{◌≡◌, ℕ, ◌+◌, Result, Ok, Err, inl, inr, ◌∙◌, ap, sym, IfOk, IfErr, OnErr}
+use Rattle.std.proofs.Common.{◌≡◌, ℕ, ◌+◌, Result, Ok, Err, inl, inr, refl, ◌∙◌, ap, sym, subst, IfOk, IfErr, OnErr}
 use Rattle.std.specs.Prelude.{OnOk}
 use Rattle.node_calls.specs.declared.ask.Ask.{Ask}
 use Rattle.node_core.specs.declared.config.Config.{Config}
@@ -10,9 +10,9 @@ use Rattle.node_calls.specs.Asks.{ask_value, ask_value_first, reply_value}
 use Rattle.node_registry.specs.Receipts.{IsAnswered}
 use Rattle.node_registry.specs.Receipts as registry
 use Rattle.http_routes.specs.Replies.{ReplyValue, IsReply, acceptance_value, refusal_value}
-use Rattle.http_routes.specs.Requests.{WantedValue, call}
+use Rattle.http_routes.specs.Requests.{WantedValue, IsWanted, call}
 use Rattle.http_routes.specs.Requests as wants
-use Rattle.http_serve.specs.Served.{IsServed, IsServedFrom}
+use Rattle.http_serve.specs.Served.{Comes, IsServed, IsServedFrom}
 
 -- an accepted call is counted and answered so, and a refused one so
 pub called_by : (config : Config) (had has : ℕ) (ask : Ask) (given : ReplyValue) (outcome : Result Reply NodeFault)
@@ -44,3 +44,8 @@ served config had has (wants.call ask) given (inr (inr none, same)) = inr none
 served config had has wants.list given (is, same) = is
 served config had has wants.report given (is, same) = is
 served config had has (wants.answered reply) given (is, same) = is
+
+-- a request that is answered without the node
+pub answered_so : (config : Config) (wanted : WantedValue) (given : ReplyValue) → IsWanted wanted (wants.answered given) → IsServed config wanted given
+answered_so config wanted given (inl is) = inl (subst (λ w. Comes config w given) is (inl refl))
+answered_so config wanted given (inr is) = inr (cc)

@@ -1,2 +1,4 @@
+pub mod Clients
+pub mod Exchanges
 pub mod FaultText
 pub mod Served

@@ -1,10 +1,10 @@
 //! Connections beside each other, each in a task of its own.
 
-ghost use Rattle.std.specs.Prelude.{◌≡◌, ◌⊎◌, ◌+◌, ◌↔◌, IsTrue, IfErr, IfSome, Err};
-ghost use Rattle.http_serve.specs.declared.fault.ServeFault.TheVariants.{AcceptFailed, OutOfMemory};
-ghost use Rattle.std.specs.IoError.{error_kind};
+ghost use Rattle.std.specs.Prelude.{◌≡◌, ◌-◌, ◌<◌, ◌≤◌, ◌↔◌, IsTrue, IfErr, IfSome, Err};
+ghost use Rattle.http_serve.specs.declared.fault.ServeFault.TheVariants.{AcceptFailed};
 ghost use Rattle.tokio.specs.Timers.{IsDelayedBy, sleep_deadline, timeout_delay, timeout_future};
 ghost use Rattle.tokio.specs.Locks.{CanAcquire};
+ghost use Rattle.http_serve.specs.Clients.{AreLetIn, IsGone, LetsIn};
 
 use crate::fault::ServeFault;
 use crate::permits::Permits;
@@ -13,6 +13,7 @@ use futures::task::{Context, Poll};
 use futures::{Future, Stream, ready};
 use std::io;
 use std::io::ErrorKind;
+use std::net::SocketAddr;
 use std::time::{Clock, Duration};
 use tokio::net::{TcpListener, TcpStream};
 use tokio::sync::OwnedSemaphorePermit;
@@ -72,6 +73,26 @@ where
     }
 }
 
+/// How many clients were let in.
+#[derive(Clone, Copy)]
+pub struct Clients {
+    let_in: u32,
+}
+
+impl Clients {
+    pub fn none() -> Clients
+        ensures { result.let_in ≡ 0 }
+    {
+        Clients { let_in: 0 }
+    }
+
+    pub fn count(&self) -> u32
+        ensures { result ≡ self.now.let_in }
+    {
+        self.let_in
+    }
+}
+
 /// Accepts so many connections, and starts the task of each.
 #[derive(Drop)]
 pub struct Accepting<'a, F: ConnectionFactory> {
@@ -83,13 +104,13 @@ pub struct Accepting<'a, F: ConnectionFactory> {
     pub at_once: u32,
     /// The permit of the next connection.
     pub permit: Option<OwnedSemaphorePermit>,
-    pub left: u32,
+    pub wanted: u32,
+    pub clients: Clients,
 }
 
 // Whether only the connection is gone that was to be accepted. The next one can be.
 fn is_gone(error: &io::Error) -> bool
-    ensures { IsTrue result ↔ ((error_kind error.now ≡ ErrorKind.ConnectionAborted)
-        ⊎ (error_kind error.now ≡ ErrorKind.ConnectionReset)) }
+    ensures { IsTrue result ↔ IsGone error.now }
 {
     matches!(
         error.kind(),
@@ -101,7 +122,7 @@ fn is_gone(error: &io::Error) -> bool
 // next is accepted once one under way has ended. The fault comes once no permit is left, and then
 // none is under way.
 fn give_up_permit(permit: Option<OwnedSemaphorePermit>, at_once: &mut u32) -> Result<(), ServeFault>
-    ensures fewer { (at_once.old ≡ 0) ⊎ (at_once.old ≡ at_once.new + 1) }
+    ensures fewer { at_once.new ≡ at_once.old - 1 }
     ensures last { (result ≡ Err AcceptFailed) ↔ (at_once.new ≡ 0) }
     ensures err { IfErr result (λ f. f ≡ AcceptFailed) }
 {
@@ -115,17 +136,41 @@ fn give_up_permit(permit: Option<OwnedSemaphorePermit>, at_once: &mut u32) -> Re
     Ok(())
 }
 
+// What comes of a connection that was accepted, or that couldn't be.
+fn let_in(
+    came: io::Result<(TcpStream, SocketAddr)>,
+    clients: &mut Clients,
+    permit: &mut Option<OwnedSemaphorePermit>,
+    at_once: &mut u32,
+) -> Result<Option<TcpStream>, ServeFault>
+    requires { clients.old.let_in < u32.MAX }
+    ensures { LetsIn came clients.old.let_in clients.new.let_in at_once.old at_once.new result }
+{
+    match came {
+        Ok((socket, _peer)) => {
+            clients.let_in += 1;
+            Ok(Some(socket))
+        }
+        Err(error) if is_gone(&error) => Ok(None),
+        Err(_) => {
+            give_up_permit(permit.take(), at_once)?;
+            Ok(None)
+        }
+    }
+}
+
 impl<F: ConnectionFactory> Future for Accepting<'_, F> {
-    type Output = Result<(), ServeFault>;
+    type Output = Result<Clients, ServeFault>;
 
-    ghost can_poll = { λ accepting. IfSome accepting.permits.waiting CanAcquire };
+    ghost can_poll = { λ accepting. IfSome accepting.permits.waiting CanAcquire
+        × (accepting.clients.let_in ≤ accepting.wanted) };
 
-    ghost gives = { λ _ ended. IfErr ended (λ f. (f ≡ AcceptFailed) ⊎ (f ≡ OutOfMemory)) };
+    ghost gives = { λ accepting. AreLetIn accepting.wanted };
 
-    fn poll(&mut self, cx: &mut Context<'_>) -> Poll<Result<(), ServeFault>> {
+    fn poll(&mut self, cx: &mut Context<'_>) -> Poll<Result<Clients, ServeFault>> {
         for _ in 0..BUDGET {
-            if self.left == 0 {
-                return Poll::Ready(Ok(()));
+            if self.clients.count() == self.wanted {
+                return Poll::Ready(Ok(self.clients));
             }
             if self.permit.is_none() {
                 let Some(permit) = ready!(self.permits.poll_next(cx)) else {
@@ -133,17 +178,17 @@ impl<F: ConnectionFactory> Future for Accepting<'_, F> {
                 };
                 self.permit = Some(permit);
             }
-            let socket = match ready!(self.listener.poll_accept(cx)) {
-                Ok((socket, _peer)) => socket,
-                Err(error) if is_gone(&error) => continue,
-                Err(_) => {
-                    if let Err(fault) = give_up_permit(self.permit.take(), &mut self.at_once) {
-                        return Poll::Ready(Err(fault));
-                    }
-                    continue;
-                }
+            let came = ready!(self.listener.poll_accept(cx));
+            let socket = match let_in(
+                came,
+                &mut self.clients,
+                &mut self.permit,
+                &mut self.at_once,
+            ) {
+                Ok(Some(socket)) => socket,
+                Ok(None) => continue,
+                Err(fault) => return Poll::Ready(Err(fault)),
             };
-            self.left -= 1;
             // Without memory for its task the connection is closed, and counts as served.
             if let Some(permit) = self.permit.take()
                 && let Some(task) = self.factory.open(socket, permit)

@@ -1,9 +1,19 @@
 //! One request and its reply.
 
-ghost use Rattle.std.specs.Prelude.{IfSome};
-ghost use Rattle.futures.specs.Poll.{OnPending};
+ghost use Rattle.std.specs.Prelude.{◌≡◌, ◌⊎◌, ◌<◌, ◌+◌, ◌++◌, length, vec_capacity};
+ghost use Rattle.std.specs.Prelude.{option_map, IfOk, IfErr, IfSome, IsOk};
+ghost use Rattle.std.specs.Arc.{arc_value};
+ghost use Rattle.futures.specs.Poll.{IfReady, OnPending};
 ghost use Rattle.futures.specs.Task.{IsArmed, Keeps};
+ghost use Rattle.http_body.specs.Frame.{bytes_in};
+ghost use Rattle.http_body_util.specs.declared.limited.LimitedError.TheVariants.{LengthLimit, Body};
+ghost use Rattle.hyper.specs.Error.{kind_of};
+ghost use Rattle.hyper.specs.declared.error.Kind.TheVariants as kinds;
 ghost use Rattle.tokio.specs.Locks.{CanAcquire};
+ghost use Rattle.http.specs.StatusCode.{IsStatusCode};
+ghost use Rattle.http_routes.specs.Replies.{http_value};
+ghost use Rattle.http_serve.specs.Exchanges.{asking_of, pieces_of, ComesTo, EndsSo, Gives, GoesOn};
+ghost use Rattle.http_serve.specs.Exchanges.{IsExchangeOf, IsResponseTo, Responds, TakesIn};
 
 use crate::handler::Handler;
 use crate::permits::Permits;
@@ -16,7 +26,7 @@ use http_routes::{HttpReply, MAX_BODY};
 use hyper::body::Incoming;
 use hyper::service::Service;
 use hyper::{Method, Request, Response, StatusCode, Uri};
-use std::alloc::Global;
+use std::alloc::{AllocError, Global};
 use std::mem;
 use std::sync::{Arc, Wait};
 use tokio::sync::OwnedSemaphorePermit;
@@ -70,6 +80,8 @@ impl<I: Drop, H: Handler, R: Wait + Copy> Service<Request<Incoming<I>>>
 
     type Future = Exchange<I, H, R>;
 
+    ghost calls = { IsExchangeOf };
+
     fn call(&self, req: Request<Incoming<I>>) -> Exchange<I, H, R> {
         let (head, body) = req.into_parts();
         let is_short = match body.size_hint().upper() {
@@ -98,7 +110,9 @@ impl<I: Drop, H: Handler, R: Wait + Copy> Service<Request<Incoming<I>>>
 
 impl<I: Drop, H: Handler, R: Wait + Copy> Exchange<I, H, R> {
     // The reply, once the body was read so far.
-    fn reply(&mut self, reading: Reading) -> hyper::Result<HttpReply> {
+    fn reply(&mut self, reading: Reading) -> hyper::Result<HttpReply>
+        ensures { ComesTo H.answers (asking_of self.old) reading self.old.read.items result }
+    {
         let body = mem::replace(&mut self.read, Vec::new(self.alloc));
         let (method, path) = (self.method.as_str(), self.uri.path());
         match (&self.handler, reading) {
@@ -116,6 +130,11 @@ impl<I: Drop, H: Handler, R: Wait + Copy> Exchange<I, H, R> {
     // Reads the body, a long one once there is a permit for it.
     fn poll_reading(&mut self, cx: &mut Context<'_>) -> Poll<Reading>
         requires { IfSome self.old.permits (λ permits. IfSome permits.waiting CanAcquire) }
+        ensures asking { asking_of self.new ≡ asking_of self.old }
+        ensures ends { IfReady result (λ reading. EndsSo (pieces_of self.old.body)
+            self.old.read.items reading self.new.read.items) }
+        ensures goes_on { OnPending result (GoesOn (pieces_of self.old.body) self.old.read.items
+            (pieces_of self.new.body) self.new.read.items) }
         ensures permits { OnPending result
             (IfSome self.new.permits (λ permits. IfSome permits.waiting CanAcquire)) }
         ensures armed { OnPending result (IsArmed cx.new) }
@@ -141,12 +160,12 @@ impl<I: Drop, H: Handler, R: Wait + Copy> Future for Exchange<I, H, R> {
 
     ghost can_poll = { λ e. IfSome e.permits (λ permits. IfSome permits.waiting CanAcquire) };
 
+    ghost gives = { Gives H.answers };
+
     fn poll(&mut self, cx: &mut Context<'_>) -> Poll<hyper::Result<Response<Full<Bytes>>>> {
         let reading = ready!(self.poll_reading(cx));
-        match self.reply(reading) {
-            Ok(reply) => Poll::Ready(Ok(response(self.alloc, reply))),
-            Err(error) => Poll::Ready(Err(error)),
-        }
+        let reply = self.reply(reading);
+        Poll::Ready(respond(self.alloc, reply))
     }
 }
 
@@ -156,11 +175,16 @@ fn poll_body<I: Drop>(
     read: &mut Vec<u8>,
     cx: &mut Context<'_>,
 ) -> Poll<Reading>
+    ensures ends { IfReady result (λ reading. EndsSo (pieces_of body.old)
+        read.old.items reading read.new.items) }
+    ensures goes_on { OnPending result (GoesOn (pieces_of body.old) read.old.items
+        (pieces_of body.new) read.new.items) }
     ensures armed { OnPending result (IsArmed cx.new) }
     ensures kept { Keeps cx.old cx.new }
 {
     for _ in 0..BUDGET {
-        if let Some(reading) = take_in(read, ready!(body.poll_frame(cx))) {
+        let piece = ready!(body.poll_frame(cx));
+        if let Some(reading) = take_in(read, piece) {
             return Poll::Ready(reading);
         }
     }
@@ -171,7 +195,9 @@ fn poll_body<I: Drop>(
 fn take_in(
     read: &mut Vec<u8>,
     piece: Option<Result<Frame<Bytes>, LimitedError<hyper::Error>>>,
-) -> Option<Reading> {
+) -> Option<Reading>
+    ensures { TakesIn (vec_capacity read.old) piece read.old.items read.new.items result }
+{
     match piece {
         Some(Ok(frame)) => keep_data(read, frame),
         Some(Err(error)) => Some(broken_off(error)),
@@ -180,7 +206,11 @@ fn take_in(
 }
 
 // Out of memory is all that ends the reading here.
-fn keep_data(read: &mut Vec<u8>, frame: Frame<Bytes>) -> Option<Reading> {
+fn keep_data(read: &mut Vec<u8>, frame: Frame<Bytes>) -> Option<Reading>
+    ensures { ((result ≡ None) × (read.new.items ≡ read.old.items ++ bytes_in frame.kind))
+        ⊎ ((result ≡ Some Reading.NoMemory)
+        × (vec_capacity read.old < length read.old.items + length (bytes_in frame.kind))) }
+{
     let data = frame.into_data().ok()?;
     match read.extend_from_slice(data.as_slice()) {
         Ok(()) => None,
@@ -188,7 +218,10 @@ fn keep_data(read: &mut Vec<u8>, frame: Frame<Bytes>) -> Option<Reading> {
     }
 }
 
-fn broken_off(error: LimitedError<hyper::Error>) -> Reading {
+fn broken_off(error: LimitedError<hyper::Error>) -> Reading
+    ensures too_long { error ≡ LengthLimit → result ≡ Reading.TooLong }
+    ensures broken { (e : _) → error ≡ Body e → result ≡ Reading.Broken e }
+{
     match error {
         LimitedError::LengthLimit => Reading::TooLong,
         LimitedError::Body(e) => Reading::Broken(e),
@@ -196,7 +229,9 @@ fn broken_off(error: LimitedError<hyper::Error>) -> Reading {
 }
 
 // Another owner of the handler, if there is the memory.
-fn shared<H>(handler: &Option<Arc<H>>) -> Option<Arc<H>> {
+fn shared<H>(handler: &Option<Arc<H>>) -> Option<Arc<H>>
+    ensures { (option_map arc_value result ≡ option_map arc_value handler.now) ⊎ (result ≡ None) }
+{
     Arc::try_clone(handler.as_ref()?).ok()
 }
 
@@ -207,16 +242,31 @@ fn again(long: &Option<Permits>) -> Option<Permits>
     long.as_ref()?.again()
 }
 
-/// The reply as a response.
-fn response(alloc: Global, reply: HttpReply) -> Response<Full<Bytes>> {
-    let (status, body) = match (
-        StatusCode::from_u16(reply.status),
-        Bytes::from_vec(reply.body),
-    ) {
-        (Ok(status), Ok(body)) => (status, body),
-        _ => (StatusCode::SERVICE_UNAVAILABLE, Bytes::new()),
-    };
+// A reply as a response. An error goes on as it is.
+fn respond(alloc: Global, reply: hyper::Result<HttpReply>) -> hyper::Result<Response<Full<Bytes>>>
+    ensures { Responds reply result }
+{
+    response(alloc, reply?)
+}
+
+// The reply as a response. The only error is out of memory: then the connection ends without a
+// reply, since none but this one may be told of an accepted call.
+fn response(alloc: Global, reply: HttpReply) -> hyper::Result<Response<Full<Bytes>>>
+    ensures ok { IfOk result (λ r. IsStatusCode reply.status → IsResponseTo (http_value reply) r) }
+    ensures err { IfErr result (λ e. kind_of e ≡ kinds.OutOfMemory) }
+    ensures empty { length reply.body.items ≡ 0 → IsOk result }
+{
+    let body = shared_bytes(reply.body)?;
+    let status = StatusCode::from_u16(reply.status).unwrap_or(StatusCode::SERVICE_UNAVAILABLE);
     let mut response = Response::new(alloc, Full::new(body));
     *response.status_mut() = status;
-    response
+    Ok(response)
+}
+
+// Bytes that a response can hold.
+fn shared_bytes(body: Vec<u8>) -> Result<Bytes, AllocError>
+    ensures ok { IfOk result (λ bytes. bytes ≡ body.items) }
+    ensures empty { length body.items ≡ 0 → IsOk result }
+{
+    Ok(Bytes::from_vec(body)?)
 }

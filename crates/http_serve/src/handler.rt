@@ -3,7 +3,7 @@
 ghost use Rattle.std.specs.Prelude.{◌≡◌, ◌<◌, ℕ, List, length};
 ghost use Rattle.message_format.specs.Spelling.{max_message};
 ghost use Rattle.node_calls.specs.Told.{ask_told};
-ghost use Rattle.http_routes.specs.Replies.{http_value};
+ghost use Rattle.http_routes.specs.Replies.{ReplyValue, http_value};
 ghost use Rattle.http_routes.specs.Requests.{IsWanted, wanted};
 ghost use Rattle.http_routes.specs.Requests as requests;
 ghost use Rattle.http_serve.specs.Served.{IsServed, IsServedFrom};
@@ -18,6 +18,9 @@ use std::sync::{Arc, Mutex, Wait};
 
 /// Answers requests.
 pub trait Handler: Drop {
+    /// What a request may be answered, by its method, its path and its body.
+    ghost answers: { Self → List ℕ → List ℕ → List ℕ → ReplyValue → Type 0 };
+
     /// The reply to a request whose body came whole.
     fn reply<R: Wait>(
         &self,
@@ -26,10 +29,13 @@ pub trait Handler: Drop {
         method: &str,
         path: &str,
         body: Vec<u8>,
-    ) -> HttpReply;
+    ) -> HttpReply
+        ensures { answers self.now method.now path.now body.items (http_value result) };
 
-    /// The reply to a request whose body is longer than the longest.
-    fn reply_too_long(&self, alloc: Global, method: &str, path: &str) -> HttpReply;
+    /// The reply to a request whose body is longer than the longest, however it goes on.
+    fn reply_too_long(&self, alloc: Global, method: &str, path: &str) -> HttpReply
+        ensures { (body : List ℕ) → max_message < length body
+            → answers self.now method.now path.now body (http_value result) };
 }
 
 /// A node with the seat from which requests call it, and the routes of their paths.
@@ -132,6 +138,8 @@ impl<L: Label> NodeHandler<L> {
 }
 
 impl<L: Label> Handler for NodeHandler<L> {
+    ghost answers = { λ _ method path body. IsServed L.config (wanted method path body) };
+
     fn reply<R: Wait>(
         &self,
         rt: &R,
@@ -139,17 +147,11 @@ impl<L: Label> Handler for NodeHandler<L> {
         method: &str,
         path: &str,
         body: Vec<u8>,
-    ) -> HttpReply
-        ensures { IsServed L.config (wanted method.now path.now body.items) (http_value result) }
-    {
+    ) -> HttpReply {
         self.answer(rt, alloc, method, path, body)
     }
 
-    fn reply_too_long(&self, alloc: Global, method: &str, path: &str) -> HttpReply
-        ensures { (body : List ℕ) → max_message < length body
-            → IsWanted (wanted method.now path.now body)
-            (requests.answered (http_value result)) }
-    {
+    fn reply_too_long(&self, alloc: Global, method: &str, path: &str) -> HttpReply {
         self.answer_too_long(alloc, method, path)
     }
 }

@@ -1,6 +1,7 @@
 //! Permits of which there are only so many at once.
 
-ghost use Rattle.std.specs.Prelude.{◌≡◌, IfOk, IfSome, None};
+ghost use Rattle.std.specs.Prelude.{◌≡◌, max, IfOk, IfSome, None};
+ghost use Rattle.std.specs.Arc.{arc_value};
 ghost use Rattle.tokio.specs.Locks.{CanAcquire};
 
 use futures::task::{Context, Poll};
@@ -13,28 +14,43 @@ use tokio::sync::{AcquireOwned, OwnedSemaphorePermit, Semaphore};
 #[derive(Drop)]
 pub struct Permits {
     free: Arc<Semaphore>,
+    // How many there are, free or not.
+    count: u32,
     waiting: Option<AcquireOwned>,
 }
 
 impl Permits {
     /// So many permits, but at least one.
     pub fn new(alloc: Global, at_once: u32) -> Result<Permits, AllocError>
-        ensures { IfOk result (λ permits. permits.waiting ≡ None) }
+        ensures none_waits { IfOk result (λ permits. permits.waiting ≡ None) }
+        ensures count { IfOk result (λ permits. permits.count ≡ max at_once 1) }
     {
-        let free = Arc::new(alloc, Semaphore::new(alloc, at_once.max(1) as usize)?)?;
+        let count = at_once.max(1);
+        let free = Arc::new(alloc, Semaphore::new(alloc, count as usize)?)?;
         Ok(Permits {
             free,
+            count,
             waiting: None,
         })
     }
 
+    /// How many permits there are, free or not.
+    pub fn count(&self) -> u32
+        ensures { result ≡ self.now.count }
+    {
+        self.count
+    }
+
     /// A share of these permits for another who waits. `None` where there is no memory.
     pub fn again(&self) -> Option<Permits>
-        ensures { IfSome result (λ permits. permits.waiting ≡ None) }
+        ensures none_waits { IfSome result (λ permits. permits.waiting ≡ None) }
+        ensures shared { IfSome result (λ permits. (arc_value permits.free ≡ arc_value self.now.free)
+            × (permits.count ≡ self.now.count)) }
     {
         let free = Arc::try_clone(&self.free).ok()?;
         Some(Permits {
             free,
+            count: self.count,
             waiting: None,
         })
     }

@@ -1,10 +1,14 @@
 //! Many connections at once.
 
-ghost use Rattle.std.specs.Prelude.{◌≡◌, ◌⊎◌, IfOk, IfErr, IfSome};
+ghost use Rattle.std.specs.Prelude.{◌≡◌, ◌⊎◌, ◌*◌, IfOk, IfErr, IfSome, IsFalse, IsSomeAnd};
+ghost use Rattle.std.specs.Arc.{arc_value};
+ghost use Rattle.std.specs.Duration.{as_nanos};
 ghost use Rattle.http_serve.specs.declared.fault.ServeFault.TheVariants.{AcceptFailed, OutOfMemory};
+ghost use Rattle.http_serve.specs.Clients.{AreLetIn};
 ghost use Rattle.tokio.specs.Locks.{CanAcquire};
+ghost use Rattle.tokio.specs.Timers.{IsDelayedBy, sleep_deadline, timeout_delay};
 
-use crate::connection::{Accepting, ConnectionFactory, ConnectionTask};
+use crate::connection::{Accepting, Clients, ConnectionFactory, ConnectionTask};
 use crate::exchange::ConnectionService;
 use crate::fault::ServeFault;
 use crate::handler::{Handler, NodeHandler};
@@ -54,6 +58,8 @@ impl<H: Handler, R: Wait + Clock + Copy> Future for HttpConnection<H, R> {
 
     ghost can_poll = { λ c. ⟦<Served<H, R> as Future>⟧.can_poll c.served };
 
+    ghost gives = { λ c. ⟦<Served<H, R> as Future>⟧.gives c.served };
+
     fn poll(&mut self, cx: &mut Context<'_>) -> Poll<hyper::Result<()>> {
         self.served.poll(cx)
     }
@@ -76,7 +82,10 @@ where
     R: Wait + Clock + Copy,
 {
     fn connection(&self, socket: TcpStream) -> HttpConnection<H, R>
-        ensures { ⟦<HttpConnection<H, R> as Future>⟧.can_poll result }
+        ensures can_poll { ⟦<HttpConnection<H, R> as Future>⟧.can_poll result }
+        ensures options { result.served.conn.options ≡ self.now.http.options }
+        ensures handler { IfSome result.served.conn.service.handler
+            (λ h. arc_value h ≡ arc_value self.now.handler) }
     {
         let service = ConnectionService {
             alloc: self.alloc,
@@ -101,7 +110,13 @@ where
         &self,
         socket: TcpStream,
         permit: OwnedSemaphorePermit,
-    ) -> Option<ConnectionTask<HttpConnection<H, R>>> {
+    ) -> Option<ConnectionTask<HttpConnection<H, R>>>
+        ensures can_poll { IfSome result
+            ⟦<ConnectionTask<HttpConnection<H, R>> as Future>⟧.can_poll }
+        ensures whole { IfSome result (λ task. (whole : _)
+            × (as_nanos whole ≡ WHOLE_SECONDS * 1_000_000_000)
+            × IsDelayedBy whole (sleep_deadline (timeout_delay task.timed))) }
+    {
         let connection = self.connection(socket);
         let whole = Duration::from_secs(WHOLE_SECONDS);
         ConnectionTask::new(&self.rt, &self.timers, whole, connection, permit)
@@ -127,8 +142,8 @@ where
     ensures err { IfErr result (λ f. (f ≡ AcceptFailed) ⊎ (f ≡ OutOfMemory)) }
 {
     let handler = NodeHandler::new(alloc, registry, seat)?;
-    serve_handler(rt, alloc, runtime, handler, listener, requests)?;
-    Ok(requests)
+    let clients = serve_handler(rt, alloc, runtime, handler, listener, requests)?;
+    Ok(clients.count())
 }
 
 // Serves clients whose requests go to a handler.
@@ -139,11 +154,11 @@ fn serve_handler<H, R>(
     handler: Arc<H>,
     listener: TcpListener,
     requests: u32,
-) -> Result<(), ServeFault>
+) -> Result<Clients, ServeFault>
 where
     H: Handler + Send + Sync,
     R: Wait + Threads + Clock + RandomSource + AllocGlobal + Send + Sync + Copy,
-    ensures { IfErr result (λ f. (f ≡ AcceptFailed) ⊎ (f ≡ OutOfMemory)) }
+    ensures { AreLetIn requests result }
 {
     let permits = Permits::new(alloc, AT_ONCE)?;
     let factory = connections_to(rt, alloc, runtime, handler)?;
@@ -160,7 +175,12 @@ fn connections_to<H, R>(
 where
     H: Handler,
     R: Clock + RandomSource + Copy,
-    ensures { IfErr result (λ f. (f ≡ AcceptFailed) ⊎ (f ≡ OutOfMemory)) }
+    ensures keep_alive { IfOk result (λ f. IsFalse f.http.options.keep_alive) }
+    ensures head { IfOk result (λ f. IsSomeAnd f.http.options.header_read_timeout
+        (λ head. as_nanos head ≡ HEAD_SECONDS * 1_000_000_000)) }
+    ensures handler { IfOk result (λ f. arc_value f.handler ≡ arc_value handler) }
+    ensures long { IfOk result (λ f. f.long.count ≡ LONG_AT_ONCE) }
+    ensures err { IfErr result (λ f. (f ≡ AcceptFailed) ⊎ (f ≡ OutOfMemory)) }
 {
     let Ok(keys) = RandomState::new(rt) else {
         return Err(ServeFault::AcceptFailed);
@@ -187,24 +207,26 @@ fn admit<R, F>(
     factory: F,
     permits: Permits,
     requests: u32,
-) -> Result<(), ServeFault>
+) -> Result<Clients, ServeFault>
 where
     R: Wait + Threads + Clock + RandomSource + AllocGlobal + Sync,
     F: ConnectionFactory,
     requires { IfSome permits.waiting CanAcquire }
-    ensures { IfErr result (λ f. (f ≡ AcceptFailed) ⊎ (f ≡ OutOfMemory)) }
+    ensures { AreLetIn requests result }
 {
     let Ok(tasks) = runtime.task_set(rt) else {
         return Err(ServeFault::OutOfMemory);
     };
+    let at_once = permits.count();
     let accepting = Accepting {
         tasks: &tasks,
         listener,
         factory,
         permits,
-        at_once: AT_ONCE,
+        at_once,
         permit: None,
-        left: requests,
+        wanted: requests,
+        clients: Clients::none(),
     };
     match runtime.block_on_with(rt, &tasks, accepting) {
         Ok(ended) => ended,

@@ -37,7 +37,7 @@ const SET: &[u8] = b"PUT /fail/b HTTP/1.1\r\nHost: a\r\nContent-Length: 3\r\n\r\
 const NOWHERE: &[u8] = b"GET / HTTP/1.1\r\nHost: a\r\n\r\n";
 
 /// A system on which a node can be served.
-trait Host: Wait
+pub(super) trait Host: Wait
     + Threads
     + Clock
     + RandomSource
@@ -62,8 +62,12 @@ where
         + Drop,
 {}
 
-// A registry with one seat.
-fn opened<L, R>(rt: &R, blank: Blank, config: Config) -> Result<(Arc<Registry<L>>, Seat<L>), Fail>
+/// A registry with one seat.
+pub(super) fn opened<L, R>(
+    rt: &R,
+    blank: Blank,
+    config: Config,
+) -> Result<(Arc<Registry<L>>, Seat<L>), Fail>
 where
     L: Label,
     R: Wait + AllocGlobal,
@@ -77,8 +81,8 @@ where
     Ok((Arc::new(alloc, registry)?, seat))
 }
 
-// A port of this machine that the system picks, with whoever listens there.
-fn listening<R: Host>(rt: &R) -> io::Result<(TcpListener, SocketAddr)> {
+/// A port of this machine that the system picks, with whoever listens there.
+pub(super) fn listening<R: Host>(rt: &R) -> io::Result<(TcpListener, SocketAddr)> {
     let listener = TcpListener::bind(rt, SocketAddr::from((Ipv4Addr::LOCALHOST, 0)))?;
     let address = listener.local_addr()?;
     Ok((listener, address))

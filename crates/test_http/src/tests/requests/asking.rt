@@ -89,3 +89,34 @@ pub(super) fn cut_off_held(alloc: Global, rows: &[Row]) -> Result<usize, Fail> {
     let routes = new_routes(alloc)?;
     Ok(count_cut_off(alloc, &routes, rows))
 }
+
+// Asks once more where memory was refused.
+fn body_holds(core: &mut NodeCore, alloc: Global, routes: &Routes, row: &Row, body: &[u8]) -> bool {
+    let reply = answer(core, alloc, routes, row.0, row.1, body);
+    if is_out_of_memory(&reply) {
+        return is_reply(&answer(core, alloc, routes, row.0, row.1, body), row);
+    }
+    is_reply(&reply, row)
+}
+
+fn count_held_with(
+    core: &mut NodeCore,
+    alloc: Global,
+    routes: &Routes,
+    rows: &[Row],
+    body: &[u8],
+) -> usize {
+    for (count, row) in rows.iter().enumerate() {
+        if !body_holds(core, alloc, routes, row, body) {
+            return count;
+        }
+    }
+    rows.len()
+}
+
+/// How many rows hold at a new node, before the first that doesn't, where each has this body.
+pub(super) fn held_with(alloc: Global, rows: &[Row], body: &[u8]) -> Result<usize, Fail> {
+    let routes = new_routes(alloc)?;
+    let mut core = new_node(alloc, FIRST_OF_TWO)?;
+    Ok(count_held_with(&mut core, alloc, &routes, rows, body))
+}

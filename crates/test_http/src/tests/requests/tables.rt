@@ -5,7 +5,7 @@ use super::*;
 /// A request, by its method, its path and its body, and the status and the body of its reply.
 pub(super) type Row = (&'static str, &'static str, &'static [u8], u16, &'static str);
 
-const FIRST_OF_TWO: Config = Config {
+pub(super) const FIRST_OF_TWO: Config = Config {
     node: 0,
     nodes: 2,
     trace_cap: 100,
@@ -194,4 +194,16 @@ pub(super) const CUT_OFF: &[Row] = &[
     ("POST", "/shift/a/x/1/1", b"", 413, "too long"),
     ("GET", "/gossip", b"", 405, "bad method"),
     ("POST", "/nope", b"", 404, "not found"),
+];
+
+/// The longest body, without a byte but 0.
+pub(super) const LONGEST: &[Row] = &[
+    (
+        "POST",
+        "/gossip",
+        b"",
+        400,
+        "N16 BadMessage W1 Magic offset=0",
+    ),
+    ("GET", "/fail", b"", 200, ""),
 ];
