@@ -13,7 +13,7 @@ abbrev drill : List (List Told) → List (List ReceiptTold) → DrillTold
 drill traces lists = record { traces = traces; lists = lists }
 
 -- what lines come to, each read already
-abbrev comes : Option DrillTold → List LineTold → Option DrillTold
+abbrev pub comes : Option DrillTold → List LineTold → Option DrillTold
 comes d [] = d
 comes d (line ∷ lines) = option_and_then (λ next. comes (Some next) lines) (after_line d line)
 
@@ -75,7 +75,7 @@ lists_come traces done (t ∷ more) n e =
     longer : (done : List (List ReceiptTold)) (t : List ReceiptTold) (n : ℕ) → n ≡ length done → n + 1 ≡ length (done ++ t ∷ [])
     longer done t n e = simp length-append (omega (arith, e))
 
-drill_comes : (d : DrillTold) → comes None (drill_lines d) ≡ Some d
+pub drill_comes : (d : DrillTold) → comes None (drill_lines d) ≡ Some d
 drill_comes d =
     comes_after (drill [] []) (numbered trace_lines 0 d.traces) (numbered list_lines 0 d.lists)
     ∙ ap (option_and_then (λ next. comes (Some next) (numbered list_lines 0 d.lists))) (traces_come [] d.traces 0 refl)

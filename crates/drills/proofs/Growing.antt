@@ -44,7 +44,7 @@ mapped line tell xs i x h e =
     ap (map line) (map_more tell xs i x h ∙ ap (λ y. map tell (take i xs) ++ tell y ∷ []) (sym e))
     ∙ map-append line (map tell (take i xs)) (tell x ∷ [])
 
-numbered-push : {A : Type 0} (lines : ℕ → A → List LineTold) (n : ℕ) (xs : List A) (x : A) → numbered lines n (xs ++ x ∷ []) ≡ numbered lines n xs ++ lines (n + length xs) x
+pub numbered-push : {A : Type 0} (lines : ℕ → A → List LineTold) (n : ℕ) (xs : List A) (x : A) → numbered lines n (xs ++ x ∷ []) ≡ numbered lines n xs ++ lines (n + length xs) x
 numbered-push {A} lines n [] x =
     let same : n + 0 ≡ n = omega arith in
     append-nil (lines n x) ∙ ap (λ m. lines m x) (sym same)

@@ -8,3 +8,4 @@ pub mod Puts
 pub mod WordsRead
 pub mod Taken
 pub mod Growing
+pub mod Grammars

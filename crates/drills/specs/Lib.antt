@@ -3,6 +3,8 @@ pub mod Lines
 pub mod Fits
 pub mod Reading
 pub mod Drills
+pub mod Grammar
+pub mod Laws
 pub mod Taken
 pub mod Written
 pub mod FaultText

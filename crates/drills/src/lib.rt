@@ -5,6 +5,7 @@
 mod drill;
 mod fault;
 mod json_rows;
+pub mod laws;
 mod line;
 mod line_text;
 mod reader;

@@ -1,11 +1,14 @@
 //! A recorded drill from a reader.
 
-ghost use Rattle.std.specs.Prelude.{◌≡◌, ◌≢◌, ℕ, ◌∷◌, [], true, false, cond, Some, IfOk, IfSome, Ok, Err};
+ghost use Rattle.std.specs.Prelude.{◌≡◌, ◌≢◌, ◌↔◌, ℕ, ◌∷◌, [], true, false, cond};
+ghost use Rattle.std.specs.Prelude.{Some, IfOk, IfSome, Ok, Err};
 ghost use Rattle.std.specs.Io.BufRead.{strip_last};
 ghost use Rattle.std.specs.Io.Buffered.{reader_inner};
 ghost use Rattle.streams.specs.Watched.{has_failed, inner_of};
-ghost use Rattle.drills.specs.declared.fault.DrillFault.TheVariants.{BadLine, ReadFailed, WriteFailed};
+ghost use Rattle.drills.specs.declared.fault.DrillFault.TheVariants.{BadLine, ReadFailed};
+ghost use Rattle.drills.specs.declared.fault.DrillFault.TheVariants.{WriteFailed};
 ghost use Rattle.drills.specs.Drills.{drill_in, drill_of, lines_in};
+ghost use Rattle.drills.specs.Grammar.{IsDrill, IsFirstBad};
 ghost use Rattle.drills.specs.Taken.{TakesLine, IfBytes};
 
 use crate::drill::{Drill, after_text};
@@ -28,19 +31,25 @@ fn next_line<I: Read>(
     reader: &mut BufReader<Watched<I>>,
     line: &mut Vec<u8>,
 ) -> Result<bool, DrillFault>
-    ensures taken { IfOk result (λ more. TakesLine I.remaining reader.old reader.new more line.new.items) }
-    ensures read_failed { result ≡ Err ReadFailed → has_failed (reader_inner reader.new) ≡ true }
+    ensures taken { IfOk result (λ more.
+        TakesLine I.remaining reader.old reader.new more line.new.items) }
+    // A call that failed is told, also one that was made again.
+    ensures read_failed { (result ≡ Err ReadFailed)
+        ↔ (has_failed (reader_inner reader.new) ≡ true) }
     ensures no_line { (number : ℕ) → result ≢ Err (BadLine number) }
     ensures no_write { result ≢ Err WriteFailed }
 {
     line.clear();
-    match reader.read_until(b'\n', line) {
+    let taken = reader.read_until(b'\n', line);
+    if reader.get_ref().failed() {
+        return Err(DrillFault::ReadFailed);
+    }
+    match taken {
         Ok(0) => Ok(false),
         Ok(_) => {
             drop_newline(line);
             Ok(true)
         }
-        Err(_) if reader.get_ref().failed() => Err(DrillFault::ReadFailed),
         Err(_) => Err(DrillFault::OutOfMemory),
     }
 }
@@ -51,13 +60,19 @@ pub fn read_drill<I: Read>(
     reader: &mut BufReader<Watched<I>>,
 ) -> Result<Drill, DrillFault>
     // It is the one that the bytes are.
+    ensures drill { IfOk result (λ drill. IfBytes I.remaining reader.old (λ bytes.
+        IsDrill bytes (drill_of drill))) }
+    // The line is the first with which the lines so far are no drill.
+    ensures first_bad { (line : ℕ) → result ≡ Err (BadLine line) →
+        IfBytes I.remaining reader.old (λ bytes. IsFirstBad (lines_in bytes) line) }
+    // The same as a function of the bytes.
     ensures ok { IfOk result (λ drill. IfBytes I.remaining reader.old (λ bytes.
         drill_in bytes ≡ Ok (drill_of drill))) }
-    // The line is the first that can't be read or stands out of its place.
     ensures bad_line { (line : ℕ) → result ≡ Err (BadLine line) →
         IfBytes I.remaining reader.old (λ bytes. drill_in bytes ≡ Err line) }
-    // A read has failed.
-    ensures read_failed { result ≡ Err ReadFailed → has_failed (reader_inner reader.new) ≡ true }
+    // A failed read is told, and nothing else is told so.
+    ensures read_failed { (result ≡ Err ReadFailed)
+        ↔ (has_failed (reader_inner reader.new) ≡ true) }
     ensures no_write { result ≢ Err WriteFailed }
 {
     let mut line = Vec::new(alloc);

@@ -1,3 +1,5 @@
 pub mod Words
 pub mod Spaces
 pub mod Outputs
+pub mod Schedules
+pub mod LinesLeft

@@ -3,6 +3,7 @@
 #![tactic(auto)]
 
 mod command;
+pub mod laws;
 mod question;
 mod reply;
 mod run;

@@ -5,6 +5,7 @@ ghost use Rattle.streams.specs.declared.fault.ScriptFault.TheVariants.{BadLine, 
 ghost use Rattle.streams.specs.declared.fault.ScriptFault.TheVariants.{ReadFailed, TooLong};
 ghost use Rattle.streams.specs.declared.fault.ScriptFault.TheVariants.{WriteFailed};
 ghost use Rattle.streams.specs.Watched.{has_failed, has_unflushed};
+ghost use Rattle.scripts.specs.Schedules.{RunsAsSchedule};
 ghost use Rattle.scripts.specs.Script.{echoed_text, script_text};
 ghost use Rattle.streams.specs.Streams.{IfInput, ReadsUpTo, Writes, WritesPrefix};
 
@@ -27,6 +28,9 @@ pub fn run_script<R: Read, W: Write>(
     // The text of what was read is written, and nothing else.
     ensures ok { OnOk result (IfInput R.remaining reader.old (λ input.
         Writes W.contents writer.old writer.new (script_text input))) }
+    // What its lines asked of the cluster was carried out as a schedule, so that what
+    // `laws::script_is_schedule` says holds of it.
+    ensures schedule { OnOk result (IfInput R.remaining reader.old RunsAsSchedule) }
     // All that was written is flushed.
     ensures flushed { OnOk result (has_unflushed writer.new ≡ false) }
     // Where a write failed, a prefix of it.
@@ -68,6 +72,9 @@ pub fn run_script_echoing<R: Read, W: Write>(
     // The transcript of what was read is written, and nothing else.
     ensures ok { OnOk result (IfInput R.remaining reader.old (λ input.
         Writes W.contents writer.old writer.new (echoed_text input))) }
+    // What its lines asked of the cluster was carried out as a schedule, so that what
+    // `laws::script_is_schedule` says holds of it.
+    ensures schedule { OnOk result (IfInput R.remaining reader.old RunsAsSchedule) }
     // All that was written is flushed.
     ensures flushed { OnOk result (has_unflushed writer.new ≡ false) }
     // Where a write failed, a prefix of it.

@@ -2,12 +2,14 @@
 
 ghost use Rattle.std.specs.Prelude.{◌≡◌, ◌++◌, Some, None, Ok, IfOk, OnOk, option_map, string_bytes};
 ghost use Rattle.cluster_model.specs.Events.{event_value};
+ghost use Rattle.scripts.specs.Commands as commands;
 ghost use Rattle.scripts.specs.Commands.{command_value, nodes};
 ghost use Rattle.scripts.specs.Replies.{Prints, PrintsLine};
 ghost use Rattle.streams.specs.Lines.{text_in};
 ghost use Rattle.scripts.specs.Script.{command_in, event_text, after_event, command_output};
 ghost use Rattle.scripts.specs.Script.{after_command, line_output, after_line, script_text};
 ghost use Rattle.scripts.specs.Script.{echo_of, echoed_output, echoed_text};
+ghost use Rattle.scripts.specs.Schedules.{Begins, GoesOn, IsNext, LineGoesOn, RunsAsSchedule};
 
 use crate::command::{Command, read_command};
 use crate::question::ask;
@@ -26,6 +28,7 @@ fn start_world(
     requires { world.old ≡ None }
     ensures output { Prints result out.old out.new (command_output None (nodes count trace_cap)) }
     ensures world { OnOk result (world.new ≡ after_command None (nodes count trace_cap)) }
+    ensures history { OnOk result (Begins (nodes count trace_cap)) }
 {
     match World::new(alloc, count, trace_cap) {
         Ok(made) => {
@@ -45,6 +48,7 @@ fn run_event(
     ensures output { PrintsLine result out.old out.new
         (event_text world.old (event_value event.now)) }
     ensures world { OnOk result (world.new ≡ after_event world.old (event_value event.now)) }
+    ensures history { OnOk result (IsNext world.old (commands.event (event_value event.now))) }
 {
     let messages = world.messages();
     match world.record(alloc, event) {
@@ -66,6 +70,7 @@ fn run_command_in(
         (command_output (Some world.old) (command_value command.entry)) }
     ensures world { OnOk result (
         Some world.new ≡ after_command (Some world.old) (command_value command.entry)) }
+    ensures history { OnOk result (IsNext world.old (command_value command.entry)) }
 {
     match command {
         Command::Nodes { .. } => print_bad_line(out),
@@ -84,6 +89,7 @@ fn run_command(
         (command_output world.old (command_value command.entry)) }
     ensures world { OnOk result (
         world.new ≡ after_command world.old (command_value command.entry)) }
+    ensures history { OnOk result (GoesOn world.old (command_value command.entry)) }
 {
     match world {
         Some(world) => run_command_in(alloc, world, command, out),
@@ -114,6 +120,7 @@ fn run_line(
 ) -> Result<(), AllocError>
     ensures output { Prints result out.old out.new (line_output world.old line.now) }
     ensures world { OnOk result (world.new ≡ after_line world.old line.now) }
+    ensures history { OnOk result (LineGoesOn world.old line.now) }
 {
     if is_skipped(line) {
         return Ok(());
@@ -126,7 +133,8 @@ fn run_line(
 
 /// The text that a script prints.
 pub fn output_of(alloc: Global, script: &[u8]) -> Result<String, AllocError>
-    ensures { IfOk result (λ text. string_bytes text ≡ script_text script.now) }
+    ensures text { IfOk result (λ text. string_bytes text ≡ script_text script.now) }
+    ensures schedule { OnOk result (RunsAsSchedule script.now) }
 {
     let mut world = None;
     let mut out = String::new(alloc);
@@ -159,6 +167,7 @@ fn echo_line(
     ensures output { OnOk result (
         out.new.items ≡ out.old.items ++ echoed_output world.old line.now) }
     ensures world { OnOk result (world.new ≡ after_line world.old line.now) }
+    ensures history { OnOk result (LineGoesOn world.old line.now) }
 {
     push_echo(out, line)?;
     let mut text = String::new(alloc);
@@ -168,7 +177,8 @@ fn echo_line(
 
 /// What a script prints, with each line before its answer. The bytes of a line may be no text.
 pub fn echoed_output_of(alloc: Global, script: &[u8]) -> Result<Vec<u8>, AllocError>
-    ensures { IfOk result (λ text. text.items ≡ echoed_text script.now) }
+    ensures text { IfOk result (λ text. text.items ≡ echoed_text script.now) }
+    ensures schedule { OnOk result (RunsAsSchedule script.now) }
 {
     let mut world = None;
     let mut out = Vec::new(alloc);

@@ -8,7 +8,7 @@ use Rattle.streams.specs.Fields.{lines_of, newline}
 use Rattle.thread_plans.specs.declared.plan.Block.{Block}
 use Rattle.thread_plans.specs.Plans.{ends_line, line_count}
 
-count_by-push : {X : Type 0} (p : X → Bool) (xs : List X) (x : X) →
+pub count_by-push : {X : Type 0} (p : X → Bool) (xs : List X) (x : X) →
     count_by p (xs ++ x ∷ []) ≡ count_by p xs + cond (p x) 1 0
 count_by-push p xs x = fold-append (λ n y. n + cond (p y) 1 0) 0 xs (x ∷ [])
 

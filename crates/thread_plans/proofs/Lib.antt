@@ -1,2 +1,6 @@
-pub mod Readings
 pub mod Counts
+pub mod Readings
+pub mod Runs
+pub mod Spelled
+pub mod Planned
+pub mod Grammars

@@ -1,2 +1,4 @@
 pub mod Lines
 pub mod Plans
+pub mod Grammar
+pub mod Laws

@@ -2,6 +2,7 @@
 //! to.
 #![tactic(auto)]
 
+pub mod laws;
 mod line;
 mod plan;
 mod reading;

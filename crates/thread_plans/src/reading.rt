@@ -2,6 +2,7 @@
 
 ghost use Rattle.std.specs.Prelude.{◌≡◌, ◌≤◌, ◌⊎◌, ℕ, length, IfErr, IfOk};
 ghost use Rattle.streams.specs.declared.fault.ScriptFault.TheVariants.{BadLine, OutOfMemory};
+ghost use Rattle.thread_plans.specs.Grammar.{IsRefusedAt, IsScriptOf};
 ghost use Rattle.thread_plans.specs.Plans.{ends_line, plan_in, plan_value};
 
 use crate::plan::ThreadPlan;
@@ -20,6 +21,11 @@ fn ends_line(script: &[u8]) -> bool
 /// behind its last.
 pub fn read_plan(alloc: Global, script: &[u8]) -> Result<ThreadPlan<'_>, ScriptFault>
     requires { length script.now ≤ MOST_BYTES }
+    // The text is a script of the plan.
+    ensures plan { IfOk result (λ plan. IsScriptOf script.now (plan_value plan)) }
+    // The line is the first with which no plan goes on, or the end of a script that ends early.
+    ensures refused { (line : ℕ) → result ≡ Err (BadLine line) → IsRefusedAt script.now line }
+    // The same as a function of the text.
     ensures ok { IfOk result (λ plan. plan_in script.now ≡ Ok (plan_value plan)) }
     ensures bad { (line : ℕ) → result ≡ Err (BadLine line) → plan_in script.now ≡ Err line }
     ensures only { IfErr result (λ fault.

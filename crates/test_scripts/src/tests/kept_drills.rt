@@ -188,22 +188,29 @@ fn bad_first_lines(rt: HostRuntime) {
 }
 
 // What comes of a text of which a read fails behind so many bytes, three for each read.
-fn fault_behind(alloc: Global, bytes: usize) -> Option<DrillFault> {
+fn fault_behind(alloc: Global, bytes: usize, kind: ErrorKind) -> Option<DrillFault> {
     let slow = Slow {
         text: ONE_ENTRY.as_bytes(),
         calls: 0,
         fails_at: bytes / 3,
-        kind: ErrorKind::ConnectionReset,
+        kind,
     };
     read(alloc, slow).err()
 }
 
-// What is read before a read fails is no drill, also where it ends with a line.
+fn expect_failed_reads(rt: &impl Abort, alloc: Global, kind: ErrorKind) {
+    for bytes in [0, 3, ONE_ENTRY.len()] {
+        let found = fault_behind(alloc, bytes, kind);
+        expect(rt, &found, &Some(DrillFault::ReadFailed));
+    }
+}
+
+// What is read before a read fails is no drill, also where it ends with a line, and where the read was
+// made again.
 #[test]
 fn a_read_fails(rt: HostRuntime) {
-    for bytes in [0, 3, ONE_ENTRY.len()] {
-        let found = fault_behind(rt.alloc(), bytes);
-        expect(&rt, &found, &Some(DrillFault::ReadFailed));
+    for kind in [ErrorKind::ConnectionReset, ErrorKind::Interrupted] {
+        expect_failed_reads(&rt, rt.alloc(), kind);
     }
 }
 

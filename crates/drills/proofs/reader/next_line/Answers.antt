@@ -6,8 +6,8 @@ use Rattle.drills.proofs.reader.next_line.Goals as goal
 pub returns-in-Ok-clause-taken : goal.returns-in-Ok-clause-taken
 returns-in-Ok-clause-taken g c =
     let left = bytes_left g.I.Read.remaining in
-    let len = c.read_until.new.buf.ok.0 in
+    let len = c.read_until-taken.new.buf.ok.0 in
     let grown = c.in-Ok.ensures.ok in
     let some = c.in-Ok.field-0-test.1 in
-    taken (left c.args.reader.now) (left c.read_until.new.self) c.read_until.new.buf.items c.drop_newline.new.line.items
+    taken (left c.args.reader.now) (left c.read_until-taken.new.self) c.read_until-taken.new.buf.items c.drop_newline.new.line.items
     (rw c.clear.ensures.items at c.in-Ok.ensures.bytes) c.in-Ok.ensures.rest (omega (arith, len, grown, some)) c.drop_newline.ensures

@@ -1,0 +1,16 @@
+-- What is read of a script of threads is what the grammar says.
+use Rattle.std.specs.Prelude.{◌≡◌, ◌↔◌, ℕ, List, Ok, Err}
+use Rattle.thread_plans.specs.Plans.{PlanValue, plan_in}
+use Rattle.thread_plans.specs.Grammar.{IsRefusedAt, IsScriptOf}
+
+-- a text is a script of one plan at most
+abbrev pub ScriptHasOnePlan : Type 0
+ScriptHasOnePlan = (text : List ℕ) (p q : PlanValue) → IsScriptOf text p → IsScriptOf text q → p ≡ q
+
+-- it is read as the plan that it is a script of
+abbrev pub PlanIsRead : Type 0
+PlanIsRead = (text : List ℕ) (p : PlanValue) → (plan_in text ≡ Ok p) ↔ IsScriptOf text p
+
+-- and refused at the line that no plan goes on with
+abbrev pub LineIsRefused : Type 0
+LineIsRefused = (text : List ℕ) (number : ℕ) → (plan_in text ≡ Err number) ↔ IsRefusedAt text number

@@ -1,0 +1,12 @@
+//! What holds of every script of threads.
+
+ghost use Rattle.thread_plans.specs.Laws.{LineIsRefused, PlanIsRead, ScriptHasOnePlan};
+
+/// A text is a script of one plan at most, and that is what is read of it (`plan_in`). What is
+/// refused is the first line with which no plan goes on, or the end of a script that no plan ends
+/// so.
+pub fn plans_are_read()
+    ensures one { ScriptHasOnePlan }
+    ensures plan { PlanIsRead }
+    ensures refused { LineIsRefused }
+{}
