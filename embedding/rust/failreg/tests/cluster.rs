@@ -161,7 +161,10 @@ fn a_site_remembers_settings_of_one_registry() {
     a.set("other", "return").unwrap();
     assert_eq!((spelled(&a), spelled(&a), a.calls()), (false, false, Ok(1)));
     b.set("spelled", "return").unwrap();
-    assert_eq!((spelled(&a), spelled(&b), spelled(&a)), (false, true, false));
+    assert_eq!(
+        (spelled(&a), spelled(&b), spelled(&a)),
+        (false, true, false)
+    );
     a.set("spelled", "return").unwrap();
     assert_eq!((spelled(&a), spelled(&b)), (true, true));
     // A set that only changes what a point does leaves which points are set.
@@ -185,7 +188,7 @@ fn a_site_sees_each_change_that_came_before() {
     let a = Registry::open(0, 1, 1_000_000).unwrap();
     a.set("other", "off").unwrap();
     std::thread::scope(|scope| {
-        (0..3).for_each(|_| drop(scope.spawn(|| (0..20_000).for_each(|_| drop(spelled(&a))))));
+        (0..3).for_each(|_| drop(scope.spawn(|| (0..20_000).for_each(|_| _ = spelled(&a)))));
         for _ in 0..500 {
             a.set("spelled", "return").unwrap();
             assert!(spelled(&a));
