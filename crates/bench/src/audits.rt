@@ -1,6 +1,6 @@
 //! Drills of 16 nodes, whose calls one thread makes through a registry of each, and their audits.
 
-ghost use Rattle.std.specs.Prelude.{◌≡◌};
+ghost use Rattle.std.specs.Prelude.{◌≡◌, replicate};
 
 use crate::calls::call_all;
 use crate::figures::Figures;
@@ -170,6 +170,7 @@ fn run_registry<L: Label, R: Wait>(
     requires name { blank.name ≡ L.name }
     requires parts { (blank.parts ≡ L.parts) × (L.parts ≡ 1) }
     requires config { config ≡ L.config }
+    requires seed { replicate 32 7 ≡ L.seed }
 {
     let (registry, mut seats) = Registry::<L>::start(rt, alloc, blank, config, [7; 32], 1)?;
     let receipts = call_all(rt, alloc, &registry, &mut seats, asks);

@@ -188,6 +188,7 @@ fn by_registry<L: Label + Send + Sync, R: AllocGlobal + Clock + Threads + Wait +
     requires name { blank.name ≡ L.name }
     requires parts { (blank.parts ≡ L.parts) × (L.parts ≡ seats) × (0 < seats) }
     requires config { config ≡ L.config }
+    requires seed { SEED ≡ L.seed }
 {
     let (registry, seats) = Registry::<L>::start(rt, rt.alloc(), blank, config, SEED, seats)?;
     by_seats(rt, &registry, seats, load)

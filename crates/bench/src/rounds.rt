@@ -1,6 +1,6 @@
 //! Rounds of gossip over mail, by nodes that take turns.
 
-ghost use Rattle.std.specs.Prelude.{◌≡◌};
+ghost use Rattle.std.specs.Prelude.{◌≡◌, replicate};
 
 use crate::baton::Baton;
 use crate::calls::call_all;
@@ -170,6 +170,7 @@ fn member_turns<L: Label, R: AllocGlobal + Clock + Wait>(
     requires name { blank.name ≡ L.name }
     requires parts { (blank.parts ≡ L.parts) × (L.parts ≡ 1) }
     requires config { member.config ≡ L.config }
+    requires seed { replicate 32 7 ≡ L.seed }
 {
     let config = member.config;
     let (registry, mut seats) = Registry::<L>::start(rt, rt.alloc(), blank, config, [7; 32], 1)?;

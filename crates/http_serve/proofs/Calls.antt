@@ -1,5 +1,5 @@
 -- What a call of a handler comes to, by its outcome.
-use Rattle.std.proofs.Common.{◌≡◌, ℕ, ◌+◌, Result, Ok, Err, inl, inr, refl, ◌∙◌, ap, sym, subst, IfOk, IfErr, OnErr}
+use Rattle.std.proofs.Common.{◌≡◌, ℕ, ◌+◌, List, Result, Ok, Err, inl, inr, refl, ◌∙◌, ap, sym, subst, IfOk, IfErr, OnErr}
 use Rattle.std.specs.Prelude.{OnOk}
 use Rattle.node_calls.specs.declared.ask.Ask.{Ask}
 use Rattle.node_core.specs.declared.config.Config.{Config}
@@ -15,15 +15,15 @@ use Rattle.http_routes.specs.Requests as wants
 use Rattle.http_serve.specs.Served.{Comes, IsServed, IsServedFrom}
 
 -- an accepted call is counted and answered so, and a refused one so
-pub called_by : (config : Config) (had has : ℕ) (ask : Ask) (given : ReplyValue) (outcome : Result Reply NodeFault)
-    → IfOk outcome (IsAnswered config ask)
-    → IfErr outcome (registry.IsRefused config (ask_value_first config.nodes ask))
+pub called_by : (config : Config) (seed : List ℕ) (had has : ℕ) (ask : Ask) (given : ReplyValue) (outcome : Result Reply NodeFault)
+    → IfOk outcome (IsAnswered config seed ask)
+    → IfErr outcome (registry.IsRefused config seed (ask_value_first config.nodes ask))
     → OnOk outcome (has ≡ had + 1)
     → OnErr outcome (has ≡ had)
     → IfOk outcome (λ reply. (n : ℕ) → given ≡ acceptance_value (reply_value n reply))
     → IfErr outcome (λ f. IsReply (refusal_value f) given)
-    → IsServedFrom config had has (call (ask_told ask)) given
-called_by config had has ask given (Ok reply) (r, node, of, answer, accepted) refused more same told why =
+    → IsServedFrom config seed had has (call (ask_told ask)) given
+called_by config seed had has ask given (Ok reply) (r, node, of, answer, accepted) refused more same told why =
     inl (
       record {
         receipt = r;
@@ -33,19 +33,19 @@ called_by config had has ask given (Ok reply) (r, node, of, answer, accepted) re
       },
       more,
     )
-called_by config had has ask given (Err fault) answered refused more same told why =
+called_by config seed had has ask given (Err fault) answered refused more same told why =
     inr (inl (record { fault = fault; refused = refused; told = why }), same)
 
 -- whatever the seat counts
-pub served : (config : Config) (had has : ℕ) (wanted : WantedValue) (given : ReplyValue) → IsServedFrom config had has wanted given → IsServed config wanted given
-served config had has (wants.call ask) given (inl (made, more)) = inl (inl made)
-served config had has (wants.call ask) given (inr (inl refused, same)) = inl (inr refused)
-served config had has (wants.call ask) given (inr (inr none, same)) = inr none
-served config had has wants.list given (is, same) = is
-served config had has wants.report given (is, same) = is
-served config had has (wants.answered reply) given (is, same) = is
+pub served : (config : Config) (seed : List ℕ) (had has : ℕ) (wanted : WantedValue) (given : ReplyValue) → IsServedFrom config seed had has wanted given → IsServed config seed wanted given
+served config seed had has (wants.call ask) given (inl (made, more)) = inl (inl made)
+served config seed had has (wants.call ask) given (inr (inl refused, same)) = inl (inr refused)
+served config seed had has (wants.call ask) given (inr (inr none, same)) = inr none
+served config seed had has wants.list given (is, same) = is
+served config seed had has wants.report given (is, same) = is
+served config seed had has (wants.answered reply) given (is, same) = is
 
 -- a request that is answered without the node
-pub answered_so : (config : Config) (wanted : WantedValue) (given : ReplyValue) → IsWanted wanted (wants.answered given) → IsServed config wanted given
-answered_so config wanted given (inl is) = inl (subst (λ w. Comes config w given) is (inl refl))
-answered_so config wanted given (inr is) = inr (cc)
+pub answered_so : (config : Config) (seed : List ℕ) (wanted : WantedValue) (given : ReplyValue) → IsWanted wanted (wants.answered given) → IsServed config seed wanted given
+answered_so config seed wanted given (inl is) = inl (subst (λ w. Comes config seed w given) is (inl refl))
+answered_so config seed wanted given (inr is) = inr (cc)

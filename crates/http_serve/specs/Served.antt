@@ -1,5 +1,5 @@
 -- What a served node answers to a request.
-use Rattle.std.specs.Prelude.{◌≡◌, ◌⊎◌, ℕ, ◌+◌}
+use Rattle.std.specs.Prelude.{◌≡◌, ◌⊎◌, ℕ, ◌+◌, List}
 use Rattle.node_core.specs.declared.config.Config.{Config}
 use Rattle.node_calls.specs.declared.fault.NodeFault.{NodeFault}
 use Rattle.node_calls.specs.declared.receipt.Receipt.{Receipt}
@@ -15,36 +15,36 @@ use Rattle.http_routes.specs.Replies.{ReplyValue, IsReply, acceptance_value, no_
 use Rattle.http_routes.specs.Requests.{WantedValue}
 use Rattle.http_routes.specs.Requests as wants
 
--- some lawful node of this configuration accepts the ask, and the reply is what it answers, always
-pub record IsMade (config : Config) (ask : AskTold) (given : ReplyValue) : Type 0 where
+-- some lawful node of this configuration and seed accepts the ask, and the reply is what it answers, always
+pub record IsMade (config : Config) (seed : List ℕ) (ask : AskTold) (given : ReplyValue) : Type 0 where
   pub receipt : Receipt
-  pub accepted : IsGiven config receipt
+  pub accepted : IsGiven config seed receipt
   pub asked : IsReceiptOf config (asked_from config.nodes ask (reply_told receipt.entry.reply)) receipt
   pub told : given ≡ acceptance_value (reply_value config.nodes receipt.entry.reply)
 
 -- some lawful node refuses the ask, and the reply says why
-pub record IsRefused (config : Config) (ask : AskTold) (given : ReplyValue) : Type 0 where
+pub record IsRefused (config : Config) (seed : List ℕ) (ask : AskTold) (given : ReplyValue) : Type 0 where
   pub fault : NodeFault
-  pub refused : registry.IsRefused config (asked_first config.nodes ask) fault
+  pub refused : registry.IsRefused config seed (asked_first config.nodes ask) fault
   pub told : IsReply (refusal_value fault) given
 
 -- what is wanted of a node of this configuration comes to this reply
-abbrev pub Comes : Config → WantedValue → ReplyValue → Type 0
-Comes config (wants.call ask) given = IsMade config ask given ⊎ IsRefused config ask given
-Comes config wants.list given =
-    (c : Cell) × IsLawfulAt config c × IsReply (text_reply 200 (list_text (state_known c.node))) given
-Comes config wants.report given =
-    (c : Cell) × IsLawfulAt config c
+abbrev pub Comes : Config → List ℕ → WantedValue → ReplyValue → Type 0
+Comes config seed (wants.call ask) given = IsMade config seed ask given ⊎ IsRefused config seed ask given
+Comes config seed wants.list given =
+    (c : Cell) × IsLawfulAt config seed c × IsReply (text_reply 200 (list_text (state_known c.node))) given
+Comes config seed wants.report given =
+    (c : Cell) × IsLawfulAt config seed c
     × IsReply (text_reply 200 (report_json_text (state_known c.node) config.nodes)) given
-Comes config (wants.answered reply) given = IsReply reply given
+Comes config seed (wants.answered reply) given = IsReply reply given
 
 -- the same; or memory was refused before anything was asked
-abbrev pub IsServed : Config → WantedValue → ReplyValue → Type 0
-IsServed config wanted given = Comes config wanted given ⊎ (given ≡ no_memory)
+abbrev pub IsServed : Config → List ℕ → WantedValue → ReplyValue → Type 0
+IsServed config seed wanted given = Comes config seed wanted given ⊎ (given ≡ no_memory)
 
 -- the same from a seat, with the calls that it had made and that it has made then: an accepted call is counted, and is
 -- answered as one, always; where there is another reply, no call was made
-abbrev pub IsServedFrom : Config → ℕ → ℕ → WantedValue → ReplyValue → Type 0
-IsServedFrom config had has (wants.call ask) given =
-    (IsMade config ask given × (has ≡ had + 1)) ⊎ ((IsRefused config ask given ⊎ (given ≡ no_memory)) × (has ≡ had))
-IsServedFrom config had has wanted given = IsServed config wanted given × (has ≡ had)
+abbrev pub IsServedFrom : Config → List ℕ → ℕ → ℕ → WantedValue → ReplyValue → Type 0
+IsServedFrom config seed had has (wants.call ask) given =
+    (IsMade config seed ask given × (has ≡ had + 1)) ⊎ ((IsRefused config seed ask given ⊎ (given ≡ no_memory)) × (has ≡ had))
+IsServedFrom config seed had has wanted given = IsServed config seed wanted given × (has ≡ had)

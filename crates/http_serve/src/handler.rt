@@ -70,7 +70,8 @@ impl<L: Label> NodeHandler<L> {
         path: &str,
         body: Vec<u8>,
     ) -> HttpReply
-        ensures { IsServed L.config (wanted method.now path.now body.items) (http_value result) }
+        ensures { IsServed L.config L.seed (wanted method.now path.now body.items)
+            (http_value result) }
     {
         let mut seat = self.seat.lock(rt);
         self.answer_from(rt, alloc, &mut seat, method, path, body)
@@ -88,7 +89,7 @@ impl<L: Label> NodeHandler<L> {
         path: &str,
         body: Vec<u8>,
     ) -> HttpReply
-        ensures { IsServedFrom L.config seat.old seat.new
+        ensures { IsServedFrom L.config L.seed seat.old seat.new
             (wanted method.now path.now body.items) (http_value result) }
     {
         match route_owned(alloc, &self.routes, method, path, body) {
@@ -100,7 +101,7 @@ impl<L: Label> NodeHandler<L> {
     }
 
     fn call<R: Wait>(&self, rt: &R, alloc: Global, seat: &mut Seat<L>, ask: Ask) -> HttpReply
-        ensures { IsServedFrom L.config seat.old seat.new
+        ensures { IsServedFrom L.config L.seed seat.old seat.new
             (requests.call (ask_told ask)) (http_value result) }
     {
         let Ok(room) = ReplyRoom::new(alloc) else {
@@ -111,14 +112,14 @@ impl<L: Label> NodeHandler<L> {
     }
 
     fn list<R: Wait>(&self, rt: &R, alloc: Global) -> HttpReply
-        ensures { IsServed L.config requests.list (http_value result) }
+        ensures { IsServed L.config L.seed requests.list (http_value result) }
     {
         let list = self.registry.with(rt, |core| core.list(alloc));
         HttpReply::written(alloc, 200, list)
     }
 
     fn report<R: Wait>(&self, rt: &R, alloc: Global) -> HttpReply
-        ensures { IsServed L.config requests.report (http_value result) }
+        ensures { IsServed L.config L.seed requests.report (http_value result) }
     {
         let report = self.registry.with(
             rt,
@@ -138,7 +139,7 @@ impl<L: Label> NodeHandler<L> {
 }
 
 impl<L: Label> Handler for NodeHandler<L> {
-    ghost answers = { λ _ method path body. IsServed L.config (wanted method path body) };
+    ghost answers = { λ _ method path body. IsServed L.config L.seed (wanted method path body) };
 
     fn reply<R: Wait>(
         &self,

@@ -1,6 +1,6 @@
 //! A node that is served over HTTP.
 
-ghost use Rattle.std.specs.Prelude.{◌≡◌, ◌⊎◌, IfOk, IfErr, IsErrAnd, IsTrue, OnOk, true, false};
+ghost use Rattle.std.specs.Prelude.{◌≡◌, ◌⊎◌, IfOk, IfErr, IsErrAnd, IsTrue, OnOk, true, false, replicate};
 ghost use Rattle.node_core.specs.Refusals.{is_bad_config};
 ghost use Rattle.node_service.specs.declared.fault.ServiceFault.TheVariants.{Node};
 
@@ -68,6 +68,7 @@ where
     requires name { blank.name ≡ L.name }
     requires parts { (blank.parts ≡ L.parts) × (L.parts ≡ 2) }
     requires config { config ≡ L.config }
+    requires seed { replicate 32 0 ≡ L.seed }
     ensures ok { IfOk result (λ served. served ≡ options.entry.requests) }
     ensures bad { IsTrue (is_bad_config config)
         → IsErrAnd result (λ f. (f ≡ Node NodeFault.OutOfMemory) ⊎ (f ≡ Node NodeFault.BadConfig)) }
@@ -156,6 +157,7 @@ fn opened<L: Label, R: Wait>(
     requires name { blank.name ≡ L.name }
     requires parts { (blank.parts ≡ L.parts) × (L.parts ≡ 2) }
     requires config { config ≡ L.config }
+    requires seed { replicate 32 0 ≡ L.seed }
     ensures good { OnOk result (is_bad_config config ≡ false) }
     ensures err { IfErr result (λ f. (f ≡ NodeFault.OutOfMemory)
         ⊎ ((f ≡ NodeFault.BadConfig) × IsTrue (is_bad_config config))) }

@@ -1,14 +1,20 @@
 -- Seats, and the receipts of their calls.
-use Rattle.std.proofs.Common.{◌≡◌, ℕ, List, [], ◌∷◌}
-use Rattle.std.specs.List.{AllZip}
+use Rattle.std.proofs.Common.{◌≡◌, ℕ, ◌+◌, Bool, List, [], ◌∷◌, arith, vec_len}
 use Rattle.std.specs.Prelude.{All}
 use Rattle.std.proofs.lemmas.List.Elements.{All-cons, All-head, All-nil, All-tail}
+use Rattle.node_core.specs.declared.config.Config.{Config}
+use Rattle.node_registry.specs.Workers.{AllNumbered, IsDone}
+use Rattle.node_registry.specs.declared.workers.Done.{Done}
+use Rattle.node_registry.specs.declared.workers.Job.{Job}
 
--- what is so of each of a list, and of the other list's element beside it
-pub All-beside : {A B : Type 0} (R : A → B → Type 0) (P : A → Type 0) (Q : B → Type 0)
-    (each : (a : A) (b : B) → R a b → P a → Q b) (xs : List A) (ys : List B) → AllZip R xs ys → All P xs → All Q ys
-All-beside R P Q each [] [] h p = All-nil Q
-All-beside R P Q each [] (y ∷ ys) h p = absurd h
-All-beside R P Q each (x ∷ xs) [] h p = absurd h
-All-beside R P Q each (x ∷ xs) (y ∷ ys) h p =
-    All-cons Q y ys (each x y h.0 (All-head P x xs p)) (All-beside R P Q each xs ys h.1 (All-tail P x xs p))
+-- workers from seats without a call: each seat has as many calls then as it has receipts
+pub each_counted : {L : Type 0} (config : Config) (seed : List ℕ) (says : ℕ → ℕ → Bool → Type 0) (hears : ℕ → ℕ → Type 0) (n : ℕ) (jobs : List (Job L)) (dones : List (Done L))
+    → AllNumbered (λ n (j : Job L) (d : Done L). IsDone config seed (says n) (hears n) j.seat j.asks.items d) n jobs dones → All (λ j. j.seat ≡ 0) jobs → All (λ d. d.seat ≡ vec_len d.receipts) dones
+each_counted config seed says hears n [] [] h fresh = All-nil _
+each_counted config seed says hears n [] (d ∷ ds) h fresh = absurd h
+each_counted config seed says hears n (j ∷ js) [] h fresh = absurd h
+each_counted config seed says hears n (j ∷ js) (d ∷ ds) h fresh =
+    let new : j.seat ≡ 0 = All-head (λ j. j.seat ≡ 0) j js fresh in
+    let calls = h.0.counted in
+    All-cons (λ d. d.seat ≡ vec_len d.receipts) d ds (omega (arith, new, calls, d.receipts.ok.0))
+    (each_counted config seed says hears (n + 1) js ds h.1 (All-tail (λ j. j.seat ≡ 0) j js fresh))

@@ -101,6 +101,7 @@ fn run_registry<L: Label + Send + Sync, R: Threads + Wait + Sync>(
     requires name { blank.name ≡ L.name }
     requires parts { (blank.parts ≡ L.parts) × (L.parts ≡ seats) × (0 < seats) }
     requires config { job.config ≡ L.config }
+    requires seed { plan.now.seed ≡ L.seed }
 {
     let NodeJob { config, gossip } = job;
     let started = Registry::<L>::start(rt, alloc, blank, config, plan.seed, seats);

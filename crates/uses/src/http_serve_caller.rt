@@ -1,6 +1,6 @@
 //! A caller of `http_serve`.
 
-ghost use Rattle.std.specs.Prelude.{◌≡◌, IfOk};
+ghost use Rattle.std.specs.Prelude.{◌≡◌, IfOk, replicate};
 
 use http_serve::{ServeFault, serve};
 use node_core::{Config, NodeFault};
@@ -45,6 +45,7 @@ where
     requires name { blank.name ≡ L.name }
     requires parts { (blank.parts ≡ L.parts) × (L.parts ≡ 1) }
     requires config { config ≡ L.config }
+    requires seed { replicate 32 0 ≡ L.seed }
     ensures { IfOk result (λ ended. IfOk ended (λ served. served ≡ clients)) }
 {
     let alloc: Global = rt.alloc();

@@ -1,6 +1,6 @@
 //! A caller of `node_registry`.
 
-ghost use Rattle.std.specs.Prelude.{◌≡◌, length, map, vec_len, IfOk};
+ghost use Rattle.std.specs.Prelude.{◌≡◌, length, map, vec_len, IfOk, replicate};
 ghost use Rattle.node_calls.specs.Asks.{call};
 ghost use Rattle.node_core.specs.Traces.{IsLegal};
 
@@ -36,6 +36,7 @@ fn asked_by<L: Label, R: Wait>(
     requires name { blank.name ≡ L.name }
     requires parts { (blank.parts ≡ L.parts) × (L.parts ≡ 1) }
     requires config { config ≡ L.config }
+    requires seed { replicate 32 0 ≡ L.seed }
     ensures legal { IfOk result (λ c. IsLegal config (map (call config.nodes) c.trace.items)) }
     ensures entries { IfOk result (λ c. length c.trace.items ≡ c.calls) }
 {

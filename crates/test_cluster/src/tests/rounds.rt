@@ -1,6 +1,6 @@
 //! Rounds over mail, and over wires that fail.
 
-ghost use Rattle.std.specs.Prelude.{◌≡◌};
+ghost use Rattle.std.specs.Prelude.{◌≡◌, replicate};
 
 use super::*;
 
@@ -73,6 +73,7 @@ fn mail<L: Label, M: Label, R: Wait>(
     requires one { (one.name ≡ M.name) × (one.parts ≡ M.parts) × (M.parts ≡ 1) }
     requires first { FIRST_OF_TWO ≡ L.config }
     requires second { SECOND_OF_TWO ≡ M.config }
+    requires seeds { (replicate 32 0 ≡ L.seed) × (replicate 32 0 ≡ M.seed) }
 {
     let (first, mut seat) = opened::<L, R>(rt, alloc, zero, FIRST_OF_TWO)?;
     first.set(rt, alloc, &mut seat, "a", "off")?;
@@ -175,6 +176,7 @@ fn counts_at<L: Label, R: Wait>(
     requires name { blank.name ≡ L.name }
     requires parts { (blank.parts ≡ L.parts) × (L.parts ≡ 1) }
     requires config { FIRST_OF_THREE ≡ L.config }
+    requires seed { replicate 32 0 ≡ L.seed }
 {
     let (registry, mut seat) = opened::<L, R>(rt, alloc, blank, FIRST_OF_THREE)?;
     let inner = filled(rt, alloc, message)?;

@@ -1,6 +1,6 @@
 //! What the tests of rounds stand on. None of it states anything.
 
-ghost use Rattle.std.specs.Prelude.{◌≡◌};
+ghost use Rattle.std.specs.Prelude.{◌≡◌, replicate};
 
 use super::*;
 
@@ -35,6 +35,7 @@ pub(super) fn opened<L: Label, R: Wait>(
     requires name { blank.name ≡ L.name }
     requires parts { (blank.parts ≡ L.parts) × (L.parts ≡ 1) }
     requires config { config ≡ L.config }
+    requires seed { replicate 32 0 ≡ L.seed }
 {
     let (registry, mut seats) = Registry::<L>::start(rt, alloc, blank, config, [0; 32], 1)?;
     let seat = seats.pop().ok_or("a seat")?;

@@ -2,7 +2,7 @@
 //! clients send nothing, and hold up nobody else. Of two more servers one isn't there, and one never
 //! answers.
 
-ghost use Rattle.std.specs.Prelude.{◌≡◌};
+ghost use Rattle.std.specs.Prelude.{◌≡◌, replicate};
 
 use gossip::{Wire, WireError};
 use http_serve::{ServeFault, serve};
@@ -74,6 +74,7 @@ where
     requires name { blank.name ≡ L.name }
     requires parts { (blank.parts ≡ L.parts) × (L.parts ≡ 1) }
     requires config { config ≡ L.config }
+    requires seed { replicate 32 0 ≡ L.seed }
 {
     let alloc = rt.alloc();
     let (registry, mut seats) = Registry::<L>::start(rt, alloc, blank, config, [0; 32], 1)?;
@@ -184,6 +185,7 @@ where
     requires name { blank.name ≡ L.name }
     requires parts { (blank.parts ≡ L.parts) × (L.parts ≡ 1) }
     requires config { SERVED ≡ L.config }
+    requires seed { replicate 32 0 ≡ L.seed }
 {
     let (registry, seat) = opened::<L, R>(rt, blank, SERVED)?;
     let told = serving(rt, &registry, seat)?;

@@ -1,7 +1,7 @@
 //! Nodes behind a lock. What no contract says: words from outside, that threads run beside each
 //! other, and that what callers are told is what the traces have.
 
-ghost use Rattle.std.specs.Prelude.{◌≡◌, ◌<◌};
+ghost use Rattle.std.specs.Prelude.{◌≡◌, ◌<◌, replicate};
 
 mod apart;
 mod calls;
@@ -107,6 +107,7 @@ fn play<L: Label + Send + Sync, R: Abort + Threads + Wait + Clock + Sync>(
     requires name { blank.name ≡ L.name }
     requires parts { (blank.parts ≡ L.parts) × (L.parts ≡ callers) × (0 < callers) }
     requires config { SECOND_OF_TWO ≡ L.config }
+    requires seed { replicate 32 0 ≡ L.seed }
 {
     let (registry, seats) = Registry::<L>::start(
         rt,

@@ -1,6 +1,6 @@
 //! Two nodes have two locks.
 
-ghost use Rattle.std.specs.Prelude.{◌≡◌};
+ghost use Rattle.std.specs.Prelude.{◌≡◌, replicate};
 
 use super::*;
 
@@ -25,6 +25,7 @@ fn two_locks<L: Label, M: Label, R: Wait>(
     requires one { (one.name ≡ M.name) × (one.parts ≡ M.parts) × (M.parts ≡ 1) }
     requires first { FIRST_OF_TWO ≡ L.config }
     requires second { SECOND_OF_TWO ≡ M.config }
+    requires seeds { (replicate 32 0 ≡ L.seed) × (replicate 32 0 ≡ M.seed) }
 {
     let (first, _) = Registry::<L>::start(rt, alloc, zero, FIRST_OF_TWO, [0; 32], 1)?;
     let (second, mut seats) = Registry::<M>::start(rt, alloc, one, SECOND_OF_TWO, [0; 32], 1)?;

@@ -95,6 +95,7 @@ fn registry_draws<L: Label, R: Abort + Wait>(
     requires name { blank.name ≡ L.name }
     requires parts { (blank.parts ≡ L.parts) × (L.parts ≡ 1) }
     requires config { config ≡ L.config }
+    requires seed { SEED ≡ L.seed }
 {
     let (registry, seats) = Registry::<L>::start(rt, alloc, blank, config, SEED, 1)?;
     draws_at(rt, alloc, &registry, seat_of(seats)?)
