@@ -16,7 +16,7 @@ use std::sync::ledger::Blank;
 use std::sync::{Arc, Wait};
 use std::test::Fail;
 use std::thread::Threads;
-use std::time::Clock;
+use std::time::{Clock, Duration};
 use std::{io, thread};
 use tokio::runtime::Builder;
 
@@ -230,14 +230,23 @@ fn overtakes<R: Host>(rt: &R, address: SocketAddr, turn: &Turn) -> io::Result<bo
     Ok(is_told(rt, first, &turn.first)? && overtakes)
 }
 
+// Whether a server says nothing for a while.
+fn is_silent(socket: &TcpStream) -> io::Result<bool> {
+    socket.set_read_timeout(Some(Duration::from_millis(200)))?;
+    let is_silent = socket.peek(&mut [0]).is_err();
+    socket.set_read_timeout(None)?;
+    Ok(is_silent)
+}
+
 // Whether the second client is answered after the first one, where so many others are there.
 fn waits<R: Host>(rt: &R, address: SocketAddr, turn: &Turn) -> io::Result<bool> {
     let mut first = begun(rt, address, turn)?;
     let _others = others(rt, address, turn)?;
     let second = sending(rt, address, turn.whole)?;
+    let waits = is_silent(&second)?;
     first.write_all(turn.rest)?;
     let is_first = is_told(rt, first, &turn.first)?;
-    Ok(is_told(rt, second, &turn.second)? && is_first)
+    Ok(is_told(rt, second, &turn.second)? && is_first && waits)
 }
 
 fn all_wait<R: Host>(rt: &R, address: SocketAddr, turns: &[Turn]) -> io::Result<bool> {
