@@ -57,7 +57,11 @@ pass_back : (outcome : Passed) → PassFits outcome → pass_in (pass_data outco
 pass_back Unset h = refl
 pass_back (NoTerm stamp) h = ap (option_map NoTerm) (stamp_back (codes "none") stamp [] h)
 pass_back (Act stamp term task) h =
-    rw (stamp_back (codes "act") stamp (count_data term ∷ task_data task ∷ []) h.0, fits_up_to 255 term (omega (arith, h.1)), task_back task) refl
+    rw (
+      stamp_back (codes "act") stamp (count_data term ∷ task_data task ∷ []) h.0,
+      fits_up_to 255 term (omega (arith, h.1)),
+      task_back task,
+    ) refl
 
 reply_back : (reply : ReplyTold) → ReplyFits reply → reply_in (reply_data reply) ≡ Some reply
 reply_back (was_set stamp) h = ap (option_map was_set) (stamp_back (codes "set") stamp [] h)
@@ -76,7 +80,8 @@ words_back : (words : List ℕ) → WordsFit words → words_from (items_of (map
 words_back [] h = refl
 words_back (word ∷ words) h =
     let fits : word < 2 ^ 32 = All-head (λ w. w < 2 ^ 32) word words h in
-    rw (fits_up_to 4294967295 word (omega (arith, fits)), words_back words (All-tail (λ w. w < 2 ^ 32) word words h)) refl
+    rw (fits_up_to 4294967295 word (omega (arith, fits)), words_back words (All-tail (λ w. w < 2 ^ 32) word words h))
+    refl
 
 entry_back : (e : Told) → ToldFits e → told_in (line_data (entry e)) ≡ Some e
 entry_back e h = rw (ask_back e.ask h.ask, words_back e.words h.words, reply_back e.reply h.reply) refl

@@ -9,7 +9,8 @@ use Rattle.drills.specs.Lines.{LineTold, line_text}
 use Rattle.drills.specs.Written.{has_newline, ReadsBack}
 
 -- a line and its newline before other bytes
-pub one_line : (line rest : List ℕ) → has_newline line ≡ false → lines_in (line ++ newline ∷ rest) ≡ line ∷ lines_in rest
+pub one_line : (line rest : List ℕ) → has_newline line ≡ false →
+    lines_in (line ++ newline ∷ rest) ≡ line ∷ lines_in rest
 one_line [] rest h = refl
 one_line (x ∷ xs) rest h =
     let parts = or_parts (x == newline) (has_newline xs) h in
@@ -53,13 +54,15 @@ strip_one x other = cond-false (ends_with_byte 10 (x ∷ [])) _ _ other
 abbrev IsCut : List ℕ → Type 0
 IsCut bytes = lines_in bytes ≡ first_piece 10 bytes ∷ lines_in (drop_through 10 bytes)
 
-cut : (bytes first rest : List ℕ) → lines_in bytes ≡ first ∷ lines_in rest → first_piece 10 bytes ≡ first → drop_through 10 bytes ≡ rest → IsCut bytes
+cut : (bytes first rest : List ℕ) → lines_in bytes ≡ first ∷ lines_in rest → first_piece 10 bytes ≡ first →
+    drop_through 10 bytes ≡ rest → IsCut bytes
 cut bytes first rest h piece drop = rw (piece, drop) h
 
 cut_here : (x : ℕ) (xs : List ℕ) → (x == 10) ≡ true → IsCut (x ∷ xs)
 cut_here x xs ends =
     cut (x ∷ xs) [] xs (cond-true (x == 10) _ _ ends)
-    (ap (strip_last 10) (cond-true (x == 10) (x ∷ []) (x ∷ take_through 10 xs) ends) ∙ cond-true (ends_with_byte 10 (x ∷ [])) _ _ ends)
+    (ap (strip_last 10) (cond-true (x == 10) (x ∷ []) (x ∷ take_through 10 xs) ends) ∙
+    cond-true (ends_with_byte 10 (x ∷ [])) _ _ ends)
     (cond-true (x == 10) xs (drop_through 10 xs) ends)
 
 cut_at_end : (x : ℕ) → (x == 10) ≡ false → IsCut (x ∷ [])
@@ -75,6 +78,11 @@ cut_later x y ys other more =
     (ap (strip_last 10) (cond-false (x == 10) (x ∷ []) (x ∷ take_through 10 (y ∷ ys)) other) ∙ strip_through x y ys)
     (cond-false (x == 10) (y ∷ ys) (drop_through 10 (y ∷ ys)) other)
 
-pub first_line : (x : ℕ) (xs : List ℕ) → lines_in (x ∷ xs) ≡ first_piece 10 (x ∷ xs) ∷ lines_in (drop_through 10 (x ∷ xs))
+pub first_line : (x : ℕ) (xs : List ℕ) → lines_in (x ∷ xs) ≡ first_piece 10 (x ∷ xs) ∷
+    lines_in (drop_through 10 (x ∷ xs))
 first_line x [] = elim (cases_Bool (x == 10)) [ inl ends ↦ cut_here x [] ends | inr other ↦ cut_at_end x other ]
-first_line x (y ∷ ys) = elim (cases_Bool (x == 10)) [ inl ends ↦ cut_here x (y ∷ ys) ends | inr other ↦ cut_later x y ys other (first_line y ys) ]
+first_line x (y ∷ ys) = elim (cases_Bool (x == 10)) [
+  | inl ends ↦ cut_here x (y ∷ ys) ends
+  | inr other ↦ cut_later x y ys
+      other (first_line y ys)
+]

@@ -16,14 +16,17 @@ use Rattle.drills.specs.Written.{ReadsBack, SaysLine}
 abbrev pub Holds : Option (List ℕ) → Option (List ℕ) → List LineTold → Type 0
 Holds old new lines = Appends old new (flat_map ended lines) × All ReadsBack lines
 
-pub both : (old mid new : Option (List ℕ)) (lines next more : List LineTold) → Holds old mid lines → Holds mid new next → more ≡ lines ++ next → Holds old new more
+pub both : (old mid new : Option (List ℕ)) (lines next more : List LineTold) → Holds old mid lines →
+    Holds mid new next → more ≡ lines ++ next → Holds old new more
 both old mid new lines next more h k e =
     rw e (
-      rw (flat_map-append ended lines next) (Appends-then old mid new (flat_map ended lines) (flat_map ended next) h.0 k.0),
+      rw (flat_map-append ended lines next) (Appends-then old mid new (flat_map ended lines) (flat_map ended next) h.0
+          k.0),
       All-append ReadsBack lines next h.1 k.1,
     )
 
-pub one_line : (old new : Option (List ℕ)) (text : List ℕ) (line : LineTold) → SaysLine text line → Appends old new (text ++ newline ∷ []) → Holds old new (line ∷ [])
+pub one_line : (old new : Option (List ℕ)) (text : List ℕ) (line : LineTold) → SaysLine text line →
+    Appends old new (text ++ newline ∷ []) → Holds old new (line ∷ [])
 one_line old new text line says written =
     (rw (append-nil (ended line)) (rw says.0 at written), All-cons ReadsBack line [] says.1 (All-nil ReadsBack))
 
@@ -33,18 +36,21 @@ none_yet None = (tt, All-nil ReadsBack)
 none_yet (Some bytes) = (sym (append-nil bytes), All-nil ReadsBack)
 
 -- a write that didn't fail
-pub not_failed : (r : Result ⊤ DrillFault) (failed : Bool) → (r ≡ Err WriteFailed) ↔ (failed ≡ true) → r ≡ Ok tt → failed ≡ false
+pub not_failed : (r : Result ⊤ DrillFault) (failed : Bool) → (r ≡ Err WriteFailed) ↔ (failed ≡ true) → r ≡ Ok tt →
+    failed ≡ false
 not_failed r false h e = refl
 not_failed r true h e = cc (h.1 refl, e)
 
 -- one element more of a list
-pub mapped : {X T : Type 0} (line : T → LineTold) (tell : X → T) (xs : List X) (i : ℕ) (x : X) → i < length xs → x ≡ get_or xs i x
+pub mapped : {X T : Type 0} (line : T → LineTold) (tell : X → T) (xs : List X) (i : ℕ) (x : X) → i < length xs →
+    x ≡ get_or xs i x
     → map line (map tell (take (i + 1) xs)) ≡ map line (map tell (take i xs)) ++ line (tell x) ∷ []
 mapped line tell xs i x h e =
     ap (map line) (map_more tell xs i x h ∙ ap (λ y. map tell (take i xs) ++ tell y ∷ []) (sym e))
     ∙ map-append line (map tell (take i xs)) (tell x ∷ [])
 
-pub numbered-push : {A : Type 0} (lines : ℕ → A → List LineTold) (n : ℕ) (xs : List A) (x : A) → numbered lines n (xs ++ x ∷ []) ≡ numbered lines n xs ++ lines (n + length xs) x
+pub numbered-push : {A : Type 0} (lines : ℕ → A → List LineTold) (n : ℕ) (xs : List A) (x : A) →
+    numbered lines n (xs ++ x ∷ []) ≡ numbered lines n xs ++ lines (n + length xs) x
 numbered-push {A} lines n [] x =
     let same : n + 0 ≡ n = omega arith in
     append-nil (lines n x) ∙ ap (λ m. lines m x) (sym same)
@@ -59,7 +65,8 @@ length-told tell [] = refl
 length-told tell (x ∷ xs) = ap suc (length-told tell xs)
 
 -- one part more
-pub one_part : {X A : Type 0} (lines : ℕ → A → List LineTold) (tell : X → A) (xs : List X) (i : ℕ) (x : X) → i < length xs → x ≡ get_or xs i x
+pub one_part : {X A : Type 0} (lines : ℕ → A → List LineTold) (tell : X → A) (xs : List X) (i : ℕ) (x : X) →
+    i < length xs → x ≡ get_or xs i x
     → numbered lines 0 (map tell (take (i + 1) xs)) ≡ numbered lines 0 (map tell (take i xs)) ++ lines i (tell x)
 one_part lines tell xs i x h e =
     let few : i ≤ length xs = omega (arith, h) in
@@ -70,15 +77,19 @@ one_part lines tell xs i x h e =
     ∙ ap (λ m. numbered lines 0 (map tell (take i xs)) ++ lines m (tell x)) place
 
 -- a flush keeps what was written
-pub flushed : (old mid new : Option (List ℕ)) (lines : List LineTold) → Holds old mid lines → Keeps mid new → Holds old new lines
+pub flushed : (old mid new : Option (List ℕ)) (lines : List LineTold) → Holds old mid lines → Keeps mid new →
+    Holds old new lines
 flushed None mid new lines h k = (tt, h.1)
 flushed (Some xs) None new lines h k = absurd h.0
 flushed (Some xs) (Some ys) None lines h k = absurd k
 flushed (Some xs) (Some ys) (Some zs) lines h k = (k ∙ h.0, h.1)
 
 -- a drill is its first line, its traces and its lists
-pub whole : (start first mid last new : Option (List ℕ)) (text : List ℕ) (traces lists : List LineTold) → SaysLine text head → Appends start first (text ++ newline ∷ [])
+pub whole : (start first mid last new : Option (List ℕ)) (text : List ℕ) (traces lists : List LineTold) →
+    SaysLine text head → Appends start first (text ++ newline ∷ [])
     → Holds first mid traces → Holds mid last lists → Keeps last new → Holds start new (head ∷ (traces ++ lists))
 whole start first mid last new text traces lists says written behind rest kept =
-    let begun = both start first mid (head ∷ []) traces (head ∷ traces) (one_line start first text head says written) behind refl in
-    flushed start last new (head ∷ (traces ++ lists)) (both start mid last (head ∷ traces) lists (head ∷ (traces ++ lists)) begun rest refl) kept
+    let begun = both start first mid (head ∷ []) traces (head ∷ traces) (one_line start first text head says written)
+    behind refl in
+    flushed start last new (head ∷ (traces ++ lists)) (both start mid last (head ∷ traces) lists
+    (head ∷ (traces ++ lists)) begun rest refl) kept

@@ -17,13 +17,15 @@ none_in_both (x ∷ xs) ys h k =
     or_from (x == newline) (has_newline (xs ++ ys)) parts.0 (none_in_both xs ys parts.1 k)
 
 in_glyph : (d : ℕ) → (digit_glyph false d == 10) ≡ false
-in_glyph d = cond_both (nat_lt d 10) (48 + d) (87 + d) (λ c. (c == 10) ≡ false) (λ _. ne_eqb _ _ (λ e. omega arith)) (λ _. ne_eqb _ _ (λ e. omega arith))
+in_glyph d = cond_both (nat_lt d 10) (48 + d) (87 + d) (λ c. (c == 10) ≡ false) (λ _. ne_eqb _ _ (λ e. omega arith))
+    (λ _. ne_eqb _ _ (λ e. omega arith))
 
 in_onto : (k n : ℕ) (acc : List ℕ) → has_newline acc ≡ false → has_newline (digits_onto k 10 false n acc) ≡ false
 in_onto zero n acc h = h
 in_onto (suc k) n acc h =
     let more = or_from (digit_glyph false (n % 10) == 10) (has_newline acc) (in_glyph (n % 10)) h in
-    cond_both (n / 10 == 0) _ _ (λ text. has_newline text ≡ false) (λ _. more) (λ _. in_onto k (n / 10) (digit_glyph false (n % 10) ∷ acc) more)
+    cond_both (n / 10 == 0) _ _ (λ text. has_newline text ≡ false) (λ _. more)
+    (λ _. in_onto k (n / 10) (digit_glyph false (n % 10) ∷ acc) more)
 
 in_digits : (n : ℕ) → has_newline (decimal n) ≡ false
 unfolding digits
@@ -87,10 +89,12 @@ mutual
   in_items : (later : Bool) (ds : Items) → has_newline (items_text later ds) ≡ false
   in_items later no_items = refl
   in_items later (item d ds) =
-      none_in_both (comma_if later) _ (in_comma later) (none_in_both (compact_text d) (items_text true ds) (in_compact d) (in_items true ds))
+      none_in_both (comma_if later) _ (in_comma later) (none_in_both (compact_text d) (items_text true ds)
+      (in_compact d) (in_items true ds))
 
   in_members : (later : Bool) (ms : Members) → has_newline (members_text later ms) ≡ false
   in_members later no_members = refl
   in_members later (member k d ms) =
       none_in_both (comma_if later) _ (in_comma later)
-      (none_in_both (quoted k) _ (in_quoted k) (none_in_both (compact_text d) (members_text true ms) (in_compact d) (in_members true ms)))
+      (none_in_both (quoted k) _ (in_quoted k) (none_in_both (compact_text d) (members_text true ms) (in_compact d)
+      (in_members true ms)))

@@ -81,7 +81,8 @@ words_plain words =
 
 -- an ask, a reply and words, one beside the other
 record IsPlainEntry (e : Told) : Type 0 where
-  pub floatless : (has_float (ask_data e.ask) || (has_float (reply_data e.reply) || (has_float (words_data e.words) || false))) ≡ false
+  pub floatless : (has_float (ask_data e.ask) || (has_float (reply_data e.reply) ||
+      (has_float (words_data e.words) || false))) ≡ false
   pub ask : depth (ask_data e.ask) ≤ 1
   pub reply : depth (reply_data e.reply) ≤ 2
   pub words : depth (words_data e.words) ≤ 1

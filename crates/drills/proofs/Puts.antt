@@ -6,7 +6,8 @@ use Rattle.std.proofs.lemmas.List.{map-append}
 use Rattle.drills.specs.Drills.{in_last}
 use Rattle.drills.proofs.Folds.{put_last}
 
-pub put_behind : {X T : Type 0} (tell : X → T) (parts before after : List (Vec X Global)) (last longer : Vec X Global) (x : X) → parts ≡ before ++ last ∷ []
+pub put_behind : {X T : Type 0} (tell : X → T) (parts before after : List (Vec X Global)) (last longer : Vec X Global)
+    (x : X) → parts ≡ before ++ last ∷ []
     → after ≡ before ++ longer ∷ [] → longer.items ≡ last.items ++ x ∷ []
     → Some (map (λ part. map tell part.items) after) ≡ in_last (tell x) (map (λ part. map tell part.items) parts)
 put_behind {X} {T} tell parts before after last longer x was is grown =

@@ -24,7 +24,8 @@ pub GivesBefore-then : (n : ℕ) (rest next text : List ℕ) (old mid new : Opti
     GivesBefore next text old new
 GivesBefore-then n rest next text old mid new h k e = (
   h.0 ++ take n rest,
-  h.1 ∙ ap (λ z. h.0 ++ z) (sym (take-append-drop n rest)) ∙ sym (append_assoc h.0 (take n rest) (drop n rest)) ∙ ap (λ z. (h.0 ++ take n rest) ++ z) (sym e),
+  h.1 ∙ ap (λ z. h.0 ++ z) (sym (take-append-drop n rest)) ∙ sym (append_assoc h.0 (take n rest) (drop n rest)) ∙
+      ap (λ z. (h.0 ++ take n rest) ++ z) (sym e),
   Appends-then old mid new h.0 (take n rest) h.2 k,
 )
 
@@ -32,5 +33,8 @@ GivesBefore-then n rest next text old mid new h k e = (
 pub TakesUpTo-then : (most n : ℕ) (old mid new : Option (List ℕ)) (taken chunk : List ℕ) →
     Consumes old mid taken → Consumes mid new (take n chunk) → length taken + n ≤ most →
     TakesUpTo most old new
-TakesUpTo-then most n old mid new taken chunk h k fits =
-    (taken ++ take n chunk, Consumes-then old mid new taken (take n chunk) h k, simp (length-append, length-take) (omega arith))
+TakesUpTo-then most n old mid new taken chunk h k fits = (
+  taken ++ take n chunk,
+  Consumes-then old mid new taken (take n chunk) h k,
+  simp (length-append, length-take) (omega arith),
+)

@@ -6,10 +6,12 @@ use Rattle.thread_plans.specs.Plans.{PlanValue, StageValue, empty, ◌>>=◌, or
 
 module _ (lines : List (List ℕ)) (n : ℕ) (s : StageValue) (number : ℕ) where
   stage_from-drop : (line : List ℕ) → n < length lines → line ≡ get_or lines n line →
-      stage_from s number (drop n lines) ≡ (or_line number (after_text s line) >>= (λ next. stage_from next (number + 1) (drop (n + 1) lines)))
+      stage_from s number (drop n lines) ≡ (or_line number (after_text s line) >>=
+      (λ next. stage_from next (number + 1) (drop (n + 1) lines)))
   stage_from-drop line h e =
       at_drop_more (stage_from s number) lines n line h
-      ∙ ap (λ x. or_line number (after_text s x) >>= (λ next. stage_from next (number + 1) (drop (n + 1) lines))) (sym e)
+      ∙ ap (λ x. or_line number (after_text s x) >>= (λ next. stage_from next (number + 1) (drop (n + 1) lines)))
+      (sym e)
 
   -- a line that stands in its place
   pub one_more : (next : StageValue) (m following : ℕ) (line : List ℕ) (all : Result StageValue ℕ) →

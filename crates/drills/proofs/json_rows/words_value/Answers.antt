@@ -12,7 +12,9 @@ loop-word-preserved c = grind (arith, common_steps)
 
 pub returns-clause-value : goal.returns-clause-value
 returns-clause-value c =
-    view-Array c.loop-word.values ∙ ap (λ ds. array (items_of ds)) (c.loop-word.invariant ∙ ap (map count_data) (take_all c.loop-word.word-index c.args.words.now c.loop-word-test.false))
+    view-Array c.loop-word.values ∙ ap (λ ds. array (items_of ds))
+    (c.loop-word.invariant ∙ ap (map count_data) (take_all c.loop-word.word-index c.args.words.now
+    c.loop-word-test.false))
 
 pub returns-clause-fits : goal.returns-clause-fits
 returns-clause-fits c = λ k d below. rw (get_or_default c.args.words.now k d 0 below) ((c.type_inv.words k).fits)

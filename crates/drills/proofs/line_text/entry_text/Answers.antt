@@ -6,4 +6,5 @@ use Rattle.drills.proofs.Said.{said}
 use Rattle.drills.proofs.line_text.entry_text.Goals as goal
 
 pub returns : goal.returns
-returns c = IfOk-weaker c.printed.result _ _ (λ text is. said (entry (told c.args.entry.now)) (string_bytes text) _ c.in_ok-value.ensures.value c.in_ok-value.ensures.fits is) c.printed.ensures
+returns c = IfOk-weaker c.printed.result _ _ (λ text is. said (entry (told c.args.entry.now)) (string_bytes text) _
+    c.in_ok-value.ensures.value c.in_ok-value.ensures.fits is) c.printed.ensures

@@ -5,4 +5,5 @@ use Rattle.drills.proofs.Said.{said}
 use Rattle.drills.proofs.line_text.list_text.Goals as goal
 
 pub returns : goal.returns
-returns c = IfOk-weaker c.printed.result _ _ (λ text is. said (list c.args.number) (string_bytes text) _ c.in_ok-value.ensures c.ranges.number.fits is) c.printed.ensures
+returns c = IfOk-weaker c.printed.result _ _ (λ text is. said (list c.args.number) (string_bytes text) _
+    c.in_ok-value.ensures c.ranges.number.fits is) c.printed.ensures

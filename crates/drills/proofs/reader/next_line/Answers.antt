@@ -9,5 +9,7 @@ returns-in-Ok-clause-taken g c =
     let len = c.read_until-taken.new.buf.ok.0 in
     let grown = c.in-Ok.ensures.ok in
     let some = c.in-Ok.field-0-test.1 in
-    taken (left c.args.reader.now) (left c.read_until-taken.new.self) c.read_until-taken.new.buf.items c.drop_newline.new.line.items
-    (rw c.clear.ensures.items at c.in-Ok.ensures.bytes) c.in-Ok.ensures.rest (omega (arith, len, grown, some)) c.drop_newline.ensures
+    taken (left c.args.reader.now) (left c.read_until-taken.new.self) c.read_until-taken.new.buf.items
+    c.drop_newline.new.line.items
+    (rw c.clear.ensures.items at c.in-Ok.ensures.bytes) c.in-Ok.ensures.rest (omega (arith, len, grown, some))
+    c.drop_newline.ensures

@@ -6,6 +6,7 @@ use Rattle.drills.proofs.writer.write_list.Given as goal
 
 abbrev pub invariant-loop-receipt : goal.invariant-loop-receipt
 invariant-loop-receipt g l = record {
-  holds : Holds (g.W.Write.contents (inner_of l.initial.writer)) (g.W.Write.contents (inner_of l.writer)) (map receipt (map receipt_told (take l.receipt-index l.receipt-items)));
+  holds : Holds (g.W.Write.contents (inner_of l.initial.writer)) (g.W.Write.contents (inner_of l.writer))
+      (map receipt (map receipt_told (take l.receipt-index l.receipt-items)));
   failed : has_failed l.writer ≡ false;
 }

@@ -6,6 +6,7 @@ use Rattle.drills.proofs.writer.write_lists.Given as goal
 
 abbrev pub invariant-loop-number : goal.invariant-loop-number
 invariant-loop-number g l = record {
-  holds : Holds (g.W.Write.contents (inner_of l.initial.writer)) (g.W.Write.contents (inner_of l.writer)) (numbered list_lines 0 (lists_told (take l.number l.lists)));
+  holds : Holds (g.W.Write.contents (inner_of l.initial.writer)) (g.W.Write.contents (inner_of l.writer))
+      (numbered list_lines 0 (lists_told (take l.number l.lists)));
   failed : has_failed l.writer ≡ false;
 }

@@ -7,6 +7,7 @@ use Rattle.drills.proofs.writer.write_trace.Given as goal
 
 abbrev pub invariant-loop-entry : goal.invariant-loop-entry
 invariant-loop-entry g l = record {
-  holds : Holds (g.W.Write.contents (inner_of l.initial.writer)) (g.W.Write.contents (inner_of l.writer)) (map entry (map told (take l.entry-index l.entry-items)));
+  holds : Holds (g.W.Write.contents (inner_of l.initial.writer)) (g.W.Write.contents (inner_of l.writer))
+      (map entry (map told (take l.entry-index l.entry-items)));
   failed : has_failed l.writer ≡ false;
 }

@@ -16,16 +16,20 @@ loop-node-preserved g c =
     let mid = contents (inner_of c.loop-node.writer) in
     let new = contents (inner_of c.write_trace.new.writer) in
     let more =
-    one_part trace_lines (λ part. map told part.items) c.args.traces.now c.loop-node.node c.index-traces-node.result c.loop-node-test.true c.index-traces-node.is in
+    one_part trace_lines (λ part. map told part.items) c.args.traces.now c.loop-node.node c.index-traces-node.result
+    c.loop-node-test.true c.index-traces-node.is in
     record {
       holds = both old mid new _ _ _ c.loop-node.invariant.holds c.in_ok-write_trace.ensures.ok more;
-      failed = not_failed c.write_trace.result (has_failed c.write_trace.new.writer) c.write_trace.ensures.write_failed c.in_ok-write_trace.was;
+      failed = not_failed c.write_trace.result (has_failed c.write_trace.new.writer) c.write_trace.ensures.write_failed
+          c.in_ok-write_trace.was;
     }
 
 pub returns-clause-ok : goal.returns-clause-ok
 returns-clause-ok g c =
     let contents = g.W.Write.contents in
     let all = take_all c.loop-node.node c.args.traces.now c.loop-node-test.false in
-    both (contents (inner_of c.args.writer.now)) (contents (inner_of c.args.writer.now)) (contents (inner_of c.loop-node.writer)) [] _
-    (numbered trace_lines 0 (traces_told c.args.traces.now)) (none_yet (contents (inner_of c.args.writer.now))) c.loop-node.invariant.holds
+    both (contents (inner_of c.args.writer.now)) (contents (inner_of c.args.writer.now))
+    (contents (inner_of c.loop-node.writer)) [] _
+    (numbered trace_lines 0 (traces_told c.args.traces.now)) (none_yet (contents (inner_of c.args.writer.now)))
+    c.loop-node.invariant.holds
     (ap (λ xs. numbered trace_lines 0 (traces_told xs)) (sym all))

@@ -6,6 +6,7 @@ use Rattle.drills.proofs.writer.write_traces.Given as goal
 
 abbrev pub invariant-loop-node : goal.invariant-loop-node
 invariant-loop-node g l = record {
-  holds : Holds (g.W.Write.contents (inner_of l.initial.writer)) (g.W.Write.contents (inner_of l.writer)) (numbered trace_lines 0 (traces_told (take l.node l.traces)));
+  holds : Holds (g.W.Write.contents (inner_of l.initial.writer)) (g.W.Write.contents (inner_of l.writer))
+      (numbered trace_lines 0 (traces_told (take l.node l.traces)));
   failed : has_failed l.writer ≡ false;
 }

@@ -6,7 +6,11 @@ use Rattle.streams.proofs.whole.read_script.Goals as goal
 
 pub loop-chunk-preserved : goal.loop-chunk-preserved
 loop-chunk-preserved g c = record {
-  taken = rw (c.in_ok-extend_from_slice.ensures.items, take-append-le c.in-Ok.count c.read.new.buf _ (grind (arith, common_steps))) (Consumes-then _ _ _ _ _ c.loop-chunk.invariant.taken c.in-Ok.ensures.bytes.0);
+  taken = rw (
+    c.in_ok-extend_from_slice.ensures.items,
+    take-append-le c.in-Ok.count c.read.new.buf _
+        (grind (arith, common_steps)),
+  ) (Consumes-then _ _ _ _ _ c.loop-chunk.invariant.taken c.in-Ok.ensures.bytes.0);
   short = grind (arith, common_steps);
   failed = search rules;
 }

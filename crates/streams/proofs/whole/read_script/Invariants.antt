@@ -6,7 +6,8 @@ use Rattle.streams.proofs.whole.read_script.Given as goal
 -- what was read is what was taken
 abbrev pub invariant-loop-chunk : goal.invariant-loop-chunk
 invariant-loop-chunk g l = record {
-  taken : Consumes (g.R.Read.remaining (inner_of l.initial.reader)) (g.R.Read.remaining (inner_of l.reader)) l.script.items;
+  taken : Consumes (g.R.Read.remaining (inner_of l.initial.reader)) (g.R.Read.remaining (inner_of l.reader))
+      l.script.items;
   short : vec_len l.script ≤ 16777217;
   failed : has_failed l.reader ≡ false;
 }

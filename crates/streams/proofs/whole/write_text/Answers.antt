@@ -5,7 +5,8 @@ use Rattle.streams.proofs.whole.write_text.Goals as goal
 
 pub loop-rest-preserved : goal.loop-rest-preserved
 loop-rest-preserved g c = record {
-  given = GivesBefore-then c.in-Ok.count c.loop-rest.rest.now _ c.args.text.now _ _ _ c.loop-rest.invariant.given (search rules) (grind (arith, common_steps));
+  given = GivesBefore-then c.in-Ok.count c.loop-rest.rest.now _ c.args.text.now _ _ _ c.loop-rest.invariant.given
+      (search rules) (grind (arith, common_steps));
   failed = grind (arith, common_steps);
 }
 

@@ -6,7 +6,8 @@ use Rattle.streams.proofs.whole.write_text.Given as goal
 -- what is out is the text without the rest
 abbrev pub invariant-loop-rest : goal.invariant-loop-rest
 invariant-loop-rest g l = record {
-  given : GivesBefore l.rest l.text (g.W.Write.contents (inner_of l.initial.writer)) (g.W.Write.contents (inner_of l.writer));
+  given : GivesBefore l.rest l.text (g.W.Write.contents (inner_of l.initial.writer))
+      (g.W.Write.contents (inner_of l.writer));
   failed : has_failed l.writer ≡ false;
 }
 

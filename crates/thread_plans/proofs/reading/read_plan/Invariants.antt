@@ -7,5 +7,6 @@ use Rattle.thread_plans.proofs.reading.read_plan.Given as goal
 abbrev pub invariant-loop-line : goal.invariant-loop-line
 invariant-loop-line l = record {
   counted : l.number ≡ length l.yielded + 1;
-  so_far : stage_from (stage_value l.stage) l.number (drop (length l.yielded) (lines_of l.script)) ≡ stage_from empty 1 (lines_of l.script);
+  so_far : stage_from (stage_value l.stage) l.number (drop (length l.yielded) (lines_of l.script)) ≡ stage_from empty 1
+      (lines_of l.script);
 }
