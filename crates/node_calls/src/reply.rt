@@ -1,7 +1,7 @@
 //! What a node answers.
 
 ghost use Rattle.std.specs.Prelude.{◌≡◌, IfOk};
-ghost use Rattle.node_calls.specs.Told.{passed};
+ghost use Rattle.node_calls.specs.Told.{passed, reply_told};
 
 use actions::Task;
 use stamp_register::Stamp;
@@ -54,4 +54,22 @@ pub enum Reply {
     Emit(Vec<u8>),
     /// Whether settings or cells changed.
     Deliver(bool),
+}
+
+impl Reply {
+    /// A value of its own that says the same, to the byte. The only error is out of memory.
+    pub fn copied(&self, alloc: Global) -> Result<Reply, AllocError>
+        ensures { IfOk result (λ copy. reply_told copy ≡ reply_told self.now) }
+    {
+        Ok(match self {
+            Reply::Set(stamp) => Reply::Set(*stamp),
+            Reply::Remove(stamp) => Reply::Remove(*stamp),
+            Reply::Load(entries) => Reply::Load(*entries),
+            Reply::Pass(reply) => Reply::Pass(reply.copied(alloc)?),
+            Reply::Shift(total) => Reply::Shift(*total),
+            Reply::Grant(total) => Reply::Grant(*total),
+            Reply::Emit(message) => Reply::Emit(Vec::from_slice(alloc, message)?),
+            Reply::Deliver(changed) => Reply::Deliver(*changed),
+        })
+    }
 }

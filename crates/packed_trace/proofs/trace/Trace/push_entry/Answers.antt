@@ -1,0 +1,20 @@
+use Rattle.std.proofs.Common.{◌≡◌, ◌∙◌, ℕ, List, [], ◌∷◌, ◌++◌, length, map, ap, rules}
+use Rattle.node_calls.specs.Told.{told}
+use Rattle.node_calls.specs.declared.trace.Entry.{Entry as AnEntry}
+use Rattle.packed_trace.specs.declared.trace.Slot.TheVariants.{Entry}
+use Rattle.packed_trace.specs.Packed.{Packed, row_told, told_by}
+use Rattle.packed_trace.proofs.Stays.{entry_comes}
+use Rattle.packed_trace.proofs.trace.Trace.push_entry.Goals as goal
+
+pub returns-clause-calls : goal.returns-clause-calls
+returns-clause-calls c =
+    let rows = map row_told c.self.inside.rows.items in
+    let entries = c.self.inside.entries.items in
+    let slots = c.self.inside.slots.items in
+    let index : c.len-index.result ≡ length entries = search rules in
+    let put = c.push_reserved-2.ensures.items ∙ ap (λ (n : ℕ). slots ++ Entry n ∷ []) index in
+    ap (λ (es : List AnEntry). map (told_by rows (map told es)) c.push_reserved-2.new.self.items)
+    c.push_reserved.ensures.items ∙
+    ap (map (told_by rows (map told (entries ++ c.args.entry ∷ [])))) put ∙
+    entry_comes c.self.inside.rows.items entries c.args.entry slots c.self.invariant.0 ∙
+    ap (λ (p : Packed). p.calls ++ told c.args.entry ∷ []) c.self.view_is

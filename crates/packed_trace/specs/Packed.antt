@@ -1,0 +1,96 @@
+-- What a packed trace stands for: the list of what its calls tell.
+use Rattle.std.specs.Prelude.{ℕ, ◌<◌, ◌^◌, false, List, [], ◌∷◌, slice_get, Option, Some, None, option_map, All}
+use Rattle.actions.specs.Value.{TermValue}
+use Rattle.stamp_register.specs.declared.key.Stamp.{Stamp}
+use Rattle.node_calls.specs.Told.{Told, Passed, Unset, NoTerm, Act, passes, emits, was_passed, was_delivered, told}
+use Rattle.packed_trace.specs.declared.row.Row.{Row}
+use Rattle.packed_trace.specs.declared.row.Setting.{Setting}
+use Rattle.packed_trace.specs.declared.seen.Seen.{Seen}
+use Rattle.packed_trace.specs.declared.seen.Seen.TheVariants as seen
+use Rattle.packed_trace.specs.declared.trace.Slot.{Slot}
+use Rattle.packed_trace.specs.declared.trace.Slot.TheVariants as slots
+
+abbrev pub max_rows : ℕ
+max_rows = 65536
+
+-- the stamp of a setting, and its terms
+abbrev pub SettingTold : Type 0
+SettingTold = Stamp × List TermValue
+
+-- what passes have in common: the name of the point, and its setting, if it is set
+pub record RowTold : Type 0 where
+  pub name : List ℕ
+  pub setting : Option SettingTold
+
+abbrev pub setting_told : Option Setting → Option SettingTold
+setting_told setting = option_map (λ s. (s.stamp, s.actions)) setting
+
+abbrev pub row_told : Row → RowTold
+row_told row = record { name = row.name; setting = setting_told row.setting }
+
+-- the rows and the calls, and how many passes and entries more it has room for
+pub record Packed : Type 0 where
+  pub rows : List RowTold
+  pub calls : List Told
+  pub pass_room : ℕ
+  pub entry_room : ℕ
+
+-- ---- what a pass tells, by its row
+
+-- a term that was triggered acts as the setting says
+abbrev pub acted : Stamp → ℕ → Option TermValue → Passed
+acted stamp term None = NoTerm stamp
+acted stamp term (Some t) = Act stamp term t.task
+
+abbrev pub acted_by : SettingTold → Option ℕ → Passed
+acted_by s None = NoTerm s.0
+acted_by s (Some term) = acted s.0 term (slice_get s.1 term)
+
+abbrev pub passed_by : Option SettingTold → Option ℕ → Passed
+passed_by None term = Unset
+passed_by (Some s) term = acted_by s term
+
+abbrev pub words_of : Option ℕ → List ℕ
+words_of None = []
+words_of (Some word) = word ∷ []
+
+abbrev pub pass_told : RowTold → Option ℕ → Option ℕ → Told
+pass_told row term word =
+    record { ask = passes row.name; words = words_of word; reply = was_passed (passed_by row.setting term) }
+
+-- what stands for a call that isn't there
+abbrev pub no_call : Told
+no_call = record { ask = emits 0; words = []; reply = was_delivered false }
+
+abbrev pub pass_by : Option RowTold → Option ℕ → Option ℕ → Told
+pass_by None term word = no_call
+pass_by (Some row) term word = pass_told row term word
+
+-- ---- the same as the code has it
+
+abbrev pub entry_by : Option Told → Told
+entry_by None = no_call
+entry_by (Some t) = t
+
+-- what a slot stands for
+abbrev pub told_by : List RowTold → List Told → Slot → Told
+told_by rows entries (slots.Nothing row) = pass_by (slice_get rows row) None None
+told_by rows entries (slots.Term term row) = pass_by (slice_get rows row) (Some term) None
+told_by rows entries (slots.NothingDrawn row word) = pass_by (slice_get rows row) None (Some word)
+told_by rows entries (slots.TermDrawn term row word) = pass_by (slice_get rows row) (Some term) (Some word)
+told_by rows entries (slots.Entry index) = entry_by (slice_get entries index)
+
+-- its row or its entry is there
+abbrev pub IsKept : ℕ → ℕ → Slot → Type 0
+IsKept rows entries (slots.Nothing row) = row < rows
+IsKept rows entries (slots.Term term row) = row < rows
+IsKept rows entries (slots.NothingDrawn row word) = row < rows
+IsKept rows entries (slots.TermDrawn term row word) = row < rows
+IsKept rows entries (slots.Entry index) = index < entries
+
+abbrev pub AreKept : ℕ → ℕ → List Slot → Type 0
+AreKept rows entries kept = All (IsKept rows entries) kept
+
+abbrev pub seen_told : Seen → Told
+seen_told (seen.Pass row term word) = pass_told (row_told row.now) term word
+seen_told (seen.Entry entry) = told entry.now

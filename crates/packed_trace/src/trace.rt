@@ -1,0 +1,175 @@
+//! The accepted calls of a node.
+
+ghost use Rattle.std.specs.Prelude.{◌≡◌, ◌+◌, ◌<◌, ◌^◌, [], ◌∷◌, ◌++◌, length, map};
+ghost use Rattle.std.specs.Prelude.{◌≤◌, option_map, slice_get, is_none};
+ghost use Rattle.std.specs.Prelude.{IfOk, IfSome, IsNone, IsOk, OnOk, OnErr};
+ghost use Rattle.node_calls.specs.Told.{told};
+ghost use Rattle.packed_trace.specs.Packed.{pass_by, row_told, seen_told, max_rows};
+
+use crate::row::Row;
+use crate::seen::Seen;
+use node_calls::Entry;
+use std::alloc::{AllocError, Global};
+use std::marker::Model;
+
+/// The most rows of a trace.
+pub const MAX_ROWS: usize = 65_536;
+
+// A call as it is kept, in eight bytes: a pass by its row, with the term that was triggered and its
+// random draw, where it has them; another call by its place among those.
+#[derive(Clone, Copy, Debug)]
+enum Slot {
+    Nothing { row: u16 },
+    Term { term: u8, row: u16 },
+    NothingDrawn { row: u16, word: u32 },
+    TermDrawn { term: u8, row: u16, word: u32 },
+    Entry { index: u32 },
+}
+
+/// The accepted calls of a node, the first one first.
+#[derive(Debug, Drop)]
+pub struct Trace {
+    slots: Vec<Slot>,
+    rows: Vec<Row>,
+    entries: Vec<Entry>,
+}
+
+impl Model for Trace {
+    ghost use Rattle.std.specs.Prelude.{◌≤◌, ◌-◌, length, map, vec_len, vec_capacity};
+    ghost use Rattle.node_calls.specs.Told.{told};
+    ghost use Rattle.packed_trace.specs.Packed.{Packed, AreKept, row_told, told_by};
+
+    ghost Value = { Packed };
+
+    ghost view = { λ t. record {
+      rows = map row_told t.rows.items;
+      calls = map (told_by (map row_told t.rows.items) (map told t.entries.items)) t.slots.items;
+      pass_room = vec_capacity t.slots - vec_len t.slots;
+      entry_room = vec_capacity t.entries - vec_len t.entries;
+    } };
+
+    ghost invariant = { λ t. AreKept (length t.rows.items) (length t.entries.items) t.slots.items
+        × (length t.entries.items ≤ length t.slots.items) };
+}
+
+fn pass_of(rows: &[Row], row: u16, term: Option<u8>, word: Option<u32>) -> Seen<'_>
+    requires { row < length rows.now }
+    ensures { seen_told result ≡ pass_by (slice_get (map row_told rows.now) row) term word }
+{
+    Seen::Pass {
+        row: &rows[row as usize],
+        term,
+        word,
+    }
+}
+
+impl Trace {
+    /// A trace of no call. It takes no memory.
+    pub fn new(alloc: Global) -> Trace
+        ensures calls { result.calls ≡ [] }
+        ensures rows { result.rows ≡ [] }
+    {
+        Trace {
+            slots: Vec::new(alloc),
+            rows: Vec::new(alloc),
+            entries: Vec::new(alloc),
+        }
+    }
+
+    /// How many calls there are.
+    pub fn len(&self) -> usize
+        ensures { result ≡ length self.now.calls }
+    {
+        self.slots.len()
+    }
+
+    /// Whether there is no call.
+    pub fn is_empty(&self) -> bool
+        ensures { result ≡ is_none (slice_get self.now.calls 0) }
+    {
+        self.slots.is_empty()
+    }
+
+    /// A call by its number, counted from 0.
+    pub fn at(&self, index: usize) -> Option<Seen<'_>>
+        ensures { option_map seen_told result ≡ slice_get self.now.calls index }
+    {
+        let rows = self.rows.as_slice();
+        Some(match *self.slots.get(index)? {
+            Slot::Nothing { row } => pass_of(rows, row, None, None),
+            Slot::Term { term, row } => pass_of(rows, row, Some(term), None),
+            Slot::NothingDrawn { row, word } => pass_of(rows, row, None, Some(word)),
+            Slot::TermDrawn { term, row, word } => pass_of(rows, row, Some(term), Some(word)),
+            Slot::Entry { index } => Seen::Entry(&self.entries[index as usize]),
+        })
+    }
+
+    /// A row more, for passes that are still to come, and its number; none where there are as many as
+    /// there may be. No call changes.
+    pub fn add_row(&mut self, row: Row) -> Result<Option<u16>, AllocError>
+        ensures ok { IfOk result (λ at. IfSome at (λ n. (n ≡ length self.old.rows)
+            × (self.new.rows ≡ self.old.rows ++ row_told row ∷ []))) }
+        ensures full { IfOk result (λ at. IsNone at
+            → (self.new.rows ≡ self.old.rows) × (max_rows ≤ length self.old.rows)) }
+        ensures calls { self.new.calls ≡ self.old.calls }
+        ensures room { (self.new.pass_room ≡ self.old.pass_room)
+            × (self.new.entry_room ≡ self.old.entry_room) }
+        ensures err { OnErr result (self.new.rows ≡ self.old.rows) }
+    {
+        let at = self.rows.len();
+        if at >= MAX_ROWS {
+            return Ok(None);
+        }
+        self.rows.push(row)?;
+        Ok(Some(at as u16))
+    }
+
+    /// Makes room for a pass. No call changes.
+    pub fn reserve_pass(&mut self) -> Result<(), AllocError>
+        ensures ok { OnOk result (0 < self.new.pass_room) }
+        ensures calls { self.new.calls ≡ self.old.calls }
+        ensures rows { self.new.rows ≡ self.old.rows }
+        ensures succeeds { 0 < self.old.pass_room → IsOk result }
+    {
+        self.slots.reserve(1)
+    }
+
+    /// A pass more, by its row, where there is room for it: the term that was triggered and the random
+    /// draw, where it has them. It takes no memory.
+    pub fn push_pass(&mut self, row: u16, term: Option<u8>, word: Option<u32>)
+        requires there { row < length self.old.rows }
+        requires room { 0 < self.old.pass_room }
+        ensures calls { self.new.calls
+            ≡ self.old.calls ++ pass_by (slice_get self.old.rows row) term word ∷ [] }
+        ensures rows { self.new.rows ≡ self.old.rows }
+    {
+        self.slots.push_reserved(match (term, word) {
+            (None, None) => Slot::Nothing { row },
+            (Some(term), None) => Slot::Term { term, row },
+            (None, Some(word)) => Slot::NothingDrawn { row, word },
+            (Some(term), Some(word)) => Slot::TermDrawn { term, row, word },
+        });
+    }
+
+    /// Makes room for an entry. No call changes.
+    pub fn reserve_entry(&mut self) -> Result<(), AllocError>
+        ensures ok { OnOk result ((0 < self.new.pass_room) × (0 < self.new.entry_room)) }
+        ensures calls { self.new.calls ≡ self.old.calls }
+        ensures rows { self.new.rows ≡ self.old.rows }
+    {
+        self.slots.reserve(1)?;
+        self.entries.reserve(1)
+    }
+
+    /// Any call more, as an entry, where there is room for it. It takes no memory.
+    pub fn push_entry(&mut self, entry: Entry)
+        requires few { length self.old.calls < 2 ^ 32 }
+        requires room { (0 < self.old.pass_room) × (0 < self.old.entry_room) }
+        ensures calls { self.new.calls ≡ self.old.calls ++ told entry ∷ [] }
+        ensures rows { self.new.rows ≡ self.old.rows }
+    {
+        let index = self.entries.len() as u32;
+        self.entries.push_reserved(entry);
+        self.slots.push_reserved(Slot::Entry { index });
+    }
+}
