@@ -1,7 +1,8 @@
 //! One message to a server.
 
-ghost use Rattle.std.specs.Prelude.{◌≡◌, ◌↔◌, IfErr, IsOk};
+ghost use Rattle.std.specs.Prelude.{◌≡◌, ◌↔◌, IfErr, IfOk, IsOk};
 ghost use Rattle.http_wire.specs.Failures.{IsFailure};
+ghost use Rattle.http_wire.specs.Posts.{IsLoopback, Posts};
 ghost use Rattle.std.specs.IoError.{error_kind};
 
 use bytes::Bytes;
@@ -41,7 +42,8 @@ pub(crate) fn failed(error: io::Error) -> WireError
 
 // A message as a request, of which the message is the body.
 fn request(alloc: Global, message: &[u8]) -> Result<Request<Full<Bytes>>, WireError>
-    ensures { IfErr result IsFailure }
+    ensures ok { IfOk result (Posts message.now) }
+    ensures err { IfErr result IsFailure }
 {
     let body = Full::new(Bytes::copy_from_slice(alloc, message)?);
     let request = Request::post(alloc, "/gossip")
@@ -74,6 +76,13 @@ where
     }
 }
 
+// A port of this machine.
+fn loopback(port: u16) -> SocketAddr
+    ensures { IsLoopback port result }
+{
+    SocketAddr::from(([127, 0, 0, 1], port))
+}
+
 // A connection to a port of this machine.
 fn connected<R>(
     rt: &R,
@@ -85,8 +94,7 @@ where
     R: Wait + Clock + Net + RandomSource + AllocGlobal,
     ensures { IfErr result IsFailure }
 {
-    let address = SocketAddr::from(([127, 0, 0, 1], port));
-    let connecting = TcpStream::connect(rt, address, runtime.handle().reactor());
+    let connecting = TcpStream::connect(rt, loopback(port), runtime.handle().reactor());
     output_of(rt, runtime, connecting, deadline)?.map_err(failed)
 }
 
