@@ -44,14 +44,18 @@ first_is_bare nodes (asks.Grant name term amount) reply = refl
 first_is_bare nodes (asks.Deliver message) reply = refl
 
 -- what was asked first, of an emit, a delivery and a shift
-pub first_of_emit : (nodes to : ℕ) (ask : Ask) (reply : Reply) → ask_value nodes ask reply ≡ emit_asked nodes to reply → ask_value_first nodes ask ≡ bare_emit to
+pub first_of_emit : (nodes to : ℕ) (ask : Ask) (reply : Reply) → ask_value nodes ask reply ≡ emit_asked nodes to reply →
+    ask_value_first nodes ask ≡ bare_emit to
 first_of_emit nodes to ask reply e = first_is_bare nodes ask reply ∙ ap bare e ∙ bare_of_reply nodes to reply
 
-pub first_of_delivery : (nodes : ℕ) (read : Result Message WireFault) (ask : Ask) (reply : Reply) → ask_value nodes ask reply ≡ asked.Deliver read → ask_value_first nodes ask ≡ asked.Deliver read
+pub first_of_delivery : (nodes : ℕ) (read : Result Message WireFault) (ask : Ask) (reply : Reply) →
+    ask_value nodes ask reply ≡ asked.Deliver read → ask_value_first nodes ask ≡ asked.Deliver read
 unfolding bare
 first_of_delivery nodes read ask reply e = first_is_bare nodes ask reply ∙ ap bare e
 
-pub first_of_shift : (nodes : ℕ) (name : List ℕ) (term to amount : ℕ) (ask : Ask) (reply : Reply) → ask_value nodes ask reply ≡ asked.Shift name term to amount → ask_value_first nodes ask ≡ asked.Shift name term to amount
+pub first_of_shift : (nodes : ℕ) (name : List ℕ) (term to amount : ℕ) (ask : Ask) (reply : Reply) →
+    ask_value nodes ask reply ≡ asked.Shift name term to amount →
+    ask_value_first nodes ask ≡ asked.Shift name term to amount
 unfolding bare
 first_of_shift nodes name term to amount ask reply e = first_is_bare nodes ask reply ∙ ap bare e
 
@@ -60,7 +64,8 @@ is_message (replies.Emit bytes) = true
 is_message _ = false
 
 -- the reply to an emit is a message
-pub emit_has_message : (nodes : ℕ) (k : Kept) (ask : Ask) (reply : Reply) → is_emit (ask_value_first nodes ask) ≡ true → TellsIfEmit k (ask_told ask) reply → is_message reply ≡ true
+pub emit_has_message : (nodes : ℕ) (k : Kept) (ask : Ask) (reply : Reply) → is_emit (ask_value_first nodes ask) ≡ true →
+    TellsIfEmit k (ask_told ask) reply → is_message reply ≡ true
 unfolding is_message
 emit_has_message nodes k (asks.Emit to) (replies.Emit bytes) e tells = refl
 emit_has_message nodes k (asks.Emit to) (replies.Set s) e tells = absurd tells

@@ -6,7 +6,8 @@ pub nothing_of : {X : Type 0} (ys : List X) → IsPartOf [] ys
 nothing_of [] = none
 nothing_of (y ∷ ys) = left_out (nothing_of ys)
 
-pub joined_parts : {X : Type 0} {xs ys us vs : List X} → IsPartOf xs ys → IsPartOf us vs → IsPartOf (xs ++ us) (ys ++ vs)
+pub joined_parts : {X : Type 0} {xs ys us vs : List X} → IsPartOf xs ys → IsPartOf us vs →
+    IsPartOf (xs ++ us) (ys ++ vs)
 joined_parts none q = q
 joined_parts (kept p) q = kept (joined_parts p q)
 joined_parts (left_out p) q = left_out (joined_parts p q)

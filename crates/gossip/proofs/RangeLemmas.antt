@@ -20,23 +20,30 @@ range_split a zero d =
 range_split a (suc n) d =
     let m : suc n + d ≡ suc (n + d) = omega arith in
     let b : a + 1 + n ≡ a + suc n = omega arith in
-    ap (range_with_len a) m ∙ ap (λ l. a ∷ l) (range_split (a + 1) n d ∙ ap (λ k. range_with_len (a + 1) n ++ range_with_len k d) b)
+    ap (range_with_len a) m ∙ ap (λ l. a ∷ l) (range_split (a + 1) n d ∙
+    ap (λ k. range_with_len (a + 1) n ++ range_with_len k d) b)
 
-pub over_rest : {X : Type 0} (f : ℕ → List X) (n d : ℕ) → flat_map f (range_with_len 0 (n + d)) ≡ flat_map f (range_with_len 0 n) ++ flat_map f (range_with_len (0 + n) d)
-over_rest f n d = ap (flat_map f) (range_split 0 n d) ∙ flat_map-append f (range_with_len 0 n) (range_with_len (0 + n) d)
+pub over_rest : {X : Type 0} (f : ℕ → List X) (n d : ℕ) → flat_map f (range_with_len 0 (n + d)) ≡ flat_map f
+    (range_with_len 0 n) ++ flat_map f (range_with_len (0 + n) d)
+over_rest f n d = ap (flat_map f) (range_split 0 n d) ∙ flat_map-append f (range_with_len 0 n)
+    (range_with_len (0 + n) d)
 
-pub but_rest : {X : Type 0} (f : ℕ → X) (own n d : ℕ) → map f (but own (n + d)) ≡ map f (but own n) ++ map f (filter (λ k. not (k == own)) (range_with_len (0 + n) d))
+pub but_rest : {X : Type 0} (f : ℕ → X) (own n d : ℕ) → map f (but own (n + d)) ≡ map f (but own n) ++
+    map f (filter (λ k. not (k == own)) (range_with_len (0 + n) d))
 but_rest f own n d =
     ap (λ l. map f (filter (λ k. not (k == own)) l)) (range_split 0 n d)
     ∙ ap (map f) (filter-append (λ k. not (k == own)) (range_with_len 0 n) (range_with_len (0 + n) d))
     ∙ map-append f (but own n) (filter (λ k. not (k == own)) (range_with_len (0 + n) d))
 
-pub over_more : {X : Type 0} (f : ℕ → List X) (n : ℕ) → flat_map f (range_with_len 0 (n + 1)) ≡ flat_map f (range_with_len 0 n) ++ f n
+pub over_more : {X : Type 0} (f : ℕ → List X) (n : ℕ) → flat_map f (range_with_len 0 (n + 1)) ≡ flat_map f
+    (range_with_len 0 n) ++ f n
 over_more f n =
     let b : 0 + n ≡ n = omega arith in
-    over_rest f n 1 ∙ ap (λ k. flat_map f (range_with_len 0 n) ++ (f k ++ [])) b ∙ ap (λ l. flat_map f (range_with_len 0 n) ++ l) (append-nil (f n))
+    over_rest f n 1 ∙ ap (λ k. flat_map f (range_with_len 0 n) ++ (f k ++ [])) b ∙
+    ap (λ l. flat_map f (range_with_len 0 n) ++ l) (append-nil (f n))
 
-pub but_more : {X : Type 0} (f : ℕ → X) (own n : ℕ) → map f (but own (n + 1)) ≡ map f (but own n) ++ map f (cond (not (n == own)) (n ∷ []) [])
+pub but_more : {X : Type 0} (f : ℕ → X) (own n : ℕ) → map f (but own (n + 1)) ≡ map f (but own n) ++
+    map f (cond (not (n == own)) (n ∷ []) [])
 but_more f own n =
     let b : 0 + n ≡ n = omega arith in
     but_rest f own n 1 ∙ ap (λ k. map f (but own n) ++ map f (cond (not (k == own)) (k ∷ []) [])) b
@@ -45,11 +52,20 @@ pub unequal : (a b : ℕ) → a ≢ b → (a == b) ≡ false
 unequal a b ne = elim (eqb_tells a b) [ inl t ↦ absurd (ne t.1) | inr t ↦ t.0 ]
 
 -- one more, which is another, or this one
-pub but_another : {X : Type 0} (f : ℕ → X) (own n : ℕ) → n ≢ own → map f (but own (n + 1)) ≡ map f (but own n) ++ f n ∷ []
-but_another f own n ne = but_more f own n ∙ ap (λ b. map f (but own n) ++ map f (cond (not b) (n ∷ []) [])) (unequal n own ne)
+pub but_another : {X : Type 0} (f : ℕ → X) (own n : ℕ) → n ≢ own →
+    map f (but own (n + 1)) ≡ map f (but own n) ++ f n ∷ []
+but_another f own n ne = but_more f own n ∙ ap (λ b. map f (but own n) ++ map f (cond (not b) (n ∷ []) []))
+    (unequal n own ne)
 
 pub but_itself : {X : Type 0} (f : ℕ → X) (own n : ℕ) → n ≡ own → map f (but own (n + 1)) ≡ map f (but own n)
-but_itself f own n e = but_more f own n ∙ ap (λ b. map f (but own n) ++ map f (cond (not b) (n ∷ []) [])) (eq-eqb n own e) ∙ append-nil (map f (but own n))
+but_itself f own n e = but_more f own n ∙ ap (λ b. map f (but own n) ++ map f (cond (not b) (n ∷ []) []))
+    (eq-eqb n own e) ∙ append-nil (map f (but own n))
 
 pub length_but : {X : Type 0} (f : ℕ → X) (own n : ℕ) → length (map f (but own n)) ≤ n
-length_but f own n = omega (arith, length-map (but own n) f, length-filter (λ k. not (k == own)) (range_with_len 0 n), count_by-le-length (λ k. not (k == own)) (range_with_len 0 n), length-range_with_len 0 n)
+length_but f own n = omega (
+  arith,
+  length-map (but own n) f,
+  length-filter (λ k. not (k == own)) (range_with_len 0 n),
+  count_by-le-length (λ k. not (k == own)) (range_with_len 0 n),
+  length-range_with_len 0 n,
+)

@@ -25,17 +25,21 @@ count_one p x = omega arith
 count_both : {X : Type 0} (p : X → Bool) (xs ys : List X) → count_by p (xs ++ ys) ≡ count_by p xs + count_by p ys
 count_both p xs ys = sum_by-append (λ x. cond (p x) 1 0) xs ys
 
-own_both : (config : Config) (xs ys : List Receipt) → own_asks_in config (xs ++ ys) ≡ own_asks_in config xs ++ own_asks_in config ys
+own_both : (config : Config) (xs ys : List Receipt) → own_asks_in config (xs ++ ys) ≡ own_asks_in config xs ++
+    own_asks_in config ys
 own_both config xs ys =
     ap (filter (λ ask. not (is_delivery ask))) (map-append (asked_in config) xs ys)
     ∙ filter-append (λ ask. not (is_delivery ask)) (asks_in config xs) (asks_in config ys)
 
-counts_both : (config : Config) (p : Asked → Bool) (xs ys : List Receipt) → count_by p (asks_in config (xs ++ ys)) ≡ count_by p (asks_in config xs) + count_by p (asks_in config ys)
-counts_both config p xs ys = ap (count_by p) (map-append (asked_in config) xs ys) ∙ count_both p (asks_in config xs) (asks_in config ys)
+counts_both : (config : Config) (p : Asked → Bool) (xs ys : List Receipt) →
+    count_by p (asks_in config (xs ++ ys)) ≡ count_by p (asks_in config xs) + count_by p (asks_in config ys)
+counts_both config p xs ys = ap (count_by p) (map-append (asked_in config) xs ys) ∙
+    count_both p (asks_in config xs) (asks_in config ys)
 
 -- no call
 pub adds_none : (config : Config) (seed : List ℕ) (was now : ℕ) (old new : GossipReport) (wanted : List Asked)
-    → now ≡ was → new.receipts.items ≡ old.receipts.items → new.emitted ≡ old.emitted → new.delivered ≡ old.delivered → new.ended ≡ old.ended
+    → now ≡ was → new.receipts.items ≡ old.receipts.items → new.emitted ≡ old.emitted → new.delivered ≡ old.delivered →
+    new.ended ≡ old.ended
     → Adds config seed was now old new wanted
 adds_none config seed was now old new wanted counted receipts emitted delivered ended = record {
   more = [];
@@ -49,7 +53,8 @@ adds_none config seed was now old new wanted counted receipts emitted delivered 
 }
 
 -- one call
-pub adds_one : (config : Config) (seed : List ℕ) (was now : ℕ) (old new : GossipReport) (r : Receipt) (ask : Asked) (wanted : List Asked)
+pub adds_one : (config : Config) (seed : List ℕ) (was now : ℕ) (old new : GossipReport) (r : Receipt) (ask : Asked)
+    (wanted : List Asked)
     → asked_in config r ≡ ask → IsGiven config seed r → was ≤ r.index → now ≡ was + 1
     → new.receipts.items ≡ old.receipts.items ++ r ∷ []
     → new.emitted ≡ old.emitted + cond (is_emit ask) 1 0
@@ -57,63 +62,76 @@ pub adds_one : (config : Config) (seed : List ℕ) (was now : ℕ) (old new : Go
     → IsPartOf (filter (λ a. not (is_delivery a)) (ask ∷ [])) wanted
     → new.ended ≡ old.ended
     → Adds config seed was now old new wanted
-adds_one config seed was now old new r ask wanted asks given since counted receipts emitted delivered part ended = record {
-  more = r ∷ [];
-  receipts = receipts;
-  counted = omega arith;
-  given = (given, since, tt);
-  emitted = emitted ∙ ap (λ a. old.emitted + a) (sym (count_one is_emit ask) ∙ ap (λ a. count_by is_emit (a ∷ [])) (sym asks));
-  delivered = delivered ∙ ap (λ a. old.delivered + a) (sym (count_one is_delivery ask) ∙ ap (λ a. count_by is_delivery (a ∷ [])) (sym asks));
-  part = subst (λ a. IsPartOf (filter (λ a. not (is_delivery a)) (a ∷ [])) wanted) (sym asks) part;
-  ended = ended;
-}
+adds_one config seed was now old new r ask wanted asks given since counted receipts emitted delivered part ended =
+    record {
+      more = r ∷ [];
+      receipts = receipts;
+      counted = omega arith;
+      given = (given, since, tt);
+      emitted = emitted ∙ ap (λ a. old.emitted + a) (sym (count_one is_emit ask) ∙
+          ap (λ a. count_by is_emit (a ∷ [])) (sym asks));
+      delivered = delivered ∙ ap (λ a. old.delivered + a) (sym (count_one is_delivery ask) ∙
+          ap (λ a. count_by is_delivery (a ∷ [])) (sym asks));
+      part = subst (λ a. IsPartOf (filter (λ a. not (is_delivery a)) (a ∷ [])) wanted) (sym asks) part;
+      ended = ended;
+    }
 
 -- an emit, a delivery and a shift
-pub adds_emit : (config : Config) (seed : List ℕ) (was now to : ℕ) (old new : GossipReport) (between : List Receipt) (r : Receipt)
+pub adds_emit : (config : Config) (seed : List ℕ) (was now to : ℕ) (old new : GossipReport) (between : List Receipt)
+    (r : Receipt)
     → ask_value config.nodes r.entry.ask r.entry.reply ≡ emit_asked config.nodes to r.entry.reply
     → IsGiven config seed r → was ≤ r.index → now ≡ was + 1
     → between ≡ old.receipts.items → new.receipts.items ≡ between ++ r ∷ []
     → new.emitted ≡ old.emitted + 1 → new.delivered ≡ old.delivered → new.ended ≡ old.ended
     → Adds config seed was now old new (bare_emit to ∷ [])
 adds_emit config seed was now to old new between r asked given since counted kept more emitted delivered ended =
-    adds_one config seed was now old new r (bare_emit to) (bare_emit to ∷ []) (first_of_emit config.nodes to r.entry.ask r.entry.reply asked)
+    adds_one config seed was now old new r (bare_emit to) (bare_emit to ∷ [])
+    (first_of_emit config.nodes to r.entry.ask r.entry.reply asked)
     given since counted (more ∙ ap (λ l. l ++ r ∷ []) kept) emitted (omega arith) (parts.kept parts.none) ended
 
-pub adds_delivery : (config : Config) (seed : List ℕ) (was now : ℕ) (read : Result Message WireFault) (old new : GossipReport) (r : Receipt)
+pub adds_delivery : (config : Config) (seed : List ℕ) (was now : ℕ) (read : Result Message WireFault)
+    (old new : GossipReport) (r : Receipt)
     → ask_value config.nodes r.entry.ask r.entry.reply ≡ Deliver read
     → IsGiven config seed r → was ≤ r.index → now ≡ was + 1
     → new.receipts.items ≡ old.receipts.items ++ r ∷ []
     → new.emitted ≡ old.emitted → new.delivered ≡ old.delivered + 1 → new.ended ≡ old.ended
     → Adds config seed was now old new []
 adds_delivery config seed was now read old new r asked given since counted more emitted delivered ended =
-    adds_one config seed was now old new r (Deliver read) [] (first_of_delivery config.nodes read r.entry.ask r.entry.reply asked)
+    adds_one config seed was now old new r (Deliver read) []
+    (first_of_delivery config.nodes read r.entry.ask r.entry.reply asked)
     given since counted more (omega arith) delivered parts.none ended
 
-pub adds_shift : (config : Config) (seed : List ℕ) (was now : ℕ) (name : List ℕ) (term to amount : ℕ) (old new : GossipReport) (between : List Receipt) (r : Receipt)
+pub adds_shift : (config : Config) (seed : List ℕ) (was now : ℕ) (name : List ℕ) (term to amount : ℕ)
+    (old new : GossipReport) (between : List Receipt) (r : Receipt)
     → ask_value config.nodes r.entry.ask r.entry.reply ≡ Shift name term to amount
     → IsGiven config seed r → was ≤ r.index → now ≡ was + 1
     → between ≡ old.receipts.items → new.receipts.items ≡ between ++ r ∷ []
     → new.emitted ≡ old.emitted → new.delivered ≡ old.delivered → new.ended ≡ old.ended
     → Adds config seed was now old new (Shift name term to amount ∷ [])
-adds_shift config seed was now name term to amount old new between r asked given since counted kept more emitted delivered ended =
+adds_shift config seed was now name term to amount old new between r asked given since counted kept more emitted
+    delivered ended =
     adds_one config seed was now old new r (Shift name term to amount) (Shift name term to amount ∷ [])
     (first_of_shift config.nodes name term to amount r.entry.ask r.entry.reply asked)
     given since counted (more ∙ ap (λ l. l ++ r ∷ []) kept) (omega arith) (omega arith) (parts.kept parts.none) ended
 
 -- calls, and then more
-pub adds_then : {config : Config} {seed : List ℕ} {was between now : ℕ} {old middle new : GossipReport} {first second : List Asked}
+pub adds_then : {config : Config} {seed : List ℕ} {was between now : ℕ} {old middle new : GossipReport}
+    {first second : List Asked}
     → Adds config seed was between old middle first → Adds config seed between now middle new second
     → Adds config seed was now old new (first ++ second)
-adds_then {config = config} {seed = seed} {was = was} {between = between} {now = now} {old = old} {middle = middle} {new = new} {first = first} {second = second} p q = record {
-  more = p.more ++ q.more;
-  receipts = q.receipts ∙ ap (λ l. l ++ q.more) p.receipts ∙ append_assoc old.receipts.items p.more q.more;
-  counted = omega (arith, length-append p.more q.more, p.counted, q.counted);
-  given = given_on config seed was p.more q.more p.given (subst (λ n. AreGivenSince config seed n q.more) p.counted q.given);
-  emitted = omega (arith, p.emitted, q.emitted, counts_both config is_emit p.more q.more);
-  delivered = omega (arith, p.delivered, q.delivered, counts_both config is_delivery p.more q.more);
-  part = subst (λ l. IsPartOf l (first ++ second)) (sym (own_both config p.more q.more)) (joined_parts p.part q.part);
-  ended = q.ended ∙ p.ended;
-}
+adds_then {config = config} {seed = seed} {was = was} {between = between} {now = now} {old = old} {middle = middle}
+    {new = new} {first = first} {second = second} p q = record {
+      more = p.more ++ q.more;
+      receipts = q.receipts ∙ ap (λ l. l ++ q.more) p.receipts ∙ append_assoc old.receipts.items p.more q.more;
+      counted = omega (arith, length-append p.more q.more, p.counted, q.counted);
+      given = given_on config seed was p.more q.more p.given (subst (λ n. AreGivenSince config seed n q.more) p.counted
+          q.given);
+      emitted = omega (arith, p.emitted, q.emitted, counts_both config is_emit p.more q.more);
+      delivered = omega (arith, p.delivered, q.delivered, counts_both config is_delivery p.more q.more);
+      part = subst (λ l. IsPartOf l (first ++ second)) (sym (own_both config p.more q.more))
+          (joined_parts p.part q.part);
+      ended = q.ended ∙ p.ended;
+    }
 
 -- calls of these are calls of some of more
 pub adds_of_more : {config : Config} {seed : List ℕ} {was now : ℕ} {old new : GossipReport} {wanted : List Asked}
@@ -131,11 +149,13 @@ adds_of_more p rest = record {
 
 pub adds_as : {config : Config} {seed : List ℕ} {was now : ℕ} {old new : GossipReport} {wanted other : List Asked}
     → Adds config seed was now old new wanted → wanted ≡ other → Adds config seed was now old new other
-adds_as {config = config} {seed = seed} {was = was} {now = now} {old = old} {new = new} p e = subst (λ w. Adds config seed was now old new w) e p
+adds_as {config = config} {seed = seed} {was = was} {now = now} {old = old} {new = new} p e =
+    subst (λ w. Adds config seed was now old new w) e p
 
 -- a report of all calls
 pub told_of : {config : Config} {seed : List ℕ} {was now : ℕ} {old new : GossipReport} {wanted : List Asked}
-    → Adds config seed was now old new wanted → old.receipts.items ≡ [] → old.emitted ≡ 0 → old.delivered ≡ 0 → IsTold config seed was now new
+    → Adds config seed was now old new wanted → old.receipts.items ≡ [] → old.emitted ≡ 0 → old.delivered ≡ 0 →
+    IsTold config seed was now new
 told_of {config = config} {seed = seed} {was = was} {now = now} {new = new} p empty none none_too =
     let e : new.receipts.items ≡ p.more = p.receipts ∙ ap (λ l. l ++ p.more) empty in
     record {
@@ -146,62 +166,91 @@ told_of {config = config} {seed = seed} {was = was} {now = now} {new = new} p em
     }
 
 pub part_of_all : {config : Config} {seed : List ℕ} {was now : ℕ} {old new : GossipReport} {wanted : List Asked}
-    → Adds config seed was now old new wanted → old.receipts.items ≡ [] → IsPartOf (own_asks_in config new.receipts.items) wanted
+    → Adds config seed was now old new wanted → old.receipts.items ≡ [] →
+    IsPartOf (own_asks_in config new.receipts.items) wanted
 part_of_all {config = config} {new = new} {wanted = wanted} p empty =
     let e : new.receipts.items ≡ p.more = p.receipts ∙ ap (λ l. l ++ p.more) empty in
     subst (λ l. IsPartOf (own_asks_in config l) wanted) (sym e) p.part
 
 -- one more of the others, and up to all of them
-pub adds_next : {config : Config} {seed : List ℕ} {was between now : ℕ} {old middle new : GossipReport} (f : ℕ → Asked) (own n : ℕ) → n ≢ own
+pub adds_next : {config : Config} {seed : List ℕ} {was between now : ℕ} {old middle new : GossipReport} (f : ℕ → Asked)
+    (own n : ℕ) → n ≢ own
     → Adds config seed was between old middle (map f (but own n)) → Adds config seed between now middle new (f n ∷ [])
     → Adds config seed was now old new (map f (but own (n + 1)))
 adds_next f own n ne p q = adds_as (adds_then p q) (sym (but_another f own n ne))
 
-pub adds_itself : {config : Config} {seed : List ℕ} {was now : ℕ} {old new : GossipReport} (f : ℕ → Asked) (own n : ℕ) → n ≡ own
+pub adds_itself : {config : Config} {seed : List ℕ} {was now : ℕ} {old new : GossipReport} (f : ℕ → Asked) (own n : ℕ) →
+    n ≡ own
     → Adds config seed was now old new (map f (but own n)) → Adds config seed was now old new (map f (but own (n + 1)))
 adds_itself f own n e p = adds_as p (sym (but_itself f own n e))
 
-up_to : (f : ℕ → Asked) (own n all : ℕ) → n ≤ all → map f (but own all) ≡ map f (but own n) ++ map f (filter (λ k. not (k == own)) (range_with_len (0 + n) (all - n)))
+up_to : (f : ℕ → Asked) (own n all : ℕ) → n ≤ all → map f (but own all) ≡ map f (but own n) ++
+    map f (filter (λ k. not (k == own)) (range_with_len (0 + n) (all - n)))
 up_to f own n all le =
     let e : all ≡ n + (all - n) = omega arith in
     ap (λ k. map f (but own k)) e ∙ but_rest f own n (all - n)
 
-pub adds_up_to : {config : Config} {seed : List ℕ} {was now : ℕ} {old new : GossipReport} (f : ℕ → Asked) (own n all : ℕ) → n ≤ all
+pub adds_up_to : {config : Config} {seed : List ℕ} {was now : ℕ} {old new : GossipReport} (f : ℕ → Asked)
+    (own n all : ℕ) → n ≤ all
     → Adds config seed was now old new (map f (but own n)) → Adds config seed was now old new (map f (but own all))
 adds_up_to f own n all le p = adds_as (adds_of_more p _) (sym (up_to f own n all le))
 
 pub length_up_to : (f : ℕ → Asked) (own n all : ℕ) → n ≤ all → length (map f (but own n)) ≤ length (map f (but own all))
-length_up_to f own n all le = omega (arith, ap length (up_to f own n all le), length-append (map f (but own n)) (map f (filter (λ k. not (k == own)) (range_with_len (0 + n) (all - n)))))
+length_up_to f own n all le = omega (
+  arith,
+  ap length (up_to f own n all le),
+  length-append (map f (but own n)) (map f (filter (λ k. not (k == own)) (range_with_len (0 + n) (all - n)))),
+)
 
-pub length_next : (f : ℕ → Asked) (own n : ℕ) → n ≢ own → length (map f (but own (n + 1))) ≡ length (map f (but own n)) + 1
+pub length_next : (f : ℕ → Asked) (own n : ℕ) → n ≢ own → length (map f (but own (n + 1))) ≡ length
+    (map f (but own n)) + 1
 length_next f own n ne = ap length (but_another f own n ne) ∙ length-append (map f (but own n)) (f n ∷ [])
 
-pub length_itself : (f : ℕ → Asked) (own n : ℕ) → n ≡ own → length (map f (but own (n + 1))) ≡ length (map f (but own n))
+pub length_itself : (f : ℕ → Asked) (own n : ℕ) → n ≡ own → length (map f (but own (n + 1))) ≡ length
+    (map f (but own n))
 length_itself f own n e = ap length (but_itself f own n e)
 
 -- the same over the rounds, or the terms
-pub adds_turn : {config : Config} {seed : List ℕ} {was between now : ℕ} {old middle new : GossipReport} (f : ℕ → List Asked) (n : ℕ)
-    → Adds config seed was between old middle (flat_map f (range_with_len 0 n)) → Adds config seed between now middle new (f n)
+pub adds_turn : {config : Config} {seed : List ℕ} {was between now : ℕ} {old middle new : GossipReport}
+    (f : ℕ → List Asked) (n : ℕ)
+    → Adds config seed was between old middle (flat_map f (range_with_len 0 n)) →
+    Adds config seed between now middle new (f n)
     → Adds config seed was now old new (flat_map f (range_with_len 0 (n + 1)))
 adds_turn f n p q = adds_as (adds_then p q) (sym (over_more f n))
 
-turns_to : (f : ℕ → List Asked) (n all : ℕ) → n ≤ all → flat_map f (range_with_len 0 all) ≡ flat_map f (range_with_len 0 n) ++ flat_map f (range_with_len (0 + n) (all - n))
+turns_to : (f : ℕ → List Asked) (n all : ℕ) → n ≤ all → flat_map f (range_with_len 0 all) ≡ flat_map f
+    (range_with_len 0 n) ++ flat_map f (range_with_len (0 + n) (all - n))
 turns_to f n all le =
     let e : all ≡ n + (all - n) = omega arith in
     ap (λ k. flat_map f (range_with_len 0 k)) e ∙ over_rest f n (all - n)
 
-pub adds_turns : {config : Config} {seed : List ℕ} {was now : ℕ} {old new : GossipReport} (f : ℕ → List Asked) (n all : ℕ) → n ≤ all
-    → Adds config seed was now old new (flat_map f (range_with_len 0 n)) → Adds config seed was now old new (flat_map f (range_with_len 0 all))
+pub adds_turns : {config : Config} {seed : List ℕ} {was now : ℕ} {old new : GossipReport} (f : ℕ → List Asked)
+    (n all : ℕ) → n ≤ all
+    → Adds config seed was now old new (flat_map f (range_with_len 0 n)) →
+    Adds config seed was now old new (flat_map f (range_with_len 0 all))
 adds_turns f n all le p = adds_as (adds_of_more p _) (sym (turns_to f n all le))
 
-pub length_turn : (f : ℕ → List Asked) (n : ℕ) → length (flat_map f (range_with_len 0 (n + 1))) ≡ length (flat_map f (range_with_len 0 n)) + length (f n)
+pub length_turn : (f : ℕ → List Asked) (n : ℕ) → length (flat_map f (range_with_len 0 (n + 1))) ≡ length
+    (flat_map f (range_with_len 0 n)) + length (f n)
 length_turn f n = ap length (over_more f n) ∙ length-append (flat_map f (range_with_len 0 n)) (f n)
 
-pub length_turns : (f : ℕ → List Asked) (n all : ℕ) → n ≤ all → length (flat_map f (range_with_len 0 n)) ≤ length (flat_map f (range_with_len 0 all))
-length_turns f n all le = omega (arith, ap length (turns_to f n all le), length-append (flat_map f (range_with_len 0 n)) (flat_map f (range_with_len (0 + n) (all - n))))
+pub length_turns : (f : ℕ → List Asked) (n all : ℕ) → n ≤ all →
+    length (flat_map f (range_with_len 0 n)) ≤ length (flat_map f (range_with_len 0 all))
+length_turns f n all le = omega (
+  arith,
+  ap length (turns_to f n all le),
+  length-append (flat_map f (range_with_len 0 n)) (flat_map f (range_with_len (0 + n) (all - n))),
+)
 
-pub length_over : (f : ℕ → List Asked) (most n : ℕ) → ((k : ℕ) → length (f k) ≤ most) → length (flat_map f (range_with_len 0 n)) ≤ n * most
+pub length_over : (f : ℕ → List Asked) (most n : ℕ) → ((k : ℕ) → length (f k) ≤ most) →
+    length (flat_map f (range_with_len 0 n)) ≤ n * most
 length_over f most zero each = omega arith
 length_over f most (suc n) each =
     let e : suc n ≡ n + 1 = omega arith in
-    omega (arith, ap (λ k. length (flat_map f (range_with_len 0 k))) e, length_turn f n, length_over f most n each, each n)
+    omega (
+      arith,
+      ap (λ k. length (flat_map f (range_with_len 0 k))) e,
+      length_turn f n,
+      length_over f most n each,
+      each n,
+    )

@@ -27,7 +27,8 @@ is_delivery _ = false
 abbrev pub own_asks_in : Config → List Receipt → List Asked
 own_asks_in config receipts = filter (λ ask. not (is_delivery ask)) (asks_in config receipts)
 
--- a seat that had made so many calls has made as many more as the report has receipts, which the node gave it since; the
+-- a seat that had made so many calls has made as many more as the report has receipts, which the node gave it since;
+-- the
 -- report counts the messages that they made and took in
 pub record IsTold (config : Config) (seed : List ℕ) (was now : ℕ) (r : GossipReport) : Type 0 where
   pub counted : now ≡ was + length r.receipts.items

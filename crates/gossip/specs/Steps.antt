@@ -10,7 +10,8 @@ use Rattle.gossip.specs.Reports.{asks_in, is_delivery, is_emit, own_asks_in}
 
 -- calls of a seat that had made so many add their receipts, of which those that took in no message ask some
 -- of these, in order
-pub record Adds (config : Config) (seed : List ℕ) (was now : ℕ) (old new : GossipReport) (wanted : List Asked) : Type 0 where
+pub record Adds (config : Config) (seed : List ℕ) (was now : ℕ) (old new : GossipReport) (wanted : List Asked) :
+    Type 0 where
   pub more : List Receipt
   pub receipts : new.receipts.items ≡ old.receipts.items ++ more
   pub counted : now ≡ was + length more

@@ -15,7 +15,8 @@ use Rattle.http_routes.specs.Requests as wants
 use Rattle.http_serve.specs.Served.{Comes, IsServed, IsServedFrom}
 
 -- an accepted call is counted and answered so, and a refused one so
-pub called_by : (config : Config) (seed : List ℕ) (had has : ℕ) (ask : Ask) (given : ReplyValue) (outcome : Result Reply NodeFault)
+pub called_by : (config : Config) (seed : List ℕ) (had has : ℕ) (ask : Ask) (given : ReplyValue)
+    (outcome : Result Reply NodeFault)
     → IfOk outcome (IsAnswered config seed ask)
     → IfErr outcome (registry.IsRefused config seed (ask_value_first config.nodes ask))
     → OnOk outcome (has ≡ had + 1)
@@ -37,7 +38,8 @@ called_by config seed had has ask given (Err fault) answered refused more same t
     inr (inl (record { fault = fault; refused = refused; told = why }), same)
 
 -- whatever the seat counts
-pub served : (config : Config) (seed : List ℕ) (had has : ℕ) (wanted : WantedValue) (given : ReplyValue) → IsServedFrom config seed had has wanted given → IsServed config seed wanted given
+pub served : (config : Config) (seed : List ℕ) (had has : ℕ) (wanted : WantedValue) (given : ReplyValue) →
+    IsServedFrom config seed had has wanted given → IsServed config seed wanted given
 served config seed had has (wants.call ask) given (inl (made, more)) = inl (inl made)
 served config seed had has (wants.call ask) given (inr (inl refused, same)) = inl (inr refused)
 served config seed had has (wants.call ask) given (inr (inr none, same)) = inr none
@@ -46,6 +48,7 @@ served config seed had has wants.report given (is, same) = is
 served config seed had has (wants.answered reply) given (is, same) = is
 
 -- a request that is answered without the node
-pub answered_so : (config : Config) (seed : List ℕ) (wanted : WantedValue) (given : ReplyValue) → IsWanted wanted (wants.answered given) → IsServed config seed wanted given
+pub answered_so : (config : Config) (seed : List ℕ) (wanted : WantedValue) (given : ReplyValue) →
+    IsWanted wanted (wants.answered given) → IsServed config seed wanted given
 answered_so config seed wanted given (inl is) = inl (subst (λ w. Comes config seed w given) is (inl refl))
 answered_so config seed wanted given (inr is) = inr (cc)

@@ -13,14 +13,18 @@ use Rattle.node_registry.proofs.guarded.Seat.TheSendSync as seat
 use Rattle.http_paths.proofs.Crossing.{routes_send, routes_sync}
 use Rattle.http_serve.specs.contracts.handler.NodeHandler as NodeHandler
 
-pub handler_send : (L : RattleType) (g : label.Ghosts L.Denot) (g' : ledger.Ghosts L.Denot) → IsSend (NodeHandler.the_row L g g')
+pub handler_send : (L : RattleType) (g : label.Ghosts L.Denot) (g' : ledger.Ghosts L.Denot) →
+    IsSend (NodeHandler.the_row L g g')
 handler_send L g g' =
     let shared = Arc-send (Registry.the_row L g g') (registry.the_send L g g') (registry.the_sync L g g') in
     let behind = mutex.the_send (Seat.the_row L g g') (seat.the_send L g g') in
-    recorded_send (NodeHandler.the_field L g g').row _ _ (NodeHandler.the_type L g g').to_one (struct_send (shape (NodeHandler.the_type L g g')) (routes_send, (shared, (behind, tt))))
+    recorded_send (NodeHandler.the_field L g g').row _ _ (NodeHandler.the_type L g g').to_one
+    (struct_send (shape (NodeHandler.the_type L g g')) (routes_send, (shared, (behind, tt))))
 
-pub handler_sync : (L : RattleType) (g : label.Ghosts L.Denot) (g' : ledger.Ghosts L.Denot) → IsSync (NodeHandler.the_row L g g')
+pub handler_sync : (L : RattleType) (g : label.Ghosts L.Denot) (g' : ledger.Ghosts L.Denot) →
+    IsSync (NodeHandler.the_row L g g')
 handler_sync L g g' =
     let shared = Arc-sync (Registry.the_row L g g') (registry.the_send L g g') (registry.the_sync L g g') in
     let behind = mutex.the_sync (Seat.the_row L g g') (seat.the_send L g g') in
-    recorded_sync (NodeHandler.the_field L g g').row _ _ (NodeHandler.the_type L g g').to_one (struct_sync (shape (NodeHandler.the_type L g g')) (routes_sync, (shared, (behind, tt))))
+    recorded_sync (NodeHandler.the_field L g g').row _ _ (NodeHandler.the_type L g g').to_one
+    (struct_sync (shape (NodeHandler.the_type L g g')) (routes_sync, (shared, (behind, tt))))

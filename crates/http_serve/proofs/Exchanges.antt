@@ -15,11 +15,14 @@ use Rattle.http_serve.specs.declared.exchange.Reading.{Reading}
 use Rattle.http_serve.specs.declared.exchange.Reading.TheVariants as readings
 use Rattle.http_serve.specs.Exchanges.{Piece, TakesIn, GoesOn, EndsSo, ComesTo, Gives, asking_of, pieces_of}
 
-joined : (had : List ℕ) (fs gs : List (Frame (List ℕ))) → (had ++ joined_data fs) ++ joined_data gs ≡ had ++ joined_data (fs ++ gs)
-joined had fs gs = append_assoc had _ _ ∙ ap (λ (t : List ℕ). had ++ t) (sym (flat_map-append (λ (f : Frame (List ℕ)). bytes_in f.kind) fs gs))
+joined : (had : List ℕ) (fs gs : List (Frame (List ℕ))) → (had ++ joined_data fs) ++ joined_data gs ≡ had ++
+    joined_data (fs ++ gs)
+joined had fs gs = append_assoc had _ _ ∙ ap (λ (t : List ℕ). had ++ t)
+    (sym (flat_map-append (λ (f : Frame (List ℕ)). bytes_in f.kind) fs gs))
 
 module _ (source : Runs Piece) (had : List ℕ) where
-  follow : (fs gs : List (Frame (List ℕ))) (last : Option Piece) → source (map Ok fs ++ map Ok gs) last → source (map Ok (fs ++ gs)) last
+  follow : (fs gs : List (Frame (List ℕ))) (last : Option Piece) → source (map Ok fs ++ map Ok gs) last →
+      source (map Ok (fs ++ gs)) last
   follow fs gs last = subst (λ ys. source ys last) (sym (map-append Ok fs gs))
 
   -- nothing came yet
@@ -27,10 +30,14 @@ module _ (source : Runs Piece) (had : List ℕ) where
   goes_on_none = ([], sym (append-nil had), λ xs last h. h)
 
   -- one more frame came
-  pub goes_on_one : (rest : Runs Piece) (has : List ℕ) (frame : Frame (List ℕ)) → After source (Ok frame) rest → has ≡ had ++ bytes_in frame.kind
+  pub goes_on_one : (rest : Runs Piece) (has : List ℕ) (frame : Frame (List ℕ)) → After source (Ok frame) rest →
+      has ≡ had ++ bytes_in frame.kind
       → GoesOn source had rest has
-  goes_on_one rest has frame after add =
-      (frame ∷ [], add ∙ ap (λ (t : List ℕ). had ++ t) (sym (append-nil (bytes_in frame.kind))), λ xs last h. after xs last h)
+  goes_on_one rest has frame after add = (
+    frame ∷ [],
+    add ∙ ap (λ (t : List ℕ). had ++ t) (sym (append-nil (bytes_in frame.kind))),
+    λ xs last h. after xs last h,
+  )
 
   module _ (rest : Runs Piece) (has : List ℕ) (on : GoesOn source had rest has) where
     -- nothing came of it since
@@ -42,7 +49,8 @@ module _ (source : Runs Piece) (had : List ℕ) where
       on.0 ++ next.0,
       next.1 ∙ ap (λ (t : List ℕ). t ++ joined_data next.0) on.1 ∙ joined had on.0 next.0,
       λ xs last h.
-          subst (λ ys. source ys last) (sym (append_assoc (map Ok on.0) (map Ok next.0) xs) ∙ ap (λ (ys : List Piece). ys ++ xs) (sym (map-append Ok on.0 next.0)))
+          subst (λ ys. source ys last) (sym (append_assoc (map Ok on.0) (map Ok next.0) xs) ∙
+          ap (λ (ys : List Piece). ys ++ xs) (sym (map-append Ok on.0 next.0)))
           (on.2 (map Ok next.0 ++ xs) last (next.2 xs last h)),
     )
 
@@ -58,7 +66,8 @@ module _ (source : Runs Piece) (had : List ℕ) where
     ends_later readings.NoMemory all ends = tt
 
   -- by this piece the reading ended so
-  pub ends_by : (room : ℕ) (piece : Option Piece) (has : List ℕ) (reading : Reading) → source [] piece → TakesIn room piece had has (Some reading)
+  pub ends_by : (room : ℕ) (piece : Option Piece) (has : List ℕ) (reading : Reading) → source [] piece →
+      TakesIn room piece had has (Some reading)
       → EndsSo source had reading has
   ends_by room None has reading came (is, same) =
       let whole : reading ≡ readings.Whole = cc in
@@ -75,7 +84,8 @@ module _ (source : Runs Piece) (had : List ℕ) where
       subst (λ r. EndsSo source had r has) (sym broken) ([], came)
 
   -- by this piece it went on
-  pub goes_by : (room : ℕ) (piece : Option Piece) (has : List ℕ) (rest : Runs Piece) → IfSome piece (λ x. After source x rest)
+  pub goes_by : (room : ℕ) (piece : Option Piece) (has : List ℕ) (rest : Runs Piece) →
+      IfSome piece (λ x. After source x rest)
       → TakesIn room piece had has None → GoesOn source had rest has
   goes_by room None has rest after (is, same) = absurd (cc)
   goes_by room (Some (Ok frame)) has rest after (inl (goes, more)) = goes_on_one rest has frame after more
@@ -85,13 +95,16 @@ module _ (source : Runs Piece) (had : List ℕ) where
 
 -- what an exchange gives later is what it gives
 module _ {I H R : Type 0} (answers : H → List ℕ → List ℕ → List ℕ → ReplyValue → Type 0) where
-  pub gives_later : (old new : Exchange I H R) (given : Result (Response (Full (List ℕ))) Error) → asking_of new ≡ asking_of old
-      → GoesOn (pieces_of old.body) old.read.items (pieces_of new.body) new.read.items → Gives answers new given → Gives answers old given
+  pub gives_later : (old new : Exchange I H R) (given : Result (Response (Full (List ℕ))) Error) →
+      asking_of new ≡ asking_of old
+      → GoesOn (pieces_of old.body) old.read.items (pieces_of new.body) new.read.items → Gives answers new given →
+      Gives answers old given
   gives_later old new given same on gives =
       record {
         reading = gives.reading;
         body = gives.body;
-        ends = ends_later (pieces_of old.body) old.read.items (pieces_of new.body) new.read.items on gives.reading gives.body gives.ends;
+        ends = ends_later (pieces_of old.body) old.read.items (pieces_of new.body) new.read.items on gives.reading
+            gives.body gives.ends;
         reply = gives.reply;
         comes = subst (λ a. ComesTo answers a gives.reading gives.body gives.reply) same gives.comes;
         responds = gives.responds;

@@ -20,7 +20,8 @@ LosesPlace places left result =
 abbrev pub LetsIn : {S A : Type 0} → Result (S × A) Error → ℕ → ℕ → ℕ → ℕ → Result (Option S) ServeFault → Type 0
 LetsIn (Ok came) had has places left result = (has ≡ had + 1) × (left ≡ places) × (result ≡ Ok (Some came.0))
 LetsIn (Err error) had has places left result =
-    (has ≡ had) × ((IsGone error × (left ≡ places) × (result ≡ Ok None)) ⊎ (¬ (IsGone error) × LosesPlace places left result))
+    (has ≡ had) × ((IsGone error × (left ≡ places) × (result ≡ Ok None)) ⊎
+    (¬ (IsGone error) × LosesPlace places left result))
 
 -- so many clients were let in; or no more could be
 abbrev pub AreLetIn : ℕ → Result Clients ServeFault → Type 0

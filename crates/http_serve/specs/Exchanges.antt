@@ -107,7 +107,8 @@ module _ {I H R : Type 0} where
 
   -- the exchange of a request: it asks the service's handler, or nobody where memory was refused; the body is the
   -- request's, up to the longest one, and nothing of it is read yet
-  pub record IsExchangeOf (service : ConnectionService H R) (req : Request (Incoming I)) (e : Exchange I H R) : Type 0 where
+  pub record IsExchangeOf (service : ConnectionService H R) (req : Request (Incoming I)) (e : Exchange I H R) :
+      Type 0 where
     pub asks : (asking_of e ≡ asking_by req (option_map arc_value service.handler)) ⊎ (asking_of e ≡ asking_by req None)
     pub body : e.body ≡ record { remaining = max_message; inner = request.body_of req }
     pub read : e.read.items ≡ []

@@ -46,5 +46,6 @@ IsServed config seed wanted given = Comes config seed wanted given ⊎ (given �
 -- answered as one, always; where there is another reply, no call was made
 abbrev pub IsServedFrom : Config → List ℕ → ℕ → ℕ → WantedValue → ReplyValue → Type 0
 IsServedFrom config seed had has (wants.call ask) given =
-    (IsMade config seed ask given × (has ≡ had + 1)) ⊎ ((IsRefused config seed ask given ⊎ (given ≡ no_memory)) × (has ≡ had))
+    (IsMade config seed ask given × (has ≡ had + 1)) ⊎ ((IsRefused config seed ask given ⊎ (given ≡ no_memory)) ×
+    (has ≡ had))
 IsServedFrom config seed had has wanted given = IsServed config seed wanted given × (has ≡ had)

@@ -26,7 +26,8 @@ drawn_none g n none =
     )
 
 -- only a pass takes words
-pub takes_none : (k : Kept) (ask : Ask) → is_pass (ask_told ask) ≡ false → words_taken k (ask_value_first k.config.nodes ask) ≡ 0
+pub takes_none : (k : Kept) (ask : Ask) → is_pass (ask_told ask) ≡ false →
+    words_taken k (ask_value_first k.config.nodes ask) ≡ 0
 takes_none k (asked.Pass name) h = absurd (let no : ⊥ = cc in no)
 takes_none k (asked.Set name text) h = refl
 takes_none k (asked.Remove name) h = refl
@@ -37,32 +38,40 @@ takes_none k (asked.Emit to) h = refl
 takes_none k (asked.Deliver bytes) h = refl
 
 -- the entry of a call has its words
-pub accepted_by : (k new : Kept) (ask : Asked) (e : Entry) (ws : List ℕ) → (call_of k e).ask ≡ ask → Records k new (call_of k e) ws → Accepts k new ask ws (reply_value k.config.nodes e.reply) × (e.words.items ≡ ws)
+pub accepted_by : (k new : Kept) (ask : Asked) (e : Entry) (ws : List ℕ) → (call_of k e).ask ≡ ask →
+    Records k new (call_of k e) ws → Accepts k new ask ws (reply_value k.config.nodes e.reply) × (e.words.items ≡ ws)
 accepted_by k new ask e ws is records = (
-  subst (λ a. Accepts k new a ws (reply_value k.config.nodes e.reply)) is (records.0, sym (ap (λ (c : Call). c.reply) records.1), records.2),
+  subst (λ a. Accepts k new a ws (reply_value k.config.nodes e.reply)) is
+      (records.0, sym (ap (λ (c : Call). c.reply) records.1), records.2),
   ap (λ (c : Call). c.words) records.1,
 )
 
 -- a refusal with words that are these
-pub refused_by : (k : Kept) (ask : Asked) (ws us : List ℕ) (f : NodeFault) → ws ≡ us → IsRefusalOf k ask ws f → IsRefusalOf k ask us f
+pub refused_by : (k : Kept) (ask : Asked) (ws us : List ℕ) (f : NodeFault) → ws ≡ us → IsRefusalOf k ask ws f →
+    IsRefusalOf k ask us f
 refused_by k ask ws us f is h = subst (λ xs. IsRefusalOf k ask xs f) is h
 
 -- what a call of a node and its generator comes to
 pub record Draws (k new : Kept) (g after : ChaCha) (e : Entry) : Type 0 where
   pub stream : g.stream ≡ k.config.node
-  pub accepted : Accepts k new (ask_value k.config.nodes e.ask e.reply) e.words.items (reply_value k.config.nodes e.reply)
+  pub accepted : Accepts k new (ask_value k.config.nodes e.ask e.reply) e.words.items
+      (reply_value k.config.nodes e.reply)
   pub words : e.words.items ≡ words_next g (words_taken k (ask_value_first k.config.nodes e.ask))
   pub place : after ≡ place_after g (words_taken k (ask_value_first k.config.nodes e.ask))
   pub few : words_taken k (ask_value_first k.config.nodes e.ask) < 2 ^ 8
   pub told : TellsIfEmit k (ask_told e.ask) e.reply
 
-pub entered : (k new : Kept) (g after : ChaCha) (e : Entry) → Draws k new g after e → Enters (cell_of k g) (cell_of new after) e
+pub entered : (k new : Kept) (g after : ChaCha) (e : Entry) → Draws k new g after e →
+    Enters (cell_of k g) (cell_of new after) e
 entered k new g after e d =
     let ask = ask_value k.config.nodes e.ask e.reply in
-    let taken : words_taken k ask ≡ words_taken k (ask_value_first k.config.nodes e.ask) = taken_first k e.ask e.reply in
-    let words : e.words.items ≡ next_words (cell_of k g) ask = d.words ∙ (λ i. words_from g.key (d.stream i) g.word_pos (sym taken i)) in
+    let taken : words_taken k ask ≡ words_taken k (ask_value_first k.config.nodes e.ask) =
+    taken_first k e.ask e.reply in
+    let words : e.words.items ≡ next_words (cell_of k g) ask = d.words ∙
+    (λ i. words_from g.key (d.stream i) g.word_pos (sym taken i)) in
     let recorded : Records k new (call_of k e) e.words.items =
-    (d.accepted.0, (λ i. record { ask = ask; words = e.words.items; reply = sym d.accepted.1 i }), d.accepted.2) in record {
+    (d.accepted.0, (λ i. record { ask = ask; words = e.words.items; reply = sym d.accepted.1 i }), d.accepted.2) in
+    record {
       records = subst (λ ws. Records k new (call_of k e) ws) words recorded;
       tells = d.told;
       key = ap (λ (h : ChaCha). h.key) d.place;
@@ -76,7 +85,8 @@ IsKept k g = (g.stream ≡ k.config.node) × IsLawful (cell_of k g) × IsWithinB
 pub stays : (k new : Kept) (g after : ChaCha) (e : Entry) → IsKept k g → Draws k new g after e → IsKept new after
 stays k new g after e h d =
     let enters = entered k new g after e d in
-    let taken : words_taken k (ask_value k.config.nodes e.ask e.reply) ≡ words_taken k (ask_value_first k.config.nodes e.ask) = taken_first k e.ask e.reply in
+    let taken : words_taken k (ask_value k.config.nodes e.ask e.reply) ≡ words_taken k
+    (ask_value_first k.config.nodes e.ask) = taken_first k e.ask e.reply in
     let few : words_taken k (ask_value k.config.nodes e.ask e.reply) < 2 ^ 8 = let f = d.few in omega arith in (
       ap (λ (a : ChaCha). a.stream) d.place ∙ d.stream ∙ sym (ap (λ (n : Kept). n.config.node) d.accepted.2),
       stays_lawful (cell_of k g) (cell_of new after) e h.1 enters,
@@ -88,16 +98,23 @@ pub has_words : (c : Cell) → IsWithinBounds c → c.place + 2 ^ 8 < 2 ^ 68
 has_words c h = let few = h.few_words in let calls = h.few_calls in let cap = h.small_cap in omega arith
 
 -- a refusal of the cell
-pub refused_cell : (k : Kept) (g : ChaCha) (ask : Asked) (f : NodeFault) → g.stream ≡ k.config.node → IsRefusalOf k ask (words_next g (words_taken k ask)) f → IsRefusedBy (cell_of k g) ask f
-refused_cell k g ask f stream h = subst (λ s. IsRefusalOf k ask (words_from g.key s g.word_pos (words_taken k ask)) f) stream h
+pub refused_cell : (k : Kept) (g : ChaCha) (ask : Asked) (f : NodeFault) → g.stream ≡ k.config.node →
+    IsRefusalOf k ask (words_next g (words_taken k ask)) f → IsRefusedBy (cell_of k g) ask f
+refused_cell k g ask f stream h = subst (λ s. IsRefusalOf k ask (words_from g.key s g.word_pos (words_taken k ask)) f)
+    stream h
 
 -- a new cell
-pub new_kept : (config : Config) (seed : List ℕ) (k : Kept) (h : ChaCha) (stream : ℕ) → config.trace_cap < 2 ^ 32 → k ≡ record { config = config; trace = [] } → stream ≡ config.node → h ≡ record { key = key_of seed; stream = stream; word_pos = 0 } → IsKept k h
+pub new_kept : (config : Config) (seed : List ℕ) (k : Kept) (h : ChaCha) (stream : ℕ) → config.trace_cap < 2 ^ 32 →
+    k ≡ record { config = config; trace = [] } → stream ≡ config.node →
+    h ≡ record { key = key_of seed; stream = stream; word_pos = 0 } → IsKept k h
 new_kept config seed k h stream small new here made =
-    let is : h ≡ record { key = key_of seed; stream = config.node; word_pos = 0 } = made ∙ (λ i. record { key = key_of seed; stream = here i; word_pos = 0 }) in
+    let is : h ≡ record { key = key_of seed; stream = config.node; word_pos = 0 } = made ∙
+    (λ i. record { key = key_of seed; stream = here i; word_pos = 0 }) in
     subst (λ n. IsKept n h) (sym new)
-    (subst (λ a. IsKept (record { config = config; trace = [] }) a) (sym is) (refl, new_lawful config seed, record { few_words = omega arith; few_calls = omega arith; small_cap = small }))
+    (subst (λ a. IsKept (record { config = config; trace = [] }) a) (sym is)
+    (refl, new_lawful config seed, record { few_words = omega arith; few_calls = omega arith; small_cap = small }))
 
 -- an ask and its copy, before there is a reply
-pub same_first : (nodes : ℕ) (copy ask : Ask) → ((n : ℕ) (reply : Reply) → ask_value n copy reply ≡ ask_value n ask reply) → ask_value_first nodes copy ≡ ask_value_first nodes ask
+pub same_first : (nodes : ℕ) (copy ask : Ask) → ((n : ℕ) (reply : Reply) →
+    ask_value n copy reply ≡ ask_value n ask reply) → ask_value_first nodes copy ≡ ask_value_first nodes ask
 same_first nodes copy ask same = same nodes (replies.Deliver false)

@@ -24,77 +24,98 @@ module _ (config : Config) (seed : List ℕ) (says : ℕ → Bool → Type 0) (h
       (more : List Receipt) (faults : List (ℕ × NodeFault)) → AreAnswered config seed says hears n asks more faults
       → AreAnswered config seed says hears 0 all (rs ++ more) (fs ++ faults)
 
-  pub next_accepted : (n : ℕ) (asks rest : List Ask) (ask : Ask) (r : Receipt) (rs new : List Receipt) (fs : List (ℕ × NodeFault))
-      → SoFar n asks rs fs → asks ≡ ask ∷ rest → r.entry.ask ≡ ask → says n true → hears n → new ≡ rs ++ r ∷ [] → SoFar (n + 1) rest new fs
+  pub next_accepted : (n : ℕ) (asks rest : List Ask) (ask : Ask) (r : Receipt) (rs new : List Receipt)
+      (fs : List (ℕ × NodeFault))
+      → SoFar n asks rs fs → asks ≡ ask ∷ rest → r.entry.ask ≡ ask → says n true → hears n → new ≡ rs ++ r ∷ [] →
+      SoFar (n + 1) rest new fs
   next_accepted n asks rest ask r rs new fs so_far is of may heard pushed more faults h =
       let here : AreAnswered config seed says hears n asks (r ∷ more) faults =
-      subst (λ xs. AreAnswered config seed says hears n xs (r ∷ more) faults) (ap (λ a. a ∷ rest) of ∙ sym is) (workers.accepted may heard h) in
+      subst (λ xs. AreAnswered config seed says hears n xs (r ∷ more) faults) (ap (λ a. a ∷ rest) of ∙ sym is)
+      (workers.accepted may heard h) in
       rw (pushed, append_assoc rs (r ∷ []) more) (so_far (r ∷ more) faults here)
 
-  pub next_refused : (n : ℕ) (asks rest : List Ask) (ask : Ask) (f : NodeFault) (rs : List Receipt) (fs new : List (ℕ × NodeFault))
-      → SoFar n asks rs fs → asks ≡ ask ∷ rest → IsRefused config seed (ask_value_first config.nodes ask) f → says n true → hears n → new ≡ fs ++ (n, f) ∷ [] → SoFar (n + 1) rest rs new
+  pub next_refused : (n : ℕ) (asks rest : List Ask) (ask : Ask) (f : NodeFault) (rs : List Receipt)
+      (fs new : List (ℕ × NodeFault))
+      → SoFar n asks rs fs → asks ≡ ask ∷ rest → IsRefused config seed (ask_value_first config.nodes ask) f →
+      says n true → hears n → new ≡ fs ++ (n, f) ∷ [] → SoFar (n + 1) rest rs new
   next_refused n asks rest ask f rs fs new so_far is why may heard pushed more faults h =
       let here : AreAnswered config seed says hears n asks more ((n, f) ∷ faults) =
-      subst (λ xs. AreAnswered config seed says hears n xs more ((n, f) ∷ faults)) (sym is) (workers.refused may heard why h) in
+      subst (λ xs. AreAnswered config seed says hears n xs more ((n, f) ∷ faults)) (sym is)
+      (workers.refused may heard why h) in
       rw (pushed, append_assoc fs ((n, f) ∷ []) faults) (so_far more ((n, f) ∷ faults) here)
 
   -- no others are
-  pub whole : (n : ℕ) (asks : List Ask) (rs : List Receipt) (fs : List (ℕ × NodeFault)) → SoFar n asks rs fs → AreAnswered config seed says hears n asks [] [] → AreAnswered config seed says hears 0 all rs fs
+  pub whole : (n : ℕ) (asks : List Ask) (rs : List Receipt) (fs : List (ℕ × NodeFault)) → SoFar n asks rs fs →
+      AreAnswered config seed says hears n asks [] [] → AreAnswered config seed says hears 0 all rs fs
   whole n asks rs fs so_far none =
       subst (λ l. AreAnswered config seed says hears 0 all l fs) (append-nil rs)
       (subst (λ l. AreAnswered config seed says hears 0 all (rs ++ []) l) (append-nil fs) (so_far [] [] none))
 
 -- the last of the first list becomes the last of the second, which is read from its end
-pub moved : {J T : Type 0} (job : T → J) (js rest : List J) (ts : List T) (t : T) (j : J) → js ≡ rest ++ j ∷ [] → job t ≡ j → rest ++ map job (reverse (ts ++ t ∷ [])) ≡ js ++ map job (reverse ts)
+pub moved : {J T : Type 0} (job : T → J) (js rest : List J) (ts : List T) (t : T) (j : J) → js ≡ rest ++ j ∷ [] →
+    job t ≡ j → rest ++ map job (reverse (ts ++ t ∷ [])) ≡ js ++ map job (reverse ts)
 moved job js rest ts t j is same =
-    rw (reverse-append ts (t ∷ []), is, append_assoc rest (j ∷ []) (map job (reverse ts))) (ap (λ x. rest ++ (x ∷ map job (reverse ts))) same)
+    rw (reverse-append ts (t ∷ []), is, append_assoc rest (j ∷ []) (map job (reverse ts)))
+    (ap (λ x. rest ++ (x ∷ map job (reverse ts))) same)
 
 pub All-front : {X : Type 0} (P : X → Type 0) (xs : List X) (ys : List X) → All P (xs ++ ys) → All P xs
 All-front P xs ys h k d below =
     subst P (get_or-append xs ys d k below) (h k d (let l = length-append xs ys in omega arith))
 
 -- one more of each
-pub AllNumbered-cons : {A B : Type 0} (R : ℕ → A → B → Type 0) (n : ℕ) (ts rest : List A) (t : A) (ws more all : List B) (w : B) (whole : List A)
-    → ((xs : List B) → AllNumbered R n (reverse ts) xs → AllNumbered R 0 whole (ws ++ xs)) → ts ≡ rest ++ t ∷ [] → R n t w → all ≡ ws ++ w ∷ [] → AllNumbered R (n + 1) (reverse rest) more → AllNumbered R 0 whole (all ++ more)
+pub AllNumbered-cons : {A B : Type 0} (R : ℕ → A → B → Type 0) (n : ℕ) (ts rest : List A) (t : A) (ws more all : List B)
+    (w : B) (whole : List A)
+    → ((xs : List B) → AllNumbered R n (reverse ts) xs → AllNumbered R 0 whole (ws ++ xs)) → ts ≡ rest ++ t ∷ [] →
+    R n t w → all ≡ ws ++ w ∷ [] → AllNumbered R (n + 1) (reverse rest) more → AllNumbered R 0 whole (all ++ more)
 AllNumbered-cons R n ts rest t ws more all w whole so_far is here all_is h =
     let now : AllNumbered R n (reverse ts) (w ∷ more) = rw (is, reverse-append rest (t ∷ [])) (here, h) in
     rw (all_is, append_assoc ws (w ∷ []) more) (so_far (w ∷ more) now)
 
 -- the same from the front, without numbers
-pub AllZip-next : {A B : Type 0} (R : A → B → Type 0) (ts rest : List A) (t : A) (ws more all : List B) (w : B) (whole : List A)
-    → ((xs : List B) → AllZip R ts xs → AllZip R whole (ws ++ xs)) → ts ≡ t ∷ rest → R t w → all ≡ ws ++ w ∷ [] → AllZip R rest more → AllZip R whole (all ++ more)
+pub AllZip-next : {A B : Type 0} (R : A → B → Type 0) (ts rest : List A) (t : A) (ws more all : List B) (w : B)
+    (whole : List A)
+    → ((xs : List B) → AllZip R ts xs → AllZip R whole (ws ++ xs)) → ts ≡ t ∷ rest → R t w → all ≡ ws ++ w ∷ [] →
+    AllZip R rest more → AllZip R whole (all ++ more)
 AllZip-next R ts rest t ws more all w whole so_far is here all_is h =
     let now : AllZip R ts (w ∷ more) = rw is (here, h) in
     rw (all_is, append_assoc ws (w ∷ []) more) (so_far (w ∷ more) now)
 
 -- two relations in turn
-pub AllNumbered-through : {A B C : Type 0} (R : ℕ → A → B → Type 0) (S : B → C → Type 0) (Q : ℕ → A → C → Type 0) (through : (n : ℕ) (a : A) (b : B) (c : C) → R n a b → S b c → Q n a c) (n : ℕ) (xs : List A) (bs : List B) (cs : List C) → AllNumbered R n xs bs → AllZip S bs cs → AllNumbered Q n xs cs
+pub AllNumbered-through : {A B C : Type 0} (R : ℕ → A → B → Type 0) (S : B → C → Type 0) (Q : ℕ → A → C → Type 0)
+    (through : (n : ℕ) (a : A) (b : B) (c : C) → R n a b → S b c → Q n a c) (n : ℕ) (xs : List A) (bs : List B)
+    (cs : List C) → AllNumbered R n xs bs → AllZip S bs cs → AllNumbered Q n xs cs
 AllNumbered-through R S Q through n [] [] [] h k = tt
 AllNumbered-through R S Q through n [] [] (c ∷ cs) h k = absurd k
 AllNumbered-through R S Q through n [] (b ∷ bs) cs h k = absurd h
 AllNumbered-through R S Q through n (a ∷ xs) [] cs h k = absurd h
 AllNumbered-through R S Q through n (a ∷ xs) (b ∷ bs) [] h k = absurd k
-AllNumbered-through R S Q through n (a ∷ xs) (b ∷ bs) (c ∷ cs) h k = (through n a b c h.0 k.0, AllNumbered-through R S Q through (n + 1) xs bs cs h.1 k.1)
+AllNumbered-through R S Q through n (a ∷ xs) (b ∷ bs) (c ∷ cs) h k =
+    (through n a b c h.0 k.0, AllNumbered-through R S Q through (n + 1) xs bs cs h.1 k.1)
 
 -- of the images
-pub AllNumbered-of_map : {A B C : Type 0} (f : A → B) (R : ℕ → B → C → Type 0) (n : ℕ) (xs : List A) (cs : List C) → AllNumbered (λ m a c. R m (f a) c) n xs cs → AllNumbered R n (map f xs) cs
+pub AllNumbered-of_map : {A B C : Type 0} (f : A → B) (R : ℕ → B → C → Type 0) (n : ℕ) (xs : List A) (cs : List C) →
+    AllNumbered (λ m a c. R m (f a) c) n xs cs → AllNumbered R n (map f xs) cs
 AllNumbered-of_map f R n [] [] h = tt
 AllNumbered-of_map f R n [] (c ∷ cs) h = absurd h
 AllNumbered-of_map f R n (a ∷ xs) [] h = absurd h
 AllNumbered-of_map f R n (a ∷ xs) (c ∷ cs) h = (h.0, AllNumbered-of_map f R (n + 1) xs cs h.1)
 
 -- nothing is left
-pub finished : {A B : Type 0} (R : A → B → Type 0) (ts whole : List A) (ws : List B) → ((xs : List B) → AllZip R ts xs → AllZip R whole (ws ++ xs)) → ts ≡ [] → AllZip R whole ws
+pub finished : {A B : Type 0} (R : A → B → Type 0) (ts whole : List A) (ws : List B) →
+    ((xs : List B) → AllZip R ts xs → AllZip R whole (ws ++ xs)) → ts ≡ [] → AllZip R whole ws
 finished R ts whole ws so_far none =
     subst (λ xs. AllZip R whole xs) (append-nil ws) (so_far [] (subst (λ ys. AllZip R ys []) (sym none) tt))
 
 -- the same with numbers
-pub finished_numbered : {A B : Type 0} (R : ℕ → A → B → Type 0) (n : ℕ) (ts whole : List A) (ws : List B) → ((xs : List B) → AllNumbered R n ts xs → AllNumbered R 0 whole (ws ++ xs)) → ts ≡ [] → AllNumbered R 0 whole ws
+pub finished_numbered : {A B : Type 0} (R : ℕ → A → B → Type 0) (n : ℕ) (ts whole : List A) (ws : List B) →
+    ((xs : List B) → AllNumbered R n ts xs → AllNumbered R 0 whole (ws ++ xs)) → ts ≡ [] → AllNumbered R 0 whole ws
 finished_numbered R n ts whole ws so_far none =
-    subst (λ xs. AllNumbered R 0 whole xs) (append-nil ws) (so_far [] (subst (λ ys. AllNumbered R n ys []) (sym none) tt))
+    subst (λ xs. AllNumbered R 0 whole xs) (append-nil ws) (so_far []
+    (subst (λ ys. AllNumbered R n ys []) (sym none) tt))
 
 -- what a worker hands back, by its thread or without one
-pub through_worker : {H D G : Type 0} (Q : ℕ → G → ℕ → List Ask → D → Type 0) (number : H → ℕ) (gate : H → G) (had : H → ℕ) (made : H → List Ask)
+pub through_worker : {H D G : Type 0} (Q : ℕ → G → ℕ → List Ask → D → Type 0) (number : H → ℕ) (gate : H → G)
+    (had : H → ℕ) (made : H → List Ask)
     (n : ℕ) (x : G) (was : ℕ) (asks : List Ask) (w : Result H D) (d : D)
     → MatchResult w (λ h. (number h ≡ n) × (gate h ≡ x) × (had h ≡ was) × (made h ≡ asks)) (λ e. Q n x was asks e)
     → MatchResult w (λ h. Q (number h) (gate h) (had h) (made h) d) (λ e. d ≡ e) → Q n x was asks d

@@ -8,7 +8,8 @@ use Rattle.node_calls.specs.Asks.{ask_value_first}
 use Rattle.node_registry.specs.Receipts.{AreGivenSince, IsRefused}
 use Rattle.node_registry.specs.declared.workers.Done.{Done}
 
--- How asks were answered, the first of which has this number: the gate said that each may be made, and heard that it was
+-- How asks were answered, the first of which has this number: the gate said that each may be made, and heard that it
+-- was
 -- answered. One that was accepted has the next receipt, and one that was refused the next fault, with its number. The
 -- last is the last of all, or the gate said that the next may not be made
 pub data AreAnswered (config : Config) (seed : List ℕ) (says : ℕ → Bool → Type 0) (hears : ℕ → Type 0)
@@ -18,7 +19,8 @@ pub data AreAnswered (config : Config) (seed : List ℕ) (says : ℕ → Bool �
   accepted : {n : ℕ} {r : Receipt} {asks : List Ask} {receipts : List Receipt} {faults : List (ℕ × NodeFault)}
       → says n true → hears n → AreAnswered config seed says hears (n + 1) asks receipts faults
       → AreAnswered config seed says hears n (r.entry.ask ∷ asks) (r ∷ receipts) faults
-  refused : {n : ℕ} {ask : Ask} {fault : NodeFault} {asks : List Ask} {receipts : List Receipt} {faults : List (ℕ × NodeFault)}
+  refused : {n : ℕ} {ask : Ask} {fault : NodeFault} {asks : List Ask} {receipts : List Receipt}
+      {faults : List (ℕ × NodeFault)}
       → says n true → hears n → IsRefused config seed (ask_value_first config.nodes ask) fault
       → AreAnswered config seed says hears (n + 1) asks receipts faults
       → AreAnswered config seed says hears n (ask ∷ asks) receipts ((n, fault) ∷ faults)
@@ -26,7 +28,8 @@ pub data AreAnswered (config : Config) (seed : List ℕ) (says : ℕ → Bool �
 -- what a worker hands back that was to make these asks from a seat that had made so many calls: the seat made as many
 -- more as there are receipts, which the node gave it since; these and the faults answer the asks, or the worker didn't
 -- start, and there are none
-pub record IsDone {L : Type 0} (config : Config) (seed : List ℕ) (says : ℕ → Bool → Type 0) (hears : ℕ → Type 0) (was : ℕ) (asks : List Ask)
+pub record IsDone {L : Type 0} (config : Config) (seed : List ℕ) (says : ℕ → Bool → Type 0) (hears : ℕ → Type 0)
+    (was : ℕ) (asks : List Ask)
     (done : Done L) : Type 0 where
   pub counted : done.seat ≡ was + length done.receipts.items
   pub given : AreGivenSince config seed was done.receipts.items

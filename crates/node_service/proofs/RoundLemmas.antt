@@ -38,7 +38,8 @@ made_or_taken : (asks : List Asked) → are_emits (filter (λ a. not (is_deliver
 made_or_taken [] h = omega arith
 made_or_taken (a ∷ rest) h =
     rw (sum_by-cons (λ x. cond (is_emit x) 1 0) a rest, sum_by-cons (λ x. cond (is_delivery x) 1 0) a rest)
-    (one_more a (is_delivery a) (filter (λ x. not (is_delivery x)) rest) (length rest) (count_by is_emit rest) (count_by is_delivery rest) h (made_or_taken rest))
+    (one_more a (is_delivery a) (filter (λ x. not (is_delivery x)) rest) (length rest) (count_by is_emit rest)
+    (count_by is_delivery rest) h (made_or_taken rest))
 
 of_one_round : (config : Config) → emits_of_rounds config 1 ≡ emits_below config config.nodes
 of_one_round config = append-nil (emits_below config config.nodes)
@@ -48,7 +49,8 @@ pub calls_of_a_round : (config : Config) (was now : ℕ) (r : GossipReport) → 
     IsPartOf (own_asks_in config r.receipts.items) (emits_of_rounds config 1) →
     calls_of r ≤ length (emits_of_rounds config 1) + 1 * 64 → now ≤ was + most_calls config
 calls_of_a_round config was now r told part few =
-    let own = some_emits (subst (λ l. IsPartOf (own_asks_in config r.receipts.items) l) (of_one_round config) part) (all_emits (others_below config config.nodes)) in
+    let own = some_emits (subst (λ l. IsPartOf (own_asks_in config r.receipts.items) l) (of_one_round config) part)
+    (all_emits (others_below config config.nodes)) in
     let all = made_or_taken (asks_in config r.receipts.items) own in
     let long = length-map r.receipts.items (asked_in config) in
     let round = ap length (of_one_round config) in

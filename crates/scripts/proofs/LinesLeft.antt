@@ -18,7 +18,7 @@ LeaveFrom lines = (w : WorldValue) → after_lines (Some w) lines ≡ Some
 
 leave_by : (lines : List (List ℕ)) → LeaveFrom lines → (w : WorldValue) (o : Option CommandValue) →
     after_lines (after_read (Some w) o) lines ≡ Some (after_answers w (event_asked o ++ events_in lines)
-        (answers_from w (event_asked o ++ events_in lines)))
+    (answers_from w (event_asked o ++ events_in lines)))
 unfolding after_answers
 leave_by lines rest w None = rest w
 leave_by lines rest w (Some (nodes count cap)) = rest w
@@ -30,7 +30,7 @@ unfolding after_answers
 leave_from [] = λ w. refl
 leave_from (line ∷ lines) = λ w.
     ap (λ (v : Option WorldValue). after_lines v lines) (after_line_is (Some w) line) ∙
-        leave_by lines (leave_from lines) w (asked_in line)
+    leave_by lines (leave_from lines) w (asked_in line)
 
 -- ---- from the start
 
@@ -51,7 +51,7 @@ pub lines_leave : (lines : List (List ℕ)) → after_lines None lines ≡ optio
 lines_leave [] = refl
 lines_leave (line ∷ lines) =
     ap (λ (v : Option WorldValue). after_lines v lines) (after_line_is None line) ∙
-        start_by lines (lines_leave lines) (asked_in line)
+    start_by lines (lines_leave lines) (asked_in line)
 
 -- ---- what is printed
 
@@ -63,7 +63,7 @@ after_lines-push w (first ∷ before) line = after_lines-push (after_line w firs
 text_at : (w : Option WorldValue) (before : List (List ℕ)) (line : List ℕ) (behind : List (List ℕ)) →
     text_from line_output w (before ++ line ∷ behind) ≡
     text_from line_output w before ++ (line_output (after_lines w before) line ++
-        text_from line_output (after_line (after_lines w before) line) behind)
+    text_from line_output (after_line (after_lines w before) line) behind)
 text_at w [] line behind = refl
 text_at w (first ∷ before) line behind =
     ap (λ (text : List ℕ). line_output w first ++ text) (text_at (after_line w first) before line behind)
@@ -72,9 +72,9 @@ text_at w (first ∷ before) line behind =
 pub lines_are_answered : (before : List (List ℕ)) (line : List ℕ) (behind : List (List ℕ)) →
     text_from line_output None (before ++ line ∷ behind) ≡
     text_from line_output None before ++ (line_output (after_lines None before) line ++
-        text_from line_output (after_lines None (before ++ line ∷ [])) behind)
+    text_from line_output (after_lines None (before ++ line ∷ [])) behind)
 lines_are_answered before line behind =
     text_at None before line behind
     ∙ ap (λ (v : Option WorldValue). text_from line_output None before ++
-        (line_output (after_lines None before) line ++ text_from line_output v behind))
+    (line_output (after_lines None before) line ++ text_from line_output v behind))
     (sym (after_lines-push None before line))

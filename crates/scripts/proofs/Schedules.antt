@@ -44,10 +44,10 @@ one_more : (c : Cluster) (es : List EventValue) (w : WorldValue) (e : EventValue
 one_more c es w e came goes =
     let answered : answers_from (new_world c) es ++ answer w e ∷ [] ≡ answers_from (new_world c) (es ++ e ∷ []) =
     ap (λ (v : WorldValue). answers_from (new_world c) es ++ answer v e ∷ []) came.now_is ∙
-        sym (answers_more (new_world c) es e) in
+    sym (answers_more (new_world c) es e) in
     subst (λ (told : List Answer). RunsTo (new_world c) (es ++ e ∷ []) told (after_event w e)) answered
     (one_more_event (new_world c) es (answers_from (new_world c) es) w came e (answer w e) (after_event w e) (inr refl)
-        refl goes)
+    refl goes)
 
 -- whatever run came so far goes on by lines
 abbrev AreMore : Cluster → List (List ℕ) → Type 0
@@ -57,13 +57,13 @@ AreMore c lines = (es : List EventValue) (w : WorldValue) → ComesTo c es w →
 more_by : (c : Cluster) (lines : List (List ℕ)) → AreMore c lines → (es : List EventValue) (w : WorldValue) →
     ComesTo c es w
     → (o : Option CommandValue) → IfSome o (GoesOn (Some w)) → AllGoOn (after_read (Some w) o) lines →
-        Comes c (es ++ (event_asked o ++ events_in lines))
+    Comes c (es ++ (event_asked o ++ events_in lines))
 more_by c lines more es w came None goes all = more es w came all
 more_by c lines more es w came (Some (nodes count cap)) goes all = more es w came all
 more_by c lines more es w came (Some (question node asked)) goes all = more es w came all
 more_by c lines more es w came (Some (event e)) goes all =
     subst (Comes c) (append_assoc es (e ∷ []) (events_in lines))
-        (more (es ++ e ∷ []) (after_event w e) (one_more c es w e came goes) all)
+    (more (es ++ e ∷ []) (after_event w e) (one_more c es w e came goes) all)
 
 more_lines : (c : Cluster) (lines : List (List ℕ)) → AreMore c lines
 more_lines c [] = λ es w came all. (w, subst (λ (es : List EventValue). ComesTo c es w) (sym (append-nil es)) came)
@@ -125,7 +125,7 @@ pub rest_goes_on : (lines : List (List ℕ)) (n m : ℕ) (w next : Option WorldV
     → next ≡ after_line w line → LineGoesOn w line → IfRestGoesOn lines n w → IfRestGoesOn lines m next
 rest_goes_on lines n m w next line h e last after goes so_far rest =
     let here : drop n lines ≡ line ∷ drop (n + 1) lines = drop_more lines n line h ∙
-        ap (λ (x : List ℕ). x ∷ drop (n + 1) lines) (sym e) in
+    ap (λ (x : List ℕ). x ∷ drop (n + 1) lines) (sym e) in
     so_far (subst (AllGoOn w) (sym here) (goes, subst₂ AllGoOn after (ap (λ (k : ℕ). drop k lines) last) rest))
 
 pub all_go_on : (lines : List (List ℕ)) (n : ℕ) (w : Option WorldValue) → n ≡ length lines → IfRestGoesOn lines n w →

@@ -15,15 +15,22 @@ loop-round-init g c = record {
 pub round-requires-clause-room : goal.round-requires-clause-room
 round-requires-clause-room g c =
     let config = g.L.Label.config in
-    let few : length (emits_below config config.nodes) ≤ 255 = omega (arith, c.requires.place.1, length_but bare_emit config.node config.nodes) in
-    omega (arith, c.loop-round.invariant.few, length_over (λ n. emits_below config config.nodes) 255 c.loop-round._round (λ n. few))
+    let few : length (emits_below config config.nodes) ≤ 255 =
+    omega (arith, c.requires.place.1, length_but bare_emit config.node config.nodes) in
+    omega (
+      arith,
+      c.loop-round.invariant.few,
+      length_over (λ n. emits_below config config.nodes) 255 c.loop-round._round
+          (λ n. few),
+    )
 
 pub returns-in_err-round-clause-adds : goal.returns-in_err-round-clause-adds
 returns-in_err-round-clause-adds g c =
     let config = g.L.Label.config in
     let within : c.loop-round._round + 1 ≤ c.args.rounds = omega (arith, c.loop-round-test.true) in
     adds_turns (λ n. emits_below config config.nodes) (c.loop-round._round + 1) c.args.rounds within
-    (adds_turn (λ n. emits_below config config.nodes) c.loop-round._round c.loop-round.invariant.adds c.round.ensures.adds)
+    (adds_turn (λ n. emits_below config config.nodes) c.loop-round._round c.loop-round.invariant.adds
+    c.round.ensures.adds)
 
 pub returns-in_err-round-clause-few : goal.returns-in_err-round-clause-few
 returns-in_err-round-clause-few g c =

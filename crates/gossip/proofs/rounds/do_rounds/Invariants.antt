@@ -7,7 +7,8 @@ abbrev pub invariant-loop-round : goal.invariant-loop-round
 invariant-loop-round g l =
     let config = g.L.Label.config in
     record {
-      adds : Adds config g.L.Label.seed l.initial.seat l.seat l.initial.report l.report (emits_of_rounds config l._round);
+      adds : Adds config g.L.Label.seed l.initial.seat l.seat l.initial.report l.report
+          (emits_of_rounds config l._round);
       tried : tried_of l.initial.report + length (emits_of_rounds config l._round) ≤ tried_of l.report;
       few : calls_of l.report ≤ length (emits_of_rounds config l._round) + l._round * 64;
     }

@@ -14,7 +14,8 @@ use Rattle.gossip.proofs.spreading.share.Goals as goal
 of_none : (rights nodes : ℕ) → nodes ≡ 0 → min (rights / nodes) (2 ^ 64 - 1) ≡ 0
 of_none rights nodes e = ap (λ n. min (rights / n) (2 ^ 64 - 1)) e ∙ ap (λ n. min n (2 ^ 64 - 1)) (div-zero rights)
 
-capped : {E : Type 0} (share : ℕ) (read : Result ℕ E) → OkIff read (share < 2 ^ 64) share → result_unwrap_or read (2 ^ 64 - 1) ≡ min share (2 ^ 64 - 1)
+capped : {E : Type 0} (share : ℕ) (read : Result ℕ E) → OkIff read (share < 2 ^ 64) share →
+    result_unwrap_or read (2 ^ 64 - 1) ≡ min share (2 ^ 64 - 1)
 capped share (Ok n) read = omega (arith, read.0, read.1)
 capped share (Err e) read = omega (arith, read)
 

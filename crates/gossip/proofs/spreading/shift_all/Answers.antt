@@ -19,7 +19,8 @@ pub returns-in_err-shift_term-clause-adds : goal.returns-in_err-shift_term-claus
 unfolding shifts_in
 returns-in_err-shift_term-clause-adds g c =
     let config = g.L.Label.config in
-    let shifts : ℕ → List Asked = λ term. shifts_below config c.args.name.now term (slice_index c.args.shares.now.amounts term) config.nodes in
+    let shifts : ℕ → List Asked = λ term. shifts_below config c.args.name.now term
+    (slice_index c.args.shares.now.amounts term) config.nodes in
     let within : c.loop-term.term + 1 ≤ 16 = omega (arith, c.loop-term-test.true) in
     adds_turns shifts (c.loop-term.term + 1) 16 within
     (adds_turn shifts c.loop-term.term c.loop-term.invariant.adds c.shift_term.ensures.adds)
@@ -28,7 +29,8 @@ pub loop-term-preserved : goal.loop-term-preserved
 unfolding shifts_in
 loop-term-preserved g c =
     let config = g.L.Label.config in
-    let shifts : ℕ → List Asked = λ term. shifts_below config c.args.name.now term (slice_index c.args.shares.now.amounts term) config.nodes in
+    let shifts : ℕ → List Asked = λ term. shifts_below config c.args.name.now term
+    (slice_index c.args.shares.now.amounts term) config.nodes in
     let was = c.loop-term.invariant in
     record {
       adds = adds_turn shifts c.loop-term.term was.adds c.shift_term.ensures.adds;

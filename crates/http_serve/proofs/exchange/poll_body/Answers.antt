@@ -5,19 +5,24 @@ use Rattle.http_serve.proofs.exchange.poll_body.Goals as goal
 
 pub returns-in-loop-clause-goes_on : goal.returns-in-loop-clause-goes_on
 returns-in-loop-clause-goes_on g c =
-    goes_on_within (pieces_of c.args.body.now) c.args.read.now.items (pieces_of c.loop.body) c.loop.read.items c.loop.invariant.0
+    goes_on_within (pieces_of c.args.body.now) c.args.read.now.items (pieces_of c.loop.body) c.loop.read.items
+    c.loop.invariant.0
     (pieces_of c.poll_frame.new.self) (search rules)
 
 pub returns-in-Some-clause-ends : goal.returns-in-Some-clause-ends
 returns-in-Some-clause-ends g c =
-    ends_later (pieces_of c.args.body.now) c.args.read.now.items (pieces_of c.loop.body) c.loop.read.items c.loop.invariant.0
+    ends_later (pieces_of c.args.body.now) c.args.read.now.items (pieces_of c.loop.body) c.loop.read.items
+    c.loop.invariant.0
     c.in-Some.reading c.take_in.new.read.items
-    (ends_by (pieces_of c.loop.body) c.loop.read.items _ _ c.take_in.new.read.items c.in-Some.reading (search rules) c.in-Some.ensures)
+    (ends_by (pieces_of c.loop.body) c.loop.read.items _ _ c.take_in.new.read.items c.in-Some.reading (search rules)
+    c.in-Some.ensures)
 
 pub loop-preserved : goal.loop-preserved
 loop-preserved g c = (
-  goes_on_more (pieces_of c.args.body.now) c.args.read.now.items (pieces_of c.loop.body) c.loop.read.items c.loop.invariant.0
+  goes_on_more (pieces_of c.args.body.now) c.args.read.now.items (pieces_of c.loop.body) c.loop.read.items
+      c.loop.invariant.0
       (pieces_of c.poll_frame.new.self) c.take_in.new.read.items
-      (goes_by (pieces_of c.loop.body) c.loop.read.items _ _ c.take_in.new.read.items (pieces_of c.poll_frame.new.self) (search rules) c.in_default.ensures),
+      (goes_by (pieces_of c.loop.body) c.loop.read.items _ _ c.take_in.new.read.items (pieces_of c.poll_frame.new.self)
+      (search rules) c.in_default.ensures),
   search rules,
 )

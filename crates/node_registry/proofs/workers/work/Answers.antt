@@ -32,9 +32,18 @@ loop-ask-preserved g c =
             few = omega (arith, steps.1);
             room = omega (arith, steps.1, pushed.len, pushed.capacity);
             room_for_faults = omega (arith, steps.1);
-            counted = omega (arith, was.counted, told.counted, pushed.len, w.push_reserved.new.self.ok.0, c.loop-ask.receipts.ok.0);
-            given = given_more config seed c.args.task.job.seat c.loop-ask.seat rs new w.in-Ok.receipt was.given was.counted told.given told.since pushed.items;
-            answered = next_accepted config seed says hears all c.loop-ask.index left rest c.in-Some.ask w.in-Ok.receipt rs new fs
+            counted = omega (
+              arith,
+              was.counted,
+              told.counted,
+              pushed.len,
+              w.push_reserved.new.self.ok.0,
+              c.loop-ask.receipts.ok.0,
+            );
+            given = given_more config seed c.args.task.job.seat c.loop-ask.seat rs new w.in-Ok.receipt was.given
+                was.counted told.given told.since pushed.items;
+            answered = next_accepted config seed says hears all c.loop-ask.index left rest c.in-Some.ask w.in-Ok.receipt
+                rs new fs
                 was.answered steps.0 told.asked may c.answered.ensures pushed.items;
           }
       | in-Err w ↦
@@ -46,7 +55,8 @@ loop-ask-preserved g c =
             room_for_faults = omega (arith, steps.1, pushed.len, pushed.capacity);
             counted = told.err ∙ was.counted;
             given = was.given;
-            answered = next_refused config seed says hears all c.loop-ask.index left rest c.in-Some.ask w.in-Err.fault rs fs w.push_reserved-in-Err.new.self.items
+            answered = next_refused config seed says hears all c.loop-ask.index left rest c.in-Some.ask w.in-Err.fault
+                rs fs w.push_reserved-in-Err.new.self.items
                 was.answered steps.0 told.refused may c.answered.ensures pushed.items;
           }
     ]
@@ -61,10 +71,12 @@ returns g c =
     let left = into_iter_items c.loop-ask.ask-iterator in
     let none_more : AreAnswered config seed says hears c.loop-ask.index left [] [] =
     elim c.match-next.branch [
-      | in-None w ↦ at_the_end config seed says hears c.loop-ask.index left (nil_from_length left (sym c.loop-ask.ask-iterator.rest.ok.0 ∙ w.in-None.ensures.steps.0))
+      | in-None w ↦ at_the_end config seed says hears c.loop-ask.index left
+          (nil_from_length left (sym c.loop-ask.ask-iterator.rest.ok.0 ∙ w.in-None.ensures.steps.0))
       | in-Some+then-not-turn w ↦ workers.stopped (rw w.if-not-turn.true at w.turn.ensures)
     ] in record {
       counted = was.counted;
       given = was.given;
-      answered = whole config seed says hears c.args.task.job.asks.items c.loop-ask.index left c.loop-ask.receipts.items c.loop-ask.faults.items was.answered none_more;
+      answered = whole config seed says hears c.args.task.job.asks.items c.loop-ask.index left c.loop-ask.receipts.items
+          c.loop-ask.faults.items was.answered none_more;
     }

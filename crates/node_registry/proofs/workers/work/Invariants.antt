@@ -13,6 +13,7 @@ invariant-loop-ask g l =
       room_for_faults : vec_len l.faults + into_iter_len l.ask-iterator ≤ vec_capacity l.faults;
       counted : l.seat ≡ l.fn.task.job.seat + length l.receipts.items;
       given : AreGivenSince config g.L.Label.seed l.fn.task.job.seat l.receipts.items;
-      answered : SoFar config g.L.Label.seed (g.G.Gate.says l.gate l.worker) (g.G.Gate.hears l.gate l.worker) l.fn.task.job.asks.items
+      answered : SoFar config g.L.Label.seed (g.G.Gate.says l.gate l.worker) (g.G.Gate.hears l.gate l.worker)
+          l.fn.task.job.asks.items
           l.index (into_iter_items l.ask-iterator) l.receipts.items l.faults.items;
     }

@@ -17,7 +17,7 @@ returns-clause-conserved c = λ r s. escrow_holds r.cluster (carried_out r) (wor
 pub returns-clause-bounded : goal.returns-clause-bounded
 returns-clause-bounded c = λ r s name key term count issued counted.
     let most = (escrow_holds r.cluster (carried_out r) (world_left r) s.history name key term count issued
-        counted).at_most in
+    counted).at_most in
     let told = s.executions (stamp_of key) term in
     omega (arith, most, told)
 

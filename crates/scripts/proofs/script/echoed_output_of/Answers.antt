@@ -30,7 +30,7 @@ returns-clause-text c =
     (search rules) (search rules) (search rules) (λ x r q k. search (rules, tests)))
     c.loop-line.yielded _ c.loop-line.yielded_by _ _ c.in-None.is c.next.ensures.steps in
     none_left echoed_output (lines_of c.args.script.now) (length c.loop-line.yielded) c.loop-line.world
-        c.loop-line.out.items _ end.1 c.loop-line.invariant.text
+    c.loop-line.out.items _ end.1 c.loop-line.invariant.text
 
 pub returns-clause-schedule : goal.returns-clause-schedule
 returns-clause-schedule c =
@@ -38,4 +38,4 @@ returns-clause-schedule c =
     (search rules) (search rules) (search rules) (λ x r q k. search (rules, tests)))
     c.loop-line.yielded _ c.loop-line.yielded_by _ _ c.in-None.is c.next.ensures.steps in
     all_go_on (lines_of c.args.script.now) (length c.loop-line.yielded) c.loop-line.world end.1
-        c.loop-line.invariant.goes
+    c.loop-line.invariant.goes

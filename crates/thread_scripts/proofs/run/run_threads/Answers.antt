@@ -7,7 +7,8 @@ use Rattle.thread_scripts.proofs.run.run_threads.Goals as goal
 
 pub returns-clause-ok : goal.returns-clause-ok
 returns-clause-ok g c =
-    let comes : ComesTo c.in_ok-script.script.items c.as_bytes.result.now = rw (← c.as_slice.ensures.value, c.as_bytes.ensures.value) c.in_ok-text.ensures.ok in
+    let comes : ComesTo c.in_ok-script.script.items c.as_bytes.result.now =
+    rw (← c.as_slice.ensures.value, c.as_bytes.ensures.value) c.in_ok-text.ensures.ok in
     reported_on_ok (Writes g.O.Write.contents c.args.writer.now c.write_text.new.writer)
     c.in_ok-script.script.items c.as_bytes.result.now comes.0
     c.write_text.result (g.I.Read.remaining (inner_of c.args.reader.now)) c.in_ok-script.ensures.ok comes.1
@@ -15,7 +16,8 @@ returns-clause-ok g c =
 
 pub returns-clause-prefix : goal.returns-clause-prefix
 returns-clause-prefix g c failed =
-    let comes : ComesTo c.in_ok-script.script.items c.as_bytes.result.now = rw (← c.as_slice.ensures.value, c.as_bytes.ensures.value) c.in_ok-text.ensures.ok in
+    let comes : ComesTo c.in_ok-script.script.items c.as_bytes.result.now =
+    rw (← c.as_slice.ensures.value, c.as_bytes.ensures.value) c.in_ok-text.ensures.ok in
     reported (WritesPrefix g.O.Write.contents c.args.writer.now c.write_text.new.writer)
     c.in_ok-script.script.items c.as_bytes.result.now comes.0
     (g.I.Read.remaining (inner_of c.args.reader.now)) c.in_ok-script.ensures.ok comes.1

@@ -16,12 +16,12 @@ if_some (Some x) f h = f x h
 pub returns-clause-text : goal.returns-clause-text
 returns-clause-text g c =
     let read : (inner_of c.new-reader.result).now ≡ c.args.script.now = ap (λ s. s.now) c.new-reader.ensures.inner ∙
-        c.as_bytes.ensures.value in
+    c.as_bytes.ensures.value in
     rw (← read) c.run_script.ensures.ok
 
 pub returns-clause-bounded : goal.returns-clause-bounded
 returns-clause-bounded g c =
     let read : (inner_of c.new-reader.result).now ≡ c.args.script.now = ap (λ s. s.now) c.new-reader.ensures.inner ∙
-        c.as_bytes.ensures.value in
+    c.as_bytes.ensures.value in
     rw (← read) (on_ok c.run_script.result (if_some (run_in (lines_of (inner_of c.new-reader.result).now))
-        c.script_is_schedule.ensures.bounded) c.run_script.ensures.schedule)
+    c.script_is_schedule.ensures.bounded) c.run_script.ensures.schedule)

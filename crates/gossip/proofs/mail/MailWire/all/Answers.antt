@@ -12,14 +12,16 @@ one_more : (wires now : List Place) (nodes node : ℕ) (own : ℕ) → now ≡ w
     → now ≡ map (λ n. record { node = n; nodes = nodes }) (range_with_len 0 (node + 1))
 unfolding place
 one_more wires now nodes node own pushed made same =
-    pushed ∙ ap₂ (λ ws w. ws ++ place w node ∷ []) made same ∙ sym (map-range_with_len_more (place nodes) 0 node node (omega arith))
+    pushed ∙ ap₂ (λ ws w. ws ++ place w node ∷ []) made same ∙
+    sym (map-range_with_len_more (place nodes) 0 node node (omega arith))
 
 pub loop-node-2-preserved : goal.loop-node-2-preserved
 loop-node-2-preserved c =
     let was = c.loop-node-2.invariant in
     record {
       all = omega arith;
-      made = one_more _ _ _ _ _ c.push_reserved-in-loop-node-2.ensures.items was.made (ap vec_len c.in_ok-mailboxes-3.ensures ∙ was.all);
+      made = one_more _ _ _ _ _ c.push_reserved-in-loop-node-2.ensures.items was.made
+          (ap vec_len c.in_ok-mailboxes-3.ensures ∙ was.all);
       len = omega arith;
       room = omega arith;
     }

@@ -5,5 +5,6 @@ use Rattle.http_serve.proofs.handler.NodeHandler.call.Goals as goal
 pub returns : goal.returns
 returns g c =
     let made = c.submit-outcome.ensures in
-    called_by g.L.Label.config g.L.Label.seed c.args.seat.now c.submit-outcome.new.seat c.args.ask (http_value c.reply.result) c.submit-outcome.result
+    called_by g.L.Label.config g.L.Label.seed c.args.seat.now c.submit-outcome.new.seat c.args.ask
+    (http_value c.reply.result) c.submit-outcome.result
     made.answered made.refused made.counted made.err c.reply.ensures.accepted c.reply.ensures.refused

@@ -5,4 +5,5 @@ use Rattle.http_serve.proofs.handler.NodeHandlerHandler.reply_too_long.Goals as 
 
 pub returns : goal.returns
 returns g c = λ body long.
-    answered_so g.L.Label.config g.L.Label.seed (wanted c.args.method.now c.args.path.now body) (http_value c.answer_too_long.result) (c.answer_too_long.ensures body long)
+    answered_so g.L.Label.config g.L.Label.seed (wanted c.args.method.now c.args.path.now body)
+    (http_value c.answer_too_long.result) (c.answer_too_long.ensures body long)

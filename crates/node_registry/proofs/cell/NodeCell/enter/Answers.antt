@@ -7,4 +7,5 @@ pub returns-clause-refused : goal.returns-clause-refused
 returns-clause-refused c =
     let cell = c.args.self.now in
     subst (λ a. IfErr c.enter_owned.result (IsRefusedBy cell a))
-    (same_first cell.node.config.nodes c.in_ok-copy.copy c.args.ask.now c.in_ok-copy.ensures.same) c.enter_owned.ensures.refused
+    (same_first cell.node.config.nodes c.in_ok-copy.copy c.args.ask.now c.in_ok-copy.ensures.same)
+    c.enter_owned.ensures.refused

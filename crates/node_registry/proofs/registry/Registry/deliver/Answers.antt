@@ -6,7 +6,8 @@ use Rattle.node_registry.proofs.registry.Registry.deliver.Goals as goal
 
 pub returns-in_err-message-clause-refused : goal.returns-in_err-message-clause-refused
 returns-in_err-message-clause-refused g c =
-    memory_refused g.L.Label.config g.L.Label.seed (asks.Deliver (message_read g.L.Label.config.nodes c.args.message.now)) c.from_residual.result c.from_residual.ensures.1
+    memory_refused g.L.Label.config g.L.Label.seed (asks.Deliver
+    (message_read g.L.Label.config.nodes c.args.message.now)) c.from_residual.result c.from_residual.ensures.1
 
 pub returns-clause-receipt : goal.returns-clause-receipt
 returns-clause-receipt g c =
@@ -18,12 +19,14 @@ returns-clause-receipt g c =
 
 pub returns-clause-bytes : goal.returns-clause-bytes
 returns-clause-bytes g c =
-    receipt_has_bytes (calls.Deliver c.in_ok-message.message) c.args.message.now c.in_ok-message.ensures.items c.enter_owned.result c.enter_owned.ensures.asked
+    receipt_has_bytes (calls.Deliver c.in_ok-message.message) c.args.message.now c.in_ok-message.ensures.items
+    c.enter_owned.result c.enter_owned.ensures.asked
 
 pub returns-clause-refused : goal.returns-clause-refused
 returns-clause-refused g c =
     let config = g.L.Label.config in
     let ask = calls.Deliver c.in_ok-message.message in
-    refused_as config g.L.Label.seed (ask_value_first config.nodes ask) (asks.Deliver (message_read config.nodes c.args.message.now))
+    refused_as config g.L.Label.seed (ask_value_first config.nodes ask)
+    (asks.Deliver (message_read config.nodes c.args.message.now))
     (λ i. asks.Deliver (message_read config.nodes (c.in_ok-message.ensures.items i)))
     c.enter_owned.result c.enter_owned.ensures.refused

@@ -8,7 +8,8 @@ use Rattle.node_registry.proofs.registry.Registry.enter.Goals as goal
 pub returns-in_err-copy-clause-refused : goal.returns-in_err-copy-clause-refused
 returns-in_err-copy-clause-refused g c =
     let config = g.L.Label.config in
-    memory_refused config g.L.Label.seed (ask_value_first config.nodes c.args.ask.now) c.from_residual.result c.from_residual.ensures.1
+    memory_refused config g.L.Label.seed (ask_value_first config.nodes c.args.ask.now) c.from_residual.result
+    c.from_residual.ensures.1
 
 pub returns-clause-refused : goal.returns-clause-refused
 returns-clause-refused g c =

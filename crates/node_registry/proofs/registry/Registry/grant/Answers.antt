@@ -6,17 +6,21 @@ use Rattle.node_registry.proofs.registry.Registry.grant.Goals as goal
 
 pub returns-in_err-name-clause-refused : goal.returns-in_err-name-clause-refused
 returns-in_err-name-clause-refused g c =
-    memory_refused g.L.Label.config g.L.Label.seed (asks.Grant c.args.name.now c.args.term c.args.amount) c.from_residual.result c.from_residual.ensures.1
+    memory_refused g.L.Label.config g.L.Label.seed (asks.Grant c.args.name.now c.args.term c.args.amount)
+    c.from_residual.result c.from_residual.ensures.1
 
 pub returns-clause-receipt : goal.returns-clause-receipt
 returns-clause-receipt g c =
     let ask = calls.Grant c.in_ok-name.name c.args.term c.args.amount in
-    receipt_is_of g.L.Label.config ask (asks.Grant c.args.name.now c.args.term c.args.amount) (λ reply. λ i. asks.Grant (c.in_ok-name.ensures.ok i) c.args.term c.args.amount)
+    receipt_is_of g.L.Label.config ask (asks.Grant c.args.name.now c.args.term c.args.amount)
+    (λ reply. λ i. asks.Grant (c.in_ok-name.ensures.ok i) c.args.term c.args.amount)
     c.enter_owned.result c.enter_owned.ensures.node c.enter_owned.ensures.asked
 
 pub returns-clause-refused : goal.returns-clause-refused
 returns-clause-refused g c =
     let config = g.L.Label.config in
     let ask = calls.Grant c.in_ok-name.name c.args.term c.args.amount in
-    refused_as config g.L.Label.seed (ask_value_first config.nodes ask) (asks.Grant c.args.name.now c.args.term c.args.amount) (λ i. asks.Grant (c.in_ok-name.ensures.ok i) c.args.term c.args.amount)
+    refused_as config g.L.Label.seed (ask_value_first config.nodes ask)
+    (asks.Grant c.args.name.now c.args.term c.args.amount)
+    (λ i. asks.Grant (c.in_ok-name.ensures.ok i) c.args.term c.args.amount)
     c.enter_owned.result c.enter_owned.ensures.refused

@@ -6,7 +6,8 @@ use Rattle.node_registry.proofs.registry.Registry.load.Goals as goal
 
 pub returns-in_err-text-clause-refused : goal.returns-in_err-text-clause-refused
 returns-in_err-text-clause-refused g c =
-    memory_refused g.L.Label.config g.L.Label.seed (asks.Load c.args.text.now) c.from_residual.result c.from_residual.ensures.1
+    memory_refused g.L.Label.config g.L.Label.seed (asks.Load c.args.text.now) c.from_residual.result
+    c.from_residual.ensures.1
 
 pub returns-clause-receipt : goal.returns-clause-receipt
 returns-clause-receipt g c =
@@ -18,5 +19,6 @@ pub returns-clause-refused : goal.returns-clause-refused
 returns-clause-refused g c =
     let config = g.L.Label.config in
     let ask = calls.Load c.in_ok-text.text in
-    refused_as config g.L.Label.seed (ask_value_first config.nodes ask) (asks.Load c.args.text.now) (λ i. asks.Load (c.in_ok-text.ensures.ok i))
+    refused_as config g.L.Label.seed (ask_value_first config.nodes ask) (asks.Load c.args.text.now)
+    (λ i. asks.Load (c.in_ok-text.ensures.ok i))
     c.enter_owned.result c.enter_owned.ensures.refused

@@ -6,17 +6,20 @@ use Rattle.node_registry.proofs.registry.Registry.remove.Goals as goal
 
 pub returns-in_err-name-clause-refused : goal.returns-in_err-name-clause-refused
 returns-in_err-name-clause-refused g c =
-    memory_refused g.L.Label.config g.L.Label.seed (asks.Remove c.args.name.now) c.from_residual.result c.from_residual.ensures.1
+    memory_refused g.L.Label.config g.L.Label.seed (asks.Remove c.args.name.now) c.from_residual.result
+    c.from_residual.ensures.1
 
 pub returns-clause-receipt : goal.returns-clause-receipt
 returns-clause-receipt g c =
     let ask = calls.Remove c.in_ok-name.name in
-    receipt_is_of g.L.Label.config ask (asks.Remove c.args.name.now) (λ reply. λ i. asks.Remove (c.in_ok-name.ensures.ok i))
+    receipt_is_of g.L.Label.config ask (asks.Remove c.args.name.now)
+    (λ reply. λ i. asks.Remove (c.in_ok-name.ensures.ok i))
     c.enter_owned.result c.enter_owned.ensures.node c.enter_owned.ensures.asked
 
 pub returns-clause-refused : goal.returns-clause-refused
 returns-clause-refused g c =
     let config = g.L.Label.config in
     let ask = calls.Remove c.in_ok-name.name in
-    refused_as config g.L.Label.seed (ask_value_first config.nodes ask) (asks.Remove c.args.name.now) (λ i. asks.Remove (c.in_ok-name.ensures.ok i))
+    refused_as config g.L.Label.seed (ask_value_first config.nodes ask) (asks.Remove c.args.name.now)
+    (λ i. asks.Remove (c.in_ok-name.ensures.ok i))
     c.enter_owned.result c.enter_owned.ensures.refused

@@ -6,21 +6,25 @@ use Rattle.node_registry.proofs.registry.Registry.set.Goals as goal
 
 pub returns-in_err-name-clause-refused : goal.returns-in_err-name-clause-refused
 returns-in_err-name-clause-refused g c =
-    memory_refused g.L.Label.config g.L.Label.seed (asks.Set c.args.name.now c.args.text.now) c.from_residual.result c.from_residual.ensures.1
+    memory_refused g.L.Label.config g.L.Label.seed (asks.Set c.args.name.now c.args.text.now) c.from_residual.result
+    c.from_residual.ensures.1
 
 pub returns-in_err-text-clause-refused : goal.returns-in_err-text-clause-refused
 returns-in_err-text-clause-refused g c =
-    memory_refused g.L.Label.config g.L.Label.seed (asks.Set c.args.name.now c.args.text.now) c.from_residual-in_err-text.result c.from_residual-in_err-text.ensures.1
+    memory_refused g.L.Label.config g.L.Label.seed (asks.Set c.args.name.now c.args.text.now)
+    c.from_residual-in_err-text.result c.from_residual-in_err-text.ensures.1
 
 pub returns-clause-receipt : goal.returns-clause-receipt
 returns-clause-receipt g c =
     let ask = calls.Set c.in_ok-name.name c.in_ok-text.text in
-    receipt_is_of g.L.Label.config ask (asks.Set c.args.name.now c.args.text.now) (λ reply. λ i. asks.Set (c.in_ok-name.ensures.ok i) (c.in_ok-text.ensures.ok i))
+    receipt_is_of g.L.Label.config ask (asks.Set c.args.name.now c.args.text.now)
+    (λ reply. λ i. asks.Set (c.in_ok-name.ensures.ok i) (c.in_ok-text.ensures.ok i))
     c.enter_owned.result c.enter_owned.ensures.node c.enter_owned.ensures.asked
 
 pub returns-clause-refused : goal.returns-clause-refused
 returns-clause-refused g c =
     let config = g.L.Label.config in
     let ask = calls.Set c.in_ok-name.name c.in_ok-text.text in
-    refused_as config g.L.Label.seed (ask_value_first config.nodes ask) (asks.Set c.args.name.now c.args.text.now) (λ i. asks.Set (c.in_ok-name.ensures.ok i) (c.in_ok-text.ensures.ok i))
+    refused_as config g.L.Label.seed (ask_value_first config.nodes ask) (asks.Set c.args.name.now c.args.text.now)
+    (λ i. asks.Set (c.in_ok-name.ensures.ok i) (c.in_ok-text.ensures.ok i))
     c.enter_owned.result c.enter_owned.ensures.refused

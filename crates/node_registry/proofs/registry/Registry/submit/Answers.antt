@@ -7,4 +7,5 @@ pub returns-clause-answered : goal.returns-clause-answered
 returns-clause-answered g c =
     let config = g.L.Label.config in
     IfOk-weaker c.submit.result _ (IsAnswered config g.L.Label.seed c.args.ask)
-    (answered config g.L.Label.seed c.deref_mut.result.now c.submit.ensures.lawful c.submit.new.self c.args.ask) c.submit.ensures.ok
+    (answered config g.L.Label.seed c.deref_mut.result.now c.submit.ensures.lawful c.submit.new.self c.args.ask)
+    c.submit.ensures.ok

@@ -9,5 +9,6 @@ loop-done-preserved g c =
     let steps = c.in-Some.ensures.steps in
     record {
       len = omega (arith, was.len, steps.1, c.in_ok-finished.ensures);
-      counted = All-tail (λ d. d.seat ≡ vec_len d.receipts) c.in-Some.done (into_iter_items c.next.new.self) (rw steps.0 at was.counted);
+      counted = All-tail (λ d. d.seat ≡ vec_len d.receipts) c.in-Some.done (into_iter_items c.next.new.self)
+          (rw steps.0 at was.counted);
     }
