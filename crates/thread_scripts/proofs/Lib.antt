@@ -1,2 +1,4 @@
 pub mod Runs
+pub mod Numbered
+pub mod LegalRuns
 pub mod Seats

@@ -5,6 +5,7 @@
 mod asks;
 mod beside;
 mod finished;
+pub mod laws;
 mod nodes;
 mod output;
 mod played;

@@ -4,6 +4,7 @@ ghost use Rattle.std.specs.Prelude.{◌≡◌, ◌+◌, ◌<◌, ◌^◌, ◌==�
 ghost use Rattle.std.specs.List.{sum_by};
 ghost use Rattle.std.specs.Option.{is_some};
 ghost use Rattle.node_core.specs.Refusals.{is_bad_config};
+ghost use Rattle.thread_scripts.specs.Plays.{IsTraceOf};
 
 use crate::asks::jobs_of;
 use crate::beside::{Gossip, work, work_and_gossip};
@@ -102,6 +103,7 @@ fn run_registry<L: Label + Send + Sync, R: Threads + Wait + Sync>(
     requires parts { (blank.parts ≡ L.parts) × (L.parts ≡ seats) × (0 < seats) }
     requires config { job.config ≡ L.config }
     requires seed { plan.now.seed ≡ L.seed }
+    ensures { IfOk result (λ played. IsTraceOf job.config plan.now.seed played.trace) }
 {
     let NodeJob { config, gossip } = job;
     let started = Registry::<L>::start(rt, alloc, blank, config, plan.seed, seats);
@@ -129,7 +131,9 @@ pub(crate) fn run_node<R: Threads + Wait + Sync>(
     alloc: Global,
     plan: &ThreadPlan<'_>,
     job: NodeJob,
-) -> Result<NodePlayed, AllocError> {
+) -> Result<NodePlayed, AllocError>
+    ensures { IfOk result (λ played. IsTraceOf job.config plan.now.seed played.trace) }
+{
     let seats = seats_at(plan, &job);
     let blank = Blank::new(u64::from(seats));
     run_registry::<Brand, R>(rt, alloc, blank, job, seats, plan)

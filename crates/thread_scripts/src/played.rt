@@ -1,7 +1,9 @@
 //! The run of a plan.
 
-ghost use Rattle.std.specs.Prelude.{◌≡◌, ◌+◌, vec_len, IfOk};
+ghost use Rattle.std.specs.Prelude.{◌≡◌, ◌+◌, ◌++◌, ◌∷◌, [], vec_len, IfOk};
 ghost use Rattle.std.specs.List.{sum_by};
+ghost use Rattle.thread_plans.specs.Plans.{plan_value};
+ghost use Rattle.thread_scripts.specs.Plays.{AllFrom, AreTracesOf, IsTraceOf, config_at};
 
 use crate::beside::Gossip;
 use crate::nodes::{NodeJob, NodePlayed, run_node};
@@ -25,7 +27,8 @@ pub struct Played {
 
 impl Played {
     fn new(alloc: Global) -> Played
-        ensures { vec_len result.traces ≡ 0 }
+        ensures len { vec_len result.traces ≡ 0 }
+        ensures none { result.traces.items ≡ [] }
     {
         Played {
             traces: Vec::new(alloc),
@@ -35,7 +38,9 @@ impl Played {
 
     // With one node more.
     fn with(self, node: NodePlayed) -> Result<Played, AllocError>
-        ensures { IfOk result (λ all. vec_len all.traces ≡ vec_len self.traces + 1) }
+        ensures len { IfOk result (λ all. vec_len all.traces ≡ vec_len self.traces + 1) }
+        ensures traces { IfOk result (λ all.
+            all.traces.items ≡ self.traces.items ++ node.trace ∷ []) }
     {
         let Played {
             mut traces,
@@ -64,7 +69,9 @@ impl Played {
 
 // The nodes of a plan, each with its wire, if they do gossip.
 fn jobs_of(alloc: Global, plan: &ThreadPlan<'_>) -> Result<Vec<NodeJob>, AllocError>
-    ensures { IfOk result (λ jobs. vec_len jobs ≡ plan.now.size.nodes) }
+    ensures len { IfOk result (λ jobs. vec_len jobs ≡ plan.now.size.nodes) }
+    ensures configs { IfOk result (λ jobs.
+        AllFrom (λ node job. job.config ≡ config_at (plan_value plan.now) node) 0 jobs.items) }
 {
     let nodes = plan.size.nodes;
     let mut wires = MailWire::all(alloc, nodes)?;
@@ -85,18 +92,38 @@ fn jobs_of(alloc: Global, plan: &ThreadPlan<'_>) -> Result<Vec<NodeJob>, AllocEr
     Ok(jobs)
 }
 
-/// Plays a plan: the nodes run beside each other, and so do the workers of each of them.
+// Runs the nodes of a plan beside each other.
+fn run_all<R: Threads + Wait + Sync>(
+    rt: &R,
+    alloc: Global,
+    plan: &ThreadPlan<'_>,
+) -> Result<Vec<Result<NodePlayed, AllocError>>, AllocError>
+    ensures len { IfOk result (λ runs. vec_len runs ≡ plan.now.size.nodes) }
+    ensures each { IfOk result (λ runs. AllFrom (λ node run. IfOk run (λ played.
+        IsTraceOf (config_at (plan_value plan.now) node) plan.now.seed played.trace)) 0
+        runs.items) }
+{
+    let jobs = jobs_of(alloc, plan)?;
+    let run = |job: NodeJob| -> Result<NodePlayed, AllocError>
+        ensures { IfOk result (λ played.
+            IsTraceOf job.config plan.entry.now.seed played.trace) }
+    { run_node(rt, alloc, plan, job) };
+    thread::map_vec(rt, jobs, &run)
+}
+
+/// Plays a plan: the nodes run beside each other, and so do the workers of each of them. Each trace is
+/// legal, and its random draws are the first ones of the plan's seed.
 pub fn play<R: Threads + Wait + Sync>(
     rt: &R,
     alloc: Global,
     plan: &ThreadPlan<'_>,
 ) -> Result<Played, AllocError>
-    ensures { IfOk result (λ played. vec_len played.traces ≡ plan.now.size.nodes) }
+    ensures len { IfOk result (λ played. vec_len played.traces ≡ plan.now.size.nodes) }
+    ensures traces { IfOk result (λ played.
+        AreTracesOf (plan_value plan.now) played.traces.items) }
 {
-    let jobs = jobs_of(alloc, plan)?;
-    let run = |job: NodeJob| -> Result<NodePlayed, AllocError> { run_node(rt, alloc, plan, job) };
     let mut played = Played::new(alloc);
-    for run in thread::map_vec(rt, jobs, &run)? {
+    for run in run_all(rt, alloc, plan)? {
         played = played.with(run?)?;
     }
     Ok(played)

@@ -1,4 +1,3 @@
-use Rattle.std.proofs.Common.{◌≡◌, sym}
 use Rattle.streams.specs.Streams.{Writes, WritesPrefix}
 use Rattle.streams.specs.Watched.{inner_of}
 use Rattle.thread_scripts.specs.Outputs.{ComesTo}

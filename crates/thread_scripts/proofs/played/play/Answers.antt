@@ -1,0 +1,40 @@
+use Rattle.std.proofs.Common.{rules, arith, ◌≡◌, ◌+◌, ◌∷◌, [], ℕ, IfOk, Result, length, length-append, ap, subst}
+use Rattle.std.specs.Vec.Iter.{into_iter_items}
+use Rattle.std.specs.declared.alloc.AllocError.{AllocError}
+use Rattle.thread_plans.specs.Plans.{plan_value}
+use Rattle.thread_scripts.specs.Plays.{AllFrom, IsTraceOf, config_at}
+use Rattle.thread_scripts.specs.declared.nodes.NodePlayed.{NodePlayed}
+use Rattle.thread_scripts.proofs.Numbered.{AllFrom-push}
+use Rattle.thread_scripts.proofs.played.play.Goals as goal
+
+pub loop-run-init : goal.loop-run-init
+loop-run-init g c =
+    let each = c.in_ok-run-items.ensures.each in
+    let same = c.into_iter-run-iterator.ensures.into_iter_gives.0 in
+    record {
+      len = search rules;
+      traces = rw c.new-played.ensures.none tt;
+      rest = rw (c.new-played.ensures.none, same) each;
+    }
+
+pub loop-run-preserved : goal.loop-run-preserved
+loop-run-preserved g c =
+    let plan = plan_value c.args.plan.now in
+    let seed = c.args.plan.now.seed in
+    let Q : ℕ → Result NodePlayed AllocError → Type 0 = λ node run. IfOk run (λ p. IsTraceOf (config_at plan node) seed p.trace) in
+    let was = c.loop-run.invariant in
+    let steps = c.in-Some.ensures.steps in
+    let more = c.in_ok-played.ensures in
+    let before = c.loop-run.played.traces.items in
+    let trace = c.in_ok-run.field-0.trace in
+    let now : AllFrom Q (length before) (c.in-Some.run' ∷ into_iter_items c.next.new.self) =
+    subst (λ xs. AllFrom Q (length before) xs) steps.0 was.rest in
+    let this : IsTraceOf (config_at plan (length before)) seed trace = rw c.in_ok-run.was at now.0 in
+    let from_0 : length before ≡ 0 + length before = omega arith in
+    let longer : length c.in_ok-played.played.traces.items ≡ length before + 1 =
+    omega (arith, ap length more.traces, length-append before (trace ∷ [])) in
+    record {
+      len = omega (arith, was.len, steps.1, more.len);
+      traces = rw more.traces (AllFrom-push _ 0 before trace was.traces (subst (λ k. IsTraceOf (config_at plan k) seed trace) from_0 this));
+      rest = rw longer now.1;
+    }

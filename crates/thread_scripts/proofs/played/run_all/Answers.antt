@@ -1,0 +1,22 @@
+use Rattle.std.proofs.Common.{◌≡◌, IfOk, Result, subst, arith}
+use Rattle.std.specs.declared.alloc.AllocError.{AllocError}
+use Rattle.thread_plans.specs.Plans.{plan_value}
+use Rattle.thread_scripts.specs.Plays.{IsTraceOf, config_at}
+use Rattle.thread_scripts.specs.declared.nodes.NodeJob.{NodeJob}
+use Rattle.thread_scripts.specs.declared.nodes.NodePlayed.{NodePlayed}
+use Rattle.thread_scripts.proofs.Numbered.{AllFrom-returned, IfOk-both}
+use Rattle.thread_scripts.proofs.played.run_all.Goals as goal
+
+pub returns-clause-each : goal.returns-clause-each
+returns-clause-each g c =
+    let plan = plan_value c.args.plan.now in
+    let seed = c.args.plan.now.seed in
+    let jobs = c.in_ok-jobs.jobs in
+    IfOk-both c.map_vec.result _ _ _
+    (λ v long each.
+    AllFrom-returned {J = NodeJob} {R = Result NodePlayed AllocError} (λ n j. j.config ≡ config_at plan n)
+    (λ n r. IfOk r (λ p. IsTraceOf (config_at plan n) seed p.trace)) (λ j r. IfOk r (λ p. IsTraceOf j.config seed p.trace))
+    (λ n j r is h. subst (λ k. IfOk r (λ p. IsTraceOf k seed p.trace)) is h)
+    0 jobs.items v.items (omega (arith, long, v.ok.0, jobs.ok.0)) c.in_ok-jobs.ensures.configs
+    (λ i d below. let e = (each i d below).1 in (e.job, e.job_is, e.call.met)))
+    c.map_vec.ensures.len c.map_vec.ensures.each
