@@ -2,6 +2,7 @@
 
 ghost use Rattle.std.specs.Prelude.{◌≡◌, ◌⊎◌, IfOk, IfErr, IsErrAnd, IsTrue, OnOk, true, false, replicate};
 ghost use Rattle.node_core.specs.Refusals.{is_bad_config};
+ghost use Rattle.http_wire.specs.Posts.{IsLoopback};
 ghost use Rattle.node_service.specs.declared.fault.ServiceFault.TheVariants.{Node};
 
 use crate::fault::ServiceFault;
@@ -169,14 +170,20 @@ fn opened<L: Label, R: Wait>(
     }
 }
 
+// A port of this machine, which no other machine reaches.
+fn loopback(port: u16) -> SocketAddr
+    ensures { IsLoopback port result }
+{
+    SocketAddr::from((Ipv4Addr::LOCALHOST, port))
+}
+
 // Listens on a port of this machine, and answers which.
 fn listen<R>(rt: &R, port: u16) -> io::Result<(Runtime, TcpListener, u16)>
 where
     R: Host,
 {
     let runtime = Builder::new_current_thread().build(rt)?;
-    let address = SocketAddr::from((Ipv4Addr::LOCALHOST, port));
-    let listener = TcpListener::bind(rt, address, runtime.handle().reactor())?;
+    let listener = TcpListener::bind(rt, loopback(port), runtime.handle().reactor())?;
     let port = listener.local_addr()?.port();
     Ok((runtime, listener, port))
 }
