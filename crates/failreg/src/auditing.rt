@@ -52,7 +52,8 @@ fn audit_drill<I: Read, O: Write>(
     // The line is the first that is bad.
     ensures bad_line { (line : ℕ) → result ≡ Err (BadLine line) →
         IfBytes I.remaining reader.old (λ bytes. drill_in bytes ≡ Err line) }
-    ensures read_failed { result ≡ Err ReadFailed → has_failed (reader_inner reader.new) ≡ true }
+    ensures read_failed { (result ≡ Err ReadFailed)
+        ↔ (has_failed (reader_inner reader.new) ≡ true) }
     ensures write_failed { (result ≡ Err WriteFailed) ↔ (has_failed writer.new ≡ true) }
     // After any other fault the writer is as it was.
     ensures unwritten { IfErr result (λ fault. fault ≢ WriteFailed → writer.new ≡ writer.old) }

@@ -19,13 +19,15 @@ abbrev widest : PlanValue → ℕ → Config
 widest plan n = record { node = n; nodes = plan.nodes; trace_cap = 2 ^ 32 - 1 }
 
 module _ (plan : PlanValue) (small : plan.cap < 2 ^ 32) where
-  legal_alone : (n : ℕ) (trace : Vec Entry Global) → IsTraceOf (config_at plan n) plan.seed trace → IsLegalAlone (widest plan n) trace.items
+  legal_alone : (n : ℕ) (trace : Vec Entry Global) → IsTraceOf (config_at plan n) plan.seed trace →
+      IsLegalAlone (widest plan n) trace.items
   legal_alone n trace h =
       let calls = map (call plan.nodes) trace.items in
       let short : 0 + length calls ≤ plan.cap = legal_short (config_at plan n) 0 start calls h.legal (omega arith) in
       legal_wider plan.nodes n plan.cap (2 ^ 32 - 1) 0 start calls (omega arith) h.legal
 
-  legal_at : (m : ℕ) (traces : Traces) → AllFrom (λ node trace. IsTraceOf (config_at plan node) plan.seed trace) m traces
+  legal_at : (m : ℕ) (traces : Traces) → AllFrom (λ node trace. IsTraceOf (config_at plan node) plan.seed trace) m
+      traces
       → (k : ℕ) → IsLegalAlone (widest plan (m + k)) (trace_of traces k)
   legal_at m [] h k = nothing_legal (widest plan (m + k))
   legal_at m (trace ∷ traces) h zero =

@@ -13,5 +13,6 @@ loop-node-preserved c =
     record {
       len = omega (arith, was.len, pushed.len);
       room = omega (arith, was.room, pushed.capacity);
-      configs = rw pushed.items (AllFrom-push _ 0 jobs.items _ was.configs (ap (config_at (plan_value c.args.plan.now)) here));
+      configs = rw pushed.items (AllFrom-push _ 0 jobs.items _ was.configs
+          (ap (config_at (plan_value c.args.plan.now)) here));
     }

@@ -21,7 +21,8 @@ pub loop-run-preserved : goal.loop-run-preserved
 loop-run-preserved g c =
     let plan = plan_value c.args.plan.now in
     let seed = c.args.plan.now.seed in
-    let Q : ℕ → Result NodePlayed AllocError → Type 0 = λ node run. IfOk run (λ p. IsTraceOf (config_at plan node) seed p.trace) in
+    let Q : ℕ → Result NodePlayed AllocError → Type 0 = λ node run. IfOk run
+    (λ p. IsTraceOf (config_at plan node) seed p.trace) in
     let was = c.loop-run.invariant in
     let steps = c.in-Some.ensures.steps in
     let more = c.in_ok-played.ensures in
@@ -35,6 +36,7 @@ loop-run-preserved g c =
     omega (arith, ap length more.traces, length-append before (trace ∷ [])) in
     record {
       len = omega (arith, was.len, steps.1, more.len);
-      traces = rw more.traces (AllFrom-push _ 0 before trace was.traces (subst (λ k. IsTraceOf (config_at plan k) seed trace) from_0 this));
+      traces = rw more.traces (AllFrom-push _ 0 before trace was.traces
+          (subst (λ k. IsTraceOf (config_at plan k) seed trace) from_0 this));
       rest = rw longer now.1;
     }

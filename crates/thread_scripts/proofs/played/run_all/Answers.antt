@@ -15,7 +15,8 @@ returns-clause-each g c =
     IfOk-both c.map_vec.result _ _ _
     (λ v long each.
     AllFrom-returned {J = NodeJob} {R = Result NodePlayed AllocError} (λ n j. j.config ≡ config_at plan n)
-    (λ n r. IfOk r (λ p. IsTraceOf (config_at plan n) seed p.trace)) (λ j r. IfOk r (λ p. IsTraceOf j.config seed p.trace))
+    (λ n r. IfOk r (λ p. IsTraceOf (config_at plan n) seed p.trace))
+    (λ j r. IfOk r (λ p. IsTraceOf j.config seed p.trace))
     (λ n j r is h. subst (λ k. IfOk r (λ p. IsTraceOf k seed p.trace)) is h)
     0 jobs.items v.items (omega (arith, long, v.ok.0, jobs.ok.0)) c.in_ok-jobs.ensures.configs
     (λ i d below. let e = (each i d below).1 in (e.job, e.job_is, e.call.met)))

@@ -3,5 +3,13 @@ use Rattle.thread_scripts.proofs.run.played_text.Goals as goal
 
 pub returns-clause-ok : goal.returns-clause-ok
 returns-clause-ok g c =
-    let played = c.in_ok-played.played in
-    (plan_value c.in_ok-plan.plan, c.in_ok-plan.ensures.ok, (played.traces.items, played.lists.items, c.in_ok-played.ensures.traces, c.in_ok-text.ensures))
+    let played = c.in_ok-played.played in (
+      plan_value c.in_ok-plan.plan,
+      c.in_ok-plan.ensures.ok,
+      (
+        played.traces.items,
+        played.lists.items,
+        c.in_ok-played.ensures.traces,
+        c.in_ok-text.ensures,
+      ),
+    )
