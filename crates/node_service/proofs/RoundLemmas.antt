@@ -45,10 +45,11 @@ of_one_round : (config : Config) → emits_of_rounds config 1 ≡ emits_below co
 of_one_round config = append-nil (emits_below config config.nodes)
 
 -- the calls of one round, of a seat that had made so many
-pub calls_of_a_round : (config : Config) (was now : ℕ) (r : GossipReport) → IsTold config was now r →
+pub calls_of_a_round : (config : Config) (seed : List ℕ) (was now : ℕ) (r : GossipReport) →
+    IsTold config seed was now r →
     IsPartOf (own_asks_in config r.receipts.items) (emits_of_rounds config 1) →
     calls_of r ≤ length (emits_of_rounds config 1) + 1 * 64 → now ≤ was + most_calls config
-calls_of_a_round config was now r told part few =
+calls_of_a_round config seed was now r told part few =
     let own = some_emits (subst (λ l. IsPartOf (own_asks_in config r.receipts.items) l) (of_one_round config) part)
     (all_emits (others_below config config.nodes)) in
     let all = made_or_taken (asks_in config r.receipts.items) own in
