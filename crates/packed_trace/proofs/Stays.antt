@@ -1,5 +1,5 @@
 -- What is kept stands for the same calls where rows or entries are put behind.
-use Rattle.std.proofs.Common.{◌≡◌, ℕ, ◌<◌, zero, suc, arith, List, [], ◌∷◌, ◌++◌, length, map, refl, sym, ◌∙◌, ap, subst, Option, Some, None, All}
+use Rattle.std.proofs.Common.{◌≡◌, ℕ, ◌<◌, ◌≤◌, ◌+◌, zero, suc, arith, List, [], ◌∷◌, ◌++◌, length, length-append, take, map, refl, sym, ◌∙◌, ap, subst, Option, Some, None, All}
 use Rattle.std.specs.Prelude.{slice_get}
 use Rattle.std.proofs.lemmas.List.{length-map, map-append}
 use Rattle.node_calls.specs.Told.{Told, told}
@@ -77,3 +77,45 @@ module _ (rows : List Row) (entries : List Entry) where
       map-append (with_entry entry) kept (slots.Entry (length entries) ∷ []) ∙
       ap (λ xs. xs ++ with_entry entry (slots.Entry (length entries)) ∷ []) old ∙
       ap (λ o. map before kept ++ entry_by o ∷ []) found
+
+-- so many first ones, and the next one
+pub taken_one : {A : Type 0} (xs : List A) (n : ℕ) (x : A) → slice_get xs n ≡ Some x →
+    (take (suc n) xs ≡ take n xs ++ x ∷ []) × (n < length xs)
+taken_one [] n x is = absurd cc
+taken_one (y ∷ ys) zero x is = let same : y ≡ x = cc in (ap (λ z. z ∷ []) same, omega arith)
+taken_one (y ∷ ys) (suc n) x is = let rest = taken_one ys n x is in (ap (λ zs. y ∷ zs) rest.0, omega (arith, rest.1))
+
+-- where there is no next one, these are all
+pub taken_all : {A : Type 0} (xs : List A) (n : ℕ) → slice_get xs n ≡ None → take n xs ≡ xs
+taken_all [] zero is = refl
+taken_all [] (suc n) is = refl
+taken_all (y ∷ ys) zero is = absurd cc
+taken_all (y ∷ ys) (suc n) is = ap (λ zs. y ∷ zs) (taken_all ys n is)
+
+-- entries that tell the first calls, with one that tells the next
+pub one_more : (calls : List Told) (entries : List Entry) (e : Entry) (n : ℕ) → n ≡ length entries →
+    map told entries ≡ take (length entries) calls → slice_get calls n ≡ Some (told e) →
+    (map told (entries ++ e ∷ []) ≡ take (length (entries ++ e ∷ [])) calls) ×
+    (length (entries ++ e ∷ []) ≤ length calls)
+one_more calls entries e n at so_far next =
+    let one = taken_one calls (length entries) (told e) (subst (λ k. slice_get calls k ≡ Some (told e)) at next) in
+    let long : length (entries ++ e ∷ []) ≡ suc (length entries) =
+    length-append entries (e ∷ []) ∙ plus_one (length entries) in
+    let few = one.1 in (
+      map-append told entries (e ∷ []) ∙ ap (λ xs. xs ++ told e ∷ []) so_far ∙ sym one.0 ∙
+          ap (λ k. take k calls) (sym long),
+      omega (arith, few, long),
+    )
+  where
+    plus_one : (k : ℕ) → k + 1 ≡ suc k
+    plus_one k = omega arith
+
+-- what stands before one of so many is less than all
+pub fewer : (before : List Told) (e : Entry) (rest all : List Entry) →
+    before ++ map told (e ∷ rest) ≡ map told all → length before < length all
+fewer before e rest all is =
+    let counted = ap length is in
+    let parts = length-append before (map told (e ∷ rest)) in
+    let more = length-map rest told in
+    let whole = length-map all told in
+    omega (arith, counted, parts, more, whole)

@@ -172,4 +172,28 @@ impl Trace {
         self.entries.push_reserved(entry);
         self.slots.push_reserved(Slot::Entry { index });
     }
+
+    /// A trace of these entries. The only error is out of memory.
+    pub fn of_entries(alloc: Global, entries: Vec<Entry>) -> Result<Trace, AllocError>
+        requires { length entries.items ≤ 2 ^ 32 }
+        ensures { IfOk result (λ trace. trace.calls ≡ map told entries.items) }
+    {
+        let mut trace = Trace::new(alloc);
+        for entry in entries {
+            trace.reserve_entry()?;
+            trace.push_entry(entry);
+        }
+        Ok(trace)
+    }
+
+    /// Each call as an entry of its own. The only error is out of memory.
+    pub fn to_entries(&self, alloc: Global) -> Result<Vec<Entry>, AllocError>
+        ensures { IfOk result (λ entries. map told entries.items ≡ self.now.calls) }
+    {
+        let mut entries = Vec::new(alloc);
+        while let Some(seen) = self.at(entries.len()) {
+            entries.push(seen.to_entry(alloc)?)?;
+        }
+        Ok(entries)
+    }
 }

@@ -1,0 +1,6 @@
+use Rattle.std.proofs.Common.{◌≡◌, ◌++◌, map}
+use Rattle.node_calls.specs.Told.{told}
+use Rattle.packed_trace.proofs.trace.Trace.of_entries.Given as goal
+
+abbrev pub invariant-loop-entry : goal.invariant-loop-entry
+invariant-loop-entry l = l.trace.calls ++ map told l.entry-iterator.rest.items ≡ map told l.fn.entries.items
