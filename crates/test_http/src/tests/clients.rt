@@ -1,7 +1,7 @@
 //! Clients of a node that is served over loopback: what each is answered, with the body, and who has to
 //! wait for whom.
 
-ghost use Rattle.std.specs.Prelude.{◌≡◌};
+ghost use Rattle.std.specs.Prelude.{◌≡◌, replicate};
 
 use super::served::{Host, listening, opened};
 use http_serve::{ServeFault, serve};
@@ -315,6 +315,7 @@ where
     requires name { blank.name ≡ L.name }
     requires parts { (blank.parts ≡ L.parts) × (L.parts ≡ 1) }
     requires config { SERVED ≡ L.config }
+    requires seed { replicate 32 0 ≡ L.seed }
 {
     let (registry, seat) = opened::<L, R>(rt, blank, SERVED)?;
     serving(rt, &registry, seat)
