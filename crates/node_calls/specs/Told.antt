@@ -10,6 +10,10 @@ use Rattle.node_calls.specs.declared.reply.PassReply.{PassReply}
 use Rattle.node_calls.specs.declared.reply.PassReply.TheVariants as replied
 use Rattle.node_calls.specs.declared.reply.Reply.{Reply}
 use Rattle.node_calls.specs.declared.reply.Reply.TheVariants as replies
+use Rattle.node_calls.specs.declared.reply_ref.PassReplyRef.{PassReplyRef}
+use Rattle.node_calls.specs.declared.reply_ref.PassReplyRef.TheVariants as pass_refs
+use Rattle.node_calls.specs.declared.reply_ref.ReplyRef.{ReplyRef}
+use Rattle.node_calls.specs.declared.reply_ref.ReplyRef.TheVariants as reply_refs
 use Rattle.node_calls.specs.declared.trace.Entry.{Entry}
 
 -- what was asked
@@ -69,6 +73,12 @@ passed replied.Unset = Unset
 passed (replied.NoTerm stamp) = NoTerm stamp
 passed (replied.Act term stamp task) = Act stamp term (task_value task)
 
+-- the same of a reply whose task lies elsewhere
+abbrev pub passed_ref : PassReplyRef → Passed
+passed_ref pass_refs.Unset = Unset
+passed_ref (pass_refs.NoTerm stamp) = NoTerm stamp
+passed_ref (pass_refs.Act term stamp task) = Act stamp term (task_value task.now)
+
 -- what was answered
 pub data ReplyTold : Type 0 where
   was_set : (stamp : Stamp) → ReplyTold
@@ -89,6 +99,17 @@ reply_told (replies.Shift total) = was_shifted total
 reply_told (replies.Grant total) = was_granted total
 reply_told (replies.Emit bytes) = was_emitted bytes.items
 reply_told (replies.Deliver changed) = was_delivered changed
+
+-- the same of a reply that lies elsewhere
+abbrev pub reply_ref_told : ReplyRef → ReplyTold
+reply_ref_told (reply_refs.Set stamp) = was_set stamp
+reply_ref_told (reply_refs.Remove stamp) = was_removed stamp
+reply_ref_told (reply_refs.Load entries) = was_loaded entries
+reply_ref_told (reply_refs.Pass reply) = was_passed (passed_ref reply)
+reply_ref_told (reply_refs.Shift total) = was_shifted total
+reply_ref_told (reply_refs.Grant total) = was_granted total
+reply_ref_told (reply_refs.Emit bytes) = was_emitted bytes.now
+reply_ref_told (reply_refs.Deliver changed) = was_delivered changed
 
 pub record Told : Type 0 where
   pub ask : AskTold

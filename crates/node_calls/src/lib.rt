@@ -11,6 +11,7 @@ mod ask_ref;
 mod fault;
 mod receipt;
 mod reply;
+mod reply_ref;
 mod trace;
 
 pub use ask::Ask;
@@ -18,4 +19,5 @@ pub use ask_ref::AskRef;
 pub use fault::{NodeFault, TextFault};
 pub use receipt::Receipt;
 pub use reply::{PassReply, Reply};
+pub use reply_ref::{PassReplyRef, ReplyRef};
 pub use trace::{Entry, Trace};

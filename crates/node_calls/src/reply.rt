@@ -1,8 +1,9 @@
 //! What a node answers.
 
 ghost use Rattle.std.specs.Prelude.{◌≡◌, IfOk};
-ghost use Rattle.node_calls.specs.Told.{passed, reply_told};
+ghost use Rattle.node_calls.specs.Told.{passed, passed_ref, reply_told, reply_ref_told};
 
+use crate::reply_ref::{PassReplyRef, ReplyRef};
 use actions::Task;
 use stamp_register::Stamp;
 use std::alloc::{AllocError, Global};
@@ -19,19 +20,19 @@ pub enum PassReply {
 }
 
 impl PassReply {
-    /// A value of its own that says the same. The only error is out of memory.
-    pub fn copied(&self, alloc: Global) -> Result<PassReply, AllocError>
-        ensures { IfOk result (λ copy. passed copy ≡ passed self.now) }
+    /// The same, with its task where it stands.
+    pub fn as_ref(&self) -> PassReplyRef<'_>
+        ensures { passed_ref result ≡ passed self.now }
     {
-        Ok(match self {
-            PassReply::Unset => PassReply::Unset,
-            PassReply::NoTerm { stamp } => PassReply::NoTerm { stamp: *stamp },
-            PassReply::Act { term, stamp, task } => PassReply::Act {
+        match self {
+            PassReply::Unset => PassReplyRef::Unset,
+            PassReply::NoTerm { stamp } => PassReplyRef::NoTerm { stamp: *stamp },
+            PassReply::Act { term, stamp, task } => PassReplyRef::Act {
                 term: *term,
                 stamp: *stamp,
-                task: task.copied(alloc)?,
+                task,
             },
-        })
+        }
     }
 }
 
@@ -57,19 +58,26 @@ pub enum Reply {
 }
 
 impl Reply {
+    /// The same, with its task or its message where it stands.
+    pub fn as_ref(&self) -> ReplyRef<'_>
+        ensures { reply_ref_told result ≡ reply_told self.now }
+    {
+        match self {
+            Reply::Set(stamp) => ReplyRef::Set(*stamp),
+            Reply::Remove(stamp) => ReplyRef::Remove(*stamp),
+            Reply::Load(entries) => ReplyRef::Load(*entries),
+            Reply::Pass(reply) => ReplyRef::Pass(reply.as_ref()),
+            Reply::Shift(total) => ReplyRef::Shift(*total),
+            Reply::Grant(total) => ReplyRef::Grant(*total),
+            Reply::Emit(message) => ReplyRef::Emit(message.as_slice()),
+            Reply::Deliver(changed) => ReplyRef::Deliver(*changed),
+        }
+    }
+
     /// A value of its own that says the same, to the byte. The only error is out of memory.
     pub fn copied(&self, alloc: Global) -> Result<Reply, AllocError>
         ensures { IfOk result (λ copy. reply_told copy ≡ reply_told self.now) }
     {
-        Ok(match self {
-            Reply::Set(stamp) => Reply::Set(*stamp),
-            Reply::Remove(stamp) => Reply::Remove(*stamp),
-            Reply::Load(entries) => Reply::Load(*entries),
-            Reply::Pass(reply) => Reply::Pass(reply.copied(alloc)?),
-            Reply::Shift(total) => Reply::Shift(*total),
-            Reply::Grant(total) => Reply::Grant(*total),
-            Reply::Emit(message) => Reply::Emit(Vec::from_slice(alloc, message)?),
-            Reply::Deliver(changed) => Reply::Deliver(*changed),
-        })
+        self.as_ref().copied(alloc)
     }
 }

@@ -1,44 +1,23 @@
 -- What a node holds stays in step with its trace, when a call is put at its end.
-use Rattle.std.proofs.Common.{◌≡◌, ℕ, ◌+◌, ◌<◌, ◌^◌, max, Bool, true, nat_lt, List, [], ◌∷◌, ◌++◌, length, map, Option, Some, Result, IsTrue, refl, subst, sym, ◌∙◌, ap}
-use Rattle.std.proofs.lemmas.List.{map-append}
+use Rattle.std.proofs.Common.{◌≡◌, ℕ, ◌+◌, max, Bool, nat_lt, List, [], ◌∷◌, ◌++◌, Option, Result, refl}
 use Rattle.std.specs.Int.{from_bool}
-use Rattle.std.specs.Prelude.{pos, ◌≤ℤ◌}
-use Rattle.actions.specs.Names.{is_name}
-use Rattle.replica_state.specs.States.{State, with_key, with_shifts, rights_of}
+use Rattle.replica_state.specs.States.{State, with_key, with_shifts}
 use Rattle.operations.specs.Operations.{Operation}
 use Rattle.replica_state.specs.Folds.{fold}
 use Rattle.replica_state.specs.Knowledge.{changes}
 use Rattle.message_format.specs.declared.fault.WireFault.{WireFault}
-use Rattle.message_format.specs.Spelling.{IsBody}
 use Rattle.delta_exchange.specs.Told.{HasLearned}
-use Rattle.node_core.specs.declared.config.Config.{Config}
-use Rattle.node_calls.specs.declared.trace.Entry.{Entry}
-use Rattle.node_calls.specs.Asks.{Asked, Call, Message, Load, Pass, Deliver, call, emit_of}
-use Rattle.node_core.specs.Outcomes.{AreTellable, HasKey, ops_done, state_done, state_loaded}
-use Rattle.node_core.specs.Passes.{pass_ops}
-use Rattle.node_core.specs.Room.{HasRoom, HasClocks, HasPlace, HavePlaces}
-use Rattle.node_core.specs.Steps.{message_in, new_key, points_in, settings}
-use Rattle.node_core.specs.Traces.{Kept, kept_of, node_of, state_known}
+use Rattle.node_calls.specs.Asks.{Asked, Call, Message}
+use Rattle.node_core.specs.Outcomes.{state_done, state_loaded}
+use Rattle.node_core.specs.Steps.{message_in, new_key}
+use Rattle.node_core.specs.Traces.{Kept, state_known}
 use Rattle.node_core.specs.Holds.{IsInStep}
-use Rattle.node_core.specs.Deliveries.{IsDelivery}
 use Rattle.node_core.proofs.Kept.{issue_kept, load_kept, pass_kept, moved_kept, emit_kept, deliver_kept}
 use Rattle.node_core.proofs.KeptTelling.{issue_tell, load_tell, pass_tell, moved_tell, emit_tell, deliver_tell}
 use Rattle.node_core.proofs.CallFacts.{SetsPoint, LoadsPoints, PassesPoint, MovesRights, TakesIn, MakesMessage}
 
 abbrev pub with_call : Kept → Call → Kept
 with_call k c = record { config = k.config; trace = k.trace ++ c ∷ [] }
-
--- the entries of a trace that grew by one
-pub entries_in_step : (config : Config) (clock version : ℕ) (state : State) (old mid new : List Entry) (e : Entry) →
-    new ≡ mid ++ e ∷ [] → mid ≡ old →
-    IsInStep (with_call (kept_of config old) (call config.nodes e)) clock version state →
-    IsInStep (kept_of config new) clock version state
-entries_in_step config clock version state old mid new e grown same is =
-    let calls : map (call config.nodes) new ≡ map (call config.nodes) old ++ call config.nodes e ∷ [] =
-    ap (λ (es : List Entry). map (call config.nodes) es) (grown ∙ ap (λ (es : List Entry). es ++ e ∷ []) same) ∙
-    map-append (call config.nodes) old (e ∷ []) in
-    subst (λ (trace : List Call). IsInStep (record { config = config; trace = trace }) clock version state) (sym calls)
-    is
 
 module _ (k : Kept) (clock version : ℕ) (state next : State) (c : Call) (is : IsInStep k clock version state) where
   -- with the next call, this clock, so much more of the version, and the next state

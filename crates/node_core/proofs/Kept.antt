@@ -1,25 +1,22 @@
 -- What a node holds stays in step with its trace, when an entry is put at its end.
-use Rattle.std.proofs.Common.{◌≡◌, ℕ, ◌+◌, ◌<◌, max, Bool, true, List, [], ◌∷◌, ◌++◌, length, Option, Some, None, Result, refl, subst, sym, ◌∙◌, ap}
+use Rattle.std.proofs.Common.{◌≡◌, ℕ, ◌+◌, max, Bool, List, [], ◌∷◌, ◌++◌, length, Option, Some, None, Result, refl, subst, sym, ◌∙◌, ap}
 use Rattle.std.proofs.lemmas.List.{length-map}
 use Rattle.std.specs.Option.{IsSome}
 use Rattle.std.proofs.lemmas.Bool.{true≢false}
-use Rattle.std.specs.Prelude.{pos, ◌≤ℤ◌}
 use Rattle.stamp_register.specs.Keys.{KeyValue}
-use Rattle.replica_state.specs.States.{State, with_key, with_shifts, rights_of}
+use Rattle.replica_state.specs.States.{State, with_key, with_shifts}
 use Rattle.operations.specs.Operations.{Operation}
 use Rattle.replica_state.specs.Folds.{fold}
 use Rattle.message_format.specs.declared.fault.WireFault.{WireFault}
 use Rattle.delta_exchange.specs.Told.{HasLearned}
 use Rattle.node_core.specs.declared.config.Config.{Config}
 use Rattle.node_calls.specs.Asks.{Asked, Call, Message, Load, Pass, Deliver, emit_of}
-use Rattle.node_core.specs.Nodes.{Node, state_shown, setting_of}
-use Rattle.node_core.specs.Passes.{ops_of_pass}
+use Rattle.node_core.specs.Nodes.{Node}
 use Rattle.node_core.specs.Outcomes.{state_done, state_loaded, state_set, IsHeld}
 use Rattle.node_core.specs.Steps.{after, new_key, operations_issued, settings, points_in, message_in}
 use Rattle.node_core.specs.Room.{HasRoom}
 use Rattle.node_core.specs.Traces.{Kept, node_of, replay}
 use Rattle.node_core.specs.Holds.{Holds}
-use Rattle.node_core.specs.Deliveries.{IsDelivery}
 use Rattle.node_core.proofs.TraceLemmas.{holds_grown, holds_pass}
 use Rattle.node_core.proofs.SettingSteps.{Issues, issues_some, issues_load, fold_alone, fold_merged, holds_set}
 use Rattle.node_core.proofs.DeliverySteps.{holds_emit, holds_delivered}

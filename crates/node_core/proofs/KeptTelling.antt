@@ -21,12 +21,10 @@ use Rattle.node_core.specs.declared.config.Config.{Config}
 use Rattle.node_calls.specs.Asks.{Asked, Call, Message, Load, Pass, Deliver, emit_of}
 use Rattle.node_core.specs.Nodes.{Node, state_shown, setting_of}
 use Rattle.node_core.specs.Passes.{ops_of_pass}
-use Rattle.node_core.specs.Outcomes.{ops_done, state_done, state_set, AreTellable, IsHeld}
+use Rattle.node_core.specs.Outcomes.{ops_done, state_done, AreTellable, IsHeld}
 use Rattle.node_core.specs.Steps.{after, operations_added, operations_issued, settings, points_in, shift_under, message_in}
 use Rattle.node_core.specs.Traces.{Kept, node_of, replay}
 use Rattle.node_core.specs.Holds.{Holds, CanTell}
-use Rattle.node_core.specs.Deliveries.{IsDelivery}
-use Rattle.node_core.specs.Refusals.{too_many}
 use Rattle.node_core.proofs.SettingSteps.{Issues, issues_some, issues_load, fold_issued, names_set, names_loaded}
 use Rattle.node_core.proofs.TraceLemmas.{holds_pass}
 use Rattle.node_core.proofs.ShiftSteps.{MayMove, holds_moved}

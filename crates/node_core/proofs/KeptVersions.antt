@@ -1,6 +1,6 @@
 -- A replica with versions follows the steps of the node that it is kept for, by what its calls promise; and what it
 -- says that changed since the version that another node is known to have is what differs.
-use Rattle.std.proofs.Common.{◌≡◌, ℕ, ◌+◌, ◌<◌, ◌≤◌, ◌==◌, max, Bool, true, false, cond, List, [], ◌∷◌, ◌++◌, Option, Some, None, Result, Ok, Err, ◌↔◌, refl, sym, ◌∙◌, ap, subst, arith}
+use Rattle.std.proofs.Common.{◌≡◌, ℕ, ◌+◌, ◌≤◌, ◌==◌, max, Bool, true, false, cond, List, [], ◌∷◌, ◌++◌, Option, Some, None, Result, Ok, Err, ◌↔◌, refl, sym, ◌∙◌, ap, subst, arith}
 use Rattle.std.proofs.lemmas.Bool.{true≢false}
 use Rattle.std.specs.Option.{IsSome}
 use Rattle.stamp_register.specs.Keys.{KeyValue}
@@ -19,7 +19,6 @@ use Rattle.delta_exchange.specs.Versions.{VersionedValue, nothing_known, known_r
 use Rattle.node_calls.specs.Asks.{Asked, Call, Message, message_of, emit_of}
 use Rattle.node_calls.specs.Asks as asks
 use Rattle.node_core.specs.Nodes.{Node, start, state_shown}
-use Rattle.node_core.specs.Outcomes.{ops_done}
 use Rattle.node_core.specs.Passes.{pass_ops}
 use Rattle.node_core.specs.Steps.{after, operations_added, operations_issued, settings, new_key, shift_under, version_after, known_after, acked_after}
 use Rattle.node_core.specs.Traces.{Kept, node_of, state_known, replay, replay_from}

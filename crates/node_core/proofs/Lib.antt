@@ -12,6 +12,8 @@ pub mod Kept
 pub mod ShiftRefusals
 pub mod GrantRefusals
 pub mod NamedRefusals
+pub mod PassAccepted
+pub mod PassReplies
 pub mod LoadRefusals
 pub mod LoadSteps
 pub mod Ahead

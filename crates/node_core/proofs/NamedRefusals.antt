@@ -55,7 +55,7 @@ alone : (first : Option NodeFault) → first_fault (first ∷ None ∷ []) ≡ f
 alone None = refl
 alone (Some fault) = refl
 
-first_is : (first : Option NodeFault) (fs : List (Option NodeFault)) (f : NodeFault) → first ≡ Some f →
+pub first_is : (first : Option NodeFault) (fs : List (Option NodeFault)) (f : NodeFault) → first ≡ Some f →
     first_fault (first ∷ fs) ≡ Some f
 first_is first fs f e = ap (λ o. first_fault (o ∷ fs)) e
 

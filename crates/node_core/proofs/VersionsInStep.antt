@@ -1,10 +1,9 @@
 -- The clock and the replica with versions of a node stay in step with its trace, when a call is put at its end.
-use Rattle.std.proofs.Common.{◌≡◌, ◌≢◌, ℕ, ◌+◌, ◌<◌, ◌≤◌, ◌^◌, max, Bool, true, false, nat_lt, List, [], ◌∷◌, ◌++◌, length, map, Option, Some, None, Result, Ok, IsTrue, refl, sym, ◌∙◌, ap, subst, arith}
-use Rattle.std.proofs.lemmas.List.{map-append}
+use Rattle.std.proofs.Common.{◌≡◌, ◌≢◌, ℕ, ◌+◌, ◌<◌, ◌≤◌, ◌^◌, max, Bool, true, false, nat_lt, List, [], ◌∷◌, ◌++◌, length, map, Option, Some, None, Result, refl, sym, ◌∙◌, ap, subst, arith}
+use Rattle.std.proofs.lemmas.List.{length-map, map-append}
 use Rattle.std.specs.Int.{from_bool}
 use Rattle.std.specs.Option.{IfSome, IsSome}
 use Rattle.std.specs.Prelude.{pos, ◌≤ℤ◌}
-use Rattle.actions.specs.Names.{is_name}
 use Rattle.replica_state.specs.States.{State, with_key, with_pass, with_shifts, budget_of, rights_of}
 use Rattle.operations.specs.Operations.{Operation}
 use Rattle.replica_state.specs.Folds.{fold, clock_of}
@@ -13,20 +12,17 @@ use Rattle.replica_state.proofs.Unions.{fold-union}
 use Rattle.message_format.specs.declared.fault.WireFault.{WireFault}
 use Rattle.message_format.specs.Messages.{MessageValue, operations_in}
 use Rattle.delta_exchange.specs.Since.{CanBeTold}
-use Rattle.message_format.specs.Spelling.{IsBody}
 use Rattle.delta_exchange.specs.Told.{HasLearned}
 use Rattle.delta_exchange.specs.Versions.{VersionedValue, nothing_known, ChangesTo, Issues, MayPass, Receives}
 use Rattle.node_core.specs.declared.config.Config.{Config}
-use Rattle.node_calls.specs.declared.trace.Entry.{Entry}
-use Rattle.node_calls.specs.Asks.{Asked, Call, Message, Load, Pass, Deliver, call, emit_of, message_of}
-use Rattle.node_core.specs.Deliveries.{IsDelivery}
+use Rattle.node_calls.specs.Told.{Told}
+use Rattle.node_calls.specs.Asks.{Asked, Call, Message, Load, call_from}
 use Rattle.node_core.specs.Holds.{IsInStep, CanTell}
 use Rattle.node_core.specs.KeptVersions.{KeepsVersions, IsInStepWith}
 use Rattle.node_core.specs.Nodes.{Node}
-use Rattle.node_core.specs.Outcomes.{AreTellable, HasKey, ops_done, state_loaded}
-use Rattle.node_core.specs.Passes.{pass_ops}
-use Rattle.node_core.specs.Room.{HasRoom, HasClocks, HasPlace, HavePlaces}
-use Rattle.node_core.specs.Steps.{message_in, new_key, operations_issued, points_in, settings}
+use Rattle.node_core.specs.Outcomes.{HasKey, state_loaded}
+use Rattle.node_core.specs.Room.{HasRoom}
+use Rattle.node_core.specs.Steps.{message_in, new_key, operations_issued, settings}
 use Rattle.node_core.specs.Traces.{Kept, kept_of, node_of, state_known}
 use Rattle.node_core.proofs.InStep.{with_call, issue_in_step, load_in_step, pass_in_step, moved_in_step, deliver_in_step, emit_in_step}
 use Rattle.node_core.proofs.KeptVersions.{versions_start, set_versions, load_versions, pass_versions, unset_versions, moved_versions, emit_versions, deliver_versions}
@@ -84,16 +80,33 @@ may_pass k clock value is room name is_set spent key right set =
     room_for None = tt
     room_for (Some t) = let few = is.0.0.execs_few name t in let small = is.0.0.small in omega (arith, room, small, few)
 
+-- a trace that takes one more call has fewer than its numbers can count
+pub few_calls : (config : Config) (clock : ℕ) (value : VersionedValue) (calls now : List Told) →
+    IsInStepWith (kept_of config calls) clock value → HasRoom (kept_of config calls) → now ≡ calls →
+    length now < 2 ^ 32
+few_calls config clock value calls now is room same =
+    let small = is.0.0.small in
+    let long = length-map calls (call_from config.nodes) in
+    let more = ap length same in
+    omega (arith, small, room, long, more)
+
 -- the entries of a trace that grew by one
-pub entries_with : (config : Config) (clock : ℕ) (value : VersionedValue) (old mid new : List Entry) (e : Entry) →
+pub entries_with : (config : Config) (clock : ℕ) (value : VersionedValue) (old mid new : List Told) (e : Told) →
     new ≡ mid ++ e ∷ [] → mid ≡ old →
-    IsInStepWith (with_call (kept_of config old) (call config.nodes e)) clock value →
+    IsInStepWith (with_call (kept_of config old) (call_from config.nodes e)) clock value →
     IsInStepWith (kept_of config new) clock value
 entries_with config clock value old mid new e grown same is =
-    let calls : map (call config.nodes) new ≡ map (call config.nodes) old ++ call config.nodes e ∷ [] =
-    ap (λ (es : List Entry). map (call config.nodes) es) (grown ∙ ap (λ (es : List Entry). es ++ e ∷ []) same) ∙
-    map-append (call config.nodes) old (e ∷ []) in
+    let calls : map (call_from config.nodes) new ≡ map (call_from config.nodes) old ++ call_from config.nodes e ∷ [] =
+    ap (λ (es : List Told). map (call_from config.nodes) es) (grown ∙ ap (λ (es : List Told). es ++ e ∷ []) same) ∙
+    map-append (call_from config.nodes) old (e ∷ []) in
     subst (λ (trace : List Call). IsInStepWith (record { config = config; trace = trace }) clock value) (sym calls) is
+
+-- a node whose trace grew by one call
+pub kept_with : (config : Config) (old new : List Told) (t : Told) → new ≡ old ++ t ∷ [] →
+    kept_of config new ≡ with_call (kept_of config old) (call_from config.nodes t)
+kept_with config old new t grown =
+    ap (λ (trace : List Call). record { config = config; trace = trace })
+    (ap (λ (ts : List Told). map (call_from config.nodes) ts) grown ∙ map-append (call_from config.nodes) old (t ∷ []))
 
 module _ (k : Kept) (clock : ℕ) (value next : VersionedValue) (c : Call)
     (is : IsInStepWith k clock value) where

@@ -1,10 +1,9 @@
 -- What calls change: the keys of a setting, and of a pass whether it counts a hit and the counted term
 -- that it executes.
 use Rattle.std.specs.Prelude.{◌≡◌, ℕ, Bool, true, false, List, [], ◌∷◌, ◌++◌, ◌+◌, Option, Some, None, is_some, IsSome, IsTrue, if◌then◌else◌}
-use Rattle.actions.specs.Value.{TaskValue, TermValue, off}
+use Rattle.actions.specs.Value.{TermValue}
 use Rattle.actions.specs.Names.{is_name}
 use Rattle.stamp_register.specs.Keys.{KeyValue}
-use Rattle.stamp_register.specs.declared.key.Stamp.{Stamp}
 use Rattle.operations.specs.Operations.{Operation, IsIn, count_at}
 use Rattle.replica_state.specs.Folds.{fold}
 use Rattle.replica_state.specs.States.{State, with_name, with_key, with_pass}
@@ -12,19 +11,7 @@ use Rattle.message_format.specs.Spelling.{IsBody}
 use Rattle.node_core.specs.Passes.{next_hit, next_exec}
 use Rattle.node_core.specs.Steps.{new_key, settings}
 use Rattle.node_calls.specs.Asks.{Load}
-use Rattle.node_calls.specs.Told.{Passed, Unset, NoTerm, Act}
 use Rattle.node_core.specs.Traces.{Kept, last_clock}
-
--- the task of a term, and none is that which does nothing
-abbrev pub task_or_off : Option TaskValue → TaskValue
-task_or_off None = off
-task_or_off (Some task) = task
-
--- the reply of a pass by the stamp of the setting, if there is one, and the triggered term, if one is, with its task
-abbrev pub outcome_reply : Option Stamp → Option ℕ → Option TaskValue → Passed
-outcome_reply None term task = Unset
-outcome_reply (Some stamp) None task = NoTerm stamp
-outcome_reply (Some stamp) (Some term) task = Act stamp term (task_or_off task)
 
 -- the triggered term, if it is counted
 abbrev pub spent_by : List TermValue → Option ℕ → Option ℕ

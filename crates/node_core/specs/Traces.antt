@@ -6,7 +6,8 @@ use Rattle.node_core.specs.declared.config.Config.{Config}
 use Rattle.node_calls.specs.declared.fault.NodeFault.{NodeFault}
 use Rattle.node_calls.specs.declared.fault.NodeFault.TheVariants.{OutOfMemory}
 use Rattle.node_calls.specs.declared.trace.Entry.{Entry}
-use Rattle.node_calls.specs.Asks.{Asked, Answered, Call, Versions, bare_emit, call, emit_of, message_read}
+use Rattle.node_calls.specs.Told.{Told}
+use Rattle.node_calls.specs.Asks.{Asked, Answered, Call, Versions, bare_emit, call, call_from, emit_of, message_read}
 use Rattle.node_calls.specs.Asks as asks
 use Rattle.node_core.specs.Nodes.{Node, Marks, start, state_shown}
 use Rattle.node_core.specs.Steps.{after, reply}
@@ -25,9 +26,9 @@ pub record Kept : Type 0 where
   pub config : Config
   pub trace : List Call
 
--- the node that a configuration and the entries of a trace tell of
-abbrev pub kept_of : Config → List Entry → Kept
-kept_of config entries = record { config = config; trace = map (call config.nodes) entries }
+-- the node that a configuration tells of, and what the entries of a trace tell
+abbrev pub kept_of : Config → List Told → Kept
+kept_of config entries = record { config = config; trace = map (call_from config.nodes) entries }
 
 -- an entry of its trace as a call
 abbrev pub call_of : Kept → Entry → Call

@@ -14,7 +14,10 @@ mod words;
 pub use config::Config;
 pub use generator::Generator;
 pub use node::NodeCore;
-pub use node_calls::{Ask, AskRef, Entry, NodeFault, PassReply, Receipt, Reply, TextFault, Trace};
+pub use node_calls::{
+    Ask, AskRef, Entry, NodeFault, PassReply, PassReplyRef, Receipt, Reply, ReplyRef, TextFault,
+};
+pub use packed_trace::{Seen, Trace};
 pub use words::WordSource;
 
 /// What holds a node's state.

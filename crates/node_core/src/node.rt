@@ -6,7 +6,7 @@ ghost use Rattle.actions.specs.Names.{is_name};
 ghost use Rattle.node_core.specs.Replicas.{state_in};
 ghost use Rattle.replica_state.specs.States.{rights_of, spent_of, total_hits};
 ghost use Rattle.delta_exchange.specs.Wholes.{AreLawful};
-ghost use Rattle.node_calls.specs.Asks.{call};
+ghost use Rattle.node_calls.specs.Asks.{call_from};
 ghost use Rattle.node_core.specs.Passes.{words_for};
 ghost use Rattle.node_core.specs.Refusals.{is_bad_config};
 ghost use Rattle.node_core.specs.Room.{HasRoom};
@@ -29,7 +29,8 @@ use crate::list::list_of;
 use crate::setting::words_needed;
 use actions::{Name, NameFault};
 use delta_exchange::{MAX_NODES, Versioned};
-use node_calls::{NodeFault, Trace};
+use node_calls::NodeFault;
+use packed_trace::Trace;
 use replica_state::Replica;
 use stamp_register::Stamp;
 use std::alloc::{AllocError, Global};
@@ -52,9 +53,9 @@ impl Model for NodeCore {
 
     ghost Value = { Kept };
 
-    ghost view = { λ c. kept_of c.config c.trace.items };
+    ghost view = { λ c. kept_of c.config c.trace.calls };
 
-    ghost invariant = { λ c. IsInStepWith (kept_of c.config c.trace.items) c.clock (value_in c.replica) };
+    ghost invariant = { λ c. IsInStepWith (kept_of c.config c.trace.calls) c.clock (value_in c.replica) };
 }
 
 impl NodeCore {
@@ -71,7 +72,7 @@ impl NodeCore {
             config,
             clock: 0,
             replica: Versioned::new(alloc),
-            trace: Vec::new(alloc),
+            trace: Trace::new(alloc),
         })
     }
 
@@ -161,14 +162,14 @@ impl NodeCore {
 
     /// The accepted calls.
     pub fn trace(&self) -> &Trace
-        ensures { map (call self.now.config.nodes) result.now.items ≡ self.now.trace }
+        ensures { map (call_from self.now.config.nodes) result.now.calls ≡ self.now.trace }
     {
         &self.trace
     }
 
     /// The accepted calls, without the node.
     pub fn into_trace(self) -> Trace
-        ensures { map (call self.config.nodes) result.items ≡ self.trace }
+        ensures { map (call_from self.config.nodes) result.calls ≡ self.trace }
     {
         let NodeCore {
             config: _,

@@ -1,5 +1,5 @@
 -- What is kept stands for the same calls where rows or entries are put behind.
-use Rattle.std.proofs.Common.{◌≡◌, ℕ, ◌<◌, ◌≤◌, ◌+◌, zero, suc, arith, List, [], ◌∷◌, ◌++◌, length, length-append, take, map, refl, sym, ◌∙◌, ap, subst, Option, Some, None, All}
+use Rattle.std.proofs.Common.{◌≡◌, ℕ, ◌<◌, ◌≤◌, ◌+◌, zero, suc, arith, List, [], ◌∷◌, ◌++◌, length, length-append, take, map, refl, sym, ◌∙◌, ap, subst, Some, None}
 use Rattle.std.specs.Prelude.{slice_get}
 use Rattle.std.proofs.lemmas.List.{length-map, map-append}
 use Rattle.node_calls.specs.Told.{Told, told}
@@ -7,7 +7,7 @@ use Rattle.node_calls.specs.declared.trace.Entry.{Entry}
 use Rattle.packed_trace.specs.declared.row.Row.{Row}
 use Rattle.packed_trace.specs.declared.trace.Slot.{Slot}
 use Rattle.packed_trace.specs.declared.trace.Slot.TheVariants as slots
-use Rattle.packed_trace.specs.Packed.{AreKept, IsKept, RowTold, entry_by, pass_by, row_told, told_by}
+use Rattle.packed_trace.specs.Packed.{AreKept, IsKept, entry_by, pass_by, row_told, told_by}
 
 get_before : {A : Type 0} (xs : List A) (y : A) (i : ℕ) → i < length xs → slice_get (xs ++ y ∷ []) i ≡ slice_get xs i
 get_before [] y i low = absurd (omega (arith, low))

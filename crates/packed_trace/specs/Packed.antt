@@ -1,10 +1,14 @@
 -- What a packed trace stands for: the list of what its calls tell.
-use Rattle.std.specs.Prelude.{ℕ, ◌<◌, ◌^◌, false, List, [], ◌∷◌, slice_get, Option, Some, None, option_map, All}
+use Rattle.std.specs.Prelude.{ℕ, ◌<◌, false, List, [], ◌∷◌, length, slice_get, Option, Some, None, option_map, All}
 use Rattle.actions.specs.Value.{TermValue}
 use Rattle.stamp_register.specs.declared.key.Stamp.{Stamp}
-use Rattle.node_calls.specs.Told.{Told, Passed, Unset, NoTerm, Act, passes, emits, was_passed, was_delivered, told}
+use Rattle.node_calls.specs.Told.{Told, Passed, ReplyTold, Unset, NoTerm, Act, passes, emits, was_passed, was_delivered, told}
+use Rattle.packed_trace.specs.declared.pass.Pass.{Pass}
+use Rattle.packed_trace.specs.declared.pass.Prepared.{Prepared}
+use Rattle.packed_trace.specs.declared.pass.Prepared.TheVariants as prepared
 use Rattle.packed_trace.specs.declared.row.Row.{Row}
 use Rattle.packed_trace.specs.declared.row.Setting.{Setting}
+use Rattle.packed_trace.specs.declared.row.SettingRef.{SettingRef}
 use Rattle.packed_trace.specs.declared.seen.Seen.{Seen}
 use Rattle.packed_trace.specs.declared.seen.Seen.TheVariants as seen
 use Rattle.packed_trace.specs.declared.trace.Slot.{Slot}
@@ -24,6 +28,9 @@ pub record RowTold : Type 0 where
 
 abbrev pub setting_told : Option Setting → Option SettingTold
 setting_told setting = option_map (λ s. (s.stamp, s.actions)) setting
+
+abbrev pub setting_ref_told : Option SettingRef → Option SettingTold
+setting_ref_told setting = option_map (λ s. (s.stamp, s.actions.now)) setting
 
 abbrev pub row_told : Row → RowTold
 row_told row = record { name = row.name; setting = setting_told row.setting }
@@ -57,6 +64,19 @@ words_of (Some word) = word ∷ []
 abbrev pub pass_told : RowTold → Option ℕ → Option ℕ → Told
 pass_told row term word =
     record { ask = passes row.name; words = words_of word; reply = was_passed (passed_by row.setting term) }
+
+-- what a pass tells that is to be kept
+abbrev pub pass_value : Pass → Told
+pass_value p = record {
+  ask = passes p.name.now;
+  words = p.words.now;
+  reply = was_passed (passed_by (setting_ref_told p.setting) p.term);
+}
+
+-- what a pass was answered, if it is one
+abbrev pub passed_in : ReplyTold → Option Passed
+passed_in (was_passed passed) = Some passed
+passed_in _ = None
 
 -- what stands for a call that isn't there
 abbrev pub no_call : Told
@@ -94,3 +114,14 @@ AreKept rows entries kept = All (IsKept rows entries) kept
 abbrev pub seen_told : Seen → Told
 seen_told (seen.Pass row term word) = pass_told (row_told row.now) term word
 seen_told (seen.Entry entry) = told entry.now
+
+-- ---- a pass that is prepared
+
+-- there is room for it, and its row is there
+abbrev pub IsPrepared : Packed → Prepared → Type 0
+IsPrepared p (prepared.Pass row term word) = (row < length p.rows) × (0 < p.pass_room)
+IsPrepared p (prepared.Entry entry) = (0 < p.pass_room) × (0 < p.entry_room)
+
+abbrev pub prepared_told : List RowTold → Prepared → Told
+prepared_told rows (prepared.Pass row term word) = pass_by (slice_get rows row) term word
+prepared_told rows (prepared.Entry entry) = told entry

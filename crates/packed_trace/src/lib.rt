@@ -2,16 +2,17 @@
 //! tell.
 //!
 //! ```rust
-//! let row = trace.add_row(Row { name, setting })?;
-//! trace.reserve_pass()?;
-//! trace.push_pass(row, Some(0), None);
+//! let pass = trace.prepare(alloc, Pass { name, setting, term, words })?;
+//! trace.push(pass);
 //! ```
 #![tactic(auto)]
 
+mod pass;
 mod row;
 mod seen;
 mod trace;
 
-pub use row::{Row, Setting};
+pub use pass::{Pass, Prepared};
+pub use row::{Row, Setting, SettingRef};
 pub use seen::Seen;
 pub use trace::{MAX_ROWS, Trace};

@@ -1,11 +1,12 @@
 //! A call of a trace, where it lies.
 
-ghost use Rattle.std.specs.Prelude.{◌≡◌, IfOk};
-ghost use Rattle.node_calls.specs.Told.{told, passed};
-ghost use Rattle.packed_trace.specs.Packed.{seen_told, passed_by, setting_told};
+ghost use Rattle.std.specs.Prelude.{◌≡◌, IfOk, option_map};
+ghost use Rattle.node_calls.specs.Told.{ask_ref_told, passed_ref, reply_ref_told, told};
+ghost use Rattle.packed_trace.specs.Packed.{passed_in, seen_told};
 
-use crate::row::{Row, Setting};
-use node_calls::{Ask, Entry, PassReply, Reply};
+use crate::pass::Pass;
+use crate::row::{Row, reply_by};
+use node_calls::{AskRef, Entry, PassReplyRef, Reply, ReplyRef};
 use std::alloc::{AllocError, Global};
 
 /// An accepted call, where it lies in its trace.
@@ -21,49 +22,60 @@ pub enum Seen<'a> {
     Entry(&'a Entry),
 }
 
-fn reply_of(
-    alloc: Global,
-    setting: &Option<Setting>,
-    term: Option<u8>,
-) -> Result<PassReply, AllocError>
-    ensures { IfOk result (λ reply. passed reply ≡ passed_by (setting_told setting.now) term) }
-{
-    let Some(setting) = setting else {
-        return Ok(PassReply::Unset);
-    };
-    let stamp = setting.stamp;
-    let Some(term) = term else {
-        return Ok(PassReply::NoTerm { stamp });
-    };
-    Ok(match setting.actions.term(term) {
-        Some(found) => PassReply::Act {
-            term,
-            stamp,
-            task: found.task.copied(alloc)?,
-        },
-        None => PassReply::NoTerm { stamp },
-    })
-}
+impl<'a> Seen<'a> {
+    /// What was asked.
+    pub fn ask(self) -> AskRef<'a>
+        ensures { ask_ref_told result ≡ (seen_told self.entry).ask }
+    {
+        match self {
+            Seen::Pass { row, .. } => AskRef::Pass {
+                name: row.name.text(),
+            },
+            Seen::Entry(entry) => entry.ask.as_ref(),
+        }
+    }
 
-impl Seen<'_> {
+    /// What was answered.
+    pub fn reply(self) -> ReplyRef<'a>
+        ensures { reply_ref_told result ≡ (seen_told self.entry).reply }
+    {
+        match self {
+            Seen::Pass { row, term, .. } => ReplyRef::Pass(reply_by(row.setting(), term)),
+            Seen::Entry(entry) => entry.reply.as_ref(),
+        }
+    }
+
+    /// What a pass was answered; none of another call.
+    pub fn pass_reply(self) -> Option<PassReplyRef<'a>>
+        ensures { option_map passed_ref result ≡ passed_in (seen_told self.entry).reply }
+    {
+        match self {
+            Seen::Pass { row, term, .. } => Some(reply_by(row.setting(), term)),
+            Seen::Entry(entry) => match &entry.reply {
+                Reply::Pass(reply) => Some(reply.as_ref()),
+                Reply::Set(_)
+                | Reply::Remove(_)
+                | Reply::Load(_)
+                | Reply::Shift(_)
+                | Reply::Grant(_)
+                | Reply::Emit(_)
+                | Reply::Deliver(_) => None,
+            },
+        }
+    }
+
     /// An entry of its own that tells the same. The only error is out of memory.
     pub fn to_entry(self, alloc: Global) -> Result<Entry, AllocError>
         ensures { IfOk result (λ entry. told entry ≡ seen_told self.entry) }
     {
         match self {
-            Seen::Pass { row, term, word } => {
-                let name = String::from_str(alloc, row.name.text())?;
-                let reply = reply_of(alloc, &row.setting, term)?;
-                let mut words = Vec::new(alloc);
-                if let Some(word) = word {
-                    words.push(word)?;
-                }
-                Ok(Entry {
-                    ask: Ask::Pass { name },
-                    words,
-                    reply: Reply::Pass(reply),
-                })
+            Seen::Pass { row, term, word } => Pass {
+                name: &row.name,
+                setting: row.setting(),
+                term,
+                words: word.as_slice(),
             }
+            .to_entry(alloc),
             Seen::Entry(entry) => entry.copied(alloc),
         }
     }

@@ -1,15 +1,21 @@
 //! The accepted calls of a node.
 
+ghost use Rattle.std.specs.Bool.{OnTrue};
+ghost use Rattle.std.specs.Prelude.{Some, ◌-◌};
 ghost use Rattle.std.specs.Prelude.{◌≡◌, ◌+◌, ◌<◌, ◌^◌, [], ◌∷◌, ◌++◌, length, map};
 ghost use Rattle.std.specs.Prelude.{◌≤◌, option_map, slice_get, is_none};
 ghost use Rattle.std.specs.Prelude.{IfOk, IfSome, IsNone, IsOk, OnOk, OnErr};
 ghost use Rattle.node_calls.specs.Told.{told};
-ghost use Rattle.packed_trace.specs.Packed.{pass_by, row_told, seen_told, max_rows};
+ghost use Rattle.packed_trace.specs.Packed.{IsPrepared, pass_by, pass_value, prepared_told, row_told};
+ghost use Rattle.packed_trace.specs.Packed.{seen_told, setting_ref_told, max_rows};
 
-use crate::row::Row;
+use crate::pass::{Pass, Prepared};
+use crate::row::{Row, SettingRef};
 use crate::seen::Seen;
+use actions::Name;
 use node_calls::Entry;
 use std::alloc::{AllocError, Global};
+use std::collections::BTreeMap;
 use std::marker::Model;
 
 /// The most rows of a trace.
@@ -32,6 +38,9 @@ pub struct Trace {
     slots: Vec<Slot>,
     rows: Vec<Row>,
     entries: Vec<Entry>,
+    // The last row of each name, and the row of the last pass.
+    heads: BTreeMap<Name, u16>,
+    recent: u16,
 }
 
 impl Model for Trace {
@@ -73,6 +82,8 @@ impl Trace {
             slots: Vec::new(alloc),
             rows: Vec::new(alloc),
             entries: Vec::new(alloc),
+            heads: BTreeMap::new(alloc),
+            recent: 0,
         }
     }
 
@@ -104,9 +115,99 @@ impl Trace {
         })
     }
 
+    /// The last call.
+    pub fn last(&self) -> Option<Seen<'_>>
+        ensures { option_map seen_told result
+            ≡ slice_get self.now.calls (length self.now.calls - 1) }
+    {
+        self.at(self.len().saturating_sub(1))
+    }
+
+    // Whether a row is that of the passes of a point under a setting.
+    fn is_row(&self, row: u16, name: &Name, setting: Option<SettingRef<'_>>) -> bool
+        ensures { OnTrue result (slice_get self.now.rows row
+            ≡ Some (record { name = name.now; setting = setting_ref_told setting.entry })) }
+    {
+        match self.rows.get(row as usize) {
+            Some(row) => row.is_of(name, setting),
+            None => false,
+        }
+    }
+
+    // The row of the passes of a point under a setting, where the last pass or the point has it.
+    fn find_row(&self, name: &Name, setting: Option<SettingRef<'_>>) -> Option<u16>
+        ensures { IfSome result (λ row. slice_get self.now.rows row
+            ≡ Some (record { name = name.now; setting = setting_ref_told setting.entry })) }
+    {
+        if self.is_row(self.recent, name, setting) {
+            return Some(self.recent);
+        }
+        let head = *self.heads.get(name)?;
+        if self.is_row(head, name, setting) {
+            Some(head)
+        } else {
+            None
+        }
+    }
+
+    // The row of the passes of a point under a setting, which is added where it isn't found; none where
+    // there are as many rows as there may be.
+    fn row_for(
+        &mut self,
+        alloc: Global,
+        name: &Name,
+        setting: Option<SettingRef<'_>>,
+    ) -> Result<Option<u16>, AllocError>
+        ensures ok { IfOk result (λ at. IfSome at (λ row. slice_get self.new.rows row
+            ≡ Some (record { name = name.now; setting = setting_ref_told setting.entry }))) }
+        ensures calls { self.new.calls ≡ self.old.calls }
+    {
+        if let Some(row) = self.find_row(name, setting) {
+            return Ok(Some(row));
+        }
+        let row = Row::of(alloc, name, setting)?;
+        self.add_row(alloc, row)
+    }
+
+    /// Makes room for a pass, and a row for it where there is none. No call changes.
+    pub fn prepare(&mut self, alloc: Global, pass: Pass<'_>) -> Result<Prepared, AllocError>
+        ensures room { IfOk result (IsPrepared self.new) }
+        ensures told { IfOk result (λ p. prepared_told self.new.rows p ≡ pass_value pass.entry) }
+        ensures calls { self.new.calls ≡ self.old.calls }
+    {
+        if pass.words.len() <= 1 {
+            if let Some(row) = self.row_for(alloc, pass.name, pass.setting)? {
+                self.reserve_pass()?;
+                return Ok(Prepared::Pass {
+                    row,
+                    term: pass.term,
+                    word: pass.words.first().copied(),
+                });
+            }
+        }
+        let entry = pass.to_entry(alloc)?;
+        self.reserve_entry()?;
+        Ok(Prepared::Entry(entry))
+    }
+
+    /// A pass more, for which there is room. It takes no memory.
+    pub fn push(&mut self, pass: Prepared)
+        requires few { length self.old.calls < 2 ^ 32 }
+        requires room { IsPrepared self.old pass }
+        ensures { self.new.calls ≡ self.old.calls ++ prepared_told self.old.rows pass ∷ [] }
+    {
+        match pass {
+            Prepared::Pass { row, term, word } => {
+                self.recent = row;
+                self.push_pass(row, term, word);
+            }
+            Prepared::Entry(entry) => self.push_entry(entry),
+        }
+    }
+
     /// A row more, for passes that are still to come, and its number; none where there are as many as
     /// there may be. No call changes.
-    pub fn add_row(&mut self, row: Row) -> Result<Option<u16>, AllocError>
+    pub fn add_row(&mut self, alloc: Global, row: Row) -> Result<Option<u16>, AllocError>
         ensures ok { IfOk result (λ at. IfSome at (λ n. (n ≡ length self.old.rows)
             × (self.new.rows ≡ self.old.rows ++ row_told row ∷ []))) }
         ensures full { IfOk result (λ at. IsNone at
@@ -120,7 +221,9 @@ impl Trace {
         if at >= MAX_ROWS {
             return Ok(None);
         }
-        self.rows.push(row)?;
+        self.rows.reserve(1)?;
+        self.heads.insert(row.name.copied(alloc)?, at as u16)?;
+        self.rows.push_reserved(row);
         Ok(Some(at as u16))
     }
 

@@ -2,7 +2,7 @@ use Rattle.std.proofs.Common.{subst}
 use Rattle.std.specs.Option.{IsSome}
 use Rattle.replica_state.specs.States.{State, budget_of}
 use Rattle.node_core.proofs.ShiftSteps.{grant_moves, may_grant}
-use Rattle.node_core.proofs.VersionsInStep.{entries_with, moved_with}
+use Rattle.node_core.proofs.VersionsInStep.{entries_with, few_calls, moved_with}
 use Rattle.node_calls.specs.Asks.{Grant}
 use Rattle.node_core.specs.Traces.{kept_of, state_known}
 use Rattle.node_core.specs.Replicas.{value_in}
@@ -16,14 +16,14 @@ count_shift-requires-clause-counted c =
 pub invariant_of-self-2 : goal.invariant_of-self-2
 invariant_of-self-2 c =
     let node = c.self.inside in
-    let k = kept_of node.config node.trace.items in
+    let k = kept_of node.config node.trace.calls in
     let room = rw (← c.self.view_is) at c.requires.room in
     let set = rw (← c.self.view_is) at c.requires.set in
     let counted = rw (← c.self.view_is) at c.requires.counted in
     let some = c.requires.some in
     let total = rw (← c.self.view_is) at c.requires.total in
-    entries_with node.config _ _ node.trace.items _ c.push_reserved.new.self.items _ c.push_reserved.ensures.items
-    c.in_ok-reserve.ensures.items
+    entries_with node.config _ _ node.trace.calls _ c.push_entry.new.self.calls _ c.push_entry.ensures.calls
+    c.in_ok-reserve_entry.ensures.calls
     (moved_with k node.clock (value_in node.replica) _ _ c.self.invariant
     {ask = Grant c.args.point c.args.term c.args.amount} (record {
       room = room;
@@ -37,3 +37,10 @@ invariant_of-self-2 c =
       sum = total;
     })
     c.in_ok-count_shift.ensures.ok)
+
+pub push_entry-requires-clause-few : goal.push_entry-requires-clause-few
+push_entry-requires-clause-few c =
+    let node = c.self.inside in
+    let room = rw (← c.self.view_is) at c.requires.room in
+    few_calls node.config node.clock (value_in node.replica) node.trace.calls _ c.self.invariant room
+    c.in_ok-reserve_entry.ensures.calls

@@ -3,7 +3,7 @@ use Rattle.std.specs.Option.{IsSome}
 use Rattle.replica_state.specs.States.{State, budget_of}
 use Rattle.node_core.proofs.Rights.{counted_by_rights}
 use Rattle.node_core.proofs.ShiftSteps.{shift_moves, may_shift}
-use Rattle.node_core.proofs.VersionsInStep.{entries_with, moved_with}
+use Rattle.node_core.proofs.VersionsInStep.{entries_with, few_calls, moved_with}
 use Rattle.node_calls.specs.Asks.{Shift}
 use Rattle.node_core.specs.Traces.{kept_of, state_known}
 use Rattle.node_core.specs.Replicas.{value_in}
@@ -12,7 +12,7 @@ use Rattle.node_core.proofs.node.NodeCore.move_rights.Goals as goal
 pub count_shift-requires-clause-counted : goal.count_shift-requires-clause-counted
 count_shift-requires-clause-counted c =
     let node = c.self.inside in
-    let k = kept_of node.config node.trace.items in
+    let k = kept_of node.config node.trace.calls in
     let enough = rw (← c.self.view_is) at c.requires.enough in
     let there = rw (← c.self.view_is) at c.requires.there in
     subst (λ (v : State). IsSome (budget_of v c.args.point c.args.term)) c.self.invariant.1.state_is
@@ -21,14 +21,14 @@ count_shift-requires-clause-counted c =
 pub invariant_of-self-2 : goal.invariant_of-self-2
 invariant_of-self-2 c =
     let node = c.self.inside in
-    let k = kept_of node.config node.trace.items in
+    let k = kept_of node.config node.trace.calls in
     let room = rw (← c.self.view_is) at c.requires.room in
     let set = rw (← c.self.view_is) at c.requires.set in
     let enough = rw (← c.self.view_is) at c.requires.enough in
     let there = rw (← c.self.view_is) at c.requires.there in
     let total = rw (← c.self.view_is) at c.requires.total in
-    entries_with node.config _ _ node.trace.items _ c.push_reserved.new.self.items _ c.push_reserved.ensures.items
-    c.in_ok-reserve.ensures.items
+    entries_with node.config _ _ node.trace.calls _ c.push_entry.new.self.calls _ c.push_entry.ensures.calls
+    c.in_ok-reserve_entry.ensures.calls
     (moved_with k node.clock (value_in node.replica) _ _ c.self.invariant
     {ask = Shift c.args.point c.args.term c.args.to c.args.amount} (record {
       room = room;
@@ -41,3 +41,10 @@ invariant_of-self-2 c =
       sum = total;
     })
     c.in_ok-count_shift.ensures.ok)
+
+pub push_entry-requires-clause-few : goal.push_entry-requires-clause-few
+push_entry-requires-clause-few c =
+    let node = c.self.inside in
+    let room = rw (← c.self.view_is) at c.requires.room in
+    few_calls node.config node.clock (value_in node.replica) node.trace.calls _ c.self.invariant room
+    c.in_ok-reserve_entry.ensures.calls

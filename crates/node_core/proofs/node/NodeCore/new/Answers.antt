@@ -10,7 +10,7 @@ use Rattle.node_core.proofs.node.NodeCore.new.Goals as goal
 
 pub invariant_of-result : goal.invariant_of-result
 invariant_of-result c =
-    rw c.new-2.ensures.items (subst (λ (v : VersionedValue). IsInStepWith (kept_of c.args.config []) 0 v)
+    rw c.new-2.ensures.calls (subst (λ (v : VersionedValue). IsInStepWith (kept_of c.args.config []) 0 v)
     (sym c.new.ensures)
     (new_with c.args.config (
       holds_new c.args.config (fold []) (omega arith) (omega arith) (omega arith) refl,

@@ -1,4 +1,4 @@
-use Rattle.std.proofs.Common.{◌≡◌, ◌<◌, ◌≤◌, length, arith}
+use Rattle.std.proofs.Common.{arith}
 use Rattle.packed_trace.proofs.Stays.{fewer}
 use Rattle.packed_trace.proofs.trace.Trace.of_entries.Goals as goal
 

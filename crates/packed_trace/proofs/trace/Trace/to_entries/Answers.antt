@@ -1,5 +1,5 @@
-use Rattle.std.proofs.Common.{◌≡◌, ◌∙◌, ap, sym, Some, List, length, map, take, option_map}
-use Rattle.node_calls.specs.Told.{Told, told}
+use Rattle.std.proofs.Common.{◌∙◌, ap, sym, Some, option_map}
+use Rattle.node_calls.specs.Told.{Told}
 use Rattle.packed_trace.specs.Packed.{seen_told}
 use Rattle.packed_trace.proofs.Stays.{one_more, taken_all}
 use Rattle.packed_trace.proofs.trace.Trace.to_entries.Goals as goal
