@@ -1,8 +1,8 @@
 -- Operations that messages of a cluster can tell: none, those of two sets, and what a message tells.
-use Rattle.std.proofs.Common.{◌≡◌, ℕ, List, [], ◌++◌, map, ◌⊎◌, inl, inr, ⊎_elim, Option, Some, None, refl, sym, ap, subst}
+use Rattle.std.proofs.Common.{◌≡◌, ℕ, List, [], ◌++◌, inl, inr, ⊎_elim, Option, Some, None, refl, sym, ap, subst}
 use Rattle.std.specs.Prelude.{is_some, IsTrue}
 use Rattle.stamp_register.specs.Keys.{KeyValue}
-use Rattle.operations.specs.Operations.{Operation, Set, Count, Hits, Execs, Shifts, IsIn}
+use Rattle.operations.specs.Operations.{Operation, Set, Count, Hits, IsIn}
 use Rattle.replica_state.specs.Folds.{key_in, key_of}
 use Rattle.replica_state.proofs.KnownSets.{own_name}
 use Rattle.replica_state.proofs.Sets.{KeyUpto, key_of-is_in, key_of-mono}

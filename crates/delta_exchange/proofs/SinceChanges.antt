@@ -1,14 +1,13 @@
 -- A name of which something changed after a version has an entry, which can be written.
 use Rattle.std.proofs.Common.{◌≡◌, ◌≢◌, ℕ, max, ◌<◌, ◌≤◌, ◌^◌, ◌==◌, ◌||◌, Bool, true, false, cond, List, ⊎_elim, Option, Some, None, refl, sym, ap, subst, ◌∙◌, arith}
 use Rattle.std.specs.Prelude.{IsTrue, nat_lt}
-use Rattle.std.specs.BTreeMap.{IsOrdered}
 use Rattle.std.proofs.lemmas.Bool.{true≢false, cases_lt, cases_eq}
 use Rattle.std.proofs.lemmas.Bool.Decides.{nat_tests}
 use Rattle.stamp_register.specs.Keys.{KeyValue}
 use Rattle.operations.specs.Operations.{IsIn}
 use Rattle.replica_state.specs.States.{State, granted_in}
 use Rattle.replica_state.specs.Cells.{held_at}
-use Rattle.operations.specs.Counts.{counted_cmp, is_hits}
+use Rattle.operations.specs.Counts.{is_hits}
 use Rattle.replica_state.specs.Cells as state
 use Rattle.operations.specs.declared.counted.Counted.{Counted}
 use Rattle.operations.specs.declared.counted.Counted.TheVariants.{Hits, Execs, Shifts}

@@ -8,7 +8,6 @@ use Rattle.operations.specs.Operations.{Operation, Set, Count, Hits, Execs, Shif
 use Rattle.replica_state.specs.States.{State}
 use Rattle.replica_state.specs.Cells.{held_at}
 use Rattle.operations.specs.declared.counted.Counted.TheVariants as counted
-use Rattle.message_format.specs.Limits.{max_nodes}
 use Rattle.delta_exchange.specs.declared.marks.Marks.{Marks}
 use Rattle.delta_exchange.specs.Marks.{marks_value, AreUpto}
 use Rattle.delta_exchange.specs.Changes.{IsChangeSince, IsChangedCell, IsUnchangedSince}

@@ -1,5 +1,5 @@
 -- What an entry of a message tells: its setting, and each of its cells.
-use Rattle.std.proofs.Common.{◌≡◌, ℕ, List, ◌++◌, map, ◌⊎◌, inl, inr, ⊎_elim}
+use Rattle.std.proofs.Common.{◌≡◌, ℕ, ◌++◌, map, ◌⊎◌, inl, inr, ⊎_elim}
 use Rattle.operations.specs.Operations.{Operation, Set, Count, Hits, Execs, Shifts, IsIn}
 use Rattle.operations.proofs.Members.{IsIn-append_cases}
 use Rattle.message_format.specs.Messages.{EntryValue, operations_of}

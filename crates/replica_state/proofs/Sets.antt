@@ -1,5 +1,5 @@
 -- What a fold says of a set: each cell and each key is the least bound of what the set holds.
-use Rattle.std.proofs.Common.{◌≡◌, ◌≢◌, ℕ, ◌<◌, ◌≤◌, max, Bool, true, false, cond, List, [], ◌∷◌, ◌++◌, ◌⊎◌, inl, inr, refl, sym, ◌∙◌, ap, subst, arith, ⊎_elim, Option, Some, None}
+use Rattle.std.proofs.Common.{◌≡◌, ◌≢◌, ℕ, ◌<◌, ◌≤◌, max, Bool, true, false, cond, List, [], ◌∷◌, ◌++◌, ◌⊎◌, inl, inr, refl, sym, ◌∙◌, ap, subst, arith, Option, Some, None}
 use Rattle.std.proofs.lemmas.Bool.{true≢false, cases_lt}
 use Rattle.stamp_register.specs.Keys.{KeyValue, key_le}
 use Rattle.operations.specs.Operations.{Cell, Operation, Set, Count, IsIn, same_cell}

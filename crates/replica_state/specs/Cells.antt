@@ -1,12 +1,11 @@
 -- What a state holds of a name, and what an operation tells it.
-use Rattle.std.specs.Prelude.{◌≡◌, ℕ, List, if◌then◌else◌, Option, Some, None}
+use Rattle.std.specs.Prelude.{◌≡◌, ℕ, List, if◌then◌else◌, Some}
 use Rattle.std.specs.Str.{bytes_eq}
 use Rattle.stamp_register.specs.Keys.{KeyValue}
 use Rattle.operations.specs.declared.counted.Counted.{Counted}
 use Rattle.operations.specs.declared.counted.Counted.TheVariants.{Hits, Execs, Shifts}
 use Rattle.operations.specs.declared.counted.Count.{Count as Counting}
-use Rattle.operations.specs.Operations as cells
-use Rattle.operations.specs.Operations.{Operation, Set, Count, IsWellFormed}
+use Rattle.operations.specs.Operations.{IsWellFormed}
 use Rattle.operations.specs.Counts.{operation_told}
 use Rattle.replica_state.specs.States.{State, with_name}
 use Rattle.replica_state.specs.Folds.{Learns}

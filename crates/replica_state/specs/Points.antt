@@ -1,14 +1,12 @@
 -- What is counted of one name, what is held of it, and what becomes of that with an operation more.
-use Rattle.std.specs.Prelude.{◌≡◌, ℕ, ◌==◌, ◌&&◌, ◌+◌, max, Bool, true, false, List, [], ◌∷◌, if◌then◌else◌, Option, Some, None, option_map, ℤ, pos}
-use Rattle.std.specs.Borrow.{Bor}
-use Rattle.std.specs.Option.{option_copied, option_map_or}
-use Rattle.std.specs.Ordering.{nat_cmp, match_ordering, on}
+use Rattle.std.specs.Prelude.{◌≡◌, ℕ, ◌+◌, max, if◌then◌else◌, Option, Some, None, option_map, ℤ, pos}
+use Rattle.std.specs.Option.{option_map_or}
+use Rattle.std.specs.Ordering.{nat_cmp, match_ordering}
 use Rattle.std.specs.declared.cmp.Ordering.{Ordering}
 use Rattle.std.specs.declared.cmp.Ordering.TheVariants.{Greater}
 use Rattle.std.specs.Cmp.Lexicographic.{slice_cmp}
-use Rattle.stamp_register.specs.Keys.{KeyValue, key_value, key_rank}
+use Rattle.stamp_register.specs.Keys.{KeyValue, key_rank}
 use Rattle.counters.specs.Budgets.{Budget, rights, total_spent}
-use Rattle.stamp_register.specs.declared.key.Key.{Key}
 use Rattle.operations.specs.Operations.{count_of}
 use Rattle.operations.specs.declared.counted.Counted.{Counted}
 use Rattle.operations.specs.declared.counted.Counted.TheVariants.{Hits, Execs, Shifts}

@@ -1,4 +1,4 @@
-use Rattle.std.proofs.Common.{List, ℕ, ◌++◌, ap, sym, ◌∙◌, map, flat_map, refl, string_bytes}
+use Rattle.std.proofs.Common.{◌++◌, ap, sym, ◌∙◌, map, flat_map, refl, string_bytes}
 use Rattle.std.specs.Prelude.{option_map}
 use Rattle.std.specs.List.{filter_map}
 use Rattle.std.proofs.lemmas.List.{append-nil}

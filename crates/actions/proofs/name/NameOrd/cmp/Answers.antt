@@ -1,4 +1,4 @@
-use Rattle.std.proofs.Common.{◌≡◌, ◌∙◌, ap, ℕ, List, string_bytes}
+use Rattle.std.proofs.Common.{◌∙◌, ap, ℕ, List, string_bytes}
 use Rattle.std.specs.Ordering.{nat_cmp}
 use Rattle.std.specs.Cmp.Lexicographic.{slice_cmp}
 use Rattle.actions.proofs.Fronts.{ordered_so}

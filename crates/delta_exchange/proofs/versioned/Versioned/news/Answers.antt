@@ -1,4 +1,4 @@
-use Rattle.std.proofs.Common.{◌∙◌, ap, length, sym, nat_lt, Result, Ok, Err}
+use Rattle.std.proofs.Common.{◌∙◌, ap, sym, nat_lt, Result, Ok, Err}
 use Rattle.std.specs.Prelude.{IfOk, vec_len}
 use Rattle.message_format.specs.Messages.{message_value, operations_in}
 use Rattle.delta_exchange.specs.Versions.{value_of}
