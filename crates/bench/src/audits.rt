@@ -146,8 +146,10 @@ impl Rehearsal {
 // What a node was asked, in its order.
 fn asks_in(alloc: Global, trace: &Trace) -> Result<Vec<Ask>, AllocError> {
     let mut asks = Vec::with_capacity(alloc, trace.len())?;
-    for entry in trace {
-        asks.push(entry.ask.copied(alloc)?)?;
+    for index in 0..trace.len() {
+        if let Some(seen) = trace.at(index) {
+            asks.push(seen.ask().copied(alloc)?)?;
+        }
     }
     Ok(asks)
 }

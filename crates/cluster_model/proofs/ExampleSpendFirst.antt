@@ -16,7 +16,7 @@ use Rattle.replica_state.specs.Knowledge.{changes}
 use Rattle.replica_state.specs.Deltas.{IsTold}
 use Rattle.replica_state.proofs.Changes.{changes_is_change}
 use Rattle.node_calls.specs.Asks.{Message}
-use Rattle.node_calls.specs.Told.{NoTerm, Act}
+use Rattle.node_calls.specs.Told.{Act}
 use Rattle.node_calls.specs.Asks as asks
 use Rattle.node_core.specs.Steps.{after}
 use Rattle.node_core.proofs.UptoStates.{upto_below}

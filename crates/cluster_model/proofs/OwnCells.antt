@@ -12,7 +12,6 @@ use Rattle.replica_state.specs.Folds.{fold, key_of, number_at, at_key}
 use Rattle.replica_state.proofs.Orders.{same_cell-refl, same_cell-true}
 use Rattle.replica_state.proofs.Sets.{number_at-mono, number_at-append}
 use Rattle.node_calls.specs.Asks.{Asked, Answered, Call}
-use Rattle.node_calls.specs.Told.{Passed}
 use Rattle.node_calls.specs.Asks as asks
 use Rattle.node_core.specs.Nodes.{Node, state_shown, setting_of}
 use Rattle.node_core.specs.Passes.{ops_of_pass}

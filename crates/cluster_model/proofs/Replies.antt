@@ -12,7 +12,7 @@ use Rattle.operations.specs.Operations.{IsIn}
 use Rattle.replica_state.specs.States.{State}
 use Rattle.operations.proofs.Members.{IsIn-append_left, IsIn-append_right, IsIn-append_cases}
 use Rattle.node_calls.specs.Asks.{Asked, Answered, Message, Call, Versions}
-use Rattle.node_calls.specs.Told.{Passed, Unset, NoTerm, Act}
+use Rattle.node_calls.specs.Told.{Unset, NoTerm, Act}
 use Rattle.node_calls.specs.Asks as asks
 use Rattle.node_core.specs.Nodes.{Node, state_shown, setting_of}
 use Rattle.node_core.specs.Passes.{may_run, task_in, triggered_term, reply_of_choice, reply_of_pass}

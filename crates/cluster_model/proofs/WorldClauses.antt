@@ -14,11 +14,11 @@ use Rattle.node_calls.specs.Asks as asks
 use Rattle.node_core.specs.Applied.{TellsIfEmit}
 use Rattle.node_core.specs.Deliveries.{TellsDelta}
 use Rattle.node_core.specs.Lasts.{last_call}
-use Rattle.node_core.specs.Traces.{Kept, entry_for, Accepts, IsRefusalOf, SendsDelta, after_call, delivery_of, emission_of, node_of, refusal, reply_to}
+use Rattle.node_core.specs.Traces.{Kept, entry_for, Accepts, IsRefusalOf, SendsDelta, after_call, delivery_of, emission_of, node_of, reply_to}
 use Rattle.cluster_model.specs.declared.world.Place.{Place}
 use Rattle.cluster_model.specs.declared.fault.WorldFault.TheVariants.{NoNode, NoMessage, Refused}
 use Rattle.cluster_model.specs.Worlds.{Cluster, Event, sent}
-use Rattle.cluster_model.specs.Events.{WorldValue, EventValue, Answer, last_reply, calls, delivers, has_message, call_asked, message_made, node_asked, words_given, asked_by, answer, world_after, scheduled}
+use Rattle.cluster_model.specs.Events.{WorldValue, EventValue, Answer, last_reply, calls, delivers, has_message, message_made, node_asked, words_given, asked_by, answer, world_after, scheduled}
 use Rattle.cluster_model.specs.Places.{IsEmit, IsEmitOf, IsPlace, IsWorld, AreSizes, message_at, world_of}
 use Rattle.cluster_model.specs.Runs.{Continues, HasHistory, IsAnswer, happened}
 use Rattle.cluster_model.proofs.Lists.{get_below, get_there, get_set_same, get_last}

@@ -2,8 +2,8 @@
 
 ghost use Rattle.std.specs.Prelude.{◌≡◌, ◌≢◌, ◌<◌, ◌≤◌, [], false, true, length, option_map, IfOk};
 ghost use Rattle.std.specs.Prelude.{IfErr, OnOk, OnErr, IsTrue, Ok, Err, Some, slice_get};
-ghost use Rattle.node_calls.specs.Asks.{Message, message_read, reply_value};
-ghost use Rattle.node_calls.specs.Told.{ask_ref_told, emits, passes};
+ghost use Rattle.node_calls.specs.Asks.{Message, answered_from, message_read};
+ghost use Rattle.node_calls.specs.Told.{ask_ref_told, emits, passes, reply_ref_told};
 ghost use Rattle.node_calls.specs.declared.fault.NodeFault.TheVariants.{OutOfMemory};
 ghost use Rattle.cluster_model.specs.Events.{event_value, calls, delivers, has_message, new_world};
 ghost use Rattle.cluster_model.specs.Events.{node_asked, answer, answer_value, world_after};
@@ -14,7 +14,7 @@ ghost use Rattle.cluster_model.specs.Worlds.{cluster_of, is_cluster_size};
 
 use crate::event::Event;
 use crate::fault::WorldFault;
-use node_core::{AskRef, Config, NodeCore, NodeFault, Reply};
+use node_core::{AskRef, Config, NodeCore, NodeFault, Reply, ReplyRef};
 use std::alloc::Global;
 use std::marker::Model;
 
@@ -49,8 +49,11 @@ fn message_in(node: &NodeCore, entry: usize) -> &[u8]
     ensures { (message : Message) → IsEmitOf node.now.trace entry message →
         message_read node.now.config.nodes result.now ≡ Ok message }
 {
-    match &node.trace()[entry].reply {
-        Reply::Emit(message) => message,
+    let Some(seen) = node.trace().at(entry) else {
+        unreachable!()
+    };
+    match seen.reply() {
+        ReplyRef::Emit(message) => message,
         _ => unreachable!(),
     }
 }
@@ -223,13 +226,12 @@ impl World {
     }
 
     /// The reply of the last call that a node accepted, if there is one.
-    pub fn last_reply(&self, node: u8) -> Option<&Reply>
-        ensures { option_map (λ r. reply_value (length self.now.nodes) r.now) result
+    pub fn last_reply(&self, node: u8) -> Option<ReplyRef<'_>>
+        ensures { option_map (λ r. answered_from (length self.now.nodes) (reply_ref_told r)) result
             ≡ last_reply self.now node }
     {
         let core = self.nodes.get(node as usize)?;
-        let entry = core.trace().last()?;
-        Some(&entry.reply)
+        Some(core.trace().last()?.reply())
     }
 
     /// Asks a node as `step` does. The reply is in the node's trace (`last_reply`): of a pass no copy

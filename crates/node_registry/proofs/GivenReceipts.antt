@@ -1,5 +1,5 @@
 -- What a call under a lock says once the lock is let go.
-use Rattle.std.proofs.Common.{◌≡◌, ℕ, ◌≤◌, List, length, [], Result, Ok, Err, inl, refl, ap, ◌∙◌, subst, arith}
+use Rattle.std.proofs.Common.{◌≡◌, ℕ, ◌≤◌, List, length, Result, Ok, Err, inl, refl, ap, ◌∙◌, subst, arith}
 use Rattle.std.specs.Prelude.{IfOk, IfErr, OnOk}
 use Rattle.std.specs.Result.{IsErrAnd}
 use Rattle.std.proofs.lemmas.Result.{err_from_is_err_and}

@@ -1,7 +1,7 @@
 //! A node with the generator of its random draws.
 
 ghost use Rattle.std.specs.Prelude.{◌≡◌, map, IfOk, IfErr, OnErr, OnOk, IsTrue, false};
-ghost use Rattle.node_calls.specs.Asks.{ask_value_first, call};
+ghost use Rattle.node_calls.specs.Asks.{ask_value_first, call_from};
 ghost use Rattle.node_core.specs.Refusals.{is_bad_config};
 ghost use Rattle.node_registry.specs.Cells.{Cell, Enters, IsLawful, IsRefusedBy, IsWithinBounds, Submits};
 ghost use Rattle.node_registry.specs.Cells.{cell_of, new_cell};
@@ -102,7 +102,7 @@ impl NodeCell {
 
     /// The trace.
     pub(crate) fn into_trace(self) -> Trace
-        ensures trace { map (call self.node.config.nodes) result.items ≡ self.node.trace }
+        ensures trace { map (call_from self.node.config.nodes) result.calls ≡ self.node.trace }
         ensures lawful { IsLawful self }
     {
         let NodeCell { core, generator: _ } = self;

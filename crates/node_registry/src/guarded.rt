@@ -3,7 +3,7 @@
 ghost use Rattle.std.specs.Prelude.{◌≡◌, ℕ, ◌+◌, ◌≤◌, ◌<◌, ◌⊎◌, length, map, sum, vec_len, All};
 ghost use Rattle.std.specs.Prelude.{IfOk, IfErr, OnErr, OnOk, IsTrue, false};
 ghost use Rattle.rand_chacha.specs.ChaCha.{key_of};
-ghost use Rattle.node_calls.specs.Asks.{ask_value_first, call};
+ghost use Rattle.node_calls.specs.Asks.{ask_value_first, call_from};
 ghost use Rattle.node_core.specs.Refusals.{is_bad_config};
 ghost use Rattle.node_core.specs.Traces.{IsLegal};
 ghost use Rattle.node_registry.specs.Cells.{Cell, Enters, IsDrawnBy, IsLawfulAt, IsRefusedBy};
@@ -181,10 +181,10 @@ impl<L: Label> Guarded<L> {
     pub fn close(self, seats: Vec<Seat<L>>) -> Closed
         requires all { vec_len seats ≡ L.parts }
         requires some { 0 < L.parts }
-        ensures trace { map (call L.config.nodes) result.trace.items ≡ self.node.trace }
-        ensures legal { IsLegal L.config (map (call L.config.nodes) result.trace.items) }
-        ensures drawn { IsDrawnBy L.config L.seed (map (call L.config.nodes) result.trace.items) }
-        ensures entries { length result.trace.items ≡ result.calls }
+        ensures trace { map (call_from L.config.nodes) result.trace.calls ≡ self.node.trace }
+        ensures legal { IsLegal L.config (map (call_from L.config.nodes) result.trace.calls) }
+        ensures drawn { IsDrawnBy L.config L.seed (map (call_from L.config.nodes) result.trace.calls) }
+        ensures entries { length result.trace.calls ≡ result.calls }
         ensures calls { result.calls ≡ sum seats.items }
     {
         let Guarded { cell, mut book } = self;

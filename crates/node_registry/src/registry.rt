@@ -4,7 +4,7 @@ ghost use Rattle.std.specs.Prelude.{◌≡◌, ℕ, ◌+◌, ◌≤◌, ◌<◌,
 ghost use Rattle.std.specs.Prelude.{IfOk, IfErr, OnErr, OnOk, IsTrue, false};
 ghost use Rattle.std.specs.Fn.{FnOnceReturnsAt};
 ghost use Rattle.node_calls.specs.Asks as asks;
-ghost use Rattle.node_calls.specs.Asks.{ask_value_first, bare_emit, call};
+ghost use Rattle.node_calls.specs.Asks.{ask_value_first, bare_emit, call_from};
 ghost use Rattle.node_calls.specs.Told.{ask_told, bytes_of};
 ghost use Rattle.node_calls.specs.Asks.{emit_asked, message_read};
 ghost use Rattle.node_core.specs.Refusals.{is_bad_config};
@@ -327,9 +327,9 @@ impl<L: Label> Registry<L> {
     pub fn close(self, seats: Vec<Seat<L>>) -> Closed
         requires all { vec_len seats ≡ L.parts }
         requires some { 0 < L.parts }
-        ensures legal { IsLegal L.config (map (call L.config.nodes) result.trace.items) }
-        ensures drawn { IsDrawnBy L.config L.seed (map (call L.config.nodes) result.trace.items) }
-        ensures entries { length result.trace.items ≡ result.calls }
+        ensures legal { IsLegal L.config (map (call_from L.config.nodes) result.trace.calls) }
+        ensures drawn { IsDrawnBy L.config L.seed (map (call_from L.config.nodes) result.trace.calls) }
+        ensures entries { length result.trace.calls ≡ result.calls }
         ensures calls { result.calls ≡ sum seats.items }
     {
         let Registry { lock } = self;

@@ -1,5 +1,5 @@
 -- The texts of what the events of a cluster are answered.
-use Rattle.std.specs.Prelude.{◌≡◌, ℕ, Bool, Result, Ok, Err, OnOk, List, [], ◌∷◌, ◌++◌, if◌then◌else◌, codes, decimal, String, string_bytes}
+use Rattle.std.specs.Prelude.{◌≡◌, ℕ, Bool, Result, Ok, Err, OnOk, List, ◌++◌, if◌then◌else◌, codes, decimal, String, string_bytes}
 use Rattle.std.specs.declared.alloc.Global.{Global}
 use Rattle.actions.specs.Canonical.{task_text}
 use Rattle.stamp_register.specs.declared.key.Stamp.{Stamp}

@@ -1,25 +1,25 @@
 //! What an event is answered, as a line of the output.
 
 ghost use Rattle.std.specs.Prelude.{◌≡◌, ◌≢◌, ℕ, IfOk, IsOk, OnOk};
-ghost use Rattle.node_calls.specs.Asks.{reply_value};
-ghost use Rattle.node_calls.specs.Told.{passed};
+ghost use Rattle.node_calls.specs.Asks.{answered_from};
+ghost use Rattle.node_calls.specs.Told.{passed_ref, reply_ref_told};
 ghost use Rattle.node_calls.specs.declared.fault.NodeFault.TheVariants.{OutOfMemory};
 ghost use Rattle.cluster_model.specs.declared.fault.WorldFault.TheVariants.{Refused};
 ghost use Rattle.scripts.specs.Replies.{PrintsLine, bad_line_text, pass_text, refused_text, reply_text};
 
 use cluster_model::WorldFault;
-use node_core::{NodeFault, PassReply, Reply};
+use node_core::{NodeFault, PassReplyRef, ReplyRef};
 use std::alloc::AllocError;
 use std::fmt::Write;
 
-fn print_pass(out: &mut String, reply: &PassReply) -> Result<(), AllocError>
-    ensures { PrintsLine result out.old out.new (pass_text (passed reply.now)) }
+fn print_pass(out: &mut String, reply: PassReplyRef<'_>) -> Result<(), AllocError>
+    ensures { PrintsLine result out.old out.new (pass_text (passed_ref reply.entry)) }
 {
     match reply {
-        PassReply::Unset => writeln!(out, "unset"),
-        PassReply::NoTerm { stamp } => writeln!(out, "none {stamp}"),
+        PassReplyRef::Unset => writeln!(out, "unset"),
+        PassReplyRef::NoTerm { stamp } => writeln!(out, "none {stamp}"),
         // The words between are pushed as they are: a formatter makes them as dear as numbers.
-        PassReply::Act { stamp, term, task } => {
+        PassReplyRef::Act { stamp, term, task } => {
             out.push_str("act ")?;
             write!(out, "{stamp}")?;
             out.push_str(" ")?;
@@ -32,20 +32,20 @@ fn print_pass(out: &mut String, reply: &PassReply) -> Result<(), AllocError>
 }
 
 /// Prints a reply. A message has the number of those that were made before it.
-pub fn print_reply(out: &mut String, reply: &Reply, messages: usize) -> Result<(), AllocError>
+pub fn print_reply(out: &mut String, reply: ReplyRef<'_>, messages: usize) -> Result<(), AllocError>
     ensures { (nodes : ℕ) → PrintsLine result out.old out.new
-        (reply_text messages (reply_value nodes reply.now)) }
+        (reply_text messages (answered_from nodes (reply_ref_told reply.entry))) }
 {
     match reply {
-        Reply::Pass(reply) => print_pass(out, reply),
-        Reply::Set(stamp) => writeln!(out, "set {stamp}"),
-        Reply::Remove(stamp) => writeln!(out, "removed {stamp}"),
-        Reply::Load(entries) => writeln!(out, "loaded {entries}"),
-        Reply::Shift(total) => writeln!(out, "shifted {total}"),
-        Reply::Grant(total) => writeln!(out, "granted {total}"),
-        Reply::Emit(_) => writeln!(out, "message {messages}"),
-        Reply::Deliver(true) => writeln!(out, "changed"),
-        Reply::Deliver(false) => writeln!(out, "same"),
+        ReplyRef::Pass(reply) => print_pass(out, reply),
+        ReplyRef::Set(stamp) => writeln!(out, "set {stamp}"),
+        ReplyRef::Remove(stamp) => writeln!(out, "removed {stamp}"),
+        ReplyRef::Load(entries) => writeln!(out, "loaded {entries}"),
+        ReplyRef::Shift(total) => writeln!(out, "shifted {total}"),
+        ReplyRef::Grant(total) => writeln!(out, "granted {total}"),
+        ReplyRef::Emit(_) => writeln!(out, "message {messages}"),
+        ReplyRef::Deliver(true) => writeln!(out, "changed"),
+        ReplyRef::Deliver(false) => writeln!(out, "same"),
     }
 }
 

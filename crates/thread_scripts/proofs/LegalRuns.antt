@@ -1,10 +1,8 @@
 -- The traces of a plan are legal for an audit, which allows more calls.
 use Rattle.std.proofs.Common.{◌≡◌, ℕ, zero, suc, ◌+◌, ◌-◌, ◌<◌, ◌≤◌, ◌^◌, [], ◌∷◌, length, map, subst, arith}
-use Rattle.std.specs.Prelude.{Vec}
-use Rattle.std.specs.declared.alloc.Global.{Global}
 use Rattle.node_core.specs.declared.config.Config.{Config}
-use Rattle.node_calls.specs.declared.trace.Entry.{Entry}
-use Rattle.node_calls.specs.Asks.{call}
+use Rattle.node_calls.specs.Asks.{call_from}
+use Rattle.packed_trace.specs.Packed.{Packed}
 use Rattle.node_core.specs.Nodes.{start}
 use Rattle.node_core.proofs.LegalTraces.{nothing_legal}
 use Rattle.audit.specs.Traces.{Traces, IsLegalAlone, trace_of}
@@ -19,10 +17,10 @@ abbrev widest : PlanValue → ℕ → Config
 widest plan n = record { node = n; nodes = plan.nodes; trace_cap = 2 ^ 32 - 1 }
 
 module _ (plan : PlanValue) (small : plan.cap < 2 ^ 32) where
-  legal_alone : (n : ℕ) (trace : Vec Entry Global) → IsTraceOf (config_at plan n) plan.seed trace →
-      IsLegalAlone (widest plan n) trace.items
+  legal_alone : (n : ℕ) (trace : Packed) → IsTraceOf (config_at plan n) plan.seed trace →
+      IsLegalAlone (widest plan n) trace.calls
   legal_alone n trace h =
-      let calls = map (call plan.nodes) trace.items in
+      let calls = map (call_from plan.nodes) trace.calls in
       let short : 0 + length calls ≤ plan.cap = legal_short (config_at plan n) 0 start calls h.legal (omega arith) in
       legal_wider plan.nodes n plan.cap (2 ^ 32 - 1) 0 start calls (omega arith) h.legal
 
@@ -32,7 +30,7 @@ module _ (plan : PlanValue) (small : plan.cap < 2 ^ 32) where
   legal_at m [] h k = nothing_legal (widest plan (m + k))
   legal_at m (trace ∷ traces) h zero =
       let here : m ≡ m + 0 = omega arith in
-      subst (λ n. IsLegalAlone (widest plan n) trace.items) here (legal_alone m trace h.0)
+      subst (λ n. IsLegalAlone (widest plan n) trace.calls) here (legal_alone m trace h.0)
   legal_at m (trace ∷ traces) h (suc k) =
       let there : m + 1 + k ≡ m + suc k = omega arith in
       subst (λ n. IsLegalAlone (widest plan n) (trace_of traces k)) there (legal_at (m + 1) traces h.1 k)

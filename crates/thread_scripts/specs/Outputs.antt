@@ -21,7 +21,7 @@ output_text blocks calls verdict =
 
 -- how many entries traces have, and receipts lists
 abbrev pub entries_in : Traces → ℕ
-entries_in traces = sum_by (λ trace. vec_len trace) traces
+entries_in traces = sum_by (λ trace. length trace.calls) traces
 
 abbrev pub receipts_in : Lists → ℕ
 receipts_in lists = sum_by (λ list. vec_len list) lists

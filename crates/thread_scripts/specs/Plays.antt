@@ -1,18 +1,17 @@
 -- What the nodes of a plan come to.
-use Rattle.std.specs.Prelude.{ℕ, ◌+◌, List, [], ◌∷◌, map, Vec}
-use Rattle.std.specs.declared.alloc.Global.{Global}
+use Rattle.std.specs.Prelude.{ℕ, ◌+◌, List, [], ◌∷◌, map}
 use Rattle.node_core.specs.declared.config.Config.{Config}
-use Rattle.node_calls.specs.declared.trace.Entry.{Entry}
-use Rattle.node_calls.specs.Asks.{call}
+use Rattle.node_calls.specs.Asks.{call_from}
+use Rattle.packed_trace.specs.Packed.{Packed}
 use Rattle.node_core.specs.Traces.{IsLegal}
 use Rattle.node_registry.specs.Cells.{IsDrawnBy}
 use Rattle.audit.specs.Traces.{Traces}
 use Rattle.thread_plans.specs.Plans.{PlanValue}
 
 -- a trace is legal for a node of this configuration, and its random draws are the first ones of this seed
-pub record IsTraceOf (config : Config) (seed : List ℕ) (trace : Vec Entry Global) : Type 0 where
-  pub legal : IsLegal config (map (call config.nodes) trace.items)
-  pub drawn : IsDrawnBy config seed (map (call config.nodes) trace.items)
+pub record IsTraceOf (config : Config) (seed : List ℕ) (trace : Packed) : Type 0 where
+  pub legal : IsLegal config (map (call_from config.nodes) trace.calls)
+  pub drawn : IsDrawnBy config seed (map (call_from config.nodes) trace.calls)
 
 -- this is so of each element of a list, the first of which has this number
 abbrev pub AllFrom : {A : Type 0} → (ℕ → A → Type 0) → ℕ → List A → Type 0

@@ -1,6 +1,7 @@
 //! The nodes of a run: each makes its own calls, and hears of others by gossip alone.
 
-ghost use Rattle.std.specs.Prelude.{◌≡◌, ◌+◌, ◌<◌, ◌^◌, ◌==◌, cond, false, count_by, vec_len, All, IfOk};
+ghost use Rattle.std.specs.Prelude.{◌≡◌, ◌+◌, ◌<◌, ◌^◌, ◌==◌, cond, false, count_by, length, vec_len};
+ghost use Rattle.std.specs.Prelude.{All, IfOk};
 ghost use Rattle.std.specs.List.{sum_by};
 ghost use Rattle.std.specs.Option.{is_some};
 ghost use Rattle.node_core.specs.Refusals.{is_bad_config};
@@ -32,7 +33,7 @@ pub(crate) struct NodeJob {
 pub(crate) struct NodePlayed {
     pub trace: Trace,
     pub lists: Vec<Vec<Receipt>>,
-    ghost counted: { vec_len trace ≡ sum_by (λ list. vec_len list) lists.items },
+    ghost counted: { length trace.calls ≡ sum_by (λ list. vec_len list) lists.items },
 }
 
 // The calls of a node's workers from these seats, and its gossip beside them from one of these.

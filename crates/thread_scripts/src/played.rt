@@ -1,6 +1,6 @@
 //! The run of a plan.
 
-ghost use Rattle.std.specs.Prelude.{◌≡◌, ◌+◌, ◌++◌, ◌∷◌, [], vec_len, IfOk};
+ghost use Rattle.std.specs.Prelude.{◌≡◌, ◌+◌, ◌++◌, ◌∷◌, [], length, vec_len, IfOk};
 ghost use Rattle.std.specs.List.{sum_by};
 ghost use Rattle.thread_plans.specs.Plans.{plan_value};
 ghost use Rattle.thread_scripts.specs.Plays.{AllFrom, AreTracesOf, IsTraceOf, config_at};
@@ -21,7 +21,7 @@ use thread_plans::ThreadPlan;
 pub struct Played {
     pub traces: Vec<Trace>,
     pub lists: Vec<Vec<Receipt>>,
-    ghost counted: { sum_by (λ trace. vec_len trace) traces.items
+    ghost counted: { sum_by (λ trace. length trace.calls) traces.items
         ≡ sum_by (λ list. vec_len list) lists.items },
 }
 
@@ -57,7 +57,7 @@ impl Played {
 
     /// How many calls were accepted: how many entries the traces have, and receipts the lists.
     pub fn calls(&self) -> u128
-        ensures { result ≡ sum_by (λ trace. vec_len trace) self.now.traces.items }
+        ensures { result ≡ sum_by (λ trace. length trace.calls) self.now.traces.items }
     {
         let mut calls = 0u128;
         for trace in &self.traces {

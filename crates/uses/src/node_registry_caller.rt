@@ -1,7 +1,7 @@
 //! A caller of `node_registry`.
 
 ghost use Rattle.std.specs.Prelude.{◌≡◌, length, map, vec_len, IfOk, replicate};
-ghost use Rattle.node_calls.specs.Asks.{call};
+ghost use Rattle.node_calls.specs.Asks.{call_from};
 ghost use Rattle.node_core.specs.Traces.{IsLegal};
 
 use node_core::{Ask, Config, NodeFault};
@@ -19,8 +19,8 @@ pub fn asked<R: Wait>(
     config: Config,
     asks: &[Ask],
 ) -> Result<Closed, NodeFault>
-    ensures legal { IfOk result (λ c. IsLegal config (map (call config.nodes) c.trace.items)) }
-    ensures entries { IfOk result (λ c. length c.trace.items ≡ c.calls) }
+    ensures legal { IfOk result (λ c. IsLegal config (map (call_from config.nodes) c.trace.calls)) }
+    ensures entries { IfOk result (λ c. length c.trace.calls ≡ c.calls) }
 {
     asked_by::<Brand, R>(rt, alloc, Blank::new(1), config, asks)
 }
@@ -37,8 +37,8 @@ fn asked_by<L: Label, R: Wait>(
     requires parts { (blank.parts ≡ L.parts) × (L.parts ≡ 1) }
     requires config { config ≡ L.config }
     requires seed { replicate 32 0 ≡ L.seed }
-    ensures legal { IfOk result (λ c. IsLegal config (map (call config.nodes) c.trace.items)) }
-    ensures entries { IfOk result (λ c. length c.trace.items ≡ c.calls) }
+    ensures legal { IfOk result (λ c. IsLegal config (map (call_from config.nodes) c.trace.calls)) }
+    ensures entries { IfOk result (λ c. length c.trace.calls ≡ c.calls) }
 {
     let (registry, seats) = Registry::<L>::start(rt, alloc, blank, config, [0; 32], 1)?;
     let seats = made(rt, alloc, &registry, seats, asks);

@@ -12,7 +12,7 @@ mod workers;
 use super::stories::{ONE_NAME, SETS_A, grant_ask, pass_ask, remove_ask, set_ask, shift_ask};
 use super::{expect, text_of};
 use calls::Line;
-use node_core::{Ask, Config, Entry, NodeCore, NodeFault, Receipt, Reply};
+use node_core::{Ask, Config, Entry, NodeCore, NodeFault, Receipt, Reply, Seen, Trace};
 use node_registry::{Done, Gate, Job, Label, Registry, Seat, run_workers};
 use std::alloc::{AllocError, Global};
 use std::marker::Brand;

@@ -128,7 +128,7 @@ fn is_last(alloc: Global, node: &NodeCore, receipt: &Receipt) -> Result<bool, Al
     match trace.last() {
         Some(last) => {
             let is_at_its_index = receipt.index as usize + 1 == trace.len();
-            Ok(is_at_its_index && is_same(alloc, &receipt.entry, last)?)
+            Ok(is_at_its_index && is_same(alloc, &receipt.entry, &last.to_entry(alloc)?)?)
         }
         None => Ok(false),
     }

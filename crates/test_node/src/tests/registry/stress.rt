@@ -113,8 +113,9 @@ fn shown_by<L: Label, R: Wait>(
     registry.with(rt, |node| view(alloc, node))
 }
 
-/// The trace of a registry that is closed by all of its seats.
+/// The entries of the trace of a registry that is closed by all of its seats.
 fn trace_of<L: Label>(
+    alloc: Global,
     registry: Registry<L>,
     seats: Vec<Seat<L>>,
     callers: u8,
@@ -124,7 +125,7 @@ fn trace_of<L: Label>(
     if seats.len() != usize::from(callers) {
         return Err(Fail::new("a seat is missing"));
     }
-    Ok(registry.close(seats).trace)
+    Ok(registry.close(seats).trace.to_entries(alloc)?)
 }
 
 /// Ends the test where a trace doesn't replay to what the node shows, or where the receipts aren't
@@ -155,6 +156,6 @@ pub(super) fn stress<L: Label + Send + Sync, R: Abort + Threads + Wait + Sync>(
     let dones = worked(rt, alloc, &registry, seats, &EachKind, &Open)?;
     let shown = shown_by(rt, alloc, &registry)?;
     let (seats, receipts) = gathered(alloc, dones)?;
-    let trace = trace_of(registry, seats, callers)?;
+    let trace = trace_of(alloc, registry, seats, callers)?;
     expect_trace(rt, alloc, &trace, &receipts, &shown)
 }

@@ -65,9 +65,17 @@ fn draws<L: Label, R: Abort + Wait>(
 }
 
 // Whether a trace is a setting, and a pass for each of the stream's first random draws.
-fn has_first_words(trace: &[Entry]) -> bool {
-    let mut passes = trace.iter().skip(1).zip(FIRST_WORDS.iter());
-    trace.len() == 5 && passes.all(|(entry, word)| entry.words.as_slice() == [*word].as_slice())
+fn has_first_words(trace: &Trace) -> bool {
+    let mut passes = (1usize..5).zip(FIRST_WORDS.iter());
+    trace.len() == 5 && passes.all(|(index, word)| word_at(trace, index) == Some(*word))
+}
+
+// The random draw of a pass.
+fn word_at(trace: &Trace, index: usize) -> Option<u32> {
+    match trace.at(index)? {
+        Seen::Pass { word, .. } => word,
+        Seen::Entry(_) => None,
+    }
 }
 
 fn draws_at<L: Label, R: Abort + Wait>(

@@ -1,4 +1,4 @@
-use Rattle.std.proofs.Common.{◌≡◌, ◌∙◌, ◌++◌, ap, arith, vec_len, sym}
+use Rattle.std.proofs.Common.{◌≡◌, ◌∙◌, ◌++◌, ap, arith, length, vec_len, sym}
 use Rattle.std.specs.Prelude.{OnOk}
 use Rattle.std.proofs.lemmas.List.{map-id}
 use Rattle.std.proofs.lemmas.Iterator.Adapters.{YieldsList-from_vec, fact_from_extend}
@@ -7,7 +7,7 @@ use Rattle.thread_scripts.proofs.played.Played.with.Goals as goal
 
 pub invariant_of-result : goal.invariant_of-result
 invariant_of-result c =
-    let traces = sum_by_push (λ trace. vec_len trace) c.args.self.traces.items c.args.node.trace in
+    let traces = sum_by_push (λ trace. length trace.calls) c.args.self.traces.items c.args.node.trace in
     let lists = sum_by-append (λ list. vec_len list) c.args.self.lists.items c.args.node.lists.items in
     let was = c.args.self.counted in
     let more = c.args.node.counted in
