@@ -1,15 +1,17 @@
 -- Lines that are written one after the other.
 use Rattle.std.proofs.Common.{◌≡◌, ℕ, suc, ◌+◌, ◌<◌, ◌≤◌, List, [], ◌∷◌, ◌++◌, length, get_or, map, take, flat_map, Bool, true, false, Option, Some, None, Result, Ok, Err, refl, sym, ap, ◌∙◌, arith, append_assoc, append-nil}
-use Rattle.std.specs.Prelude.{All, ◌↔◌, ⊤}
+use Rattle.std.specs.Prelude.{All, ◌↔◌, ⊤, slice_get}
 use Rattle.std.specs.Io.KnownBytes.{Appends, Keeps}
 use Rattle.std.proofs.lemmas.Grind.{flat_map-append}
 use Rattle.std.proofs.lemmas.List.{length-take-le, map-append, map_more}
 use Rattle.std.proofs.lemmas.List.Elements.{All-append, All-cons, All-nil}
 use Rattle.streams.proofs.Flows.{Appends-then}
+use Rattle.node_calls.specs.Told.{Told}
+use Rattle.packed_trace.proofs.Stays.{taken_all, taken_one}
 use Rattle.drills.specs.declared.fault.DrillFault.{DrillFault}
 use Rattle.drills.specs.declared.fault.DrillFault.TheVariants.{WriteFailed}
 use Rattle.drills.specs.Drills.{ended, newline, numbered}
-use Rattle.drills.specs.Lines.{LineTold, head}
+use Rattle.drills.specs.Lines.{LineTold, entry, head}
 use Rattle.drills.specs.Written.{ReadsBack, SaysLine}
 
 -- what was written so far is the text of these lines
@@ -48,6 +50,23 @@ pub mapped : {X T : Type 0} (line : T → LineTold) (tell : X → T) (xs : List 
 mapped line tell xs i x h e =
     ap (map line) (map_more tell xs i x h ∙ ap (λ y. map tell (take i xs) ++ tell y ∷ []) (sym e))
     ∙ map-append line (map tell (take i xs)) (tell x ∷ [])
+
+-- one call more
+pub called : (calls : List Told) (i : ℕ) (t : Told) → slice_get calls i ≡ Some t →
+    map entry (take (i + 1) calls) ≡ map entry (take i calls) ++ entry t ∷ []
+called calls i t is =
+    let next : i + 1 ≡ suc i = omega arith in
+    ap (λ n. map entry (take n calls)) next ∙ ap (map entry) (taken_one calls i t is).0
+    ∙ map-append entry (take i calls) (t ∷ [])
+
+-- before the end there is one
+pub is_there : (calls : List Told) (i : ℕ) → i < length calls → slice_get calls i ≡ None → ⊥
+is_there calls i low none =
+    let all = taken_all calls i none in
+    let few : i ≤ length calls = omega (arith, low) in
+    let counted = ap length all in
+    let taken = length-take-le i calls few in
+    omega (arith, low, counted, taken)
 
 pub numbered-push : {A : Type 0} (lines : ℕ → A → List LineTold) (n : ℕ) (xs : List A) (x : A) →
     numbered lines n (xs ++ x ∷ []) ≡ numbered lines n xs ++ lines (n + length xs) x

@@ -2,8 +2,8 @@
 use Rattle.std.specs.Prelude.{◌≡◌, ℕ, ◌+◌, Bool, ◌==◌, List, [], ◌∷◌, ◌++◌, length, map, flat_map, if◌then◌else◌, Option, Some, None, option_map, option_and_then, Result, Ok, Err, Vec}
 use Rattle.std.specs.declared.alloc.Global.{Global}
 use Rattle.node_calls.specs.declared.receipt.Receipt.{Receipt}
-use Rattle.node_calls.specs.declared.trace.Entry.{Entry}
-use Rattle.node_calls.specs.Told.{Told, told}
+use Rattle.node_calls.specs.Told.{Told}
+use Rattle.packed_trace.specs.Packed.{Packed}
 use Rattle.drills.specs.declared.drill.Drill.{Drill}
 use Rattle.drills.specs.Lines.{LineTold, head, trace, entry, list, receipt, ReceiptTold, receipt_told, line_text}
 use Rattle.drills.specs.Reading.{line_in}
@@ -14,13 +14,13 @@ pub record DrillTold : Type 0 where
 
 -- ---- the same of the code's values
 
-abbrev pub traces_told : List (Vec Entry Global) → List (List Told)
-traces_told traces = map (λ trace. map told trace.items) traces
+abbrev pub traces_told : List Packed → List (List Told)
+traces_told traces = map (λ trace. trace.calls) traces
 
 abbrev pub lists_told : List (Vec Receipt Global) → List (List ReceiptTold)
 lists_told lists = map (λ list. map receipt_told list.items) lists
 
-abbrev pub drill_told : List (Vec Entry Global) → List (Vec Receipt Global) → DrillTold
+abbrev pub drill_told : List Packed → List (Vec Receipt Global) → DrillTold
 drill_told traces lists = record { traces = traces_told traces; lists = lists_told lists }
 
 abbrev pub drill_of : Drill → DrillTold

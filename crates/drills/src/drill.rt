@@ -7,7 +7,8 @@ ghost use Rattle.drills.specs.Drills.{drill_of, in_last, lists_told, traces_told
 ghost use Rattle.node_calls.specs.Told.{told};
 
 use crate::line::{Line, line_in};
-use node_calls::{Entry, Receipt, Trace};
+use node_calls::{Entry, Receipt};
+use packed_trace::Trace;
 use std::alloc::{AllocError, Global};
 
 /// What is recorded of a drill: the traces of the nodes, in their order, and of each caller the
@@ -26,7 +27,7 @@ fn begin_trace(alloc: Global, traces: &mut Vec<Trace>, node: u64) -> Result<bool
     if node != traces.len() as u64 {
         return Ok(false);
     }
-    traces.push(Vec::new(alloc))?;
+    traces.push(Trace::new(alloc))?;
     Ok(true)
 }
 
@@ -42,7 +43,8 @@ fn begin_list(alloc: Global, lists: &mut Vec<Vec<Receipt>>, number: u64) -> Resu
     Ok(true)
 }
 
-// Puts an entry behind the last trace, where there is one.
+// Puts an entry behind the last trace, where there is one. A trace holds 2^32 calls at most, and one
+// more is out of memory.
 fn put_entry(traces: &mut Vec<Trace>, entry: Entry) -> Result<bool, AllocError>
     ensures { IfOk result (λ put. IsPut put
         (in_last (told entry) (traces_told traces.old.items)) (traces_told traces.new.items)) }
@@ -50,7 +52,11 @@ fn put_entry(traces: &mut Vec<Trace>, entry: Entry) -> Result<bool, AllocError>
     let Some(mut last) = traces.pop() else {
         return Ok(false);
     };
-    last.push(entry)?;
+    if last.len() > u32::MAX as usize {
+        return Err(AllocError);
+    }
+    last.reserve_entry()?;
+    last.push_entry(entry);
     traces.push(last)?;
     Ok(true)
 }

@@ -1,17 +1,18 @@
-//! What an entry tells as JSON.
+//! What a call tells as JSON.
 
 ghost use Rattle.std.specs.Prelude.{◌≡◌, ◌∷◌, ◌++◌, [], map, option_map, codes, string_bytes, true, false, IfOk, OnOk};
 ghost use Rattle.serde_json.specs.Data.{string};
 ghost use Rattle.serde_json.specs.View.{view};
 ghost use Rattle.actions.specs.Value.{task_value};
-ghost use Rattle.node_calls.specs.Told.{ask_told, grants, reply_told, sets, shifts, Act, passed};
+ghost use Rattle.node_calls.specs.Told.{ask_ref_told, grants, reply_ref_told, sets, shifts, Act};
+ghost use Rattle.node_calls.specs.Told.{passed_ref};
 ghost use Rattle.hex.specs.Hex.{IsBytes};
 ghost use Rattle.drills.specs.Fits.{AskFits, PassFits, ReplyFits, StampFits, WordsFit};
 ghost use Rattle.drills.specs.Rows.{bytes_data, text_data, count_data, row, words_data, task_data};
 ghost use Rattle.drills.specs.Rows.{ask_data, pass_data, reply_data, list_data};
 
 use actions::Task;
-use node_calls::{Ask, PassReply, Reply};
+use node_calls::{AskRef, PassReplyRef, ReplyRef};
 use serde_json::Value;
 use stamp_register::Stamp;
 use std::alloc::{AllocError, Global};
@@ -151,24 +152,24 @@ fn grant_value(alloc: Global, name: &str, term: u8, amount: u64) -> Result<Value
 }
 
 /// What was asked.
-pub(crate) fn ask_value(alloc: Global, ask: &Ask) -> Result<Value, AllocError>
-    ensures value { IfOk result (λ value. view value ≡ ask_data (ask_told ask.now)) }
-    ensures fits { OnOk result (AskFits (ask_told ask.now)) }
+pub(crate) fn ask_value(alloc: Global, ask: AskRef<'_>) -> Result<Value, AllocError>
+    ensures value { IfOk result (λ value. view value ≡ ask_data (ask_ref_told ask.entry)) }
+    ensures fits { OnOk result (AskFits (ask_ref_told ask.entry)) }
 {
     match ask {
-        Ask::Set { name, text } => set_value(alloc, name, text),
-        Ask::Remove { name } => with_text(alloc, "remove", name),
-        Ask::Load { text } => with_text(alloc, "load", text),
-        Ask::Pass { name } => with_text(alloc, "pass", name),
-        Ask::Shift {
+        AskRef::Set { name, text } => set_value(alloc, name, text),
+        AskRef::Remove { name } => with_text(alloc, "remove", name),
+        AskRef::Load { text } => with_text(alloc, "load", text),
+        AskRef::Pass { name } => with_text(alloc, "pass", name),
+        AskRef::Shift {
             name,
             term,
             to,
             amount,
-        } => shift_value(alloc, name, *term, *to, *amount),
-        Ask::Grant { name, term, amount } => grant_value(alloc, name, *term, *amount),
-        Ask::Emit { to } => counted(alloc, "emit", u64::from(*to)),
-        Ask::Deliver { message } => with_bytes(alloc, "deliver", message),
+        } => shift_value(alloc, name, term, to, amount),
+        AskRef::Grant { name, term, amount } => grant_value(alloc, name, term, amount),
+        AskRef::Emit { to } => counted(alloc, "emit", u64::from(to)),
+        AskRef::Deliver { message } => with_bytes(alloc, "deliver", message),
     }
 }
 
@@ -192,32 +193,32 @@ fn act_value(alloc: Global, term: u8, stamp: Stamp, task: &Task) -> Result<Value
     with_value(row_of(alloc, &["act"], &counts)?, task)
 }
 
-fn pass_value(alloc: Global, reply: &PassReply) -> Result<Value, AllocError>
-    ensures value { IfOk result (λ value. view value ≡ pass_data (passed reply.now)) }
-    ensures fits { OnOk result (PassFits (passed reply.now)) }
+fn pass_value(alloc: Global, reply: PassReplyRef<'_>) -> Result<Value, AllocError>
+    ensures value { IfOk result (λ value. view value ≡ pass_data (passed_ref reply.entry)) }
+    ensures fits { OnOk result (PassFits (passed_ref reply.entry)) }
 {
     match reply {
-        PassReply::Unset => alone(alloc, "unset"),
-        PassReply::NoTerm { stamp } => stamped(alloc, "none", *stamp),
-        PassReply::Act { term, stamp, task } => act_value(alloc, *term, *stamp, task),
+        PassReplyRef::Unset => alone(alloc, "unset"),
+        PassReplyRef::NoTerm { stamp } => stamped(alloc, "none", stamp),
+        PassReplyRef::Act { term, stamp, task } => act_value(alloc, term, stamp, task),
     }
 }
 
 /// What was answered.
-pub(crate) fn reply_value(alloc: Global, reply: &Reply) -> Result<Value, AllocError>
-    ensures value { IfOk result (λ value. view value ≡ reply_data (reply_told reply.now)) }
-    ensures fits { OnOk result (ReplyFits (reply_told reply.now)) }
+pub(crate) fn reply_value(alloc: Global, reply: ReplyRef<'_>) -> Result<Value, AllocError>
+    ensures value { IfOk result (λ value. view value ≡ reply_data (reply_ref_told reply.entry)) }
+    ensures fits { OnOk result (ReplyFits (reply_ref_told reply.entry)) }
 {
     match reply {
-        Reply::Set(stamp) => stamped(alloc, "set", *stamp),
-        Reply::Remove(stamp) => stamped(alloc, "removed", *stamp),
-        Reply::Load(entries) => counted(alloc, "loaded", u64::from(*entries)),
-        Reply::Pass(reply) => pass_value(alloc, reply),
-        Reply::Shift(total) => counted(alloc, "shifted", *total),
-        Reply::Grant(total) => counted(alloc, "granted", *total),
-        Reply::Emit(message) => with_bytes(alloc, "message", message),
-        Reply::Deliver(true) => alone(alloc, "changed"),
-        Reply::Deliver(false) => alone(alloc, "same"),
+        ReplyRef::Set(stamp) => stamped(alloc, "set", stamp),
+        ReplyRef::Remove(stamp) => stamped(alloc, "removed", stamp),
+        ReplyRef::Load(entries) => counted(alloc, "loaded", u64::from(entries)),
+        ReplyRef::Pass(reply) => pass_value(alloc, reply),
+        ReplyRef::Shift(total) => counted(alloc, "shifted", total),
+        ReplyRef::Grant(total) => counted(alloc, "granted", total),
+        ReplyRef::Emit(message) => with_bytes(alloc, "message", message),
+        ReplyRef::Deliver(true) => alone(alloc, "changed"),
+        ReplyRef::Deliver(false) => alone(alloc, "same"),
     }
 }
 

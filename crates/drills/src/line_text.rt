@@ -3,15 +3,17 @@
 ghost use Rattle.std.specs.Prelude.{◌≡◌, IfOk, OnOk, string_bytes};
 ghost use Rattle.serde_json.specs.Data.{put};
 ghost use Rattle.serde_json.specs.View.{members_view, view};
-ghost use Rattle.node_calls.specs.Told.{told};
-ghost use Rattle.drills.specs.Fits.{LineFits, ToldFits};
+ghost use Rattle.packed_trace.specs.Packed.{seen_told};
+ghost use Rattle.drills.specs.Fits.{LineFits, ToldFits, WordsFit};
 ghost use Rattle.drills.specs.Lines.{entry as entry_line, head as head_line, line_data};
 ghost use Rattle.drills.specs.Lines.{list as list_line, receipt as receipt_line, receipt_told};
 ghost use Rattle.drills.specs.Lines.{trace as trace_line, with_told};
+ghost use Rattle.drills.specs.Rows.{words_data};
 ghost use Rattle.drills.specs.Written.{IsPrinted, SaysLine};
 
 use crate::json_rows::{ask_value, reply_value, words_value};
-use node_calls::{Entry, Receipt};
+use node_calls::Receipt;
+use packed_trace::Seen;
 use serde_json::{Map, Value, json};
 use std::alloc::{AllocError, Global};
 
@@ -48,27 +50,40 @@ fn put(
     Ok(())
 }
 
-// Puts what an entry tells into an object.
+// The random draws of a call.
+fn draws_value(alloc: Global, call: Seen<'_>) -> Result<Value, AllocError>
+    ensures value { IfOk result
+        (λ value. view value ≡ words_data (seen_told call.entry).words) }
+    ensures fits { OnOk result (WordsFit (seen_told call.entry).words) }
+{
+    match call {
+        Seen::Pass { word, .. } => words_value(alloc, word.as_slice()),
+        Seen::Entry(entry) => words_value(alloc, &entry.words),
+    }
+}
+
+// Puts what a call tells into an object.
 fn put_told(
     alloc: Global,
     members: &mut Map<String, Value>,
-    entry: &Entry,
+    call: Seen<'_>,
 ) -> Result<(), AllocError>
     ensures members { OnOk result (members_view members.new.entries
-        ≡ with_told (told entry.now) (members_view members.old.entries)) }
-    ensures fits { OnOk result (ToldFits (told entry.now)) }
+        ≡ with_told (seen_told call.entry) (members_view members.old.entries)) }
+    ensures fits { OnOk result (ToldFits (seen_told call.entry)) }
 {
-    put(alloc, members, "ask", ask_value(alloc, &entry.ask)?)?;
-    put(alloc, members, "reply", reply_value(alloc, &entry.reply)?)?;
-    put(alloc, members, "words", words_value(alloc, &entry.words)?)
+    put(alloc, members, "ask", ask_value(alloc, call.ask())?)?;
+    put(alloc, members, "reply", reply_value(alloc, call.reply())?)?;
+    put(alloc, members, "words", draws_value(alloc, call)?)
 }
 
-fn entry_value(alloc: Global, entry: &Entry) -> Result<Value, AllocError>
-    ensures value { IfOk result (λ value. view value ≡ line_data (entry_line (told entry.now))) }
-    ensures fits { OnOk result (LineFits (entry_line (told entry.now))) }
+fn call_value(alloc: Global, call: Seen<'_>) -> Result<Value, AllocError>
+    ensures value { IfOk result
+        (λ value. view value ≡ line_data (entry_line (seen_told call.entry))) }
+    ensures fits { OnOk result (LineFits (entry_line (seen_told call.entry))) }
 {
     let mut members = Map::new(alloc);
-    put_told(alloc, &mut members, entry)?;
+    put_told(alloc, &mut members, call)?;
     Ok(Value::Object(members))
 }
 
@@ -79,7 +94,7 @@ fn receipt_value(alloc: Global, receipt: &Receipt) -> Result<Value, AllocError>
 {
     let Receipt { node, index, entry } = receipt;
     let mut members = Map::new(alloc);
-    put_told(alloc, &mut members, entry)?;
+    put_told(alloc, &mut members, Seen::Entry(entry))?;
     put(alloc, &mut members, "index", Value::from(*index))?;
     put(alloc, &mut members, "node", Value::from(*node))?;
     Ok(Value::Object(members))
@@ -108,11 +123,12 @@ pub(crate) fn trace_text(alloc: Global, node: u64) -> Result<String, AllocError>
     printed(alloc, &value)
 }
 
-/// An entry's line.
-pub(crate) fn entry_text(alloc: Global, entry: &Entry) -> Result<String, AllocError>
-    ensures { IfOk result (λ text. SaysLine (string_bytes text) (entry_line (told entry.now))) }
+/// The line of a call of a trace.
+pub(crate) fn call_text(alloc: Global, call: Seen<'_>) -> Result<String, AllocError>
+    ensures { IfOk result
+        (λ text. SaysLine (string_bytes text) (entry_line (seen_told call.entry))) }
 {
-    let value = entry_value(alloc, entry)?;
+    let value = call_value(alloc, call)?;
     printed(alloc, &value)
 }
 

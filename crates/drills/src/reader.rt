@@ -54,7 +54,8 @@ fn next_line<I: Read>(
     }
 }
 
-/// Reads a drill to its end, line by line: it may have any number of lines, each of any length.
+/// Reads a drill to its end, line by line: it may have any number of lines, each of any length. A
+/// trace of more than 2^32 calls is out of memory.
 pub fn read_drill<I: Read>(
     alloc: Global,
     reader: &mut BufReader<Watched<I>>,

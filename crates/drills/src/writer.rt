@@ -3,7 +3,6 @@
 ghost use Rattle.std.specs.Prelude.{◌≡◌, ◌++◌, ◌∷◌, [], ◌↔◌, ◌⊎◌, true, false, map, string_bytes, IfErr, OnOk, Ok, Err};
 ghost use Rattle.streams.specs.Watched.{has_failed, has_unflushed};
 ghost use Rattle.streams.specs.Streams.{Writes};
-ghost use Rattle.node_calls.specs.Told.{told};
 ghost use Rattle.drills.specs.declared.fault.DrillFault.TheVariants.{OutOfMemory, WriteFailed};
 ghost use Rattle.drills.specs.Lines.{receipt_told};
 ghost use Rattle.drills.specs.Drills.{drill_in, drill_text, drill_told, list_lines, lists_told};
@@ -11,8 +10,9 @@ ghost use Rattle.drills.specs.Drills.{newline, numbered, trace_lines, traces_tol
 ghost use Rattle.drills.specs.Written.{WritesLines};
 
 use crate::fault::DrillFault;
-use crate::line_text::{entry_text, head_text, list_text, receipt_text, trace_text};
-use node_calls::{Receipt, Trace};
+use crate::line_text::{call_text, head_text, list_text, receipt_text, trace_text};
+use node_calls::Receipt;
+use packed_trace::Trace;
 use std::alloc::Global;
 use std::io::Write;
 use streams::Watched;
@@ -32,7 +32,7 @@ fn write_line<W: Write>(writer: &mut Watched<W>, mut text: String) -> Result<(),
     }
 }
 
-// Writes a node's trace.
+// Writes a node's trace, each call where it lies.
 fn write_trace<W: Write>(
     alloc: Global,
     node: u64,
@@ -41,13 +41,15 @@ fn write_trace<W: Write>(
 ) -> Result<(), DrillFault>
     requires { has_failed writer.old ≡ false }
     ensures ok { OnOk result (WritesLines W.contents writer.old writer.new
-        (trace_lines node (map told trace.now.items))) }
+        (trace_lines node trace.now.calls)) }
     ensures write_failed { (result ≡ Err WriteFailed) ↔ (has_failed writer.new ≡ true) }
     ensures only { IfErr result (λ fault. (fault ≡ WriteFailed) ⊎ (fault ≡ OutOfMemory)) }
 {
     write_line(writer, trace_text(alloc, node)?)?;
-    for entry in trace {
-        write_line(writer, entry_text(alloc, entry)?)?;
+    for index in 0..trace.len() {
+        if let Some(call) = trace.at(index) {
+            write_line(writer, call_text(alloc, call)?)?;
+        }
     }
     Ok(())
 }

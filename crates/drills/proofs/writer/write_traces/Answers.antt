@@ -1,7 +1,6 @@
-use Rattle.std.proofs.Common.{[], map, sym, ap}
+use Rattle.std.proofs.Common.{[], sym, ap}
 use Rattle.std.proofs.lemmas.List.{take_all}
 use Rattle.streams.specs.Watched.{has_failed, inner_of}
-use Rattle.node_calls.specs.Told.{told}
 use Rattle.drills.specs.Drills.{trace_lines, traces_told, numbered}
 use Rattle.drills.proofs.Growing.{both, none_yet, not_failed, one_part}
 use Rattle.drills.proofs.writer.write_traces.Goals as goal
@@ -16,7 +15,7 @@ loop-node-preserved g c =
     let mid = contents (inner_of c.loop-node.writer) in
     let new = contents (inner_of c.write_trace.new.writer) in
     let more =
-    one_part trace_lines (λ part. map told part.items) c.args.traces.now c.loop-node.node c.index-traces-node.result
+    one_part trace_lines (λ trace. trace.calls) c.args.traces.now c.loop-node.node c.index-traces-node.result
     c.loop-node-test.true c.index-traces-node.is in
     record {
       holds = both old mid new _ _ _ c.loop-node.invariant.holds c.in_ok-write_trace.ensures.ok more;
