@@ -20,4 +20,4 @@ pub use fault::{NodeFault, TextFault};
 pub use receipt::Receipt;
 pub use reply::{PassReply, Reply};
 pub use reply_ref::{PassReplyRef, ReplyRef};
-pub use trace::{Entry, Trace};
+pub use trace::Entry;

@@ -1,4 +1,4 @@
-//! The accepted calls of a node.
+//! An accepted call of a node.
 
 ghost use Rattle.std.specs.Prelude.{◌≡◌, IfOk};
 ghost use Rattle.node_calls.specs.Told.{told};
@@ -27,6 +27,3 @@ impl Entry {
         })
     }
 }
-
-/// The accepted calls of a node, the first one first.
-pub type Trace = Vec<Entry>;

@@ -1,1 +1,2 @@
 pub mod Stays
+mod LastRows

@@ -1,6 +1,6 @@
 -- What is kept stands for the same calls where rows or entries are put behind.
 use Rattle.std.proofs.Common.{◌≡◌, ℕ, ◌<◌, ◌≤◌, ◌+◌, zero, suc, arith, List, [], ◌∷◌, ◌++◌, length, length-append, take, map, refl, sym, ◌∙◌, ap, subst, Some, None}
-use Rattle.std.specs.Prelude.{slice_get}
+use Rattle.std.specs.Prelude.{slice_get, slice_index_or}
 use Rattle.std.proofs.lemmas.List.{length-map, map-append}
 use Rattle.node_calls.specs.Told.{Told, told}
 use Rattle.node_calls.specs.declared.trace.Entry.{Entry}
@@ -17,6 +17,18 @@ get_before (x ∷ xs) y (suc i) low = get_before xs y i (omega (arith, low))
 get_last : {A : Type 0} (xs : List A) (y : A) → slice_get (xs ++ y ∷ []) (length xs) ≡ Some y
 get_last [] y = refl
 get_last (x ∷ xs) y = get_last xs y
+
+-- what is kept with a row more
+pub kept_more : (rows more entries : ℕ) (kept : List Slot) → rows ≤ more → AreKept rows entries kept →
+    AreKept more entries kept
+kept_more rows more entries kept le is = λ k d low. one (slice_index_or kept k d) (is k d low)
+  where
+    one : (slot : Slot) → IsKept rows entries slot → IsKept more entries slot
+    one (slots.NoTerm row) h = omega (arith, le, h)
+    one (slots.Term term row) h = omega (arith, le, h)
+    one (slots.NoTermDrawn row word) h = omega (arith, le, h)
+    one (slots.TermDrawn term row word) h = omega (arith, le, h)
+    one (slots.Entry index) h = h
 
 -- functions that agree on what is kept
 map_kept : (rows entries : ℕ) (f g : Slot → Told) (kept : List Slot) → AreKept rows entries kept →
@@ -41,9 +53,9 @@ module _ (rows : List Row) (entries : List Entry) where
       get_before (map row_told rows) (row_told row) at (subst (λ n. at < n) (sym (length-map rows row_told)) low)
 
   row_same : (row : Row) (slot : Slot) → IsKept (length rows) (length entries) slot → with_row row slot ≡ before slot
-  row_same row (slots.Nothing at) is = ap (λ found. pass_by found None None) (row_found row at is)
+  row_same row (slots.NoTerm at) is = ap (λ found. pass_by found None None) (row_found row at is)
   row_same row (slots.Term term at) is = ap (λ found. pass_by found (Some term) None) (row_found row at is)
-  row_same row (slots.NothingDrawn at word) is = ap (λ found. pass_by found None (Some word)) (row_found row at is)
+  row_same row (slots.NoTermDrawn at word) is = ap (λ found. pass_by found None (Some word)) (row_found row at is)
   row_same row (slots.TermDrawn term at word) is =
       ap (λ found. pass_by found (Some term) (Some word)) (row_found row at is)
   row_same row (slots.Entry index) is = refl
@@ -57,9 +69,9 @@ module _ (rows : List Row) (entries : List Entry) where
 
   entry_same : (entry : Entry) (slot : Slot) → IsKept (length rows) (length entries) slot →
       with_entry entry slot ≡ before slot
-  entry_same entry (slots.Nothing at) is = refl
+  entry_same entry (slots.NoTerm at) is = refl
   entry_same entry (slots.Term term at) is = refl
-  entry_same entry (slots.NothingDrawn at word) is = refl
+  entry_same entry (slots.NoTermDrawn at word) is = refl
   entry_same entry (slots.TermDrawn term at word) is = refl
   entry_same entry (slots.Entry index) is =
       ap entry_by

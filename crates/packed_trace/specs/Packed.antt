@@ -73,6 +73,10 @@ pass_value p = record {
   reply = was_passed (passed_by (setting_ref_told p.setting) p.term);
 }
 
+-- the row of such passes
+abbrev pub row_of : Pass → RowTold
+row_of p = record { name = p.name.now; setting = setting_ref_told p.setting }
+
 -- what a pass was answered, if it is one
 abbrev pub passed_in : ReplyTold → Option Passed
 passed_in (was_passed passed) = Some passed
@@ -94,17 +98,17 @@ entry_by (Some t) = t
 
 -- what a slot stands for
 abbrev pub told_by : List RowTold → List Told → Slot → Told
-told_by rows entries (slots.Nothing row) = pass_by (slice_get rows row) None None
+told_by rows entries (slots.NoTerm row) = pass_by (slice_get rows row) None None
 told_by rows entries (slots.Term term row) = pass_by (slice_get rows row) (Some term) None
-told_by rows entries (slots.NothingDrawn row word) = pass_by (slice_get rows row) None (Some word)
+told_by rows entries (slots.NoTermDrawn row word) = pass_by (slice_get rows row) None (Some word)
 told_by rows entries (slots.TermDrawn term row word) = pass_by (slice_get rows row) (Some term) (Some word)
 told_by rows entries (slots.Entry index) = entry_by (slice_get entries index)
 
 -- its row or its entry is there
 abbrev pub IsKept : ℕ → ℕ → Slot → Type 0
-IsKept rows entries (slots.Nothing row) = row < rows
+IsKept rows entries (slots.NoTerm row) = row < rows
 IsKept rows entries (slots.Term term row) = row < rows
-IsKept rows entries (slots.NothingDrawn row word) = row < rows
+IsKept rows entries (slots.NoTermDrawn row word) = row < rows
 IsKept rows entries (slots.TermDrawn term row word) = row < rows
 IsKept rows entries (slots.Entry index) = index < entries
 
@@ -121,6 +125,10 @@ seen_told (seen.Entry entry) = told entry.now
 abbrev pub IsPrepared : Packed → Prepared → Type 0
 IsPrepared p (prepared.Pass row term word) = (row < length p.rows) × (0 < p.pass_room)
 IsPrepared p (prepared.Entry entry) = (0 < p.pass_room) × (0 < p.entry_room)
+
+abbrev pub IsByRow : Prepared → Type 0
+IsByRow (prepared.Pass row term word) = Unit {0}
+IsByRow (prepared.Entry entry) = ⊥
 
 abbrev pub prepared_told : List RowTold → Prepared → Told
 prepared_told rows (prepared.Pass row term word) = pass_by (slice_get rows row) term word

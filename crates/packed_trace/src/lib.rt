@@ -7,6 +7,7 @@
 //! ```
 #![tactic(auto)]
 
+mod heads;
 mod pass;
 mod row;
 mod seen;

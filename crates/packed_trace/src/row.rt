@@ -1,7 +1,6 @@
 //! What passes have in common.
 
-ghost use Rattle.std.specs.Prelude.{◌≡◌, IfOk};
-ghost use Rattle.std.specs.Bool.{OnTrue};
+ghost use Rattle.std.specs.Prelude.{◌≡◌, ◌↔◌, IfOk, IsTrue};
 ghost use Rattle.node_calls.specs.Told.{passed_ref};
 ghost use Rattle.packed_trace.specs.Packed.{passed_by, row_told, setting_told, setting_ref_told};
 
@@ -97,7 +96,7 @@ impl Row {
 
     /// Whether the row is that of the passes of a point under a setting.
     pub(crate) fn is_of(&self, name: &Name, setting: Option<SettingRef<'_>>) -> bool
-        ensures { OnTrue result (row_told self.now
+        ensures { IsTrue result ↔ (row_told self.now
             ≡ record { name = name.now; setting = setting_ref_told setting.entry }) }
     {
         if self.name != *name {
@@ -115,7 +114,7 @@ impl Row {
 
 impl Setting {
     fn is_same(&self, other: SettingRef<'_>) -> bool
-        ensures { OnTrue result ((self.now.stamp ≡ other.entry.stamp)
+        ensures { IsTrue result ↔ ((self.now.stamp ≡ other.entry.stamp)
             × (self.now.actions ≡ other.entry.actions.now)) }
     {
         self.stamp == other.stamp && self.actions.text() == other.actions.text()

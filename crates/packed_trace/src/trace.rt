@@ -1,21 +1,21 @@
 //! The accepted calls of a node.
 
-ghost use Rattle.std.specs.Bool.{OnTrue};
-ghost use Rattle.std.specs.Prelude.{Some, ◌-◌};
+ghost use Rattle.std.specs.Prelude.{Some, ◌-◌, ◌≢◌, ◌↔◌, IsTrue};
+ghost use Rattle.packed_trace.specs.Heads.{last_row};
 ghost use Rattle.std.specs.Prelude.{◌≡◌, ◌+◌, ◌<◌, ◌^◌, [], ◌∷◌, ◌++◌, length, map};
 ghost use Rattle.std.specs.Prelude.{◌≤◌, option_map, slice_get, is_none};
 ghost use Rattle.std.specs.Prelude.{IfOk, IfSome, IsNone, IsOk, OnOk, OnErr};
 ghost use Rattle.node_calls.specs.Told.{told};
-ghost use Rattle.packed_trace.specs.Packed.{IsPrepared, pass_by, pass_value, prepared_told, row_told};
+ghost use Rattle.packed_trace.specs.Packed.{IsByRow, IsPrepared, pass_by, pass_value, prepared_told, row_of, row_told};
 ghost use Rattle.packed_trace.specs.Packed.{seen_told, setting_ref_told, max_rows};
 
+use crate::heads::Heads;
 use crate::pass::{Pass, Prepared};
 use crate::row::{Row, SettingRef};
 use crate::seen::Seen;
 use actions::Name;
 use node_calls::Entry;
 use std::alloc::{AllocError, Global};
-use std::collections::BTreeMap;
 use std::marker::Model;
 
 /// The most rows of a trace.
@@ -25,9 +25,9 @@ pub const MAX_ROWS: usize = 65_536;
 // random draw, where it has them; another call by its place among those.
 #[derive(Clone, Copy, Debug)]
 enum Slot {
-    Nothing { row: u16 },
+    NoTerm { row: u16 },
     Term { term: u8, row: u16 },
-    NothingDrawn { row: u16, word: u32 },
+    NoTermDrawn { row: u16, word: u32 },
     TermDrawn { term: u8, row: u16, word: u32 },
     Entry { index: u32 },
 }
@@ -38,14 +38,15 @@ pub struct Trace {
     slots: Vec<Slot>,
     rows: Vec<Row>,
     entries: Vec<Entry>,
-    // The last row of each name, and the row of the last pass.
-    heads: BTreeMap<Name, u16>,
+    // The last row of each point, and the row of the last pass.
+    heads: Heads,
     recent: u16,
 }
 
 impl Model for Trace {
     ghost use Rattle.std.specs.Prelude.{◌≤◌, ◌-◌, length, map, vec_len, vec_capacity};
     ghost use Rattle.node_calls.specs.Told.{told};
+    ghost use Rattle.packed_trace.specs.Heads.{AreHeads};
     ghost use Rattle.packed_trace.specs.Packed.{Packed, AreKept, row_told, told_by};
 
     ghost Value = { Packed };
@@ -58,7 +59,8 @@ impl Model for Trace {
     } };
 
     ghost invariant = { λ t. AreKept (length t.rows.items) (length t.entries.items) t.slots.items
-        × (length t.entries.items ≤ length t.slots.items) };
+        × (length t.entries.items ≤ length t.slots.items)
+        × AreHeads t.heads (map row_told t.rows.items) };
 }
 
 fn pass_of(rows: &[Row], row: u16, term: Option<u8>, word: Option<u32>) -> Seen<'_>
@@ -82,7 +84,7 @@ impl Trace {
             slots: Vec::new(alloc),
             rows: Vec::new(alloc),
             entries: Vec::new(alloc),
-            heads: BTreeMap::new(alloc),
+            heads: Heads::new(alloc),
             recent: 0,
         }
     }
@@ -107,9 +109,9 @@ impl Trace {
     {
         let rows = self.rows.as_slice();
         Some(match *self.slots.get(index)? {
-            Slot::Nothing { row } => pass_of(rows, row, None, None),
+            Slot::NoTerm { row } => pass_of(rows, row, None, None),
             Slot::Term { term, row } => pass_of(rows, row, Some(term), None),
-            Slot::NothingDrawn { row, word } => pass_of(rows, row, None, Some(word)),
+            Slot::NoTermDrawn { row, word } => pass_of(rows, row, None, Some(word)),
             Slot::TermDrawn { term, row, word } => pass_of(rows, row, Some(term), Some(word)),
             Slot::Entry { index } => Seen::Entry(&self.entries[index as usize]),
         })
@@ -125,7 +127,7 @@ impl Trace {
 
     // Whether a row is that of the passes of a point under a setting.
     fn is_row(&self, row: u16, name: &Name, setting: Option<SettingRef<'_>>) -> bool
-        ensures { OnTrue result (slice_get self.now.rows row
+        ensures { IsTrue result ↔ (slice_get self.now.rows row
             ≡ Some (record { name = name.now; setting = setting_ref_told setting.entry })) }
     {
         match self.rows.get(row as usize) {
@@ -136,13 +138,15 @@ impl Trace {
 
     // The row of the passes of a point under a setting, where the last pass or the point has it.
     fn find_row(&self, name: &Name, setting: Option<SettingRef<'_>>) -> Option<u16>
-        ensures { IfSome result (λ row. slice_get self.now.rows row
+        ensures found { IfSome result (λ row. slice_get self.now.rows row
             ≡ Some (record { name = name.now; setting = setting_ref_told setting.entry })) }
+        ensures none { IsNone result → last_row self.now.rows name.now
+            ≢ Some (record { name = name.now; setting = setting_ref_told setting.entry }) }
     {
         if self.is_row(self.recent, name, setting) {
             return Some(self.recent);
         }
-        let head = *self.heads.get(name)?;
+        let head = self.heads.get(name)?;
         if self.is_row(head, name, setting) {
             Some(head)
         } else {
@@ -161,6 +165,10 @@ impl Trace {
         ensures ok { IfOk result (λ at. IfSome at (λ row. slice_get self.new.rows row
             ≡ Some (record { name = name.now; setting = setting_ref_told setting.entry }))) }
         ensures calls { self.new.calls ≡ self.old.calls }
+        ensures rows { last_row self.old.rows name.now
+            ≡ Some (record { name = name.now; setting = setting_ref_told setting.entry })
+            → self.new.rows ≡ self.old.rows }
+        ensures full { IfOk result (λ at. IsNone at → max_rows ≤ length self.old.rows) }
     {
         if let Some(row) = self.find_row(name, setting) {
             return Ok(Some(row));
@@ -169,11 +177,17 @@ impl Trace {
         self.add_row(alloc, row)
     }
 
-    /// Makes room for a pass, and a row for it where there is none. No call changes.
+    /// Makes room for a pass, and a row for it where the last row of the point has another setting. No
+    /// call changes.
     pub fn prepare(&mut self, alloc: Global, pass: Pass<'_>) -> Result<Prepared, AllocError>
         ensures room { IfOk result (IsPrepared self.new) }
         ensures told { IfOk result (λ p. prepared_told self.new.rows p ≡ pass_value pass.entry) }
         ensures calls { self.new.calls ≡ self.old.calls }
+        ensures rows { last_row self.old.rows pass.entry.name.now ≡ Some (row_of pass.entry)
+            → self.new.rows ≡ self.old.rows }
+        // It takes eight bytes where it was given one random draw at most.
+        ensures small { IfOk result (λ p. length pass.entry.words.now ≤ 1
+            → length self.old.rows < max_rows → IsByRow p) }
     {
         if pass.words.len() <= 1 {
             if let Some(row) = self.row_for(alloc, pass.name, pass.setting)? {
@@ -194,7 +208,8 @@ impl Trace {
     pub fn push(&mut self, pass: Prepared)
         requires few { length self.old.calls < 2 ^ 32 }
         requires room { IsPrepared self.old pass }
-        ensures { self.new.calls ≡ self.old.calls ++ prepared_told self.old.rows pass ∷ [] }
+        ensures calls { self.new.calls ≡ self.old.calls ++ prepared_told self.old.rows pass ∷ [] }
+        ensures rows { self.new.rows ≡ self.old.rows }
     {
         match pass {
             Prepared::Pass { row, term, word } => {
@@ -222,7 +237,7 @@ impl Trace {
             return Ok(None);
         }
         self.rows.reserve(1)?;
-        self.heads.insert(row.name.copied(alloc)?, at as u16)?;
+        self.heads.put(row.name.copied(alloc)?, at as u16)?;
         self.rows.push_reserved(row);
         Ok(Some(at as u16))
     }
@@ -247,9 +262,9 @@ impl Trace {
         ensures rows { self.new.rows ≡ self.old.rows }
     {
         self.slots.push_reserved(match (term, word) {
-            (None, None) => Slot::Nothing { row },
+            (None, None) => Slot::NoTerm { row },
             (Some(term), None) => Slot::Term { term, row },
-            (None, Some(word)) => Slot::NothingDrawn { row, word },
+            (None, Some(word)) => Slot::NoTermDrawn { row, word },
             (Some(term), Some(word)) => Slot::TermDrawn { term, row, word },
         });
     }

@@ -47,7 +47,7 @@ is_kept g c =
     let told = c.in_ok-prepared.ensures.told ∙ ap pass_value c.pass-pass.ensures ∙
     ap (λ (ws : List ℕ). record { ask = passes c.args.point.now; words = ws; reply = (kept g c).reply })
     c.deref.ensures.value in
-    c.push.ensures ∙ ap (λ (t : Told). c.prepare.new.self.calls ++ t ∷ []) told
+    c.push.ensures.calls ∙ ap (λ (t : Told). c.prepare.new.self.calls ++ t ∷ []) told
     ∙ ap (λ (ts : List Told). ts ++ kept g c ∷ []) c.in_ok-prepared.ensures.calls
 
 pub invariant_of-self-2 : goal.invariant_of-self-2
