@@ -1,7 +1,7 @@
 -- What a yes comes to.
 use Rattle.std.proofs.Common.{◌≡◌, ℕ, map, sym, ◌∙◌, ap, subst, IfOk, IfErr, Result, Ok, Err, Vec}
 use Rattle.std.specs.declared.alloc.Global.{Global}
-use Rattle.node_calls.specs.Asks.{call}
+use Rattle.node_calls.specs.Asks.{call_from}
 use Rattle.cluster_model.specs.Laws.{EscrowHolds}
 use Rattle.cluster_model.proofs.Closed.{deltas_are_schedules}
 use Rattle.audit.specs.declared.auditing.AuditYes.{AuditYes}
@@ -42,7 +42,7 @@ module _ (nodes : ℕ) (traces : Traces) (sized : IsSized nodes traces) (order :
       (sym same)
       (totals_told nodes traces tally found.totals.items tallied made (events_in nodes traces order.items)
       (deltas_are_schedules (audited nodes) (events_in nodes traces order.items) is.schedule.schedule)
-      (λ i. is.schedule.told i ∙ ap (λ es. map (call nodes) es) (is.schedule.whole i)))
+      (λ i. is.schedule.told i ∙ ap (λ es. map (call_from nodes) es) (is.schedule.whole i)))
 
   pub escrow_is : (r : Result AuditYes AuditFault) → IfOk r (λ found. found.order ≡ order) →
       IfOk r (λ found. EscrowHolds (audited nodes) (events_in nodes traces found.order.items))

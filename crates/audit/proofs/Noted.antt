@@ -1,5 +1,5 @@
 -- What is noted of the last call of a node.
-use Rattle.std.proofs.Common.{◌≡◌, ℕ, ◌+◌, ◌-◌, ◌<◌, not, cond, Bool, true, false, List, [], ◌∷◌, ◌++◌, length, map, take, Option, Some, None, Result, Ok, Err, refl, sym, ◌∙◌, ap, subst, arith, inr, ⊎_elim, slice_get, string_bytes}
+use Rattle.std.proofs.Common.{◌≡◌, ℕ, ◌+◌, ◌-◌, ◌<◌, not, cond, Bool, true, false, List, [], ◌∷◌, ◌++◌, length, map, take, Option, Some, None, Result, Ok, Err, refl, sym, ◌∙◌, ap, subst, arith, inr, ⊎_elim, slice_get}
 use Rattle.std.specs.Prelude.{option_map, option_and_then}
 use Rattle.std.proofs.lemmas.List.{length-map, length-take-le, map-append, take_more}
 use Rattle.std.proofs.lemmas.Option.{slice_get_within, slice_get-get_or, get_or_from_slice_get}
@@ -12,24 +12,22 @@ use Rattle.actions.specs.Names.{is_name}
 use Rattle.actions.specs.Canonical.{canonical}
 use Rattle.actions.specs.Reading.{reading}
 use Rattle.actions.specs.declared.fault.ActionFault.{ActionFault}
-use Rattle.std.specs.declared.alloc.Global.{Global}
-use Rattle.std.specs.Prelude.{String}
 use Rattle.stamp_register.specs.declared.key.Stamp.{Stamp}
 use Rattle.stamp_register.specs.Keys.{KeyValue, stamp_of, key_le, terms_set}
 use Rattle.operations.specs.Operations.{Operation, Set, count_of, count_under}
 use Rattle.replica_state.specs.States.{State, with_name}
 use Rattle.replica_state.specs.Folds.{fold, greater}
-use Rattle.node_calls.specs.declared.ask.Ask.TheVariants as code
 use Rattle.node_core.specs.declared.config.Config.{Config}
 use Rattle.node_calls.specs.declared.fault.NodeFault.TheVariants as faults
-use Rattle.node_calls.specs.declared.trace.Entry.{Entry}
-use Rattle.node_calls.specs.Asks.{Asked, Call, ask_value}
+use Rattle.node_calls.specs.Told.{Told}
+use Rattle.node_calls.specs.Told as tells
+use Rattle.node_calls.specs.Asks.{Asked, Call, asked_from, call_from}
 use Rattle.node_calls.specs.Asks as asks
 use Rattle.node_core.specs.Nodes.{Node, start, state_shown}
 use Rattle.node_core.specs.Outcomes.{state_set}
 use Rattle.node_core.specs.Refusals.{refusal_at, no_entry, no_name, no_place, no_clock, bad_actions, grant_refusal, spare_words}
 use Rattle.node_core.specs.Steps.{after, operations_issued, settings, settings_of, body_read, new_key, shift_under}
-use Rattle.node_core.specs.Traces.{Kept, node_of, call_of, state_known}
+use Rattle.node_core.specs.Traces.{Kept, node_of, state_known}
 use Rattle.node_core.proofs.SettingSteps.{fold_issued, Issues, issues_load}
 use Rattle.node_core.proofs.TraceLemmas.{replay_more}
 use Rattle.cluster_model.specs.Histories.{keys_by}
@@ -166,41 +164,45 @@ ends_with ps p h =
     sym (take_all ps) ∙ ap (λ k. take k ps) whole ∙ take_more ps (length ps - 1) p below
     ∙ ap (λ q. take (length ps - 1) ps ++ q ∷ []) (get_or_from_slice_get ps (length ps - 1) p p h)
 
-module _ (k new : Kept) (e : Entry) (is : IsAfter k new e) where
+-- what is told, as a call of a node
+abbrev call_in : Kept → Told → Call
+call_in k t = call_from k.config.nodes t
+
+module _ (k new : Kept) (e : Told) (is : IsAfter k new e) where
   abbrev i : ℕ
   i = k.config.node
 
   abbrev ask : Asked
-  ask = (call_of k e).ask
+  ask = (call_in k e).ask
 
-  legal_call : IsLegalCall k.config (length k.trace) (node_of k) (call_of k e)
-  legal_call = next_parts k (call_of k e) (subst IsLegalKept is.made is.legal)
+  legal_call : IsLegalCall k.config (length k.trace) (node_of k) (call_in k e)
+  legal_call = next_parts k (call_in k e) (subst IsLegalKept is.made is.legal)
 
-  pub node_after : node_of new ≡ after k.config.node (node_of k) (call_of k e).ask (call_of k e).words
-  node_after = ap node_of is.made ∙ replay_more k.config.node start k.trace (call_of k e)
+  pub node_after : node_of new ≡ after k.config.node (node_of k) (call_in k e).ask (call_in k e).words
+  node_after = ap node_of is.made ∙ replay_more k.config.node start k.trace (call_in k e)
 
   -- the key of the last point
-  pub last_key : (p : List ℕ × List TermValue) → slice_get (points_set (call_of k e).ask)
-      (length (points_set (call_of k e).ask) - 1) ≡ Some p →
+  pub last_key : (p : List ℕ × List TermValue) → slice_get (points_set (call_in k e).ask)
+      (length (points_set (call_in k e).ask) - 1) ≡ Some p →
       (state_known new).key p.0 ≡ Some (new_key k.config.node
-      ((node_of k).marks.clock + (length (points_set (call_of k e).ask) - 1)) (Some (canonical p.1)))
+      ((node_of k).marks.clock + (length (points_set (call_in k e).ask) - 1)) (Some (canonical p.1)))
   unfolding after
   last_key p h =
-      let sets = sets_points k.config (length k.trace) (node_of k) (call_of k e).ask (call_of k e).words
+      let sets = sets_points k.config (length k.trace) (node_of k) (call_in k e).ask (call_in k e).words
       legal_call.agreed p h in
-      let ps = points_set (call_of k e).ask in
+      let ps = points_set (call_in k e).ask in
       let n = node_of k in
       let front = take (length ps - 1) ps in
       let below : length ps - 1 < length ps = slice_get_within ps (length ps - 1) p h in
       let f : List ℕ × List TermValue → List ℕ × Option (List ℕ) = λ point. (point.0, Some (canonical point.1)) in
-      let shape : settings (call_of k e).ask ≡ map f front ++ f p ∷ [] = sets.same ∙
+      let shape : settings (call_in k e).ask ≡ map f front ++ f p ∷ [] = sets.same ∙
       ap (λ qs. map f qs) (ends_with ps p h) ∙ map-append f front (p ∷ []) in
       let many : length (map f front) ≡ length ps - 1 = length-map front f ∙
       length-take-le (length ps - 1) ps (omega (arith, below)) in
       let state : state_known new ≡ state_set i n.marks.clock (map f front ++ f p ∷ []) (fold n.ops) =
       ap state_shown node_after
-      ∙ ap (λ ops. fold (ops ++ n.ops)) (sets.issues.adds i n (call_of k e).words)
-      ∙ fold_issued i n.marks.clock (settings (call_of k e).ask) n.ops (replay_clock i k.trace)
+      ∙ ap (λ ops. fold (ops ++ n.ops)) (sets.issues.adds i n (call_in k e).words)
+      ∙ fold_issued i n.marks.clock (settings (call_in k e).ask) n.ops (replay_clock i k.trace)
       ∙ ap (λ ss. state_set i n.marks.clock ss (fold n.ops)) shape in
       ap (λ (v : State). v.key p.0) state ∙ last_set i n.marks.clock (map f front) (f p) (fold n.ops)
       ∙ ap (λ m. Some (new_key i (n.marks.clock + m) (Some (canonical p.1)))) many
@@ -214,41 +216,41 @@ module _ (k new : Kept) (e : Entry) (is : IsAfter k new e) where
   found_stamp ps = option_and_then (λ (p : List ℕ × List TermValue). option_map stamp_of ((state_known new).key p.0))
       (slice_get ps (length ps - 1))
 
-  last_stamp : (o : Option (List ℕ × List TermValue)) → slice_get (points_set (call_of k e).ask)
-      (length (points_set (call_of k e).ask) - 1) ≡ o →
+  last_stamp : (o : Option (List ℕ × List TermValue)) → slice_get (points_set (call_in k e).ask)
+      (length (points_set (call_in k e).ask) - 1) ≡ o →
       (stamp : Stamp) → option_and_then (λ (p : List ℕ × List TermValue). option_map stamp_of
-      ((state_known new).key p.0)) o ≡ Some stamp → IsLast (points_set (call_of k e).ask) stamp
+      ((state_known new).key p.0)) o ≡ Some stamp → IsLast (points_set (call_in k e).ask) stamp
   last_stamp None h stamp f = absurd (cc f)
   last_stamp (Some p) h stamp f =
-      let below : length (points_set (call_of k e).ask) - 1 < length (points_set (call_of k e).ask) =
-      slice_get_within (points_set (call_of k e).ask) (length (points_set (call_of k e).ask) - 1) p h in
+      let below : length (points_set (call_in k e).ask) - 1 < length (points_set (call_in k e).ask) =
+      slice_get_within (points_set (call_in k e).ask) (length (points_set (call_in k e).ask) - 1) p h in
       let both : ◌≡◌ {A = Option Stamp} (Some (stamp_of (new_key k.config.node
-      ((node_of k).marks.clock + (length (points_set (call_of k e).ask) - 1)) (Some (canonical p.1)))))
+      ((node_of k).marks.clock + (length (points_set (call_in k e).ask) - 1)) (Some (canonical p.1)))))
       (Some stamp) = sym (ap (option_map stamp_of) (last_key p h)) ∙ f in
-      let same : stamp_of (new_key k.config.node ((node_of k).marks.clock + (length (points_set (call_of k e).ask) - 1))
+      let same : stamp_of (new_key k.config.node ((node_of k).marks.clock + (length (points_set (call_in k e).ask) - 1))
       (Some (canonical p.1))) ≡ stamp = cc in
-      let clock : (node_of k).marks.clock + (length (points_set (call_of k e).ask) - 1) + 1 ≡ stamp.clock =
+      let clock : (node_of k).marks.clock + (length (points_set (call_in k e).ask) - 1) + 1 ≡ stamp.clock =
       ap (λ (s : Stamp). s.clock) same in
       record { clock = omega (arith, clock, below); node = sym (ap (λ (s : Stamp). s.node) same) }
 
-  pub is_last : (stamp : Stamp) → found_stamp (points_set (call_of k e).ask) ≡ Some stamp →
-      IsLast (points_set (call_of k e).ask) stamp
-  is_last stamp f = last_stamp (slice_get (points_set (call_of k e).ask) (length (points_set (call_of k e).ask) - 1))
+  pub is_last : (stamp : Stamp) → found_stamp (points_set (call_in k e).ask) ≡ Some stamp →
+      IsLast (points_set (call_in k e).ask) stamp
+  is_last stamp f = last_stamp (slice_get (points_set (call_in k e).ask) (length (points_set (call_in k e).ask) - 1))
       refl stamp f
 
-  pub points_added : (old more : Counts) (stamp : Stamp) → found_stamp (points_set (call_of k e).ask) ≡ Some stamp →
-      AddsKeys old more (operations_issued stamp.node (stamp.clock - length (points_set (call_of k e).ask))
-      (settings_of (points_set (call_of k e).ask))) →
-      AddsKeys old more (keys_by k.config.node (node_of k) (Some (call_of k e).ask))
+  pub points_added : (old more : Counts) (stamp : Stamp) → found_stamp (points_set (call_in k e).ask) ≡ Some stamp →
+      AddsKeys old more (operations_issued stamp.node (stamp.clock - length (points_set (call_in k e).ask))
+      (settings_of (points_set (call_in k e).ask))) →
+      AddsKeys old more (keys_by k.config.node (node_of k) (Some (call_in k e).ask))
   points_added old more stamp f h =
       let last = is_last stamp f in
-      let clock : stamp.clock - length (points_set (call_of k e).ask) ≡ (node_of k).marks.clock =
+      let clock : stamp.clock - length (points_set (call_in k e).ask) ≡ (node_of k).marks.clock =
       omega (arith, last.clock) in
-      adds_points k.config (length k.trace) (node_of k) (call_of k e).ask (call_of k e).words legal_call.agreed old more
+      adds_points k.config (length k.trace) (node_of k) (call_in k e).ask (call_in k e).words legal_call.agreed old more
       k.config.node (node_of k).marks.clock
       (subst (λ m. AddsKeys old more (operations_issued m (node_of k).marks.clock
-      (settings_of (points_set (call_of k e).ask)))) last.node
-      (subst (λ m. AddsKeys old more (operations_issued stamp.node m (settings_of (points_set (call_of k e).ask))))
+      (settings_of (points_set (call_in k e).ask)))) last.node
+      (subst (λ m. AddsKeys old more (operations_issued stamp.node m (settings_of (points_set (call_in k e).ask))))
       clock h))
 
   no_points : (ps : Points) → slice_get ps (length ps - 1) ≡ None → ps ≡ []
@@ -258,22 +260,22 @@ module _ (k new : Kept) (e : Entry) (is : IsAfter k new e) where
       absurd (let clash : ◌≡◌ {A = Option (List ℕ × List TermValue)} None (Some _) = sym h ∙
       slice_get-get_or (p ∷ ps) (length (p ∷ ps) - 1) p below in cc clash)
 
-  none_last : (o : Option (List ℕ × List TermValue)) → slice_get (points_set (call_of k e).ask)
-      (length (points_set (call_of k e).ask) - 1) ≡ o →
+  none_last : (o : Option (List ℕ × List TermValue)) → slice_get (points_set (call_in k e).ask)
+      (length (points_set (call_in k e).ask) - 1) ≡ o →
       option_and_then (λ (p : List ℕ × List TermValue). option_map stamp_of ((state_known new).key p.0)) o ≡ None →
-      points_set (call_of k e).ask ≡ []
-  none_last None h f = no_points (points_set (call_of k e).ask) h
+      points_set (call_in k e).ask ≡ []
+  none_last None h f = no_points (points_set (call_in k e).ask) h
   none_last (Some p) h f =
       absurd (let clash : ◌≡◌ {A = Option Stamp} None (Some _) = sym f ∙ ap (option_map stamp_of) (last_key p h) in
       cc clash)
 
-  pub none_added : (counts : Counts) → found_stamp (points_set (call_of k e).ask) ≡ None →
-      AddsKeys counts counts (keys_by k.config.node (node_of k) (Some (call_of k e).ask))
+  pub none_added : (counts : Counts) → found_stamp (points_set (call_in k e).ask) ≡ None →
+      AddsKeys counts counts (keys_by k.config.node (node_of k) (Some (call_in k e).ask))
   none_added counts f =
-      adds_points k.config (length k.trace) (node_of k) (call_of k e).ask (call_of k e).words legal_call.agreed counts
+      adds_points k.config (length k.trace) (node_of k) (call_in k e).ask (call_in k e).words legal_call.agreed counts
       counts k.config.node (node_of k).marks.clock
       (subst (λ ps. AddsKeys counts counts (operations_issued k.config.node (node_of k).marks.clock (settings_of ps)))
-      (sym (none_last (slice_get (points_set (call_of k e).ask) (length (points_set (call_of k e).ask) - 1)) refl
+      (sym (none_last (slice_get (points_set (call_in k e).ask) (length (points_set (call_in k e).ask) - 1)) refl
       f)) (λ ops are. are))
 
 -- ---- grants
@@ -295,33 +297,33 @@ grant_keeps i n name term amount (Some key) h =
     ap (λ o. greater (cond (bytes_eq name name) (Some key) None) o) h ∙
     one_key name key (bytes_eq name name) ((bytes_eq-Decides name name).1 refl) ∙ sym h
 
-module _ (k new : Kept) (e : Entry) (is : IsAfter k new e) (name : String Global) (term amount : ℕ)
-    (asked : e.ask ≡ code.Grant name term amount) where
+module _ (k new : Kept) (e : Told) (is : IsAfter k new e) (name : List ℕ) (term amount : ℕ)
+    (asked : e.ask ≡ tells.grants name term amount) where
   abbrev grant_asked : Asked
-  grant_asked = asks.Grant (string_bytes name) term amount
+  grant_asked = asks.Grant name term amount
 
-  asked_so : (call_of k e).ask ≡ asks.Grant (string_bytes name) term amount
-  asked_so = ap (λ a. ask_value k.config.nodes a e.reply) asked
+  asked_so : (call_in k e).ask ≡ asks.Grant name term amount
+  asked_so = ap (λ a. asked_from k.config.nodes a e.reply) asked
 
-  pub key_stays : (state_known new).key (string_bytes name) ≡ (state_shown (node_of k)).key (string_bytes name)
+  pub key_stays : (state_known new).key name ≡ (state_shown (node_of k)).key name
   unfolding after
   key_stays =
-      ap (λ (n : Node). (state_shown n).key (string_bytes name))
-      (node_after k new e is ∙ ap (λ a. after k.config.node (node_of k) a (call_of k e).words) asked_so)
-      ∙ grant_keeps k.config.node (node_of k) (string_bytes name) term amount
-      ((state_shown (node_of k)).key (string_bytes name)) refl
+      ap (λ (n : Node). (state_shown n).key name)
+      (node_after k new e is ∙ ap (λ a. after k.config.node (node_of k) a (call_in k e).words) asked_so)
+      ∙ grant_keeps k.config.node (node_of k) name term amount
+      ((state_shown (node_of k)).key name) refl
 
-  pub grant_named : is_name (string_bytes name) ≡ false → ⊥
+  pub grant_named : is_name name ≡ false → ⊥
   grant_named bad =
-      let agreed : refusal_at k.config (length k.trace) (node_of k) (asks.Grant (string_bytes name) term amount)
-      (call_of k e).words ≡ None =
-      subst (λ a. refusal_at k.config (length k.trace) (node_of k) a (call_of k e).words ≡ None) asked_so
+      let agreed : refusal_at k.config (length k.trace) (node_of k) (asks.Grant name term amount)
+      (call_in k e).words ≡ None =
+      subst (λ a. refusal_at k.config (length k.trace) (node_of k) a (call_in k e).words ≡ None) asked_so
       (legal_call k new e is).agreed in
-      let rest = grant_refusal k.config (state_shown (node_of k)) (string_bytes name) term amount ∷
-      spare_words (call_of k e).words ∷ [] in
-      let first = first_none (no_entry k.config (length k.trace)) (no_name (string_bytes name) ∷ rest) agreed in
-      let second = first_none (no_name (string_bytes name)) rest first.1 in
-      let clash : true ≡ false = sym (named (string_bytes name) second.0) ∙ bad in
+      let rest = grant_refusal k.config (state_shown (node_of k)) name term amount ∷
+      spare_words (call_in k e).words ∷ [] in
+      let first = first_none (no_entry k.config (length k.trace)) (no_name name ∷ rest) agreed in
+      let second = first_none (no_name name) rest first.1 in
+      let clash : true ≡ false = sym (named name second.0) ∙ bad in
       cc clash
 
   under : (o : Option KeyValue) (stamp : Stamp) (other : Stamp) (k' : ℕ) → option_map stamp_of o ≡ Some stamp →
@@ -330,12 +332,12 @@ module _ (k new : Kept) (e : Entry) (is : IsAfter k new e) (name : String Global
   under (Some key) stamp other k' h = let same : stamp_of key ≡ stamp = cc in
       ap (λ s. cond (is_term s term other k') amount 0) same
 
-  pub grant_adds : (stamp : Stamp) → option_map stamp_of ((state_known new).key (string_bytes name)) ≡ Some stamp →
+  pub grant_adds : (stamp : Stamp) → option_map stamp_of ((state_known new).key name) ≡ Some stamp →
       (other : Stamp) (k' : ℕ) →
-      granted_by (node_of k) (call_of k e).ask other k' ≡ cond (is_term stamp term other k') amount 0
+      granted_by (node_of k) (call_in k e).ask other k' ≡ cond (is_term stamp term other k') amount 0
   grant_adds stamp h other k' =
       ap (λ a. granted_by (node_of k) a other k') asked_so
-      ∙ under ((state_shown (node_of k)).key (string_bytes name)) stamp other k'
+      ∙ under ((state_shown (node_of k)).key name) stamp other k'
       (sym (ap (option_map stamp_of) key_stays) ∙ h)
 
   none_under : (o : Option KeyValue) (other : Stamp) (k' : ℕ) → option_map stamp_of o ≡ None →
@@ -343,9 +345,9 @@ module _ (k new : Kept) (e : Entry) (is : IsAfter k new e) (name : String Global
   none_under None other k' h = refl
   none_under (Some key) other k' h = absurd (cc h)
 
-  pub grant_none : option_map stamp_of ((state_known new).key (string_bytes name)) ≡ None → (other : Stamp) (k' : ℕ) →
-      granted_by (node_of k) (call_of k e).ask other k' ≡ 0
+  pub grant_none : option_map stamp_of ((state_known new).key name) ≡ None → (other : Stamp) (k' : ℕ) →
+      granted_by (node_of k) (call_in k e).ask other k' ≡ 0
   grant_none h other k' =
       ap (λ a. granted_by (node_of k) a other k') asked_so
-      ∙ none_under ((state_shown (node_of k)).key (string_bytes name)) other k'
+      ∙ none_under ((state_shown (node_of k)).key name) other k'
       (sym (ap (option_map stamp_of) key_stays) ∙ h)

@@ -1,14 +1,14 @@
 -- What is noted of a trace, and of all traces.
-use Rattle.std.proofs.Common.{◌≡◌, ℕ, zero, suc, ◌+◌, ◌-◌, ◌^◌, ◌<◌, ◌≤◌, cond, Bool, true, false, List, [], ◌∷◌, ◌++◌, length, map, take, Some, refl, sym, ◌∙◌, ap, subst, arith, slice_get}
+use Rattle.std.proofs.Common.{◌≡◌, ℕ, zero, suc, ◌+◌, ◌-◌, ◌^◌, ◌<◌, ◌≤◌, cond, Bool, true, false, List, [], ◌∷◌, ◌++◌, length, map, take, Some, None, refl, sym, ◌∙◌, ap, subst, arith, slice_get}
 use Rattle.std.proofs.lemmas.List.{length-map, length-take-le, length-append, map-append, append-nil}
 use Rattle.std.proofs.lemmas.List.Sums.{sum_by-cons}
 use Rattle.std.specs.Map.{lookup}
 use Rattle.stamp_register.specs.declared.key.Stamp.{Stamp}
 use Rattle.node_core.specs.declared.config.Config.{Config}
-use Rattle.node_calls.specs.declared.trace.Entry.{Entry}
-use Rattle.node_calls.specs.Asks.{Call, call}
+use Rattle.node_calls.specs.Told.{Told}
+use Rattle.node_calls.specs.Asks.{Call, call_from}
 use Rattle.node_core.specs.Nodes.{Node, start}
-use Rattle.node_core.specs.Traces.{Kept, node_of, call_of, replay_from}
+use Rattle.node_core.specs.Traces.{Kept, node_of, replay_from}
 use Rattle.cluster_model.specs.Histories.{keys_by, acts}
 use Rattle.cluster_model.specs.Worlds.{config_of}
 use Rattle.audit.specs.declared.counts.Counts.{Counts}
@@ -104,17 +104,17 @@ notes_more a b d i cs c first next = record {
 }
 
 -- one entry more of a trace
-pub entry_noted : (a b d : Tally) (config : Config) (es : List Entry) (j : ℕ) (e : Entry) (core : Kept) →
+pub entry_noted : (a b d : Tally) (config : Config) (es : List Told) (j : ℕ) (e : Told) (core : Kept) →
     core ≡ alone config (take j es) → slice_get es j ≡ Some e →
-    Notes a b config.node start (map (call config.nodes) (take j es)) →
-    Notes b d core.config.node (node_of core) (call_of core e ∷ []) →
-    Notes a d config.node start (map (call config.nodes) (take (j + 1) es))
+    Notes a b config.node start (map (call_from config.nodes) (take j es)) →
+    Notes b d core.config.node (node_of core) (call_from core.config.nodes e ∷ []) →
+    Notes a d config.node start (map (call_from config.nodes) (take (j + 1) es))
 entry_noted a b d config es j e core so_far there first next =
     let more : take (j + 1) es ≡ take j es ++ e ∷ [] = ap (λ n. take n es) (one_on j) ∙ take_one_more es j e there in
-    subst (λ cs. Notes a d config.node start cs) (sym (ap (λ xs. map (call config.nodes) xs) more ∙
-    map-append (call config.nodes) (take j es) (e ∷ [])))
-    (notes_more a b d config.node (map (call config.nodes) (take j es)) (call config.nodes e) first
-    (subst (λ (k : Kept). Notes b d k.config.node (node_of k) (call_of k e ∷ [])) so_far next))
+    subst (λ cs. Notes a d config.node start cs) (sym (ap (λ xs. map (call_from config.nodes) xs) more ∙
+    map-append (call_from config.nodes) (take j es) (e ∷ [])))
+    (notes_more a b d config.node (map (call_from config.nodes) (take j es)) (call_from config.nodes e) first
+    (subst (λ (k : Kept). Notes b d k.config.node (node_of k) (call_from k.config.nodes e ∷ [])) so_far next))
   where
     one_on : (m : ℕ) → m + 1 ≡ suc m
     one_on m = omega arith
@@ -136,25 +136,26 @@ node_tallied old new nodes traces i short t n = subst (λ j. IsTallied new nodes
     one_on m = omega arith
 
     many : length (calls_of nodes traces i) ≡ length (trace_of traces i)
-    many = length-map (trace_of traces i) (call nodes)
+    many = length-map (trace_of traces i) (call_from nodes)
 
-pub take_over : (es : List Entry) (j : ℕ) → length es ≤ j → take j es ≡ es
-take_over [] zero h = refl
-take_over [] (suc j) h = refl
-take_over (e ∷ es) zero h = absurd (omega (arith, h))
-take_over (e ∷ es) (suc j) h = ap (λ xs. e ∷ xs) (take_over es j (omega (arith, h)))
+-- all are taken where none comes next
+pub take_past : (es : List Told) (j : ℕ) → slice_get es j ≡ None → take j es ≡ es
+take_past [] zero h = refl
+take_past [] (suc j) h = refl
+take_past (e ∷ es) zero h = absurd (cc h)
+take_past (e ∷ es) (suc j) h = ap (λ xs. e ∷ xs) (take_past es j h)
 
-pub calls_taken : (config : Config) (es : List Entry) (j : ℕ) (e : Entry) → slice_get es j ≡ Some e →
-    length (map (call config.nodes) (take j es)) ≡ j
+pub calls_taken : (config : Config) (es : List Told) (j : ℕ) (e : Told) → slice_get es j ≡ Some e →
+    length (map (call_from config.nodes) (take j es)) ≡ j
 calls_taken config es j e is =
     let below : j < length es = slice_get_within es j e is in
-    length-map (take j es) (call config.nodes) ∙ length-take-le j es (omega (arith, below))
+    length-map (take j es) (call_from config.nodes) ∙ length-take-le j es (omega (arith, below))
 
 pub one_short : (nodes : ℕ) (traces : Traces) (n : ℕ) → IsLegalAlone (config_of (audited nodes) n) (trace_of traces n) →
     length (trace_of traces n) < 2 ^ 32
 one_short nodes traces n legal =
-    let short : 0 + length (map (call nodes) (trace_of traces n)) ≤ 2 ^ 32 - 1 =
-    legal_short (config_of (audited nodes) n) 0 start (map (call nodes) (trace_of traces n)) legal (omega arith) in
-    let same : length (map (call nodes) (trace_of traces n)) ≡ length (trace_of traces n) =
-    length-map (trace_of traces n) (call nodes) in
+    let short : 0 + length (map (call_from nodes) (trace_of traces n)) ≤ 2 ^ 32 - 1 =
+    legal_short (config_of (audited nodes) n) 0 start (map (call_from nodes) (trace_of traces n)) legal (omega arith) in
+    let same : length (map (call_from nodes) (trace_of traces n)) ≡ length (trace_of traces n) =
+    length-map (trace_of traces n) (call_from nodes) in
     omega (arith, short, same)

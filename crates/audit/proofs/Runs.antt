@@ -3,11 +3,10 @@ use Rattle.std.proofs.Common.{◌≡◌, ◌⊎◌, inl, inr, ℕ, zero, suc, �
 use Rattle.std.proofs.lemmas.Bool.Decides.{eqb_tells, leb_tells}
 use Rattle.std.proofs.lemmas.List.{length-set}
 use Rattle.std.proofs.lemmas.Option.{slice_get_within}
-use Rattle.std.proofs.Common.{Vec}
 use Rattle.std.specs.Prelude.{option_and_then}
-use Rattle.std.specs.declared.alloc.Global.{Global}
-use Rattle.node_calls.specs.declared.trace.Entry.{Entry}
-use Rattle.node_calls.specs.Told.{bytes_emitted, bytes_delivered}
+use Rattle.node_calls.specs.Told.{Told}
+use Rattle.packed_trace.specs.Packed.{Packed}
+use Rattle.audit.specs.Messages.{bytes_emitted, bytes_delivered}
 use Rattle.audit.specs.Traces.{Traces, trace_of, entry_at}
 use Rattle.audit.specs.Places.{count_at, emitted_at, IsSent, IsReady, IsRun, IsStuckAt, IsStuckWith}
 use Rattle.audit.specs.Boards.{IsKept, NoneFits, left}
@@ -126,7 +125,7 @@ count_within traces (place ∷ earlier) run node = elim (count_cases node place 
 
 -- one more place that is ready
 pub kept_more : (traces : Traces) (placed : List (ℕ × ℕ)) (positions : List ℕ) (has after : List ℕ → Bool) (node : ℕ)
-    (entry : Entry) →
+    (entry : Told) →
     IsKept traces placed positions has → node < length traces →
     entry_at traces node (slice_index positions node) ≡ Some entry →
     ((bytes : List ℕ) → bytes_delivered entry ≡ Some bytes → IsTrue (has bytes)) →
@@ -184,7 +183,7 @@ pub left_falls : (traces : Traces) (positions : List ℕ) (node : ℕ) → lengt
 left_falls [] positions node each below inside = absurd (omega arith)
 left_falls (trace ∷ traces) [] node each below inside = absurd (omega (arith, each))
 left_falls (trace ∷ traces) (n ∷ positions) zero each below inside =
-    let less : n < length trace.items = inside in
+    let less : n < length trace.calls = inside in
     omega (arith, less)
 left_falls (trace ∷ traces) (n ∷ positions) (suc node) each below inside =
     let rest : left traces (slice_set positions node (slice_index positions node + 1)) + 1 ≡ left traces positions =
@@ -192,15 +191,15 @@ left_falls (trace ∷ traces) (n ∷ positions) (suc node) each below inside =
     omega (arith, rest)
 
 -- the trace at an index of the traces
-pub trace_read : (traces : Traces) (node : ℕ) (trace : Vec Entry Global) → node < length traces →
-    trace ≡ get_or traces node trace → trace_of traces node ≡ trace.items
+pub trace_read : (traces : Traces) (node : ℕ) (trace : Packed) → node < length traces →
+    trace ≡ get_or traces node trace → trace_of traces node ≡ trace.calls
 trace_read [] node trace below is = absurd (omega arith)
-trace_read (first ∷ traces) zero trace below is = ap (λ (v : Vec Entry Global). v.items) (sym is)
+trace_read (first ∷ traces) zero trace below is = ap (λ (v : Packed). v.calls) (sym is)
 trace_read (first ∷ traces) (suc node) trace below is = trace_read traces node trace (omega (arith, below)) is
 
-pub entry_read : (traces : Traces) (node index : ℕ) (trace : Vec Entry Global) (found : Option Entry) →
+pub entry_read : (traces : Traces) (node index : ℕ) (trace : Packed) (found : Option Told) →
     node < length traces → trace ≡ get_or traces node trace →
-    found ≡ slice_get trace.items index → entry_at traces node index ≡ found
+    found ≡ slice_get trace.calls index → entry_at traces node index ≡ found
 unfolding entry_at
 entry_read traces node index trace found below is read = ap (λ t. slice_get t index)
     (trace_read traces node trace below is) ∙ sym read
@@ -218,7 +217,7 @@ stuck_at_end traces placed positions has node kept below none =
 
 -- a node whose next entry delivers what was not emitted
 pub stuck_unsent : (traces : Traces) (placed : List (ℕ × ℕ)) (positions : List ℕ) (has : List ℕ → Bool) (node : ℕ)
-    (next : Entry) (bytes : List ℕ) →
+    (next : Told) (bytes : List ℕ) →
     IsKept traces placed positions has → node < length traces →
     entry_at traces node (slice_index positions node) ≡ Some next →
     bytes_delivered next ≡ Some bytes → has bytes ≡ false → IsStuckAt traces placed node
@@ -231,7 +230,7 @@ stuck_unsent traces placed positions has node next bytes kept below is brings un
     (bytes, ap bytes_delivered (sym same) ∙ brings, λ sent. let yes : has bytes ≡ true = (kept.sent bytes).1 sent in cc)
 
 -- the place of a next entry is inside the trace
-pub entry_within : (traces : Traces) (node index : ℕ) (entry : Entry) → entry_at traces node index ≡ Some entry →
+pub entry_within : (traces : Traces) (node index : ℕ) (entry : Told) → entry_at traces node index ≡ Some entry →
     index < length (trace_of traces node)
 unfolding entry_at
 entry_within traces node index entry is = slice_get_within (trace_of traces node) index entry is
@@ -244,7 +243,7 @@ position_read (y ∷ ys) (suc i) x below is = position_read ys i x (omega (arith
 
 -- `kept_more`, as code reads and pushes
 pub kept_pushed : (traces : Traces) (placed pushed : List (ℕ × ℕ)) (positions : List ℕ) (has after : List ℕ → Bool)
-    (node index : ℕ) (entry : Entry) →
+    (node index : ℕ) (entry : Told) →
     IsKept traces placed positions has → node < length traces → slice_index positions node ≡ index →
     entry_at traces node (slice_index positions node) ≡ Some entry →
     ((bytes : List ℕ) → bytes_delivered entry ≡ Some bytes → IsTrue (has bytes)) →

@@ -7,14 +7,11 @@ use Rattle.refusals.specs.Refusals.{first_fault}
 use Rattle.counters.specs.Sums.{node_numbers}
 use Rattle.operations.specs.Operations.{IsIn}
 use Rattle.message_format.specs.declared.fault.WireFault.{WireFault}
-use Rattle.node_calls.specs.declared.ask.Ask.{Ask}
-use Rattle.node_calls.specs.declared.ask.Ask.TheVariants as asked
 use Rattle.node_core.specs.declared.config.Config.{Config}
 use Rattle.node_calls.specs.declared.fault.NodeFault.{NodeFault}
-use Rattle.node_calls.specs.declared.reply.Reply.{Reply}
-use Rattle.node_calls.specs.declared.reply.Reply.TheVariants as replies
-use Rattle.node_calls.specs.declared.trace.Entry.{Entry}
-use Rattle.node_calls.specs.Asks.{Asked, Answered, Call, Message, call, ask_value, emit_asked, emit_of, message_read, reply_value}
+use Rattle.node_calls.specs.Told.{Told, AskTold, ReplyTold}
+use Rattle.node_calls.specs.Told as tells
+use Rattle.node_calls.specs.Asks.{Asked, Answered, Call, Message, answered_from, asked_from, call_from, emit_asked_by, emit_of, message_read}
 use Rattle.node_calls.specs.Asks as asks
 use Rattle.node_core.specs.Nodes.{Node, start}
 use Rattle.node_core.specs.Steps.{message_in}
@@ -28,7 +25,7 @@ use Rattle.cluster_model.proofs.Closed.{deltas_are_schedules}
 use Rattle.cluster_model.proofs.Conserved.{conserved}
 use Rattle.cluster_model.proofs.Replays.{node_is_replay, event_is_call, is_agreed, traces_are_legal}
 use Rattle.cluster_model.proofs.Replies.{messages_are_replies}
-use Rattle.node_calls.specs.Told.{bytes_emitted, emitted_in, delivered_in}
+use Rattle.audit.specs.Messages.{bytes_emitted, emitted_by, delivered_by}
 use Rattle.audit.specs.Traces.{Traces, trace_of, entry_at, IsSized, audited, AllLegal, AreShort}
 use Rattle.audit.specs.Schedules.{event_of, events_of, SomeFits}
 use Rattle.audit.specs.Places.{count_at, emitted_at, IsSent, IsReady, IsRun, Fits, IsOrder, steps_at}
@@ -38,25 +35,25 @@ use Rattle.audit.proofs.Steps.{take_one_more, take_whole, step_of, steps_more, e
 
 -- ---- lists
 
-get_map : (f : Entry → Call) (xs : List Entry) (k : ℕ) (x : Entry) → slice_get xs k ≡ Some x →
+get_map : (f : Told → Call) (xs : List Told) (k : ℕ) (x : Told) → slice_get xs k ≡ Some x →
     slice_get (map f xs) k ≡ Some (f x)
 get_map f [] k x is = absurd (cc is)
 get_map f (y ∷ ys) zero x is = let same : y ≡ x = cc is in ap (λ z. Some (f z)) same
 get_map f (y ∷ ys) (suc k) x is = get_map f ys k x is
 
-take_map : (f : Entry → Call) (xs : List Entry) (k : ℕ) → take k (map f xs) ≡ map f (take k xs)
+take_map : (f : Told → Call) (xs : List Told) (k : ℕ) → take k (map f xs) ≡ map f (take k xs)
 take_map f [] zero = refl
 take_map f [] (suc k) = refl
 take_map f (x ∷ xs) zero = refl
 take_map f (x ∷ xs) (suc k) = ap (λ ys. f x ∷ ys) (take_map f xs k)
 
-length_taken : (f : Entry → Call) (xs : List Entry) (k : ℕ) (x : Entry) → slice_get xs k ≡ Some x →
+length_taken : (f : Told → Call) (xs : List Told) (k : ℕ) (x : Told) → slice_get xs k ≡ Some x →
     length (map f (take k xs)) ≡ k
 length_taken f [] k x is = absurd (cc is)
 length_taken f (y ∷ ys) zero x is = refl
 length_taken f (y ∷ ys) (suc k) x is = let rest = length_taken f ys k x is in omega (arith, rest)
 
-in_taken : (f : Entry → Call) (xs : List Entry) (k i : ℕ) (x : Entry) → slice_get xs i ≡ Some x → i < k →
+in_taken : (f : Told → Call) (xs : List Told) (k i : ℕ) (x : Told) → slice_get xs i ≡ Some x → i < k →
     IsIn (f x) (map f (take k xs))
 in_taken f [] k i x is below = absurd (cc is)
 in_taken f (y ∷ ys) zero i x is below = absurd (omega (arith, below))
@@ -74,39 +71,39 @@ unfolding is_delivery
 no_delivery_of to (Ok m) = refl
 no_delivery_of to (Err fault) = refl
 
-no_delivery : (nodes to : ℕ) (reply : Reply) → is_delivery (emit_asked nodes to reply) ≡ false
+no_delivery : (nodes to : ℕ) (reply : ReplyTold) → is_delivery (emit_asked_by nodes to reply) ≡ false
 unfolding is_delivery
-no_delivery nodes to (replies.Emit bytes) = no_delivery_of to (message_read nodes bytes.items)
-no_delivery nodes to (replies.Set stamp) = refl
-no_delivery nodes to (replies.Remove stamp) = refl
-no_delivery nodes to (replies.Load entries) = refl
-no_delivery nodes to (replies.Pass passed) = refl
-no_delivery nodes to (replies.Shift total) = refl
-no_delivery nodes to (replies.Grant total) = refl
-no_delivery nodes to (replies.Deliver changed) = refl
+no_delivery nodes to (tells.was_emitted bytes) = no_delivery_of to (message_read nodes bytes)
+no_delivery nodes to (tells.was_set stamp) = refl
+no_delivery nodes to (tells.was_removed stamp) = refl
+no_delivery nodes to (tells.was_loaded entries) = refl
+no_delivery nodes to (tells.was_passed passed) = refl
+no_delivery nodes to (tells.was_shifted total) = refl
+no_delivery nodes to (tells.was_granted total) = refl
+no_delivery nodes to (tells.was_delivered changed) = refl
 
 -- an ask of a delivery brings what its bytes are read as
-record IsBrought (nodes : ℕ) (ask : Ask) (read : Result Message WireFault) : Type 0 where
+record IsBrought (nodes : ℕ) (ask : AskTold) (read : Result Message WireFault) : Type 0 where
   pub bytes : List ℕ
-  pub is : delivered_in ask ≡ Some bytes
+  pub is : delivered_by ask ≡ Some bytes
   pub brings : read ≡ message_read nodes bytes
 
-received : (nodes : ℕ) (ask : Ask) (reply : Reply) (read : Result Message WireFault) →
-    ask_value nodes ask reply ≡ asks.Deliver read → IsBrought nodes ask read
+received : (nodes : ℕ) (ask : AskTold) (reply : ReplyTold) (read : Result Message WireFault) →
+    asked_from nodes ask reply ≡ asks.Deliver read → IsBrought nodes ask read
 unfolding is_delivery
-received nodes (asked.Deliver bytes) reply read h =
-    let same : message_read nodes bytes.items ≡ read = cc in
-    record { bytes = bytes.items; is = refl; brings = sym same }
-received nodes (asked.Emit to) reply read h =
-    let one : is_delivery (emit_asked nodes to reply) ≡ true = ap is_delivery h in
-    let other : is_delivery (emit_asked nodes to reply) ≡ false = no_delivery nodes to reply in
+received nodes (tells.delivers bytes) reply read h =
+    let same : message_read nodes bytes ≡ read = cc in
+    record { bytes = bytes; is = refl; brings = sym same }
+received nodes (tells.emits to) reply read h =
+    let one : is_delivery (emit_asked_by nodes to reply) ≡ true = ap is_delivery h in
+    let other : is_delivery (emit_asked_by nodes to reply) ≡ false = no_delivery nodes to reply in
     absurd (let impossible : true ≡ false = sym one ∙ other in cc)
-received nodes (asked.Set name text) reply read h = absurd (let impossible : ⊥ = cc in impossible)
-received nodes (asked.Remove name) reply read h = absurd (let impossible : ⊥ = cc in impossible)
-received nodes (asked.Load text) reply read h = absurd (let impossible : ⊥ = cc in impossible)
-received nodes (asked.Pass name) reply read h = absurd (let impossible : ⊥ = cc in impossible)
-received nodes (asked.Shift name term to amount) reply read h = absurd (let impossible : ⊥ = cc in impossible)
-received nodes (asked.Grant name term amount) reply read h = absurd (let impossible : ⊥ = cc in impossible)
+received nodes (tells.sets name text) reply read h = absurd (let impossible : ⊥ = cc in impossible)
+received nodes (tells.removes name) reply read h = absurd (let impossible : ⊥ = cc in impossible)
+received nodes (tells.loads text) reply read h = absurd (let impossible : ⊥ = cc in impossible)
+received nodes (tells.passes name) reply read h = absurd (let impossible : ⊥ = cc in impossible)
+received nodes (tells.shifts name term to amount) reply read h = absurd (let impossible : ⊥ = cc in impossible)
+received nodes (tells.grants name term amount) reply read h = absurd (let impossible : ⊥ = cc in impossible)
 
 -- a delivery that is accepted is of a message
 read_ok : (config : Config) (entries : ℕ) (n : Node) (read : Result Message WireFault) (words : List ℕ) →
@@ -134,29 +131,29 @@ allowed w i (asks.Pass name) sends given = tt
 allowed w i (asks.Shift name term to amount) sends given = tt
 allowed w i (asks.Grant name term amount) sends given = tt
 
-replied : (nodes : ℕ) (reply : Reply) (bytes : List ℕ) → emitted_in reply ≡ Some bytes →
-    reply_value nodes reply ≡ asks.IsEmitted (message_read nodes bytes)
-replied nodes (replies.Emit given) bytes h =
-    let same : given.items ≡ bytes = cc in
+replied : (nodes : ℕ) (reply : ReplyTold) (bytes : List ℕ) → emitted_by reply ≡ Some bytes →
+    answered_from nodes reply ≡ asks.IsEmitted (message_read nodes bytes)
+replied nodes (tells.was_emitted given) bytes h =
+    let same : given ≡ bytes = cc in
     ap (λ b. asks.IsEmitted (message_read nodes b)) same
-replied nodes (replies.Set stamp) bytes h = absurd (let impossible : ⊥ = cc in impossible)
-replied nodes (replies.Remove stamp) bytes h = absurd (let impossible : ⊥ = cc in impossible)
-replied nodes (replies.Load entries) bytes h = absurd (let impossible : ⊥ = cc in impossible)
-replied nodes (replies.Pass passed) bytes h = absurd (let impossible : ⊥ = cc in impossible)
-replied nodes (replies.Shift total) bytes h = absurd (let impossible : ⊥ = cc in impossible)
-replied nodes (replies.Grant total) bytes h = absurd (let impossible : ⊥ = cc in impossible)
-replied nodes (replies.Deliver changed) bytes h = absurd (let impossible : ⊥ = cc in impossible)
+replied nodes (tells.was_set stamp) bytes h = absurd (let impossible : ⊥ = cc in impossible)
+replied nodes (tells.was_removed stamp) bytes h = absurd (let impossible : ⊥ = cc in impossible)
+replied nodes (tells.was_loaded entries) bytes h = absurd (let impossible : ⊥ = cc in impossible)
+replied nodes (tells.was_passed passed) bytes h = absurd (let impossible : ⊥ = cc in impossible)
+replied nodes (tells.was_shifted total) bytes h = absurd (let impossible : ⊥ = cc in impossible)
+replied nodes (tells.was_granted total) bytes h = absurd (let impossible : ⊥ = cc in impossible)
+replied nodes (tells.was_delivered changed) bytes h = absurd (let impossible : ⊥ = cc in impossible)
 
 record HasEmitted (traces : Traces) (node index : ℕ) (bytes : List ℕ) : Type 0 where
-  pub entry : Entry
+  pub entry : Told
   pub there : entry_at traces node index ≡ Some entry
-  pub is : emitted_in entry.reply ≡ Some bytes
+  pub is : emitted_by entry.reply ≡ Some bytes
 
 has_emitted : (traces : Traces) (node index : ℕ) (bytes : List ℕ) → emitted_at traces node index ≡ Some bytes →
     HasEmitted traces node index bytes
 has_emitted traces node index bytes h = at (entry_at traces node index) refl h
   where
-    at : (o : Option Entry) → entry_at traces node index ≡ o → option_and_then bytes_emitted o ≡ Some bytes →
+    at : (o : Option Told) → entry_at traces node index ≡ o → option_and_then bytes_emitted o ≡ Some bytes →
         HasEmitted traces node index bytes
     at (Some entry) p q = record { entry = entry; there = p; is = q }
     at None p q = absurd (let impossible : ⊥ = cc in impossible)
@@ -175,7 +172,7 @@ module _ (nodes : ℕ) (traces : Traces) (sized : IsSized nodes traces) (legal :
 
   -- so far the world is what the places say
   record IsUp (placed : List (ℕ × ℕ)) : Type 0 where
-    pub told : (i : ℕ) → (world c (events placed)).trace i ≡ map (call nodes)
+    pub told : (i : ℕ) → (world c (events placed)).trace i ≡ map (call_from nodes)
         (take (count_at i placed) (trace_of traces i))
     pub schedule : IsDeltaSchedule c (events placed)
 
@@ -186,13 +183,13 @@ module _ (nodes : ℕ) (traces : Traces) (sized : IsSized nodes traces) (legal :
   sent_message placed run up bytes m sent read =
       let from = sent_from traces placed run bytes sent in
       let emit = has_emitted traces from.node from.index bytes from.is in
-      let held : IsIn (call nodes emit.entry) (map (call nodes)
+      let held : IsIn (call_from nodes emit.entry) (map (call_from nodes)
       (take (count_at from.node placed) (trace_of traces from.node))) =
-      in_taken (call nodes) (trace_of traces from.node) (count_at from.node placed) from.index emit.entry emit.there
-      from.inside in
+      in_taken (call_from nodes) (trace_of traces from.node) (count_at from.node placed) from.index emit.entry
+      emit.there from.inside in
       ((messages_are_replies c (events placed) from.node m).1 (record {
-        call = call nodes emit.entry;
-        held = subst (λ t. IsIn (call nodes emit.entry) t) (sym (up.told from.node)) held;
+        call = call_from nodes emit.entry;
+        held = subst (λ t. IsIn (call_from nodes emit.entry) t) (sym (up.told from.node)) held;
         reply = replied nodes emit.entry.reply bytes emit.is ∙ ap asks.IsEmitted read;
       })).0
 
@@ -208,7 +205,7 @@ module _ (nodes : ℕ) (traces : Traces) (sized : IsSized nodes traces) (legal :
     e = event_of nodes (step_of traces earlier place ready)
 
     abbrev next_call : Call
-    next_call = call nodes ready.entry
+    next_call = call_from nodes ready.entry
 
     abbrev config : Config
     config = config_of c place.0
@@ -220,20 +217,21 @@ module _ (nodes : ℕ) (traces : Traces) (sized : IsSized nodes traces) (legal :
     unfolding entry_at
     there = ready.there
 
-    taken : so_far ≡ map (call nodes) (take place.1 (trace_of traces place.0))
-    taken = up.told place.0 ∙ ap (λ k. map (call nodes) (take k (trace_of traces place.0))) (sym ready.next)
+    taken : so_far ≡ map (call_from nodes) (take place.1 (trace_of traces place.0))
+    taken = up.told place.0 ∙ ap (λ k. map (call_from nodes) (take k (trace_of traces place.0))) (sym ready.next)
 
     is_legal : IsLegalCall config (length so_far) (replay place.0 so_far) next_call
     is_legal =
-        let at = legal_at config 0 start (map (call nodes) (trace_of traces place.0)) place.1 next_call (legal place.0)
-        (get_map (call nodes) (trace_of traces place.0) place.1 ready.entry there) in
+        let at = legal_at config 0 start (map (call_from nodes) (trace_of traces place.0)) place.1 next_call
+        (legal place.0)
+        (get_map (call_from nodes) (trace_of traces place.0) place.1 ready.entry there) in
         let first : 0 + place.1 ≡ place.1 = omega arith in
         let long : 0 + place.1 ≡ length so_far = first ∙ sym
-        (ap (λ t. length t) taken ∙ length_taken (call nodes) (trace_of traces place.0) place.1 ready.entry
+        (ap (λ t. length t) taken ∙ length_taken (call_from nodes) (trace_of traces place.0) place.1 ready.entry
         there) in
         subst (λ k. IsLegalCall config k (replay place.0 so_far) next_call) long
         (subst (λ t. IsLegalCall config (0 + place.1) (replay place.0 t) next_call)
-        (take_map (call nodes) (trace_of traces place.0) place.1 ∙ sym taken) at)
+        (take_map (call_from nodes) (trace_of traces place.0) place.1 ∙ sym taken) at)
 
     low : place.0 < nodes
     low = elim (leb_tells (length traces) place.0) [
@@ -273,13 +271,13 @@ module _ (nodes : ℕ) (traces : Traces) (sized : IsSized nodes traces) (legal :
         ap (λ (k : Kept). k.trace) ((event_is_call c es e).accepted low is_legal.agreed)
         ∙ ap (λ r. so_far ++ record { ask = e.ask; words = e.words; reply = r } ∷ []) (sym is_legal.reply)
 
-    told_here : (world c (e ∷ es)).trace place.0 ≡ map (call nodes) (take (suc place.1) (trace_of traces place.0))
+    told_here : (world c (e ∷ es)).trace place.0 ≡ map (call_from nodes) (take (suc place.1) (trace_of traces place.0))
     told_here =
         grown ∙ ap (λ t. t ++ next_call ∷ []) taken
-        ∙ sym (map-append (call nodes) (take place.1 (trace_of traces place.0)) (ready.entry ∷ []))
-        ∙ ap (λ t. map (call nodes) t) (sym (take_one_more (trace_of traces place.0) place.1 ready.entry there))
+        ∙ sym (map-append (call_from nodes) (take place.1 (trace_of traces place.0)) (ready.entry ∷ []))
+        ∙ ap (λ t. map (call_from nodes) t) (sym (take_one_more (trace_of traces place.0) place.1 ready.entry there))
 
-    told_next : (i : ℕ) → (world c (e ∷ es)).trace i ≡ map (call nodes)
+    told_next : (i : ℕ) → (world c (e ∷ es)).trace i ≡ map (call_from nodes)
         (take (count_at i (place ∷ earlier)) (trace_of traces i))
     told_next i = elim (count_cases i place earlier) [
       | inl w ↦
@@ -288,11 +286,11 @@ module _ (nodes : ℕ) (traces : Traces) (sized : IsSized nodes traces) (legal :
           let more : count_at i (place ∷ earlier) ≡ 1 + count_at i earlier = w.1 in
           let k : suc place.1 ≡ count_at i (place ∷ earlier) = omega (arith, next, same, more) in
           ap (λ n. (world c (e ∷ es)).trace n) (sym w.0) ∙ told_here
-          ∙ ap (λ n. map (call nodes) (take (suc place.1) (trace_of traces n))) w.0
-          ∙ ap (λ k. map (call nodes) (take k (trace_of traces i))) k
+          ∙ ap (λ n. map (call_from nodes) (take (suc place.1) (trace_of traces n))) w.0
+          ∙ ap (λ k. map (call_from nodes) (take k (trace_of traces i))) k
       | inr w ↦
           ap (λ (k : Kept). k.trace) ((event_is_call c es e).others i (λ same. w.0 (sym same)))
-          ∙ up.told i ∙ ap (λ k. map (call nodes) (take k (trace_of traces i))) (sym w.1)
+          ∙ up.told i ∙ ap (λ k. map (call_from nodes) (take k (trace_of traces i))) (sym w.1)
     ]
 
     is_up : IsUp (place ∷ earlier)
@@ -318,7 +316,8 @@ module _ (nodes : ℕ) (traces : Traces) (sized : IsSized nodes traces) (legal :
         schedule = record {
           schedule = up.schedule;
           fed = fed_of_run traces (reverse order) fits.run;
-          told = λ i. up.told i ∙ ap (λ t. map (call nodes) t) (sym (entries_taken traces (reverse order) fits.run i));
+          told = λ i. up.told i ∙
+              ap (λ t. map (call_from nodes) t) (sym (entries_taken traces (reverse order) fits.run i));
           whole = λ i. entries_taken traces (reverse order) fits.run i ∙
               ap (λ k. take k (trace_of traces i)) (fits.whole i) ∙ take_whole (trace_of traces i);
         };
@@ -337,24 +336,24 @@ module _ (nodes : ℕ) (traces : Traces) (sized : IsSized nodes traces) (legal :
 pub legal_of_fits : (nodes : ℕ) (traces : Traces) → SomeFits nodes traces → AllLegal nodes traces
 legal_of_fits nodes traces some i =
     let c = cluster_of nodes some.trace_cap in
-    let calls : (world c (events_of nodes some.steps)).trace i ≡ map (call nodes) (trace_of traces i) =
-    some.fits.told i ∙ ap (λ t. map (call nodes) t) (some.fits.whole i) in
-    let legal : IsLegal (config_of c i) (map (call nodes) (trace_of traces i)) =
+    let calls : (world c (events_of nodes some.steps)).trace i ≡ map (call_from nodes) (trace_of traces i) =
+    some.fits.told i ∙ ap (λ t. map (call_from nodes) t) (some.fits.whole i) in
+    let legal : IsLegal (config_of c i) (map (call_from nodes) (trace_of traces i)) =
     subst (λ t. IsLegal (config_of c i) t) calls (traces_are_legal c (events_of nodes some.steps) some.fits.schedule
     i) in
-    let short : 0 + length (map (call nodes) (trace_of traces i)) ≤ some.trace_cap =
-    legal_short (config_of c i) 0 start (map (call nodes) (trace_of traces i)) legal (omega arith) in
+    let short : 0 + length (map (call_from nodes) (trace_of traces i)) ≤ some.trace_cap =
+    legal_short (config_of c i) 0 start (map (call_from nodes) (trace_of traces i)) legal (omega arith) in
     let small : some.trace_cap < 2 ^ 32 = some.small in
-    let great : 0 + length (map (call nodes) (trace_of traces i)) ≤ 2 ^ 32 - 1 = omega (arith, short, small) in
-    legal_wider nodes i some.trace_cap (2 ^ 32 - 1) 0 start (map (call nodes) (trace_of traces i)) great legal
+    let great : 0 + length (map (call_from nodes) (trace_of traces i)) ≤ 2 ^ 32 - 1 = omega (arith, short, small) in
+    legal_wider nodes i some.trace_cap (2 ^ 32 - 1) 0 start (map (call_from nodes) (trace_of traces i)) great legal
 
 pub all_short : (nodes : ℕ) (traces : Traces) → AllLegal nodes traces → AreShort traces
 all_short nodes traces legal n =
-    let short : 0 + length (map (call nodes) (trace_of traces n)) ≤ 2 ^ 32 - 1 =
-    legal_short (config_of (audited nodes) n) 0 start (map (call nodes) (trace_of traces n)) (legal n)
+    let short : 0 + length (map (call_from nodes) (trace_of traces n)) ≤ 2 ^ 32 - 1 =
+    legal_short (config_of (audited nodes) n) 0 start (map (call_from nodes) (trace_of traces n)) (legal n)
     (omega arith) in
-    let same : length (map (call nodes) (trace_of traces n)) ≡ length (trace_of traces n) =
-    length-map (trace_of traces n) (call nodes) in
+    let same : length (map (call_from nodes) (trace_of traces n)) ≡ length (trace_of traces n) =
+    length-map (trace_of traces n) (call_from nodes) in
     omega (arith, short, same)
 
 few_numbers : (n : ℕ) → n ≤ max_nodes → n ≤ node_numbers

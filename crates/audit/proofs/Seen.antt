@@ -2,13 +2,11 @@
 use Rattle.std.proofs.Common.{Ordering, ◌≡◌, ℕ, ◌==◌, ◌&&◌, ◌+◌, ◌<◌, ◌≤◌, cond, not, Bool, true, false, List, length, Some, refl, sym, ◌∙◌, ap, arith, inl, inr}
 use Rattle.std.specs.Ordering.{nat_cmp, ordering_then, is_eq}
 use Rattle.std.proofs.lemmas.Bool.Decides.{eqb_tells, leb_tells, nat_tests}
-use Rattle.std.proofs.Common.{Vec, Option, None}
-use Rattle.std.specs.Prelude.{option_map}
-use Rattle.node_calls.specs.Told.{Told, told}
+use Rattle.std.proofs.Common.{Vec}
+use Rattle.node_calls.specs.Told.{Told}
 use Rattle.std.specs.BTreeSet.{contains}
 use Rattle.std.specs.declared.alloc.Global.{Global}
 use Rattle.node_calls.specs.declared.receipt.Receipt.{Receipt}
-use Rattle.node_calls.specs.declared.trace.Entry.{Entry}
 use Rattle.audit.specs.declared.receipts.Seen.{Seen}
 use Rattle.audit.specs.Receipts.{times_seen, given_all, GivenOnce, GivenAll}
 use Rattle.audit.specs.Traces.{Traces, trace_of, entry_at}
@@ -22,20 +20,12 @@ pub same_place : (n i m j : ℕ) → is_eq (ordering_then (nat_cmp n m) (nat_cmp
 same_place n i m j = grind (arith, nat_tests)
 
 -- a receipt of a node that has no trace names no entry
-pub none_past : (traces : Traces) (node index : ℕ) (entry : Entry) → length traces ≤ node →
+pub none_past : (traces : Traces) (node index : ℕ) (entry : Told) → length traces ≤ node →
     entry_at traces node index ≡ Some entry → ⊥
 none_past traces node index entry past is =
     let inside : index < length (trace_of traces node) = entry_within traces node index entry is in
     let none : length (trace_of traces node) ≡ 0 = ap (λ t. length t) (trace_past traces node past) in
     omega (arith, inside, none)
-
-pub told_past : (traces : Traces) (node index : ℕ) (t : Told) → length traces ≤ node →
-    option_map told (entry_at traces node index) ≡ Some t → ⊥
-told_past traces node index t past is = at (entry_at traces node index) refl is
-  where
-    at : (o : Option Entry) → entry_at traces node index ≡ o → option_map told o ≡ Some t → ⊥
-    at (Some entry) p q = none_past traces node index entry past p
-    at None p q = cc
 
 -- the first note of a place counts there
 pub note_first : (old new : ℕ → ℕ → Bool) (node index : ℕ) → old node index ≡ false →

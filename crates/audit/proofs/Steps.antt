@@ -2,20 +2,20 @@
 use Rattle.std.proofs.Common.{◌≡◌, ◌≢◌, ◌⊎◌, inl, inr, ℕ, zero, suc, ◌+◌, ◌<◌, cond, List, [], ◌∷◌, ◌++◌, length, take, Some, refl, sym, ◌∙◌, ap, subst, arith, slice_get, length-append}
 use Rattle.std.specs.Prelude.{option_and_then}
 use Rattle.std.proofs.lemmas.Bool.Decides.{eqb_tells}
-use Rattle.node_calls.specs.declared.trace.Entry.{Entry}
-use Rattle.node_calls.specs.Told.{bytes_emitted}
+use Rattle.node_calls.specs.Told.{Told}
+use Rattle.audit.specs.Messages.{bytes_emitted}
 use Rattle.audit.specs.Traces.{Traces, trace_of, entry_at}
 use Rattle.audit.specs.Schedules.{Step, entries_at, WasEmitted, AreFed}
 use Rattle.audit.specs.Places.{count_at, emitted_at, IsSent, IsReady, IsRun, step_with, steps_at}
 use Rattle.audit.proofs.Runs.{count_cases}
 
-pub take_one_more : (es : List Entry) (k : ℕ) (e : Entry) → slice_get es k ≡ Some e →
+pub take_one_more : (es : List Told) (k : ℕ) (e : Told) → slice_get es k ≡ Some e →
     take (suc k) es ≡ take k es ++ e ∷ []
 take_one_more [] k e is = absurd (cc is)
 take_one_more (f ∷ es) zero e is = let same : f ≡ e = cc is in ap (λ x. x ∷ []) same
 take_one_more (f ∷ es) (suc k) e is = ap (λ xs. f ∷ xs) (take_one_more es k e is)
 
-pub take_whole : (es : List Entry) → take (length es) es ≡ es
+pub take_whole : (es : List Told) → take (length es) es ≡ es
 take_whole [] = refl
 take_whole (e ∷ es) = ap (λ xs. e ∷ xs) (take_whole es)
 
@@ -29,13 +29,13 @@ at_cases node step steps = elim (eqb_tells step.node node) [
 ]
 
 -- an element keeps its place where one is put behind it
-slice_get_front : (xs : List Entry) (y : Entry) (k : ℕ) (e : Entry) → slice_get xs k ≡ Some e →
+slice_get_front : (xs : List Told) (y : Told) (k : ℕ) (e : Told) → slice_get xs k ≡ Some e →
     slice_get (xs ++ y ∷ []) k ≡ Some e
 slice_get_front [] y k e is = absurd (cc is)
 slice_get_front (x ∷ xs) y zero e is = is
 slice_get_front (x ∷ xs) y (suc k) e is = slice_get_front xs y k e is
 
-slice_get_end : (xs : List Entry) (y : Entry) → slice_get (xs ++ y ∷ []) (length xs) ≡ Some y
+slice_get_end : (xs : List Told) (y : Told) → slice_get (xs ++ y ∷ []) (length xs) ≡ Some y
 slice_get_end [] y = refl
 slice_get_end (x ∷ xs) y = slice_get_end xs y
 
@@ -153,7 +153,7 @@ count_entries node (step ∷ earlier) = elim (at_cases node step earlier) [
 
 -- the entries at each node begin its trace
 abbrev pub Begins : Traces → List Step → Type 0
-Begins traces steps = (node k : ℕ) (e : Entry) → slice_get (entries_at node steps) k ≡ Some e →
+Begins traces steps = (node k : ℕ) (e : Told) → slice_get (entries_at node steps) k ≡ Some e →
     slice_get (trace_of traces node) k ≡ Some e
 
 begins_earlier : (traces : Traces) (step : Step) (earlier : List Step) → Begins traces (step ∷ earlier) →

@@ -18,7 +18,7 @@ has_sent s bytes = contains_by (λ k. slice_cmp nat_cmp bytes k.now) s.set
 abbrev pub left : Traces → List ℕ → ℕ
 left [] at = 0
 left (trace ∷ traces) [] = 0
-left (trace ∷ traces) (n ∷ at) = (length trace.items - n) + left traces at
+left (trace ∷ traces) (n ∷ at) = (length trace.calls - n) + left traces at
 
 -- what was placed, newest first, the nodes' positions and the test of what was emitted belong together
 pub record IsKept (traces : Traces) (placed : List (ℕ × ℕ)) (positions : List ℕ) (has : List ℕ → Bool) : Type 0 where

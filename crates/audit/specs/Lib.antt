@@ -1,3 +1,4 @@
+pub mod Messages
 pub mod Traces
 pub mod Schedules
 pub mod Places

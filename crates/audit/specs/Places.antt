@@ -1,7 +1,7 @@
 -- Orders of the entries of traces, as places: a node, and an index of its trace.
 use Rattle.std.specs.Prelude.{◌≡◌, ◌⊎◌, ℕ, ◌+◌, ◌<◌, ◌==◌, if◌then◌else◌, List, [], ◌∷◌, ◌++◌, length, reverse, Option, Some, None, option_and_then}
-use Rattle.node_calls.specs.declared.trace.Entry.{Entry}
-use Rattle.node_calls.specs.Told.{bytes_emitted, bytes_delivered}
+use Rattle.node_calls.specs.Told.{Told}
+use Rattle.audit.specs.Messages.{bytes_emitted, bytes_delivered}
 use Rattle.audit.specs.Traces.{Traces, trace_of, entry_at, audited}
 use Rattle.audit.specs.Schedules.{Step, FitsTraces}
 
@@ -24,7 +24,7 @@ IsSent traces (place ∷ places) bytes =
 -- was emitted
 pub record IsReady (traces : Traces) (earlier : List (ℕ × ℕ)) (place : ℕ × ℕ) : Type 0 where
   pub next : place.1 ≡ count_at place.0 earlier
-  pub entry : Entry
+  pub entry : Told
   pub there : entry_at traces place.0 place.1 ≡ Some entry
   pub fed : (bytes : List ℕ) → bytes_delivered entry ≡ Some bytes → IsSent traces earlier bytes
 
@@ -39,7 +39,7 @@ pub record Fits (traces : Traces) (order : List (ℕ × ℕ)) : Type 0 where
   pub whole : (node : ℕ) → count_at node (reverse order) ≡ length (trace_of traces node)
 
 -- the steps at places, of which the newest stands first
-abbrev pub step_with : ℕ → Option Entry → List Step
+abbrev pub step_with : ℕ → Option Told → List Step
 step_with node None = []
 step_with node (Some entry) = record { node = node; entry = entry } ∷ []
 
@@ -56,7 +56,7 @@ pub record IsOrder (nodes : ℕ) (traces : Traces) (order : List (ℕ × ℕ)) :
 -- the node's next entry, if it has one, delivers bytes that no place emitted
 abbrev pub IsStuckAt : Traces → List (ℕ × ℕ) → ℕ → Type 0
 IsStuckAt traces placed node =
-    (entry : Entry) → entry_at traces node (count_at node placed) ≡ Some entry →
+    (entry : Told) → entry_at traces node (count_at node placed) ≡ Some entry →
     (bytes : List ℕ) × (bytes_delivered entry ≡ Some bytes) × (IsSent traces placed bytes → ⊥)
 
 -- After some run no node can go on, and this place is the next of the least node that has an entry left.

@@ -1,5 +1,5 @@
 -- Receipts: the entries of the traces, each once and none missing, in the order of each list.
-use Rattle.std.specs.Prelude.{◌≡◌, ℕ, ◌<◌, ◌≤◌, ◌==◌, ◌&&◌, if◌then◌else◌, List, length, All, Some, option_map, slice_get, slice_index_or, count_by, sum_by, Vec}
+use Rattle.std.specs.Prelude.{◌≡◌, ℕ, ◌<◌, ◌≤◌, ◌==◌, ◌&&◌, if◌then◌else◌, List, length, All, Some, slice_get, slice_index_or, count_by, sum_by, Vec}
 use Rattle.std.specs.Ordering.{nat_cmp, ordering_then}
 use Rattle.std.specs.BTreeSet.{contains}
 use Rattle.std.specs.declared.alloc.Global.{Global}
@@ -15,7 +15,7 @@ Lists = List (Vec Receipt Global)
 -- the receipt's place names an entry, which it tells
 abbrev pub IsReceiptOf : Traces → Receipt → Type 0
 IsReceiptOf traces receipt =
-    option_map told (entry_at traces receipt.node receipt.index) ≡ Some (told receipt.entry)
+    entry_at traces receipt.node receipt.index ≡ Some (told receipt.entry)
 
 -- each receipt of each list does
 abbrev pub AllMatch : Traces → Lists → Type 0

@@ -1,26 +1,26 @@
 -- Schedules of the cluster, and which of them fit traces.
 use Rattle.std.specs.Prelude.{◌≡◌, ◌⊎◌, ℕ, ◌==◌, ◌<◌, ◌^◌, if◌then◌else◌, List, [], ◌∷◌, ◌++◌, map, Some}
-use Rattle.node_calls.specs.declared.trace.Entry.{Entry}
-use Rattle.node_calls.specs.Asks.{call}
+use Rattle.node_calls.specs.Told.{Told}
+use Rattle.node_calls.specs.Asks.{call_from}
 use Rattle.cluster_model.specs.Worlds.{Cluster, Event, cluster_of, world}
 use Rattle.cluster_model.specs.Schedules.{IsDeltaSchedule}
-use Rattle.node_calls.specs.Told.{bytes_emitted, bytes_delivered}
+use Rattle.audit.specs.Messages.{bytes_emitted, bytes_delivered}
 use Rattle.audit.specs.Traces.{Traces, trace_of}
 
 -- a step: a node, and the entry that it made. Of a list of steps the newest stands first
 pub record Step : Type 0 where
   pub node : ℕ
-  pub entry : Entry
+  pub entry : Told
 
 -- what the node was asked by it
 abbrev pub event_of : ℕ → Step → Event
-event_of nodes s = record { node = s.node; ask = (call nodes s.entry).ask; words = s.entry.words.items }
+event_of nodes s = record { node = s.node; ask = (call_from nodes s.entry).ask; words = s.entry.words }
 
 abbrev pub events_of : ℕ → List Step → List Event
 events_of nodes steps = map (event_of nodes) steps
 
 -- the entries that a node made, the first of them first
-abbrev pub entries_at : ℕ → List Step → List Entry
+abbrev pub entries_at : ℕ → List Step → List Told
 entries_at node [] = []
 entries_at node (step ∷ earlier) =
     if step.node == node then entries_at node earlier ++ step.entry ∷ [] else entries_at node earlier
@@ -42,7 +42,7 @@ pub record FitsTraces (c : Cluster) (traces : Traces) (steps : List Step) : Type
   pub schedule : IsDeltaSchedule c (events_of c.nodes steps)
   pub fed : AreFed steps
   pub told : (i : ℕ) →
-      (world c (events_of c.nodes steps)).trace i ≡ map (call c.nodes) (entries_at i steps)
+      (world c (events_of c.nodes steps)).trace i ≡ map (call_from c.nodes) (entries_at i steps)
   pub whole : (i : ℕ) → entries_at i steps ≡ trace_of traces i
 
 -- some schedule fits, of a cluster of so many nodes which accept so many calls

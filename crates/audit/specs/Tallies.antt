@@ -4,12 +4,12 @@ use Rattle.counters.specs.Sums.{sum_below}
 use Rattle.stamp_register.specs.declared.key.Stamp.{Stamp}
 use Rattle.stamp_register.specs.Keys.{KeyValue, stamp_of}
 use Rattle.operations.specs.Operations.{Operation}
-use Rattle.node_calls.specs.declared.trace.Entry.{Entry}
-use Rattle.node_calls.specs.Asks.{Asked, Call, call}
+use Rattle.node_calls.specs.Told.{Told}
+use Rattle.node_calls.specs.Asks.{Asked, Call, call_from}
 use Rattle.node_calls.specs.Asks as asks
 use Rattle.node_core.specs.Nodes.{Node, start, state_shown}
 use Rattle.node_core.specs.Steps.{after}
-use Rattle.node_core.specs.Traces.{Kept, call_of}
+use Rattle.node_core.specs.Traces.{Kept}
 use Rattle.cluster_model.specs.Histories.{keys_by, acts}
 use Rattle.audit.specs.declared.sums.Sums.{Sums}
 use Rattle.audit.specs.declared.tally.Tally.{Tally}
@@ -47,7 +47,7 @@ executed_in calls stamp term = count_by (λ call. acts stamp term call.reply) ca
 -- ---- of all nodes below a number, each from its start
 
 abbrev pub calls_of : ℕ → Traces → ℕ → List Call
-calls_of nodes traces i = map (call nodes) (trace_of traces i)
+calls_of nodes traces i = map (call_from nodes) (trace_of traces i)
 
 abbrev pub keys_below : ℕ → Traces → ℕ → List Operation
 keys_below nodes traces zero = []
@@ -64,12 +64,12 @@ executed_below nodes traces below stamp term =
 -- ---- as a tally grows
 
 -- a node is what another one is after a call, which is legal
-pub record IsAfter (k new : Kept) (e : Entry) : Type 0 where
-  pub made : new ≡ with_call k (call_of k e)
+pub record IsAfter (k new : Kept) (t : Told) : Type 0 where
+  pub made : new ≡ with_call k (call_from k.config.nodes t)
   pub legal : IsLegalKept new
 
-abbrev pub IsAfterSome : Kept → Entry → Type 0
-IsAfterSome new e = (k : Kept) × IsAfter k new e
+abbrev pub IsAfterSome : Kept → Told → Type 0
+IsAfterSome new t = (k : Kept) × IsAfter k new t
 
 -- sums that have room for many numbers of 64 bits more
 abbrev pub HaveRoom : Sums → Type 0

@@ -1,24 +1,24 @@
 -- The traces of a cluster, and which of them are legal.
-use Rattle.std.specs.Prelude.{◌≡◌, ℕ, zero, suc, ◌+◌, ◌-◌, ◌^◌, ◌<◌, ◌≤◌, List, [], ◌∷◌, length, map, take, slice_get, Option, Some, Vec}
-use Rattle.std.specs.declared.alloc.Global.{Global}
+use Rattle.std.specs.Prelude.{◌≡◌, ℕ, zero, suc, ◌+◌, ◌-◌, ◌^◌, ◌<◌, ◌≤◌, List, [], ◌∷◌, length, map, take, slice_get, Option, Some}
 use Rattle.message_format.specs.Limits.{max_nodes}
 use Rattle.node_core.specs.declared.config.Config.{Config}
-use Rattle.node_calls.specs.declared.trace.Entry.{Entry}
-use Rattle.node_calls.specs.Asks.{call}
+use Rattle.node_calls.specs.Told.{Told}
+use Rattle.node_calls.specs.Asks.{call_from}
 use Rattle.node_core.specs.Traces.{IsLegal}
+use Rattle.packed_trace.specs.Packed.{Packed}
 use Rattle.cluster_model.specs.Worlds.{Cluster, config_of, cluster_of}
 
 -- they stand in the order of their nodes; a node without one did nothing
 abbrev pub Traces : Type 0
-Traces = List (Vec Entry Global)
+Traces = List Packed
 
-abbrev pub trace_of : Traces → ℕ → List Entry
+abbrev pub trace_of : Traces → ℕ → List Told
 trace_of [] node = []
-trace_of (trace ∷ traces) zero = trace.items
+trace_of (trace ∷ traces) zero = trace.calls
 trace_of (trace ∷ traces) (suc node) = trace_of traces node
 
 -- the entry at a place: a node, and an index of its trace
-unfoldable pub entry_at : Traces → ℕ → ℕ → Option Entry
+unfoldable pub entry_at : Traces → ℕ → ℕ → Option Told
 entry_at traces node index = slice_get (trace_of traces node) index
 
 -- 1 to 32 nodes, and a trace for each
@@ -32,15 +32,15 @@ abbrev pub audited : ℕ → Cluster
 audited nodes = cluster_of nodes (2 ^ 32 - 1)
 
 -- a replay of the entries at that node alone gives them
-abbrev pub IsLegalAlone : Config → List Entry → Type 0
-IsLegalAlone config entries = IsLegal config (map (call config.nodes) entries)
+abbrev pub IsLegalAlone : Config → List Told → Type 0
+IsLegalAlone config entries = IsLegal config (map (call_from config.nodes) entries)
 
 abbrev pub AllLegal : ℕ → Traces → Type 0
 AllLegal nodes traces = (node : ℕ) → IsLegalAlone (config_of (audited nodes) node) (trace_of traces node)
 
 -- the entry at this index is the first that a replay doesn't give
-pub record IsFirstWrong (config : Config) (entries : List Entry) (index : ℕ) : Type 0 where
-  pub entry : Entry
+pub record IsFirstWrong (config : Config) (entries : List Told) (index : ℕ) : Type 0 where
+  pub entry : Told
   pub there : slice_get entries index ≡ Some entry
   pub legal : IsLegalAlone config (take index entries)
   pub wrong : IsLegalAlone config (take (index + 1) entries) → ⊥

@@ -8,12 +8,13 @@ ghost use Rattle.std.specs.Prelude.{IsTrue, OnOk, ◌^◌, ◌<◌, ◌≤◌};
 ghost use Rattle.std.specs.Bool.{OnTrue, OnFalse};
 ghost use Rattle.audit.specs.Boards.{IsBoard, placed_on, IsPlacing, has_sent, left};
 ghost use Rattle.audit.specs.Places.{IsStuckAt};
-ghost use Rattle.node_calls.specs.Told.{bytes_delivered};
+ghost use Rattle.audit.specs.Messages.{bytes_delivered};
+ghost use Rattle.packed_trace.specs.Packed.{seen_told};
 ghost use Rattle.audit.specs.Traces.{AreShort, entry_at, trace_of};
 
 use crate::sent::Sent;
-use crate::told::{delivered, entry_of};
-use node_core::{Entry, Trace};
+use crate::told::{call_at, delivered};
+use node_core::{Seen, Trace};
 use std::alloc::{AllocError, Global};
 
 /// What the placing came to: all entries in an order that fits, or the next entry of the least node
@@ -33,18 +34,19 @@ struct Board<'a> {
 }
 
 // The next entry of a node, if it is ready.
-fn next_ready<'a>(board: &Board<'a>, traces: &'a [Trace], node: usize) -> Option<&'a Entry>
+fn next_ready<'a>(board: &Board<'a>, traces: &'a [Trace], node: usize) -> Option<Seen<'a>>
     requires board { IsBoard traces.now board.now }
     requires node { node < length traces.now }
     ensures entry { IfSome result (λ entry.
-        entry_at traces.now node (slice_index board.now.positions.items node) ≡ Some entry.now) }
+        entry_at traces.now node (slice_index board.now.positions.items node)
+        ≡ Some (seen_told entry)) }
     ensures fed { IfSome result (λ entry. (bytes : List ℕ) →
-        bytes_delivered entry.now ≡ Some bytes → IsTrue (has_sent board.now.sent bytes)) }
+        bytes_delivered (seen_told entry) ≡ Some bytes → IsTrue (has_sent board.now.sent bytes)) }
     ensures stuck { IfNone result (IsStuckAt traces.now (placed_on board.now) node) }
 {
     let trace = &traces[node];
     let index = board.positions[node];
-    let Some(entry) = entry_of(trace, index) else {
+    let Some(entry) = call_at(trace, index) else {
         return None;
     };
     if let Some(bytes) = delivered(entry) {

@@ -2,13 +2,13 @@
 
 ghost use Rattle.std.specs.Prelude.{◌≡◌, ℕ, true, false, [], IfOk, IfSome, IfNone};
 ghost use Rattle.actions.specs.Names.{is_name};
-ghost use Rattle.node_calls.specs.Asks.{ask_value};
-ghost use Rattle.node_calls.specs.declared.reply.Reply.{Reply};
+ghost use Rattle.node_calls.specs.Asks.{asked_from};
+ghost use Rattle.node_calls.specs.Told.{ReplyTold, ask_ref_told};
 ghost use Rattle.node_core.specs.Steps.{points_in};
 ghost use Rattle.audit.specs.Points.{point_in, points_set};
 
 use actions::{ActionFault, Actions, Name, NameFault, SettingFault, parse_actions, parse_setting};
-use node_core::Ask;
+use node_core::AskRef;
 use std::alloc::{AllocError, Global};
 
 /// The name that a text is, if it is one.
@@ -26,14 +26,19 @@ pub(crate) fn name_of(alloc: Global, text: &str) -> Result<Option<Name>, AllocEr
 
 /// The points that an ask sets, one after the other, with what they do; none where its text is
 /// refused.
-pub(crate) fn points_set(alloc: Global, ask: &Ask) -> Result<Vec<(Name, Actions)>, AllocError>
-    ensures { IfOk result (λ points. (nodes : ℕ) (reply : Reply)
-        → points.items ≡ points_set (ask_value nodes ask.now reply)) }
+pub(crate) fn points_set(alloc: Global, ask: AskRef<'_>) -> Result<Vec<(Name, Actions)>, AllocError>
+    ensures { IfOk result (λ points. (nodes : ℕ) (reply : ReplyTold)
+        → points.items ≡ points_set (asked_from nodes (ask_ref_told ask.entry) reply)) }
 {
     match ask {
-        Ask::Set { name, text } => point_in(alloc, name, text),
-        Ask::Load { text } => points_in(alloc, text),
-        _ => Ok(Vec::new(alloc)),
+        AskRef::Set { name, text } => point_in(alloc, name, text),
+        AskRef::Load { text } => points_in(alloc, text),
+        AskRef::Remove { .. }
+        | AskRef::Pass { .. }
+        | AskRef::Shift { .. }
+        | AskRef::Grant { .. }
+        | AskRef::Emit { .. }
+        | AskRef::Deliver { .. } => Ok(Vec::new(alloc)),
     }
 }
 

@@ -8,7 +8,7 @@ ghost use Rattle.audit.specs.Receipts.{IsReceiptOf, AllMatch, given_count, given
 ghost use Rattle.audit.specs.Receipts.{IsLate, Ascends, AllAscend, IsFirstLate};
 ghost use Rattle.audit.specs.Checked.{IsChecked};
 
-use crate::told::{entry_of, same_entry};
+use crate::told::{call_at, same_call};
 use node_core::{Receipt, Trace};
 use std::alloc::{AllocError, Global};
 use std::collections::BTreeSet;
@@ -65,9 +65,9 @@ fn is_receipt_of(traces: &[Trace], receipt: &Receipt) -> bool
         return false;
     }
     let trace = &traces[node];
-    match entry_of(trace, receipt.index) {
+    match call_at(trace, receipt.index) {
         None => false,
-        Some(entry) => same_entry(entry, &receipt.entry),
+        Some(call) => same_call(call, &receipt.entry),
     }
 }
 

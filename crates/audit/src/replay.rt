@@ -1,14 +1,16 @@
 //! Whether a node alone gives what its trace tells.
 
 ghost use Rattle.std.specs.Prelude.{◌≡◌, ℕ, ◌+◌, ◌-◌, ◌^◌, ◌<◌, ◌≤◌, ◌++◌, ◌∷◌, [], List, length};
-ghost use Rattle.std.specs.Prelude.{map, IfOk, IfErr, IfSome, IfNone, IsTrue, ◌↔◌};
+ghost use Rattle.std.specs.Prelude.{map, IfOk, IfErr, IfSome, IfNone, IsTrue, ◌↔◌, Some, false};
 ghost use Rattle.std.specs.Bool.{OnTrue, OnFalse};
 ghost use Rattle.message_format.specs.Limits.{max_nodes};
-ghost use Rattle.node_calls.specs.Asks.{call};
-ghost use Rattle.node_core.specs.Traces.{Kept, IsLegal, call_of};
+ghost use Rattle.node_calls.specs.Asks.{call, call_from};
+ghost use Rattle.node_core.specs.Lasts.{last_passed};
+ghost use Rattle.node_core.specs.Traces.{Kept, IsLegal};
 ghost use Rattle.cluster_model.specs.Laws.{IsLegalEmit};
 ghost use Rattle.cluster_model.specs.Worlds.{config_of};
-ghost use Rattle.node_calls.specs.Told.{reply_told, was_emitted};
+ghost use Rattle.node_calls.specs.Told.{passed_ref, reply_told, was_emitted};
+ghost use Rattle.packed_trace.specs.Packed.{pass_value, seen_told};
 ghost use Rattle.audit.specs.Traces.{IsLegalAlone, IsFirstWrong, IsLeastWrong, AllLegal, audited};
 ghost use Rattle.audit.specs.Replays.{IsLegalKept, with_call};
 ghost use Rattle.node_core.specs.Nodes.{start};
@@ -18,9 +20,10 @@ ghost use Rattle.audit.specs.Tallies.{IsTallied, Notes};
 ghost use Rattle.stamp_register.specs.declared.key.Stamp.{Stamp};
 
 use crate::tally::Tally;
-use crate::told::same_reply;
+use crate::told::{same_pass, same_reply};
 use cluster_model::laws::legal_emits;
-use node_core::{Config, Entry, NodeCore, NodeFault, Reply, Trace};
+use node_core::{Config, Entry, NodeCore, NodeFault, PassReplyRef, Reply, Seen, Trace};
+use packed_trace::Pass;
 use std::alloc::Global;
 
 // An emit of these bytes is legal exactly where the bytes tell what differs.
@@ -39,27 +42,85 @@ fn is_out_of_memory(fault: NodeFault) -> bool
     matches!(fault, NodeFault::OutOfMemory)
 }
 
-// Whether a node gives an entry as its next one. It has made the call then. The only error is out
-// of memory.
-fn gives(alloc: Global, core: &mut NodeCore, entry: &Entry) -> Result<bool, NodeFault>
+// A call that a node refuses is one that it doesn't give, unless it is refused as out of memory.
+fn refused(fault: NodeFault) -> Result<bool, NodeFault>
+    ensures ok { IfOk result (λ given. (given ≡ false) × (fault ≡ NodeFault.OutOfMemory → ⊥)) }
+    ensures err { IfErr result (λ fault. fault ≡ NodeFault.OutOfMemory) }
+{
+    if is_out_of_memory(fault) {
+        Err(fault)
+    } else {
+        Ok(false)
+    }
+}
+
+// Whether the last call of a node is a pass that came to this.
+fn has_passed(core: &NodeCore, reply: PassReplyRef<'_>) -> bool
+    ensures { IsTrue result ↔ (last_passed core.now ≡ Some (passed_ref reply.entry)) }
+{
+    match core.last_pass() {
+        Some(made) => same_pass(made, reply),
+        None => false,
+    }
+}
+
+// Whether a node gives a pass as its next call. It has made the call then, and nothing was copied.
+// The only error is out of memory.
+fn gives_pass(alloc: Global, core: &mut NodeCore, pass: Pass<'_>) -> Result<bool, NodeFault>
     requires legal { IsLegalKept core.old }
     ensures legal { IfOk result (λ given. OnTrue given (IsLegalKept core.new)) }
     ensures made { IfOk result (λ given. OnTrue given
-        (core.new ≡ with_call core.old (call_of core.old entry.now))) }
+        (core.new ≡ with_call core.old (call_from core.old.config.nodes (pass_value pass.entry)))) }
+    ensures wrong { IfOk result (λ given. OnFalse given (IsLegalKept
+        (with_call core.old (call_from core.old.config.nodes (pass_value pass.entry))) → ⊥)) }
+    ensures err { IfErr result (λ fault. fault ≡ NodeFault.OutOfMemory) }
+{
+    match core.record_pass(alloc, pass.name.text(), pass.words) {
+        Ok(()) => Ok(has_passed(core, pass.reply())),
+        Err(fault) => refused(fault),
+    }
+}
+
+// Whether a node gives an entry as its next call. It has made the call then. The only error is out
+// of memory.
+fn gives_entry(alloc: Global, core: &mut NodeCore, entry: &Entry) -> Result<bool, NodeFault>
+    requires legal { IsLegalKept core.old }
+    ensures legal { IfOk result (λ given. OnTrue given (IsLegalKept core.new)) }
+    ensures made { IfOk result (λ given. OnTrue given
+        (core.new ≡ with_call core.old (call core.old.config.nodes entry.now))) }
     ensures wrong { IfOk result (λ given. OnFalse given
-        (IsLegalKept (with_call core.old (call_of core.old entry.now)) → ⊥)) }
+        (IsLegalKept (with_call core.old (call core.old.config.nodes entry.now)) → ⊥)) }
     ensures err { IfErr result (λ fault. fault ≡ NodeFault.OutOfMemory) }
 {
     is_emit_told(core.config().nodes, &entry.reply);
-    match core.apply(alloc, &entry.ask, &entry.words) {
-        Ok(made) => Ok(same_reply(&made.reply, &entry.reply)),
-        Err(fault) => {
-            if is_out_of_memory(fault) {
-                Err(fault)
-            } else {
-                Ok(false)
-            }
+    match core.answer(alloc, &entry.ask, &entry.words) {
+        Ok(made) => Ok(same_reply(made.as_ref(), entry.reply.as_ref())),
+        Err(fault) => refused(fault),
+    }
+}
+
+// Whether a node gives a call of a trace as its next one. It has made the call then. The only error
+// is out of memory.
+fn gives(alloc: Global, core: &mut NodeCore, seen: Seen<'_>) -> Result<bool, NodeFault>
+    requires legal { IsLegalKept core.old }
+    ensures legal { IfOk result (λ given. OnTrue given (IsLegalKept core.new)) }
+    ensures made { IfOk result (λ given. OnTrue given
+        (core.new ≡ with_call core.old (call_from core.old.config.nodes (seen_told seen.entry)))) }
+    ensures wrong { IfOk result (λ given. OnFalse given (IsLegalKept
+        (with_call core.old (call_from core.old.config.nodes (seen_told seen.entry))) → ⊥)) }
+    ensures err { IfErr result (λ fault. fault ≡ NodeFault.OutOfMemory) }
+{
+    match seen {
+        Seen::Pass { row, term, word } => {
+            let pass = Pass {
+                name: &row.name,
+                setting: row.setting(),
+                term,
+                words: word.as_slice(),
+            };
+            gives_pass(alloc, core, pass)
         }
+        Seen::Entry(entry) => gives_entry(alloc, core, entry),
     }
 }
 
@@ -79,17 +140,20 @@ fn first_wrong(
     requires executed { (stamp : Stamp) (term : ℕ)
         → sum_of tally.old.executed stamp term ≤ 2 ^ 101 }
     ensures noted { IfOk result (λ wrong. IfNone wrong
-        (Notes tally.old tally.new config.node start (map (call config.nodes) trace.now.items))) }
-    ensures wrong { IfOk result (λ wrong. IfSome wrong (IsFirstWrong config trace.now.items)) }
-    ensures legal { IfOk result (λ wrong. IfNone wrong (IsLegalAlone config trace.now.items)) }
+        (Notes tally.old tally.new config.node start
+        (map (call_from config.nodes) trace.now.calls))) }
+    ensures wrong { IfOk result (λ wrong. IfSome wrong (IsFirstWrong config trace.now.calls)) }
+    ensures legal { IfOk result (λ wrong. IfNone wrong (IsLegalAlone config trace.now.calls)) }
     ensures err { IfErr result (λ fault. fault ≡ NodeFault.OutOfMemory) }
 {
     let mut core = NodeCore::new(alloc, config)?;
-    for (index, entry) in trace.iter().enumerate() {
-        if !gives(alloc, &mut core, entry)? {
+    let mut index = 0;
+    while let Some(seen) = trace.at(index) {
+        if !gives(alloc, &mut core, seen)? {
             return Ok(Some(index as u32));
         }
-        tally.note(alloc, &core, entry)?;
+        tally.note(alloc, &core, seen)?;
+        index += 1;
     }
     Ok(None)
 }

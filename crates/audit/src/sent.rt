@@ -3,10 +3,11 @@
 ghost use Rattle.std.specs.Prelude.{◌≡◌, ℕ, List, OnOk, IsTrue, ◌↔◌, ◌⊎◌, Some, if◌then◌else◌, true, false};
 ghost use Rattle.std.specs.Str.{bytes_eq};
 ghost use Rattle.audit.specs.Boards.{has_sent};
-ghost use Rattle.node_calls.specs.Told.{bytes_emitted};
+ghost use Rattle.audit.specs.Messages.{bytes_emitted};
+ghost use Rattle.packed_trace.specs.Packed.{seen_told};
 
 use crate::told::emitted;
-use node_core::Entry;
+use node_core::Seen;
 use std::alloc::{AllocError, Global};
 use std::collections::BTreeSet;
 
@@ -39,12 +40,12 @@ impl<'a> Sent<'a> {
         Ok(())
     }
 
-    /// Adds what an entry emits, if it does.
-    pub(crate) fn add_reply(&mut self, entry: &'a Entry) -> Result<(), AllocError>
+    /// Adds what a call emitted, if it did.
+    pub(crate) fn add_reply(&mut self, seen: Seen<'a>) -> Result<(), AllocError>
         ensures { OnOk result ((b : List ℕ) → IsTrue (has_sent self.new b)
-            ↔ ((bytes_emitted entry.now ≡ Some b) ⊎ IsTrue (has_sent self.old b))) }
+            ↔ ((bytes_emitted (seen_told seen.entry) ≡ Some b) ⊎ IsTrue (has_sent self.old b))) }
     {
-        if let Some(bytes) = emitted(entry) {
+        if let Some(bytes) = emitted(seen) {
             self.add(bytes)?;
         }
         Ok(())

@@ -3,9 +3,11 @@
 ghost use Rattle.std.specs.Prelude.{◌≡◌, ℕ, ◌+◌, ◌-◌, ◌≤◌, ◌^◌, [], ◌∷◌, length, slice_get};
 ghost use Rattle.std.specs.Prelude.{option_map, option_and_then, IfOk, OnOk, Some, if◌then◌else◌};
 ghost use Rattle.stamp_register.specs.declared.key.Stamp.{Stamp};
-ghost use Rattle.node_calls.specs.Asks.{reply_value};
+ghost use Rattle.node_calls.specs.Asks.{answered_from, call_from};
+ghost use Rattle.node_calls.specs.Told.{reply_ref_told};
 ghost use Rattle.stamp_register.specs.Keys.{stamp_of};
-ghost use Rattle.node_core.specs.Traces.{Kept, call_of, node_of, state_known};
+ghost use Rattle.node_core.specs.Traces.{Kept, node_of, state_known};
+ghost use Rattle.packed_trace.specs.Packed.{seen_told};
 ghost use Rattle.cluster_model.specs.Histories.{acts, keys_by};
 ghost use Rattle.audit.specs.Counts.{AddsKeys};
 ghost use Rattle.audit.specs.Sums.{sum_of};
@@ -18,7 +20,7 @@ use crate::points::{name_of, points_set};
 use crate::sums::Sums;
 use crate::total::Total;
 use actions::{Actions, Name};
-use node_core::{Ask, Entry, NodeCore, PassReply, Reply};
+use node_core::{AskRef, NodeCore, PassReplyRef, ReplyRef, Seen};
 use replica_state::Replica;
 use stamp_register::Stamp;
 use std::alloc::{AllocError, Global};
@@ -47,17 +49,18 @@ impl Tally {
         &mut self,
         alloc: Global,
         core: &NodeCore,
-        entry: &Entry,
+        seen: Seen<'_>,
     ) -> Result<(), AllocError>
-        requires after { IsAfterSome core.now entry.now }
+        requires after { IsAfterSome core.now (seen_told seen) }
         requires granted { HaveRoom self.old.granted }
         requires executed { HaveRoom self.old.executed }
-        ensures { OnOk result ((k : Kept) → IsAfter k core.now entry.now
-            → Notes self.old self.new k.config.node (node_of k) (call_of k entry.now ∷ [])) }
+        ensures { OnOk result ((k : Kept) → IsAfter k core.now (seen_told seen.entry)
+            → Notes self.old self.new k.config.node (node_of k)
+            (call_from k.config.nodes (seen_told seen.entry) ∷ [])) }
     {
-        note_points(&mut self.counts, alloc, core, entry)?;
-        note_grant(&mut self.granted, alloc, core, entry)?;
-        note_act(&mut self.executed, &entry.reply)
+        note_points(&mut self.counts, alloc, core, seen)?;
+        note_grant(&mut self.granted, alloc, core, seen)?;
+        note_act(&mut self.executed, seen.reply())
     }
 
     /// A total for each counted term, in the order of their names, stamps and numbers.
@@ -90,14 +93,15 @@ fn note_points(
     counts: &mut Counts,
     alloc: Global,
     core: &NodeCore,
-    entry: &Entry,
+    seen: Seen<'_>,
 ) -> Result<(), AllocError>
-    requires { IsAfterSome core.now entry.now }
-    ensures { OnOk result ((k : Kept) → IsAfter k core.now entry.now
+    requires { IsAfterSome core.now (seen_told seen) }
+    ensures { OnOk result ((k : Kept) → IsAfter k core.now (seen_told seen.entry)
         → AddsKeys counts.old counts.new
-        (keys_by k.config.node (node_of k) (Some (call_of k entry.now).ask))) }
+        (keys_by k.config.node (node_of k)
+        (Some (call_from k.config.nodes (seen_told seen.entry)).ask))) }
 {
-    let points = points_set(alloc, &entry.ask)?;
+    let points = points_set(alloc, seen.ask())?;
     let Some(stamp) = last_stamp(core, &points) else {
         return Ok(());
     };
@@ -125,17 +129,17 @@ fn note_grant(
     granted: &mut Sums,
     alloc: Global,
     core: &NodeCore,
-    entry: &Entry,
+    seen: Seen<'_>,
 ) -> Result<(), AllocError>
     requires room { HaveRoom granted.old }
-    ensures value { OnOk result ((k : Kept) → IsAfter k core.now entry.now
+    ensures value { OnOk result ((k : Kept) → IsAfter k core.now (seen_told seen.entry)
         → (stamp : Stamp) (term : ℕ) → sum_of granted.new stamp term
         ≡ sum_of granted.old stamp term
-        + granted_by (node_of k) (call_of k entry.now).ask stamp term) }
+        + granted_by (node_of k) (call_from k.config.nodes (seen_told seen.entry)).ask stamp term) }
     ensures few { OnOk result ((stamp : Stamp) (term : ℕ)
         → sum_of granted.new stamp term ≤ sum_of granted.old stamp term + 2 ^ 64) }
 {
-    let Ask::Grant { name, term, amount } = &entry.ask else {
+    let AskRef::Grant { name, term, amount } = seen.ask() else {
         return Ok(());
     };
     let Some(name) = name_of(alloc, name)? else {
@@ -144,18 +148,18 @@ fn note_grant(
     let Some(stamp) = stamp_at(core, &name) else {
         return Ok(());
     };
-    granted.add(stamp, *term, *amount)
+    granted.add(stamp, term, amount)
 }
 
 // Adds the execution that a call was answered with, if it was.
-fn note_act(executed: &mut Sums, reply: &Reply) -> Result<(), AllocError>
+fn note_act(executed: &mut Sums, reply: ReplyRef<'_>) -> Result<(), AllocError>
     requires { HaveRoom executed.old }
     ensures { OnOk result ((nodes : ℕ) (stamp : Stamp) (term : ℕ) → sum_of executed.new stamp term
         ≡ sum_of executed.old stamp term
-        + (if acts stamp term (reply_value nodes reply.now) then 1 else 0)) }
+        + (if acts stamp term (answered_from nodes (reply_ref_told reply.entry)) then 1 else 0)) }
 {
-    if let Reply::Pass(PassReply::Act { term, stamp, .. }) = reply {
-        executed.add(*stamp, *term, 1)?;
+    if let ReplyRef::Pass(PassReplyRef::Act { term, stamp, .. }) = reply {
+        executed.add(stamp, term, 1)?;
     }
     Ok(())
 }

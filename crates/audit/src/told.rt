@@ -1,62 +1,63 @@
-//! What entries tell: whether two tell the same, and the bytes of messages.
+//! What calls tell: whether two tell the same, and the bytes of messages.
 
 ghost use Rattle.std.specs.Prelude.{◌≡◌, ◌↔◌, IsTrue, option_map, string_bytes, slice_get};
-ghost use Rattle.std.specs.Option.{option_copied};
 ghost use Rattle.actions.specs.Value.{task_value};
-ghost use Rattle.node_calls.specs.Told.{ask_told, reply_told, told, bytes_emitted, bytes_delivered, passed};
+ghost use Rattle.node_calls.specs.Told.{ask_ref_told, passed_ref, reply_ref_told, told};
+ghost use Rattle.packed_trace.specs.Packed.{seen_told};
+ghost use Rattle.audit.specs.Messages.{bytes_emitted, bytes_delivered};
 
 use actions::Task;
-use node_core::{Ask, Entry, PassReply, Reply, Trace};
+use node_core::{AskRef, Entry, PassReplyRef, ReplyRef, Seen, Trace};
 
 // Whether two asks are the same, to the byte.
-fn same_ask(ask: &Ask, other: &Ask) -> bool
-    ensures { IsTrue result ↔ (ask_told ask.now ≡ ask_told other.now) }
+fn same_ask(ask: AskRef<'_>, other: AskRef<'_>) -> bool
+    ensures { IsTrue result ↔ (ask_ref_told ask.entry ≡ ask_ref_told other.entry) }
 {
     match ask {
-        Ask::Set { name, text } => match other {
-            Ask::Set { name: n, text: t } => name == n && text == t,
+        AskRef::Set { name, text } => match other {
+            AskRef::Set { name: n, text: t } => name == n && text == t,
             _ => false,
         },
-        Ask::Remove { name } => match other {
-            Ask::Remove { name: n } => name == n,
+        AskRef::Remove { name } => match other {
+            AskRef::Remove { name: n } => name == n,
             _ => false,
         },
-        Ask::Load { text } => match other {
-            Ask::Load { text: t } => text == t,
+        AskRef::Load { text } => match other {
+            AskRef::Load { text: t } => text == t,
             _ => false,
         },
-        Ask::Pass { name } => match other {
-            Ask::Pass { name: n } => name == n,
+        AskRef::Pass { name } => match other {
+            AskRef::Pass { name: n } => name == n,
             _ => false,
         },
-        Ask::Shift {
+        AskRef::Shift {
             name,
             term,
             to,
             amount,
         } => match other {
-            Ask::Shift {
+            AskRef::Shift {
                 name: n,
                 term: k,
                 to: j,
                 amount: a,
-            } => name == n && *term == *k && *to == *j && *amount == *a,
+            } => name == n && term == k && to == j && amount == a,
             _ => false,
         },
-        Ask::Grant { name, term, amount } => match other {
-            Ask::Grant {
+        AskRef::Grant { name, term, amount } => match other {
+            AskRef::Grant {
                 name: n,
                 term: k,
                 amount: a,
-            } => name == n && *term == *k && *amount == *a,
+            } => name == n && term == k && amount == a,
             _ => false,
         },
-        Ask::Emit { to } => match other {
-            Ask::Emit { to: j } => *to == *j,
+        AskRef::Emit { to } => match other {
+            AskRef::Emit { to: j } => to == j,
             _ => false,
         },
-        Ask::Deliver { message } => match other {
-            Ask::Deliver { message: m } => message.as_slice() == m.as_slice(),
+        AskRef::Deliver { message } => match other {
+            AskRef::Deliver { message: m } => message == m,
             _ => false,
         },
     }
@@ -105,98 +106,121 @@ fn same_task(task: &Task, other: &Task) -> bool
     }
 }
 
-fn same_pass(reply: &PassReply, other: &PassReply) -> bool
-    ensures { IsTrue result ↔ (passed reply.now ≡ passed other.now) }
+// Whether two passes came to the same.
+pub(crate) fn same_pass(reply: PassReplyRef<'_>, other: PassReplyRef<'_>) -> bool
+    ensures { IsTrue result ↔ (passed_ref reply.entry ≡ passed_ref other.entry) }
 {
     match reply {
-        PassReply::Unset => matches!(other, PassReply::Unset),
-        PassReply::NoTerm { stamp } => match other {
-            PassReply::NoTerm { stamp: s } => *stamp == *s,
+        PassReplyRef::Unset => matches!(other, PassReplyRef::Unset),
+        PassReplyRef::NoTerm { stamp } => match other {
+            PassReplyRef::NoTerm { stamp: s } => stamp == s,
             _ => false,
         },
-        PassReply::Act { term, stamp, task } => match other {
-            PassReply::Act {
+        PassReplyRef::Act { term, stamp, task } => match other {
+            PassReplyRef::Act {
                 term: k,
                 stamp: s,
                 task: t,
-            } => *term == *k && *stamp == *s && same_task(task, t),
+            } => term == k && stamp == s && same_task(task, t),
             _ => false,
         },
     }
 }
 
 // Whether two replies are the same, to the byte.
-pub(crate) fn same_reply(reply: &Reply, other: &Reply) -> bool
-    ensures { IsTrue result ↔ (reply_told reply.now ≡ reply_told other.now) }
+pub(crate) fn same_reply(reply: ReplyRef<'_>, other: ReplyRef<'_>) -> bool
+    ensures { IsTrue result ↔ (reply_ref_told reply.entry ≡ reply_ref_told other.entry) }
 {
     match reply {
-        Reply::Set(stamp) => match other {
-            Reply::Set(s) => *stamp == *s,
+        ReplyRef::Set(stamp) => match other {
+            ReplyRef::Set(s) => stamp == s,
             _ => false,
         },
-        Reply::Remove(stamp) => match other {
-            Reply::Remove(s) => *stamp == *s,
+        ReplyRef::Remove(stamp) => match other {
+            ReplyRef::Remove(s) => stamp == s,
             _ => false,
         },
-        Reply::Load(entries) => match other {
-            Reply::Load(e) => *entries == *e,
+        ReplyRef::Load(entries) => match other {
+            ReplyRef::Load(e) => entries == e,
             _ => false,
         },
-        Reply::Pass(pass) => match other {
-            Reply::Pass(p) => same_pass(pass, p),
+        ReplyRef::Pass(pass) => match other {
+            ReplyRef::Pass(p) => same_pass(pass, p),
             _ => false,
         },
-        Reply::Shift(total) => match other {
-            Reply::Shift(t) => *total == *t,
+        ReplyRef::Shift(total) => match other {
+            ReplyRef::Shift(t) => total == t,
             _ => false,
         },
-        Reply::Grant(total) => match other {
-            Reply::Grant(t) => *total == *t,
+        ReplyRef::Grant(total) => match other {
+            ReplyRef::Grant(t) => total == t,
             _ => false,
         },
-        Reply::Emit(message) => match other {
-            Reply::Emit(m) => message.as_slice() == m.as_slice(),
+        ReplyRef::Emit(message) => match other {
+            ReplyRef::Emit(m) => message == m,
             _ => false,
         },
-        Reply::Deliver(changed) => match other {
-            Reply::Deliver(c) => *changed == *c,
+        ReplyRef::Deliver(changed) => match other {
+            ReplyRef::Deliver(c) => changed == c,
             _ => false,
         },
     }
 }
 
-// Whether two entries tell the same.
-pub(crate) fn same_entry(entry: &Entry, other: &Entry) -> bool
-    ensures { IsTrue result ↔ (told entry.now ≡ told other.now) }
+// The random draws of a call of a trace.
+fn words_of<'a>(seen: &'a Seen<'_>) -> &'a [u32]
+    ensures { result.now ≡ (seen_told seen.now).words }
 {
-    same_ask(&entry.ask, &other.ask)
-        && entry.words.as_slice() == other.words.as_slice()
-        && same_reply(&entry.reply, &other.reply)
-}
-
-// The entry at an index of a trace.
-pub(crate) fn entry_of(trace: &Trace, index: u32) -> Option<&Entry>
-    ensures { option_copied result ≡ slice_get trace.now.items index }
-{
-    trace.get(index as usize)
-}
-
-// The message that an entry emitted, if it did.
-pub(crate) fn emitted(entry: &Entry) -> Option<&[u8]>
-    ensures { option_map (λ b. b.now) result ≡ bytes_emitted entry.now }
-{
-    match &entry.reply {
-        Reply::Emit(message) => Some(message.as_slice()),
-        _ => None,
+    match seen {
+        Seen::Pass { word, .. } => word.as_slice(),
+        Seen::Entry(entry) => entry.words.as_slice(),
     }
 }
 
-// The message that an entry delivered, if it did.
-pub(crate) fn delivered(entry: &Entry) -> Option<&[u8]>
-    ensures { option_map (λ b. b.now) result ≡ bytes_delivered entry.now }
+// Whether a call of a trace tells what an entry tells.
+pub(crate) fn same_call(seen: Seen<'_>, entry: &Entry) -> bool
+    ensures { IsTrue result ↔ (seen_told seen.entry ≡ told entry.now) }
 {
-    match &entry.ask {
-        Ask::Deliver { message } => Some(message.as_slice()),
-        _ => None,
+    same_ask(seen.ask(), entry.ask.as_ref())
+        && words_of(&seen) == entry.words.as_slice()
+        && same_reply(seen.reply(), entry.reply.as_ref())
+}
+
+// The call at an index of a trace.
+pub(crate) fn call_at(trace: &Trace, index: u32) -> Option<Seen<'_>>
+    ensures { option_map seen_told result ≡ slice_get trace.now.calls index }
+{
+    trace.at(index as usize)
+}
+
+// The message that a call emitted, if it did.
+pub(crate) fn emitted(seen: Seen<'_>) -> Option<&[u8]>
+    ensures { option_map (λ b. b.now) result ≡ bytes_emitted (seen_told seen.entry) }
+{
+    match seen.reply() {
+        ReplyRef::Emit(message) => Some(message),
+        ReplyRef::Set(_)
+        | ReplyRef::Remove(_)
+        | ReplyRef::Load(_)
+        | ReplyRef::Pass(_)
+        | ReplyRef::Shift(_)
+        | ReplyRef::Grant(_)
+        | ReplyRef::Deliver(_) => None,
+    }
+}
+
+// The message that a call delivered, if it did.
+pub(crate) fn delivered(seen: Seen<'_>) -> Option<&[u8]>
+    ensures { option_map (λ b. b.now) result ≡ bytes_delivered (seen_told seen.entry) }
+{
+    match seen.ask() {
+        AskRef::Deliver { message } => Some(message),
+        AskRef::Set { .. }
+        | AskRef::Remove { .. }
+        | AskRef::Load { .. }
+        | AskRef::Pass { .. }
+        | AskRef::Shift { .. }
+        | AskRef::Grant { .. }
+        | AskRef::Emit { .. } => None,
     }
 }

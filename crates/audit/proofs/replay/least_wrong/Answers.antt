@@ -1,11 +1,11 @@
 use Rattle.std.proofs.Common.{◌≡◌, ◌<◌, ◌≤◌, List, length, map, sym, subst, arith, below_more, IfSome, IfNone}
-use Rattle.node_calls.specs.declared.trace.Entry.{Entry}
+use Rattle.node_calls.specs.Told.{Told}
 use Rattle.cluster_model.specs.Worlds.{config_of}
 use Rattle.audit.specs.Traces.{audited, IsLegalAlone, IsFirstWrong}
 use Rattle.audit.proofs.Runs.{trace_read}
 use Rattle.audit.proofs.Replayed.{legal_everywhere}
 use Rattle.message_format.specs.Limits.{max_nodes}
-use Rattle.node_calls.specs.Asks.{call}
+use Rattle.node_calls.specs.Asks.{call_from}
 use Rattle.node_core.specs.Nodes.{start}
 use Rattle.audit.specs.Traces.{trace_of}
 use Rattle.audit.specs.Tallies.{Notes, IsTallied}
@@ -17,9 +17,9 @@ returns-in-Some-clause-wrong c =
     let below : c.loop-node.node < length c.args.traces.now = omega (arith, c.loop-node-test.true, c.requires.each) in
     let same = trace_read c.args.traces.now c.loop-node.node _ below c.index-traces-node.is in
     let found = subst (λ o. IfSome o (IsFirstWrong (config_of (audited c.args.nodes) c.loop-node.node)
-    c.index-traces-node.result.items)) c.in-Some.is c.in_ok-index.ensures.wrong in
+    c.index-traces-node.result.calls)) c.in-Some.is c.in_ok-index.ensures.wrong in
     record {
-      first = subst (λ (es : List Entry). IsFirstWrong (config_of (audited c.args.nodes) c.loop-node.node) es
+      first = subst (λ (es : List Told). IsFirstWrong (config_of (audited c.args.nodes) c.loop-node.node) es
           c.in-Some.index) (sym same) found;
       least = c.loop-node.invariant.legal;
     }
@@ -29,18 +29,18 @@ loop-node-preserved c =
     let below : c.loop-node.node < length c.args.traces.now = omega (arith, c.loop-node-test.true, c.requires.each) in
     let same = trace_read c.args.traces.now c.loop-node.node _ below c.index-traces-node.is in
     let legal = subst (λ o. IfNone o (IsLegalAlone (config_of (audited c.args.nodes) c.loop-node.node)
-    c.index-traces-node.result.items)) c.in_default.is c.in_ok-index.ensures.legal in
+    c.index-traces-node.result.calls)) c.in_default.is c.in_ok-index.ensures.legal in
     let notes = subst (λ o. IfNone o (Notes c.loop-node.tally c.first_wrong.new.tally c.loop-node.node start
-    (map (call c.args.nodes) c.index-traces-node.result.items))) c.in_default.is c.in_ok-index.ensures.noted in
+    (map (call_from c.args.nodes) c.index-traces-node.result.calls))) c.in_default.is c.in_ok-index.ensures.noted in
     let here : IsLegalAlone (config_of (audited c.args.nodes) c.loop-node.node)
     (trace_of c.args.traces.now c.loop-node.node) = subst
-    (λ (es : List Entry). IsLegalAlone (config_of (audited c.args.nodes) c.loop-node.node) es) (sym same) legal in
+    (λ (es : List Told). IsLegalAlone (config_of (audited c.args.nodes) c.loop-node.node) es) (sym same) legal in
     record {
       legal = below_more _ _ c.loop-node.invariant.legal here;
       tallied = node_tallied c.loop-node.tally c.first_wrong.new.tally c.args.nodes c.args.traces.now c.loop-node.node
           (one_short c.args.nodes c.args.traces.now c.loop-node.node here) c.loop-node.invariant.tallied
-          (subst (λ (es : List Entry). Notes c.loop-node.tally c.first_wrong.new.tally c.loop-node.node start
-          (map (call c.args.nodes) es)) (sym same) notes);
+          (subst (λ (es : List Told). Notes c.loop-node.tally c.first_wrong.new.tally c.loop-node.node start
+          (map (call_from c.args.nodes) es)) (sym same) notes);
     }
 
 pub returns-clause-legal : goal.returns-clause-legal
