@@ -3,11 +3,41 @@
 ghost use Rattle.std.specs.Prelude.{◌≡◌, ◌↔◌, IsTrue, option_map, string_bytes, slice_get};
 ghost use Rattle.actions.specs.Value.{task_value};
 ghost use Rattle.node_calls.specs.Told.{ask_ref_told, passed_ref, reply_ref_told, told};
+ghost use Rattle.node_calls.specs.Told.{grants, shifts};
 ghost use Rattle.packed_trace.specs.Packed.{seen_told};
 ghost use Rattle.audit.specs.Messages.{bytes_emitted, bytes_delivered};
 
 use actions::Task;
 use node_core::{AskRef, Entry, PassReplyRef, ReplyRef, Seen, Trace};
+
+// Whether an ask moves these rights.
+fn is_shift(ask: AskRef<'_>, name: &str, term: u8, to: u8, amount: u64) -> bool
+    ensures { IsTrue result ↔ (ask_ref_told ask.entry ≡ shifts name.now term to amount) }
+{
+    match ask {
+        AskRef::Shift {
+            name: n,
+            term: k,
+            to: j,
+            amount: a,
+        } => name == n && term == k && to == j && amount == a,
+        _ => false,
+    }
+}
+
+// Whether an ask grants these rights.
+fn is_grant(ask: AskRef<'_>, name: &str, term: u8, amount: u64) -> bool
+    ensures { IsTrue result ↔ (ask_ref_told ask.entry ≡ grants name.now term amount) }
+{
+    match ask {
+        AskRef::Grant {
+            name: n,
+            term: k,
+            amount: a,
+        } => name == n && term == k && amount == a,
+        _ => false,
+    }
+}
 
 // Whether two asks are the same, to the byte.
 fn same_ask(ask: AskRef<'_>, other: AskRef<'_>) -> bool
@@ -35,23 +65,8 @@ fn same_ask(ask: AskRef<'_>, other: AskRef<'_>) -> bool
             term,
             to,
             amount,
-        } => match other {
-            AskRef::Shift {
-                name: n,
-                term: k,
-                to: j,
-                amount: a,
-            } => name == n && term == k && to == j && amount == a,
-            _ => false,
-        },
-        AskRef::Grant { name, term, amount } => match other {
-            AskRef::Grant {
-                name: n,
-                term: k,
-                amount: a,
-            } => name == n && term == k && amount == a,
-            _ => false,
-        },
+        } => is_shift(other, name, term, to, amount),
+        AskRef::Grant { name, term, amount } => is_grant(other, name, term, amount),
         AskRef::Emit { to } => match other {
             AskRef::Emit { to: j } => to == j,
             _ => false,
