@@ -11,7 +11,7 @@ use Rattle.audit.specs.Traces.{Traces, audited}
 use Rattle.audit.specs.VerdictText.{verdict_text}
 use Rattle.streams.specs.Fields.{output_line}
 use Rattle.thread_plans.specs.Plans.{PlanValue, plan_in}
-use Rattle.thread_scripts.specs.Plays.{AreTracesOf}
+use Rattle.thread_scripts.specs.Plays.{AreListsOf, AreTracesOf}
 
 -- how many blocks there were, how many calls were accepted, and what an audit said
 abbrev pub output_text : ℕ → ℕ → Result AuditYes AuditFault → List ℕ
@@ -39,10 +39,11 @@ pub record IsOutputOf (plan : PlanValue) (traces : Traces) (lists : Lists) (text
   pub ended : verdict ≢ Err OutOfMemory
   pub printed : text ≡ output_text (length plan.blocks) (entries_in traces) verdict
 
--- what it prints that came to some legal traces of its nodes, and some receipts
+-- what it prints that came to some legal traces of its nodes, and to lists of receipts that these gave their seats
 abbrev pub IsOutput : PlanValue → List ℕ → Type 0
 IsOutput plan text =
-    (traces : Traces) × (lists : Lists) × AreTracesOf plan traces × IsOutputOf plan traces lists text
+    (traces : Traces) × (lists : Lists) × AreTracesOf plan traces × AreListsOf plan lists
+    × IsOutputOf plan traces lists text
 
 -- a script has a plan, which prints this
 abbrev pub ComesTo : List ℕ → List ℕ → Type 0

@@ -1,10 +1,14 @@
 -- What the nodes of a plan come to.
-use Rattle.std.specs.Prelude.{ℕ, ◌+◌, List, [], ◌∷◌, map}
+use Rattle.std.specs.Prelude.{ℕ, ◌+◌, ◌<◌, List, [], ◌∷◌, map, All, Vec}
+use Rattle.std.specs.declared.alloc.Global.{Global}
 use Rattle.node_core.specs.declared.config.Config.{Config}
 use Rattle.node_calls.specs.Asks.{call_from}
+use Rattle.node_calls.specs.declared.receipt.Receipt.{Receipt}
 use Rattle.packed_trace.specs.Packed.{Packed}
 use Rattle.node_core.specs.Traces.{IsLegal}
 use Rattle.node_registry.specs.Cells.{IsDrawnBy}
+use Rattle.node_registry.specs.Receipts.{AreGivenSince}
+use Rattle.audit.specs.Receipts.{Lists}
 use Rattle.audit.specs.Traces.{Traces}
 use Rattle.thread_plans.specs.Plans.{PlanValue}
 
@@ -25,3 +29,15 @@ config_at plan node = record { node = node; nodes = plan.nodes; trace_cap = plan
 -- traces of the plan's nodes, in their order
 abbrev pub AreTracesOf : PlanValue → Traces → Type 0
 AreTracesOf plan traces = AllFrom (λ node trace. IsTraceOf (config_at plan node) plan.seed trace) 0 traces
+
+-- lists of receipts, each of which a node of this configuration and seed gave one seat from its first call on
+abbrev pub AreListsAt : Config → List ℕ → Lists → Type 0
+AreListsAt config seed lists = All (λ list. AreGivenSince config seed 0 list.items) lists
+
+-- receipts that some node of the plan gave one seat from its first call on
+abbrev pub IsListOf : PlanValue → Vec Receipt Global → Type 0
+IsListOf plan list =
+    (node : ℕ) × (node < plan.nodes) × AreGivenSince (config_at plan node) plan.seed 0 list.items
+
+abbrev pub AreListsOf : PlanValue → Lists → Type 0
+AreListsOf plan lists = All (IsListOf plan) lists

@@ -1,14 +1,16 @@
 //! Workers of a node, and its gossip beside them.
 
 ghost use Rattle.std.specs.Prelude.{◌≡◌, ◌≤◌, ◌<◌, ◌^◌, vec_len, All, IfOk};
+ghost use Rattle.node_registry.specs.Receipts.{AreGivenSince};
 
 use gossip::{GossipReport, MailWire, gossip_rounds};
 use node_registry::{Done, Gate, Job, Label, Registry, Seat, run_workers};
 use std::alloc::{AllocError, Global};
+use std::marker::PhantomData;
 use std::sync::Wait;
 use std::sync::atomic::{AtomicBool, Ordering};
 use std::thread;
-use std::thread::{Scope, Threads};
+use std::thread::{Promise, Scope, Threads};
 
 // A gate that is always open.
 #[derive(Drop)]
@@ -54,6 +56,7 @@ fn do_gossip<L: Label, R: Wait>(
     gossip: Gossip,
 ) -> Gossiped<L>
     requires { seat ≡ 0 }
+    ensures { AreGivenSince L.config L.seed 0 result.report.receipts.items }
 {
     let Gossip { mut wire, rounds } = gossip;
     let rounds = if refused.load(Ordering::SeqCst) {
@@ -76,6 +79,8 @@ pub(crate) fn work<L: Label + Send + Sync, R: Threads + Wait + Sync>(
     requires fresh { All (λ j. j.seat ≡ 0) jobs.items }
     ensures len { IfOk result (λ dones. vec_len dones ≡ vec_len jobs.entry) }
     ensures counted { IfOk result (λ dones. All (λ d. d.seat ≡ vec_len d.receipts) dones.items) }
+    ensures given { IfOk result (λ dones.
+        All (λ d. AreGivenSince L.config L.seed 0 d.receipts.items) dones.items) }
 {
     match run_workers(rt, alloc, jobs, &Open) {
         Ok(dones) => Ok(dones),
@@ -95,6 +100,16 @@ struct Crew<'a, L: Label> {
     ghost fresh: { All (λ j. j.seat ≡ 0) jobs.items },
 }
 
+// What a gossip's thread comes to: receipts that its seat was given from its first call on.
+#[derive(Drop)]
+struct Gossips<L: Label> {
+    of: PhantomData<L>,
+}
+
+impl<L: Label> Promise<Gossiped<L>> for Gossips<L> {
+    ghost kept_by = { λ _ g. AreGivenSince L.config L.seed 0 g.report.receipts.items };
+}
+
 // Lets all of them call beside each other.
 fn work_in<'s, E, L: Label + Send + Sync + 's, R: Threads + Wait + Sync>(
     scope: &Scope<'s, E>,
@@ -107,9 +122,19 @@ fn work_in<'s, E, L: Label + Send + Sync + 's, R: Threads + Wait + Sync>(
     ensures len { IfOk result (λ both. vec_len both.dones ≡ vec_len crew.entry.jobs) }
     ensures counted { IfOk result (λ both.
         All (λ d. d.seat ≡ vec_len d.receipts) both.dones.items) }
+    ensures given { IfOk result (λ both.
+        All (λ d. AreGivenSince L.config L.seed 0 d.receipts.items) both.dones.items) }
+    ensures gossiped { IfOk result (λ both.
+        AreGivenSince L.config L.seed 0 both.gossiped.report.receipts.items) }
 {
     let Crew { seat, gossip, jobs } = crew;
-    let gossiping = scope.spawn(move || do_gossip(rt, alloc, registry, refused, seat, gossip));
+    let gossiping = scope.spawn_with(
+        Gossips { of: PhantomData },
+        move || -> Gossiped<L>
+            requires { seat ≡ 0 }
+            ensures { AreGivenSince L.config L.seed 0 result.report.receipts.items }
+        { do_gossip(rt, alloc, registry, refused, seat, gossip) },
+    );
     let dones = work(rt, alloc, jobs);
     let gossiped = match gossiping {
         Ok(thread) => thread.join(rt),
@@ -140,6 +165,10 @@ pub(crate) fn work_and_gossip<L: Label + Send + Sync, R: Threads + Wait + Sync>(
     ensures len { IfOk result (λ both. vec_len both.dones ≡ vec_len jobs.entry) }
     ensures counted { IfOk result (λ both.
         All (λ d. d.seat ≡ vec_len d.receipts) both.dones.items) }
+    ensures given { IfOk result (λ both.
+        All (λ d. AreGivenSince L.config L.seed 0 d.receipts.items) both.dones.items) }
+    ensures gossiped { IfOk result (λ both.
+        AreGivenSince L.config L.seed 0 both.gossiped.report.receipts.items) }
 {
     let crew = Crew { seat, gossip, jobs };
     let refused = AtomicBool::new(false);
@@ -151,6 +180,10 @@ pub(crate) fn work_and_gossip<L: Label + Send + Sync, R: Threads + Wait + Sync>(
             ensures len { IfOk result (λ both. vec_len both.dones ≡ vec_len crew.entry.jobs) }
             ensures counted { IfOk result (λ both.
                 All (λ d. d.seat ≡ vec_len d.receipts) both.dones.items) }
+            ensures given { IfOk result (λ both.
+                All (λ d. AreGivenSince L.config L.seed 0 d.receipts.items) both.dones.items) }
+            ensures gossiped { IfOk result (λ both.
+                AreGivenSince L.config L.seed 0 both.gossiped.report.receipts.items) }
         { work_in(scope, rt, alloc, registry, refused, crew) },
     )
 }

@@ -2,6 +2,8 @@
 
 ghost use Rattle.std.specs.Prelude.{◌≡◌, ◌+◌, [], sum, vec_len, All, IfOk};
 ghost use Rattle.std.specs.List.{sum_by};
+ghost use Rattle.node_registry.specs.Receipts.{AreGivenSince};
+ghost use Rattle.thread_scripts.specs.Plays.{AreListsAt};
 
 use crate::beside::Gossiped;
 use gossip::Ended;
@@ -20,7 +22,8 @@ pub(crate) struct Finished<L: Label> {
 
 impl<L: Label> Finished<L> {
     pub(crate) fn new(alloc: Global) -> Finished<L>
-        ensures { vec_len result.seats ≡ 0 }
+        ensures len { vec_len result.seats ≡ 0 }
+        ensures given { AreListsAt L.config L.seed result.lists.items }
     {
         Finished {
             seats: Vec::new(alloc),
@@ -34,8 +37,11 @@ impl<L: Label> Finished<L> {
         seat: Seat<L>,
         receipts: Vec<Receipt>,
     ) -> Result<Finished<L>, AllocError>
-        requires { seat ≡ vec_len receipts }
-        ensures { IfOk result (λ all. vec_len all.seats ≡ vec_len self.seats + 1) }
+        requires counted { seat ≡ vec_len receipts }
+        requires given { AreListsAt L.config L.seed self.lists.items }
+        requires more { AreGivenSince L.config L.seed 0 receipts.items }
+        ensures len { IfOk result (λ all. vec_len all.seats ≡ vec_len self.seats + 1) }
+        ensures given { IfOk result (λ all. AreListsAt L.config L.seed all.lists.items) }
     {
         let Finished {
             mut seats,
@@ -48,8 +54,12 @@ impl<L: Label> Finished<L> {
 
     /// With the seats of workers that are done, where none was refused memory.
     pub(crate) fn with_workers(self, dones: Vec<Done<L>>) -> Result<Finished<L>, AllocError>
-        requires { All (λ d. d.seat ≡ vec_len d.receipts) dones.items }
-        ensures { IfOk result (λ all. vec_len all.seats ≡ vec_len self.seats + vec_len dones) }
+        requires counted { All (λ d. d.seat ≡ vec_len d.receipts) dones.items }
+        requires given { AreListsAt L.config L.seed self.lists.items }
+        requires more { All (λ d. AreGivenSince L.config L.seed 0 d.receipts.items) dones.items }
+        ensures len { IfOk result (λ all.
+            vec_len all.seats ≡ vec_len self.seats + vec_len dones) }
+        ensures given { IfOk result (λ all. AreListsAt L.config L.seed all.lists.items) }
     {
         let mut finished = self;
         for done in dones {
@@ -72,7 +82,10 @@ impl<L: Label> Finished<L> {
 
     /// With the seat of a node's gossip, where memory wasn't refused.
     pub(crate) fn with_gossip(self, gossiped: Gossiped<L>) -> Result<Finished<L>, AllocError>
-        ensures { IfOk result (λ all. vec_len all.seats ≡ vec_len self.seats + 1) }
+        requires given { AreListsAt L.config L.seed self.lists.items }
+        requires more { AreGivenSince L.config L.seed 0 gossiped.report.receipts.items }
+        ensures len { IfOk result (λ all. vec_len all.seats ≡ vec_len self.seats + 1) }
+        ensures given { IfOk result (λ all. AreListsAt L.config L.seed all.lists.items) }
     {
         let Gossiped { seat, report } = gossiped;
         if report.ended == Ended::OutOfMemory {
@@ -87,8 +100,11 @@ impl<L: Label> Finished<L> {
         alloc: Global,
         seats: Vec<Seat<L>>,
     ) -> Result<Finished<L>, AllocError>
-        requires { All (λ calls. calls ≡ 0) seats.items }
-        ensures { IfOk result (λ all. vec_len all.seats ≡ vec_len self.seats + vec_len seats) }
+        requires fresh { All (λ calls. calls ≡ 0) seats.items }
+        requires given { AreListsAt L.config L.seed self.lists.items }
+        ensures len { IfOk result (λ all.
+            vec_len all.seats ≡ vec_len self.seats + vec_len seats) }
+        ensures given { IfOk result (λ all. AreListsAt L.config L.seed all.lists.items) }
     {
         let mut finished = self;
         for seat in seats {

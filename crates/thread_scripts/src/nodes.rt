@@ -5,7 +5,7 @@ ghost use Rattle.std.specs.Prelude.{All, IfOk};
 ghost use Rattle.std.specs.List.{sum_by};
 ghost use Rattle.std.specs.Option.{is_some};
 ghost use Rattle.node_core.specs.Refusals.{is_bad_config};
-ghost use Rattle.thread_scripts.specs.Plays.{IsTraceOf};
+ghost use Rattle.thread_scripts.specs.Plays.{AreListsAt, IsTraceOf};
 
 use crate::asks::jobs_of;
 use crate::beside::{Gossip, work, work_and_gossip};
@@ -49,8 +49,10 @@ fn make_calls_beside<L: Label + Send + Sync, R: Threads + Wait + Sync>(
 ) -> Result<Finished<L>, AllocError>
     requires few { vec_len seats < 2 ^ 8 }
     requires fresh { All (λ calls. calls ≡ 0) seats.items }
-    ensures { IfOk result (λ all.
+    requires given { AreListsAt L.config L.seed finished.lists.items }
+    ensures len { IfOk result (λ all.
         vec_len all.seats ≡ vec_len finished.seats + vec_len seats) }
+    ensures given { IfOk result (λ all. AreListsAt L.config L.seed all.lists.items) }
 {
     let Some(gossip) = gossip else {
         let (jobs, rest) = jobs_of(alloc, registry, seats, &plan.blocks, node)?;
@@ -80,7 +82,8 @@ fn make_calls<L: Label + Send + Sync, R: Threads + Wait + Sync>(
 ) -> Result<Finished<L>, AllocError>
     requires few { vec_len seats < 2 ^ 8 }
     requires fresh { All (λ calls. calls ≡ 0) seats.items }
-    ensures { IfOk result (λ all. vec_len all.seats ≡ vec_len seats) }
+    ensures len { IfOk result (λ all. vec_len all.seats ≡ vec_len seats) }
+    ensures given { IfOk result (λ all. AreListsAt L.config L.seed all.lists.items) }
 {
     let finished = Finished::new(alloc);
     let Some(seat) = seats.pop() else {
@@ -104,7 +107,9 @@ fn run_registry<L: Label + Send + Sync, R: Threads + Wait + Sync>(
     requires parts { (blank.parts ≡ L.parts) × (L.parts ≡ seats) × (0 < seats) }
     requires config { job.config ≡ L.config }
     requires seed { plan.now.seed ≡ L.seed }
-    ensures { IfOk result (λ played. IsTraceOf job.config plan.now.seed played.trace) }
+    ensures trace { IfOk result (λ played. IsTraceOf job.config plan.now.seed played.trace) }
+    ensures lists { IfOk result (λ played.
+        AreListsAt job.config plan.now.seed played.lists.items) }
 {
     let NodeJob { config, gossip } = job;
     let started = Registry::<L>::start(rt, alloc, blank, config, plan.seed, seats);
@@ -133,7 +138,9 @@ pub(crate) fn run_node<R: Threads + Wait + Sync>(
     plan: &ThreadPlan<'_>,
     job: NodeJob,
 ) -> Result<NodePlayed, AllocError>
-    ensures { IfOk result (λ played. IsTraceOf job.config plan.now.seed played.trace) }
+    ensures trace { IfOk result (λ played. IsTraceOf job.config plan.now.seed played.trace) }
+    ensures lists { IfOk result (λ played.
+        AreListsAt job.config plan.now.seed played.lists.items) }
 {
     let seats = seats_at(plan, &job);
     let blank = Blank::new(u64::from(seats));

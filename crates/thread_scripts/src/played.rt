@@ -3,7 +3,8 @@
 ghost use Rattle.std.specs.Prelude.{◌≡◌, ◌+◌, ◌++◌, ◌∷◌, [], length, vec_len, IfOk};
 ghost use Rattle.std.specs.List.{sum_by};
 ghost use Rattle.thread_plans.specs.Plans.{plan_value};
-ghost use Rattle.thread_scripts.specs.Plays.{AllFrom, AreTracesOf, IsTraceOf, config_at};
+ghost use Rattle.thread_scripts.specs.Plays.{AllFrom, AreListsAt, AreListsOf, AreTracesOf};
+ghost use Rattle.thread_scripts.specs.Plays.{IsTraceOf, config_at};
 
 use crate::beside::Gossip;
 use crate::nodes::{NodeJob, NodePlayed, run_node};
@@ -29,6 +30,7 @@ impl Played {
     fn new(alloc: Global) -> Played
         ensures len { vec_len result.traces ≡ 0 }
         ensures none { result.traces.items ≡ [] }
+        ensures no_list { result.lists.items ≡ [] }
     {
         Played {
             traces: Vec::new(alloc),
@@ -41,6 +43,8 @@ impl Played {
         ensures len { IfOk result (λ all. vec_len all.traces ≡ vec_len self.traces + 1) }
         ensures traces { IfOk result (λ all.
             all.traces.items ≡ self.traces.items ++ node.trace ∷ []) }
+        ensures lists { IfOk result (λ all.
+            all.lists.items ≡ self.lists.items ++ node.lists.items) }
     {
         let Played {
             mut traces,
@@ -102,17 +106,23 @@ fn run_all<R: Threads + Wait + Sync>(
     ensures each { IfOk result (λ runs. AllFrom (λ node run. IfOk run (λ played.
         IsTraceOf (config_at (plan_value plan.now) node) plan.now.seed played.trace)) 0
         runs.items) }
+    ensures lists { IfOk result (λ runs. AllFrom (λ node run. IfOk run (λ played.
+        AreListsAt (config_at (plan_value plan.now) node) plan.now.seed played.lists.items)) 0
+        runs.items) }
 {
     let jobs = jobs_of(alloc, plan)?;
     let run = |job: NodeJob| -> Result<NodePlayed, AllocError>
-        ensures { IfOk result (λ played.
+        ensures trace { IfOk result (λ played.
             IsTraceOf job.config plan.entry.now.seed played.trace) }
+        ensures lists { IfOk result (λ played.
+            AreListsAt job.config plan.entry.now.seed played.lists.items) }
     { run_node(rt, alloc, plan, job) };
     thread::map_vec(rt, jobs, &run)
 }
 
 /// Plays a plan: the nodes run beside each other, and so do the workers of each of them. Each trace is
-/// legal, and its random draws are the first ones of the plan's seed.
+/// legal, and its random draws are the first ones of the plan's seed. Each list has the receipts that a
+/// node gave one seat, from its first call on.
 pub fn play<R: Threads + Wait + Sync>(
     rt: &R,
     alloc: Global,
@@ -121,6 +131,7 @@ pub fn play<R: Threads + Wait + Sync>(
     ensures len { IfOk result (λ played. vec_len played.traces ≡ plan.now.size.nodes) }
     ensures traces { IfOk result (λ played.
         AreTracesOf (plan_value plan.now) played.traces.items) }
+    ensures lists { IfOk result (λ played. AreListsOf (plan_value plan.now) played.lists.items) }
 {
     let mut played = Played::new(alloc);
     for run in run_all(rt, alloc, plan)? {

@@ -1,6 +1,7 @@
 //! What a node does before its workers start.
 
 ghost use Rattle.std.specs.Prelude.{◌≡◌, vec_len, IfOk, OnOk};
+ghost use Rattle.node_registry.specs.Receipts.{AreGivenSince};
 
 use gossip::{Ended, spread};
 use node_core::{AskRef, NodeFault, Receipt};
@@ -18,8 +19,10 @@ fn make_call<L: Label, R: Wait>(
     call: AskRef<'_>,
     receipts: &mut Vec<Receipt>,
 ) -> Result<(), AllocError>
-    requires { seat.old ≡ vec_len receipts.old }
-    ensures { OnOk result (seat.new ≡ vec_len receipts.new) }
+    requires counted { seat.old ≡ vec_len receipts.old }
+    requires given { AreGivenSince L.config L.seed 0 receipts.old.items }
+    ensures counted { OnOk result (seat.new ≡ vec_len receipts.new) }
+    ensures given { OnOk result (AreGivenSince L.config L.seed 0 receipts.new.items) }
 {
     let ask = call.copied(alloc)?;
     match registry.enter_owned(rt, alloc, seat, ask) {
@@ -41,8 +44,10 @@ fn spread_rights<L: Label, R: Wait>(
     name: &str,
     receipts: &mut Vec<Receipt>,
 ) -> Result<(), AllocError>
-    requires { seat.old ≡ vec_len receipts.old }
-    ensures { OnOk result (seat.new ≡ vec_len receipts.new) }
+    requires counted { seat.old ≡ vec_len receipts.old }
+    requires given { AreGivenSince L.config L.seed 0 receipts.old.items }
+    ensures counted { OnOk result (seat.new ≡ vec_len receipts.new) }
+    ensures given { OnOk result (AreGivenSince L.config L.seed 0 receipts.new.items) }
 {
     let report = spread(rt, alloc, registry, seat, name);
     if report.ended == Ended::OutOfMemory {
@@ -63,7 +68,8 @@ pub(crate) fn make_starts<L: Label, R: Wait>(
     node: u8,
 ) -> Result<(Seat<L>, Vec<Receipt>), AllocError>
     requires { seat ≡ 0 }
-    ensures { IfOk result (λ done. done.0 ≡ vec_len done.1) }
+    ensures counted { IfOk result (λ done. done.0 ≡ vec_len done.1) }
+    ensures given { IfOk result (λ done. AreGivenSince L.config L.seed 0 done.1.items) }
 {
     let mut receipts = Vec::new(alloc);
     for line in starts {

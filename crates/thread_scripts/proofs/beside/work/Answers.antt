@@ -1,7 +1,12 @@
-use Rattle.thread_scripts.proofs.Seats.{each_counted}
+use Rattle.thread_scripts.proofs.Seats.{each_counted, each_given}
 use Rattle.thread_scripts.proofs.beside.work.Goals as goal
 
 pub returns-in-Ok-clause-counted : goal.returns-in-Ok-clause-counted
 returns-in-Ok-clause-counted g c =
     each_counted g.L.Label.config g.L.Label.seed _ _ 0 c.args.jobs.items c.in-Ok.dones.items c.in-Ok.ensures.done
+    c.requires.fresh
+
+pub returns-in-Ok-clause-given : goal.returns-in-Ok-clause-given
+returns-in-Ok-clause-given g c =
+    each_given g.L.Label.config g.L.Label.seed _ _ 0 c.args.jobs.items c.in-Ok.dones.items c.in-Ok.ensures.done
     c.requires.fresh

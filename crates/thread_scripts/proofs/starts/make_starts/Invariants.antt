@@ -1,5 +1,9 @@
 use Rattle.std.proofs.Common.{◌≡◌, vec_len}
+use Rattle.node_registry.specs.Receipts.{AreGivenSince}
 use Rattle.thread_scripts.proofs.starts.make_starts.Given as goal
 
 abbrev pub invariant-loop-line : goal.invariant-loop-line
-invariant-loop-line g l = l.seat ≡ vec_len l.receipts
+invariant-loop-line g l = record {
+  counted : l.seat ≡ vec_len l.receipts;
+  given : AreGivenSince g.L.Label.config g.L.Label.seed 0 l.receipts.items;
+}

@@ -1,10 +1,14 @@
 use Rattle.std.proofs.Common.{◌≡◌, ◌+◌, vec_len}
 use Rattle.std.specs.Prelude.{All}
 use Rattle.std.specs.Vec.Iter.{into_iter_items, into_iter_len}
+use Rattle.node_registry.specs.Receipts.{AreGivenSince}
+use Rattle.thread_scripts.specs.Plays.{AreListsAt}
 use Rattle.thread_scripts.proofs.finished.Finished.with_workers.Given as goal
 
 abbrev pub invariant-loop-done : goal.invariant-loop-done
 invariant-loop-done g l = record {
   len : vec_len l.finished.seats + into_iter_len l.done-iterator ≡ vec_len l.fn.self.seats + vec_len l.fn.dones;
   counted : All (λ d. d.seat ≡ vec_len d.receipts) (into_iter_items l.done-iterator);
+  given : AreListsAt g.L.Label.config g.L.Label.seed l.finished.lists.items;
+  more : All (λ d. AreGivenSince g.L.Label.config g.L.Label.seed 0 d.receipts.items) (into_iter_items l.done-iterator);
 }

@@ -17,3 +17,11 @@ invariant_of-result c =
     (λ xs e h. h.0 ∙ ap (λ ys. c.args.self.lists.items ++ ys) (sym (map-id xs) ∙ e)) in
     let all = rw c.in_ok-extend.was at longer in
     record { counted = rw (c.in_ok-push.ensures.items, all) (omega (arith, traces, lists, was, more)) }
+
+pub returns-clause-lists : goal.returns-clause-lists
+returns-clause-lists c =
+    let longer : OnOk c.extend.result (c.extend.new.self.items ≡ c.args.self.lists.items ++ c.args.node.lists.items) =
+    fact_from_extend (λ x. x) c.extend.result c.extend.ensures.ran
+    (λ it b. YieldsList-from_vec {s = it} _ b.0 (b.1 ∙ c.args.node.lists.ok.0))
+    (λ xs e h. h.0 ∙ ap (λ ys. c.args.self.lists.items ++ ys) (sym (map-id xs) ∙ e)) in
+    rw c.in_ok-extend.was at longer
