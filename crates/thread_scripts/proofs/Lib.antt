@@ -1,3 +1,4 @@
+pub mod LineAsks
 pub mod Runs
 pub mod Numbered
 pub mod LegalRuns

@@ -1,3 +1,4 @@
+pub mod Asks
 pub mod Plays
 pub mod Laws
 pub mod Outputs

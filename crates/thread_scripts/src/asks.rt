@@ -1,6 +1,9 @@
 //! What workers ask.
 
-ghost use Rattle.std.specs.Prelude.{◌≡◌, ◌+◌, ◌<◌, ◌^◌, vec_len, All, IfOk, OnOk};
+ghost use Rattle.std.specs.Prelude.{◌≡◌, ◌+◌, ◌++◌, ◌<◌, ◌^◌, map, vec_len, All, IfOk, OnOk};
+ghost use Rattle.node_calls.specs.Told.{ask_told};
+ghost use Rattle.thread_plans.specs.Plans.{block_value, call_line_value};
+ghost use Rattle.thread_scripts.specs.Asks.{asks_of_block, asks_of_line};
 
 use node_core::Ask;
 use node_registry::{Job, Label, Registry, Seat};
@@ -9,7 +12,9 @@ use thread_plans::{Block, CallLine};
 
 // What a line asks, so many times.
 fn push_asks(alloc: Global, line: &CallLine<'_>, asks: &mut Vec<Ask>) -> Result<(), AllocError>
-    ensures { OnOk result (vec_len asks.new ≡ vec_len asks.old + line.now.times) }
+    ensures len { OnOk result (vec_len asks.new ≡ vec_len asks.old + line.now.times) }
+    ensures told { OnOk result (map ask_told asks.new.items
+        ≡ map ask_told asks.old.items ++ asks_of_line (call_line_value line.now)) }
 {
     for _time in 0..line.times {
         asks.push(line.call.copied(alloc)?)?;
@@ -21,6 +26,8 @@ fn push_asks(alloc: Global, line: &CallLine<'_>, asks: &mut Vec<Ask>) -> Result<
 fn asks_of(alloc: Global, block: &Block<'_>) -> Result<Vec<Ask>, AllocError>
     ensures all { IfOk result (λ asks. vec_len asks ≡ block.now.calls) }
     ensures few { IfOk result (λ asks. vec_len asks < 2 ^ 32) }
+    ensures told { IfOk result (λ asks.
+        map ask_told asks.items ≡ asks_of_block (block_value block.now)) }
 {
     let mut asks = Vec::with_capacity(alloc, block.calls as usize)?;
     for line in &block.lines {
