@@ -17,7 +17,7 @@ pub played : {D O T E : Type 0} (kept : D → Option (List ℕ)) (old_kept new_k
 played kept old_kept new_kept contents old new script plan (Err fault) input same planned h = tt
 played kept old_kept new_kept contents old new script plan (Ok done) None same planned h = tt
 played kept old_kept new_kept contents old new script plan (Ok done) (Some bytes) same planned h =
-    (plan, h.text, rw same at planned, (h.traces, h.lists, h.legal, h.output), h.printed)
+    (plan, h.text, rw same at planned, (h.traces, h.lists, h.legal, h.given, h.output), h.printed)
 
 -- an audit of the drill that was read is one of some drill
 pub says_of_some : {O E : Type 0} (left : Option (List ℕ)) (contents : O → Option (List ℕ)) (old new : Watched O)

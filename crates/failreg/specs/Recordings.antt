@@ -9,7 +9,7 @@ use Rattle.audit.specs.Traces.{Traces}
 use Rattle.audit.specs.VerdictText.{verdict_text}
 use Rattle.drills.specs.Drills.{drill_in, drill_text, drill_told}
 use Rattle.thread_scripts.specs.Outputs.{IsOutputOf}
-use Rattle.thread_scripts.specs.Plays.{AreTracesOf}
+use Rattle.thread_scripts.specs.Plays.{AreListsOf, AreTracesOf}
 use Rattle.thread_plans.specs.Plans.{PlanValue}
 use Rattle.streams.specs.Streams.{Writes}
 use Rattle.streams.specs.declared.watched.Watched.{Watched}
@@ -21,6 +21,7 @@ pub record IsRecorded {D O : Type 0} (plan : PlanValue) (kept : D → Option (Li
   pub lists : Lists
   pub text : List ℕ
   pub legal : AreTracesOf plan traces
+  pub given : AreListsOf plan lists
   pub output : IsOutputOf plan traces lists text
   pub drill : Writes kept old_kept new_kept (drill_text (drill_told traces lists))
   pub reads_back : drill_in (drill_text (drill_told traces lists)) ≡ Ok (drill_told traces lists)
