@@ -127,7 +127,8 @@ impl Name {
 
     /// The text of the name.
     pub fn text(&self) -> &str
-        ensures { result.now ≡ self.now }
+        ensures text { result.now ≡ self.now }
+        ensures named { is_name self.now ≡ true }
     {
         &self.text
     }

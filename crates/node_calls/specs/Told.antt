@@ -119,17 +119,3 @@ pub record Told : Type 0 where
 abbrev pub told : Entry → Told
 told e = record { ask = ask_told e.ask; words = e.words.items; reply = reply_told e.reply }
 
--- the bytes that it emitted, and those that it delivered, if it is of that kind
-abbrev pub emitted_in : Reply → Option (List ℕ)
-emitted_in (replies.Emit bytes) = Some bytes.items
-emitted_in _ = None
-
-abbrev pub delivered_in : Ask → Option (List ℕ)
-delivered_in (asks.Deliver bytes) = Some bytes.items
-delivered_in _ = None
-
-abbrev pub bytes_emitted : Entry → Option (List ℕ)
-bytes_emitted e = emitted_in e.reply
-
-abbrev pub bytes_delivered : Entry → Option (List ℕ)
-bytes_delivered e = delivered_in e.ask

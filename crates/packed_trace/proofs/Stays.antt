@@ -9,12 +9,12 @@ use Rattle.packed_trace.specs.declared.trace.Slot.{Slot}
 use Rattle.packed_trace.specs.declared.trace.Slot.TheVariants as slots
 use Rattle.packed_trace.specs.Packed.{AreKept, IsKept, entry_by, pass_by, row_told, told_by}
 
-get_before : {A : Type 0} (xs : List A) (y : A) (i : ℕ) → i < length xs → slice_get (xs ++ y ∷ []) i ≡ slice_get xs i
+pub get_before : {A : Type 0} (xs : List A) (y : A) (i : ℕ) → i < length xs → slice_get (xs ++ y ∷ []) i ≡ slice_get xs i
 get_before [] y i low = absurd (omega (arith, low))
 get_before (x ∷ xs) y zero low = refl
 get_before (x ∷ xs) y (suc i) low = get_before xs y i (omega (arith, low))
 
-get_last : {A : Type 0} (xs : List A) (y : A) → slice_get (xs ++ y ∷ []) (length xs) ≡ Some y
+pub get_last : {A : Type 0} (xs : List A) (y : A) → slice_get (xs ++ y ∷ []) (length xs) ≡ Some y
 get_last [] y = refl
 get_last (x ∷ xs) y = get_last xs y
 

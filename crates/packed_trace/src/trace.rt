@@ -1,7 +1,7 @@
 //! The accepted calls of a node.
 
 ghost use Rattle.std.specs.Prelude.{Some, ◌-◌, ◌≢◌, ◌↔◌, IsTrue};
-ghost use Rattle.packed_trace.specs.Heads.{last_row};
+ghost use Rattle.packed_trace.specs.Heads.{IsLast};
 ghost use Rattle.std.specs.Prelude.{◌≡◌, ◌+◌, ◌<◌, ◌^◌, [], ◌∷◌, ◌++◌, length, map};
 ghost use Rattle.std.specs.Prelude.{◌≤◌, option_map, slice_get, is_none};
 ghost use Rattle.std.specs.Prelude.{IfOk, IfSome, IsNone, IsOk, OnOk, OnErr};
@@ -140,8 +140,8 @@ impl Trace {
     fn find_row(&self, name: &Name, setting: Option<SettingRef<'_>>) -> Option<u16>
         ensures found { IfSome result (λ row. slice_get self.now.rows row
             ≡ Some (record { name = name.now; setting = setting_ref_told setting.entry })) }
-        ensures none { IsNone result → last_row self.now.rows name.now
-            ≢ Some (record { name = name.now; setting = setting_ref_told setting.entry }) }
+        ensures none { IsNone result → IsLast self.now.rows
+            (record { name = name.now; setting = setting_ref_told setting.entry }) → ⊥ }
     {
         if self.is_row(self.recent, name, setting) {
             return Some(self.recent);
@@ -165,8 +165,8 @@ impl Trace {
         ensures ok { IfOk result (λ at. IfSome at (λ row. slice_get self.new.rows row
             ≡ Some (record { name = name.now; setting = setting_ref_told setting.entry }))) }
         ensures calls { self.new.calls ≡ self.old.calls }
-        ensures rows { last_row self.old.rows name.now
-            ≡ Some (record { name = name.now; setting = setting_ref_told setting.entry })
+        ensures rows { IsLast self.old.rows
+            (record { name = name.now; setting = setting_ref_told setting.entry })
             → self.new.rows ≡ self.old.rows }
         ensures full { IfOk result (λ at. IsNone at → max_rows ≤ length self.old.rows) }
     {
@@ -183,8 +183,7 @@ impl Trace {
         ensures room { IfOk result (IsPrepared self.new) }
         ensures told { IfOk result (λ p. prepared_told self.new.rows p ≡ pass_value pass.entry) }
         ensures calls { self.new.calls ≡ self.old.calls }
-        ensures rows { last_row self.old.rows pass.entry.name.now ≡ Some (row_of pass.entry)
-            → self.new.rows ≡ self.old.rows }
+        ensures rows { IsLast self.old.rows (row_of pass.entry) → self.new.rows ≡ self.old.rows }
         // It takes eight bytes where it was given one random draw at most.
         ensures small { IfOk result (λ p. length pass.entry.words.now ≤ 1
             → length self.old.rows < max_rows → IsByRow p) }
@@ -220,9 +219,9 @@ impl Trace {
         }
     }
 
-    /// A row more, for passes that are still to come, and its number; none where there are as many as
-    /// there may be. No call changes.
-    pub fn add_row(&mut self, alloc: Global, row: Row) -> Result<Option<u16>, AllocError>
+    // A row more, for passes that are still to come, and its number; none where there are as many as
+    // there may be. No call changes.
+    fn add_row(&mut self, alloc: Global, row: Row) -> Result<Option<u16>, AllocError>
         ensures ok { IfOk result (λ at. IfSome at (λ n. (n ≡ length self.old.rows)
             × (self.new.rows ≡ self.old.rows ++ row_told row ∷ []))) }
         ensures full { IfOk result (λ at. IsNone at
@@ -242,8 +241,8 @@ impl Trace {
         Ok(Some(at as u16))
     }
 
-    /// Makes room for a pass. No call changes.
-    pub fn reserve_pass(&mut self) -> Result<(), AllocError>
+    // Makes room for a pass. No call changes.
+    fn reserve_pass(&mut self) -> Result<(), AllocError>
         ensures ok { OnOk result (0 < self.new.pass_room) }
         ensures calls { self.new.calls ≡ self.old.calls }
         ensures rows { self.new.rows ≡ self.old.rows }
@@ -252,9 +251,9 @@ impl Trace {
         self.slots.reserve(1)
     }
 
-    /// A pass more, by its row, where there is room for it: the term that was triggered and the random
-    /// draw, where it has them. It takes no memory.
-    pub fn push_pass(&mut self, row: u16, term: Option<u8>, word: Option<u32>)
+    // A pass more, by its row, where there is room for it: the term that was triggered and the random
+    // draw, where it has them. It takes no memory.
+    fn push_pass(&mut self, row: u16, term: Option<u8>, word: Option<u32>)
         requires there { row < length self.old.rows }
         requires room { 0 < self.old.pass_room }
         ensures calls { self.new.calls
@@ -274,6 +273,7 @@ impl Trace {
         ensures ok { OnOk result ((0 < self.new.pass_room) × (0 < self.new.entry_room)) }
         ensures calls { self.new.calls ≡ self.old.calls }
         ensures rows { self.new.rows ≡ self.old.rows }
+        ensures succeeds { 0 < self.old.pass_room → 0 < self.old.entry_room → IsOk result }
     {
         self.slots.reserve(1)?;
         self.entries.reserve(1)

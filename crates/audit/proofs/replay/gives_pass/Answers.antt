@@ -17,11 +17,11 @@ returns-in-Ok-clause-wrong c = OnFalse_from c.has_passed.result _ (λ h.
     pass_differs c.args.core.now c.record_pass.new.self c.args.pass.name.now c.args.pass.words.now
     (passed_by (setting_ref_told c.args.pass.setting) c.args.pass.term)
     (subst (λ (name : List ℕ). option_map asks.IsPassed (last_passed c.record_pass.new.self)
-    ≡ Some (reply_to c.args.core.now (asks.Pass name) c.args.pass.words.now)) c.text.ensures c.in-Ok.ensures.last)
+    ≡ Some (reply_to c.args.core.now (asks.Pass name) c.args.pass.words.now)) c.text.ensures.text c.in-Ok.ensures.last)
     (λ is. let clash : true ≡ false = sym (c.has_passed.ensures.1 (is ∙ ap Some (sym c.reply.ensures))) ∙ h in cc))
 
 pub returns-in-Err-clause-wrong : goal.returns-in-Err-clause-wrong
 returns-in-Err-clause-wrong c = IfOk-weaker c.refused.result _ _ (λ given other. OnFalse_from given _ (λ h.
     not_accepted c.args.core.now (pass_value c.args.pass) c.in-Err.fault
     (subst (λ (name : List ℕ). IsRefusalOf c.args.core.now (asks.Pass name) c.args.pass.words.now c.in-Err.fault)
-    c.text.ensures c.in-Err.ensures.refused) other.1)) c.refused.ensures.ok
+    c.text.ensures.text c.in-Err.ensures.refused) other.1)) c.refused.ensures.ok

@@ -19,4 +19,4 @@ returns-clause-writes g c = λ plain ok.
     has_written_of_eq _ _ _ _ _ (simp append_assoc) (c.write.ensures.writes second.plain ok) in
     put_three g.W.Write.write_str_gives c.args.f.now c.write_str.new.self c.write_str-2.new.self c.write.new.self
     (codes "budget ") name rest (total_text t) first second third
-    (ap (λ (n : List ℕ). codes "budget " ++ (n ++ rest)) c.text.ensures)
+    (ap (λ (n : List ℕ). codes "budget " ++ (n ++ rest)) c.text.ensures.text)
