@@ -132,4 +132,4 @@ IsByRow (prepared.Entry entry) = ⊥
 
 abbrev pub prepared_told : List RowTold → Prepared → Told
 prepared_told rows (prepared.Pass row term word) = pass_by (slice_get rows row) term word
-prepared_told rows (prepared.Entry entry) = told entry
+prepared_told rows (prepared.Entry entry) = told entry.value

@@ -27,7 +27,8 @@ pub enum Prepared {
         term: Option<u8>,
         word: Option<u32>,
     },
-    Entry(Entry),
+    // An entry is twenty times as large as the rest, and would be moved with each pass.
+    Entry(Box<Entry>),
 }
 
 impl<'a> Pass<'a> {

@@ -198,7 +198,7 @@ impl Trace {
                 });
             }
         }
-        let entry = pass.to_entry(alloc)?;
+        let entry = Box::new(alloc, pass.to_entry(alloc)?)?;
         self.reserve_entry()?;
         Ok(Prepared::Entry(entry))
     }
@@ -215,7 +215,7 @@ impl Trace {
                 self.recent = row;
                 self.push_pass(row, term, word);
             }
-            Prepared::Entry(entry) => self.push_entry(entry),
+            Prepared::Entry(entry) => self.push_entry(Box::into_inner(entry)),
         }
     }
 
