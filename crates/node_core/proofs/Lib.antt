@@ -14,6 +14,7 @@ pub mod GrantRefusals
 pub mod NamedRefusals
 pub mod PassAccepted
 pub mod PassReplies
+pub mod LastCalls
 pub mod LoadRefusals
 pub mod LoadSteps
 pub mod Ahead

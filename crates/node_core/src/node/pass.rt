@@ -12,7 +12,7 @@ ghost use Rattle.std.specs.Prelude.{false};
 ghost use Rattle.replica_state.specs.States.{rights_of, with_pass};
 ghost use Rattle.node_calls.specs.Asks as asks;
 ghost use Rattle.node_calls.specs.Told.{passed, passed_ref};
-ghost use Rattle.node_core.specs.Lasts.{last_passed};
+ghost use Rattle.node_core.specs.Lasts.{last_passed, passed_at};
 ghost use Rattle.node_core.specs.Memory.{NameNeedsMemory};
 ghost use Rattle.node_core.specs.Nodes.{setting_of};
 ghost use Rattle.packed_trace.specs.Packed.{passed_by, setting_ref_told};
@@ -106,11 +106,51 @@ impl NodeCore {
         Ok(())
     }
 
+    /// Passes a point by its name as `pass_drawing` does, without a reply of its own (`last_pass`), and
+    /// answers the random draws. No text is copied.
+    pub fn pass_point<S: WordSource>(
+        &mut self,
+        alloc: Global,
+        point: &Name,
+        source: &mut S,
+    ) -> Result<Vec<u32>, NodeFault>
+        requires { S.can_draw source.old }
+        ensures ok { IfOk result (λ words. Accepts self.old self.new (asks.Pass point.now)
+            words.items (reply_to self.old (asks.Pass point.now) words.items)) }
+        ensures last { IfOk result (λ words. option_map asks.IsPassed (last_passed self.new)
+            ≡ Some (reply_to self.old (asks.Pass point.now) words.items)) }
+        ensures words { IfOk result (λ words. words.items
+            ≡ S.next_words source.old (words_for (state_known self.old) point.now)) }
+        ensures drawn { OnOk result (source.new
+            ≡ S.after_words source.old (words_for (state_known self.old) point.now)) }
+        ensures few { OnOk result (words_for (state_known self.old) point.now < 2 ^ 8) }
+        ensures refused { IfErr result (IsRefusalOf self.old (asks.Pass point.now)
+            (S.next_words source.old (words_for (state_known self.old) point.now))) }
+        ensures memory { IsErrOf result NodeFault.OutOfMemory → NameNeedsMemory self.old point.now }
+        ensures vain { OnErr result ((source.new ≡ source.old) ⊎ (source.new
+            ≡ S.after_words source.old (words_for (state_known self.old) point.now))) }
+        ensures err { OnErr result (self.new ≡ self.old) }
+    {
+        self.check_trace()?;
+        // A name says of itself that it is one.
+        let _ = point.text();
+        let (words, _) = self.pass(alloc, point, source, false)?;
+        Ok(words)
+    }
+
     /// What the last accepted call was answered, if that was a pass.
     pub fn last_pass(&self) -> Option<PassReplyRef<'_>>
         ensures { option_map passed_ref result ≡ last_passed self.now }
     {
         self.trace.last()?.pass_reply()
+    }
+
+    /// What the accepted call at a place of the trace was answered, if that was a pass; none where there
+    /// are fewer calls.
+    pub fn passed_at(&self, index: usize) -> Option<PassReplyRef<'_>>
+        ensures { option_map passed_ref result ≡ passed_at (slice_get self.now.trace index) }
+    {
+        self.trace.at(index)?.pass_reply()
     }
 
     // Passes a point whose name was read, with the next random draws of a source, and answers these,
