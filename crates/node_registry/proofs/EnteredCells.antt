@@ -1,5 +1,7 @@
 -- From a call of a node and of its generator to a call of the cell.
-use Rattle.std.proofs.Common.{◌≡◌, ℕ, ◌+◌, ◌<◌, ◌^◌, false, List, [], refl, sym, ap, ◌∙◌, subst, arith}
+use Rattle.std.proofs.Common.{◌≡◌, ℕ, ◌+◌, ◌<◌, ◌^◌, false, List, [], Option, None, Some, refl, sym, ap, ◌∙◌, subst, arith}
+use Rattle.std.specs.Prelude.{option_and_then, option_map}
+use Rattle.std.proofs.lemmas.Option.{none-some, same_Some}
 use Rattle.rand_chacha.specs.ChaCha.{ChaCha, key_of}
 use Rattle.node_calls.specs.declared.ask.Ask.{Ask}
 use Rattle.node_calls.specs.declared.ask.Ask.TheVariants as asked
@@ -9,13 +11,14 @@ use Rattle.node_calls.specs.declared.reply.Reply.{Reply}
 use Rattle.node_calls.specs.declared.reply.Reply.TheVariants as replies
 use Rattle.node_calls.specs.declared.trace.Entry.{Entry}
 use Rattle.node_core.specs.Applied.{TellsIfEmit}
-use Rattle.node_calls.specs.Asks.{Asked, Call, ask_value, ask_value_first, reply_value}
-use Rattle.node_calls.specs.Told.{ask_told, is_pass}
-use Rattle.node_core.specs.Traces.{Kept, Accepts, IsRefusalOf, Records, call_of}
+use Rattle.node_calls.specs.Asks.{Asked, Call, IsPassed, Pass, ask_value, ask_value_first, reply_value}
+use Rattle.node_calls.specs.Told.{Passed, ask_told, is_pass}
+use Rattle.node_core.specs.Lasts.{passed_in}
+use Rattle.node_core.specs.Traces.{Kept, Accepts, IsRefusalOf, Records, after_call, call_of, refusal, reply_to}
 use Rattle.node_core.specs.Words.{words_from, words_next, place_after}
 use Rattle.node_registry.specs.Words.{words_taken}
-use Rattle.node_registry.specs.Cells.{Cell, cell_of, next_words, Enters, IsRefusedBy, IsLawful, IsWithinBounds}
-use Rattle.node_registry.proofs.LawfulCells.{new_lawful, taken_first, stays_lawful, stays_within}
+use Rattle.node_registry.specs.Cells.{Cell, cell_of, next_words, Enters, Passes, IsRefusedBy, IsLawful, IsWithinBounds}
+use Rattle.node_registry.proofs.LawfulCells.{new_lawful, taken_first, lawful_after, bounds_after, stays_lawful, stays_within}
 
 -- a call that takes no words draws none
 pub drawn_none : (g : ChaCha) (n : ℕ) → n ≡ 0 → ([] ≡ words_next g n) × (g ≡ place_after g n)
@@ -118,3 +121,36 @@ new_kept config seed k h stream small new here made =
 pub same_first : (nodes : ℕ) (copy ask : Ask) → ((n : ℕ) (reply : Reply) →
     ask_value n copy reply ≡ ask_value n ask reply) → ask_value_first nodes copy ≡ ask_value_first nodes ask
 same_first nodes copy ask same = same nodes (replies.Deliver false)
+
+-- a pass of a node and its generator is one of the cell
+pub passes : (k new : Kept) (g after : ChaCha) (name words : List ℕ) → g.stream ≡ k.config.node →
+    Accepts k new (Pass name) words (reply_to k (Pass name) words) →
+    words ≡ words_next g (words_taken k (Pass name)) → after ≡ place_after g (words_taken k (Pass name)) →
+    Passes (cell_of k g) (cell_of new after) name × (words ≡ next_words (cell_of k g) (Pass name))
+passes k new g after name words stream accepted drawn place =
+    let next : words ≡ next_words (cell_of k g) (Pass name) =
+    drawn ∙ ap (λ s. words_from g.key s g.word_pos (words_taken k (Pass name))) stream in
+    let node = accepted.2 ∙ ap (after_call k (Pass name)) next in (
+      (
+        subst (λ ws. refusal k (Pass name) ws ≡ None) next accepted.0,
+        λ i. record { node = node i; key = (place i).key; place = (place i).word_pos },
+      ),
+      next,
+    )
+
+pub passing_stays : (k new : Kept) (g after : ChaCha) (name : List ℕ) → IsKept k g →
+    Passes (cell_of k g) (cell_of new after) name → words_taken k (Pass name) < 2 ^ 8 →
+    after ≡ place_after g (words_taken k (Pass name)) → IsKept new after
+passing_stays k new g after name h p few place =
+    let c = cell_of k g in (
+      ap (λ (a : ChaCha). a.stream) place ∙ h.0 ∙ sym (ap (λ (d : Cell). d.node.config.node) p.1),
+      subst IsLawful (sym p.1) (lawful_after c (Pass name) h.1 p.0 tt),
+      subst IsWithinBounds (sym p.1) (bounds_after c (Pass name) h.2 p.0 few),
+    )
+
+-- what a pass came to is what it is answered
+pub same_passed : (found : Option Passed) (passed answer : Passed) → found ≡ Some passed →
+    option_map (λ p. IsPassed p) found ≡ Some (IsPassed answer) → passed ≡ answer
+same_passed None passed answer here there = absurd (none-some passed here)
+same_passed (Some p) passed answer here there =
+    sym (same_Some p passed here) ∙ same_Some p answer (ap (λ o. option_and_then passed_in o) there)

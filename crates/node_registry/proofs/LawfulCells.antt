@@ -18,12 +18,12 @@ use Rattle.node_calls.specs.Told.{ask_told}
 use Rattle.node_core.specs.Nodes.{start}
 use Rattle.node_core.specs.Steps.{reply}
 use Rattle.node_core.specs.Refusals.{refusal_at, is_full}
-use Rattle.node_core.specs.Traces.{Kept, SendsDelta, node_of, refusal, entry_for, after_call, call_of}
+use Rattle.node_core.specs.Traces.{Kept, SendsDelta, node_of, refusal, entry_for, call_of}
 use Rattle.node_core.proofs.LegalTraces.{legal_more, nothing_legal}
 use Rattle.node_core.proofs.RepliedDelta.{call_sends}
 use Rattle.node_core.specs.Words.{words_from}
 use Rattle.node_registry.specs.Words.{words_of, words_taken}
-use Rattle.node_registry.specs.Cells.{Cell, new_cell, next_words, Enters, IsLawful, IsWithinBounds}
+use Rattle.node_registry.specs.Cells.{Cell, cell_after, new_cell, next_words, Enters, IsLawful, IsWithinBounds}
 use Rattle.node_core.proofs.StreamWords.{words_from-add}
 
 -- the random draws of a trace with a call more
@@ -35,15 +35,10 @@ words_of-push (x ∷ cs) c = ap (λ ws. x.words ++ ws) (words_of-push cs c) ∙
 pub new_lawful : (config : Config) (seed : List ℕ) → IsLawful (new_cell config seed)
 new_lawful config seed = record { legal = nothing_legal config; drawn = refl }
 
--- the cell after a call that is accepted with the next words
-abbrev cell_after : Cell → Asked → Cell
-cell_after c ask =
-    record { node = after_call c.node ask (next_words c ask); key = c.key; place = c.place + words_taken c.node ask }
-
 entered_is : (c d : Cell) (e : Entry) → Enters c d e → d ≡ cell_after c (call_of c.node e).ask
 entered_is c d e h = λ i. record { node = h.records.2 i; key = h.key i; place = h.place i }
 
-lawful_after : (c : Cell) (ask : Asked) → IsLawful c → refusal c.node ask (next_words c ask) ≡ None →
+pub lawful_after : (c : Cell) (ask : Asked) → IsLawful c → refusal c.node ask (next_words c ask) ≡ None →
     SendsDelta (node_of c.node) ask → IsLawful (cell_after c ask)
 lawful_after c ask h accepted sends =
     let ws = next_words c ask in
@@ -75,7 +70,7 @@ not_full k (asks.Grant name term amount) words h = starts_free (is_full k.config
 not_full k (asks.Emit to versions chosen) words h = starts_free (is_full k.config (length k.trace)) _ h
 not_full k (asks.Deliver read) words h = starts_free (is_full k.config (length k.trace)) _ h
 
-bounds_after : (c : Cell) (ask : Asked) → IsWithinBounds c → refusal c.node ask (next_words c ask) ≡ None →
+pub bounds_after : (c : Cell) (ask : Asked) → IsWithinBounds c → refusal c.node ask (next_words c ask) ≡ None →
     words_taken c.node ask < 2 ^ 8 → IsWithinBounds (cell_after c ask)
 bounds_after c ask h accepted few =
     let more : length (c.node.trace ++ entry_for c.node ask (next_words c ask) ∷ []) ≡ length c.node.trace + 1 =

@@ -1,5 +1,5 @@
 -- A node with its generator, as callers see it.
-use Rattle.std.specs.Prelude.{◌≡◌, ℕ, ◌+◌, ◌*◌, ◌≤◌, ◌<◌, ◌^◌, List, [], length}
+use Rattle.std.specs.Prelude.{◌≡◌, ℕ, ◌+◌, ◌*◌, ◌≤◌, ◌<◌, ◌^◌, List, [], length, None}
 use Rattle.rand_chacha.specs.ChaCha.{ChaCha, key_of}
 use Rattle.node_core.specs.declared.config.Config.{Config}
 use Rattle.node_calls.specs.declared.fault.NodeFault.{NodeFault}
@@ -7,9 +7,10 @@ use Rattle.node_calls.specs.declared.ask.Ask.{Ask}
 use Rattle.node_calls.specs.declared.reply.Reply.{Reply}
 use Rattle.node_calls.specs.declared.trace.Entry.{Entry}
 use Rattle.node_core.specs.Applied.{TellsIfEmit}
-use Rattle.node_calls.specs.Asks.{Asked, Call}
-use Rattle.node_calls.specs.Told.{ask_told}
-use Rattle.node_core.specs.Traces.{Kept, IsLegal, IsRefusalOf, Records, call_of}
+use Rattle.node_calls.specs.Asks.{Asked, Call, Pass}
+use Rattle.node_calls.specs.Told.{Passed, ask_told}
+use Rattle.node_core.specs.Passes.{pass_reply}
+use Rattle.node_core.specs.Traces.{Kept, IsLegal, IsRefusalOf, Records, after_call, call_of, refusal, state_known}
 use Rattle.node_core.specs.Words.{words_from}
 use Rattle.node_registry.specs.Words.{words_of, words_taken}
 
@@ -31,6 +32,11 @@ new_cell config seed = record { node = record { config = config; trace = [] }; k
 abbrev pub next_words : Cell → Asked → List ℕ
 next_words c ask = words_from c.key c.node.config.node c.place (words_taken c.node ask)
 
+-- the cell after a call that is accepted with the next words
+abbrev pub cell_after : Cell → Asked → Cell
+cell_after c ask =
+    record { node = after_call c.node ask (next_words c ask); key = c.key; place = c.place + words_taken c.node ask }
+
 -- the call of this entry is accepted with the next words, and the cell is then the second one
 pub record Enters (c d : Cell) (e : Entry) : Type 0 where
   pub records : Records c.node d.node (call_of c.node e) (next_words c (call_of c.node e).ask)
@@ -41,6 +47,14 @@ pub record Enters (c d : Cell) (e : Entry) : Type 0 where
 -- the call of this ask is accepted with the next words and answered so, and the cell is then the second one
 abbrev pub Submits : Cell → Cell → Ask → Reply → Type 0
 Submits c d ask reply = (e : Entry) × (e.ask ≡ ask) × (e.reply ≡ reply) × Enters c d e
+
+-- a pass of a point is accepted with the next words, and the cell is then the second one
+abbrev pub Passes : Cell → Cell → List ℕ → Type 0
+Passes c d name = (refusal c.node (Pass name) (next_words c (Pass name)) ≡ None) × (d ≡ cell_after c (Pass name))
+
+-- what a pass of a point comes to with the next words
+abbrev pub next_passed : Cell → List ℕ → Passed
+next_passed c name = pass_reply c.node.config.node (state_known c.node) name (next_words c (Pass name))
 
 -- an ask is refused so with the next words
 abbrev pub IsRefusedBy : Cell → Asked → NodeFault → Type 0

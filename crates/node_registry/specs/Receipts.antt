@@ -1,14 +1,17 @@
 -- What a caller is told.
-use Rattle.std.specs.Prelude.{◌≡◌, ◌≤◌, ℕ, ◌+◌, List, [], ◌∷◌, length}
+use Rattle.std.specs.Prelude.{◌≡◌, ◌≤◌, ℕ, ◌+◌, List, [], ◌∷◌, length, slice_get, Some}
 use Rattle.node_calls.specs.declared.ask.Ask.{Ask}
 use Rattle.node_core.specs.declared.config.Config.{Config}
 use Rattle.node_calls.specs.declared.fault.NodeFault.{NodeFault}
 use Rattle.node_calls.specs.declared.receipt.Receipt.{Receipt}
 use Rattle.node_calls.specs.declared.reply.Reply.{Reply}
 use Rattle.node_calls.specs.declared.trace.Entry.{Entry}
-use Rattle.node_calls.specs.Asks.{Asked, ask_value}
-use Rattle.node_calls.specs.Told.{ask_told, bytes_of}
-use Rattle.node_registry.specs.Cells.{Cell, Enters, IsLawfulAt, IsRefusedBy}
+use Rattle.node_calls.specs.Asks.{Asked, ask_value, call_from}
+use Rattle.node_calls.specs.Told.{Passed, Unset, NoTerm, Act, ask_told, bytes_of, told}
+use Rattle.node_registry.specs.declared.pass_receipt.PassOutcome.{PassOutcome}
+use Rattle.node_registry.specs.declared.pass_receipt.PassOutcome.TheVariants as outcomes
+use Rattle.node_registry.specs.declared.pass_receipt.PassReceipt.{PassReceipt}
+use Rattle.node_registry.specs.Cells.{Cell, Enters, IsLawfulAt, IsRefusedBy, Passes, next_passed}
 
 -- an entry is of this ask, to the byte, in a cluster of so many nodes
 pub record IsEntryFor (nodes : ℕ) (ask : Ask) (e : Entry) : Type 0 where
@@ -27,6 +30,30 @@ IsReceiptOf config ask r = (r.node ≡ config.node) × (ask_value config.nodes r
 abbrev pub IsGiven : Config → List ℕ → Receipt → Type 0
 IsGiven config seed r =
     (c : Cell) × (d : Cell) × IsLawfulAt config seed c × Enters c d r.entry × (r ≡ receipt_of c r.entry)
+
+-- what a pass came to, without its task
+abbrev pub outcome_of : Passed → PassOutcome
+outcome_of Unset = outcomes.Unset
+outcome_of (NoTerm stamp) = outcomes.NoTerm stamp
+outcome_of (Act stamp term task) = outcomes.Act stamp term
+
+-- the receipt of a pass of a point with the next words
+abbrev pub pass_receipt_of : Cell → List ℕ → PassReceipt
+pass_receipt_of c name = record {
+  node = c.node.config.node;
+  index = length c.node.trace;
+  outcome = outcome_of (next_passed c name);
+}
+
+-- some lawful cell of the node accepts a pass of the point, and this is the receipt
+abbrev pub IsPassReceipt : Config → List ℕ → List ℕ → PassReceipt → Type 0
+IsPassReceipt config seed name r =
+    (c : Cell) × (d : Cell) × IsLawfulAt config seed c × Passes c d name × (r ≡ pass_receipt_of c name)
+
+-- a receipt tells the call that the trace has at this place
+abbrev pub IsReceiptAt : Cell → ℕ → Receipt → Type 0
+IsReceiptAt c index r = (r.node ≡ c.node.config.node) × (r.index ≡ index)
+    × (slice_get c.node.trace index ≡ Some (call_from c.node.config.nodes (told r.entry)))
 
 -- so is an ask answered: some receipt of it may be given that has this reply
 abbrev pub IsAnswered : Config → List ℕ → Ask → Reply → Type 0

@@ -1,13 +1,16 @@
 //! A node with the generator of its random draws.
 
 ghost use Rattle.std.specs.Prelude.{◌≡◌, map, IfOk, IfErr, OnErr, OnOk, IsTrue, false};
+ghost use Rattle.node_calls.specs.Asks as asks;
 ghost use Rattle.node_calls.specs.Asks.{ask_value_first, call_from};
 ghost use Rattle.node_core.specs.Refusals.{is_bad_config};
-ghost use Rattle.node_registry.specs.Cells.{Cell, Enters, IsLawful, IsRefusedBy, IsWithinBounds, Submits};
-ghost use Rattle.node_registry.specs.Cells.{cell_of, new_cell};
-ghost use Rattle.node_registry.specs.Receipts.{IsEntryFor};
+ghost use Rattle.node_registry.specs.Cells.{Cell, Enters, IsLawful, IsRefusedBy, IsWithinBounds, Passes, Submits};
+ghost use Rattle.node_registry.specs.Cells.{cell_of, new_cell, next_passed};
+ghost use Rattle.node_registry.specs.Receipts.{IsEntryFor, outcome_of};
 
 use crate::drawing::{call_with_words, submit_with_words};
+use crate::pass_receipt::PassOutcome;
+use actions::Name;
 use node_core::{Ask, Config, Entry, Generator, NodeCore, NodeFault, Reply, Trace};
 use std::alloc::Global;
 use std::marker::Model;
@@ -98,6 +101,22 @@ impl NodeCell {
         let NodeCell { core, generator } = self;
         let (_, reply) = submit_with_words(core, generator, alloc, ask)?;
         Ok(reply)
+    }
+
+    /// Passes a point by its name, with the next random draws of the stream, as many as it needs. No
+    /// text is copied. A refused pass makes no random draw.
+    pub fn pass_point(&mut self, alloc: Global, point: &Name) -> Result<PassOutcome, NodeFault>
+        ensures ok { OnOk result (Passes self.old self.new point.now) }
+        ensures outcome { IfOk result (λ o. o ≡ outcome_of (next_passed self.old point.now)) }
+        ensures refused { IfErr result (IsRefusedBy self.old (asks.Pass point.now)) }
+        ensures err { OnErr result (self.new ≡ self.old) }
+    {
+        let NodeCell { core, generator } = self;
+        core.pass_point_generating(alloc, point, generator)?;
+        match core.last_pass() {
+            Some(reply) => Ok(PassOutcome::of(reply)),
+            None => unreachable!(),
+        }
     }
 
     /// The trace.

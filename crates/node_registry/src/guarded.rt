@@ -3,15 +3,18 @@
 ghost use Rattle.std.specs.Prelude.{◌≡◌, ℕ, ◌+◌, ◌≤◌, ◌<◌, ◌⊎◌, length, map, sum, vec_len, All};
 ghost use Rattle.std.specs.Prelude.{IfOk, IfErr, OnErr, OnOk, IsTrue, false};
 ghost use Rattle.rand_chacha.specs.ChaCha.{key_of};
+ghost use Rattle.node_calls.specs.Asks as asks;
 ghost use Rattle.node_calls.specs.Asks.{ask_value_first, call_from};
 ghost use Rattle.node_core.specs.Refusals.{is_bad_config};
 ghost use Rattle.node_core.specs.Traces.{IsLegal};
 ghost use Rattle.node_registry.specs.Cells.{Cell, Enters, IsDrawnBy, IsLawfulAt, IsRefusedBy};
-ghost use Rattle.node_registry.specs.Cells.{Submits, new_cell};
-ghost use Rattle.node_registry.specs.Receipts.{IsEntryFor, receipt_of};
+ghost use Rattle.node_registry.specs.Cells.{Passes, Submits, new_cell};
+ghost use Rattle.node_registry.specs.Receipts.{IsEntryFor, pass_receipt_of, receipt_of};
 
 use crate::cell::NodeCell;
 use crate::label::Label;
+use crate::pass_receipt::PassReceipt;
+use actions::Name;
 use node_core::{Ask, Config, NodeCore, NodeFault, Receipt, Reply, Trace};
 use std::alloc::{AllocError, Global};
 use std::marker::Model;
@@ -174,6 +177,37 @@ impl<L: Label> Guarded<L> {
         ledger.add(share, 1);
         *calls += 1;
         Ok(reply)
+    }
+
+    /// Passes a point as `NodeCell::pass_point` does, and counts it to the seat.
+    pub fn pass_point(
+        &mut self,
+        alloc: Global,
+        seat: &mut Seat<L>,
+        point: &Name,
+    ) -> Result<PassReceipt, NodeFault>
+        ensures ok { OnOk result (Passes self.old self.new point.now) }
+        ensures receipt { IfOk result (λ r. r ≡ pass_receipt_of self.old point.now) }
+        ensures counted { OnOk result (seat.new ≡ seat.old + 1) }
+        ensures since { OnOk result (seat.old ≤ length self.old.node.trace) }
+        ensures lawful { IsLawfulAt L.config L.seed self.old }
+        ensures refused { IfErr result (IsRefusedBy self.old (asks.Pass point.now)) }
+        ensures err { OnErr result ((self.new ≡ self.old) × (seat.new ≡ seat.old)) }
+    {
+        let Guarded { cell, book } = self;
+        let Seat { calls, share } = seat;
+        book.audit(share);
+        let core = cell.core();
+        let node = core.config().node;
+        let index = core.trace().len() as u32;
+        let outcome = cell.pass_point(alloc, point)?;
+        book.add(share, 1);
+        *calls += 1;
+        Ok(PassReceipt {
+            node,
+            index,
+            outcome,
+        })
     }
 
     /// Takes all seats back. The trace is legal, has as many entries as the seats made calls, and its

@@ -5,11 +5,13 @@ mod cell;
 mod drawing;
 mod guarded;
 mod label;
+mod pass_receipt;
 mod registry;
 mod workers;
 
 pub use cell::NodeCell;
 pub use guarded::{Closed, Guarded, Seat};
 pub use label::Label;
+pub use pass_receipt::{PassOutcome, PassReceipt};
 pub use registry::Registry;
 pub use workers::{Done, Gate, Job, run_workers};

@@ -1,7 +1,7 @@
 //! One node behind one lock.
 
 ghost use Rattle.std.specs.Prelude.{◌≡◌, ℕ, ◌+◌, ◌≤◌, ◌<◌, ◌⊎◌, length, map, sum, vec_len, All};
-ghost use Rattle.std.specs.Prelude.{IfOk, IfErr, OnErr, OnOk, IsTrue, false};
+ghost use Rattle.std.specs.Prelude.{IfOk, IfErr, OnErr, OnOk, IsTrue, MatchOption, false};
 ghost use Rattle.std.specs.Fn.{FnOnceReturnsAt};
 ghost use Rattle.node_calls.specs.Asks as asks;
 ghost use Rattle.node_calls.specs.Asks.{ask_value_first, bare_emit, call_from};
@@ -11,12 +11,14 @@ ghost use Rattle.node_core.specs.Refusals.{is_bad_config};
 ghost use Rattle.node_core.specs.Traces.{IsLegal};
 ghost use Rattle.node_registry.specs.Cells.{Cell, IsDrawnBy, IsLawfulAt};
 ghost use Rattle.node_registry.specs.Receipts.{IsAnswered, IsEntryFor, IsGiven, IsReceiptOf};
-ghost use Rattle.node_registry.specs.Receipts.{IsRefused};
+ghost use Rattle.node_registry.specs.Receipts.{IsPassReceipt, IsReceiptAt, IsRefused};
 
 use crate::guarded::{Closed, Guarded, Seat};
 use crate::label::Label;
+use crate::pass_receipt::PassReceipt;
+use actions::Name;
 use node_core::{Ask, Config, NodeCore, NodeFault, Receipt, Reply};
-use std::alloc::Global;
+use std::alloc::{AllocError, Global};
 use std::hint;
 use std::sync::ledger::Blank;
 use std::sync::{Mutex, MutexGuard, Wait};
@@ -309,6 +311,46 @@ impl<L: Label> Registry<L> {
         let message = Vec::from_slice(alloc, message)?;
         let ask = Ask::Deliver { message };
         self.enter_owned(rt, alloc, seat, ask)
+    }
+
+    /// Passes a point by its name, as `pass` does, and answers where the pass lies in the node's trace
+    /// and what it came to. No text is copied: `receipt` has the rest.
+    pub fn pass_point<R: Wait>(
+        &self,
+        rt: &R,
+        alloc: Global,
+        seat: &mut Seat<L>,
+        point: &Name,
+    ) -> Result<PassReceipt, NodeFault>
+        ensures receipt { IfOk result (IsPassReceipt L.config L.seed point.now) }
+        ensures since { IfOk result (λ r. seat.old ≤ r.index) }
+        ensures counted { OnOk result (seat.new ≡ seat.old + 1) }
+        ensures refused { IfErr result (IsRefused L.config L.seed (asks.Pass point.now)) }
+        ensures err { OnErr result (seat.new ≡ seat.old) }
+    {
+        let mut guarded = self.held(rt);
+        guarded.pass_point(alloc, seat, point)
+    }
+
+    /// The receipt of an accepted call by its place in the node's trace, counted from 0; none where
+    /// there are fewer calls. The only error is out of memory.
+    pub fn receipt<R: Wait>(
+        &self,
+        rt: &R,
+        alloc: Global,
+        index: u32,
+    ) -> Result<Option<Receipt>, AllocError>
+        ensures { IfOk result (λ found. (c : Cell) × IsLawfulAt L.config L.seed c
+            × MatchOption found (length c.node.trace ≤ index) (IsReceiptAt c index)) }
+    {
+        let guarded = self.held(rt);
+        let core = guarded.core();
+        let Some(call) = core.trace().at(index as usize) else {
+            return Ok(None);
+        };
+        let entry = call.to_entry(alloc)?;
+        let node = core.config().node;
+        Ok(Some(Receipt { node, index, entry }))
     }
 
     /// Lends the node under the lock, and answers what is answered there. The node is the label's,
