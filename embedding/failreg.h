@@ -68,7 +68,8 @@ enum failreg_status {
     FAILREG_NO_MEMORY = 22,
     FAILREG_NOT_UTF8 = 30,      /* a name or a text isn't UTF-8 */
     FAILREG_CLOSED = 31,        /* the node is closed */
-    FAILREG_ALREADY_OPEN = 32   /* failreg_open of a node that is open */
+    FAILREG_ALREADY_OPEN = 32,  /* failreg_open of a node that is open */
+    FAILREG_NO_POINT = 33       /* failreg_point of this node told no such number */
 };
 
 /* The clock of a setting and the node that made it: no two settings of a cluster have one stamp. */
@@ -141,6 +142,13 @@ uint32_t failreg_load(failreg *node, const char *text, size_t text_len, uint16_t
  * that isn't set is an entry too: ask failreg_is_set first. */
 uint32_t failreg_pass(failreg *node, const char *name, size_t name_len, failreg_act *act);
 
+/* Tells the number of a point, whether it is set or not: ask once, and pass it by its number from
+ * then on. It is the point's until the node is ended, and says nothing to another node. */
+uint32_t failreg_point(failreg *node, const char *name, size_t name_len, uint32_t *point);
+
+/* [entry] Passes a point as failreg_pass does, by its number. */
+uint32_t failreg_pass_at(failreg *node, uint32_t point, failreg_act *act);
+
 /* [entry] Passes a point with random draws of yours, words of 32 bits, one for each term whose
  * chance is below 100%. */
 uint32_t failreg_pass_with(failreg *node, const char *name, size_t name_len, const uint32_t *words,
@@ -201,8 +209,8 @@ uint32_t failreg_fault(failreg *node);
  * is, and answers how long it is: with room 0 only that. It stays until the next of those calls. */
 size_t failreg_fetch(failreg *node, void *into, size_t room);
 
-/* Copies the random draws of the last failreg_pass, as much as `room` is, and answers how many
- * there are; `room` counts words of 32 bits. */
+/* Copies the random draws of the last failreg_pass or failreg_pass_at, as much as `room` is, and
+ * answers how many there are; `room` counts words of 32 bits. */
 size_t failreg_words(failreg *node, uint32_t *into, size_t room);
 
 /* Where a lock of yours that guards a node is found taken: pauses, longer the more often it was, and

@@ -20,6 +20,9 @@
 
 enum { NUMBER = 1, NODES = 32, OTHER = 2 };
 
+/* The numbers of the points `p` and `q`. */
+enum { AT_P, AT_Q };
+
 static const uint8_t SEED[32] = { 7 };
 static const char *tried = "the start";
 
@@ -150,6 +153,33 @@ static void pass_with_word(failreg *n, told *t)
     fetch(n, t);
 }
 
+/* The number of a point that has one, and of one that is new. */
+static void point(failreg *n, told *t)
+{
+    uint32_t number;
+    t->status = failreg_point(n, TEXT("q"), &number);
+    t->number = number;
+}
+
+static void new_point(failreg *n, told *t)
+{
+    uint32_t number;
+    t->status = failreg_point(n, TEXT("new"), &number);
+    t->number = number;
+}
+
+static void pass_at(failreg *n, told *t)
+{
+    t->status = failreg_pass_at(n, AT_P, &t->act);
+    fetch(n, t);
+}
+
+static void pass_counted_at(failreg *n, told *t)
+{
+    t->status = failreg_pass_at(n, AT_Q, &t->act);
+    fetch(n, t);
+}
+
 static void shift(failreg *n, told *t)
 {
     t->status = failreg_shift(n, TEXT("q"), 0, 31, 1, &t->number);
@@ -209,6 +239,10 @@ static const struct {
     { "a pass with a chance", pass_with_chance },
     { "a counted pass", pass_counted },
     { "a pass with a word", pass_with_word },
+    { "the number of a point", point },
+    { "the number of a new point", new_point },
+    { "a pass with a chance by number", pass_at },
+    { "a counted pass by number", pass_counted_at },
     { "shift", shift },
     { "too great a shift", shift_too_much },
     { "grant", grant },
@@ -230,7 +264,10 @@ static failreg opened(uint8_t number)
 static failreg prepared(void)
 {
     told t;
+    uint32_t p, q;
     failreg node = opened(NUMBER);
+    CHECK(failreg_point(&node, TEXT("p"), &p) == FAILREG_OK && p == AT_P);
+    CHECK(failreg_point(&node, TEXT("q"), &q) == FAILREG_OK && q == AT_Q);
     CHECK(failreg_set(&node, TEXT("p"), TEXT("20%3*print(hi)->2*panic"), &t.stamp) == FAILREG_OK);
     CHECK(failreg_set(&node, TEXT("q"), TEXT("2*off->yield"), &t.stamp) == FAILREG_OK);
     CHECK(failreg_grant(&node, TEXT("q"), 0, 4, &t.number) == FAILREG_OK);

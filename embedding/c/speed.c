@@ -24,6 +24,7 @@ static const char NAME[] = "some.point";
 static failreg node = FAILREG_CLOSED_NODE;
 static pthread_mutex_t mutex = PTHREAD_MUTEX_INITIALIZER;
 static long passes_of_each;
+static uint32_t point;
 
 static void stop(const char *why)
 {
@@ -74,6 +75,21 @@ static void *pass(void *is_shared)
     return NULL;
 }
 
+static void *pass_at(void *is_shared)
+{
+    failreg_act act;
+    for (long i = 0; i < passes_of_each; i++) {
+        if (is_shared)
+            take();
+        uint32_t status = failreg_pass_at(&node, point, &act);
+        if (is_shared)
+            pthread_mutex_unlock(&mutex);
+        if (status != FAILREG_OK)
+            stop("a pass was refused");
+    }
+    return NULL;
+}
+
 static void *look(void *is_shared)
 {
     bool is_set;
@@ -110,6 +126,10 @@ static const struct {
     { "uncounted", "off", pass },
     { "counted", "1000000000*off", pass },
     { "chance", "50%off", pass },
+    { "unset-at", NULL, pass_at },
+    { "uncounted-at", "off", pass_at },
+    { "counted-at", "1000000000*off", pass_at },
+    { "chance-at", "50%off", pass_at },
 #ifdef FIU_ENABLE
     { "fiu-unset", NULL, fiu },
     { "fiu-uncounted", "off", fiu },
@@ -131,6 +151,8 @@ static void start(const char *actions)
     set("other.point", "off");
     if (actions)
         set(NAME, actions);
+    if (failreg_point(&node, NAME, sizeof NAME - 1, &point) != FAILREG_OK)
+        stop("the point has no number");
 #ifdef FIU_ENABLE
     if (fiu_init(0) != 0 || fiu_enable("other/point", 1, NULL, 0) != 0)
         stop("no libfiu");

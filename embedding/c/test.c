@@ -245,6 +245,50 @@ static void words_are_drawn(void)
     failreg_end(&other);
 }
 
+/* Numbers of points: a name has one and keeps it, and a pass by it is one by the name, with its text, which
+ * stays to be fetched while the point gets another setting. */
+static void points_have_numbers(void)
+{
+    failreg node = opened(0), other = opened(0);
+    failreg_act act, again;
+    failreg_stamp stamp;
+    uint64_t calls;
+    uint32_t p = 9, q = 9, word, same;
+    CHECK(failreg_point(&node, TEXT("p"), &p) == FAILREG_OK && p == 0);
+    CHECK(failreg_pass_at(&node, p, &act) == FAILREG_OK && act.outcome == FAILREG_UNSET);
+    CHECK(failreg_point(&node, TEXT("q"), &q) == FAILREG_OK && q == 1);
+    CHECK(failreg_point(&node, TEXT("p"), &p) == FAILREG_OK && p == 0);
+    CHECK(failreg_point(&node, TEXT("a b"), &p) == FAILREG_BAD_NAME && p == 0);
+    CHECK(failreg_point(&node, "\xff", 1, &p) == FAILREG_NOT_UTF8);
+    CHECK(failreg_pass_at(&node, 2, &act) == FAILREG_NO_POINT && act.outcome == FAILREG_UNSET);
+    CHECK(failreg_pass_at(&node, UINT32_MAX, &act) == FAILREG_NO_POINT);
+    CHECK(failreg_fault(&node) == FAILREG_OK && said(&node, ""));
+    CHECK(failreg_calls(&node, &calls) == FAILREG_OK && calls == 1);
+    pass(&other);
+    for (int i = 0; i < 2; i++)
+        set(i ? &other : &node, "50%3*print(one)->50%panic()->off");
+    for (int i = 0; i < 40; i++) {
+        again = pass(&other);
+        CHECK(failreg_pass_at(&node, p, &act) == FAILREG_OK);
+        CHECK(act.outcome == again.outcome && act.term == again.term && act.task == again.task);
+        CHECK(act.clock == again.clock && act.node == again.node && act.has_text == again.has_text);
+        CHECK(act.text_len == again.text_len && said(&node, act.term == 0 ? "one" : ""));
+        CHECK(failreg_words(&node, &word, 1) == 2 && failreg_words(&other, &same, 1) == 2);
+        CHECK(word == same);
+    }
+    set(&node, "print(first)");
+    CHECK(failreg_pass_at(&node, p, &act) == FAILREG_OK && act.text_len == 5);
+    set(&node, "print(second)");
+    CHECK(said(&node, "first"));
+    CHECK(failreg_remove(&node, TEXT("p"), &stamp) == FAILREG_OK && said(&node, "first"));
+    CHECK(failreg_pass_at(&node, p, &act) == FAILREG_OK && act.outcome == FAILREG_UNSET);
+    CHECK(said(&node, ""));
+    failreg_end(&node);
+    failreg_end(&other);
+    CHECK(failreg_point(&node, TEXT("p"), &p) == FAILREG_CLOSED && p == 0);
+    CHECK(failreg_pass_at(&node, 0, &act) == FAILREG_CLOSED);
+}
+
 /* A look at a point, its settings, and the versions. Only accepted calls that change it count. */
 static void readers_take_no_entry(void)
 {
@@ -307,6 +351,7 @@ int main(void)
     looks_end();
     tasks_are_told_and_carried_out();
     words_are_drawn();
+    points_have_numbers();
     readers_take_no_entry();
     refusals_are_told();
     puts("the C test passed");

@@ -4,7 +4,8 @@ ghost use Rattle.std.specs.Prelude.{◌≡◌, ◌<◌};
 
 use crate::calls::{call_all, set};
 use crate::figures::Figures;
-use node_core::{Config, NodeCore, NodeFault, PassReply, Receipt};
+use actions::Name;
+use node_core::{Config, Generator, NodeCore, NodeFault, PassReply, Receipt};
 use node_registry::{Label, Registry, Seat};
 use std::alloc::Global;
 use std::marker::Brand;
@@ -47,14 +48,22 @@ impl Term {
     }
 }
 
-/// So many passes of a point with such a term, and whether what they answer is kept until all of
-/// them are made, or dropped at once.
+// What passes answer: values of their own, which are dropped at once or kept until all are made; or,
+// where the name was read before, places alone.
+#[derive(Clone, Copy, PartialEq, Eq)]
+enum Answers {
+    Dropped,
+    Kept,
+    Places,
+}
+
+/// So many passes of a point with such a term, and what they answer.
 #[derive(Clone, Copy)]
 pub(crate) struct Load {
     way: Way,
     term: Term,
     passes: u32,
-    keeps: bool,
+    answers: Answers,
 }
 
 // From when to when passes were made.
@@ -106,11 +115,25 @@ fn pass_core(alloc: Global, node: &mut NodeCore, load: Load) -> Result<Vec<PassR
             &[]
         };
         let reply = node.pass_with(alloc, POINT, words)?;
-        if load.keeps {
+        if load.answers == Answers::Kept {
             kept.push(reply)?;
         }
     }
     Ok(kept)
+}
+
+// Passes the point of a node by its name.
+fn pass_point(
+    alloc: Global,
+    node: &mut NodeCore,
+    point: &Name,
+    passes: u32,
+) -> Result<(), NodeFault> {
+    let mut generator = Generator::new(SEED, 0);
+    for _ in 0..passes {
+        node.pass_point_generating(alloc, point, &mut generator)?;
+    }
+    Ok(())
 }
 
 // Sets the point of a node and passes it.
@@ -120,7 +143,13 @@ fn time_core<R: AllocGlobal + Clock>(
     load: Load,
 ) -> anyhow::Result<Span> {
     node.set(rt.alloc(), POINT, load.term.text())?;
+    let point = Name::parse(rt.alloc(), POINT)?;
     let start = Instant::now(rt)?;
+    if load.answers == Answers::Places {
+        pass_point(rt.alloc(), node, &point, load.passes)?;
+        let end = Instant::now(rt)?;
+        return Ok(Span { start, end });
+    }
     let _kept = pass_core(rt.alloc(), node, load)?;
     let end = Instant::now(rt)?;
     Ok(Span { start, end })
@@ -142,11 +171,25 @@ fn pass_often<L: Label, R: AllocGlobal + Wait>(
     let mut kept = Vec::new(alloc);
     for _ in 0..load.passes {
         let receipt = registry.pass(rt, alloc, seat, POINT)?;
-        if load.keeps {
+        if load.answers == Answers::Kept {
             kept.push(receipt)?;
         }
     }
     Ok(kept)
+}
+
+// Passes the point from a seat by its name.
+fn pass_places<L: Label, R: AllocGlobal + Wait>(
+    rt: &R,
+    registry: &Registry<L>,
+    seat: &mut Seat<L>,
+    point: &Name,
+    passes: u32,
+) -> Result<(), NodeFault> {
+    for _ in 0..passes {
+        registry.pass_point(rt, rt.alloc(), seat, point)?;
+    }
+    Ok(())
 }
 
 // Passes the point from a seat that a thread has.
@@ -156,7 +199,13 @@ fn time_seat<L: Label, R: AllocGlobal + Clock + Wait>(
     seat: &mut Seat<L>,
     load: Load,
 ) -> anyhow::Result<Option<Span>> {
+    let point = Name::parse(rt.alloc(), POINT)?;
     let start = Instant::now(rt)?;
+    if load.answers == Answers::Places {
+        pass_places(rt, registry, seat, &point, load.passes)?;
+        let end = Instant::now(rt)?;
+        return Ok(Some(Span { start, end }));
+    }
     let _kept = pass_often(rt, registry, seat, load)?;
     let end = Instant::now(rt)?;
     Ok(Some(Span { start, end }))
@@ -242,12 +291,13 @@ fn term_of(word: &str) -> Option<Term> {
     })
 }
 
-fn keeps(word: &str) -> Option<bool> {
-    match word {
-        "keep" => Some(true),
-        "drop" => Some(false),
-        _ => None,
-    }
+fn answers_of(word: &str) -> Option<Answers> {
+    Some(match word {
+        "drop" => Answers::Dropped,
+        "keep" => Answers::Kept,
+        "point" => Answers::Places,
+        _ => return None,
+    })
 }
 
 /// The load that the words say, if they do.
@@ -259,7 +309,7 @@ pub(crate) fn load_of(words: &[&str]) -> Option<Load> {
         way: way_of(way)?,
         term: term_of(term)?,
         passes: passes.parse::<u32>().ok()?,
-        keeps: keeps(answers)?,
+        answers: answers_of(answers)?,
     })
 }
 

@@ -1,20 +1,25 @@
 -- What C is told of a call, and what the call leaves of the registry. Where C's node is closed there is none.
-use Rattle.std.specs.Prelude.{◌≡◌, ◌⊎◌, ℕ, List, [], ◌++◌, length, take, drop, MatchOption, Option, Some, None, true, false, IsTrue, IsUtf8}
+use Rattle.std.specs.Prelude.{◌≡◌, ◌≢◌, ◌⊎◌, ℕ, List, [], ◌∷◌, ◌++◌, length, take, drop, slice_get, MatchOption, Option, Some, None, true, false, IsTrue, IsUtf8}
 use Rattle.rand_chacha.specs.ChaCha.{key_of}
 use Rattle.actions.specs.Names.{is_name}
 use Rattle.node_core.specs.declared.config.Config.{Config}
 use Rattle.node_calls.specs.declared.fault.NodeFault.TheVariants.{BadConfig, BadName}
 use Rattle.node_calls.specs.Asks.{Asked, Answered}
 use Rattle.node_calls.specs.Asks as asks
+use Rattle.node_calls.specs.Told.{Passed}
 use Rattle.node_core.specs.Deliveries.{TellsDelta}
+use Rattle.node_core.specs.Lasts.{passed_at}
+use Rattle.node_core.specs.Memory.{NameNeedsMemory}
 use Rattle.node_core.specs.Passes.{words_for}
 use Rattle.node_core.specs.Refusals.{is_bad_config}
 use Rattle.node_core.specs.Traces.{Kept, Accepts, Emits, IsRefusalOf, after_call, refusal, reply_to, state_known}
 use Rattle.node_core.specs.Words.{place_after, words_next}
-use Rattle.failreg_c.specs.Numbers.{no_memory, not_text, number}
-use Rattle.failreg_c.specs.Told.{IsPassTold}
+use Rattle.failreg_c.specs.Numbers.{no_memory, no_point, not_text, number}
+use Rattle.failreg_c.specs.Told.{IsPassTold, passed_text}
 use Rattle.failreg_c.specs.declared.act.Act.{Act}
 use Rattle.failreg_c.specs.declared.registry.Registry.{Registry}
+use Rattle.failreg_c.specs.declared.registry.Said.{Said}
+use Rattle.failreg_c.specs.declared.registry.Said.TheVariants as saids
 
 -- a fact of a registry before and after a call, which there is
 abbrev pub Both : {R : Type 0} → Option R → Option R → (R → R → Type 0) → Type 0
@@ -29,12 +34,24 @@ Stays (Some k) None f = ⊥
 Stays None (Some l) f = ⊥
 Stays None None f = Unit {0}
 
+-- what is to be fetched: these bytes, or the text of the task that the pass at this place came to
+abbrev pub text_of : Option Passed → List ℕ
+text_of None = []
+text_of (Some passed) = passed_text passed
+
+abbrev pub said_in : Kept → Said → List ℕ
+said_in core (saids.Bytes bytes) = bytes.items
+said_in core (saids.TextAt index) = text_of (passed_at (slice_get core.trace index))
+
+abbrev pub said_of : Registry → List ℕ
+said_of k = said_in k.core k.said
+
 -- a registry that was just opened
 abbrev pub IsOpened : Config → List ℕ → Registry → Type 0
 IsOpened config seed k =
     (k.core ≡ record { config = config; trace = [] }) ×
     (k.generator ≡ record { key = key_of seed; stream = config.node; word_pos = 0 }) ×
-    (k.said.items ≡ []) × (k.words.items ≡ []) × (k.fault ≡ None)
+    (said_of k ≡ []) × (k.words.items ≡ []) × (k.points ≡ []) × (k.fault ≡ None)
 
 -- why a closed node isn't opened
 abbrev pub IsNotOpened : Config → ℕ → Type 0
@@ -49,14 +66,14 @@ IsMade ask answer k l = Accepts k.core l.core ask [] answer × (l ≡ record k {
 -- an accepted emit, whose message is to be fetched
 abbrev pub IsEmitted : ℕ → Registry → Registry → Type 0
 IsEmitted to k l =
-    Emits k.core l.core to l.said.items × TellsDelta k.core to l.said.items ×
+    Emits k.core l.core to (said_of l) × TellsDelta k.core to (said_of l) ×
     (l ≡ record k { core = l.core; said = l.said })
 
 -- an accepted pass with these words
 abbrev pub IsPassedWith : List ℕ → List ℕ → Act → Registry → Registry → Type 0
 IsPassedWith name words act k l =
     (refusal k.core (asks.Pass name) words ≡ None) ×
-    IsPassTold (reply_to k.core (asks.Pass name) words) act l.said.items ×
+    IsPassTold (reply_to k.core (asks.Pass name) words) act (said_of l) ×
     (l.core ≡ after_call k.core (asks.Pass name) words)
 
 abbrev pub IsPassedGiven : List ℕ → List ℕ → Act → Registry → Registry → Type 0
@@ -74,11 +91,11 @@ words_drawn k name = words_next k.generator (words_needed k name)
 abbrev pub IsPassedDrawing : List ℕ → Act → Registry → Registry → Type 0
 IsPassedDrawing name act k l =
     IsPassedWith name (words_drawn k name) act k l × (l.words.items ≡ words_drawn k name) ×
-    (l.generator ≡ place_after k.generator (words_needed k name)) × (l.fault ≡ k.fault)
+    (l.generator ≡ place_after k.generator (words_needed k name)) × (l.points ≡ k.points) × (l.fault ≡ k.fault)
 
 -- a text is to be fetched, and nothing else changed
 abbrev pub IsSaid : List ℕ → Registry → Registry → Type 0
-IsSaid text k l = (l.said.items ≡ text) × (l ≡ record k { said = l.said })
+IsSaid text k l = (said_of l ≡ text) × (l ≡ record k { said = l.said })
 
 -- why an ask of UTF-8 texts isn't answered by 0: out of memory, where it is needed, or the first refusal
 abbrev pub IsRefused : Kept → Asked → List ℕ → Type 0 → ℕ → Type 0
@@ -96,6 +113,29 @@ IsLeft ask words status k l =
     (l ≡ record k { fault = l.fault }) ×
     MatchOption l.fault (status ≡ not_text)
     (λ f. (status ≡ number f) × IsRefusalOf k.core ask words f)
+
+-- the point of a number is as a call by its name, and where there is none no call is made
+abbrev pub AtPoint : Registry → ℕ → (List ℕ → Type 0) → Type 0
+AtPoint k point f = MatchOption (slice_get k.points point) ⊥ f
+
+-- why a pass of the point of a number isn't answered by 0
+abbrev pub IsRefusedAt : Registry → ℕ → ℕ → Type 0
+IsRefusedAt k point status =
+    MatchOption (slice_get k.points point) (status ≡ no_point) (λ name.
+    IsRefused k.core (asks.Pass name) (words_drawn k name) (NameNeedsMemory k.core name) status)
+
+-- all is as it was, but for the fault that is kept, if the number is a point's: the one of the status
+abbrev pub IsLeftAt : ℕ → ℕ → Registry → Registry → Type 0
+IsLeftAt point status k l =
+    MatchOption (slice_get k.points point) (l ≡ record k { fault = None }) (λ name.
+    IsLeft (asks.Pass name) (words_drawn k name) status k l)
+
+-- a name has this number: the one that it had, and else the next one
+abbrev pub HasNumber : List ℕ → ℕ → Registry → Registry → Type 0
+HasNumber name point k l =
+    (l ≡ record k { points = l.points }) × (slice_get l.points point ≡ Some name) ×
+    ((l.points ≡ k.points) ⊎
+    ((l.points ≡ k.points ++ name ∷ []) × ((at : ℕ) → slice_get k.points at ≢ Some name)))
 
 -- why a reader isn't answered by 0: these bytes are no UTF-8, or no name, or memory was refused
 abbrev pub IsNoName : List ℕ → ℕ → Type 0

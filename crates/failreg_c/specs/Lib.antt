@@ -3,3 +3,4 @@ pub mod Numbers
 pub mod Told
 pub mod Calls
 pub mod Pauses
+pub mod Points

@@ -51,6 +51,10 @@ closed = 31
 abbrev pub already_open : ℕ
 already_open = 32
 
+-- no point of the node has the number
+abbrev pub no_point : ℕ
+no_point = 33
+
 -- a stamp as C has it, and what C is told where there is none
 abbrev pub stamp_in : Stamped → Stamp
 stamp_in s = record { clock = s.clock; node = s.node }

@@ -43,14 +43,13 @@ abbrev pub text_or_none : Option (List ℕ) → List ℕ
 text_or_none None = []
 text_or_none (Some text) = text
 
--- the term that acts, and the text of its task, which is to be fetched
-pub record TellsTask (term : ℕ) (task : TaskValue) (a : Act) (said : List ℕ) : Type 0 where
+-- the term that acts, and its task, whose text is to be fetched
+pub record TellsTask (term : ℕ) (task : TaskValue) (a : Act) : Type 0 where
   pub term_is : a.term ≡ term
   pub task_is : a.task ≡ task_number task
   pub time : a.millis ≡ task_time task
   pub has_text : a.has_text ≡ is_some (task_text task)
-  pub text : said ≡ text_or_none (task_text task)
-  pub text_len : a.text_len ≡ length said
+  pub text_len : a.text_len ≡ length (text_or_none (task_text task))
 
 -- what C is told of a point that isn't set, and of a pass that is refused
 abbrev pub no_act : Act
@@ -65,15 +64,21 @@ no_act = record {
   has_text = false;
 }
 
-abbrev pub IsTold : Passed → Act → List ℕ → Type 0
-IsTold calls.Unset a said = (a ≡ no_act) × (said ≡ [])
-IsTold (calls.NoTerm s) a said =
-    (a ≡ record no_act { clock = s.clock; node = s.node; outcome = 1 }) × (said ≡ [])
-IsTold (calls.Act s term task) a said =
-    (a.outcome ≡ 2) × (a.clock ≡ s.clock) × (a.node ≡ s.node) × TellsTask term task a said
+abbrev pub IsTold : Passed → Act → Type 0
+IsTold calls.Unset a = a ≡ no_act
+IsTold (calls.NoTerm s) a = a ≡ record no_act { clock = s.clock; node = s.node; outcome = 1 }
+IsTold (calls.Act s term task) a =
+    (a.outcome ≡ 2) × (a.clock ≡ s.clock) × (a.node ≡ s.node) × TellsTask term task a
 
+-- the text of the task that a pass came to
+abbrev pub passed_text : Passed → List ℕ
+passed_text calls.Unset = []
+passed_text (calls.NoTerm s) = []
+passed_text (calls.Act s term task) = text_or_none (task_text task)
+
+-- what C is told of a pass, and what it may fetch then
 abbrev pub IsPassTold : Answered → Act → List ℕ → Type 0
-IsPassTold (asks.IsPassed p) a said = IsTold p a said
+IsPassTold (asks.IsPassed p) a said = IsTold p a × (said ≡ passed_text p)
 IsPassTold (asks.IsSet _) a said = ⊥
 IsPassTold (asks.IsRemoved _) a said = ⊥
 IsPassTold (asks.IsLoaded _) a said = ⊥

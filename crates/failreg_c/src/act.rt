@@ -1,12 +1,12 @@
 //! A pass as C is told it.
 
-ghost use Rattle.std.specs.Prelude.{◌≡◌, is_some, option_map, string_bytes};
+ghost use Rattle.std.specs.Prelude.{◌≡◌, option_map};
 ghost use Rattle.actions.specs.Value.{task_value};
-ghost use Rattle.node_calls.specs.Told.{passed};
-ghost use Rattle.failreg_c.specs.Told.{IsTold, task_number, task_text, task_time, text_or_none};
+ghost use Rattle.node_calls.specs.Told.{passed, passed_ref};
+ghost use Rattle.failreg_c.specs.Told.{IsTold, passed_text, task_number, task_text, task_time};
 
 use actions::Task;
-use node_core::PassReply;
+use node_core::{PassReply, PassReplyRef};
 use std::alloc::Global;
 
 /// What a pass came to.
@@ -43,67 +43,77 @@ pub(crate) const UNSET: Act = Act {
 };
 
 // The number, the time and the text of a task.
-fn parts_of(task: Task) -> (u8, u64, Option<String>)
-    ensures number { result.0 ≡ task_number (task_value task) }
-    ensures time { result.1 ≡ task_time (task_value task) }
-    ensures text { option_map string_bytes result.2 ≡ task_text (task_value task) }
+fn parts_of(task: &Task) -> (u8, u64, Option<&str>)
+    ensures number { result.0 ≡ task_number (task_value task.now) }
+    ensures time { result.1 ≡ task_time (task_value task.now) }
+    ensures text { option_map (λ t. t.now) result.2 ≡ task_text (task_value task.now) }
 {
     match task {
         Task::Off => (0, 0, None),
-        Task::Return(text) => (1, 0, text),
-        Task::Sleep(time) => (2, time, None),
-        Task::Panic(text) => (3, 0, text),
-        Task::Print(text) => (4, 0, text),
+        Task::Return(text) => (1, 0, text.as_deref()),
+        Task::Sleep(time) => (2, *time, None),
+        Task::Panic(text) => (3, 0, text.as_deref()),
+        Task::Print(text) => (4, 0, text.as_deref()),
         Task::Pause => (5, 0, None),
         Task::Yield => (6, 0, None),
-        Task::Delay(time) => (7, time, None),
+        Task::Delay(time) => (7, *time, None),
     }
 }
 
-// The bytes of a text, none where it isn't given.
-fn bytes_of(alloc: Global, text: Option<String>) -> Vec<u8>
-    ensures { result.items ≡ text_or_none (option_map string_bytes text) }
-{
-    match text {
-        Some(text) => text.into_bytes(),
-        None => Vec::new(alloc),
-    }
-}
-
-/// A pass, and the text of its task.
-pub(crate) fn act_of(alloc: Global, reply: PassReply) -> (Act, Vec<u8>)
-    ensures { IsTold (passed reply) result.0 result.1.items }
+/// A pass as C is told it.
+pub(crate) fn act_of(reply: PassReplyRef<'_>) -> Act
+    ensures { IsTold (passed_ref reply.entry) result }
 {
     match reply {
-        PassReply::Unset => (UNSET, Vec::new(alloc)),
-        PassReply::NoTerm { stamp } => {
-            let act = Act {
-                clock: stamp.clock,
-                millis: 0,
-                text_len: 0,
-                node: stamp.node,
-                term: 0,
-                outcome: 1,
-                task: 0,
-                has_text: false,
-            };
-            (act, Vec::new(alloc))
-        }
-        PassReply::Act { stamp, term, task } => {
+        PassReplyRef::Unset => UNSET,
+        PassReplyRef::NoTerm { stamp } => Act {
+            clock: stamp.clock,
+            millis: 0,
+            text_len: 0,
+            node: stamp.node,
+            term: 0,
+            outcome: 1,
+            task: 0,
+            has_text: false,
+        },
+        PassReplyRef::Act { stamp, term, task } => {
             let (task, millis, text) = parts_of(task);
-            let has_text = text.is_some();
-            let text = bytes_of(alloc, text);
-            let act = Act {
+            Act {
                 clock: stamp.clock,
                 millis,
-                text_len: text.len() as u64,
+                text_len: text.unwrap_or("").len() as u64,
                 node: stamp.node,
                 term,
                 outcome: 2,
                 task,
-                has_text,
-            };
-            (act, text)
+                has_text: text.is_some(),
+            }
         }
+    }
+}
+
+/// The text of the task that a pass came to; empty where there is none.
+pub(crate) fn text_of(reply: PassReplyRef<'_>) -> &str
+    ensures { result.now ≡ passed_text (passed_ref reply.entry) }
+{
+    match reply {
+        PassReplyRef::Unset | PassReplyRef::NoTerm { .. } => "",
+        PassReplyRef::Act { task, .. } => {
+            let (_, _, text) = parts_of(task);
+            text.unwrap_or("")
+        }
+    }
+}
+
+/// The same, in the memory in which it lies.
+pub(crate) fn into_text(alloc: Global, reply: PassReply) -> Vec<u8>
+    ensures { result.items ≡ passed_text (passed reply) }
+{
+    match reply {
+        PassReply::Act {
+            task: Task::Return(Some(text)) | Task::Panic(Some(text)) | Task::Print(Some(text)),
+            ..
+        } => text.into_bytes(),
+        _ => Vec::new(alloc),
     }
 }

@@ -8,7 +8,8 @@ ghost use Rattle.node_core.specs.Memory.{NameNeedsMemory, SetNeedsMemory};
 ghost use Rattle.node_core.specs.Traces.{delivery_of};
 ghost use Rattle.failreg_c.specs.Numbers.{already_open, closed, no_stamp, stamp_in};
 ghost use Rattle.failreg_c.specs.Told.{no_act};
-ghost use Rattle.failreg_c.specs.Calls.{Both, IsEmitted, IsLeft, IsMade, IsNotOpened, IsOpened};
+ghost use Rattle.failreg_c.specs.Calls.{AtPoint, Both, HasNumber, IsEmitted, IsLeft, IsLeftAt, IsMade};
+ghost use Rattle.failreg_c.specs.Calls.{IsNoName, IsNotOpened, IsOpened, IsRefusedAt};
 ghost use Rattle.failreg_c.specs.Calls.{IsPassedDrawing, IsPassedGiven, IsRefused, IsRefusedOf};
 ghost use Rattle.failreg_c.specs.Calls.{Stays, words_drawn};
 
@@ -172,6 +173,48 @@ pub extern "C" fn failreg_pass(alloc: Global, node: &mut Node, name: &[u8], act:
         return CLOSED;
     };
     let (status, answer) = registry.pass(alloc, name);
+    *node = Node::of(registry);
+    *act = answer;
+    status
+}
+
+/// Tells the number of a point, set or not: the one that its name has, or the next one. It is no
+/// pass, and stays the name's until the node is closed.
+#[unsafe(no_mangle)]
+pub extern "C" fn failreg_point(alloc: Global, node: &mut Node, name: &[u8], point: &mut u32) -> u32
+    ensures ok { result ≡ 0 → Both node.old.handle.kept node.new.handle.kept
+        (HasNumber name.now point.new) }
+    ensures refused { result ≢ 0
+        → MatchOption node.old.handle.kept (result ≡ closed) (λ _. IsNoName name.now result) }
+    ensures same { result ≢ 0 → node.new.handle.kept ≡ node.old.handle.kept }
+    ensures none { result ≢ 0 → point.new ≡ 0 }
+{
+    let Some(mut registry) = node.take(alloc) else {
+        *point = 0;
+        return CLOSED;
+    };
+    let (status, answer) = registry.point(alloc, name);
+    *node = Node::of(registry);
+    *point = answer;
+    status
+}
+
+/// Passes the point of a number, as `failreg_pass` does by its name, and copies no text.
+#[unsafe(no_mangle)]
+pub extern "C" fn failreg_pass_at(alloc: Global, node: &mut Node, point: u32, act: &mut Act) -> u32
+    ensures ok { result ≡ 0 → Both node.old.handle.kept node.new.handle.kept (λ k l.
+        AtPoint k point (λ name. IsPassedDrawing name act.new k l)) }
+    ensures refused { result ≢ 0 → MatchOption node.old.handle.kept (result ≡ closed) (λ k.
+        IsRefusedAt k point result) }
+    ensures left { result ≢ 0 → Stays node.old.handle.kept node.new.handle.kept
+        (IsLeftAt point result) }
+    ensures none { result ≢ 0 → act.new ≡ no_act }
+{
+    let Some(mut registry) = node.take(alloc) else {
+        *act = UNSET;
+        return CLOSED;
+    };
+    let (status, answer) = registry.pass_at(alloc, point);
     *node = Node::of(registry);
     *act = answer;
     status

@@ -8,10 +8,12 @@ mod handle;
 mod numbers;
 mod parts;
 mod pauses;
+mod points;
 mod readers;
 mod registry;
 
 pub use act::Act;
 pub use handle::{Handle, Node, Opaque};
 pub use numbers::{Stamped, Wide};
-pub use registry::Registry;
+pub use points::Points;
+pub use registry::{Registry, Said};

@@ -8,7 +8,7 @@ ghost use Rattle.node_core.specs.Traces.{node_of, state_known};
 ghost use Rattle.replica_state.specs.States.{rights_of, spent_of, total_hits};
 ghost use Rattle.failreg_c.specs.Numbers.{IsNearest, closed, no_memory, whole};
 ghost use Rattle.failreg_c.specs.Told.{text_or_none};
-ghost use Rattle.failreg_c.specs.Calls.{Both, FillsFront, IsNoName, IsSaid};
+ghost use Rattle.failreg_c.specs.Calls.{Both, FillsFront, IsNoName, IsSaid, said_of};
 
 use crate::calls::CLOSED;
 use crate::handle::Node;
@@ -233,7 +233,7 @@ pub extern "C" fn failreg_fault(alloc: Global, node: &mut Node) -> u32
 #[unsafe(no_mangle)]
 pub extern "C" fn failreg_fetch(alloc: Global, node: &mut Node, into: &mut [u8]) -> usize
     ensures bytes { MatchOption node.old.handle.kept ((result ≡ 0) × (into.new ≡ into.old)) (λ k.
-        (result ≡ length k.said.items) × FillsFront k.said.items into.old into.new) }
+        (result ≡ length (said_of k)) × FillsFront (said_of k) into.old into.new) }
     ensures same { node.new.handle.kept ≡ node.old.handle.kept }
 {
     let Some(registry) = node.take(alloc) else {

@@ -1,39 +1,56 @@
 //! A node with its generator, and what C is told of its last call.
 
-ghost use Rattle.std.specs.Prelude.{◌≡◌, ◌≢◌, [], Some, None, false, length, option_map, IfOk, IfErr, IsUtf8};
+ghost use Rattle.std.specs.Prelude.{◌≡◌, ◌≢◌, [], Some, None, false, length, option_map, slice_get, IfOk, IfErr};
+ghost use Rattle.std.specs.Prelude.{IsUtf8, MatchOption, OnOk, true};
+ghost use Rattle.actions.specs.Names.{is_name};
 ghost use Rattle.node_calls.specs.Asks as asks;
 ghost use Rattle.node_calls.specs.Asks.{bare_emit};
+ghost use Rattle.node_core.specs.Lasts.{passed_at};
 ghost use Rattle.node_core.specs.Memory.{DeliveryNeedsMemory, EmitNeedsMemory, LoadNeedsMemory};
 ghost use Rattle.node_core.specs.Memory.{NameNeedsMemory, SetNeedsMemory};
 ghost use Rattle.node_calls.specs.FaultText.{node_fault_text};
 ghost use Rattle.node_core.specs.Texts.{list_text};
 ghost use Rattle.node_core.specs.Traces.{delivery_of, state_known};
 ghost use Rattle.failreg_c.specs.Numbers.{IsNumbered, no_memory, not_text, number};
-ghost use Rattle.failreg_c.specs.Told.{no_act, text_or_none};
+ghost use Rattle.failreg_c.specs.Told.{IsTold, no_act, text_or_none};
 ghost use Rattle.failreg_c.specs.Calls.{FillsFront, IsEmitted, IsLeft, IsMade, IsNoName};
 ghost use Rattle.failreg_c.specs.Calls.{IsPassedDrawing, IsPassedGiven, IsRefused, IsRefusedOf};
-ghost use Rattle.failreg_c.specs.Calls.{IsSaid, words_drawn};
+ghost use Rattle.failreg_c.specs.Calls.{AtPoint, HasNumber, IsLeftAt, IsRefusedAt, IsSaid};
+ghost use Rattle.failreg_c.specs.Calls.{said_of, words_drawn};
 
-use crate::act::{Act, UNSET, act_of};
+use crate::act::{Act, UNSET, act_of, into_text, text_of};
 use crate::numbers::NO_STAMP;
+use crate::points::Points;
 use actions::{Name, NameFault};
 use node_core::{Generator, NodeCore, NodeFault};
 use stamp_register::Stamp;
-use std::alloc::Global;
+use std::alloc::{AllocError, Global};
 
-/// A node with the generator of its random draws, the bytes of the last answer that are to be
-/// fetched, the random draws that the last pass drew, and the last refusal.
+/// A node with the generator of its random draws, what of the last answer is to be fetched, the random
+/// draws that the last pass drew, the points that have numbers, and the last refusal.
 #[derive(Drop)]
 pub struct Registry {
     pub core: NodeCore,
     pub generator: Generator,
-    pub said: Vec<u8>,
+    pub said: Said,
     pub words: Vec<u32>,
+    pub points: Points,
     pub fault: Option<NodeFault>,
+}
+
+/// What is to be fetched: these bytes, or the text of the task that the pass at this place of the
+/// trace came to.
+#[derive(Drop)]
+pub enum Said {
+    Bytes(Vec<u8>),
+    TextAt(usize),
 }
 
 /// What a text that is not UTF-8 is answered.
 const NOT_TEXT: u32 = 30;
+
+/// What a number is answered that no point has.
+const NO_POINT: u32 = 33;
 
 /// The number of a fault, with which its text begins.
 #[tactic(auto, using(crate::proofs::FaultNumbers::numbered))]
@@ -69,6 +86,7 @@ pub(crate) fn number_of(fault: NodeFault) -> u32
 /// The name that bytes spell, or the status.
 pub(crate) fn read_name(alloc: Global, bytes: &[u8]) -> Result<Name, u32>
     ensures ok { IfOk result (λ n. n ≡ bytes.now) }
+    ensures named { OnOk result (IsUtf8 bytes.now × (is_name bytes.now ≡ true)) }
     ensures err { IfErr result (λ status. (status ≢ 0) × IsNoName bytes.now status) }
 {
     let Ok(text) = str::from_utf8(bytes) else {
@@ -81,20 +99,33 @@ pub(crate) fn read_name(alloc: Global, bytes: &[u8]) -> Result<Name, u32>
     }
 }
 
+// What C is told of the pass at a place.
+fn told_at(core: &NodeCore, index: usize) -> Act
+    ensures { MatchOption (passed_at (slice_get core.now.trace index)) (result ≡ no_act)
+        (λ passed. IsTold passed result) }
+{
+    match core.passed_at(index) {
+        Some(reply) => act_of(reply),
+        None => UNSET,
+    }
+}
+
 impl Registry {
     /// A node that has accepted no call.
     pub(crate) fn new(alloc: Global, core: NodeCore, generator: Generator) -> Registry
         ensures core { result.core ≡ core }
         ensures generator { result.generator ≡ generator }
-        ensures said { result.said.items ≡ [] }
+        ensures said { said_of result ≡ [] }
         ensures words { result.words.items ≡ [] }
+        ensures points { result.points ≡ [] }
         ensures fault { result.fault ≡ None }
     {
         Registry {
             core,
             generator,
-            said: Vec::new(alloc),
+            said: Said::Bytes(Vec::new(alloc)),
             words: Vec::new(alloc),
+            points: Points::new(alloc),
             fault: None,
         }
     }
@@ -191,8 +222,8 @@ impl Registry {
         };
         match self.core.pass_generating(alloc, name, &mut self.generator) {
             Ok((words, reply)) => {
-                let (act, text) = act_of(alloc, reply);
-                self.said = text;
+                let act = act_of(reply.as_ref());
+                self.said = Said::Bytes(into_text(alloc, reply));
                 self.words = words;
                 (0, act)
             }
@@ -213,9 +244,52 @@ impl Registry {
         };
         match self.core.pass_with(alloc, name, words) {
             Ok(reply) => {
-                let (act, text) = act_of(alloc, reply);
-                self.said = text;
+                let act = act_of(reply.as_ref());
+                self.said = Said::Bytes(into_text(alloc, reply));
                 (0, act)
+            }
+            Err(fault) => (self.refuse(fault), UNSET),
+        }
+    }
+
+    /// The number of a point.
+    pub(crate) fn point(&mut self, alloc: Global, name: &[u8]) -> (u32, u32)
+        ensures ok { result.0 ≡ 0 → HasNumber name.now result.1 self.old self.new }
+        ensures refused { result.0 ≢ 0 → IsNoName name.now result.0 }
+        ensures left { result.0 ≢ 0 → self.new ≡ self.old }
+        ensures none { result.0 ≢ 0 → result.1 ≡ 0 }
+    {
+        let name = match read_name(alloc, name) {
+            Ok(name) => name,
+            Err(status) => return (status, 0),
+        };
+        match self.points.number(alloc, name) {
+            Ok(number) => (0, number),
+            Err(AllocError) => (number_of(NodeFault::OutOfMemory), 0),
+        }
+    }
+
+    /// Passes the point of a number. The text of its task stays where it is.
+    pub(crate) fn pass_at(&mut self, alloc: Global, point: u32) -> (u32, Act)
+        ensures ok { result.0 ≡ 0 → AtPoint self.old point
+            (λ name. IsPassedDrawing name result.1 self.old self.new) }
+        ensures refused { result.0 ≢ 0 → IsRefusedAt self.old point result.0 }
+        ensures left { result.0 ≢ 0 → IsLeftAt point result.0 self.old self.new }
+        ensures none { result.0 ≢ 0 → result.1 ≡ no_act }
+    {
+        let Some(name) = self.points.name(point) else {
+            self.fault = None;
+            return (NO_POINT, UNSET);
+        };
+        let index = self.core.trace().len();
+        match self
+            .core
+            .pass_point_generating(alloc, name, &mut self.generator)
+        {
+            Ok(words) => {
+                self.said = Said::TextAt(index);
+                self.words = words;
+                (0, told_at(&self.core, index))
             }
             Err(fault) => (self.refuse(fault), UNSET),
         }
@@ -274,7 +348,7 @@ impl Registry {
     {
         match self.core.emit(alloc, to) {
             Ok(message) => {
-                self.said = message;
+                self.said = Said::Bytes(message);
                 0
             }
             Err(fault) => self.refuse(fault),
@@ -306,7 +380,7 @@ impl Registry {
     {
         match self.core.list(alloc) {
             Ok(text) => {
-                self.said = text.into_bytes();
+                self.said = Said::Bytes(text.into_bytes());
                 0
             }
             Err(_) => number_of(NodeFault::OutOfMemory),
@@ -322,27 +396,41 @@ impl Registry {
         ensures same { result ≢ 0 → self.new ≡ self.old }
     {
         let Some(fault) = self.fault else {
-            self.said.clear();
+            self.said = Said::Bytes(Vec::new(alloc));
             return 0;
         };
         match format!(in alloc; "{fault}") {
             Ok(text) => {
-                self.said = text.into_bytes();
+                self.said = Said::Bytes(text.into_bytes());
                 0
             }
             Err(_) => number_of(NodeFault::OutOfMemory),
         }
     }
 
+    // What is to be fetched.
+    fn said(&self) -> &[u8]
+        ensures { result.now ≡ said_of self.now }
+    {
+        match &self.said {
+            Said::Bytes(bytes) => bytes,
+            Said::TextAt(index) => match self.core.passed_at(*index) {
+                Some(reply) => text_of(reply).as_bytes(),
+                None => &[],
+            },
+        }
+    }
+
     /// Copies as much as there is room for of what is to be fetched, and answers its length.
     pub(crate) fn fetch(&self, into: &mut [u8]) -> usize
-        ensures length { result ≡ length self.now.said.items }
-        ensures bytes { FillsFront self.now.said.items into.old into.new }
+        ensures length { result ≡ length (said_of self.now) }
+        ensures bytes { FillsFront (said_of self.now) into.old into.new }
     {
-        let length = self.said.len();
+        let said = self.said();
+        let length = said.len();
         let shown = length.min(into.len());
         let (front, _) = into.split_at_mut(shown);
-        front.copy_from_slice(&self.said[..shown]);
+        front.copy_from_slice(&said[..shown]);
         length
     }
 

@@ -1,11 +1,12 @@
 //! A caller of `node_registry`.
 
-ghost use Rattle.std.specs.Prelude.{◌≡◌, length, map, vec_len, IfOk, replicate};
+ghost use Rattle.std.specs.Prelude.{◌≡◌, ◌+◌, length, map, vec_len, IfOk, OnOk, replicate};
 ghost use Rattle.node_calls.specs.Asks.{call_from};
 ghost use Rattle.node_core.specs.Traces.{IsLegal};
 
-use node_core::{Ask, Config, NodeFault};
-use node_registry::{Closed, Label, Registry, Seat};
+use actions::Name;
+use node_core::{Ask, Config, NodeFault, Receipt};
+use node_registry::{Closed, Label, PassOutcome, Registry, Seat};
 use std::alloc::Global;
 use std::marker::Brand;
 use std::sync::Wait;
@@ -23,6 +24,23 @@ pub fn asked<R: Wait>(
     ensures entries { IfOk result (λ c. length c.trace.calls ≡ c.calls) }
 {
     asked_by::<Brand, R>(rt, alloc, Blank::new(1), config, asks)
+}
+
+/// Passes a point by its name, and answers the receipt where a term was triggered.
+pub fn triggered<L: Label, R: Wait>(
+    rt: &R,
+    alloc: Global,
+    registry: &Registry<L>,
+    seat: &mut Seat<L>,
+    point: &Name,
+) -> Result<Option<Receipt>, NodeFault>
+    ensures { OnOk result (seat.new ≡ seat.old + 1) }
+{
+    let passed = registry.pass_point(rt, alloc, seat, point)?;
+    match passed.outcome {
+        PassOutcome::Act { .. } => Ok(registry.receipt(rt, alloc, passed.index)?),
+        PassOutcome::Unset | PassOutcome::NoTerm { .. } => Ok(None),
+    }
 }
 
 // Asks the registry that `L` names: what that is, the call above picks.

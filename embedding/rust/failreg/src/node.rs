@@ -23,7 +23,9 @@ impl Drop for Node {
 fn unknown(what: &str, number: u8) -> Refused {
     Refused {
         status: UNKNOWN,
-        text: format!("the library answered {what} {number}, which this crate doesn't know: build both from one tree"),
+        text: format!(
+            "the library answered {what} {number}, which this crate doesn't know: build both from one tree"
+        ),
     }
 }
 
@@ -74,6 +76,7 @@ impl Node {
             22 => "N22 OutOfMemory".into(),
             30 => "the text is not UTF-8".into(),
             31 => "the registry is closed".into(),
+            33 => "no point has the number".into(),
             _ if unsafe { sys::failreg_fault(&mut self.handle) } == 0 => self.fetch_text(),
             _ => format!("N{status}"),
         }
@@ -146,6 +149,24 @@ impl Node {
         let mut act = sys::Act::default();
         let h = &mut self.handle;
         let status = unsafe { sys::failreg_pass(h, name.as_ptr(), name.len(), &mut act) };
+        self.passed(status, &act)
+    }
+
+    /// The number of a point, for `pass_at`.
+    pub fn point(&mut self, name: &str) -> Result<u32, Refused> {
+        let mut point = 0;
+        let h = &mut self.handle;
+        let status = unsafe { sys::failreg_point(h, name.as_ptr(), name.len(), &mut point) };
+        self.read(status, point)
+    }
+
+    pub fn pass_at(&mut self, point: u32) -> Result<Passed, Refused> {
+        let mut act = sys::Act::default();
+        let status = unsafe { sys::failreg_pass_at(&mut self.handle, point, &mut act) };
+        self.passed(status, &act)
+    }
+
+    fn passed(&mut self, status: u32, act: &sys::Act) -> Result<Passed, Refused> {
         self.answer(status, ())?;
         let stamp = Stamp {
             clock: act.clock,
@@ -157,7 +178,7 @@ impl Node {
             2 => Passed::Act {
                 stamp,
                 term: act.term,
-                task: self.task_of(&act)?,
+                task: self.task_of(act)?,
             },
             other => return Err(unknown("outcome", other)),
         })

@@ -13,18 +13,45 @@ const NOTHING_SET: u64 = 0;
 static LAST_SETTINGS: AtomicU64 = AtomicU64::new(NOTHING_SET);
 
 /// A `fail_point!` in the text of a program, whose point always has the same name: it remembers the
-/// settings in which that point was last found not to be set.
+/// settings in which that point was last found not to be set, and those in which it was, and the
+/// point's number in a registry. All but the first are read and written under that registry's lock;
+/// threads of several registries may overwrite what others remember, so each is whole in one word.
 pub struct Site {
     unset_in: AtomicU64,
+    set_in: AtomicU64,
+    // The number of the registry, and below it that of the point, plus 1.
+    point: AtomicU64,
 }
 
 impl Site {
     pub const fn new() -> Site {
         Site {
             unset_in: AtomicU64::new(NOTHING_SET),
+            set_in: AtomicU64::new(NOTHING_SET),
+            point: AtomicU64::new(0),
+        }
+    }
+
+    /// The number of the site's point in a registry, if the site has it.
+    pub fn point_of(&self, registry: u64) -> Option<u32> {
+        let point = self.point.load(Ordering::Relaxed);
+        let number = (point & POINTS).checked_sub(1)?;
+        (point >> POINT_BITS == registry).then_some(number as u32)
+    }
+
+    /// Remembers the number of the site's point in a registry, where both fit.
+    pub fn has_point(&self, registry: u64, number: u32) {
+        let number = u64::from(number) + 1;
+        if number <= POINTS && registry <= u64::MAX >> POINT_BITS {
+            let point = registry << POINT_BITS | number;
+            self.point.store(point, Ordering::Relaxed);
         }
     }
 }
+
+/// How many bits of a site's word are the number of the point, and the greatest of these numbers.
+const POINT_BITS: u32 = 24;
+const POINTS: u64 = (1 << POINT_BITS) - 1;
 
 impl Default for Site {
     fn default() -> Site {
@@ -72,10 +99,17 @@ impl Shown {
         settings != NOTHING_SET && settings != site.unset_in.load(Ordering::Relaxed)
     }
 
-    /// Remembers that the point of a site isn't set. No other thread may show names meanwhile.
-    pub fn is_unset_at(&self, site: &Site) {
+    /// Whether the point of a site is set, which remembers it; `look` tells where it doesn't. No other
+    /// thread may show names meanwhile.
+    pub fn is_set_at(&self, site: &Site, look: impl FnOnce() -> bool) -> bool {
         let settings = self.settings.load(Ordering::Relaxed);
-        site.unset_in.store(settings, Ordering::Relaxed);
+        if site.set_in.load(Ordering::Relaxed) == settings && settings != NOTHING_SET {
+            return true;
+        }
+        let is_set = look();
+        let remembered = if is_set { &site.set_in } else { &site.unset_in };
+        remembered.store(settings, Ordering::Relaxed);
+        is_set
     }
 
     /// Shows these names, as settings of their own. A bit that was set and is to be stays set

@@ -7,7 +7,7 @@ use crate::told::{Passed, Refused, Stamp, Task};
 use std::collections::HashSet;
 use std::hash::{BuildHasher, Hasher, RandomState};
 use std::io::{self, Write};
-use std::sync::atomic::{AtomicBool, Ordering};
+use std::sync::atomic::{AtomicBool, AtomicU64, Ordering};
 use std::sync::{Condvar, Mutex, MutexGuard, TryLockError};
 use std::time::Instant;
 
@@ -19,6 +19,8 @@ const PAUSES: [u32; 9] = [64, 128, 256, 512, 1024, 2048, 4096, 8192, 16384];
 /// One node of a cluster, for any number of threads. Its number is its own: no other node of the
 /// cluster has it, and none had it before, in an earlier run of the program either.
 pub struct Registry {
+    // No other registry of the program has it.
+    id: u64,
     shown: Shown,
     state: Mutex<State>,
     // Told of each change of the settings, and of the end of all changes.
@@ -70,7 +72,9 @@ impl Registry {
         let node = Node::open(number, nodes, cap, &seed)?;
         let receipts = None;
         let names = HashSet::new();
+        static REGISTRIES: AtomicU64 = AtomicU64::new(0);
         Ok(Registry {
+            id: REGISTRIES.fetch_add(1, Ordering::Relaxed),
             shown: Shown::new(),
             state: Mutex::new(State {
                 node,
@@ -209,11 +213,16 @@ impl Registry {
 
     /// Passes a point, set or not, and leaves its task to the caller.
     pub fn pass(&self, name: &str) -> Result<Passed, Refused> {
-        self.pass_in(&mut self.lock(), name)
+        self.pass_in(&mut self.lock(), name, |node| node.pass(name))
     }
 
-    fn pass_in(&self, state: &mut State, name: &str) -> Result<Passed, Refused> {
-        let passed = self.call(state, || ask::pass(name), |n| n.pass(name), reply::pass)?;
+    fn pass_in(
+        &self,
+        state: &mut State,
+        name: &str,
+        make: impl FnOnce(&mut Node) -> Result<Passed, Refused>,
+    ) -> Result<Passed, Refused> {
+        let passed = self.call(state, || ask::pass(name), make, reply::pass)?;
         let State { node, receipts, .. } = state;
         if let Some(receipt) = receipts
             .as_mut()
@@ -222,6 +231,19 @@ impl Registry {
             receipt.words = node.words();
         }
         Ok(passed)
+    }
+
+    // Passes the point of a site by its number, which the site remembers.
+    fn pass_at(&self, state: &mut State, name: &str, site: &Site) -> Result<Passed, Refused> {
+        let point = match site.point_of(self.id) {
+            Some(point) => point,
+            None => {
+                let point = state.node.point(name)?;
+                site.has_point(self.id, point);
+                point
+            }
+        };
+        self.pass_in(state, name, |node| node.pass_at(point))
     }
 
     /// Whether a point is set. That is no pass.
@@ -236,28 +258,40 @@ impl Registry {
         if !self.shown.may_be_set(name) {
             return None;
         }
-        self.eval_set(name, None)
+        let mut state = self.lock();
+        if !state.names.contains(name) {
+            return None;
+        }
+        let passed = self.pass_in(&mut state, name, |node| node.pass(name));
+        self.obey(state, name, passed)
     }
 
-    /// The same at a site that always has this name, which remembers where the point isn't set.
+    /// The same at a site that always has this name, which remembers what was found of the point.
     #[doc(hidden)]
     #[inline]
     pub fn eval_at(&self, site: &Site, name: &str) -> Option<Option<String>> {
         if !self.shown.may_be_set_at(site) {
             return None;
         }
-        self.eval_set(name, Some(site))
+        self.eval_set_at(site, name)
     }
 
-    fn eval_set(&self, name: &str, site: Option<&Site>) -> Option<Option<String>> {
+    fn eval_set_at(&self, site: &Site, name: &str) -> Option<Option<String>> {
         let mut state = self.lock();
-        if !state.names.contains(name) {
-            if let Some(site) = site {
-                self.shown.is_unset_at(site);
-            }
+        if !self.shown.is_set_at(site, || state.names.contains(name)) {
             return None;
         }
-        let passed = self.pass_in(&mut state, name);
+        let passed = self.pass_at(&mut state, name, site);
+        self.obey(state, name, passed)
+    }
+
+    // Carries out what a pass came to, or tells why it was refused, without the lock.
+    fn obey(
+        &self,
+        state: MutexGuard<'_, State>,
+        name: &str,
+        passed: Result<Passed, Refused>,
+    ) -> Option<Option<String>> {
         drop(state);
         match passed {
             Ok(Passed::Act { stamp, task, .. }) => self.carry_out(name, stamp, task),

@@ -52,6 +52,8 @@ unsafe extern "C" {
     pub fn failreg_remove(h: &mut Handle, name: Name, len: usize, stamp: &mut Stamped) -> u32;
     pub fn failreg_load(h: &mut Handle, text: *const u8, len: usize, entries: &mut u16) -> u32;
     pub fn failreg_pass(h: &mut Handle, name: Name, len: usize, act: &mut Act) -> u32;
+    pub fn failreg_point(h: &mut Handle, name: Name, len: usize, point: &mut u32) -> u32;
+    pub fn failreg_pass_at(h: &mut Handle, point: u32, act: &mut Act) -> u32;
     pub fn failreg_pause_over(
         h: &mut Handle,
         name: Name,

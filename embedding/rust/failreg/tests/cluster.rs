@@ -183,6 +183,46 @@ fn a_site_remembers_settings_of_one_registry() {
     assert_eq!((spelled(&a), named(&a, "other")), (false, false));
 }
 
+fn shared(node: &Registry) -> Option<String> {
+    fail_point!(in node, "shared", |argument| argument);
+    None
+}
+
+fn before_it(node: &Registry) -> Option<String> {
+    fail_point!(in node, "before.it", |argument| argument);
+    None
+}
+
+// The point has another number in each registry, and the site is passed for both in turn, by threads.
+#[test]
+fn a_site_takes_no_number_of_another_registry() {
+    let (a, b) = (
+        Registry::open(0, 1, 200_000).unwrap(),
+        Registry::open(0, 1, 200_000).unwrap(),
+    );
+    a.set("shared", "return(of a)").unwrap();
+    b.set("before.it", "return(before)").unwrap();
+    b.set("shared", "return(of b)").unwrap();
+    assert_eq!(before_it(&b).as_deref(), Some("before"));
+    std::thread::scope(|scope| {
+        for (node, wanted) in [(&a, "of a"), (&b, "of b"), (&a, "of a"), (&b, "of b")] {
+            scope.spawn(move || {
+                for _ in 0..10_000 {
+                    assert_eq!(shared(node).as_deref(), Some(wanted));
+                }
+            });
+        }
+    });
+    assert_eq!(
+        (a.hits("shared"), b.hits("shared")),
+        (Ok(20_000), Ok(20_000))
+    );
+    a.remove("shared").unwrap();
+    assert_eq!((shared(&a), shared(&b)), (None, Some("of b".into())));
+    b.set("shared", "return(again)").unwrap();
+    assert_eq!((shared(&a), shared(&b)), (None, Some("again".into())));
+}
+
 #[test]
 fn a_site_sees_each_change_that_came_before() {
     let a = Registry::open(0, 1, 1_000_000).unwrap();
