@@ -5,6 +5,7 @@ pub mod ToldSteps
 pub mod BelowLemmas
 pub mod HeldCells
 pub mod HeldEntries
+pub mod PassMarkLemmas
 pub mod MarkLemmas
 pub mod ChangeLemmas
 pub mod InPlace

@@ -1,5 +1,5 @@
 -- The marks after those of one name were written.
-use Rattle.std.proofs.Common.{◌≡◌, ◌≢◌, ℕ, Bool, true, false, cond, not, List, [], ◌∷◌, ◌==◌, ◌&&◌, IsTrue, Option, Some, None, refl, sym, ◌∙◌, ap, subst}
+use Rattle.std.proofs.Common.{◌≡◌, ◌≢◌, ℕ, Bool, true, false, cond, not, List, ◌&&◌, IsTrue, Option, Some, None, refl, sym, ◌∙◌, ap, subst}
 use Rattle.std.specs.Str.{bytes_eq}
 use Rattle.std.specs.BTreeMap.{BTreeMap, WritesThrough, is_at}
 use Rattle.std.specs.Option.{IsSome, unwrap_or}
@@ -7,11 +7,7 @@ use Rattle.std.specs.Ordering.{nat_cmp}
 use Rattle.std.specs.Cmp.Lexicographic.{slice_cmp}
 use Rattle.std.proofs.lemmas.Map.Text.{is_eq-slice_cmp}
 use Rattle.operations.specs.declared.counted.Counted.{Counted}
-use Rattle.std.specs.List.{filter}
-use Rattle.std.specs.Map.{lookup}
-use Rattle.std.proofs.lemmas.Map.Entries.{lookup-filter-keys}
-use Rattle.operations.specs.declared.counted.Counted.TheVariants.{Hits, Execs, Shifts}
-use Rattle.operations.specs.Counts.{counted_cmp, place_of_counted, is_hits}
+use Rattle.operations.specs.Counts.{is_hits}
 use Rattle.replica_state.proofs.Orders.{bytes_eq-true}
 use Rattle.delta_exchange.specs.declared.marks.NameMarks.{NameMarks}
 use Rattle.delta_exchange.specs.declared.marks.Marks.{Marks}
@@ -22,22 +18,6 @@ at_name : {A : Type 0} (name : List ℕ) (old : List ℕ → A) (x : A) → x �
     bytes_eq name q ≡ b → cond b x (old q) ≡ old q
 at_name name old x here q true e = here ∙ ap old (bytes_eq-true name q e)
 at_name name old x here q false e = refl
-
--- what stands at one place in the order is of one kind
-abbrev first_is_hits : List ℕ → Bool
-first_is_hits [] = false
-first_is_hits (x ∷ xs) = x == 0
-
-kind_of_place : (c : Counted) → first_is_hits (place_of_counted c) ≡ is_hits c
-kind_of_place (Hits node) = refl
-kind_of_place (Execs term node) = refl
-kind_of_place (Shifts term from to) = refl
-
-same_kind : (c d : Counted) → is_at (counted_cmp c) d ≡ true → is_hits d ≡ is_hits c
-same_kind c d e =
-    let places : place_of_counted c ≡ place_of_counted d = bytes_eq-true (place_of_counted c) (place_of_counted d)
-    (sym (is_eq-slice_cmp (place_of_counted c) (place_of_counted d)) ∙ e) in
-    sym (kind_of_place d) ∙ ap first_is_hits (sym places) ∙ kind_of_place c
 
 module _ (m n : Marks) (name : List ℕ) (w : NameMarks) (at : (q : List ℕ) →
     marks_at n.names.entries q ≡ cond (is_at (slice_cmp nat_cmp name) q) (Some w) (marks_at m.names.entries q)) where
@@ -112,19 +92,6 @@ module _ (m n : Marks) (name : List ℕ) (w : NameMarks) (at : (q : List ℕ) �
       one true f x e q true s = e ∙ ap f (bytes_eq-true name q s)
       one false f x e q true s = e
       one t f x e q false s = refl
-
--- the marks of hits alone
-pub hits_only : (p w : NameMarks) → w.cells.entries ≡ filter (λ (e : Counted × ℕ). is_hits e.0) p.cells.entries →
-    (c : Counted) → cell_of (Some w) c ≡ cond (is_hits c) (cell_of (Some p) c) 0
-hits_only p w e c =
-    ap (λ (es : List (Counted × ℕ)). unwrap_or (lookup (is_at (counted_cmp c)) es) 0) e ∙
-    ap (λ (o : Option ℕ). unwrap_or o 0) (lookup-filter-keys (is_at (counted_cmp c)) is_hits (is_hits c) (same_kind c)
-    p.cells.entries) ∙ by_test (is_hits c)
-  where
-    by_test : (b : Bool) → unwrap_or (cond b (lookup (is_at (counted_cmp c)) p.cells.entries) None) 0 ≡ cond b
-        (unwrap_or (lookup (is_at (counted_cmp c)) p.cells.entries) 0) 0
-    by_test true = refl
-    by_test false = refl
 
 -- what the marks are once w was written through what they lent at the name
 abbrev pub Lent : BTreeMap (List ℕ) NameMarks → (NameMarks → BTreeMap (List ℕ) NameMarks) → List ℕ → Type 0

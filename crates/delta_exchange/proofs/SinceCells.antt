@@ -76,8 +76,8 @@ module _ {v : State} {nodes : ℕ} {m : Marks} {name : List ℕ} {w : NameMarks}
   -- ---- hits
 
   pub hit_changed : (c : ℕ × ℕ) → IsIn c (hits_since (held_at v name) base w) → IsChanged (Hits c.0) c.1
-  hit_changed c h = let r = later_member (hit_of (held_at v name)) w.key base w.cells.entries c marked.ordered h in
-      by_kind r.counted r.mark r.marked r.above r.is
+  hit_changed c h = let r = later_member (hit_of (held_at v name)) w base w.cells.entries c marked.ordered h in
+      by_kind r.counted r.number r.marked r.above r.is
     where
       by_kind : (d : Counted) (n : ℕ) → cell_in w d ≡ Some n → base < cell_change (is_hits d) n w.key →
           IsIn c (hit_of (held_at v name) d) → IsChanged (Hits c.0) c.1
@@ -98,11 +98,11 @@ module _ {v : State} {nodes : ℕ} {m : Marks} {name : List ℕ} {w : NameMarks}
       (subst (λ z. base < z) (change_is m name w marked.at (Hits node)) d.later) in
       let cell : ℕ × ℕ = (node, v.hits name node) in
       subst (λ n. IsIn (node, n) (hits_since (held_at v name) base w)) (sym d.is_now)
-      (member_later (hit_of (held_at v name)) w.key base w.cells.entries (Hits node) k.0 cell k.1 k.2
+      (member_later (hit_of (held_at v name)) w base w.cells.entries (Hits node) k.0 cell k.1 k.2
       (one_cell_in (v.hits name node) cell some))
 
   pub hits_since_ascend : IsAscending (map hit_place (hits_since (held_at v name) base w))
-  hits_since_ascend = later_ascends (hit_of (held_at v name)) w.key base hit_place each across w.cells.entries
+  hits_since_ascend = later_ascends (hit_of (held_at v name)) w base hit_place each across w.cells.entries
       marked.ordered
     where
       each : (c : Counted) → IsAscending (map hit_place (hit_of (held_at v name) c))
@@ -145,8 +145,8 @@ module _ {v : State} {nodes : ℕ} {m : Marks} {name : List ℕ} {w : NameMarks}
 
   module _ {key : KeyValue} (keyed : v.key name ≡ Some key) where
     pub exec_changed : (c : ℕ × ℕ × ℕ) → IsIn c (execs_since (held_at v name) base w) → IsChanged (Execs c.0 c.1) c.2
-    exec_changed c h = let r = later_member (exec_of (held_at v name)) w.key base w.cells.entries c marked.ordered h in
-        by_kind r.counted r.mark r.marked r.above r.is
+    exec_changed c h = let r = later_member (exec_of (held_at v name)) w base w.cells.entries c marked.ordered h in
+        by_kind r.counted r.number r.marked r.above r.is
       where
         by_kind : (d : Counted) (n : ℕ) → cell_in w d ≡ Some n → base < cell_change (is_hits d) n w.key →
             IsIn c (exec_of (held_at v name) d) → IsChanged (Execs c.0 c.1) c.2
@@ -176,11 +176,11 @@ module _ {v : State} {nodes : ℕ} {m : Marks} {name : List ℕ} {w : NameMarks}
         (subst (λ z. base < z) (change_is m name w marked.at (Execs term node)) d.later) in
         let cell : ℕ × ℕ × ℕ = (term, node, v.execs name term node) in
         subst (λ n. IsIn (term, node, n) (execs_since (held_at v name) base w)) (sym d.is_now)
-        (member_later (exec_of (held_at v name)) w.key base w.cells.entries (Execs term node) k.0 cell k.1 k.2
+        (member_later (exec_of (held_at v name)) w base w.cells.entries (Execs term node) k.0 cell k.1 k.2
         (one_cell_in (v.execs name term node) cell some))
 
     pub execs_since_ascend : IsAscending (map exec_place (execs_since (held_at v name) base w))
-    execs_since_ascend = later_ascends (exec_of (held_at v name)) w.key base exec_place each across w.cells.entries
+    execs_since_ascend = later_ascends (exec_of (held_at v name)) w base exec_place each across w.cells.entries
         marked.ordered
       where
         each : (c : Counted) → IsAscending (map exec_place (exec_of (held_at v name) c))
@@ -224,9 +224,9 @@ module _ {v : State} {nodes : ℕ} {m : Marks} {name : List ℕ} {w : NameMarks}
 
     pub shift_changed : (c : ℕ × ℕ × ℕ × ℕ) → IsIn c (shifts_since (held_at v name) base w) →
         (c.2 ≢ c.1) × IsChanged (Shifts c.0 c.1 c.2) c.3
-    shift_changed c h = let r = later_member (shift_of (held_at v name)) w.key base w.cells.entries c marked.ordered
+    shift_changed c h = let r = later_member (shift_of (held_at v name)) w base w.cells.entries c marked.ordered
         h in
-        by_kind r.counted r.mark r.marked r.above r.is
+        by_kind r.counted r.number r.marked r.above r.is
       where
         by_kind : (d : Counted) (n : ℕ) → cell_in w d ≡ Some n → base < cell_change (is_hits d) n w.key →
             IsIn c (shift_of (held_at v name) d) → (c.2 ≢ c.1) × IsChanged (Shifts c.0 c.1 c.2) c.3
@@ -255,11 +255,11 @@ module _ {v : State} {nodes : ℕ} {m : Marks} {name : List ℕ} {w : NameMarks}
         (subst (λ z. base < z) (change_is m name w marked.at (Shifts term from to)) d.later) in
         let cell : ℕ × ℕ × ℕ × ℕ = (term, from, to, v.shifts name term from to) in
         subst (λ n. IsIn (term, from, to, n) (shifts_since (held_at v name) base w)) (sym d.is_now)
-        (member_later (shift_of (held_at v name)) w.key base w.cells.entries (Shifts term from to) k.0 cell k.1 k.2
+        (member_later (shift_of (held_at v name)) w base w.cells.entries (Shifts term from to) k.0 cell k.1 k.2
         (cell_in_shift v name nodes term from to apart some))
 
     pub shifts_since_ascend : IsAscending (map shift_place (shifts_since (held_at v name) base w))
-    shifts_since_ascend = later_ascends (shift_of (held_at v name)) w.key base shift_place each across w.cells.entries
+    shifts_since_ascend = later_ascends (shift_of (held_at v name)) w base shift_place each across w.cells.entries
         marked.ordered
       where
         each : (c : Counted) → IsAscending (map shift_place (shift_of (held_at v name) c))
@@ -321,9 +321,9 @@ module _ {v : State} {nodes : ℕ} {m : Marks} {name : List ℕ} {w : NameMarks}
 
     pub grant_changed : (c : ℕ × ℕ × ℕ) → IsIn c (grants_since (held_at v name) base w) →
         IsChanged (Shifts c.0 c.1 c.1) c.2
-    grant_changed c h = let r = later_member (grant_of (held_at v name)) w.key base w.cells.entries c marked.ordered
+    grant_changed c h = let r = later_member (grant_of (held_at v name)) w base w.cells.entries c marked.ordered
         h in
-        by_kind r.counted r.mark r.marked r.above r.is
+        by_kind r.counted r.number r.marked r.above r.is
       where
         by_kind : (d : Counted) (n : ℕ) → cell_in w d ≡ Some n → base < cell_change (is_hits d) n w.key →
             IsIn c (grant_of (held_at v name) d) → IsChanged (Shifts c.0 c.1 c.1) c.2
@@ -353,11 +353,11 @@ module _ {v : State} {nodes : ℕ} {m : Marks} {name : List ℕ} {w : NameMarks}
         (subst (λ z. base < z) (change_is m name w marked.at (Shifts term node node)) d.later) in
         let cell : ℕ × ℕ × ℕ = (term, node, granted_in v name term node) in
         subst (λ n. IsIn (term, node, n) (grants_since (held_at v name) base w)) (sym d.is_now)
-        (member_later (grant_of (held_at v name)) w.key base w.cells.entries (Shifts term node node) k.0 cell k.1 k.2
+        (member_later (grant_of (held_at v name)) w base w.cells.entries (Shifts term node node) k.0 cell k.1 k.2
         (cell_in_grant term node some))
 
     pub grants_since_ascend : IsAscending (map exec_place (grants_since (held_at v name) base w))
-    grants_since_ascend = later_ascends (grant_of (held_at v name)) w.key base exec_place each across w.cells.entries
+    grants_since_ascend = later_ascends (grant_of (held_at v name)) w base exec_place each across w.cells.entries
         marked.ordered
       where
         each : (c : Counted) → IsAscending (map exec_place (grant_of (held_at v name) c))

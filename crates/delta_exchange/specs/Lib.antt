@@ -2,6 +2,7 @@ pub mod Wholes
 pub mod Told
 pub mod Cells
 pub mod Changes
+pub mod PassMarks
 pub mod Marks
 pub mod Versions
 pub mod News

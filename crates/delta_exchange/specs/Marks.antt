@@ -1,5 +1,5 @@
 -- When each key and each cell last changed, as the code keeps it: the marks of each name.
-use Rattle.std.specs.Prelude.{ℕ, ◌≤◌, ◌==◌, max, IsTrue, Bool, not, false, true, ◌&&◌, List, if◌then◌else◌, Option, Some, None, is_some}
+use Rattle.std.specs.Prelude.{ℕ, ◌≤◌, ◌==◌, max, IsTrue, Bool, not, false, true, ◌&&◌, List, if◌then◌else◌, Option, Some, None, is_some, option_map}
 use Rattle.std.specs.Option.{unwrap_or}
 use Rattle.std.specs.Str.{bytes_eq}
 use Rattle.std.specs.Map.{lookup}
@@ -10,16 +10,18 @@ use Rattle.operations.specs.declared.counted.Counted.{Counted}
 use Rattle.operations.specs.Counts.{same_counted, counted_cmp, is_hits}
 use Rattle.delta_exchange.specs.declared.marks.NameMarks.{NameMarks}
 use Rattle.delta_exchange.specs.declared.marks.Marks.{Marks}
+use Rattle.delta_exchange.specs.PassMarks.{pass_mark, last_mark}
 use Rattle.delta_exchange.specs.Changes.{LastChanges}
 
--- the mark of a cell among those of a name, if it has one
+-- the mark of a cell among those of a name, if it has one: that of a pass, where one gave it
 abbrev pub cell_in : NameMarks → Counted → Option ℕ
-cell_in marks c = lookup (is_at (counted_cmp c)) marks.cells.entries
+cell_in marks c =
+    option_map (last_mark (pass_mark marks.passes c)) (lookup (is_at (counted_cmp c)) marks.cells.entries)
 
 -- whether a name's marks have one of what is counted, where something is
 abbrev pub has_cell : NameMarks → Option Counted → Bool
 has_cell marks None = true
-has_cell marks (Some c) = is_some (cell_in marks c)
+has_cell marks (Some c) = is_some (lookup (is_at (counted_cmp c)) marks.cells.entries)
 
 -- the marks of a name, if it has any; what isn't there is 0
 abbrev pub marks_at : List (List ℕ × NameMarks) → List ℕ → Option NameMarks

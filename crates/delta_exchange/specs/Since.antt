@@ -14,6 +14,7 @@ use Rattle.operations.specs.declared.counted.Counted.{Counted}
 use Rattle.operations.specs.declared.counted.Counted.TheVariants.{Hits, Execs, Shifts}
 use Rattle.delta_exchange.specs.declared.marks.NameMarks.{NameMarks}
 use Rattle.delta_exchange.specs.declared.marks.Marks.{Marks}
+use Rattle.delta_exchange.specs.PassMarks.{pass_mark, last_mark}
 use Rattle.delta_exchange.specs.Marks.{cell_change}
 use Rattle.message_format.specs.Messages.{EntryValue, MessageValue, operations_in}
 use Rattle.message_format.specs.Spelling.{IsMessage, message_bytes, max_message}
@@ -69,21 +70,25 @@ grant_of h (Execs term node) = []
 grant_of h (Shifts term from to) =
     if to == from then cell_of (h.number (Shifts term from from)) (term, from, h.number (Shifts term from from)) else []
 
--- what changed after a version, by its mark and the key's
-abbrev pub later : {C : Type 0} → ℕ → ℕ → (Counted → List C) → Counted × ℕ → List C
-later key base f c = if nat_lt base (cell_change (is_hits c.0) c.1 key) then f c.0 else []
+-- the version that last changed what has this mark beside it
+abbrev pub change_of : NameMarks → Counted × ℕ → ℕ
+change_of marks c = cell_change (is_hits c.0) (last_mark (pass_mark marks.passes c.0) c.1) marks.key
+
+-- what changed after a version
+abbrev pub later : {C : Type 0} → NameMarks → ℕ → (Counted → List C) → Counted × ℕ → List C
+later marks base f c = if nat_lt base (change_of marks c) then f c.0 else []
 
 abbrev pub hits_since : Held → ℕ → NameMarks → List (ℕ × ℕ)
-hits_since h base marks = flat_map (later marks.key base (hit_of h)) marks.cells.entries
+hits_since h base marks = flat_map (later marks base (hit_of h)) marks.cells.entries
 
 abbrev pub execs_since : Held → ℕ → NameMarks → List (ℕ × ℕ × ℕ)
-execs_since h base marks = flat_map (later marks.key base (exec_of h)) marks.cells.entries
+execs_since h base marks = flat_map (later marks base (exec_of h)) marks.cells.entries
 
 abbrev pub shifts_since : Held → ℕ → NameMarks → List (ℕ × ℕ × ℕ × ℕ)
-shifts_since h base marks = flat_map (later marks.key base (shift_of h)) marks.cells.entries
+shifts_since h base marks = flat_map (later marks base (shift_of h)) marks.cells.entries
 
 abbrev pub grants_since : Held → ℕ → NameMarks → List (ℕ × ℕ × ℕ)
-grants_since h base marks = flat_map (later marks.key base (grant_of h)) marks.cells.entries
+grants_since h base marks = flat_map (later marks base (grant_of h)) marks.cells.entries
 
 abbrev pub entry_since : Held → List ℕ → KeyValue → ℕ → NameMarks → EntryValue
 entry_since h name key base marks = record {

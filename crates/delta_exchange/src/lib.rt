@@ -14,6 +14,7 @@ pub mod laws;
 mod learning;
 mod marks;
 mod news;
+mod pass_marks;
 mod since;
 mod versioned;
 mod versions;

@@ -1,15 +1,15 @@
 //! When each key and each cell last changed, by versions.
 #![tactic(auto, unfolding(crate::specs::Marks::marks_value, crate::specs::Marks::has_room))]
 
-ghost use Rattle.std.specs.Prelude.{◌≡◌, IsTrue, ℕ, List, [], Option, Some, None, if◌then◌else◌, filter, OnOk};
+ghost use Rattle.std.specs.Prelude.{◌≡◌, ◌≢◌, IsTrue, ℕ, List, [], Option, Some, None, if◌then◌else◌, OnOk};
 ghost use Rattle.std.specs.BTreeMap.{IsOrdered};
 ghost use Rattle.std.specs.Ordering.{nat_cmp};
 ghost use Rattle.std.specs.Cmp.Lexicographic.{slice_cmp};
 ghost use Rattle.operations.specs.Counts.{counted_cmp, is_hits};
 ghost use Rattle.operations.specs.declared.counted.Counted.{Counted};
-ghost use Rattle.delta_exchange.specs.Marks.{KeepsRoom, cell_change, cell_of, has_cell, has_room};
-ghost use Rattle.delta_exchange.specs.Marks.{is_of, marks_value, with_mark, with_new_key};
+ghost use Rattle.delta_exchange.specs.PassMarks.{AreAmong, pass_mark, last_mark};
 
+use crate::pass_marks::PassMarks;
 use actions::Name;
 use replica_state::Counted;
 use std::alloc::{AllocError, Global};
@@ -24,6 +24,9 @@ pub(crate) struct NameMarks {
     latest: u64,
     key: u64,
     cells: BTreeMap<Counted, u64>,
+    // Later marks of some of these cells, at hand without a search.
+    passes: PassMarks,
+    ghost among: { AreAmong cells.entries passes },
 }
 
 /// The marks of all names.
@@ -33,6 +36,8 @@ pub(crate) struct Marks {
 }
 
 impl NameMarks {
+    ghost use Rattle.delta_exchange.specs.Marks.{cell_change, cell_of, has_cell, is_of};
+
     fn new(alloc: Global) -> NameMarks
         ensures latest { result.latest ≡ 0 }
         ensures key { result.key ≡ 0 }
@@ -42,6 +47,7 @@ impl NameMarks {
             latest: 0,
             key: 0,
             cells: BTreeMap::new(alloc),
+            passes: PassMarks::new(None),
         }
     }
 
@@ -59,7 +65,8 @@ impl NameMarks {
         self.key
     }
 
-    /// What is counted and has a mark or room for one, in its order. What isn't 0 has a mark.
+    /// What is counted and has a mark or room for one, in its order. A pass may have given a later
+    /// mark than the one beside it, which `change` knows.
     pub(crate) fn cells(&self) -> Iter<'_, Counted, u64>
         ensures rest { result ≡ self.now.cells.entries }
         ensures ordered { IsOrdered counted_cmp self.now.cells }
@@ -67,10 +74,13 @@ impl NameMarks {
         self.cells.iter()
     }
 
-    /// The version that last changed what is counted and has this mark.
+    /// The version that last changed what is counted and has this mark beside it.
     pub(crate) fn change(&self, counted: Counted, mark: u64) -> u64
-        ensures { result ≡ cell_change (is_hits counted) mark self.now.key }
+        ensures { result ≡ cell_change (is_hits counted)
+            (last_mark (pass_mark self.now.passes counted) mark) self.now.key }
     {
+        let passed = self.passes.mark_of(counted);
+        let mark = if passed == 0 { mark } else { passed };
         if counted.is_hits() || mark == 0 {
             mark
         } else {
@@ -88,16 +98,28 @@ impl NameMarks {
             → IsTrue (has_cell self.old c) → IsTrue (has_cell self.new c) }
     {
         if let Some(counted) = counted {
-            if !self.cells.contains_key(&counted) {
+            if self.passes.mark_of(counted) == 0 && !self.cells.contains_key(&counted) {
                 self.cells.insert(counted, 0)?;
             }
         }
         Ok(())
     }
 
+    /// Passes at this node are marked at hand from now on, if those at no other node are.
+    pub(crate) fn begin_passes(&mut self, node: u8)
+        ensures latest { self.new.latest ≡ self.old.latest }
+        ensures key { self.new.key ≡ self.old.key }
+        ensures cells { (c : Counted) → cell_of (Some self.new) c ≡ cell_of (Some self.old) c }
+        ensures kept { (c : Option Counted)
+            → IsTrue (has_cell self.old c) → IsTrue (has_cell self.new c) }
+    {
+        self.passes.begin(node);
+    }
+
     /// Marks the key, where it is new, and what is counted, which has room.
     pub(crate) fn mark(&mut self, new_key: bool, counted: Option<Counted>, version: u64)
         requires room { IsTrue (has_cell self.old counted) }
+        requires version { version ≢ 0 }
         ensures latest { self.new.latest ≡ version }
         ensures key { self.new.key ≡ (if new_key then version else self.old.key) }
         ensures cells { (c : Counted) → cell_of (Some self.new) c
@@ -110,9 +132,28 @@ impl NameMarks {
             self.key = version;
         }
         if let Some(counted) = counted {
-            if let Some(mark) = self.cells.get_mut(&counted) {
-                *mark = version;
-            }
+            self.mark_cell(counted, version);
+        }
+    }
+
+    // Marks what is counted.
+    fn mark_cell(&mut self, counted: Counted, version: u64)
+        requires room { IsTrue (has_cell self.old (Some counted)) }
+        requires version { version ≢ 0 }
+        ensures latest { self.new.latest ≡ self.old.latest }
+        ensures key { self.new.key ≡ self.old.key }
+        ensures cells { (c : Counted) → cell_of (Some self.new) c
+            ≡ (if is_of (Some counted) c then version else cell_of (Some self.old) c) }
+        ensures kept { (c : Option Counted)
+            → IsTrue (has_cell self.old c) → IsTrue (has_cell self.new c) }
+    {
+        let passed = self.passes.mark_of(counted);
+        self.passes.mark(counted, version);
+        if passed != 0 {
+            return;
+        }
+        if let Some(mark) = self.cells.get_mut(&counted) {
+            *mark = version;
         }
     }
 
@@ -120,16 +161,20 @@ impl NameMarks {
     fn renew(&mut self, version: u64)
         ensures latest { self.new.latest ≡ version }
         ensures key { self.new.key ≡ version }
-        ensures cells { self.new.cells.entries
-            ≡ filter (λ e. is_hits e.0) self.old.cells.entries }
+        ensures cells { (c : Counted) → cell_of (Some self.new) c
+            ≡ (if is_hits c then cell_of (Some self.old) c else 0) }
     {
         self.latest = version;
         self.key = version;
         self.cells.retain(|counted, _| counted.is_hits());
+        self.passes.renew();
     }
 }
 
 impl Marks {
+    ghost use Rattle.delta_exchange.specs.Marks.{KeepsRoom, has_room, marks_value};
+    ghost use Rattle.delta_exchange.specs.Marks.{with_mark, with_new_key};
+
     /// No marks.
     pub(crate) fn new(alloc: Global) -> Marks
         ensures latest { (name : List ℕ) → (marks_value result).latest name ≡ 0 }
@@ -179,6 +224,7 @@ impl Marks {
         version: u64,
     )
         requires room { IsTrue (has_room self.old name.now counted) }
+        requires version { version ≢ 0 }
         ensures marks { marks_value self.new
             ≡ with_mark name.now new_key counted version (marks_value self.old) }
         ensures kept { KeepsRoom self.old self.new }

@@ -1,7 +1,7 @@
 //! What a replica doesn't know yet of what it is told.
 #![tactic(auto)]
 
-ghost use Rattle.std.specs.Prelude.{◌≡◌, ◌++◌, ◌∷◌, [], Some, None, true, false, nat_le, map, IfOk, OnOk};
+ghost use Rattle.std.specs.Prelude.{◌≡◌, ◌≢◌, ◌++◌, ◌∷◌, [], Some, None, true, false, nat_le, map, IfOk, OnOk};
 ghost use Rattle.std.specs.Ordering.{match_ordering};
 ghost use Rattle.stamp_register.specs.Keys.{key_value};
 ghost use Rattle.operations.specs.Operations.{operation, IsWellFormed};
@@ -345,7 +345,8 @@ pub(crate) fn make_room(alloc: Global, marks: &mut Marks, news: &[Told]) -> Resu
 
 /// Marks all news with a version.
 pub(crate) fn mark_all(marks: &mut Marks, news: &[Told], version: u64)
-    requires { HaveRoom marks.old news.now }
+    requires room { HaveRoom marks.old news.now }
+    requires version { version ≢ 0 }
     ensures { marks_value marks.new
         ≡ with_news version (map news_of news.now) (marks_value marks.old) }
 {

@@ -130,6 +130,7 @@ impl<R: Replica> Versioned<R> {
         marks.make_room(execs)?;
         self.replica.count_pass(alloc, name, node, spent)?;
         self.version += 1;
+        marks.begin_passes(node);
         marks.mark(false, hits, self.version);
         marks.mark(false, execs, self.version);
         Ok(())

@@ -8,6 +8,6 @@ use Rattle.delta_exchange.proofs.since.execs_since.Given as goal
 abbrev pub invariant-loop-counted : goal.invariant-loop-counted
 invariant-loop-counted g l = record {
   fit : ExecsFit l.execs.items;
-  cells : l.execs.items ++ flat_map (later l.marks.key l.base (exec_of (reader_held g.S.Stored.held l.held)))
+  cells : l.execs.items ++ flat_map (later l.marks l.base (exec_of (reader_held g.S.Stored.held l.held)))
       l.counted-iterator ≡ execs_since (reader_held g.S.Stored.held l.held) l.base l.marks;
 }

@@ -8,6 +8,6 @@ use Rattle.delta_exchange.proofs.since.grants_since.Given as goal
 abbrev pub invariant-loop-counted : goal.invariant-loop-counted
 invariant-loop-counted g l = record {
   fit : ExecsFit l.grants.items;
-  cells : l.grants.items ++ flat_map (later l.marks.key l.base (grant_of (reader_held g.S.Stored.held l.held)))
+  cells : l.grants.items ++ flat_map (later l.marks l.base (grant_of (reader_held g.S.Stored.held l.held)))
       l.counted-iterator ≡ grants_since (reader_held g.S.Stored.held l.held) l.base l.marks;
 }

@@ -26,7 +26,7 @@ loop-counted-preserved-in_ok-push g c =
     record {
       fit = rw c.in_ok-push.ensures.items (all_and_one (λ (x : ℕ × ℕ). x.1 < 2 ^ 64) c.loop-counted.hits.items cell
           c.loop-counted.invariant.fit fits);
-      cells = rw c.in_ok-push.ensures.items (one_more (hit_of h) w.key c.args.base c.loop-counted.hits.items
+      cells = rw c.in_ok-push.ensures.items (one_more (hit_of h) w c.args.base c.loop-counted.hits.items
           (hits_since h c.args.base w) (c.in-Some.counted.now, c.in-Some.mark.now) c.next.new.self cell
           (rw c.change.ensures at c.if-change-base.true) is so_far);
     }

@@ -8,6 +8,6 @@ use Rattle.delta_exchange.proofs.since.hits_since.Given as goal
 abbrev pub invariant-loop-counted : goal.invariant-loop-counted
 invariant-loop-counted g l = record {
   fit : HitsFit l.hits.items;
-  cells : l.hits.items ++ flat_map (later l.marks.key l.base (hit_of (reader_held g.S.Stored.held l.held)))
+  cells : l.hits.items ++ flat_map (later l.marks l.base (hit_of (reader_held g.S.Stored.held l.held)))
       l.counted-iterator ≡ hits_since (reader_held g.S.Stored.held l.held) l.base l.marks;
 }

@@ -8,6 +8,6 @@ use Rattle.delta_exchange.proofs.since.shifts_since.Given as goal
 abbrev pub invariant-loop-counted : goal.invariant-loop-counted
 invariant-loop-counted g l = record {
   fit : ShiftsFit l.shifts.items;
-  cells : l.shifts.items ++ flat_map (later l.marks.key l.base (shift_of (reader_held g.S.Stored.held l.held)))
+  cells : l.shifts.items ++ flat_map (later l.marks l.base (shift_of (reader_held g.S.Stored.held l.held)))
       l.counted-iterator ≡ shifts_since (reader_held g.S.Stored.held l.held) l.base l.marks;
 }

@@ -1,15 +1,14 @@
 use Rattle.std.proofs.Common.{ℕ, cond, List, Option, Some, ap, ◌∙◌, sym, subst, IsTrue}
 use Rattle.std.proofs.lemmas.Bool.{true≢false}
 use Rattle.std.specs.BTreeMap.{BTreeMap, is_at}
-use Rattle.std.specs.Map.{lookup}
-use Rattle.std.specs.Option.{unwrap_or}
-use Rattle.operations.specs.Counts.{counted_cmp}
 use Rattle.std.specs.Ordering.{nat_cmp}
 use Rattle.std.specs.Cmp.Lexicographic.{slice_cmp}
 use Rattle.operations.specs.declared.counted.Counted.{Counted}
 use Rattle.delta_exchange.specs.declared.marks.NameMarks.{NameMarks}
 use Rattle.delta_exchange.specs.declared.marks.Marks.{Marks}
 use Rattle.delta_exchange.specs.Marks.{marks_at, latest_of, key_of, cell_of, is_room, marks_value, KeepsRoom}
+use Rattle.delta_exchange.specs.PassMarks.{pass_mark}
+use Rattle.delta_exchange.proofs.PassMarkLemmas.{found, mark_by}
 use Rattle.delta_exchange.proofs.MarkLemmas.{same_marks, kept_room, lent_at}
 use Rattle.delta_exchange.proofs.marks.Marks.make_room.Goals as goal
 
@@ -45,8 +44,9 @@ returns-clause-same c =
     (c.make_room-2.ensures.latest ∙ c.new-marks.ensures.latest ∙
     ap (λ (o : Option NameMarks). latest_of o) (sym absent))
     (c.make_room-2.ensures.key ∙ c.new-marks.ensures.key ∙ ap (λ (o : Option NameMarks). key_of o) (sym absent))
-    (λ d. c.make_room-2.ensures.cells d ∙ ap (λ (es : List (Counted × ℕ)). unwrap_or (lookup (is_at (counted_cmp d)) es)
-    0) c.new-marks.ensures.cells ∙ ap (λ (o : Option NameMarks). cell_of o d) (sym absent)) ∙
+    (λ d. c.make_room-2.ensures.cells d ∙ ap (λ (es : List (Counted × ℕ)).
+    mark_by (pass_mark c.new-marks.result.passes d) (found es d)) c.new-marks.ensures.cells ∙
+    ap (λ (o : Option NameMarks). cell_of o d) (sym absent)) ∙
     ap (λ (m : BTreeMap (List ℕ) NameMarks). marks_value (record { names = m })) none
 
 pub returns-clause-kept : goal.returns-clause-kept

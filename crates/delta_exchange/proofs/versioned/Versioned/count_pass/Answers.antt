@@ -87,11 +87,10 @@ returns-in_err-count_pass-clause-err g c =
       last = last_changes (same i);
     })
 
-pub mark-requires : goal.mark-requires
-mark-requires g c = record {
-  room = c.in_ok-make_room-2.ensures.kept (Some (Hits c.args.node))
-      c.in_ok-make_room.ensures.room;
-}
+pub mark-requires-clause-room : goal.mark-requires-clause-room
+mark-requires-clause-room g c =
+    let hits : Option Counted = Some (Hits c.args.node) in
+    c.begin_passes.ensures.kept hits (c.in_ok-make_room-2.ensures.kept hits c.in_ok-make_room.ensures.room)
 
 pub invariant_of-self-2 : goal.invariant_of-self-2
 invariant_of-self-2 g c =
@@ -102,10 +101,11 @@ invariant_of-self-2 g c =
     let execs : Option Counted = c.executed-execs.result in
     let marked = lent_marked c.args.self.now.marks c.get_mut.follows.lender name c.in-Some.marks.now c.mark-2.new.self
     c.get_mut.follows.holds (sym c.in-Some.ensures.value) hits execs version c.mark-2.ensures.latest
-    (c.mark-2.ensures.key ∙ c.mark.ensures.key ∙ c.make_room-2.ensures.key ∙ c.make_room.ensures.key)
+    (c.mark-2.ensures.key ∙ c.mark.ensures.key ∙ c.begin_passes.ensures.key ∙ c.make_room-2.ensures.key ∙
+    c.make_room.ensures.key)
     (λ d. c.mark-2.ensures.cells d ∙ ap (λ x. cond (is_of execs d) version x)
     (c.mark.ensures.cells d ∙ ap (λ x. cond (is_of hits d) version x)
-    (c.make_room-2.ensures.cells d ∙ c.make_room.ensures.cells d))) in
+    (c.begin_passes.ensures.cells d ∙ c.make_room-2.ensures.cells d ∙ c.make_room.ensures.cells d))) in
     record {
       upto = subst (λ (n : MarksValue). AreUpto n version) (sym marked)
           (upto_marked (with_mark name false hits version m) name false execs version version (omega arith)
@@ -124,10 +124,11 @@ returns-clause-ok g c =
     let execs : Option Counted = option_map (λ term. Execs term c.args.node) c.args.spent in
     let marked = lent_marked c.args.self.now.marks c.get_mut.follows.lender name c.in-Some.marks.now c.mark-2.new.self
     c.get_mut.follows.holds (sym c.in-Some.ensures.value) hits other version c.mark-2.ensures.latest
-    (c.mark-2.ensures.key ∙ c.mark.ensures.key ∙ c.make_room-2.ensures.key ∙ c.make_room.ensures.key)
+    (c.mark-2.ensures.key ∙ c.mark.ensures.key ∙ c.begin_passes.ensures.key ∙ c.make_room-2.ensures.key ∙
+    c.make_room.ensures.key)
     (λ d. c.mark-2.ensures.cells d ∙ ap (λ x. cond (is_of other d) version x)
     (c.mark.ensures.cells d ∙ ap (λ x. cond (is_of hits d) version x)
-    (c.make_room-2.ensures.cells d ∙ c.make_room.ensures.cells d))) in
+    (c.begin_passes.ensures.cells d ∙ c.make_room-2.ensures.cells d ∙ c.make_room.ensures.cells d))) in
     let both = marked ∙ ap (λ (e : Option Counted). with_mark name false e version
     (with_mark name false hits version m)) c.executed-execs.ensures in
     let v = state c.args.self.now.replica in
