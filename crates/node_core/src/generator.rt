@@ -147,10 +147,10 @@ impl NodeCore {
         ensures err { OnErr result ((self.new ≡ self.old) × (generator.new ≡ generator.old)) }
     {
         let place = generator.place();
-        let passed = self.pass_point(alloc, point, generator);
-        if passed.is_err() {
+        let drawn = self.pass_point(alloc, point, generator);
+        if drawn.is_err() {
             generator.set_place(place);
         }
-        passed
+        drawn
     }
 }

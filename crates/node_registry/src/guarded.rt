@@ -194,18 +194,18 @@ impl<L: Label> Guarded<L> {
         ensures refused { IfErr result (IsRefusedBy self.old (asks.Pass point.now)) }
         ensures err { OnErr result ((self.new ≡ self.old) × (seat.new ≡ seat.old)) }
     {
-        let Guarded { cell, book } = self;
+        let Guarded { cell, book: tally } = self;
         let Seat { calls, share } = seat;
-        book.audit(share);
+        tally.audit(share);
         let core = cell.core();
         let node = core.config().node;
-        let index = core.trace().len() as u32;
+        let place = core.trace().len() as u32;
         let outcome = cell.pass_point(alloc, point)?;
-        book.add(share, 1);
+        tally.add(share, 1);
         *calls += 1;
         Ok(PassReceipt {
             node,
-            index,
+            index: place,
             outcome,
         })
     }
