@@ -11,9 +11,10 @@ mod workers;
 
 use super::stories::{ONE_NAME, SETS_A, grant_ask, pass_ask, remove_ask, set_ask, shift_ask};
 use super::{expect, text_of};
+use actions::Name;
 use calls::Line;
-use node_core::{Ask, Config, Entry, NodeCore, NodeFault, Receipt, Reply, Seen, Trace};
-use node_registry::{Done, Gate, Job, Label, Registry, Seat, run_workers};
+use node_core::{Ask, Config, Entry, NodeCore, NodeFault, PassReply, Receipt, Reply, Seen, Trace};
+use node_registry::{Done, Gate, Job, Label, PassOutcome, Registry, Seat, run_workers};
 use std::alloc::{AllocError, Global};
 use std::marker::Brand;
 use std::process::Abort;
@@ -124,6 +125,7 @@ const SCENES: &[Scene] = &[
     Scene::Story(calls::REMOVED),
     Scene::Story(calls::LOADED),
     Scene::Story(calls::RIGHTS),
+    Scene::Story(calls::POINTS),
     Scene::Receipts,
     Scene::BadName,
 ];

@@ -8,6 +8,8 @@ pub(super) enum Call {
     Remove(&'static str),
     Load(&'static str),
     Pass(&'static str),
+    /// A pass by a name that is read before, whose receipt is made by its place.
+    PassPoint(&'static str),
     Shift(&'static str, u8, u8, u64),
     Grant(&'static str, u8, u64),
     Emit(u8),
@@ -52,6 +54,23 @@ pub(super) const RIGHTS: &[Line] = &[
     (Call::Shift("p", 0, 1, 1), "N9 BadNode"),
 ];
 
+pub(super) const POINTS: &[Line] = &[
+    (Call::PassPoint("p"), "Pass(Unset)"),
+    (
+        Call::Set("p", "1*print(x)"),
+        "Set(Stamp { clock: 1, node: 1 })",
+    ),
+    (
+        Call::PassPoint("p"),
+        "Pass(Act { term: 0, stamp: Stamp { clock: 1, node: 1 }, task: Print(Some(\"x\")) })",
+    ),
+    (
+        Call::PassPoint("p"),
+        "Pass(NoTerm { stamp: Stamp { clock: 1, node: 1 } })",
+    ),
+    (Call::PassPoint("a b"), "N2 BadName"),
+];
+
 fn answer_text(alloc: Global, answer: &Result<Receipt, NodeFault>) -> Result<String, AllocError> {
     match answer {
         Ok(receipt) => match &receipt.entry.reply {
@@ -59,6 +78,46 @@ fn answer_text(alloc: Global, answer: &Result<Receipt, NodeFault>) -> Result<Str
             reply => format!(in alloc; "{reply:?}"),
         },
         Err(fault) => text_of(alloc, fault),
+    }
+}
+
+// Whether a pass that came to this was answered so.
+fn is_outcome(outcome: PassOutcome, reply: &Reply) -> bool {
+    match (outcome, reply) {
+        (PassOutcome::Unset, Reply::Pass(PassReply::Unset)) => true,
+        (PassOutcome::NoTerm { stamp }, Reply::Pass(PassReply::NoTerm { stamp: told })) => {
+            stamp == *told
+        }
+        (
+            PassOutcome::Act { stamp, term },
+            Reply::Pass(
+                PassReply::Act {
+                    stamp: told,
+                    term: ran,
+                    ..
+                },
+            ),
+        ) => { stamp == *told && term == *ran }
+        _ => false,
+    }
+}
+
+// Passes a point by its name, and answers the receipt that is made by the place of the pass; NotForMe,
+// which no pass is answered, where that is another call's.
+fn passed_point<L: Label, R: Wait>(
+    rt: &R,
+    alloc: Global,
+    registry: &Registry<L>,
+    seat: &mut Seat<L>,
+    name: &str,
+) -> Result<Receipt, NodeFault> {
+    let Ok(point) = Name::parse(alloc, name) else {
+        return Err(NodeFault::BadName);
+    };
+    let passed = registry.pass_point(rt, alloc, seat, &point)?;
+    match registry.receipt(rt, alloc, passed.index)? {
+        Some(receipt) if is_outcome(passed.outcome, &receipt.entry.reply) => Ok(receipt),
+        _ => Err(NodeFault::NotForMe),
     }
 }
 
@@ -75,6 +134,7 @@ fn called<L: Label, R: Wait>(
         Call::Remove(name) => registry.remove(rt, alloc, seat, name),
         Call::Load(text) => registry.load(rt, alloc, seat, text),
         Call::Pass(name) => registry.pass(rt, alloc, seat, name),
+        Call::PassPoint(name) => passed_point(rt, alloc, registry, seat, name),
         Call::Shift(name, term, to, amount) => {
             registry.shift(rt, alloc, seat, name, *term, *to, *amount)
         }
