@@ -1,6 +1,7 @@
 //! What gossip came to.
 
-ghost use Rattle.std.specs.Prelude.{◌≡◌, ◌+◌, ◌<◌, ◌≤◌, ◌^◌, ◌++◌, ◌∷◌, [], cond, vec_len, vec_capacity, OnOk, OnErr};
+ghost use Rattle.std.specs.Prelude.{◌≡◌, ◌+◌, ◌<◌, ◌≤◌, ◌^◌, ◌++◌, ◌∷◌, [], ◌↔◌, cond, vec_len};
+ghost use Rattle.std.specs.Prelude.{vec_capacity, OnOk, OnErr, IsErr};
 
 use node_core::{NodeFault, Receipt};
 use std::alloc::{AllocError, Global};
@@ -39,6 +40,7 @@ impl GossipReport {
         ensures refused { result.refused ≡ 0 }
         ensures receipts { result.receipts.items ≡ [] }
         ensures ended { result.ended ≡ Ended.Done }
+        ensures lost { result.lost ≡ 0 }
     {
         GossipReport {
             emitted: 0,
@@ -86,6 +88,7 @@ impl GossipReport {
     /// Counts a refusal; the only error is out of memory, which isn't counted.
     pub(crate) fn refuse(&mut self, fault: NodeFault) -> Result<(), AllocError>
         requires { self.old.refused + 1 < 2 ^ 64 }
+        ensures memory { IsErr result ↔ (fault ≡ NodeFault.OutOfMemory) }
         ensures receipts { self.new.receipts.items ≡ self.old.receipts.items }
         ensures emitted { self.new.emitted ≡ self.old.emitted }
         ensures lost { self.new.lost ≡ self.old.lost }
