@@ -1,5 +1,5 @@
 -- Lists over the numbers below one.
-use Rattle.std.proofs.Common.{◌≡◌, ◌==◌, ℕ, suc, zero, ◌+◌, not, cond, List, [], ◌∷◌, ◌++◌, map, length, ap, sym, ◌∙◌, arith, ◌≤◌, ◌≢◌, eq-eqb, false, inl, inr}
+use Rattle.std.proofs.Common.{◌≡◌, ◌==◌, ℕ, suc, zero, ◌+◌, ◌-◌, not, cond, List, [], ◌∷◌, ◌++◌, map, length, ap, sym, ◌∙◌, arith, ◌≤◌, ◌≢◌, eq-eqb, false, inl, inr}
 use Rattle.std.specs.List.{filter, flat_map, range_with_len}
 use Rattle.std.proofs.lemmas.List.{map-append, append-nil, length-map}
 use Rattle.std.proofs.lemmas.List.Elements.{filter-append}
@@ -12,7 +12,7 @@ use Rattle.std.proofs.lemmas.List.FromFn.{length-range_with_len}
 abbrev pub but : ℕ → ℕ → List ℕ
 but own n = filter (λ k. not (k == own)) (range_with_len 0 n)
 
-range_split : (a n d : ℕ) → range_with_len a (n + d) ≡ range_with_len a n ++ range_with_len (a + n) d
+pub range_split : (a n d : ℕ) → range_with_len a (n + d) ≡ range_with_len a n ++ range_with_len (a + n) d
 range_split a zero d =
     let n : 0 + d ≡ d = omega arith in
     let b : a + 0 ≡ a = omega arith in
@@ -60,6 +60,36 @@ but_another f own n ne = but_more f own n ∙ ap (λ b. map f (but own n) ++ map
 pub but_itself : {X : Type 0} (f : ℕ → X) (own n : ℕ) → n ≡ own → map f (but own (n + 1)) ≡ map f (but own n)
 but_itself f own n e = but_more f own n ∙ ap (λ b. map f (but own n) ++ map f (cond (not b) (n ∷ []) []))
     (eq-eqb n own e) ∙ append-nil (map f (but own n))
+
+-- the same of the numbers themselves
+others_rest : (own n d : ℕ) → but own (n + d) ≡ but own n ++ filter (λ k. not (k == own)) (range_with_len (0 + n) d)
+others_rest own n d =
+    ap (filter (λ k. not (k == own))) (range_split 0 n d)
+    ∙ filter-append (λ k. not (k == own)) (range_with_len 0 n) (range_with_len (0 + n) d)
+
+others_more : (own n : ℕ) → but own (n + 1) ≡ but own n ++ cond (not (n == own)) (n ∷ []) []
+others_more own n =
+    let b : 0 + n ≡ n = omega arith in
+    others_rest own n 1 ∙ ap (λ k. but own n ++ cond (not (k == own)) (k ∷ []) []) b
+
+pub one_other_more : (own n : ℕ) → n ≢ own → but own (n + 1) ≡ but own n ++ n ∷ []
+one_other_more own n ne = others_more own n ∙ ap (λ b. but own n ++ cond (not b) (n ∷ []) []) (unequal n own ne)
+
+pub no_other_more : (own n : ℕ) → n ≡ own → but own (n + 1) ≡ but own n
+no_other_more own n e = others_more own n ∙ ap (λ b. but own n ++ cond (not b) (n ∷ []) []) (eq-eqb n own e) ∙
+    append-nil (but own n)
+
+pub others_up_to : (own n all : ℕ) → n ≤ all → but own all ≡ but own n ++
+    filter (λ k. not (k == own)) (range_with_len (0 + n) (all - n))
+others_up_to own n all le =
+    let e : all ≡ n + (all - n) = omega arith in
+    ap (but own) e ∙ others_rest own n (all - n)
+
+pub turns_up_to : {X : Type 0} (f : ℕ → List X) (n all : ℕ) → n ≤ all → flat_map f (range_with_len 0 all) ≡ flat_map f
+    (range_with_len 0 n) ++ flat_map f (range_with_len (0 + n) (all - n))
+turns_up_to f n all le =
+    let e : all ≡ n + (all - n) = omega arith in
+    ap (λ k. flat_map f (range_with_len 0 k)) e ∙ over_rest f n (all - n)
 
 pub length_but : {X : Type 0} (f : ℕ → X) (own n : ℕ) → length (map f (but own n)) ≤ n
 length_but f own n = omega (

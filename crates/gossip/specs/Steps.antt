@@ -1,12 +1,14 @@
 -- What calls add to a report.
-use Rattle.std.specs.Prelude.{◌≡◌, ℕ, ◌+◌, List, ◌++◌, length, count_by}
+use Rattle.std.specs.Prelude.{◌≡◌, ◌≤◌, ℕ, ◌+◌, List, ◌++◌, length, count_by}
 use Rattle.node_core.specs.declared.config.Config.{Config}
 use Rattle.node_calls.specs.declared.receipt.Receipt.{Receipt}
 use Rattle.node_calls.specs.Asks.{Asked}
 use Rattle.node_registry.specs.Receipts.{AreGivenSince}
 use Rattle.gossip.specs.declared.report.GossipReport.{GossipReport}
+use Rattle.gossip.specs.Carried.{Begins, Carries}
 use Rattle.gossip.specs.Parts.{IsPartOf}
 use Rattle.gossip.specs.Reports.{asks_in, is_delivery, is_emit, own_asks_in}
+use Rattle.gossip.specs.Traffic.{Traffic}
 
 -- calls of a seat that had made so many add their receipts, of which those that took in no message ask some
 -- of these, in order
@@ -20,3 +22,21 @@ pub record Adds (config : Config) (seed : List ℕ) (was now : ℕ) (old new : G
   pub delivered : new.delivered ≡ old.delivered + count_by is_delivery (asks_in config more)
   pub part : IsPartOf (own_asks_in config more) wanted
   pub ended : new.ended ≡ old.ended
+
+-- between two states of a wire's traffic messages to these nodes were made, and others taken, of which these were left.
+-- The report tells of it
+pub record Moves (config : Config) (seed : List ℕ) (was now : Traffic) (old new : GossipReport) (tos : List ℕ)
+    (left : List (List ℕ)) : Type 0 where
+  pub more : List Receipt
+  pub lost : ℕ
+  pub refused : ℕ
+  pub receipts : new.receipts.items ≡ old.receipts.items ++ more
+  pub lost_more : new.lost ≡ old.lost + lost
+  pub refused_more : new.refused ≡ old.refused + refused
+  pub carries : Carries config seed was now more lost refused tos left
+
+-- memory was refused after the first of these nodes
+abbrev pub Stops : Config → List ℕ → Traffic → Traffic → GossipReport → GossipReport → List ℕ → Type 0
+Stops config seed was now old new wanted =
+    (tos : List ℕ) × (left : List (List ℕ)) × Begins tos wanted × (length left ≤ 1)
+    × Moves config seed was now old new tos left

@@ -2,13 +2,17 @@
 #![tactic(auto)]
 
 mod caller;
+mod log;
 mod mail;
+mod mailbox;
 mod report;
 mod rounds;
 mod spreading;
 mod wire;
 
-pub use mail::{MOST_MESSAGES, MailWire};
+pub use log::Log;
+pub use mail::MailWire;
+pub use mailbox::MOST_MESSAGES;
 pub use report::{Ended, GossipReport};
 pub use rounds::{MOST_TAKEN, gossip_rounds};
 pub use spreading::spread;

@@ -1,13 +1,16 @@
 //! Rounds of gossip.
 
 ghost use Rattle.std.specs.Prelude.{◌≡◌, ◌+◌, ◌*◌, ◌≤◌, ◌<◌, ◌-◌, ◌^◌, [], ◌∷◌, length, vec_len};
-ghost use Rattle.std.specs.Prelude.{vec_capacity, OnOk, true};
+ghost use Rattle.std.specs.Prelude.{vec_capacity, OnErr, OnOk, Some, true};
 ghost use Rattle.node_calls.specs.Asks.{bare_emit};
 ghost use Rattle.node_registry.specs.Receipts.{IsGiven};
+ghost use Rattle.node_calls.specs.Told.{reply_told};
+ghost use Rattle.gossip.specs.Carried.{Carried, bytes_told, others_in_rounds};
 ghost use Rattle.gossip.specs.Parts.{IsPartOf};
 ghost use Rattle.gossip.specs.Reports.{IsTold, asked_in, calls_of, emits_below, emits_of_rounds};
-ghost use Rattle.gossip.specs.Reports.{is_emit, own_asks_in, tried_of};
-ghost use Rattle.gossip.specs.Steps.{Adds};
+ghost use Rattle.gossip.specs.Reports.{is_emit, others_below, own_asks_in, tried_of};
+ghost use Rattle.gossip.specs.Steps.{Adds, Moves, Stops};
+ghost use Rattle.gossip.specs.Traffic.{Traffic, sends, takes};
 
 use crate::caller::Caller;
 use crate::report::{Ended, GossipReport};
@@ -41,6 +44,9 @@ pub fn gossip_rounds<L: Label, W: Wire, R: Wait>(
     ensures all { result.ended ≡ Ended.Done →
         length (emits_of_rounds L.config rounds) ≤ tried_of result }
     ensures few { calls_of result ≤ length (emits_of_rounds L.config rounds) + rounds * MOST_TAKEN }
+    // What became of each message that was made, and of each that was taken.
+    ensures carried { Carried L.config L.seed (W.traffic wire.old) (W.traffic wire.new)
+        rounds result }
 {
     let caller = Caller {
         rt,
@@ -73,6 +79,10 @@ fn do_rounds<L: Label, W: Wire, R: Wait>(
         ≤ tried_of report.new) }
     ensures few { calls_of report.new
         ≤ length (emits_of_rounds L.config rounds) + rounds * MOST_TAKEN }
+    ensures moves { OnOk result (Moves L.config L.seed (W.traffic wire.old)
+        (W.traffic wire.new) report.old report.new (others_in_rounds L.config rounds) []) }
+    ensures stops { OnErr result (Stops L.config L.seed (W.traffic wire.old)
+        (W.traffic wire.new) report.old report.new (others_in_rounds L.config rounds)) }
 {
     for _round in 0..rounds {
         round(caller, seat, wire, node, nodes, report)?;
@@ -97,6 +107,10 @@ fn round<L: Label, W: Wire, R: Wait>(
         ≤ tried_of report.new) }
     ensures few { calls_of report.new
         ≤ calls_of report.old + length (emits_below L.config L.config.nodes) + MOST_TAKEN }
+    ensures moves { OnOk result (Moves L.config L.seed (W.traffic wire.old)
+        (W.traffic wire.new) report.old report.new (others_below L.config L.config.nodes) []) }
+    ensures stops { OnErr result (Stops L.config L.seed (W.traffic wire.old)
+        (W.traffic wire.new) report.old report.new (others_below L.config L.config.nodes)) }
 {
     tell(caller, seat, wire, node, nodes, report)?;
     hear(caller, seat, wire, report)
@@ -119,6 +133,10 @@ fn tell<L: Label, W: Wire, R: Wait>(
         ≤ tried_of report.new) }
     ensures few { calls_of report.new
         ≤ calls_of report.old + length (emits_below L.config L.config.nodes) }
+    ensures moves { OnOk result (Moves L.config L.seed (W.traffic wire.old)
+        (W.traffic wire.new) report.old report.new (others_below L.config L.config.nodes) []) }
+    ensures stops { OnErr result (Stops L.config L.seed (W.traffic wire.old)
+        (W.traffic wire.new) report.old report.new (others_below L.config L.config.nodes)) }
 {
     for to in 0..nodes {
         if to != node {
@@ -141,6 +159,10 @@ fn tell_one<L: Label, W: Wire, R: Wait>(
         report.old report.new (bare_emit to ∷ []) }
     ensures tried { OnOk result (tried_of report.old + 1 ≤ tried_of report.new) }
     ensures few { calls_of report.new ≤ calls_of report.old + 1 }
+    ensures moves { OnOk result (Moves L.config L.seed (W.traffic wire.old)
+        (W.traffic wire.new) report.old report.new (to ∷ []) []) }
+    ensures stops { OnErr result (Stops L.config L.seed (W.traffic wire.old)
+        (W.traffic wire.new) report.old report.new (to ∷ [])) }
 {
     report.receipts.reserve(1)?;
     match caller.registry.emit(caller.rt, caller.alloc, seat, to) {
@@ -165,6 +187,9 @@ fn send<L: Label, W: Wire, R: Wait>(
 ) -> Result<(), WireError>
     requires given { IsGiven L.config L.seed receipt.now }
     requires emit { is_emit (asked_in L.config receipt.now) ≡ true }
+    ensures ok { OnOk result (W.traffic wire.new
+        ≡ sends to (bytes_told (reply_told receipt.now.entry.reply)) (W.traffic wire.old)) }
+    ensures err { OnErr result (W.traffic wire.new ≡ W.traffic wire.old) }
 {
     match &receipt.entry.reply {
         Reply::Emit(message) => wire.send(caller.rt, caller.alloc, to, message),
@@ -183,6 +208,10 @@ fn hear<L: Label, W: Wire, R: Wait>(
     ensures adds { Adds L.config L.seed seat.old seat.new report.old report.new [] }
     ensures tried { tried_of report.old ≤ tried_of report.new }
     ensures few { calls_of report.new ≤ calls_of report.old + MOST_TAKEN }
+    ensures moves { OnOk result (Moves L.config L.seed (W.traffic wire.old)
+        (W.traffic wire.new) report.old report.new [] []) }
+    ensures stops { OnErr result (Stops L.config L.seed (W.traffic wire.old)
+        (W.traffic wire.new) report.old report.new []) }
 {
     for _taken in 0..MOST_TAKEN {
         if !hear_one(caller, seat, wire, report)? {
@@ -204,6 +233,10 @@ fn hear_one<L: Label, W: Wire, R: Wait>(
     ensures adds { Adds L.config L.seed seat.old seat.new report.old report.new [] }
     ensures tried { tried_of report.old ≤ tried_of report.new }
     ensures few { calls_of report.new ≤ calls_of report.old + 1 }
+    ensures moves { OnOk result (Moves L.config L.seed (W.traffic wire.old)
+        (W.traffic wire.new) report.old report.new [] []) }
+    ensures stops { OnErr result (Stops L.config L.seed (W.traffic wire.old)
+        (W.traffic wire.new) report.old report.new []) }
 {
     report.receipts.reserve(1)?;
     match wire.take(caller.rt, caller.alloc) {
@@ -211,8 +244,9 @@ fn hear_one<L: Label, W: Wire, R: Wait>(
             take_in(caller, seat, &message, report)?;
             Ok(true)
         }
+        Ok(None) => Ok(false),
         Err(WireError::OutOfMemory) => Err(AllocError),
-        Ok(None) | Err(_) => Ok(false),
+        Err(_) => Ok(false),
     }
 }
 
@@ -228,6 +262,10 @@ fn take_in<L: Label, R: Wait>(
     ensures adds { Adds L.config L.seed seat.old seat.new report.old report.new [] }
     ensures tried { tried_of report.old ≤ tried_of report.new }
     ensures few { calls_of report.new ≤ calls_of report.old + 1 }
+    ensures moves { (was : Traffic) → OnOk result (Moves L.config L.seed
+        was (takes (Some message.now) was) report.old report.new [] []) }
+    ensures stops { (was : Traffic) → OnErr result (Stops L.config L.seed
+        was (takes (Some message.now) was) report.old report.new []) }
 {
     match caller
         .registry

@@ -1,5 +1,8 @@
 //! What carries messages between nodes.
 
+ghost use Rattle.std.specs.Prelude.{◌≡◌, option_map, IfOk, OnErr, OnOk};
+ghost use Rattle.gossip.specs.Traffic.{sends, takes};
+
 use std::alloc::{AllocError, AllocFailed, Global};
 use std::error::Error;
 use std::fmt;
@@ -60,8 +63,13 @@ impl<T: Drop> From<AllocFailed<T>> for WireError {
 
 /// Carries messages from one node to the others, and brings theirs. It may lose messages, bring them
 /// late, in another order or several times, or bring other bytes: what a node counts stays true, since
-/// the node refuses what is no message for it.
+/// the node refuses what is no message for it. Contracts see its traffic: what it sent, each message
+/// with the node that it is for, and what was taken from it. What sending comes to each wire says.
 pub trait Wire {
+    ghost use Rattle.gossip.specs.Traffic.{Traffic};
+
+    ghost traffic: { Self → Traffic };
+
     /// Sends a message to a node.
     fn send<R: Wait>(
         &mut self,
@@ -69,8 +77,13 @@ pub trait Wire {
         alloc: Global,
         to: u8,
         message: &[u8],
-    ) -> Result<(), WireError>;
+    ) -> Result<(), WireError>
+        ensures ok { OnOk result (traffic self.new ≡ sends to message.now (traffic self.old)) }
+        ensures err { OnErr result (traffic self.new ≡ traffic self.old) };
 
     /// Takes a message that came, if there is one.
-    fn take<R: Wait>(&mut self, rt: &R, alloc: Global) -> Result<Option<Vec<u8>>, WireError>;
+    fn take<R: Wait>(&mut self, rt: &R, alloc: Global) -> Result<Option<Vec<u8>>, WireError>
+        ensures ok { IfOk result (λ found.
+            traffic self.new ≡ takes (option_map (λ m. m.items) found) (traffic self.old)) }
+        ensures err { OnErr result (traffic self.new ≡ traffic self.old) };
 }

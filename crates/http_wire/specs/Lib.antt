@@ -1,3 +1,4 @@
 pub mod Failures
 pub mod Peers
 pub mod Posts
+pub mod Sent

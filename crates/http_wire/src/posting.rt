@@ -5,6 +5,7 @@ ghost use Rattle.http_wire.specs.Failures.{IsFailure};
 ghost use Rattle.http_wire.specs.Posts.{IsLoopback, Posts};
 ghost use Rattle.std.specs.IoError.{error_kind};
 
+use crate::wire::Peer;
 use bytes::Bytes;
 use futures::Future;
 use futures::future::join;
@@ -19,6 +20,7 @@ use std::io;
 use std::io::ErrorKind;
 use std::net::{Net, SocketAddr};
 use std::random::RandomSource;
+use std::snapshot::Snapshot;
 use std::sync::Wait;
 use std::time::{Clock, Duration, Instant};
 use tokio::net::TcpStream;
@@ -83,42 +85,65 @@ fn loopback(port: u16) -> SocketAddr
     SocketAddr::from(([127, 0, 0, 1], port))
 }
 
-// A connection to a port of this machine.
+// A connection to the port of a peer.
+#[derive(Drop)]
+struct Connection {
+    peer: Peer,
+    stream: TcpStream,
+}
+
+/// A request that was handed to a connection to the port of a peer, and answered.
+#[derive(Drop)]
+pub struct Posted {
+    peer: Peer,
+    request: Snapshot<Request<Full<Bytes>>>,
+}
+
+// A connection to the port of a peer.
 fn connected<R>(
     rt: &R,
     runtime: &mut LocalRuntime,
-    port: u16,
+    peer: Peer,
     deadline: Instant,
-) -> Result<TcpStream, WireError>
+) -> Result<Connection, WireError>
 where
     R: Wait + Clock + Net + RandomSource + AllocGlobal,
-    ensures { IfErr result IsFailure }
+    ensures ok { IfOk result (λ connection. connection.peer ≡ peer) }
+    ensures err { IfErr result IsFailure }
 {
-    let connecting = TcpStream::connect(rt, loopback(port), runtime.handle().reactor());
-    output_of(rt, runtime, connecting, deadline)?.map_err(failed)
+    let connecting = TcpStream::connect(rt, loopback(peer.port), runtime.handle().reactor());
+    let stream = output_of(rt, runtime, connecting, deadline)?.map_err(failed)?;
+    Ok(Connection { peer, stream })
 }
 
-// Sends a request over a connection, and waits for the reply's status.
+// Hands a request to a connection, and waits for the reply's status.
 fn answered<R>(
     rt: &R,
     alloc: Global,
     runtime: &mut LocalRuntime,
-    socket: TcpStream,
+    connection: Connection,
     request: Request<Full<Bytes>>,
     deadline: Instant,
-) -> Result<StatusCode, WireError>
+) -> Result<(StatusCode, Posted), WireError>
 where
     R: Wait + Clock + Net + RandomSource + AllocGlobal,
-    ensures { IfErr result IsFailure }
+    ensures to { IfOk result (λ r. r.1.peer ≡ connection.peer) }
+    ensures request { IfOk result (λ r. r.1.request.value ≡ request) }
+    ensures err { IfErr result IsFailure }
 {
+    let Connection { peer, stream } = connection;
     let keys = RandomState::new(rt).map_err(failed)?;
-    let Ok((mut sender, connection)) = handshake(alloc, keys, socket) else {
+    let Ok((mut sender, connection)) = handshake(alloc, keys, stream) else {
         return Err(WireError::Failed);
+    };
+    let posted = Posted {
+        peer,
+        request: Snapshot::of(&request),
     };
     let reply = sender.send_request(request);
     drop(sender);
     let (reply, _connection) = output_of(rt, runtime, join(reply, connection), deadline)?;
-    status_of(reply)
+    Ok((status_of(reply)?, posted))
 }
 
 // The status of a reply, if there was one.
@@ -143,24 +168,28 @@ fn taken_in(status: StatusCode) -> Result<(), WireError>
     }
 }
 
-/// Posts a message to the server on a port of this machine, over a connection of its own. Any reply but
-/// 200, and none within `POST_SECONDS`, is a failure.
+/// Posts a message to the server of a peer, over a connection of its own, and answers what was
+/// posted. Any reply but 200, and none within `POST_SECONDS`, is a failure.
 pub(crate) fn post<R>(
     rt: &R,
     alloc: Global,
     runtime: &mut LocalRuntime,
-    port: u16,
+    peer: Peer,
     message: &[u8],
-) -> Result<(), WireError>
+) -> Result<Posted, WireError>
 where
     R: Wait + Clock + Net + RandomSource + AllocGlobal,
-    ensures { IfErr result IsFailure }
+    ensures to { IfOk result (λ posted. posted.peer ≡ peer) }
+    ensures posts { IfOk result (λ posted. Posts message.now posted.request.value) }
+    ensures err { IfErr result IsFailure }
 {
     let now = Instant::now(rt).map_err(failed)?;
     let Some(deadline) = now.checked_add(Duration::from_secs(POST_SECONDS)) else {
         return Err(WireError::Failed);
     };
     let request = request(alloc, message)?;
-    let socket = connected(rt, runtime, port, deadline)?;
-    taken_in(answered(rt, alloc, runtime, socket, request, deadline)?)
+    let connection = connected(rt, runtime, peer, deadline)?;
+    let (status, posted) = answered(rt, alloc, runtime, connection, request, deadline)?;
+    taken_in(status)?;
+    Ok(posted)
 }

@@ -1,11 +1,13 @@
 //! A wire over HTTP.
 
-ghost use Rattle.std.specs.Prelude.{◌≡◌, ◌↔◌, ◌⊎◌, false, IfErr, IfOk};
+ghost use Rattle.std.specs.Prelude.{◌≡◌, ◌↔◌, ◌⊎◌, [], false, option_map, IfErr, IfOk, OnErr, OnOk};
+ghost use Rattle.gossip.specs.Traffic.{sends, takes};
 ghost use Rattle.http_wire.specs.Failures.{IsFailure};
 ghost use Rattle.http_wire.specs.Peers.{has_peer, port_of};
+ghost use Rattle.http_wire.specs.Sent.{IsSentTo, traffic_of};
 
-use crate::posting::{failed, post};
-use gossip::{Wire, WireError};
+use crate::posting::{Posted, failed, post};
+use gossip::{Log, Wire, WireError};
 use std::alloc::{AllocGlobal, Global};
 use std::net::Net;
 use std::random::RandomSource;
@@ -22,11 +24,16 @@ pub struct Peer {
 
 /// Sends each message as `POST /gossip` to the server of its node on 127.0.0.1, over a connection of
 /// its own, in at most `POST_SECONDS`. It brings none: a node's messages come to its own server.
+///
+/// Its traffic has the messages that were handed to such a connection, each byte of them, and that
+/// were answered with 200. That the server read the same bytes isn't said. A message that failed
+/// isn't there, though its server may have it.
 #[derive(Drop)]
 pub struct HttpWire<R> {
     rt: R,
     runtime: LocalRuntime,
     peers: Vec<Peer>,
+    sent: Log<Posted>,
 }
 
 impl<R> HttpWire<R> {
@@ -43,14 +50,25 @@ impl<R: Wait + Clock + Net + RandomSource + AllocGlobal + Drop> HttpWire<R> {
     /// A wire to these nodes. Where one is named twice, its first port counts.
     pub fn new(rt: R, peers: Vec<Peer>) -> Result<HttpWire<R>, WireError>
         ensures ok { IfOk result (λ wire. wire.peers ≡ peers) }
+        ensures sent { IfOk result (λ wire. wire.sent.items ≡ []) }
         ensures err { IfErr result IsFailure }
     {
         let runtime = LocalRuntime::new(&rt).map_err(failed)?;
-        Ok(HttpWire { rt, runtime, peers })
+        let sent = Log::new();
+        Ok(HttpWire {
+            rt,
+            runtime,
+            peers,
+            sent,
+        })
     }
 }
 
 impl<R: Wait + Clock + Net + RandomSource + AllocGlobal + Drop> Wire for HttpWire<R> {
+    ghost use Rattle.http_wire.specs.Sent.{traffic_of};
+
+    ghost traffic = { λ w. traffic_of w.sent.items };
+
     fn send<S: Wait>(
         &mut self,
         _rt: &S,
@@ -60,18 +78,33 @@ impl<R: Wait + Clock + Net + RandomSource + AllocGlobal + Drop> Wire for HttpWir
     ) -> Result<(), WireError>
         ensures no_peer { (result ≡ Err WireError.NoPeer)
             ↔ (has_peer self.old.peers.items to ≡ false) }
-        ensures err { IfErr result (λ e. (e ≡ WireError.NoPeer) ⊎ IsFailure e) }
+        ensures failed { IfErr result (λ e. (e ≡ WireError.NoPeer) ⊎ IsFailure e) }
         ensures stays { self.new.peers ≡ self.old.peers }
+        ensures posted { OnOk result (IsSentTo self.old.peers.items to message.now
+            self.old.sent.items self.new.sent.items) }
+        ensures unsent { OnErr result (self.new.sent.items ≡ self.old.sent.items) }
+        ensures ok { OnOk result (traffic_of self.new.sent.items
+            ≡ sends to message.now (traffic_of self.old.sent.items)) }
+        ensures err { OnErr result
+            (traffic_of self.new.sent.items ≡ traffic_of self.old.sent.items) }
     {
         let Some(port) = self.port_of(to) else {
             return Err(WireError::NoPeer);
         };
-        post(&self.rt, alloc, &mut self.runtime, port, message)
+        let peer = Peer { node: to, port };
+        let posted = post(&self.rt, alloc, &mut self.runtime, peer, message)?;
+        self.sent.add(&posted);
+        Ok(())
     }
 
     fn take<S: Wait>(&mut self, _rt: &S, _alloc: Global) -> Result<Option<Vec<u8>>, WireError>
         ensures none { result ≡ Ok None }
-        ensures stays { self.new.peers ≡ self.old.peers }
+        ensures stays { (self.new.peers ≡ self.old.peers)
+            × (self.new.sent.items ≡ self.old.sent.items) }
+        ensures ok { IfOk result (λ found. traffic_of self.new.sent.items
+            ≡ takes (option_map (λ m. m.items) found) (traffic_of self.old.sent.items)) }
+        ensures err { OnErr result
+            (traffic_of self.new.sent.items ≡ traffic_of self.old.sent.items) }
     {
         Ok(None)
     }

@@ -1,5 +1,7 @@
 //! A wire that fails once.
 
+ghost use Rattle.std.specs.Prelude.{◌≡◌};
+
 use super::*;
 
 /// Which call fails, and why, after so many of its kind that went well.
@@ -19,7 +21,9 @@ pub struct Failing<W> {
 
 impl<W> Failing<W> {
     // Why this send fails, if it does.
-    fn send_error(&mut self) -> Option<WireError> {
+    fn send_error(&mut self) -> Option<WireError>
+        ensures { self.new.inner ≡ self.old.inner }
+    {
         let Fails::Send(error, after) = self.fails else {
             return None;
         };
@@ -32,7 +36,9 @@ impl<W> Failing<W> {
     }
 
     // Why this take fails, if it does.
-    fn take_error(&mut self) -> Option<WireError> {
+    fn take_error(&mut self) -> Option<WireError>
+        ensures { self.new.inner ≡ self.old.inner }
+    {
         let Fails::Take(error, after) = self.fails else {
             return None;
         };
@@ -46,6 +52,8 @@ impl<W> Failing<W> {
 }
 
 impl<W: Wire> Wire for Failing<W> {
+    ghost traffic = { λ w. W.traffic w.inner };
+
     fn send<R: Wait>(
         &mut self,
         rt: &R,

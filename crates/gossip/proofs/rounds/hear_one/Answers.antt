@@ -1,5 +1,7 @@
-use Rattle.std.proofs.Common.{refl, arith}
+use Rattle.std.proofs.Common.{◌≡◌, ℕ, [], Option, Some, Vec, Global, option_map, ap, ◌∙◌, sym, refl, arith}
+use Rattle.gossip.specs.Traffic.{takes}
 use Rattle.gossip.proofs.StepLemmas.{adds_none}
+use Rattle.gossip.proofs.CarryLemmas.{moves_nothing, on_err, stops_at_once, stops_now, stops_then}
 use Rattle.gossip.proofs.rounds.hear_one.Goals as goal
 
 pub returns-in_err-reserve-clause-adds : goal.returns-in_err-reserve-clause-adds
@@ -11,9 +13,35 @@ returns-in-Err-OutOfMemory-clause-adds g c = adds_none _ _ _ _ _ _ _ refl c.rese
 pub returns-in-Ok-None-clause-adds : goal.returns-in-Ok-None-clause-adds
 returns-in-Ok-None-clause-adds g c = adds_none _ _ _ _ _ _ _ refl c.reserve.ensures.items refl refl refl
 
-pub returns-in-Ok-None-2 : goal.returns-in-Ok-None-2
-returns-in-Ok-None-2 g c = record {
+pub returns-in-Err : goal.returns-in-Err
+returns-in-Err g c = record {
   adds = adds_none _ _ _ _ _ _ _ refl c.reserve.ensures.items refl refl refl;
   tried = omega arith;
   few = omega arith;
+  moves = moves_nothing c.in-Err.ensures.err c.reserve.ensures.items refl refl;
+  stops = tt;
 }
+
+pub returns-in_err-reserve-clause-stops : goal.returns-in_err-reserve-clause-stops
+returns-in_err-reserve-clause-stops g c =
+    on_err _ (stops_at_once [] (moves_nothing refl c.reserve.ensures.items refl refl))
+
+pub returns-in-Ok-None-clause-moves : goal.returns-in-Ok-None-clause-moves
+returns-in-Ok-None-clause-moves g c =
+    let old = g.W.Wire.traffic c.args.wire.now in
+    moves_nothing
+    (c.in-Ok-None.ensures.ok ∙ ap (λ (f : Option (Vec ℕ Global)). takes (option_map (λ m. m.items) f) old) c.in-Ok-None.field-0-is)
+    c.reserve.ensures.items refl refl
+
+pub returns-in-Err-OutOfMemory-clause-stops : goal.returns-in-Err-OutOfMemory-clause-stops
+returns-in-Err-OutOfMemory-clause-stops g c =
+    stops_at_once [] (moves_nothing c.in-Err-OutOfMemory.ensures.err c.reserve.ensures.items refl refl)
+
+pub returns-in_err-take_in-in-Ok-Some-clause-stops : goal.returns-in_err-take_in-in-Ok-Some-clause-stops
+returns-in_err-take_in-in-Ok-Some-clause-stops g c =
+    let old = g.W.Wire.traffic c.args.wire.now in
+    let taken : g.W.Wire.traffic c.take.new.self ≡ takes (Some c.deref.result.now) old =
+    c.in-Ok-Some.ensures.ok ∙ ap (λ (f : Option (Vec ℕ Global)). takes (option_map (λ m. m.items) f) old) c.in-Ok-Some.field-0-is
+    ∙ ap (λ b. takes (Some b) old) (sym c.deref.ensures.value) in
+    let stopped = c.in_err-take_in-in-Ok-Some.ensures.stops old in
+    on_err _ (stops_then (moves_nothing refl c.reserve.ensures.items refl refl) (stops_now stopped taken))

@@ -1,5 +1,8 @@
-use Rattle.std.proofs.Common.{◌∙◌, refl, arith}
+use Rattle.std.proofs.Common.{◌≡◌, ℕ, ◌+◌, ◌∷◌, [], cond, false, ap, ◌∙◌, refl, arith}
+use Rattle.std.specs.Result.{is_err}
+use Rattle.gossip.proofs.AskLemmas.{emit_brings_none, emit_carries, first_of_emit}
 use Rattle.gossip.proofs.StepLemmas.{adds_emit, adds_none}
+use Rattle.gossip.proofs.CarryLemmas.{emit_refused, err_at, moves_lost, moves_nothing, moves_sent, ok_at, on_err, stops_at_end, stops_at_once, with_err}
 use Rattle.gossip.proofs.rounds.tell_one.Goals as goal
 
 pub returns-in_err-reserve-clause-adds : goal.returns-in_err-reserve-clause-adds
@@ -16,11 +19,17 @@ pub returns-in_default : goal.returns-in_default
 returns-in_default g c =
     let told = c.in-Ok.ensures in
     let done = c.record_emit.ensures in
+    let first = first_of_emit _ _ _ _ told.receipt.1 in
     record {
       adds = adds_emit _ _ _ _ _ _ _ _ c.in-Ok.receipt told.receipt.1 told.given told.since told.counted
           c.reserve.ensures.items done.receipts done.emitted done.delivered done.ended;
       tried = omega (arith, done.emitted, done.refused);
       few = omega (arith, done.emitted, done.refused, done.delivered);
+      moves = moves_lost c.args.to _ c.in-Ok.receipt c.reserve.ensures.items done.receipts
+          (done.lost ∙ ap (λ b. c.args.report.now.lost + cond b 1 0) (c.is_err.ensures.value ∙ ap is_err c.in_default.is))
+          done.refused (emit_carries _ _ _ _ first) (emit_brings_none _ _ _ first)
+          (err_at _ _ c.in_default.is c.send-sent.ensures.err);
+      stops = tt;
     }
 
 pub returns-in_default-2-clause-adds : goal.returns-in_default-2-clause-adds
@@ -35,3 +44,39 @@ returns-in-Err-clause-adds g c =
     let refused = c.refuse.ensures in
     adds_none _ _ _ _ _ _ _ c.in-Err.ensures.err (refused.receipts ∙ c.reserve.ensures.items)
     refused.emitted refused.delivered refused.ended
+
+pub returns-in_err-reserve-clause-stops : goal.returns-in_err-reserve-clause-stops
+returns-in_err-reserve-clause-stops g c =
+    on_err _ (stops_at_once _ (moves_nothing refl c.reserve.ensures.items refl refl))
+
+pub returns-in-Err-OutOfMemory-clause-stops : goal.returns-in-Err-OutOfMemory-clause-stops
+returns-in-Err-OutOfMemory-clause-stops g c =
+    let done = c.record_emit.ensures in
+    let first = first_of_emit _ _ _ _ c.in-Ok.ensures.receipt.1 in
+    stops_at_end (moves_lost c.args.to _ c.in-Ok.receipt c.reserve.ensures.items done.receipts
+    (done.lost ∙ ap (λ b. c.args.report.now.lost + cond b 1 0) (c.is_err.ensures.value ∙ ap is_err c.in-Err-OutOfMemory.is))
+    done.refused (emit_carries _ _ _ _ first) (emit_brings_none _ _ _ first)
+    (err_at _ _ c.in-Err-OutOfMemory.is c.send-sent.ensures.err))
+
+pub returns-in_default-2-clause-moves : goal.returns-in_default-2-clause-moves
+returns-in_default-2-clause-moves g c =
+    let done = c.record_emit.ensures in
+    let first = first_of_emit _ _ _ _ c.in-Ok.ensures.receipt.1 in
+    let none : c.is_err.result ≡ false = c.is_err.ensures.value ∙ ap is_err c.in_default.is in
+    let unlost : c.record_emit.new.self.lost ≡ c.args.report.now.lost =
+    omega (arith, done.lost, ap {B = ℕ} (λ b. cond b 1 0) none) in
+    moves_sent c.args.to _ c.in-Ok.receipt c.reserve.ensures.items done.receipts unlost done.refused
+    (emit_carries _ _ _ _ first) (emit_brings_none _ _ _ first) (ok_at _ _ c.in_default.is c.send-sent.ensures.ok)
+
+pub returns-in-Err-clause-moves : goal.returns-in-Err-clause-moves
+returns-in-Err-clause-moves g c =
+    let refused = c.refuse.ensures in
+    emit_refused _ _ _ _ _ _ c.refuse.result c.args.to c.in-Err.fault refused.memory refused.ok
+    (refused.receipts ∙ c.reserve.ensures.items) refused.lost c.in-Err.ensures.refused refl
+
+pub returns-in-Err-clause-stops : goal.returns-in-Err-clause-stops
+returns-in-Err-clause-stops g c =
+    let refused = c.refuse.ensures in
+    with_err c.refuse.result
+    (λ uncounted. stops_at_once (c.args.to ∷ [])
+    (moves_nothing refl (refused.receipts ∙ c.reserve.ensures.items) refused.lost uncounted)) refused.err

@@ -1,27 +1,29 @@
-use Rattle.std.proofs.Common.{◌≡◌, ℕ, ◌+◌, List, ◌++◌, ◌∷◌, [], map, vec_len, arith, ap, ap₂, sym, ◌∙◌}
+use Rattle.std.proofs.Common.{◌≡◌, map, vec_len, arith, ap, sym, ◌∙◌}
+use Rattle.std.specs.Arc.{arc_value}
 use Rattle.std.specs.List.{range_with_len}
-use Rattle.std.proofs.lemmas.List.FromFn.{map-range_with_len_more}
-use Rattle.gossip.specs.Mailboxes.{Place}
+use Rattle.gossip.proofs.MailLemmas.{all_are, one_wire_more}
 use Rattle.gossip.proofs.mail.MailWire.all.Goals as goal
 
-place : ℕ → ℕ → Place
-place nodes node = record { node = node; nodes = nodes }
+pub invariant_of-push_reserved : goal.invariant_of-push_reserved
+invariant_of-push_reserved c =
+    let was = c.loop-node.invariant in
+    let same = c.in_ok-mailboxes-2.ensures in
+    let all : vec_len (arc_value c.in_ok-mailboxes-2.mailboxes) ≡ c.args.nodes =
+    ap vec_len same ∙ omega (arith, all_are _ _ was.numbered) in (
+      omega (arith, all, c.loop-node-test.true),
+      ap (λ v. map (λ m. m.node) v.items) same ∙ was.numbered ∙ ap (range_with_len 0) (sym all),
+    )
 
-one_more : (wires now : List Place) (nodes node : ℕ) (own : ℕ) → now ≡ wires ++ record { node = node; nodes = own } ∷ []
-    → wires ≡ map (λ n. record { node = n; nodes = nodes }) (range_with_len 0 node) → own ≡ nodes
-    → now ≡ map (λ n. record { node = n; nodes = nodes }) (range_with_len 0 (node + 1))
-unfolding place
-one_more wires now nodes node own pushed made same =
-    pushed ∙ ap₂ (λ ws w. ws ++ place w node ∷ []) made same ∙
-    sym (map-range_with_len_more (place nodes) 0 node node (omega arith))
-
-pub loop-node-2-preserved : goal.loop-node-2-preserved
-loop-node-2-preserved c =
-    let was = c.loop-node-2.invariant in
+pub loop-node-preserved : goal.loop-node-preserved
+loop-node-preserved c =
+    let was = c.loop-node.invariant in
+    let same = c.in_ok-mailboxes-2.ensures in
+    let all : vec_len (arc_value c.in_ok-mailboxes-2.mailboxes) ≡ c.args.nodes =
+    ap vec_len same ∙ omega (arith, all_are _ _ was.numbered) in
     record {
-      all = omega arith;
-      made = one_more _ _ _ _ _ c.push_reserved-in-loop-node-2.ensures.items was.made
-          (ap vec_len c.in_ok-mailboxes-3.ensures ∙ was.all);
+      numbered = was.numbered;
+      made = one_wire_more _ _ _ _ _ _ _ c.push_reserved.ensures.items was.made all c.new-in-loop-node.ensures
+          c.new-in-loop-node-2.ensures;
       len = omega arith;
       room = omega arith;
     }

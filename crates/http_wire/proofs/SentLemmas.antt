@@ -1,0 +1,27 @@
+-- What is sent when one message more is posted.
+use Rattle.std.proofs.Common.{◌≡◌, ◌≢◌, ◌==◌, ℕ, Bool, true, false, if◌then◌else◌, List, [], ◌∷◌, ◌++◌, Option, Some, None, length, map, ap, ap₂, sym, ◌∙◌, refl, arith}
+use Rattle.std.proofs.lemmas.List.{map-append}
+use Rattle.gossip.proofs.RangeLemmas.{unequal}
+use Rattle.gossip.specs.Traffic.{Traffic, sends}
+use Rattle.http_wire.specs.declared.posting.Posted.{Posted}
+use Rattle.http_wire.specs.declared.wire.Peer.{Peer}
+use Rattle.http_wire.specs.Posts.{Posts}
+use Rattle.http_wire.specs.Sent.{IsSentTo, bytes_or_none, posted_value, traffic_of}
+
+whole : (message : List ℕ) → bytes_or_none (if length message == 0 then None else Some message) ≡ message
+whole [] = refl
+whole (byte ∷ bytes) =
+    ap (λ b. bytes_or_none (if b then None else Some (byte ∷ bytes)))
+    (unequal (length (byte ∷ bytes)) 0 (λ e. omega (arith, e)))
+
+abbrev traffic_with : List (ℕ × List ℕ) → Traffic
+traffic_with sent = record { sent = sent; taken = [] }
+
+pub sent_more : {peers : List Peer} {to : ℕ} {message : List ℕ} {was now : List Posted} →
+    IsSentTo peers to message was now → traffic_of now ≡ sends to message (traffic_of was)
+sent_more {message = message} {was = was} s =
+    ap traffic_with (
+    ap (map posted_value) s.more ∙ map-append posted_value was (s.last ∷ [])
+    ∙ ap (λ p. map posted_value was ++ p ∷ [])
+    (ap₂ (λ n b. (n, b)) s.node (ap bytes_or_none s.posts.body ∙ whole message))
+    )
