@@ -53,6 +53,8 @@ TIMES = 100
 # registries by a thread each; of an uncounted term, a counted one, and one with a chance.
 WAYS = ("core", "registry", "threads", "nodes")
 TERMS = ("uncounted", "counted", "chance")
+# By a name that was read before, which answers a place; and by a text, which answers a receipt that is dropped.
+ANSWERS = ("point", "drop")
 CALLS = (400_000, 800_000)
 
 # Drills of 16 nodes that are audited, of so many entries: nodes that pass, and nodes that send messages round.
@@ -325,19 +327,19 @@ def time_locks(program):
     """The sizes go in turn, and the ways too. `to one` is to the time through a registry by one thread."""
     few, many = CALLS
     print(
-        f"\n{'way':<10}{'term':<11}{f'ns a pass, {few}':>20}{many:>8}{'ratio':>7}{'to one':>8}"
+        f"\n{'way':<10}{'term':<11}{'by':<7}{f'ns a pass, {few}':>20}{many:>8}{'ratio':>7}{'to one':>8}"
         f"{'ns of processors':>18}{'bytes kept':>12}{'with answers':>14}"
     )
-    for term in TERMS:
+    for term, answers in ((term, answers) for term in TERMS for answers in ANSWERS):
         rounds = [
-            [[spent_on_calls(program, way, term, calls, "drop") for calls in CALLS] for way in WAYS] for _ in range(ROUNDS)
+            [[spent_on_calls(program, way, term, calls, answers) for calls in CALLS] for way in WAYS] for _ in range(ROUNDS)
         ]
         best = [[[min(parts) for parts in zip(*runs)] for runs in zip(*sizes)] for sizes in zip(*rounds)]
         one_thread = best[WAYS.index("registry")][1][0]
         for way, ((first, _, memory), (second, processor, twice)) in zip(WAYS, best):
             kept, kept_twice = (spent_on_calls(program, way, term, calls, "keep")[2] for calls in CALLS)
             print(
-                f"{way:<10}{term:<11}{first / few:>20.0f}{second / many:>8.0f}{second / first:>7.2f}{second / one_thread:>8.2f}"
+                f"{way:<10}{term:<11}{answers:<7}{first / few:>20.0f}{second / many:>8.0f}{second / first:>7.2f}{second / one_thread:>8.2f}"
                 f"{processor / many * 1e9:>18.0f}{(twice - memory) / few:>12.0f}{(kept_twice - kept) / few:>14.0f}"
             )
 
