@@ -118,4 +118,3 @@ pub record Told : Type 0 where
 
 abbrev pub told : Entry → Told
 told e = record { ask = ask_told e.ask; words = e.words.items; reply = reply_told e.reply }
-

@@ -67,8 +67,8 @@ heads_more old new rows row at is are put last place it =
     put last.name
     ∙ ap (λ n. cond (bytes_eq row.name last.name) (Some n) (head_of old last.name)) long
     ∙ head_more told (row_told row) last place (head_of old last.name)
-        (subst (λ rs. IsLastAt rs last place) (map-append row_told rows (row ∷ [])) it)
-        (are last place)
+    (subst (λ rs. IsLastAt rs last place) (map-append row_told rows (row ∷ [])) it)
+    (are last place)
 
 -- a row that was added is found at its place
 pub row_added : {E : Type 0} (rows new : List RowTold) (row wanted : RowTold) (r : Result (Option ℕ) E) →
