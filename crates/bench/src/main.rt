@@ -6,6 +6,7 @@ mod audits;
 mod baton;
 mod calls;
 mod figures;
+mod great_messages;
 mod maps;
 mod messages;
 mod passes;

@@ -1,8 +1,8 @@
 //! Reads and writes great messages.
 
 use crate::figures::Figures;
+use crate::great_messages::{Cells, NODES, great_message};
 use delta_exchange::{WireFault, decode, encode};
-use great_messages::{Cells, NODES, great_message};
 use std::alloc::Global;
 
 /// A message of so many names is read, or read once and written, so often.

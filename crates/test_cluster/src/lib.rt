@@ -1,4 +1,5 @@
-//! Tests of clusters: a run of events, mailboxes, and rounds of gossip.
+//! Tests of clusters: a run of events, mailboxes, rounds of gossip; and of what plays and judges them:
+//! scripts, workers in threads, recorded drills and their audits.
 #![tactic(auto)]
 
 #[cfg(test)]

@@ -1,11 +1,19 @@
 //! What no contract says: what mailboxes carry, what the rounds of two nodes send, and what a wire that
-//! fails leaves behind. And a run of events, which no program makes.
+//! fails leaves behind; readers and writers that fail, that are slow or narrow, and that are watched;
+//! what a drill's text is; in which order an audit places entries; and that an audit explains what
+//! threads are told beside gossip. And a run of events, which no program makes.
 
+mod audits;
 mod events;
 mod failing;
+mod failing_streams;
+mod kept_drills;
 mod mail;
 mod rounds;
 mod stage;
+mod transfers;
+mod watched;
+mod workers;
 
 use cluster_model::{Event, RunReport, World};
 use failing::{Failing, Fails};

@@ -3,14 +3,10 @@
 //! What changes a value is asked again where it is refused memory, and may have changed nothing by
 //! then. A test gives up where anything else is refused memory.
 
-mod counts;
-mod joined;
-mod keys;
-mod lattices;
 mod replicas;
 mod texts;
+mod versions;
 
-use lattice_laws::Held;
 use std::alloc::{AllocError, Global};
 use std::fmt::{Debug, Display};
 use std::process::Abort;
@@ -30,9 +26,4 @@ fn expect_print<T: Display>(
     let printed = format!(in alloc; "{value}")?;
     expect(rt, &printed.as_str(), &wanted);
     Ok(())
-}
-
-/// The copy of a key that what holds it makes.
-fn held_copy<K: Held>(alloc: Global, key: &K) -> Result<K, AllocError> {
-    key.copied(alloc)
 }

@@ -4,14 +4,15 @@
 ghost use Rattle.std.specs.Prelude.{◌≡◌, ◌<◌, replicate};
 
 mod apart;
+mod asks;
 mod calls;
 mod stress;
 mod words;
 mod workers;
 
-use super::stories::{ONE_NAME, SETS_A, grant_ask, pass_ask, remove_ask, set_ask, shift_ask};
 use super::{expect, text_of};
 use actions::Name;
+use asks::{ONE_NAME, SETS_A, grant_ask, pass_ask, remove_ask, set_ask, shift_ask};
 use calls::Line;
 use node_core::{Ask, Config, Entry, NodeCore, NodeFault, PassReply, Receipt, Reply, Seen, Trace};
 use node_registry::{Done, Gate, Job, Label, PassOutcome, Registry, Seat, run_workers};

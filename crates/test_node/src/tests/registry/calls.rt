@@ -115,7 +115,7 @@ fn passed_point<L: Label, R: Wait>(
         return Err(NodeFault::BadName);
     };
     let passed = registry.pass_point(rt, alloc, seat, &point)?;
-    match registry.receipt(rt, alloc, passed.index)? {
+    match registry.receipt(rt, alloc, seat, passed.index)? {
         Some(receipt) if is_outcome(passed.outcome, &receipt.entry.reply) => Ok(receipt),
         _ => Err(NodeFault::NotForMe),
     }

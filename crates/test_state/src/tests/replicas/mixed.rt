@@ -72,7 +72,7 @@ fn part<R: Replica>(
             index
         };
         let (text, step) = step_at(place);
-        make_on(rt, alloc, &mut replica, text, Call::Learn(step))?;
+        learn_on(rt, alloc, &mut replica, text, step)?;
     }
     Ok(replica)
 }

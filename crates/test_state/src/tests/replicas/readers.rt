@@ -83,30 +83,3 @@ pub(super) fn seen<R: Replica>(replica: &R, name: &Name) -> [Answers; 2] {
         answers_at(replica, name, 0, 1, 0),
     ]
 }
-
-/// The clock of a name; and the hits, the executions, the moved rights and the rights of the nodes
-/// 0 and 1.
-pub(super) type Told = (u64, (u64, u64), (u64, u64), (u64, u64), (i128, i128));
-
-/// What is wanted where one name is held, and no other node hit or spent.
-pub(super) fn wanted((clock, hits, execs, moved, rights): Told) -> [Answers; 2] {
-    let first = Answers {
-        clock,
-        hits: hits.0,
-        execs: execs.0,
-        moved: moved.0,
-        rights: rights.0,
-        total_hits: u128::from(hits.0) + u128::from(hits.1),
-        spent: u128::from(execs.0) + u128::from(execs.1),
-        names: 1,
-        names_with: 1,
-    };
-    let second = Answers {
-        hits: hits.1,
-        execs: execs.1,
-        moved: moved.1,
-        rights: rights.1,
-        ..first
-    };
-    [first, second]
-}

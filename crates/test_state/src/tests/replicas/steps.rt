@@ -5,7 +5,7 @@ use super::*;
 /// A key: its clock, its node and its text.
 pub(super) type Keyed = (u64, u8, &'static str);
 
-/// An operation of a point. What is executed, shifted or granted is of a term.
+/// An operation of a point. What is executed or shifted is of a term.
 #[derive(Clone, Copy)]
 pub(super) enum Step {
     Set(Keyed),
@@ -13,7 +13,6 @@ pub(super) enum Step {
     Hit(u8, u64),
     Exec(Keyed, u8, u8, u64),
     Shift(Keyed, u8, u8, u8, u64),
-    Grant(Keyed, u8, u8, u64),
 }
 
 /// The name of a text of a table. These are all good, and only memory may be refused.
@@ -25,7 +24,7 @@ pub(super) fn name(alloc: Global, text: &str) -> Result<Name, AllocError> {
 }
 
 /// The key of a text of a table, of which the same holds.
-pub(super) fn key(alloc: Global, (clock, node, text): Keyed) -> Result<Key, AllocError> {
+fn key(alloc: Global, (clock, node, text): Keyed) -> Result<Key, AllocError> {
     match parse_actions(alloc, text) {
         Ok(actions) => {
             let body = Body::Set(actions);
@@ -36,7 +35,7 @@ pub(super) fn key(alloc: Global, (clock, node, text): Keyed) -> Result<Key, Allo
 }
 
 /// The key of an operation; and of a hit one that is not to be learned.
-pub(super) fn key_of(alloc: Global, step: Step) -> Result<Key, AllocError> {
+fn key_of(alloc: Global, step: Step) -> Result<Key, AllocError> {
     match step {
         Step::Set(keyed) => key(alloc, keyed),
         Step::Remove(clock, node) => {
@@ -46,7 +45,6 @@ pub(super) fn key_of(alloc: Global, step: Step) -> Result<Key, AllocError> {
         Step::Hit(..) => key(alloc, (9, 9, "off")),
         Step::Exec(keyed, ..) => key(alloc, keyed),
         Step::Shift(keyed, ..) => key(alloc, keyed),
-        Step::Grant(keyed, ..) => key(alloc, keyed),
     }
 }
 
@@ -70,13 +68,6 @@ fn op(name: Name, key: Key, step: Step) -> Op {
             to,
             total,
         },
-        Step::Grant(_, term, node, total) => Op::Grant {
-            name,
-            key,
-            term,
-            node,
-            total,
-        },
     }
 }
 
@@ -84,21 +75,4 @@ pub(super) fn op_of(alloc: Global, text: &str, step: Step) -> Result<Op, AllocEr
     let name = name(alloc, text)?;
     let key = key_of(alloc, step)?;
     Ok(op(name, key, step))
-}
-
-/// What an operation counts, if it does.
-pub(super) fn count_of(step: Step) -> Option<Count> {
-    match step {
-        Step::Set(_) => None,
-        Step::Remove(..) => None,
-        Step::Hit(node, number) => Some(Counted::Hits { node }.times(number)),
-        Step::Exec(_, term, node, number) => Some(Counted::Execs { term, node }.times(number)),
-        Step::Shift(_, term, from, to, total) => {
-            Some(Counted::Shifts { term, from, to }.times(total))
-        }
-        Step::Grant(_, term, node, total) => {
-            let (from, to) = (node, node);
-            Some(Counted::Shifts { term, from, to }.times(total))
-        }
-    }
 }
