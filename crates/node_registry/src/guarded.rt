@@ -1,7 +1,7 @@
 //! What lies under a registry's lock, and the seats from which it is called.
 
 ghost use Rattle.std.specs.Prelude.{◌≡◌, ℕ, ◌+◌, ◌≤◌, ◌<◌, ◌⊎◌, length, map, sum, vec_len, All};
-ghost use Rattle.std.specs.Prelude.{IfOk, IfErr, OnErr, OnOk, IsTrue, false};
+ghost use Rattle.std.specs.Prelude.{IfOk, IfErr, OnErr, OnOk, MatchOption, IsTrue, false};
 ghost use Rattle.rand_chacha.specs.ChaCha.{key_of};
 ghost use Rattle.node_calls.specs.Asks as asks;
 ghost use Rattle.node_calls.specs.Asks.{ask_value_first, call_from};
@@ -9,7 +9,8 @@ ghost use Rattle.node_core.specs.Refusals.{is_bad_config};
 ghost use Rattle.node_core.specs.Traces.{IsLegal};
 ghost use Rattle.node_registry.specs.Cells.{Cell, Enters, IsDrawnBy, IsLawfulAt, IsRefusedBy};
 ghost use Rattle.node_registry.specs.Cells.{Passes, Submits, new_cell};
-ghost use Rattle.node_registry.specs.Receipts.{IsEntryFor, pass_receipt_of, receipt_of};
+ghost use Rattle.node_registry.specs.Receipts.{IsEntryFor, IsReceiptAt, pass_receipt_of};
+ghost use Rattle.node_registry.specs.Receipts.{receipt_of};
 
 use crate::cell::NodeCell;
 use crate::label::Label;
@@ -208,6 +209,36 @@ impl<L: Label> Guarded<L> {
             index: place,
             outcome,
         })
+    }
+
+    /// The receipt of an accepted call by its place in the trace; none where there are fewer calls.
+    /// There are at least the seat's, and no others if it is the only seat.
+    pub fn receipt(
+        &mut self,
+        alloc: Global,
+        seat: &mut Seat<L>,
+        index: u32,
+    ) -> Result<Option<Receipt>, AllocError>
+        ensures found { IfOk result (λ found.
+            MatchOption found (length self.old.node.trace ≤ index) (IsReceiptAt self.old index)) }
+        ensures since { seat.old ≤ length self.old.node.trace }
+        ensures alone { L.parts ≡ 1 → seat.old ≡ length self.old.node.trace }
+        ensures lawful { IsLawfulAt L.config L.seed self.old }
+        ensures same { (self.new ≡ self.old) × (seat.new ≡ seat.old) }
+    {
+        let Guarded {
+            cell,
+            book: account,
+        } = self;
+        let Seat { calls: _, share } = seat;
+        account.audit(share);
+        let core = cell.core();
+        let Some(call) = core.trace().at(index as usize) else {
+            return Ok(None);
+        };
+        let entry = call.to_entry(alloc)?;
+        let node = core.config().node;
+        Ok(Some(Receipt { node, index, entry }))
     }
 
     /// Takes all seats back. The trace is legal, has as many entries as the seats made calls, and its

@@ -333,24 +333,23 @@ impl<L: Label> Registry<L> {
     }
 
     /// The receipt of an accepted call by its place in the node's trace, counted from 0; none where
-    /// there are fewer calls. The only error is out of memory.
+    /// there are fewer calls. There are at least the seat's, and no others if it is the only seat.
+    /// What the call was asked and answered is copied under the lock: `with` lends it. The only error
+    /// is out of memory.
     pub fn receipt<R: Wait>(
         &self,
         rt: &R,
         alloc: Global,
+        seat: &mut Seat<L>,
         index: u32,
     ) -> Result<Option<Receipt>, AllocError>
-        ensures { IfOk result (λ found. (c : Cell) × IsLawfulAt L.config L.seed c
+        ensures found { IfOk result (λ found. (c : Cell) × IsLawfulAt L.config L.seed c
+            × (seat.old ≤ length c.node.trace) × (L.parts ≡ 1 → seat.old ≡ length c.node.trace)
             × MatchOption found (length c.node.trace ≤ index) (IsReceiptAt c index)) }
+        ensures same { seat.new ≡ seat.old }
     {
-        let guarded = self.held(rt);
-        let core = guarded.core();
-        let Some(call) = core.trace().at(index as usize) else {
-            return Ok(None);
-        };
-        let entry = call.to_entry(alloc)?;
-        let node = core.config().node;
-        Ok(Some(Receipt { node, index, entry }))
+        let mut guarded = self.held(rt);
+        guarded.receipt(alloc, seat, index)
     }
 
     /// Lends the node under the lock, and answers what is answered there. The node is the label's,

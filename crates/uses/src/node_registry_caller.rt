@@ -38,7 +38,7 @@ pub fn triggered<L: Label, R: Wait>(
 {
     let passed = registry.pass_point(rt, alloc, seat, point)?;
     match passed.outcome {
-        PassOutcome::Act { .. } => Ok(registry.receipt(rt, alloc, passed.index)?),
+        PassOutcome::Act { .. } => Ok(registry.receipt(rt, alloc, seat, passed.index)?),
         PassOutcome::Unset | PassOutcome::NoTerm { .. } => Ok(None),
     }
 }
