@@ -1,0 +1,18 @@
+//! Examples from outside.
+
+mod fault_texts;
+mod registry;
+
+use std::alloc::{AllocError, Global};
+use std::fmt::{Debug, Display};
+use std::process::Abort;
+
+/// Ends the test where what is found isn't what is wanted.
+fn expect<T: PartialEq + Debug>(rt: &impl Abort, found: &T, wanted: &T) {
+    assert_eq!(rt; found, wanted);
+}
+
+/// A value in print.
+fn text_of<T: Display>(alloc: Global, value: &T) -> Result<String, AllocError> {
+    format!(in alloc; "{value}")
+}
