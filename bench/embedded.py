@@ -50,7 +50,7 @@ def build_c(folder):
 
 
 def build_rust(folder):
-    words = ("cargo", "build", "--offline", "--quiet", "--release", "--example", "speed")
+    words = ("cargo", "build", "--offline", "--quiet", "--release", "--features", "failpoints", "--example", "speed")
     how = {"cwd": f"{EMBEDDING}/rust/failreg"}
     run(*words, "--target-dir", folder, env={**os.environ, "FAILREG_LIB": f"{EMBEDDING}/lib"}, **how)
     return os.path.join(folder, "release/examples/speed")

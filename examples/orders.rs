@@ -1,6 +1,6 @@
 //! One failpoint in a program of Rust: FAILPOINTS='save=2*return->off' loses two orders.
 //!
-//!     cargo run --manifest-path embedding/rust/failreg/Cargo.toml --example orders
+//!     cargo run --manifest-path embedding/rust/failreg/Cargo.toml --features failpoints --example orders
 
 use failreg::fail_point;
 

@@ -7,7 +7,7 @@
 //! an accepted one tells must be spelled as a node spells it that knows just that. The status is 1
 //! where that isn't so of one, or where few were looked at.
 
-use failreg::{Refused, Registry};
+use failreg::{Error, Registry};
 use std::collections::BTreeMap;
 use std::ops::Range;
 use std::process::ExitCode;
@@ -24,12 +24,13 @@ const MESSAGES_A_NODE: u64 = 1_000;
 const SENDER: usize = 4;
 const ACKNOWLEDGED: Range<usize> = 22..30;
 
-fn opened(number: u8) -> Result<Registry, Refused> {
-    Registry::open_with_seed(number, NODES, u32::MAX, [7; 32])
+fn opened(number: u8) -> Result<Registry, Error> {
+    let builder = Registry::builder().node(number).nodes(NODES);
+    builder.seed([7; 32]).build()
 }
 
 /// Messages of a few nodes to node 0. The longest has some 67,000 bytes.
-fn real_messages() -> Result<Vec<Vec<u8>>, Refused> {
+fn real_messages() -> Result<Vec<Vec<u8>>, Error> {
     let mut real = messages_of_one_node()?;
     real.extend(messages_of_a_pair()?);
     // A node 0 that is forgotten: what node 3 knows of it is more than a new node 0 knows.
@@ -54,7 +55,7 @@ fn real_messages() -> Result<Vec<Vec<u8>>, Refused> {
 }
 
 /// A point that is set, passed, shifted, granted and removed.
-fn messages_of_one_node() -> Result<Vec<Vec<u8>>, Refused> {
+fn messages_of_one_node() -> Result<Vec<Vec<u8>>, Error> {
     let node = opened(1)?;
     node.load("a=20%3*print(hi)->2*off->panic")?;
     let set = node.emit(0)?;
@@ -69,7 +70,7 @@ fn messages_of_one_node() -> Result<Vec<Vec<u8>>, Refused> {
 }
 
 /// Nodes that tell each other, and node 0.
-fn messages_of_a_pair() -> Result<Vec<Vec<u8>>, Refused> {
+fn messages_of_a_pair() -> Result<Vec<Vec<u8>>, Error> {
     let (one, other) = (opened(30)?, opened(31)?);
     one.load("b=4*off->print(x);c=2*return(7);d=off")?;
     one.shift("b", 0, 31, 3)?;
@@ -162,7 +163,7 @@ struct Shown {
 
 impl Shown {
     /// What a node shows. It accepts one call more.
-    fn of(node: &Registry) -> Result<Shown, Refused> {
+    fn of(node: &Registry) -> Result<Shown, Error> {
         let list = node.list()?;
         let mut counts = Vec::new();
         for (name, _) in list.split(';').filter_map(|entry| entry.split_once('=')) {
@@ -173,7 +174,7 @@ impl Shown {
         }
         let versions = (0..NODES)
             .map(|other| Ok((node.known(other)?, node.acked(other)?)))
-            .collect::<Result<Vec<_>, Refused>>()?;
+            .collect::<Result<Vec<_>, Error>>()?;
         let to = (1..NODES).find(|to| versions[usize::from(*to)].1 == 0);
         Ok(Shown {
             list,
@@ -204,14 +205,14 @@ struct Victim {
 }
 
 /// The number and the name of a fault, without its fields.
-fn code_of(refused: &Refused) -> String {
-    let text = refused.text.trim_start_matches("N16 BadMessage ");
-    text.split(' ').take(2).collect::<Vec<_>>().join(" ")
+fn code_of(error: &Error) -> String {
+    let fault = error.fault().trim_start_matches("N16 BadMessage ");
+    fault.split(' ').take(2).collect::<Vec<_>>().join(" ")
 }
 
 /// Whether what a message tells is spelled as a node spells it that knows just that; nothing where
 /// such a node refuses it, since it overspends what it doesn't tell of.
-fn is_spelled_so(message: &[u8]) -> Result<Option<bool>, Refused> {
+fn is_spelled_so(message: &[u8]) -> Result<Option<bool>, Error> {
     let node = opened(0)?;
     let mut unanswering = message.to_vec();
     unanswering[ACKNOWLEDGED].fill(0);
@@ -227,13 +228,13 @@ fn is_spelled_so(message: &[u8]) -> Result<Option<bool>, Refused> {
 
 impl Victim {
     /// Node 0, which knows nothing.
-    fn new() -> Result<Victim, Refused> {
+    fn new() -> Result<Victim, Error> {
         let node = opened(0)?;
         let shown = Shown::of(&node)?;
         Ok(Victim { node, shown })
     }
 
-    fn take(&mut self, message: &[u8]) -> Result<Outcome, Refused> {
+    fn take(&mut self, message: &[u8]) -> Result<Outcome, Error> {
         let calls = self.node.calls()?;
         match self.node.deliver(message) {
             Ok(changed) => {
@@ -281,7 +282,7 @@ impl Tally {
     }
 }
 
-fn storm(seed: u64, messages: u64) -> Result<Tally, Refused> {
+fn storm(seed: u64, messages: u64) -> Result<Tally, Error> {
     let real = real_messages()?;
     let mut dice = Dice(seed);
     let mut tally = Tally::default();

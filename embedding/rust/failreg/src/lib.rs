@@ -1,67 +1,43 @@
-//! Failpoints whose counts hold for a cluster of nodes: a wrapper of a proved registry.
+//! Failpoints whose counts hold for a cluster of nodes, with the calls of fail-rs: a wrapper of a
+//! proved registry.
 //!
-//! A [`Registry`] is one node of a cluster, which threads share. [`setup`] makes the program's own
-//! and loads FAILPOINTS into it; [`fail_point!`] passes a point of that one, or of one that is
-//! named:
+//! A [`Registry`] is one node of a cluster, which threads share. [`setup`] makes the program's own and
+//! loads FAILPOINTS into it; [`fail_point!`] passes a point of that one, or of one that is named.
 //!
-//! ```
-//! use failreg::{Registry, fail_point};
-//!
-//! fn read_block(node: &Registry, block: u64) -> Result<u64, String> {
-//!     fail_point!(in node, "read_block", |reason| Err(reason.unwrap_or_default()));
-//!     Ok(block)
-//! }
-//!
-//! let node = Registry::open(0, 1, 1000).unwrap();
-//! node.set("read_block", "1*return(disk full)->off").unwrap();
-//! assert_eq!(read_block(&node, 7), Err("disk full".to_string()));
-//! assert_eq!(read_block(&node, 7), Ok(7));
-//! ```
+//! **Failpoints are off unless the feature `failpoints` is asked for.** Without it every
+//! [`fail_point!`] is nothing, no library is linked, and what would set a point is refused
+//! ([`ErrorKind::Disabled`]).
 //!
 //! What is proved is the node behind the calls of C. This crate is not: its declarations of those
 //! calls, its locks, and how it carries tasks out.
 
+mod builder;
+mod error;
+#[cfg(feature = "failpoints")]
 mod node;
+#[cfg(not(feature = "failpoints"))]
+#[path = "no_node.rs"]
+mod node;
+mod passing;
 mod points;
+mod program;
 mod receipts;
 mod registry;
-mod sys;
 mod told;
 
+pub use builder::{Builder, OnRefusal};
+pub use error::{Error, ErrorKind};
 #[doc(hidden)]
 pub use points::Site;
+pub use program::{program, setup};
 pub use registry::{Registry, write_drill};
-pub use told::{Passed, Refused, Stamp, Task};
-
-use std::sync::{Mutex, OnceLock};
-
-static PROGRAM: OnceLock<Registry> = OnceLock::new();
-
-/// Makes the program's registry, as node `number` of a cluster of `nodes`, and loads FAILPOINTS
-/// into it. A second call answers the registry that is there. A FAILPOINTS that is refused makes
-/// none.
-pub fn setup(number: u8, nodes: u8, cap: u32) -> Result<&'static Registry, Refused> {
-    static ONE: Mutex<()> = Mutex::new(());
-    let _one = ONE.lock().unwrap_or_else(|poisoned| poisoned.into_inner());
-    if PROGRAM.get().is_none() {
-        let registry = Registry::open(number, nodes, cap)?;
-        registry.load_env()?;
-        return Ok(PROGRAM.get_or_init(|| registry));
-    }
-    Ok(PROGRAM.get().expect("it is there"))
-}
-
-/// The program's registry, once [`setup`] has made it.
-#[inline]
-pub fn program() -> Option<&'static Registry> {
-    PROGRAM.get()
-}
+pub use told::{Passed, Stamp, Task};
 
 /// Passes a point, if it is set, and carries its task out. `fail_point!("name")` panics where the
 /// task is `return`; `fail_point!("name", |argument| value)` leaves the function with the value
 /// then, and `fail_point!("name", condition, |argument| value)` passes the point only under the
 /// condition. With `in registry,` in front it is a point of that registry, else one of the
-/// program's, which does nothing before [`setup`].
+/// program's.
 #[macro_export]
 #[cfg(feature = "failpoints")]
 macro_rules! fail_point {
@@ -72,7 +48,8 @@ macro_rules! fail_point {
     }};
     (in $registry:expr, $name:expr, $value:expr) => {{
         if let Some(argument) = $crate::eval_point!($registry, $name) {
-            return $crate::value_of($value, argument);
+            let value = $crate::value_of($value, argument);
+            return value;
         }
     }};
     (in $registry:expr, $name:expr, $condition:expr, $value:expr) => {{
@@ -101,6 +78,12 @@ macro_rules! fail_point {
 #[macro_export]
 #[cfg(not(feature = "failpoints"))]
 macro_rules! fail_point {
+    // The registry is named and not asked for, so that a variable which has it is used.
+    (in $registry:expr, $($ignored:tt)*) => {{
+        if false {
+            _ = &$registry;
+        }
+    }};
     ($($ignored:tt)*) => {{}};
 }
 

@@ -1,17 +1,15 @@
 //! A node of the proved library, given to one call at a time by `&mut`. All `unsafe` calls are
 //! here: each passes references and slices of its own, which live as long as the call.
 
-use crate::sys;
-use crate::told::{Passed, Refused, Stamp, Task};
+use crate::error::Error;
+use crate::told::{Passed, Stamp, Task};
+use failreg_sys as sys;
+use std::borrow::Cow;
 use std::time::Duration;
 
 pub struct Node {
-    handle: sys::Handle,
+    handle: sys::failreg,
 }
-
-// A handle may go to another thread: it owns plain data on the heap. (Proved of the library's
-// type.)
-unsafe impl Send for Node {}
 
 impl Drop for Node {
     fn drop(&mut self) {
@@ -20,82 +18,79 @@ impl Drop for Node {
 }
 
 // The library knows a value that this crate doesn't: they weren't built from one tree.
-fn unknown(what: &str, number: u8) -> Refused {
-    Refused {
-        status: UNKNOWN,
-        text: format!(
-            "the library answered {what} {number}, which this crate doesn't know: build both from one tree"
-        ),
+fn unknown(what: &str, number: u8) -> Error {
+    let fault = format!("the library answered {what} {number}, which this crate doesn't know");
+    Error::new(crate::ErrorKind::Mismatch, fault)
+}
+
+impl From<sys::failreg_stamp> for Stamp {
+    fn from(sys::failreg_stamp { clock, node }: sys::failreg_stamp) -> Stamp {
+        Stamp { clock, node }
     }
 }
 
-/// The status of an answer that isn't known.
-const UNKNOWN: u32 = u32::MAX;
+fn whole(wide: sys::failreg_wide) -> u128 {
+    u128::from(wide.high) << 64 | u128::from(wide.low)
+}
 
 impl Node {
-    pub fn open(number: u8, nodes: u8, cap: u32, seed: &[u8; 32]) -> Result<Node, Refused> {
-        let handle = sys::Handle {
-            is_open: false,
-            at: std::ptr::null_mut(),
+    pub fn open(number: u8, nodes: u8, cap: u32, seed: &[u8; 32]) -> Result<Node, Error> {
+        let mut node = Node {
+            handle: sys::failreg::CLOSED,
         };
-        let mut node = Node { handle };
-        match unsafe { sys::failreg_open(&mut node.handle, number, nodes, cap, seed) } {
-            0 => Ok(node),
-            21 => Err(Refused {
-                status: 21,
-                text: "N21 BadConfig".into(),
-            }),
-            status => Err(Refused {
-                status,
-                text: "N22 OutOfMemory".into(),
-            }),
-        }
+        let status = sys::failreg_open(&mut node.handle, number, nodes, cap, seed);
+        let fault = match status {
+            sys::FAILREG_OK => return Ok(node),
+            sys::FAILREG_BAD_CONFIG => "N21 BadConfig".into(),
+            sys::FAILREG_NO_MEMORY => "N22 OutOfMemory".into(),
+            status => Cow::from(format!("N{status}")),
+        };
+        Err(Error::of_status(status, fault))
     }
 
     /// Gives the memory back. Every call is then refused.
     pub fn close(&mut self) {
-        let closed = sys::Handle {
-            is_open: false,
-            at: std::ptr::null_mut(),
-        };
-        unsafe { sys::failreg_close(std::mem::replace(&mut self.handle, closed)) }
+        sys::failreg_close(std::mem::replace(&mut self.handle, sys::failreg::CLOSED));
     }
 
-    fn answer<T>(&mut self, status: u32, value: T) -> Result<T, Refused> {
+    /// Whether it was closed.
+    pub fn is_closed(&mut self) -> bool {
+        sys::failreg_calls(&mut self.handle, &mut 0) == sys::FAILREG_CLOSED
+    }
+
+    fn answer<T>(&mut self, status: u32, value: T) -> Result<T, Error> {
         match status {
-            0 => Ok(value),
-            _ => Err(Refused {
-                status,
-                text: self.text_of(status),
-            }),
+            sys::FAILREG_OK => Ok(value),
+            _ => Err(Error::of_status(status, self.fault_of(status))),
         }
     }
 
-    fn text_of(&mut self, status: u32) -> String {
+    fn fault_of(&mut self, status: u32) -> Cow<'static, str> {
         match status {
-            22 => "N22 OutOfMemory".into(),
-            30 => "the text is not UTF-8".into(),
-            31 => "the registry is closed".into(),
-            33 => "no point has the number".into(),
-            _ if unsafe { sys::failreg_fault(&mut self.handle) } == 0 => self.fetch_text(),
-            _ => format!("N{status}"),
+            sys::FAILREG_NO_MEMORY => "N22 OutOfMemory".into(),
+            sys::FAILREG_NOT_UTF8 => "the text is not UTF-8".into(),
+            sys::FAILREG_CLOSED => "the registry is closed".into(),
+            sys::FAILREG_NO_POINT => "no point has the number".into(),
+            _ if sys::failreg_fault(&mut self.handle) == sys::FAILREG_OK => {
+                self.fetch_text().into()
+            }
+            _ => format!("N{status}").into(),
         }
     }
 
     // A reader of a name keeps no text: it refuses bad names, and where memory is wanted.
-    fn read<T>(&mut self, status: u32, value: T) -> Result<T, Refused> {
+    fn read<T>(&mut self, status: u32, value: T) -> Result<T, Error> {
         match status {
-            2 => Err(Refused {
-                status,
-                text: "N2 BadName".into(),
-            }),
+            sys::FAILREG_BAD_NAME => Err(Error::of_status(status, "N2 BadName")),
             _ => self.answer(status, value),
         }
     }
 
     fn fetch(&mut self) -> Vec<u8> {
+        // SAFETY: with room 0 nothing is written.
         let length = unsafe { sys::failreg_fetch(&mut self.handle, [0u8].as_mut_ptr(), 0) };
         let mut bytes = vec![0; length];
+        // SAFETY: the vector has so many bytes.
         unsafe { sys::failreg_fetch(&mut self.handle, bytes.as_mut_ptr(), length) };
         bytes
     }
@@ -107,75 +102,70 @@ impl Node {
     /// The words that the last pass drew.
     pub fn words(&mut self) -> Vec<u32> {
         let mut words = [0; 16];
-        let length = unsafe { sys::failreg_words(&mut self.handle, words.as_mut_ptr(), 16) };
-        words[..length.min(16)].to_vec()
+        let (into, room) = (words.as_mut_ptr(), words.len());
+        // SAFETY: the array has so many words.
+        let length = unsafe { sys::failreg_words(&mut self.handle, into, room) };
+        words[..length.min(room)].to_vec()
     }
 
-    pub fn set(&mut self, name: &str, actions: &str) -> Result<Stamp, Refused> {
-        let mut stamp = sys::Stamped::default();
+    pub fn set(&mut self, name: &str, actions: &str) -> Result<Stamp, Error> {
+        let mut stamp = sys::failreg_stamp::default();
         let (at, len) = (actions.as_ptr(), actions.len());
         let h = &mut self.handle;
+        // SAFETY: two texts, each with its length.
         let status = unsafe { sys::failreg_set(h, name.as_ptr(), name.len(), at, len, &mut stamp) };
-        self.answer(
-            status,
-            Stamp {
-                clock: stamp.clock,
-                node: stamp.node,
-            },
-        )
+        self.answer(status, stamp.into())
     }
 
-    pub fn remove(&mut self, name: &str) -> Result<Stamp, Refused> {
-        let mut stamp = sys::Stamped::default();
+    pub fn remove(&mut self, name: &str) -> Result<Stamp, Error> {
+        let mut stamp = sys::failreg_stamp::default();
         let h = &mut self.handle;
+        // SAFETY: a text and its length.
         let status = unsafe { sys::failreg_remove(h, name.as_ptr(), name.len(), &mut stamp) };
-        self.answer(
-            status,
-            Stamp {
-                clock: stamp.clock,
-                node: stamp.node,
-            },
-        )
+        self.answer(status, stamp.into())
     }
 
-    pub fn load(&mut self, text: &[u8]) -> Result<u16, Refused> {
+    pub fn load(&mut self, text: &[u8]) -> Result<u16, Error> {
         let mut entries = 0;
         let h = &mut self.handle;
+        // SAFETY: bytes and how many they are.
         let status = unsafe { sys::failreg_load(h, text.as_ptr(), text.len(), &mut entries) };
         self.answer(status, entries)
     }
 
-    pub fn pass(&mut self, name: &str) -> Result<Passed, Refused> {
-        let mut act = sys::Act::default();
+    pub fn pass(&mut self, name: &str) -> Result<Passed, Error> {
+        let mut act = sys::failreg_act::default();
         let h = &mut self.handle;
+        // SAFETY: a text and its length.
         let status = unsafe { sys::failreg_pass(h, name.as_ptr(), name.len(), &mut act) };
         self.passed(status, &act)
     }
 
     /// The number of a point, for `pass_at`.
-    pub fn point(&mut self, name: &str) -> Result<u32, Refused> {
+    pub fn point(&mut self, name: &str) -> Result<u32, Error> {
         let mut point = 0;
         let h = &mut self.handle;
+        // SAFETY: a text and its length.
         let status = unsafe { sys::failreg_point(h, name.as_ptr(), name.len(), &mut point) };
         self.read(status, point)
     }
 
-    pub fn pass_at(&mut self, point: u32) -> Result<Passed, Refused> {
-        let mut act = sys::Act::default();
-        let status = unsafe { sys::failreg_pass_at(&mut self.handle, point, &mut act) };
+    pub fn pass_at(&mut self, point: u32) -> Result<Passed, Error> {
+        let mut act = sys::failreg_act::default();
+        let status = sys::failreg_pass_at(&mut self.handle, point, &mut act);
         self.passed(status, &act)
     }
 
-    fn passed(&mut self, status: u32, act: &sys::Act) -> Result<Passed, Refused> {
+    fn passed(&mut self, status: u32, act: &sys::failreg_act) -> Result<Passed, Error> {
         self.answer(status, ())?;
         let stamp = Stamp {
             clock: act.clock,
             node: act.node,
         };
         Ok(match act.outcome {
-            0 => Passed::Unset,
-            1 => Passed::NoTerm { stamp },
-            2 => Passed::Act {
+            sys::FAILREG_UNSET => Passed::Unset,
+            sys::FAILREG_NONE => Passed::NoTerm { stamp },
+            sys::FAILREG_ACT => Passed::Act {
                 stamp,
                 term: act.term,
                 task: self.task_of(act)?,
@@ -184,113 +174,128 @@ impl Node {
         })
     }
 
-    fn task_of(&mut self, act: &sys::Act) -> Result<Task, Refused> {
+    fn task_of(&mut self, act: &sys::failreg_act) -> Result<Task, Error> {
         let text = act.has_text.then(|| self.fetch_text());
         let time = Duration::from_millis(act.millis);
         Ok(match act.task {
-            0 => Task::Off,
-            1 => Task::Return(text),
-            2 => Task::Sleep(time),
-            3 => Task::Panic(text),
-            4 => Task::Print(text),
-            5 => Task::Pause,
-            6 => Task::Yield,
-            7 => Task::Delay(time),
+            sys::FAILREG_OFF => Task::Off,
+            sys::FAILREG_RETURN => Task::Return(text),
+            sys::FAILREG_SLEEP => Task::Sleep(time),
+            sys::FAILREG_PANIC => Task::Panic(text),
+            sys::FAILREG_PRINT => Task::Print(text),
+            sys::FAILREG_PAUSE => Task::Pause,
+            sys::FAILREG_YIELD => Task::Yield,
+            sys::FAILREG_DELAY => Task::Delay(time),
             other => return Err(unknown("task", other)),
         })
     }
 
-    pub fn is_pause_over(&mut self, name: &str, stamp: Stamp) -> Result<bool, Refused> {
-        let since = sys::Stamped {
-            clock: stamp.clock,
-            node: stamp.node,
-        };
+    /// Whether a point is set.
+    pub fn is_set(&mut self, name: &str) -> Result<bool, Error> {
+        let mut is_set = false;
+        let h = &mut self.handle;
+        // SAFETY: a text and its length.
+        let status = unsafe { sys::failreg_is_set(h, name.as_ptr(), name.len(), &mut is_set) };
+        self.read(status, is_set)
+    }
+
+    /// Whether a point isn't set under a stamp any more.
+    pub fn is_pause_over(&mut self, name: &str, stamp: Stamp) -> Result<bool, Error> {
+        let Stamp { clock, node } = stamp;
+        let since = sys::failreg_stamp { clock, node };
         let mut is_over = false;
         let h = &mut self.handle;
+        // SAFETY: a text and its length.
         let status =
             unsafe { sys::failreg_pause_over(h, name.as_ptr(), name.len(), &since, &mut is_over) };
         self.read(status, is_over)
     }
 
-    pub fn shift(&mut self, name: &str, term: u8, to: u8, amount: u64) -> Result<u64, Refused> {
+    pub fn shift(&mut self, name: &str, term: u8, to: u8, amount: u64) -> Result<u64, Error> {
         let mut total = 0;
         let h = &mut self.handle;
+        // SAFETY: a text and its length.
         let status = unsafe {
             sys::failreg_shift(h, name.as_ptr(), name.len(), term, to, amount, &mut total)
         };
         self.answer(status, total)
     }
 
-    pub fn grant(&mut self, name: &str, term: u8, amount: u64) -> Result<u64, Refused> {
+    pub fn grant(&mut self, name: &str, term: u8, amount: u64) -> Result<u64, Error> {
         let mut total = 0;
         let h = &mut self.handle;
+        // SAFETY: a text and its length.
         let status =
             unsafe { sys::failreg_grant(h, name.as_ptr(), name.len(), term, amount, &mut total) };
         self.answer(status, total)
     }
 
-    pub fn emit(&mut self, to: u8) -> Result<Vec<u8>, Refused> {
-        let status = unsafe { sys::failreg_emit(&mut self.handle, to) };
+    pub fn emit(&mut self, to: u8) -> Result<Vec<u8>, Error> {
+        let status = sys::failreg_emit(&mut self.handle, to);
         self.answer(status, ())?;
         Ok(self.fetch())
     }
 
-    pub fn deliver(&mut self, message: &[u8]) -> Result<bool, Refused> {
+    pub fn deliver(&mut self, message: &[u8]) -> Result<bool, Error> {
         let mut changed = false;
         let (at, len) = (message.as_ptr(), message.len());
+        // SAFETY: bytes and how many they are.
         let status = unsafe { sys::failreg_deliver(&mut self.handle, at, len, &mut changed) };
         self.answer(status, changed)
     }
 
-    pub fn list(&mut self) -> Result<String, Refused> {
-        let status = unsafe { sys::failreg_list(&mut self.handle) };
+    pub fn list(&mut self) -> Result<String, Error> {
+        let status = sys::failreg_list(&mut self.handle);
         self.answer(status, ())?;
         Ok(self.fetch_text())
     }
 
-    pub fn spent(&mut self, name: &str, term: u8) -> Result<u128, Refused> {
-        let mut wide = sys::Wide::default();
+    pub fn spent(&mut self, name: &str, term: u8) -> Result<u128, Error> {
+        let mut wide = sys::failreg_wide::default();
         let h = &mut self.handle;
+        // SAFETY: a text and its length.
         let status = unsafe { sys::failreg_spent(h, name.as_ptr(), name.len(), term, &mut wide) };
-        self.read(status, u128::from(wide.high) << 64 | u128::from(wide.low))
+        self.read(status, whole(wide))
     }
 
-    pub fn hits(&mut self, name: &str) -> Result<u128, Refused> {
-        let mut wide = sys::Wide::default();
+    pub fn hits(&mut self, name: &str) -> Result<u128, Error> {
+        let mut wide = sys::failreg_wide::default();
         let h = &mut self.handle;
+        // SAFETY: a text and its length.
         let status = unsafe { sys::failreg_hits(h, name.as_ptr(), name.len(), &mut wide) };
-        self.read(status, u128::from(wide.high) << 64 | u128::from(wide.low))
+        self.read(status, whole(wide))
     }
 
-    pub fn rights(&mut self, name: &str, term: u8, of: u8) -> Result<i64, Refused> {
+    pub fn rights(&mut self, name: &str, term: u8, of: u8) -> Result<i64, Error> {
         let mut rights = 0;
         let h = &mut self.handle;
+        // SAFETY: a text and its length.
         let status =
             unsafe { sys::failreg_rights(h, name.as_ptr(), name.len(), term, of, &mut rights) };
         self.read(status, rights)
     }
 
-    pub fn version(&mut self) -> Result<u64, Refused> {
+    pub fn version(&mut self) -> Result<u64, Error> {
         let mut version = 0;
-        let status = unsafe { sys::failreg_version(&mut self.handle, &mut version) };
+        let status = sys::failreg_version(&mut self.handle, &mut version);
         self.answer(status, version)
     }
 
-    pub fn known(&mut self, from: u8) -> Result<u64, Refused> {
+    pub fn known(&mut self, from: u8) -> Result<u64, Error> {
         let mut known = 0;
-        let status = unsafe { sys::failreg_known(&mut self.handle, from, &mut known) };
+        let status = sys::failreg_known(&mut self.handle, from, &mut known);
         self.answer(status, known)
     }
 
-    pub fn acked(&mut self, to: u8) -> Result<u64, Refused> {
+    pub fn acked(&mut self, to: u8) -> Result<u64, Error> {
         let mut acked = 0;
-        let status = unsafe { sys::failreg_acked(&mut self.handle, to, &mut acked) };
+        let status = sys::failreg_acked(&mut self.handle, to, &mut acked);
         self.answer(status, acked)
     }
 
-    pub fn calls(&mut self) -> Result<u64, Refused> {
+    pub fn calls(&mut self) -> Result<u64, Error> {
         let mut calls = 0;
-        let status = unsafe { sys::failreg_calls(&mut self.handle, &mut calls) };
+        let status = sys::failreg_calls(&mut self.handle, &mut calls);
         self.answer(status, calls)
     }
 }

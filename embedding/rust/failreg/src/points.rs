@@ -9,21 +9,26 @@ const WORDS: usize = 256;
 const NOTHING_SET: u64 = 0;
 
 /// The last number that settings got. No two settings of a program have one, of whichever registry,
-/// but those in which nothing is set.
+/// but those in which nothing is set. It guards nothing: each is another number.
 static LAST_SETTINGS: AtomicU64 = AtomicU64::new(NOTHING_SET);
 
 /// A `fail_point!` in the text of a program, whose point always has the same name: it remembers the
 /// settings in which that point was last found not to be set, and those in which it was, and the
-/// point's number in a registry. All but the first are read and written under that registry's lock;
-/// threads of several registries may overwrite what others remember, so each is whole in one word.
+/// point's number in a node. Threads of several registries may overwrite what others remember, so
+/// each is whole in one word, and guards nothing else.
+#[derive(Debug)]
 pub struct Site {
+    /// Read without a lock, written under that of the registry whose settings these are.
     unset_in: AtomicU64,
+    /// Read and written under a registry's lock.
     set_in: AtomicU64,
-    // The number of the registry, and below it that of the point, plus 1.
+    /// The number of the node, and below it that of the point, plus 1. Read and written under the
+    /// lock of the registry that has the node.
     point: AtomicU64,
 }
 
 impl Site {
+    /// A site that remembers nothing yet.
     pub const fn new() -> Site {
         Site {
             unset_in: AtomicU64::new(NOTHING_SET),
@@ -32,18 +37,18 @@ impl Site {
         }
     }
 
-    /// The number of the site's point in a registry, if the site has it.
-    pub fn point_of(&self, registry: u64) -> Option<u32> {
+    /// The number of the site's point in a node, if the site has it.
+    pub(crate) fn point_of(&self, node: u64) -> Option<u32> {
         let point = self.point.load(Ordering::Relaxed);
         let number = (point & POINTS).checked_sub(1)?;
-        (point >> POINT_BITS == registry).then_some(number as u32)
+        (point >> POINT_BITS == node).then_some(number as u32)
     }
 
-    /// Remembers the number of the site's point in a registry, where both fit.
-    pub fn has_point(&self, registry: u64, number: u32) {
+    /// Remembers the number of the site's point in a node, where both fit.
+    pub(crate) fn has_point(&self, node: u64, number: u32) {
         let number = u64::from(number) + 1;
-        if number <= POINTS && registry <= u64::MAX >> POINT_BITS {
-            let point = registry << POINT_BITS | number;
+        if number <= POINTS && node <= u64::MAX >> POINT_BITS {
+            let point = node << POINT_BITS | number;
             self.point.store(point, Ordering::Relaxed);
         }
     }
@@ -59,11 +64,14 @@ impl Default for Site {
     }
 }
 
-/// Which settings a registry has, and a bit for each name that is set in them: where a point's bit is
-/// 0, the point isn't set. Another name may have the same bit, so where it is 1, `names` has the
+/// Which settings a registry has, and a bit for each name that is set in them: where a point's bit
+/// is 0, the point isn't set. Another name may have the same bit, so where it is 1, `names` has the
 /// answer.
 pub struct Shown {
+    /// The number of the settings. Written last, with `Release`, under the registry's lock: who
+    /// reads it with `Acquire` sees the words of these settings, or of later ones.
     settings: AtomicU64,
+    /// The bits of the names. Written under the registry's lock, read without.
     words: [AtomicU64; WORDS],
 }
 
@@ -73,6 +81,15 @@ fn place(name: &str) -> (usize, u64) {
     });
     let bit = (hash ^ (hash >> 32)) as usize % (64 * WORDS);
     (bit / 64, 1 << (bit % 64))
+}
+
+fn words_of(names: &HashSet<String>) -> [u64; WORDS] {
+    let mut words = [0; WORDS];
+    for name in names {
+        let (word, bit) = place(name);
+        words[word] |= bit;
+    }
+    words
 }
 
 impl Shown {
@@ -99,8 +116,8 @@ impl Shown {
         settings != NOTHING_SET && settings != site.unset_in.load(Ordering::Relaxed)
     }
 
-    /// Whether the point of a site is set, which remembers it; `look` tells where it doesn't. No other
-    /// thread may show names meanwhile.
+    /// Whether the point of a site is set, which remembers it; `look` tells where it doesn't. No
+    /// other thread may show names meanwhile.
     pub fn is_set_at(&self, site: &Site, look: impl FnOnce() -> bool) -> bool {
         let settings = self.settings.load(Ordering::Relaxed);
         if site.set_in.load(Ordering::Relaxed) == settings && settings != NOTHING_SET {
@@ -112,18 +129,14 @@ impl Shown {
         is_set
     }
 
-    /// Shows these names, as settings of their own. A bit that was set and is to be stays set
-    /// meanwhile.
-    pub fn show(&self, names: &HashSet<String>) {
-        let mut words = [0; WORDS];
-        for name in names {
-            let (word, bit) = place(name);
-            words[word] |= bit;
-        }
+    /// Shows these names, as settings of their own; where they aren't known, any may be set. A bit
+    /// that was set and is to be stays set meanwhile.
+    pub fn show(&self, names: Option<&HashSet<String>>) {
+        let words = names.map_or([u64::MAX; WORDS], words_of);
         for (shown, word) in self.words.iter().zip(words) {
             shown.store(word, Ordering::Release);
         }
-        let settings = match names.is_empty() {
+        let settings = match names.is_some_and(HashSet::is_empty) {
             true => NOTHING_SET,
             false => LAST_SETTINGS.fetch_add(1, Ordering::Relaxed) + 1,
         };
@@ -135,4 +148,31 @@ impl Shown {
 pub fn names_in(list: &str) -> HashSet<String> {
     let names = list.split(';').filter_map(|entry| entry.split_once('='));
     names.map(|(name, _)| name.to_string()).collect()
+}
+
+#[cfg(test)]
+mod tests {
+    use super::*;
+
+    #[test]
+    fn names_that_are_not_known_may_all_be_set() {
+        let (shown, site) = (Shown::new(), Site::new());
+        assert!(!shown.may_be_set("p") && !shown.may_be_set_at(&site));
+        shown.show(None);
+        assert!(shown.may_be_set("p") && shown.may_be_set_at(&site));
+        assert!(!shown.is_set_at(&site, || false));
+        assert!(!shown.may_be_set_at(&site));
+        // Shown again they are other settings, of which the site remembers nothing.
+        shown.show(None);
+        assert!(shown.may_be_set_at(&site));
+        shown.show(Some(&HashSet::new()));
+        assert!(!shown.may_be_set("p") && !shown.may_be_set_at(&site));
+    }
+
+    #[test]
+    fn a_list_has_names() {
+        let names = names_in("a=off;b.c=1*return(x=y)->off");
+        assert_eq!(names, HashSet::from(["a".into(), "b.c".into()]));
+        assert!(names_in("").is_empty());
+    }
 }

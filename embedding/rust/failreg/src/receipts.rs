@@ -1,6 +1,7 @@
 //! What callers were told of accepted calls, and drills of it, which `failreg audit` reads.
 
 use crate::told::{Passed, Stamp, Task};
+use std::collections::HashMap;
 use std::fmt::Write as _;
 use std::io::{self, Write};
 use std::thread::ThreadId;
@@ -17,6 +18,29 @@ pub struct Receipt {
 pub struct Receipts {
     pub node: u8,
     pub all: Vec<Receipt>,
+}
+
+impl Receipts {
+    pub fn of(node: u8) -> Receipts {
+        Receipts {
+            node,
+            all: Vec::new(),
+        }
+    }
+
+    /// The places of each caller's receipts; the caller whose call came first stands first.
+    fn by_caller(&self) -> Vec<Vec<usize>> {
+        let mut places: HashMap<ThreadId, usize> = HashMap::new();
+        let mut lists: Vec<Vec<usize>> = Vec::new();
+        for (index, receipt) in self.all.iter().enumerate() {
+            let place = *places.entry(receipt.caller).or_insert(lists.len());
+            if place == lists.len() {
+                lists.push(Vec::new());
+            }
+            lists[place].push(index);
+        }
+        lists
+    }
 }
 
 fn text(text: &str) -> String {
@@ -166,22 +190,13 @@ fn write_entries(receipts: &Receipts, out: &mut impl Write) -> io::Result<()> {
 }
 
 fn write_lists(receipts: &Receipts, next: &mut usize, out: &mut impl Write) -> io::Result<()> {
-    let mut callers: Vec<ThreadId> = Vec::new();
-    for receipt in &receipts.all {
-        if !callers.contains(&receipt.caller) {
-            callers.push(receipt.caller);
-        }
-    }
-    for caller in callers {
+    for list in receipts.by_caller() {
         writeln!(out, "{{\"list\":{next}}}")?;
         *next += 1;
-        for (index, receipt) in receipts.all.iter().enumerate() {
-            if receipt.caller != caller {
-                continue;
-            }
-            let Receipt { ask, reply, .. } = receipt;
+        for index in list {
+            let Receipt { ask, reply, .. } = &receipts.all[index];
             let place = format!("\"index\":{index},\"node\":{}", receipts.node);
-            let words = row(&receipt.words);
+            let words = row(&receipts.all[index].words);
             writeln!(
                 out,
                 "{{\"ask\":{ask},{place},\"reply\":{reply},\"words\":{words}}}"

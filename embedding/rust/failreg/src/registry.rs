@@ -1,113 +1,151 @@
 //! A node that threads share.
 
+use crate::builder::Builder;
+use crate::error::{Error, ErrorKind};
 use crate::node::Node;
-use crate::points::{Shown, Site, names_in};
+use crate::points::{Shown, names_in};
 use crate::receipts::{self, Receipt, Receipts, ask, reply};
-use crate::told::{Passed, Refused, Stamp, Task};
-use std::collections::HashSet;
-use std::hash::{BuildHasher, Hasher, RandomState};
+use crate::told::{Passed, Stamp};
+use std::collections::{HashMap, HashSet};
+use std::fmt;
 use std::io::{self, Write};
-use std::sync::atomic::{AtomicBool, AtomicU64, Ordering};
-use std::sync::{Condvar, Mutex, MutexGuard, TryLockError};
-use std::time::Instant;
+use std::panic::{RefUnwindSafe, UnwindSafe};
+use std::sync::atomic::{AtomicU64, Ordering};
+use std::sync::{Arc, Condvar, Mutex, MutexGuard, TryLockError};
 
 /// How often a thread pauses each time that it finds the lock taken, before it sleeps until it gets
-/// it. A call holds the lock for less time than a thread takes to fall asleep and be woken, and each
-/// look at a taken lock slows the thread that has it: so the next look is later each time.
+/// it. A call holds the lock for less time than a thread takes to fall asleep and be woken, and
+/// each look at a taken lock slows the thread that has it: so the next look is later each time.
 const PAUSES: [u32; 9] = [64, 128, 256, 512, 1024, 2048, 4096, 8192, 16384];
 
 /// One node of a cluster, for any number of threads. Its number is its own: no other node of the
 /// cluster has it, and none had it before, in an earlier run of the program either.
+///
+/// Without the feature `failpoints` no point is ever set at it: what would change it is refused.
 pub struct Registry {
-    // No other registry of the program has it.
-    id: u64,
-    shown: Shown,
+    /// Which points are set, for threads that look without the lock. Written under it.
+    pub(crate) shown: Shown,
+    /// Guards the node, and all that changes together with it.
     state: Mutex<State>,
-    // Told of each change of the settings, and of the end of all changes.
-    changed: Condvar,
-    is_over: AtomicBool,
-    number: u8,
-    nodes: u8,
-    on_refusal: fn(&Refused),
+    /// Told under the lock of each change of the settings, and of the end of all changes.
+    pub(crate) changed: Condvar,
+    pub(crate) made: Builder,
 }
 
-struct State {
-    node: Node,
-    names: HashSet<String>,
+pub(crate) type Callback = Arc<dyn Fn() + Send + Sync>;
+
+/// What the lock of a registry guards.
+pub(crate) struct State {
+    pub(crate) node: Node,
+    /// No other node of the program has it.
+    pub(crate) id: u64,
+    /// The points that are set; nothing where memory for the list was refused, and the node is
+    /// asked.
+    names: Option<HashSet<String>>,
+    /// What a pass of a point calls while it is set under the stamp.
+    callbacks: HashMap<String, (Stamp, Callback)>,
     receipts: Option<Receipts>,
+    /// Whether no setting changes any more.
+    pub(crate) is_over: bool,
 }
 
-fn tell_on_stderr(refused: &Refused) {
-    let rest = if refused.is_trace_full() {
-        ": its failpoints do nothing from now on"
-    } else {
-        ""
-    };
-    eprintln!("failreg: a pass was refused: {refused}{rest}");
+fn id_of_a_node() -> u64 {
+    /// How many nodes the program has opened. It orders nothing: each is another number.
+    static NODES: AtomicU64 = AtomicU64::new(0);
+    NODES.fetch_add(1, Ordering::Relaxed)
 }
 
-// 32 bytes that differ from run to run.
-fn seed_of_this_run() -> [u8; 32] {
-    let mut seed = [0; 32];
-    for part in seed.chunks_exact_mut(8) {
-        part.copy_from_slice(&RandomState::new().build_hasher().finish().to_le_bytes());
-    }
-    seed
-}
-
-impl Registry {
-    /// Node `number` of a cluster of `nodes` (1 to 32), which accepts `cap` calls in its life and
-    /// draws its words from a seed of this run's own.
-    pub fn open(number: u8, nodes: u8, cap: u32) -> Result<Registry, Refused> {
-        Registry::open_with_seed(number, nodes, cap, seed_of_this_run())
-    }
-
-    /// The same with a seed: the words of its passes are then the same in every run.
-    pub fn open_with_seed(
-        number: u8,
-        nodes: u8,
-        cap: u32,
-        seed: [u8; 32],
-    ) -> Result<Registry, Refused> {
-        let node = Node::open(number, nodes, cap, &seed)?;
-        let receipts = None;
-        let names = HashSet::new();
-        static REGISTRIES: AtomicU64 = AtomicU64::new(0);
-        Ok(Registry {
-            id: REGISTRIES.fetch_add(1, Ordering::Relaxed),
-            shown: Shown::new(),
-            state: Mutex::new(State {
-                node,
-                names,
-                receipts,
-            }),
-            changed: Condvar::new(),
-            is_over: AtomicBool::new(false),
-            number,
-            nodes,
-            on_refusal: tell_on_stderr,
+impl State {
+    fn of(made: &Builder) -> Result<State, Error> {
+        Ok(State {
+            node: Node::open(made.number, made.nodes, made.cap, &made.seed_of_this_run())?,
+            id: id_of_a_node(),
+            names: Some(HashSet::new()),
+            callbacks: HashMap::new(),
+            receipts: made.is_recording.then(|| Receipts::of(made.number)),
+            is_over: false,
         })
     }
 
-    /// Keeps a receipt of each call that is accepted from now on, for `write_drill`. To be called
-    /// before the first: a drill has all calls of its nodes.
-    pub fn recording(self) -> Registry {
-        self.lock().receipts = Some(Receipts {
-            node: self.number,
-            all: Vec::new(),
-        });
-        self
+    pub(crate) fn is_set(&mut self, name: &str) -> bool {
+        match &self.names {
+            Some(names) => names.contains(name),
+            None => self.node.is_set(name).unwrap_or(false),
+        }
     }
 
-    /// What is told of a pass that `eval` or `fail_point!` made and that was refused: each time,
-    /// but of a full trace once. Where nothing is given here a line on standard error is.
-    pub fn on_refusal(mut self, tell: fn(&Refused)) -> Registry {
-        self.on_refusal = tell;
-        self
+    /// What a pass of a point under this stamp calls, if it calls anything.
+    pub(crate) fn callback(&self, name: &str, stamp: Stamp) -> Option<Callback> {
+        let (since, run) = self.callbacks.get(name)?;
+        (*since == stamp).then(|| run.clone())
+    }
+
+    /// Takes out the callbacks of points that have another setting by now, or none.
+    fn callbacks_over(&mut self) -> Vec<Callback> {
+        let State {
+            node, callbacks, ..
+        } = self;
+        let is_over = |(name, (stamp, _)): &(&String, &(Stamp, Callback))| {
+            matches!(node.is_pause_over(name, *stamp), Ok(true))
+        };
+        let over: Vec<String> = callbacks
+            .iter()
+            .filter(is_over)
+            .map(|(name, _)| name.clone())
+            .collect();
+        let taken = over.iter().filter_map(|name| callbacks.remove(name));
+        taken.map(|(_, run)| run).collect()
+    }
+
+    fn all_callbacks(&mut self) -> Vec<Callback> {
+        self.callbacks.drain().map(|(_, (_, run))| run).collect()
+    }
+}
+
+impl Registry {
+    /// Begins a registry of which more than the number, the nodes and the cap is said:
+    ///
+    /// ```
+    /// use failreg::{OnRefusal, Registry};
+    ///
+    /// let node = Registry::builder()
+    ///     .node(1)
+    ///     .nodes(3)
+    ///     .cap(1_000_000)
+    ///     .seed([7; 32])
+    ///     .on_refusal(OnRefusal::Panic)
+    ///     .build()?;
+    /// assert_eq!(node.calls()?, 0);
+    /// # Ok::<(), failreg::Error>(())
+    /// ```
+    pub fn builder() -> Builder {
+        Builder::default()
+    }
+
+    /// Node `number` of a cluster of `nodes` (1 to 32), which accepts `cap` calls in its life.
+    pub fn open(number: u8, nodes: u8, cap: u32) -> Result<Registry, Error> {
+        Registry::builder()
+            .node(number)
+            .nodes(nodes)
+            .cap(cap)
+            .build()
+    }
+
+    pub(crate) fn built(made: Builder) -> Result<Registry, Error> {
+        Ok(Registry {
+            shown: Shown::new(),
+            state: Mutex::new(State::of(&made)?),
+            changed: Condvar::new(),
+            made,
+        })
+    }
+
+    pub(crate) fn is_node(&self, number: u8, nodes: u8) -> bool {
+        (self.made.number, self.made.nodes) == (number, nodes)
     }
 
     // A lock that a panic poisoned is as good as another: no call is left half done by one.
-    fn lock(&self) -> MutexGuard<'_, State> {
+    pub(crate) fn lock(&self) -> MutexGuard<'_, State> {
         for pauses in PAUSES {
             match self.state.try_lock() {
                 Ok(state) => return state,
@@ -126,9 +164,9 @@ impl Registry {
         &self,
         state: &mut State,
         asked: impl FnOnce() -> String,
-        make: impl FnOnce(&mut Node) -> Result<T, Refused>,
+        make: impl FnOnce(&mut Node) -> Result<T, Error>,
         replied: impl FnOnce(&T) -> String,
-    ) -> Result<T, Refused> {
+    ) -> Result<T, Error> {
         let answer = make(&mut state.node);
         match &answer {
             Ok(value) => {
@@ -143,85 +181,167 @@ impl Registry {
                     });
                 }
             }
-            Err(refused) if refused.is_trace_full() => self.end(state),
+            Err(error) if error.kind() == ErrorKind::CapReached => self.end(state),
             Err(_) => {}
         }
         answer
     }
 
+    // Makes a call that changes which points are set, and shows that.
+    fn change<T>(
+        &self,
+        asked: impl FnOnce() -> String,
+        make: impl FnOnce(&mut Node) -> Result<T, Error>,
+        replied: impl FnOnce(&T) -> String,
+    ) -> Result<T, Error> {
+        let mut state = self.lock();
+        let answer = self.call(&mut state, asked, make, replied)?;
+        let over = self.settings_changed(&mut state);
+        drop(state);
+        // Without the lock: what a closure holds may call the registry when it is dropped.
+        drop(over);
+        Ok(answer)
+    }
+
     // No setting changes any more: the points do nothing, and no thread is kept waiting.
     fn end(&self, state: &mut State) {
-        self.is_over.store(true, Ordering::Release);
-        state.names.clear();
-        self.shown.show(&state.names);
+        state.is_over = true;
+        self.show(state, Some(HashSet::new()));
         self.changed.notify_all();
     }
 
-    // Shows which points are set after a change.
-    fn settings_changed(&self, state: &mut State) {
-        if let Ok(list) = state.node.list() {
-            let names = names_in(&list);
-            if names != state.names {
-                state.names = names;
-                self.shown.show(&state.names);
-            }
+    fn show(&self, state: &mut State, names: Option<HashSet<String>>) {
+        if names.is_none() || names != state.names {
+            state.names = names;
+            self.shown.show(state.names.as_ref());
         }
+    }
+
+    // Shows which points are set after a change; answers the callbacks that are over by it.
+    fn settings_changed(&self, state: &mut State) -> Vec<Callback> {
+        let list = state.node.list();
+        self.show(state, list.ok().map(|list| names_in(&list)));
         self.changed.notify_all();
+        state.callbacks_over()
     }
 
-    /// Sets a point to an action text, as `20%3*print(hi)->off`.
-    pub fn set(&self, name: &str, actions: &str) -> Result<Stamp, Refused> {
-        let state = &mut *self.lock();
+    /// Sets a point to an action text, as `20%3*print(hi)->off`: terms with `->` between, of which
+    /// a pass takes the first whose turn it is. A term is `[p%][n*]task[(argument)]`: a chance, how
+    /// often it may run on all nodes together, and one of the tasks `off`, `return`, `sleep`,
+    /// `panic`, `print`, `pause`, `yield` and `delay`.
+    pub fn set(&self, name: &str, actions: &str) -> Result<Stamp, Error> {
         let asked = || ask::set(name, actions);
-        let stamp = self.call(state, asked, |n| n.set(name, actions), |s| reply::set(*s))?;
-        self.settings_changed(state);
+        let set = self.change(asked, |n| n.set(name, actions), |s| reply::set(*s));
+        set.map_err(|error| error.at_point(name))
+    }
+
+    /// Sets a point to a call of this closure, in place of a task: a thread that passes the point
+    /// by `fail_point!` or [`eval`](Registry::eval) calls it, without a lock. It is a closure of
+    /// this process: to other nodes, and to [`pass`](Registry::pass), the point is set to `off`.
+    /// Another setting of the point ends it.
+    pub fn set_callback(
+        &self,
+        name: &str,
+        run: impl Fn() + Send + Sync + 'static,
+    ) -> Result<Stamp, Error> {
+        let run: Callback = Arc::new(run);
+        let mut state = self.lock();
+        let asked = || ask::set(name, "off");
+        let set = self.call(
+            &mut state,
+            asked,
+            |n| n.set(name, "off"),
+            |s| reply::set(*s),
+        );
+        let stamp = match set {
+            Ok(stamp) => stamp,
+            Err(error) => return Err(error.at_point(name)),
+        };
+        let over = self.settings_changed(&mut state);
+        state.callbacks.insert(name.to_string(), (stamp, run));
+        drop(state);
+        drop(over);
         Ok(stamp)
     }
 
-    pub fn remove(&self, name: &str) -> Result<Stamp, Refused> {
-        let state = &mut *self.lock();
+    /// Removes a point.
+    pub fn remove(&self, name: &str) -> Result<Stamp, Error> {
         let asked = || ask::remove(name);
-        let stamp = self.call(state, asked, |n| n.remove(name), |s| reply::removed(*s))?;
-        self.settings_changed(state);
-        Ok(stamp)
+        let removed = self.change(asked, |n| n.remove(name), |s| reply::removed(*s));
+        removed.map_err(|error| error.at_point(name))
     }
 
     /// Sets the points of a text `name=actions;name=actions`, all or none; answers how many.
-    pub fn load(&self, text: &str) -> Result<u16, Refused> {
+    pub fn load(&self, text: &str) -> Result<u16, Error> {
         self.load_bytes(text.as_bytes())
     }
 
-    fn load_bytes(&self, text: &[u8]) -> Result<u16, Refused> {
-        let state = &mut *self.lock();
-        let entries = self.call(
-            state,
-            || ask::load(text),
-            |n| n.load(text),
-            |n| reply::loaded(*n),
-        )?;
-        self.settings_changed(state);
-        Ok(entries)
+    fn load_bytes(&self, text: &[u8]) -> Result<u16, Error> {
+        self.change(|| ask::load(text), |n| n.load(text), |n| reply::loaded(*n))
     }
 
     /// Loads the variable FAILPOINTS of the environment, if it is there.
-    pub fn load_env(&self) -> Result<u16, Refused> {
+    pub fn load_env(&self) -> Result<u16, Error> {
         match std::env::var_os("FAILPOINTS") {
-            Some(text) => self.load_bytes(text.as_encoded_bytes()),
+            Some(text) => self
+                .load_bytes(text.as_encoded_bytes())
+                .map_err(|error| error.at_variable("FAILPOINTS", &text)),
             None => Ok(0),
         }
     }
 
-    /// Passes a point, set or not, and leaves its task to the caller.
-    pub fn pass(&self, name: &str) -> Result<Passed, Refused> {
-        self.pass_in(&mut self.lock(), name, |node| node.pass(name))
+    /// Removes all points. A cluster of one node that keeps no receipts begins anew: with all of
+    /// its cap and its names, and without the memory that it took. A registry that is closed stays
+    /// so.
+    pub(crate) fn clear(&self) -> Result<(), Error> {
+        let mut state = self.lock();
+        if state.node.is_closed() {
+            return Ok(());
+        }
+        if self.made.nodes > 1 || self.made.is_recording {
+            let (removed, over) = self.remove_all(&mut state);
+            drop(state);
+            drop(over);
+            return removed;
+        }
+        let fresh = State::of(&self.made)?;
+        let was = std::mem::replace(&mut *state, fresh);
+        self.shown.show(state.names.as_ref());
+        self.changed.notify_all();
+        drop(state);
+        drop(was);
+        Ok(())
     }
 
-    fn pass_in(
+    fn remove_all(&self, state: &mut State) -> (Result<(), Error>, Vec<Callback>) {
+        let list = match state.node.list() {
+            Ok(list) => list,
+            Err(error) => return (Err(error), Vec::new()),
+        };
+        let removed = names_in(&list).iter().try_for_each(|name| {
+            let asked = || ask::remove(name);
+            let make = |n: &mut Node| n.remove(name);
+            self.call(state, asked, make, |s| reply::removed(*s))
+                .map(drop)
+        });
+        match state.is_over {
+            true => (removed, Vec::new()),
+            false => (removed, self.settings_changed(state)),
+        }
+    }
+
+    /// Passes a point, set or not, and leaves its task to the caller.
+    pub fn pass(&self, name: &str) -> Result<Passed, Error> {
+        let passed = self.pass_in(&mut self.lock(), name, |node| node.pass(name));
+        passed.map_err(|error| error.at_point(name))
+    }
+
+    pub(crate) fn pass_in(
         &self,
         state: &mut State,
         name: &str,
-        make: impl FnOnce(&mut Node) -> Result<Passed, Refused>,
-    ) -> Result<Passed, Refused> {
+        make: impl FnOnce(&mut Node) -> Result<Passed, Error>,
+    ) -> Result<Passed, Error> {
         let passed = self.call(state, || ask::pass(name), make, reply::pass)?;
         let State { node, receipts, .. } = state;
         if let Some(receipt) = receipts
@@ -233,130 +353,32 @@ impl Registry {
         Ok(passed)
     }
 
-    // Passes the point of a site by its number, which the site remembers.
-    fn pass_at(&self, state: &mut State, name: &str, site: &Site) -> Result<Passed, Refused> {
-        let point = match site.point_of(self.id) {
-            Some(point) => point,
-            None => {
-                let point = state.node.point(name)?;
-                site.has_point(self.id, point);
-                point
-            }
-        };
-        self.pass_in(state, name, |node| node.pass_at(point))
-    }
-
     /// Whether a point is set. That is no pass.
     pub fn is_set(&self, name: &str) -> bool {
-        self.shown.may_be_set(name) && self.lock().names.contains(name)
-    }
-
-    /// Passes a point if it is set, and carries its task out as fail-rs does. Where the task is
-    /// `return`, the answer is its argument. A point that isn't set isn't passed.
-    #[inline]
-    pub fn eval(&self, name: &str) -> Option<Option<String>> {
-        if !self.shown.may_be_set(name) {
-            return None;
-        }
-        let mut state = self.lock();
-        if !state.names.contains(name) {
-            return None;
-        }
-        let passed = self.pass_in(&mut state, name, |node| node.pass(name));
-        self.obey(state, name, passed)
-    }
-
-    /// The same at a site that always has this name, which remembers what was found of the point.
-    #[doc(hidden)]
-    #[inline]
-    pub fn eval_at(&self, site: &Site, name: &str) -> Option<Option<String>> {
-        if !self.shown.may_be_set_at(site) {
-            return None;
-        }
-        self.eval_set_at(site, name)
-    }
-
-    fn eval_set_at(&self, site: &Site, name: &str) -> Option<Option<String>> {
-        let mut state = self.lock();
-        if !self.shown.is_set_at(site, || state.names.contains(name)) {
-            return None;
-        }
-        let passed = self.pass_at(&mut state, name, site);
-        self.obey(state, name, passed)
-    }
-
-    // Carries out what a pass came to, or tells why it was refused, without the lock.
-    fn obey(
-        &self,
-        state: MutexGuard<'_, State>,
-        name: &str,
-        passed: Result<Passed, Refused>,
-    ) -> Option<Option<String>> {
-        drop(state);
-        match passed {
-            Ok(Passed::Act { stamp, task, .. }) => self.carry_out(name, stamp, task),
-            Ok(_) => None,
-            Err(refused) => {
-                // Of a full trace this is the first: no name is shown as set any more.
-                (self.on_refusal)(&refused);
-                None
-            }
-        }
-    }
-
-    fn carry_out(&self, name: &str, stamp: Stamp, task: Task) -> Option<Option<String>> {
-        match task {
-            Task::Off => {}
-            Task::Return(argument) => return Some(argument),
-            Task::Sleep(time) => std::thread::sleep(time),
-            Task::Panic(Some(text)) => panic!("{text}"),
-            Task::Panic(None) => panic!("failpoint {name} panic"),
-            Task::Print(Some(text)) => eprintln!("{text}"),
-            Task::Print(None) => eprintln!("failpoint {name} executed."),
-            Task::Pause => self.wait_out(name, stamp),
-            Task::Yield => std::thread::yield_now(),
-            Task::Delay(time) => {
-                let begun = Instant::now();
-                while begun.elapsed() < time {
-                    std::hint::spin_loop();
-                }
-            }
-        }
-        None
-    }
-
-    // Waits until the point isn't set under the stamp any more, or no setting changes any more.
-    fn wait_out(&self, name: &str, stamp: Stamp) {
-        let mut state = self.lock();
-        while !self.is_over.load(Ordering::Acquire)
-            && matches!(state.node.is_pause_over(name, stamp), Ok(false))
-        {
-            state = self
-                .changed
-                .wait(state)
-                .unwrap_or_else(|poisoned| poisoned.into_inner());
-        }
+        self.shown.may_be_set(name) && self.lock().is_set(name)
     }
 
     /// Moves rights of a counted term, by its number from 0, to another node, which can spend them
     /// once it has heard of it. Answers how many went there in all, under the setting.
-    pub fn shift(&self, name: &str, term: u8, to: u8, amount: u64) -> Result<u64, Refused> {
+    pub fn shift(&self, name: &str, term: u8, to: u8, amount: u64) -> Result<u64, Error> {
         let state = &mut *self.lock();
         let asked = || ask::shift(name, term, to, amount);
         let make = |n: &mut Node| n.shift(name, term, to, amount);
-        self.call(state, asked, make, |total| reply::shifted(*total))
+        let total = self.call(state, asked, make, |total| reply::shifted(*total));
+        total.map_err(|error| error.at_point(name))
     }
 
     /// Gives the node rights beyond the count. Answers how many in all, under the setting.
-    pub fn grant(&self, name: &str, term: u8, amount: u64) -> Result<u64, Refused> {
+    pub fn grant(&self, name: &str, term: u8, amount: u64) -> Result<u64, Error> {
         let state = &mut *self.lock();
         let asked = || ask::grant(name, term, amount);
         let make = |n: &mut Node| n.grant(name, term, amount);
-        self.call(state, asked, make, |total| reply::granted(*total))
+        let total = self.call(state, asked, make, |total| reply::granted(*total));
+        total.map_err(|error| error.at_point(name))
     }
 
     /// A message to another node, which tells what that one isn't known to have.
-    pub fn emit(&self, to: u8) -> Result<Vec<u8>, Refused> {
+    pub fn emit(&self, to: u8) -> Result<Vec<u8>, Error> {
         let state = &mut *self.lock();
         self.call(
             state,
@@ -367,63 +389,99 @@ impl Registry {
     }
 
     /// Takes in a message of another node; answers whether this one learnt anything.
-    pub fn deliver(&self, message: &[u8]) -> Result<bool, Refused> {
-        let state = &mut *self.lock();
+    pub fn deliver(&self, message: &[u8]) -> Result<bool, Error> {
+        let mut state = self.lock();
         let asked = || ask::deliver(message);
         let make = |n: &mut Node| n.deliver(message);
-        let changed = self.call(state, asked, make, |changed| reply::delivered(*changed))?;
-        if changed {
-            self.settings_changed(state);
-        }
+        let changed = self.call(&mut state, asked, make, |changed| {
+            reply::delivered(*changed)
+        })?;
+        let over = changed.then(|| self.settings_changed(&mut state));
+        drop(state);
+        drop(over);
         Ok(changed)
     }
 
     /// The points that are set, as a text for `load`.
-    pub fn list(&self) -> Result<String, Refused> {
+    pub fn list(&self) -> Result<String, Error> {
         self.lock().node.list()
     }
 
+    /// The points that are set, with their action texts, or `callback`.
+    pub(crate) fn points(&self) -> Vec<(String, String)> {
+        let state = &mut *self.lock();
+        let list = state.node.list().unwrap_or_default();
+        let points = list.split(';').filter_map(|entry| entry.split_once('='));
+        points
+            .map(|(name, actions)| match state.callbacks.contains_key(name) {
+                true => (name.to_string(), "callback".to_string()),
+                false => (name.to_string(), actions.to_string()),
+            })
+            .collect()
+    }
+
     /// How often a term ran at all nodes under the setting, as far as this node knows.
-    pub fn spent(&self, name: &str, term: u8) -> Result<u128, Refused> {
-        self.lock().node.spent(name, term)
+    pub fn spent(&self, name: &str, term: u8) -> Result<u128, Error> {
+        let spent = self.lock().node.spent(name, term);
+        spent.map_err(|error| error.at_point(name))
     }
 
     /// How often a point was passed at all nodes while it was set, as far as this node knows.
-    pub fn hits(&self, name: &str) -> Result<u128, Refused> {
-        self.lock().node.hits(name)
+    pub fn hits(&self, name: &str) -> Result<u128, Error> {
+        let hits = self.lock().node.hits(name);
+        hits.map_err(|error| error.at_point(name))
     }
 
     /// The rights that node `of` has left of a counted term, as far as this node knows.
-    pub fn rights(&self, name: &str, term: u8, of: u8) -> Result<i64, Refused> {
-        self.lock().node.rights(name, term, of)
+    pub fn rights(&self, name: &str, term: u8, of: u8) -> Result<i64, Error> {
+        let rights = self.lock().node.rights(name, term, of);
+        rights.map_err(|error| error.at_point(name))
     }
 
     /// How many accepted calls changed what the node knows.
-    pub fn version(&self) -> Result<u64, Refused> {
+    pub fn version(&self) -> Result<u64, Error> {
         self.lock().node.version()
     }
 
     /// The version of another node that this one has all of.
-    pub fn known(&self, from: u8) -> Result<u64, Refused> {
+    pub fn known(&self, from: u8) -> Result<u64, Error> {
         self.lock().node.known(from)
     }
 
     /// The version of this node that another one said it has.
-    pub fn acked(&self, to: u8) -> Result<u64, Refused> {
+    pub fn acked(&self, to: u8) -> Result<u64, Error> {
         self.lock().node.acked(to)
     }
 
     /// How many calls the node has accepted, of those that its cap allows.
-    pub fn calls(&self) -> Result<u64, Refused> {
+    pub fn calls(&self) -> Result<u64, Error> {
         self.lock().node.calls()
     }
 
     /// Ends the node and gives its memory back. The points do nothing from then on, threads that
-    /// pause go on, and calls are refused with status 31.
+    /// pause go on, and calls are refused as [`ErrorKind::Closed`].
     pub fn close(&self) {
-        let state = &mut *self.lock();
+        let mut state = self.lock();
         state.node.close();
-        self.end(state);
+        self.end(&mut state);
+        let over = state.all_callbacks();
+        drop(state);
+        drop(over);
+    }
+}
+
+// A panic of a task, or of a closure that a pass calls, comes without the lock: no call is left
+// half done by it.
+impl UnwindSafe for Registry {}
+impl RefUnwindSafe for Registry {}
+
+impl fmt::Debug for Registry {
+    fn fmt(&self, f: &mut fmt::Formatter<'_>) -> fmt::Result {
+        f.debug_struct("Registry")
+            .field("node", &self.made.number)
+            .field("nodes", &self.made.nodes)
+            .field("cap", &self.made.cap)
+            .finish_non_exhaustive()
     }
 }
 
@@ -432,7 +490,8 @@ impl Registry {
 /// trace of a node is put together from its receipts.
 pub fn write_drill(registries: &[&Registry], out: &mut impl Write) -> io::Result<()> {
     let nodes = registries.len();
-    let in_order = |(n, it): (usize, &&Registry)| (n, nodes) == (it.number.into(), it.nodes.into());
+    let in_order =
+        |(n, it): (usize, &&Registry)| (n, nodes) == (it.made.number.into(), it.made.nodes.into());
     if !registries.iter().enumerate().all(in_order) {
         return Err(not_a_cluster(
             "a drill takes all nodes of a cluster, in their order",

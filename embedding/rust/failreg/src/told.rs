@@ -1,26 +1,33 @@
-//! What a node tells: stamps, tasks, what a pass came to, and refusals.
+//! What a node tells: stamps, tasks, and what a pass came to.
 
-use std::fmt;
 use std::time::Duration;
 
 /// The clock of a setting and the node that made it: no two settings of a cluster have one stamp.
 #[derive(Clone, Copy, Debug, PartialEq, Eq, Hash)]
 pub struct Stamp {
+    /// The clock of the setting.
     pub clock: u64,
+    /// The node that made it.
     pub node: u8,
 }
 
 /// What a term that was triggered asks for.
 #[derive(Clone, Debug, PartialEq, Eq)]
+#[non_exhaustive]
 pub enum Task {
+    /// Do nothing.
     Off,
-    /// With the argument, if one is given.
+    /// Leave the function, with the argument, if one is given.
     Return(Option<String>),
+    /// Sleep for so long.
     Sleep(Duration),
+    /// Panic, with the text, if one is given.
     Panic(Option<String>),
+    /// Print the text, if one is given, to standard error.
     Print(Option<String>),
-    /// Until the point isn't set under the stamp of the pass any more.
+    /// Wait until the point isn't set under the stamp of the pass any more.
     Pause,
+    /// Let other threads run.
     Yield,
     /// Keep busy for so long.
     Delay(Duration),
@@ -32,33 +39,17 @@ pub enum Passed {
     /// The point isn't set here.
     Unset,
     /// It is set, and no term's turn came.
-    NoTerm { stamp: Stamp },
-    /// This term was triggered, numbered from 0.
-    Act { stamp: Stamp, term: u8, task: Task },
+    NoTerm {
+        /// That of the setting.
+        stamp: Stamp,
+    },
+    /// A term was triggered.
+    Act {
+        /// That of the setting.
+        stamp: Stamp,
+        /// Which term, numbered from 0.
+        term: u8,
+        /// What it asks for.
+        task: Task,
+    },
 }
-
-/// Why a call is refused. Nothing has changed then.
-#[derive(Clone, Debug, PartialEq, Eq)]
-pub struct Refused {
-    /// 1 to 22: the number of the fault. 30: a text isn't UTF-8. 31: the registry is closed.
-    pub status: u32,
-    /// The text of the fault, as `N11 TooFewRights have=2`.
-    pub text: String,
-}
-
-impl Refused {
-    pub(crate) const TRACE_FULL: u32 = 1;
-
-    /// Whether the node has accepted as many calls as it may.
-    pub fn is_trace_full(&self) -> bool {
-        self.status == Refused::TRACE_FULL
-    }
-}
-
-impl fmt::Display for Refused {
-    fn fmt(&self, f: &mut fmt::Formatter<'_>) -> fmt::Result {
-        f.write_str(&self.text)
-    }
-}
-
-impl std::error::Error for Refused {}

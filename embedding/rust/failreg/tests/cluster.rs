@@ -1,6 +1,7 @@
 //! Nodes of one program: counts over threads, tasks, refusals.
 
-use failreg::{Passed, Refused, Registry, Stamp, Task, fail_point};
+use failreg::{Error, ErrorKind, OnRefusal, Passed, Registry, Stamp, Task, fail_point};
+use std::sync::Arc;
 use std::sync::atomic::{AtomicUsize, Ordering};
 use std::time::{Duration, Instant};
 
@@ -193,7 +194,8 @@ fn before_it(node: &Registry) -> Option<String> {
     None
 }
 
-// The point has another number in each registry, and the site is passed for both in turn, by threads.
+// The point has another number in each registry, and the site is passed for both in turn, by
+// threads.
 #[test]
 fn a_site_takes_no_number_of_another_registry() {
     let (a, b) = (
@@ -238,64 +240,200 @@ fn a_site_sees_each_change_that_came_before() {
     });
 }
 
-static TOLD: AtomicUsize = AtomicUsize::new(0);
-
 #[test]
 fn a_full_trace_is_told_once() {
-    let a = Registry::open(0, 1, 5).unwrap().on_refusal(|refused| {
-        assert_eq!(
-            (refused.is_trace_full(), &*refused.text),
-            (true, "N1 TraceFull")
-        );
-        TOLD.fetch_add(1, Ordering::SeqCst);
-    });
+    // Counts what was told.
+    let times = Arc::new(AtomicUsize::new(0));
+    let counted = times.clone();
+    let builder = Registry::builder().cap(5);
+    let a = builder
+        .on_refusal(OnRefusal::call(move |error| {
+            assert_eq!(error.kind(), ErrorKind::CapReached);
+            assert_eq!((error.code(), error.fault()), (Some(1), "N1 TraceFull"));
+            assert!(error.to_string().starts_with("point \"p\": N1 TraceFull: "));
+            counted.fetch_add(1, Ordering::SeqCst);
+        }))
+        .build()
+        .unwrap();
     a.set("p", "return").unwrap();
-    assert_eq!((runs_in_threads(&a), TOLD.load(Ordering::SeqCst)), (4, 1));
-    assert_eq!((a.set("p", "off").unwrap_err().status, runs(&a, 9)), (1, 0));
-    assert_eq!((TOLD.load(Ordering::SeqCst), a.calls()), (1, Ok(5)));
+    assert_eq!((runs_in_threads(&a), times.load(Ordering::SeqCst)), (4, 1));
+    let kind = a.set("p", "off").unwrap_err().kind();
+    assert_eq!((kind, runs(&a, 9)), (ErrorKind::CapReached, 0));
+    assert_eq!((times.load(Ordering::SeqCst), a.calls()), (1, Ok(5)));
 }
 
-fn refused<T: std::fmt::Debug>(answer: Result<T, Refused>) -> (u32, String) {
-    let Refused { status, text } = answer.unwrap_err();
-    (status, text)
+#[test]
+fn a_refused_pass_may_panic_or_say_nothing() {
+    let open = |policy| {
+        let builder = Registry::builder().cap(1).on_refusal(policy);
+        let node = builder.build().unwrap();
+        node.set("p", "return").unwrap();
+        node
+    };
+    let told = panics_with(|| runs(&open(OnRefusal::Panic), 1) as u32);
+    let begin = "failreg: a pass was refused: point \"p\": N1 TraceFull: ";
+    let end = "; its failpoints do nothing from now on";
+    assert!(told.starts_with(begin) && told.ends_with(end), "{told}");
+    assert_eq!(runs(&open(OnRefusal::Ignore), 9), 0);
+}
+
+fn refused<T: std::fmt::Debug>(answer: Result<T, Error>) -> (ErrorKind, u32, String) {
+    let error = answer.unwrap_err();
+    let code = error.code().expect("the library refused it");
+    (error.kind(), code, error.fault().to_string())
+}
+
+fn because(kind: ErrorKind, code: u32, fault: &str) -> (ErrorKind, u32, String) {
+    (kind, code, fault.to_string())
 }
 
 #[test]
 fn refusals_say_why() {
     let (a, b) = pair();
-    assert_eq!(refused(a.set("a b", "off")), (2, "N2 BadName".into()));
-    assert_eq!(refused(a.hits("a b")), (2, "N2 BadName".into()));
-    assert_eq!(refused(a.set("p", "offf")).0, 3);
-    assert_eq!(refused(a.shift("p", 0, 1, 1)), (6, "N6 NotSet".into()));
-    assert_eq!(refused(b.deliver(b"noise")).0, 16);
+    let bad_name = because(ErrorKind::BadName, 2, "N2 BadName");
+    assert_eq!(refused(a.set("a b", "off")), bad_name);
+    assert_eq!(refused(a.hits("a b")), bad_name);
+    let unknown = "N3 BadActions A7 UnknownTask term=0";
+    let bad_text = because(ErrorKind::BadText, 3, unknown);
+    assert_eq!(refused(a.set("p", "offf")), bad_text);
+    let not_set = because(ErrorKind::NotSet, 6, "N6 NotSet");
+    assert_eq!(refused(a.shift("p", 0, 1, 1)), not_set);
+    let (kind, code, _) = refused(b.deliver(b"noise"));
+    assert_eq!((kind, code), (ErrorKind::BadMessage, 16));
+    let misled = refused(b.deliver(&b.emit(0).unwrap()));
     assert_eq!(
-        refused(b.deliver(&b.emit(0).unwrap())),
-        (17, "N17 NotForMe".into())
+        misled,
+        because(ErrorKind::WrongReceiver, 17, "N17 NotForMe")
     );
-    assert_eq!(
-        refused(Registry::open(2, 2, 1).map(|_| ())),
-        (21, "N21 BadConfig".into())
-    );
-    assert_eq!(refused(a.load("x=off;x=")).0, 3);
+    let config = refused(Registry::open(2, 2, 1));
+    assert_eq!(config, because(ErrorKind::BadConfig, 21, "N21 BadConfig"));
+    assert_eq!(refused(a.load("x=off;x=")).0, ErrorKind::BadText);
     assert_eq!(
         (a.load("x=off;y=2*panic"), a.list()),
         (Ok(2), Ok("x=off;y=2*panic".into()))
     );
     a.close();
+    let closed = because(ErrorKind::Closed, 31, "the registry is closed");
+    assert_eq!(refused(a.set("p", "off")), closed);
     assert_eq!(
-        refused(a.set("p", "off")),
-        (31, "the registry is closed".into())
+        (refused(a.calls()), a.eval("y"), a.is_set("y")),
+        (closed, None, false)
     );
+}
+
+#[test]
+fn rights_and_arguments_are_refused_by_kind() {
+    let (a, _) = pair();
+    a.set("p", "3*off->panic").unwrap();
+    let too_few = refused(a.shift("p", 0, 1, 4));
+    let fault = "N11 TooFewRights have=3";
+    assert_eq!(too_few, because(ErrorKind::TooFewRights, 11, fault));
+    for (term, to, amount, code) in [(9, 1, 1, 7), (1, 1, 1, 8), (0, 0, 1, 9), (0, 1, 0, 10)] {
+        let (kind, found, _) = refused(a.shift("p", term, to, amount));
+        assert_eq!((kind, found), (ErrorKind::BadArgument, code));
+    }
+    let told = a.shift("p", 0, 1, 4).unwrap_err().to_string();
+    let wanted = "point \"p\": N11 TooFewRights have=3: shift at most that, or grant some first";
+    assert_eq!(told, wanted);
+    let small = Registry::open(0, 1, 1000).unwrap();
+    (0..256).for_each(|n| assert!(small.set(&format!("p{n}"), "off").is_ok()));
+    assert_eq!(refused(small.set("p", "off")).0, ErrorKind::TooManyPoints);
+}
+
+// Counts its own drop, and calls the registry in it.
+struct Dropped(Arc<Registry>, Arc<AtomicUsize>);
+
+impl Drop for Dropped {
+    fn drop(&mut self) {
+        assert!(self.0.list().is_ok() || self.0.calls().is_err());
+        self.1.fetch_add(1, Ordering::SeqCst);
+    }
+}
+
+#[test]
+fn a_callback_ends_with_its_setting() {
+    type Ends = fn(&Registry);
+    let ends: [Ends; 5] = [
+        |a| assert!(a.remove("p").is_ok()),
+        |a| assert!(a.set("p", "off").is_ok()),
+        |a| assert_eq!(a.load("p=off;q=off"), Ok(2)),
+        |a| assert!(a.set_callback("p", || ()).is_ok()),
+        |a| a.close(),
+    ];
+    for end in ends {
+        let a = Arc::new(Registry::open(0, 2, 1000).unwrap());
+        // Count calls of the closure, and drops of it.
+        let (ran, dropped) = (Arc::new(AtomicUsize::new(0)), Arc::new(AtomicUsize::new(0)));
+        let held = Dropped(a.clone(), dropped.clone());
+        let counted = ran.clone();
+        let run = move || {
+            assert!(held.0.is_set("p"));
+            counted.fetch_add(1, Ordering::SeqCst);
+        };
+        a.set_callback("p", run).unwrap();
+        a.set("other", "off").unwrap();
+        assert_eq!((a.eval("p"), a.eval("p"), runs(&a, 3)), (None, None, 0));
+        assert_eq!(
+            (ran.load(Ordering::SeqCst), dropped.load(Ordering::SeqCst)),
+            (5, 0)
+        );
+        assert_eq!(a.list().unwrap(), "other=off;p=off");
+        end(&a);
+        assert_eq!(a.eval("p"), None);
+        assert_eq!(
+            (ran.load(Ordering::SeqCst), dropped.load(Ordering::SeqCst)),
+            (5, 1)
+        );
+    }
+}
+
+#[test]
+fn a_message_ends_a_callback() {
+    let (a, b) = pair();
+    // Counts calls of the closure.
+    let ran = Arc::new(AtomicUsize::new(0));
+    let counted = ran.clone();
+    let run = move || _ = counted.fetch_add(1, Ordering::SeqCst);
+    a.set_callback("p", run).unwrap();
+    b.deliver(&a.emit(1).unwrap()).unwrap();
+    // To another node the point does nothing.
+    assert_eq!((b.list().unwrap(), b.eval("p")), ("p=off".into(), None));
+    assert_eq!((a.eval("p"), ran.load(Ordering::SeqCst)), (None, 1));
+    b.set("p", "return").unwrap();
+    a.deliver(&b.emit(0).unwrap()).unwrap();
+    assert_eq!((a.eval("p"), ran.load(Ordering::SeqCst)), (Some(None), 1));
+}
+
+#[test]
+fn a_registry_goes_to_threads_and_through_panics() {
+    fn is_shared<T: Send + Sync + std::panic::UnwindSafe + std::panic::RefUnwindSafe>() {}
+    is_shared::<Registry>();
+    is_shared::<Error>();
+    is_shared::<failreg::FailGuard>();
+    let (a, _) = pair();
+    a.set("value", "panic").unwrap();
+    assert!(std::panic::catch_unwind(|| value(&a)).is_err());
+    a.remove("value").unwrap();
+    assert_eq!(value(&a), 1);
+}
+
+#[test]
+fn what_is_public_can_be_shown() {
+    let (a, _) = pair();
     assert_eq!(
-        (refused(a.calls()).0, a.eval("y"), a.is_set("y")),
-        (31, None, false)
+        format!("{a:?}"),
+        "Registry { node: 0, nodes: 2, cap: 100000, .. }"
     );
+    let policy = OnRefusal::call(|_| ());
+    let builder = Registry::builder().on_refusal(policy).recording(true);
+    assert!(format!("{builder:?}").contains("is_recording: true, on_refusal: Call"));
 }
 
 #[test]
 fn a_seed_gives_the_same_run() {
     let run = |seed| {
-        let a = Registry::open_with_seed(0, 2, 1000, seed).unwrap();
+        let builder = Registry::builder().nodes(2).cap(1000).seed(seed);
+        let a = builder.build().unwrap();
         a.set("p", "50%return->off").unwrap();
         (0..200).map(|_| a.eval("p").is_some()).collect::<Vec<_>>()
     };

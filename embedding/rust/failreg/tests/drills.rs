@@ -54,7 +54,10 @@ fn pass_in_threads(nodes: [&Registry; 2]) {
 
 // A drill of two nodes with threads, and every kind of call.
 fn recorded() -> String {
-    let open = |number| Registry::open(number, 2, 10_000).unwrap().recording();
+    let open = |number| {
+        let builder = Registry::builder().node(number).nodes(2).cap(10_000);
+        builder.recording(true).build().unwrap()
+    };
     let (a, b) = (open(0), open(1));
     a.load("p=30%20*return(\"x\\\u{e9}\")->off;q=pause")
         .unwrap();
@@ -122,9 +125,8 @@ fn traces(drill: &str) -> &str {
 #[test]
 #[ignore = "needs FAILREG_PROGRAM"]
 fn a_seed_gives_the_drill_of_a_script_of_threads() {
-    let a = Registry::open_with_seed(0, 1, 100, SEED)
-        .unwrap()
-        .recording();
+    let builder = Registry::builder().cap(100).seed(SEED);
+    let a = builder.recording(true).build().unwrap();
     a.set("p", "50%3*return->30%sleep(1)->off").unwrap();
     (0..40).for_each(|_| assert!(a.pass("p").is_ok()));
     let seed = "5e".repeat(32);
@@ -145,8 +147,11 @@ fn a_seed_gives_the_drill_of_a_script_of_threads() {
 
 #[test]
 fn a_drill_takes_a_whole_cluster_that_records() {
-    let open = |number| Registry::open(number, 2, 10).unwrap();
-    let (a, b, silent) = (open(0).recording(), open(1).recording(), open(1));
+    let open = |number, is_recording| {
+        let builder = Registry::builder().node(number).nodes(2).cap(10);
+        builder.recording(is_recording).build().unwrap()
+    };
+    let (a, b, silent) = (open(0, true), open(1, true), open(1, false));
     let is_written = |nodes: &[&Registry]| write_drill(nodes, &mut Vec::new()).is_ok();
     assert!(is_written(&[&a, &b]));
     for nodes in [

@@ -1,0 +1,49 @@
+//! The numbers here are those of `failreg.h`, and none is missing.
+
+use failreg_sys::{OUTCOMES, STATUSES, TASKS};
+use std::collections::BTreeMap;
+
+const HEADER: &str = include_str!("../../../failreg.h");
+
+// The numbers of an enum of the header.
+fn numbers_of(name: &str) -> BTreeMap<&str, u32> {
+    let begin = format!("enum {name} {{");
+    let (_, rest) = HEADER.split_once(&begin).expect("the header has the enum");
+    let (body, _) = rest.split_once("};").expect("it has an end");
+    let lines = body.lines().filter_map(|line| line.split_once(" = "));
+    lines
+        .map(|(name, rest)| {
+            let digits = rest.split(|c: char| !c.is_ascii_digit()).next().unwrap();
+            (name.trim(), digits.parse().unwrap())
+        })
+        .collect()
+}
+
+#[test]
+fn numbers_are_those_of_the_header() {
+    let wide = |all: &'static [(&str, u8)]| all.iter().map(|&(name, n)| (name, n.into())).collect();
+    assert_eq!(
+        numbers_of("failreg_status"),
+        STATUSES.iter().copied().collect()
+    );
+    assert_eq!(numbers_of("failreg_outcome"), wide(OUTCOMES));
+    assert_eq!(numbers_of("failreg_task"), wide(TASKS));
+}
+
+#[test]
+fn each_call_of_the_header_is_declared() {
+    let declared = include_str!("../src/lib.rs");
+    let calls = HEADER.lines().filter_map(|line| {
+        let line = line
+            .strip_prefix("uint32_t ")
+            .or(line.strip_prefix("size_t "))
+            .or(line.strip_prefix("void "))?;
+        line.split_once('(').map(|(name, _)| name)
+    });
+    let missing: Vec<_> = calls
+        .clone()
+        .filter(|name| !declared.contains(&format!("fn {name}(")))
+        .collect();
+    assert_eq!(missing, [""; 0]);
+    assert!(calls.count() >= 20);
+}

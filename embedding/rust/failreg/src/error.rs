@@ -1,0 +1,222 @@
+//! Why a call is refused.
+
+use std::borrow::Cow;
+use std::fmt;
+
+/// What kind of reason a call is refused for: what a caller would tell apart.
+#[derive(Clone, Copy, Debug, PartialEq, Eq, Hash)]
+#[non_exhaustive]
+pub enum ErrorKind {
+    /// The node has accepted as many calls as its cap.
+    CapReached,
+    /// The name of a point isn't one.
+    BadName,
+    /// An action text or a setting text is refused.
+    BadText,
+    /// The node would hold more than 256 names.
+    TooManyPoints,
+    /// The point isn't set at this node.
+    NotSet,
+    /// A term, a node or an amount is none that the call takes.
+    BadArgument,
+    /// The node has fewer rights to give than were asked for.
+    TooFewRights,
+    /// A number that only grows would pass its greatest.
+    NumberFull,
+    /// The bytes are no message of this cluster.
+    BadMessage,
+    /// The message is for another node.
+    WrongReceiver,
+    /// The message knows more of this node than it knows itself.
+    Forgotten,
+    /// With the message a term would have run more often than it may.
+    Overspent,
+    /// No such node in such a cluster.
+    BadConfig,
+    /// Memory was refused.
+    OutOfMemory,
+    /// The registry is closed.
+    Closed,
+    /// The program has a registry already, which is another node.
+    AlreadyOpen,
+    /// A variable of the environment has a value that isn't one of its own.
+    BadVariable,
+    /// A variable of the environment asks for what there isn't yet.
+    Unsupported,
+    /// The program was built without the feature `failpoints`.
+    Disabled,
+    /// The library answered what this crate doesn't know.
+    Mismatch,
+}
+
+impl ErrorKind {
+    /// What to do about it.
+    fn advice(self) -> &'static str {
+        match self {
+            ErrorKind::CapReached => "open a node with a greater cap: it holds for a node's life",
+            ErrorKind::BadName => "a name is 1 to 128 ASCII letters, digits, `_`, `-`, `.` and `:`",
+            ErrorKind::BadText => {
+                "write actions as `20%3*return(text)->off`, with one of off, return, sleep, panic, \
+                 print, pause, yield and delay, and several points as `name=actions;name=actions`"
+            }
+            ErrorKind::TooManyPoints => {
+                "a node holds 256 names in its life, removed ones too: use one of them again"
+            }
+            ErrorKind::NotSet => "set it here, or deliver a message of a node that has it",
+            ErrorKind::BadArgument => {
+                "give a term that has a count (the first is 0), another node of the cluster, and \
+                 an amount above 0"
+            }
+            ErrorKind::TooFewRights => "shift at most that, or grant some first",
+            ErrorKind::NumberFull => "begin a new cluster",
+            ErrorKind::BadMessage => "deliver the whole bytes that a node of this cluster emitted",
+            ErrorKind::WrongReceiver => "deliver it to the node that it was emitted to",
+            ErrorKind::Forgotten => "don't start a node again under a number that was used",
+            ErrorKind::Overspent => "a node or a message didn't keep the rules: leave it out",
+            ErrorKind::BadConfig => {
+                "a cluster has 1 to 32 nodes, and the number of a node is below that"
+            }
+            ErrorKind::OutOfMemory => "make the call again",
+            ErrorKind::Closed => "open another",
+            ErrorKind::AlreadyOpen => "set it up before anything else uses the program's points",
+            ErrorKind::BadVariable => "give it such a value, or unset it",
+            ErrorKind::Unsupported => "unset it",
+            ErrorKind::Disabled => "build it with the feature `failpoints` of the crate failreg",
+            ErrorKind::Mismatch => "build the library and the crate from one tree",
+        }
+    }
+}
+
+/// Why a call is refused. Nothing has changed then.
+#[derive(Clone, Debug, PartialEq, Eq)]
+pub struct Error {
+    kind: ErrorKind,
+    code: Option<u32>,
+    fault: Cow<'static, str>,
+    // What it was met at: a point, or a variable.
+    at: Option<String>,
+}
+
+impl Error {
+    pub(crate) fn new(kind: ErrorKind, fault: impl Into<Cow<'static, str>>) -> Error {
+        Error {
+            kind,
+            code: None,
+            fault: fault.into(),
+            at: None,
+        }
+    }
+
+    #[cfg(feature = "failpoints")]
+    pub(crate) fn of_status(status: u32, fault: impl Into<Cow<'static, str>>) -> Error {
+        Error {
+            code: Some(status),
+            ..Error::new(kind_of(status).unwrap_or(ErrorKind::Mismatch), fault)
+        }
+    }
+
+    pub(crate) fn at_point(self, name: &str) -> Error {
+        Error {
+            at: Some(format!("point {name:?}")),
+            ..self
+        }
+    }
+
+    pub(crate) fn at_variable(self, name: &str, value: &std::ffi::OsStr) -> Error {
+        Error {
+            at: Some(format!("{name}={value:?}")),
+            ..self
+        }
+    }
+
+    /// What kind of reason it is.
+    pub fn kind(&self) -> ErrorKind {
+        self.kind
+    }
+
+    /// The number of the reason in `failreg.h`, where the library gave it: that of the fault, as 11
+    /// of `N11 TooFewRights`, or 30 and above.
+    pub fn code(&self) -> Option<u32> {
+        self.code
+    }
+
+    /// What was met, without advice: where the node refused, the text of its fault, as
+    /// `N11 TooFewRights have=2`.
+    pub fn fault(&self) -> &str {
+        &self.fault
+    }
+}
+
+/// The kind of a status of `failreg.h`.
+#[cfg(feature = "failpoints")]
+fn kind_of(status: u32) -> Option<ErrorKind> {
+    Some(match status {
+        failreg_sys::FAILREG_TRACE_FULL => ErrorKind::CapReached,
+        failreg_sys::FAILREG_BAD_NAME => ErrorKind::BadName,
+        failreg_sys::FAILREG_BAD_ACTIONS | failreg_sys::FAILREG_NOT_UTF8 => ErrorKind::BadText,
+        failreg_sys::FAILREG_TOO_MANY_POINTS => ErrorKind::TooManyPoints,
+        failreg_sys::FAILREG_NOT_SET => ErrorKind::NotSet,
+        failreg_sys::FAILREG_NO_SUCH_TERM
+        | failreg_sys::FAILREG_NOT_COUNTED
+        | failreg_sys::FAILREG_BAD_NODE
+        | failreg_sys::FAILREG_ZERO_AMOUNT
+        | failreg_sys::FAILREG_BAD_WORDS
+        | failreg_sys::FAILREG_NO_POINT => ErrorKind::BadArgument,
+        failreg_sys::FAILREG_TOO_FEW_RIGHTS => ErrorKind::TooFewRights,
+        failreg_sys::FAILREG_CLOCK_FULL | failreg_sys::FAILREG_CELL_FULL => ErrorKind::NumberFull,
+        failreg_sys::FAILREG_BAD_MESSAGE => ErrorKind::BadMessage,
+        failreg_sys::FAILREG_NOT_FOR_ME => ErrorKind::WrongReceiver,
+        failreg_sys::FAILREG_OWN_AHEAD | failreg_sys::FAILREG_ACK_AHEAD => ErrorKind::Forgotten,
+        failreg_sys::FAILREG_OVERSPENT => ErrorKind::Overspent,
+        failreg_sys::FAILREG_BAD_CONFIG => ErrorKind::BadConfig,
+        failreg_sys::FAILREG_NO_MEMORY => ErrorKind::OutOfMemory,
+        failreg_sys::FAILREG_CLOSED => ErrorKind::Closed,
+        failreg_sys::FAILREG_ALREADY_OPEN => ErrorKind::AlreadyOpen,
+        // A status that this crate doesn't know has no kind.
+        _ => return None,
+    })
+}
+
+impl fmt::Display for Error {
+    fn fmt(&self, f: &mut fmt::Formatter<'_>) -> fmt::Result {
+        if let Some(at) = &self.at {
+            write!(f, "{at}: ")?;
+        }
+        write!(f, "{}: {}", self.fault, self.kind.advice())
+    }
+}
+
+impl std::error::Error for Error {}
+
+/// The text of an error, which is what the calls of fail-rs answer.
+impl From<Error> for String {
+    fn from(error: Error) -> String {
+        error.to_string()
+    }
+}
+
+#[cfg(all(test, feature = "failpoints"))]
+mod tests {
+    use super::*;
+
+    #[test]
+    fn each_status_has_a_kind() {
+        for &(name, status) in failreg_sys::STATUSES {
+            let is_known = kind_of(status).is_some();
+            assert_eq!(is_known, status != failreg_sys::FAILREG_OK, "{name}");
+        }
+        let unknown = Error::of_status(40, "N40");
+        assert_eq!(
+            (unknown.kind(), unknown.code()),
+            (ErrorKind::Mismatch, Some(40))
+        );
+    }
+
+    #[test]
+    fn an_error_says_where_what_and_what_to_do() {
+        let error = Error::of_status(11, "N11 TooFewRights have=2").at_point("save");
+        let told =
+            "point \"save\": N11 TooFewRights have=2: shift at most that, or grant some first";
+        assert_eq!(error.to_string(), told);
+    }
+}

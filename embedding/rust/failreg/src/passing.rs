@@ -1,0 +1,127 @@
+//! Passes whose tasks are carried out, as fail-rs does.
+
+use crate::error::Error;
+use crate::points::Site;
+use crate::registry::{Registry, State};
+use crate::told::{Passed, Stamp, Task};
+use std::sync::MutexGuard;
+use std::time::{Duration, Instant};
+
+impl Registry {
+    /// Passes a point if it is set, and carries its task out as fail-rs does. Where the task is
+    /// `return`, the answer is its argument. A point that isn't set isn't passed.
+    #[inline]
+    pub fn eval(&self, name: &str) -> Option<Option<String>> {
+        if !self.shown.may_be_set(name) {
+            return None;
+        }
+        self.eval_set(name)
+    }
+
+    fn eval_set(&self, name: &str) -> Option<Option<String>> {
+        let mut state = self.lock();
+        if !state.is_set(name) {
+            return None;
+        }
+        let passed = self.pass_in(&mut state, name, |node| node.pass(name));
+        self.obey(state, name, passed)
+    }
+
+    /// The same at a site that always has this name, which remembers what was found of the point.
+    #[doc(hidden)]
+    #[inline]
+    pub fn eval_at(&self, site: &Site, name: &str) -> Option<Option<String>> {
+        if !self.shown.may_be_set_at(site) {
+            return None;
+        }
+        self.eval_set_at(site, name)
+    }
+
+    fn eval_set_at(&self, site: &Site, name: &str) -> Option<Option<String>> {
+        let mut state = self.lock();
+        if !self.shown.is_set_at(site, || state.is_set(name)) {
+            return None;
+        }
+        let passed = self.pass_at(&mut state, name, site);
+        self.obey(state, name, passed)
+    }
+
+    // Passes the point of a site by its number, which the site remembers.
+    fn pass_at(&self, state: &mut State, name: &str, site: &Site) -> Result<Passed, Error> {
+        let point = match site.point_of(state.id) {
+            Some(point) => point,
+            None => {
+                let point = state.node.point(name)?;
+                site.has_point(state.id, point);
+                point
+            }
+        };
+        self.pass_in(state, name, |node| node.pass_at(point))
+    }
+
+    // Does what a pass came to, or what is to be done where it was refused, without the lock.
+    fn obey(
+        &self,
+        state: MutexGuard<'_, State>,
+        name: &str,
+        passed: Result<Passed, Error>,
+    ) -> Option<Option<String>> {
+        let id = state.id;
+        match passed {
+            Ok(Passed::Unset | Passed::NoTerm { .. }) => None,
+            Ok(Passed::Act { stamp, task, .. }) => {
+                let callback = state.callback(name, stamp);
+                drop(state);
+                if let Some(run) = callback {
+                    run();
+                    return None;
+                }
+                self.carry_out(name, id, stamp, task)
+            }
+            Err(error) => {
+                drop(state);
+                // Of a cap that is reached this is the first: no name is shown as set any more.
+                self.made.on_refusal.meet(&error.at_point(name));
+                None
+            }
+        }
+    }
+
+    fn carry_out(&self, name: &str, id: u64, stamp: Stamp, task: Task) -> Option<Option<String>> {
+        match task {
+            Task::Off => {}
+            Task::Return(argument) => return Some(argument),
+            Task::Sleep(time) => std::thread::sleep(time),
+            Task::Panic(Some(text)) => panic!("{text}"),
+            Task::Panic(None) => panic!("failpoint {name} panic"),
+            Task::Print(Some(text)) => eprintln!("{text}"),
+            Task::Print(None) => eprintln!("failpoint {name} executed."),
+            Task::Pause => self.wait_out(name, id, stamp),
+            Task::Yield => std::thread::yield_now(),
+            Task::Delay(time) => keep_busy(time),
+        }
+        None
+    }
+
+    // Waits until the point isn't set under the stamp any more, the node is another one, or no
+    // setting changes any more.
+    fn wait_out(&self, name: &str, id: u64, stamp: Stamp) {
+        let mut state = self.lock();
+        while state.id == id
+            && !state.is_over
+            && matches!(state.node.is_pause_over(name, stamp), Ok(false))
+        {
+            state = self
+                .changed
+                .wait(state)
+                .unwrap_or_else(|poisoned| poisoned.into_inner());
+        }
+    }
+}
+
+fn keep_busy(time: Duration) {
+    let begun = Instant::now();
+    while begun.elapsed() < time {
+        std::hint::spin_loop();
+    }
+}
