@@ -1,8 +1,29 @@
 //! Failpoints whose counts hold for a cluster of nodes, with the calls of fail-rs: a wrapper of a
 //! proved registry.
 //!
-//! A [`Registry`] is one node of a cluster, which threads share. [`setup`] makes the program's own and
-//! loads FAILPOINTS into it; [`fail_point!`] passes a point of that one, or of one that is named.
+//! A program that names points, and sets them in a test:
+//!
+//! ```
+//! use failreg::{FailScenario, fail_point};
+//!
+//! fn read_block(block: u64) -> Result<u64, String> {
+//!     fail_point!("read_block", |reason| Err(reason.unwrap_or_default()));
+//!     Ok(block)
+//! }
+//!
+//! let scenario = FailScenario::setup();
+//! if failreg::has_failpoints() {
+//!     failreg::cfg("read_block", "1*return(disk full)->off").unwrap();
+//!     assert_eq!(read_block(7), Err("disk full".to_string()));
+//! }
+//! assert_eq!(read_block(7), Ok(7));
+//! scenario.teardown();
+//! ```
+//!
+//! These are points of the program's own registry, which is node 0 of 1 where nothing else is said.
+//! [`setup`] makes it one node of a cluster; then a count as of `3*panic->off` is
+//! that of all nodes together. A program may have more [`Registry`]s: `fail_point!(in node,
+//! "read_block")` passes a point of the one that is named.
 //!
 //! **Failpoints are off unless the feature `failpoints` is asked for.** Without it every
 //! [`fail_point!`] is nothing, no library is linked, and what would set a point is refused
@@ -13,6 +34,7 @@
 
 mod builder;
 mod error;
+mod fail_rs;
 #[cfg(feature = "failpoints")]
 mod node;
 #[cfg(not(feature = "failpoints"))]
@@ -27,6 +49,9 @@ mod told;
 
 pub use builder::{Builder, OnRefusal};
 pub use error::{Error, ErrorKind};
+#[doc(hidden)]
+pub use fail_rs::eval;
+pub use fail_rs::{FailGuard, FailScenario, cfg, cfg_callback, has_failpoints, list, remove};
 #[doc(hidden)]
 pub use points::Site;
 pub use program::{program, setup};

@@ -1,0 +1,53 @@
+//! FAILPOINTS, which a scenario reads: a program of its own, since there is one environment.
+
+#![cfg(feature = "failpoints")]
+
+use fail::{FailScenario, cfg, list};
+use fail_compat::number;
+
+fn set_failpoints(text: &str) {
+    // SAFETY: this program has one test, and so one thread that looks at the environment.
+    unsafe { std::env::set_var("FAILPOINTS", text) };
+}
+
+#[test]
+fn a_scenario_reads_the_environment() {
+    // It isn't read before.
+    set_failpoints("number=return(3);b.c=20%1*print(x)->off");
+    assert_eq!(number(), 0);
+    cfg("other", "off").unwrap();
+    assert_eq!((number(), list().len()), (0, 1));
+
+    let scenario = FailScenario::setup();
+    let mut listed = list();
+    listed.sort();
+    assert_eq!(
+        listed[0],
+        ("b.c".to_owned(), "20%1*print(x)->off".to_owned())
+    );
+    assert_eq!((number(), listed.len()), (3, 2));
+    cfg("number", "return(4)").unwrap();
+    assert_eq!(number(), 4);
+    scenario.teardown();
+    assert_eq!((number(), list().len()), (0, 0));
+
+    // Each scenario reads it; entries may be empty, with spaces round them.
+    set_failpoints(" ; number=return(5) ;; ");
+    let scenario = FailScenario::setup();
+    assert_eq!(number(), 5);
+    drop(scenario);
+
+    set_failpoints("");
+    FailScenario::setup().teardown();
+
+    for wrong in ["number", "number=retrun", "a=off,b=off", "a b=off"] {
+        set_failpoints(wrong);
+        let caught = std::panic::catch_unwind(|| drop(FailScenario::setup()));
+        let told = *caught.unwrap_err().downcast::<String>().unwrap();
+        let begin = format!("failpoints can't be set up: FAILPOINTS={wrong:?}: N");
+        assert!(told.starts_with(&begin), "{told}");
+    }
+    set_failpoints("number=return(6)");
+    let _scenario = FailScenario::setup();
+    assert_eq!(number(), 6);
+}
