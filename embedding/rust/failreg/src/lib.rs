@@ -21,7 +21,7 @@
 //! ```
 //!
 //! These are points of the program's own registry, which is node 0 of 1 where nothing else is said.
-//! [`setup`] makes it one node of a cluster; then a count as of `3*panic->off` is
+//! [`from_env`] and [`setup`] make it one node of a cluster; then a count as of `3*panic->off` is
 //! that of all nodes together. A program may have more [`Registry`]s: `fail_point!(in node,
 //! "read_block")` passes a point of the one that is named.
 //!
@@ -33,6 +33,7 @@
 //! calls, its locks, and how it carries tasks out.
 
 mod builder;
+mod environment;
 mod error;
 mod fail_rs;
 #[cfg(feature = "failpoints")]
@@ -48,6 +49,7 @@ mod registry;
 mod told;
 
 pub use builder::{Builder, OnRefusal};
+pub use environment::{Program, from_env};
 pub use error::{Error, ErrorKind};
 #[doc(hidden)]
 pub use fail_rs::eval;

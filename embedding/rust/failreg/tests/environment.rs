@@ -30,4 +30,6 @@ fn failpoints_are_loaded_at_the_start() {
     assert_eq!(another.kind(), ErrorKind::AlreadyOpen);
     let another = failreg::Registry::builder().install().unwrap_err();
     assert_eq!(another.kind(), ErrorKind::AlreadyOpen);
+    let another = failreg::from_env().unwrap_err();
+    assert_eq!(another.kind(), ErrorKind::AlreadyOpen);
 }

@@ -1,0 +1,138 @@
+//! `from_env`, in processes of their own: each has one environment and one registry.
+
+use failreg::fail_point;
+use std::path::{Path, PathBuf};
+use std::process::Command;
+
+fn order() -> bool {
+    fail_point!("order", |_| true);
+    false
+}
+
+const CHILD: &str = "FAILREG_TEST_CHILD";
+const VARIABLES: [&str; 6] = [
+    "FAILREG_NODE",
+    "FAILREG_CAP",
+    "FAILREG_RECORD",
+    "FAILREG_LISTEN",
+    "FAILREG_PEERS",
+    "FAILPOINTS",
+];
+
+// What the other tests run.
+#[test]
+fn child() {
+    if std::env::var_os(CHILD).is_none() {
+        return;
+    }
+    match failreg::from_env() {
+        Ok(program) => {
+            let lost = (0..4).filter(|_| order()).count();
+            println!("lost {lost}, {:?}", program.registry());
+            assert_eq!(
+                program.hits("order"),
+                failreg::program().unwrap().hits("order")
+            );
+            assert!(failreg::from_env().is_err());
+            // With a drill that is written by a drop, or else told of.
+            if std::env::var_os("FAILREG_CAP").is_none() {
+                program.finish().unwrap();
+            }
+        }
+        Err(error) => {
+            println!("{:?} {error}", error.kind());
+            assert!(failreg::program().is_none());
+        }
+    }
+}
+
+// What a process with these variables prints.
+fn told(set: &[(&str, &str)]) -> String {
+    let mut process = Command::new(std::env::current_exe().unwrap());
+    process.args(["--exact", "child", "--nocapture"]);
+    VARIABLES
+        .iter()
+        .for_each(|name| _ = process.env_remove(name));
+    let ran = process
+        .env(CHILD, "")
+        .envs(set.iter().copied())
+        .output()
+        .unwrap();
+    assert!(ran.status.success(), "{ran:?}");
+    String::from_utf8(ran.stdout).unwrap()
+}
+
+fn file(name: &str) -> PathBuf {
+    let path = Path::new(env!("CARGO_TARGET_TMPDIR")).join(name);
+    _ = std::fs::remove_file(&path);
+    path
+}
+
+#[test]
+fn variables_make_the_registry() {
+    let alone = told(&[]);
+    assert!(alone.contains("lost 0, Registry { node: 0, nodes: 1, cap: 4294967295, .. }"));
+    let second = told(&[
+        ("FAILREG_NODE", "1/3"),
+        ("FAILREG_CAP", "500"),
+        ("FAILPOINTS", "order=2*return->off"),
+    ]);
+    assert!(second.contains("lost 2, Registry { node: 1, nodes: 3, cap: 500, .. }"));
+}
+
+#[test]
+fn a_bad_value_is_told_and_makes_no_registry() {
+    for (name, value, begin) in [
+        (
+            "FAILREG_NODE",
+            "3/3",
+            "BadVariable FAILREG_NODE=\"3/3\": wanted is ",
+        ),
+        (
+            "FAILREG_CAP",
+            "1e6",
+            "BadVariable FAILREG_CAP=\"1e6\": wanted is ",
+        ),
+        ("FAILREG_LISTEN", "", "Unsupported FAILREG_LISTEN=\"\": "),
+        (
+            "FAILREG_PEERS",
+            "a:1",
+            "Unsupported FAILREG_PEERS=\"a:1\": ",
+        ),
+        (
+            "FAILPOINTS",
+            "order=retrun",
+            "BadText FAILPOINTS=\"order=retrun\": N3 ",
+        ),
+        (
+            "FAILREG_RECORD",
+            "/nowhere/at/all",
+            "BadVariable FAILREG_RECORD=",
+        ),
+    ] {
+        let told = told(&[(name, value)]);
+        assert!(told.contains(begin), "{name}: {told}");
+    }
+}
+
+#[test]
+fn a_drill_is_written_at_the_end() {
+    let path = file("of_the_environment");
+    let points = ("FAILPOINTS", "order=2*return->off");
+    let record = ("FAILREG_RECORD", path.to_str().unwrap());
+    assert!(told(&[points, record]).contains("lost 2, "));
+    let finished = std::fs::read_to_string(&path).unwrap();
+    let head = "{\"failreg\":\"drill\",\"version\":1}\n{\"trace\":0}\n";
+    assert!(finished.starts_with(head), "{finished}");
+    assert_eq!(finished.matches("\"reply\":[\"act\",").count(), 8);
+    // What is there isn't written over.
+    let again = told(&[points, record]);
+    assert!(
+        again.contains("wanted is the path of a new file: "),
+        "{again}"
+    );
+    std::fs::remove_file(&path).unwrap();
+    // A drop writes the same.
+    assert!(told(&[points, record, ("FAILREG_CAP", "500")]).contains("lost 2, "));
+    assert_eq!(std::fs::read_to_string(&path).unwrap(), finished);
+}
