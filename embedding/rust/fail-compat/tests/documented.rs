@@ -211,19 +211,24 @@ fn pause_waits_for_another_setting() {
 
 #[test]
 fn pause_ends_with_the_scenario() {
-    let scenario = FailScenario::setup();
-    cfg("number", "pause").unwrap();
-    let (tell, told) = channel();
-    let waits = thread::spawn(move || tell.send(number()).unwrap());
-    assert!(told.recv_timeout(SHORT).is_err());
-    scenario.teardown();
-    assert_eq!(told.recv_timeout(100 * SHORT), Ok(0));
-    waits.join().unwrap();
-    // The next scenario may set the same again, and its first setting is another one.
-    let _scenario = FailScenario::setup();
-    cfg("number", "pause").unwrap();
-    remove("number");
-    assert_eq!(number(), 0);
+    const THREADS: usize = 16;
+    for _ in 0..10 {
+        let scenario = FailScenario::setup();
+        cfg("number", "pause").unwrap();
+        let (tell, told) = channel();
+        for _ in 0..THREADS {
+            let tell = tell.clone();
+            thread::spawn(move || tell.send(number()).unwrap());
+        }
+        assert!(told.recv_timeout(SHORT).is_err());
+        scenario.teardown();
+        // The next scenario sets the same again: that is another setting, and none waits for it.
+        let _scenario = FailScenario::setup();
+        cfg("number", "pause").unwrap();
+        for _ in 0..THREADS {
+            assert_eq!(told.recv_timeout(100 * SHORT), Ok(0));
+        }
+    }
 }
 
 #[test]

@@ -48,6 +48,15 @@ fn a_scenario_reads_the_environment() {
         assert!(told.starts_with(&begin), "{told}");
     }
     set_failpoints("number=return(6)");
-    let _scenario = FailScenario::setup();
+    let scenario = FailScenario::setup();
     assert_eq!(number(), 6);
+    drop(scenario);
+
+    // The program's registry made itself; it may be set up once more, which reads FAILPOINTS once.
+    fail::setup(0, 1, 1000).unwrap();
+    assert_eq!(number(), 6);
+    fail::remove("number");
+    fail::setup(0, 1, 1000).unwrap();
+    assert_eq!(number(), 0);
+    assert!(fail::setup(0, 2, 1000).is_err());
 }
