@@ -96,16 +96,20 @@ stamp_in d = do
   node ← byte_at 2 d
   Some (record { clock = clock; node = node })
 
+-- a task that takes time
+abbrev pub wait_in : Data → Option TaskValue
+wait_in d =
+    if is_row d (codes "sleep") 2 then option_map sleep (number_at 1 d) else
+    (if is_row d (codes "pause") 1 then Some pause else
+    (if is_row d (codes "yield") 1 then Some yield else
+    (if is_row d (codes "delay") 2 then option_map delay (number_at 1 d) else None)))
+
 abbrev pub task_in : Data → Option TaskValue
 task_in d =
     if is_row d (codes "off") 1 then Some off else
     (if is_row d (codes "return") 2 then option_map «return» (text_or_null_at 1 d) else
-    (if is_row d (codes "sleep") 2 then option_map sleep (number_at 1 d) else
     (if is_row d (codes "panic") 2 then option_map panic (text_or_null_at 1 d) else
-    (if is_row d (codes "print") 2 then option_map print (text_or_null_at 1 d) else
-    (if is_row d (codes "pause") 1 then Some pause else
-    (if is_row d (codes "yield") 1 then Some yield else
-    (if is_row d (codes "delay") 2 then option_map delay (number_at 1 d) else None)))))))
+    (if is_row d (codes "print") 2 then option_map print (text_or_null_at 1 d) else wait_in d)))
 
 abbrev pub set_in : Data → Option AskTold
 set_in d = do
@@ -128,16 +132,20 @@ grant_in d = do
   amount ← number_at 3 d
   Some (grants name term amount)
 
+-- what was asked of rights or messages
+abbrev pub exchange_in : Data → Option AskTold
+exchange_in d =
+    if is_row d (codes "shift") 5 then shift_in d else
+    (if is_row d (codes "grant") 4 then grant_in d else
+    (if is_row d (codes "emit") 2 then option_map emits (byte_at 1 d) else
+    (if is_row d (codes "deliver") 2 then option_map delivers (bytes_at 1 d) else None)))
+
 abbrev pub ask_in : Data → Option AskTold
 ask_in d =
     if is_row d (codes "pass") 2 then option_map passes (text_at 1 d) else
     (if is_row d (codes "set") 3 then set_in d else
     (if is_row d (codes "remove") 2 then option_map removes (text_at 1 d) else
-    (if is_row d (codes "load") 2 then option_map loads (text_at 1 d) else
-    (if is_row d (codes "shift") 5 then shift_in d else
-    (if is_row d (codes "grant") 4 then grant_in d else
-    (if is_row d (codes "emit") 2 then option_map emits (byte_at 1 d) else
-    (if is_row d (codes "deliver") 2 then option_map delivers (bytes_at 1 d) else None)))))))
+    (if is_row d (codes "load") 2 then option_map loads (text_at 1 d) else exchange_in d)))
 
 abbrev pub act_in : Data → Option Passed
 act_in d = do
@@ -152,16 +160,24 @@ pass_in d =
     (if is_row d (codes "none") 3 then option_map NoTerm (stamp_in d) else
     (if is_row d (codes "unset") 1 then Some Unset else None))
 
+-- of a message that was made or taken in, and else of a pass
+abbrev pub message_in : Data → Option ReplyTold
+message_in d =
+    if is_row d (codes "message") 2 then option_map was_emitted (bytes_at 1 d) else
+    (if is_row d (codes "changed") 1 then Some (was_delivered true) else
+    (if is_row d (codes "same") 1 then Some (was_delivered false) else option_map was_passed (pass_in d)))
+
+-- of rights that were moved, and else of a message or a pass
+abbrev pub moved_in : Data → Option ReplyTold
+moved_in d =
+    if is_row d (codes "shifted") 2 then option_map was_shifted (number_at 1 d) else
+    (if is_row d (codes "granted") 2 then option_map was_granted (number_at 1 d) else message_in d)
+
 abbrev pub reply_in : Data → Option ReplyTold
 reply_in d =
     if is_row d (codes "set") 3 then option_map was_set (stamp_in d) else
     (if is_row d (codes "removed") 3 then option_map was_removed (stamp_in d) else
-    (if is_row d (codes "loaded") 2 then option_map was_loaded (short_at 1 d) else
-    (if is_row d (codes "shifted") 2 then option_map was_shifted (number_at 1 d) else
-    (if is_row d (codes "granted") 2 then option_map was_granted (number_at 1 d) else
-    (if is_row d (codes "message") 2 then option_map was_emitted (bytes_at 1 d) else
-    (if is_row d (codes "changed") 1 then Some (was_delivered true) else
-    (if is_row d (codes "same") 1 then Some (was_delivered false) else option_map was_passed (pass_in d))))))))
+    (if is_row d (codes "loaded") 2 then option_map was_loaded (short_at 1 d) else moved_in d))
 
 -- ---- lines
 

@@ -8,8 +8,9 @@ ghost use Rattle.node_calls.specs.Told.{ask_told, reply_told, passed};
 ghost use Rattle.drills.specs.Reading.{number_in, byte_in, short_in, word_in, bytes_in};
 ghost use Rattle.drills.specs.Reading.{text_or_null, words_in, fields_in, is_row, text_at};
 ghost use Rattle.drills.specs.Reading.{number_at, byte_at, short_at, bytes_at, text_or_null_at};
-ghost use Rattle.drills.specs.Reading.{stamp_in, task_in, set_in, shift_in, grant_in, ask_in};
-ghost use Rattle.drills.specs.Reading.{act_in, pass_in, reply_in};
+ghost use Rattle.drills.specs.Reading.{stamp_in, wait_in, task_in, set_in, shift_in, grant_in};
+ghost use Rattle.drills.specs.Reading.{exchange_in, ask_in};
+ghost use Rattle.drills.specs.Reading.{act_in, pass_in, message_in, moved_in, reply_in};
 
 use actions::Task;
 use node_calls::{Ask, PassReply, Reply};
@@ -179,6 +180,23 @@ fn stamp_in(row: &Value) -> Option<Stamp>
     Some(Stamp { clock, node })
 }
 
+// A task that takes time.
+fn wait_in(row: &Value) -> Option<Task>
+    ensures { option_map task_value result ≡ wait_in (view row.now) }
+{
+    if is_row(row, "sleep", 2) {
+        number_at(row, 1).map(Task::Sleep)
+    } else if is_row(row, "pause", 1) {
+        Some(Task::Pause)
+    } else if is_row(row, "yield", 1) {
+        Some(Task::Yield)
+    } else if is_row(row, "delay", 2) {
+        number_at(row, 1).map(Task::Delay)
+    } else {
+        None
+    }
+}
+
 fn task_in(alloc: Global, row: &Value) -> Result<Option<Task>, AllocError>
     ensures { IfOk result (λ task. option_map task_value task ≡ task_in (view row.now)) }
 {
@@ -186,20 +204,12 @@ fn task_in(alloc: Global, row: &Value) -> Result<Option<Task>, AllocError>
         Ok(Some(Task::Off))
     } else if is_row(row, "return", 2) {
         Ok(text_or_null_at(alloc, row, 1)?.map(Task::Return))
-    } else if is_row(row, "sleep", 2) {
-        Ok(number_at(row, 1).map(Task::Sleep))
     } else if is_row(row, "panic", 2) {
         Ok(text_or_null_at(alloc, row, 1)?.map(Task::Panic))
     } else if is_row(row, "print", 2) {
         Ok(text_or_null_at(alloc, row, 1)?.map(Task::Print))
-    } else if is_row(row, "pause", 1) {
-        Ok(Some(Task::Pause))
-    } else if is_row(row, "yield", 1) {
-        Ok(Some(Task::Yield))
-    } else if is_row(row, "delay", 2) {
-        Ok(number_at(row, 1).map(Task::Delay))
     } else {
-        Ok(None)
+        Ok(wait_in(row))
     }
 }
 
@@ -245,6 +255,23 @@ fn grant_in(alloc: Global, row: &Value) -> Result<Option<Ask>, AllocError>
     Ok(Some(Ask::Grant { name, term, amount }))
 }
 
+// What was asked of rights or messages.
+fn exchange_in(alloc: Global, row: &Value) -> Result<Option<Ask>, AllocError>
+    ensures { IfOk result (λ ask. option_map ask_told ask ≡ exchange_in (view row.now)) }
+{
+    if is_row(row, "shift", 5) {
+        shift_in(alloc, row)
+    } else if is_row(row, "grant", 4) {
+        grant_in(alloc, row)
+    } else if is_row(row, "emit", 2) {
+        Ok(byte_at(row, 1).map(|to| Ask::Emit { to }))
+    } else if is_row(row, "deliver", 2) {
+        Ok(bytes_at(alloc, row, 1)?.map(|message| Ask::Deliver { message }))
+    } else {
+        Ok(None)
+    }
+}
+
 /// What was asked.
 pub(crate) fn ask_in(alloc: Global, row: &Value) -> Result<Option<Ask>, AllocError>
     ensures { IfOk result (λ ask. option_map ask_told ask ≡ ask_in (view row.now)) }
@@ -257,16 +284,8 @@ pub(crate) fn ask_in(alloc: Global, row: &Value) -> Result<Option<Ask>, AllocErr
         Ok(string_at(alloc, row, 1)?.map(|name| Ask::Remove { name }))
     } else if is_row(row, "load", 2) {
         Ok(string_at(alloc, row, 1)?.map(|text| Ask::Load { text }))
-    } else if is_row(row, "shift", 5) {
-        shift_in(alloc, row)
-    } else if is_row(row, "grant", 4) {
-        grant_in(alloc, row)
-    } else if is_row(row, "emit", 2) {
-        Ok(byte_at(row, 1).map(|to| Ask::Emit { to }))
-    } else if is_row(row, "deliver", 2) {
-        Ok(bytes_at(alloc, row, 1)?.map(|message| Ask::Deliver { message }))
     } else {
-        Ok(None)
+        exchange_in(alloc, row)
     }
 }
 
@@ -299,6 +318,34 @@ fn pass_in(alloc: Global, row: &Value) -> Result<Option<PassReply>, AllocError>
     }
 }
 
+// What was answered of a message that was made or taken in, and else of a pass.
+fn message_in(alloc: Global, row: &Value) -> Result<Option<Reply>, AllocError>
+    ensures { IfOk result (λ reply. option_map reply_told reply ≡ message_in (view row.now)) }
+{
+    if is_row(row, "message", 2) {
+        Ok(bytes_at(alloc, row, 1)?.map(Reply::Emit))
+    } else if is_row(row, "changed", 1) {
+        Ok(Some(Reply::Deliver(true)))
+    } else if is_row(row, "same", 1) {
+        Ok(Some(Reply::Deliver(false)))
+    } else {
+        Ok(pass_in(alloc, row)?.map(Reply::Pass))
+    }
+}
+
+// What was answered of rights that were moved, and else of a message or a pass.
+fn moved_in(alloc: Global, row: &Value) -> Result<Option<Reply>, AllocError>
+    ensures { IfOk result (λ reply. option_map reply_told reply ≡ moved_in (view row.now)) }
+{
+    if is_row(row, "shifted", 2) {
+        Ok(number_at(row, 1).map(Reply::Shift))
+    } else if is_row(row, "granted", 2) {
+        Ok(number_at(row, 1).map(Reply::Grant))
+    } else {
+        message_in(alloc, row)
+    }
+}
+
 /// What was answered.
 pub(crate) fn reply_in(alloc: Global, row: &Value) -> Result<Option<Reply>, AllocError>
     ensures { IfOk result (λ reply. option_map reply_told reply ≡ reply_in (view row.now)) }
@@ -309,17 +356,7 @@ pub(crate) fn reply_in(alloc: Global, row: &Value) -> Result<Option<Reply>, Allo
         Ok(stamp_in(row).map(Reply::Remove))
     } else if is_row(row, "loaded", 2) {
         Ok(short_at(row, 1).map(Reply::Load))
-    } else if is_row(row, "shifted", 2) {
-        Ok(number_at(row, 1).map(Reply::Shift))
-    } else if is_row(row, "granted", 2) {
-        Ok(number_at(row, 1).map(Reply::Grant))
-    } else if is_row(row, "message", 2) {
-        Ok(bytes_at(alloc, row, 1)?.map(Reply::Emit))
-    } else if is_row(row, "changed", 1) {
-        Ok(Some(Reply::Deliver(true)))
-    } else if is_row(row, "same", 1) {
-        Ok(Some(Reply::Deliver(false)))
     } else {
-        Ok(pass_in(alloc, row)?.map(Reply::Pass))
+        moved_in(alloc, row)
     }
 }
