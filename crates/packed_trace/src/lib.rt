@@ -7,6 +7,7 @@
 //! ```
 #![tactic(auto)]
 
+mod guesses;
 mod heads;
 mod pass;
 mod row;

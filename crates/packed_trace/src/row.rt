@@ -95,6 +95,7 @@ impl Row {
     }
 
     /// Whether the row is that of the passes of a point under a setting.
+    #[inline(always)]
     pub(crate) fn is_of(&self, name: &Name, setting: Option<SettingRef<'_>>) -> bool
         ensures { IsTrue result ↔ (row_told self.now
             ≡ record { name = name.now; setting = setting_ref_told setting.entry }) }
@@ -113,6 +114,7 @@ impl Row {
 }
 
 impl Setting {
+    #[inline(always)]
     fn is_same(&self, other: SettingRef<'_>) -> bool
         ensures { IsTrue result ↔ ((self.now.stamp ≡ other.entry.stamp)
             × (self.now.actions ≡ other.entry.actions.now)) }

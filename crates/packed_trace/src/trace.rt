@@ -9,6 +9,7 @@ ghost use Rattle.node_calls.specs.Told.{told};
 ghost use Rattle.packed_trace.specs.Packed.{IsByRow, IsPrepared, pass_by, pass_value, prepared_told, row_of, row_told};
 ghost use Rattle.packed_trace.specs.Packed.{seen_told, setting_ref_told, max_rows};
 
+use crate::guesses::Guesses;
 use crate::heads::Heads;
 use crate::pass::{Pass, Prepared};
 use crate::row::{Row, SettingRef};
@@ -38,9 +39,9 @@ pub struct Trace {
     slots: Vec<Slot>,
     rows: Vec<Row>,
     entries: Vec<Entry>,
-    // The last row of each point, and the row of the last pass.
+    // The last row of each point, and a guess at the row of its passes.
     heads: Heads,
-    recent: u16,
+    guesses: Guesses,
 }
 
 impl Model for Trace {
@@ -85,7 +86,7 @@ impl Trace {
             rows: Vec::new(alloc),
             entries: Vec::new(alloc),
             heads: Heads::new(alloc),
-            recent: 0,
+            guesses: Guesses::new(),
         }
     }
 
@@ -126,6 +127,7 @@ impl Trace {
     }
 
     // Whether a row is that of the passes of a point under a setting.
+    #[inline(always)]
     fn is_row(&self, row: u16, name: &Name, setting: Option<SettingRef<'_>>) -> bool
         ensures { IsTrue result ↔ (slice_get self.now.rows row
             ≡ Some (record { name = name.now; setting = setting_ref_told setting.entry })) }
@@ -136,16 +138,13 @@ impl Trace {
         }
     }
 
-    // The row of the passes of a point under a setting, where the last pass or the point has it.
+    // The row of the passes of a point under a setting, where it is the last one of the point.
     fn find_row(&self, name: &Name, setting: Option<SettingRef<'_>>) -> Option<u16>
         ensures found { IfSome result (λ row. slice_get self.now.rows row
             ≡ Some (record { name = name.now; setting = setting_ref_told setting.entry })) }
         ensures none { IsNone result → IsLast self.now.rows
             (record { name = name.now; setting = setting_ref_told setting.entry }) → ⊥ }
     {
-        if self.is_row(self.recent, name, setting) {
-            return Some(self.recent);
-        }
         let head = self.heads.get(name)?;
         if self.is_row(head, name, setting) {
             Some(head)
@@ -154,9 +153,9 @@ impl Trace {
         }
     }
 
-    // The row of the passes of a point under a setting, which is added where it isn't found; none where
-    // there are as many rows as there may be.
-    fn row_for(
+    // The row of the passes of a point under a setting, searched for by the name, which is added where
+    // it isn't found; none where there are as many rows as there may be.
+    fn row_by_search(
         &mut self,
         alloc: Global,
         name: &Name,
@@ -177,8 +176,36 @@ impl Trace {
         self.add_row(alloc, row)
     }
 
+    // The same, where a guess comes first, whose row is looked at whole.
+    #[inline(always)]
+    fn row_for(
+        &mut self,
+        alloc: Global,
+        name: &Name,
+        setting: Option<SettingRef<'_>>,
+    ) -> Result<Option<u16>, AllocError>
+        ensures ok { IfOk result (λ at. IfSome at (λ row. slice_get self.new.rows row
+            ≡ Some (record { name = name.now; setting = setting_ref_told setting.entry }))) }
+        ensures calls { self.new.calls ≡ self.old.calls }
+        ensures rows { IsLast self.old.rows
+            (record { name = name.now; setting = setting_ref_told setting.entry })
+            → self.new.rows ≡ self.old.rows }
+        ensures full { IfOk result (λ at. IsNone at → max_rows ≤ length self.old.rows) }
+    {
+        let guess = self.guesses.get(name);
+        if self.is_row(guess, name, setting) {
+            return Ok(Some(guess));
+        }
+        let found = self.row_by_search(alloc, name, setting)?;
+        if let Some(row) = found {
+            self.guesses.put(name, row);
+        }
+        Ok(found)
+    }
+
     /// Makes room for a pass, and a row for it where the last row of the point has another setting. No
     /// call changes.
+    #[inline(always)]
     pub fn prepare(&mut self, alloc: Global, pass: Pass<'_>) -> Result<Prepared, AllocError>
         ensures room { IfOk result (IsPrepared self.new) }
         ensures told { IfOk result (λ p. prepared_told self.new.rows p ≡ pass_value pass.entry) }
@@ -204,6 +231,7 @@ impl Trace {
     }
 
     /// A pass more, for which there is room. It takes no memory.
+    #[inline(always)]
     pub fn push(&mut self, pass: Prepared)
         requires few { length self.old.calls < 2 ^ 32 }
         requires room { IsPrepared self.old pass }
@@ -211,10 +239,7 @@ impl Trace {
         ensures rows { self.new.rows ≡ self.old.rows }
     {
         match pass {
-            Prepared::Pass { row, term, word } => {
-                self.recent = row;
-                self.push_pass(row, term, word);
-            }
+            Prepared::Pass { row, term, word } => self.push_pass(row, term, word),
             Prepared::Entry(entry) => self.push_entry(Box::into_inner(entry)),
         }
     }
