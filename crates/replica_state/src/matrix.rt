@@ -31,6 +31,7 @@ impl Matrix {
     ghost use Rattle.replica_state.specs.MatrixStates.{matrix_state};
 
     // What is stored of a name, if anything is.
+    #[inline(always)]
     fn slot_of(&self, name: &Name) -> Option<&Slot>
         ensures some { IfSome result (λ slot. IsSlotOf (matrix_state self.now) name.now slot.now) }
         ensures none { IfNone result (HasNoSlot (matrix_state self.now) name.now) }
@@ -139,6 +140,7 @@ impl Replica for Matrix {
         slot_map::set_key(&mut self.slots, alloc, name, key)
     }
 
+    #[inline(always)]
     fn count_pass(
         &mut self,
         alloc: Global,
@@ -202,6 +204,7 @@ impl Replica for Matrix {
         }
     }
 
+    #[inline(always)]
     fn key_and_rights(&self, name: &Name, node: u8) -> Option<(&Key, [bool; 16])> {
         match self.slot_of(name) {
             Some(held) => slot::key_and_rights(held, node),

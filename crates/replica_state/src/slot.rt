@@ -100,6 +100,7 @@ pub(crate) fn empty(alloc: Global) -> Slot
 }
 
 /// The key, if there is one.
+#[inline(always)]
 pub(crate) fn key(slot: &Slot) -> Option<&Key>
     ensures { given_key result ≡ slot_key slot.now }
 {
@@ -143,6 +144,7 @@ pub(crate) fn total_hits(slot: &Slot) -> u128
 }
 
 /// The rights of a node to execute a term, 0 where it isn't counted.
+#[inline(always)]
 pub(crate) fn rights(slot: &Slot, term: u8, node: u8) -> i128
     ensures { result ≡ slot_rights slot.now term node }
 {
@@ -160,6 +162,7 @@ pub(crate) fn rights(slot: &Slot, term: u8, node: u8) -> i128
 }
 
 /// The key, if there is one, and of each of its terms whether a node has a right to execute it.
+#[inline(always)]
 pub(crate) fn key_and_rights(slot: &Slot, node: u8) -> Option<(&Key, [bool; 16])>
     ensures key { option_map (λ p. key_value p.0.now) result ≡ slot_key slot.now }
     ensures rights { IfSome result (λ p. MarksRights (λ term. slot_rights slot.now term node) p.1) }
@@ -331,6 +334,7 @@ pub(crate) fn learn(
 }
 
 // Counts an execution of a budget's own term at a node.
+#[inline(always)]
 fn execute_share(budget: &mut Budget, alloc: Global, node: u8) -> Result<(), AllocError>
     ensures ok { OnOk result
         (WritesSpent budget.old budget.new node (spent_cell budget.old node + 1)) }
@@ -343,6 +347,7 @@ fn execute_share(budget: &mut Budget, alloc: Global, node: u8) -> Result<(), All
 }
 
 // Counts an execution of a term at a node.
+#[inline(always)]
 fn execute_term(budgets: &mut Budgets, alloc: Global, term: u8, node: u8) -> Result<(), AllocError>
     ensures ok { OnOk result (Raises (budgets_number budgets.old) (budgets_number budgets.new)
         (Some (record {
@@ -362,6 +367,7 @@ fn execute_term(budgets: &mut Budgets, alloc: Global, term: u8, node: u8) -> Res
 }
 
 // Counts an execution of a term of the key at a node.
+#[inline(always)]
 fn execute(slot: &mut Slot, alloc: Global, term: u8, node: u8) -> Result<(), AllocError>
     requires { IsSome (slot_key slot.old) }
     ensures key { slot_key slot.new ≡ slot_key slot.old }
@@ -383,6 +389,7 @@ fn execute(slot: &mut Slot, alloc: Global, term: u8, node: u8) -> Result<(), All
 }
 
 // Counts a hit at a node.
+#[inline(always)]
 fn hit(slot: &mut Slot, alloc: Global, node: u8) -> Result<(), AllocError>
     requires { slot_number slot.old (Hits node) + 1 < 2 ^ 64 }
     ensures key { slot_key slot.new ≡ slot_key slot.old }
@@ -398,6 +405,7 @@ fn hit(slot: &mut Slot, alloc: Global, node: u8) -> Result<(), AllocError>
 }
 
 /// Counts a hit at a node and, where a term was triggered, its execution there.
+#[inline(always)]
 pub(crate) fn pass(
     slot: &mut Slot,
     alloc: Global,

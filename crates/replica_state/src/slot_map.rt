@@ -34,6 +34,7 @@ pub(crate) fn note_is_map(slots: &Slots)
 }
 
 /// What is stored of a name, if anything is.
+#[inline(always)]
 pub(crate) fn get<'a>(slots: &'a Slots, name: &Name) -> Option<&'a Slot>
     ensures some { IfSome result (λ slot. IsSlotOf (shown_slots slots.now) name.now slot.now) }
     ensures none { IfNone result (HasNoSlot (shown_slots slots.now) name.now) }
@@ -43,6 +44,7 @@ pub(crate) fn get<'a>(slots: &'a Slots, name: &Name) -> Option<&'a Slot>
 }
 
 // Changes what is stored of a name in place. Where nothing is, nothing changes.
+#[inline(always)]
 fn change<F: FnOnce(&mut Slot) -> Result<(), AllocError>>(
     slots: &mut Slots,
     name: &Name,
@@ -130,6 +132,7 @@ pub(crate) fn set_key(
 }
 
 /// Counts a pass of a name that has a key and, where a counted term was triggered, its execution.
+#[inline(always)]
 pub(crate) fn count_pass(
     slots: &mut Slots,
     alloc: Global,
