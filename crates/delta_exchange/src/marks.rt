@@ -89,6 +89,7 @@ impl NameMarks {
     }
 
     /// Makes room for the mark of what is counted, if anything is.
+    #[inline(always)]
     pub(crate) fn make_room(&mut self, counted: Option<Counted>) -> Result<(), AllocError>
         ensures latest { self.new.latest ≡ self.old.latest }
         ensures key { self.new.key ≡ self.old.key }
@@ -106,6 +107,7 @@ impl NameMarks {
     }
 
     /// Passes at this node are marked at hand from now on, if those at no other node are.
+    #[inline(always)]
     pub(crate) fn begin_passes(&mut self, node: u8)
         ensures latest { self.new.latest ≡ self.old.latest }
         ensures key { self.new.key ≡ self.old.key }
@@ -117,6 +119,7 @@ impl NameMarks {
     }
 
     /// Marks the key, where it is new, and what is counted, which has room.
+    #[inline(always)]
     pub(crate) fn mark(&mut self, new_key: bool, counted: Option<Counted>, version: u64)
         requires room { IsTrue (has_cell self.old counted) }
         requires version { version ≢ 0 }
@@ -137,6 +140,7 @@ impl NameMarks {
     }
 
     // Marks what is counted.
+    #[inline(always)]
     fn mark_cell(&mut self, counted: Counted, version: u64)
         requires room { IsTrue (has_cell self.old (Some counted)) }
         requires version { version ≢ 0 }

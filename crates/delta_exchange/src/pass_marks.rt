@@ -30,6 +30,7 @@ impl PassMarks {
     }
 
     /// Keeps marks of this node from now on, if it keeps those of none.
+    #[inline(always)]
     pub(crate) fn begin(&mut self, node: u8)
         ensures { (c : Counted) → pass_mark self.new c ≡ pass_mark self.old c }
     {
@@ -39,6 +40,7 @@ impl PassMarks {
     }
 
     /// The mark of what is counted, 0 where it has none here.
+    #[inline(always)]
     pub(crate) fn mark_of(&self, counted: Counted) -> u64
         ensures { result ≡ pass_mark self.now counted }
     {
@@ -50,6 +52,7 @@ impl PassMarks {
     }
 
     /// Marks what is counted, where there is a place for its mark.
+    #[inline(always)]
     pub(crate) fn mark(&mut self, counted: Counted, version: u64)
         ensures { (c : Counted) → pass_mark self.new c
             ≡ (if has_place self.old counted && same_counted counted c then version
@@ -72,12 +75,14 @@ impl PassMarks {
         self.execs = [0; MAX_TERMS as usize];
     }
 
+    #[inline(always)]
     fn is_of(&self, node: u8) -> bool
         ensures { result ≡ is_node self.now.node node }
     {
         self.node == Some(node)
     }
 
+    #[inline(always)]
     fn exec(&self, term: u8) -> u64
         ensures { result ≡ unwrap_or (slice_get self.now.execs term) 0 }
     {

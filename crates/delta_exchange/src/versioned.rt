@@ -108,6 +108,7 @@ impl<R: Replica> Versioned<R> {
 
     /// Counts a pass of a point at a node and, where a counted term was triggered, its execution
     /// there. Where memory is refused, nothing has changed.
+    #[inline(always)]
     pub fn count_pass(
         &mut self,
         alloc: Global,
