@@ -207,6 +207,7 @@ fn reply_if(alloc: Global, pass: Pass<'_>, is_wanted: bool) -> Result<Option<Pas
 
 /// What a point is set to, with the term that a pass of it by node `me` triggers with the next
 /// random draws of a source, beside these; or why they are refused.
+#[inline(always)]
 fn choice_at<'a, S: WordSource>(
     alloc: Global,
     state: &'a State,
@@ -288,6 +289,7 @@ impl<'a> Outcome<'a> {
 }
 
 /// Counts a hit, and perhaps an execution.
+#[inline(always)]
 fn count(
     replica: &mut Versioned<State>,
     alloc: Global,
@@ -310,6 +312,7 @@ fn count(
 
 /// What a pass of a point by node `me` comes to with the next random draws of a source, beside
 /// these; or why they are refused.
+#[inline(always)]
 fn outcome_of<'a, S: WordSource>(
     alloc: Global,
     state: &'a State,
