@@ -1,5 +1,5 @@
-//! Nodes behind a lock. What no contract says: words from outside, that threads run beside each
-//! other, and that what callers are told is what the traces have.
+//! Nodes behind a lock. What no contract says: that threads run beside each other, and that what
+//! callers are told is what the traces have.
 
 ghost use Rattle.std.specs.Prelude.{◌≡◌, ◌<◌, replicate};
 
@@ -7,14 +7,13 @@ mod apart;
 mod asks;
 mod calls;
 mod stress;
-mod words;
 mod workers;
 
 use super::{expect, text_of};
 use actions::Name;
-use asks::{ONE_NAME, SETS_A, grant_ask, pass_ask, remove_ask, set_ask, shift_ask};
+use asks::{ONE_NAME, grant_ask, pass_ask, remove_ask, set_ask, shift_ask};
 use calls::Line;
-use node_core::{Ask, Config, Entry, NodeCore, NodeFault, PassReply, Receipt, Reply, Seen, Trace};
+use node_core::{Ask, Config, Entry, NodeCore, NodeFault, PassReply, Receipt, Reply, Trace};
 use node_registry::{Done, Gate, Job, Label, PassOutcome, Registry, Seat, run_workers};
 use std::alloc::{AllocError, Global};
 use std::marker::Brand;
@@ -122,14 +121,7 @@ fn play<L: Label + Send + Sync, R: Abort + Threads + Wait + Clock + Sync>(
     act(rt, alloc, scene, registry, seats, callers)
 }
 
-const SCENES: &[Scene] = &[
-    Scene::Story(calls::REMOVED),
-    Scene::Story(calls::LOADED),
-    Scene::Story(calls::RIGHTS),
-    Scene::Story(calls::POINTS),
-    Scene::Receipts,
-    Scene::BadName,
-];
+const SCENES: &[Scene] = &[Scene::Story(calls::POINTS), Scene::Receipts, Scene::BadName];
 
 #[test]
 fn one_caller(rt: HostRuntime) -> Result<(), Fail> {

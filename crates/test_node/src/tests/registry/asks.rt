@@ -1,4 +1,4 @@
-//! What registries are asked, and messages that two nodes would make.
+//! What registries are asked, and a message of another node.
 
 use super::*;
 
@@ -15,19 +15,6 @@ pub(super) const ONE_NAME: [u8; 75] = [
     1, 0, 0, 0, 0, 0, 0, 0, 0, 1, // one hit cell
     0, 1, 0, 0, 0, 0, 0, 0, 0, 0, 0, 1, // one execution cell
     0, 0, // no shift cell
-];
-
-/// Of node 0 to node 1, after node 0 set a to `off`.
-pub(super) const SETS_A: [u8; 54] = [
-    0x46, 0x50, 0x47, 0x31, 0, 1, // magic, from, to
-    0, 0, 0, 0, 0, 0, 0, 0, // base
-    0, 0, 0, 0, 0, 0, 0, 1, // upto
-    0, 0, 0, 0, 0, 0, 0, 0, // ack
-    0, 1, // one name
-    1, 0x61, // a
-    0, 0, 0, 0, 0, 0, 0, 1, 0, // clock and node
-    1, 0, 3, 0x6f, 0x66, 0x66, // set to three bytes
-    0, 0, 0, 0, 0, // no cells
 ];
 
 pub(super) fn set_ask(alloc: Global, name: &str, text: &str) -> Result<Ask, AllocError> {

@@ -1,58 +1,16 @@
-//! Calls of a registry, one after the other.
+//! Receipts of calls, as they are told and as they are made by the place of a pass.
 
 use super::*;
 
 /// What is asked of the second of two nodes.
 pub(super) enum Call {
     Set(&'static str, &'static str),
-    Remove(&'static str),
-    Load(&'static str),
-    Pass(&'static str),
     /// A pass by a name that is read before, whose receipt is made by its place.
     PassPoint(&'static str),
-    Shift(&'static str, u8, u8, u64),
-    Grant(&'static str, u8, u64),
-    Emit(u8),
-    /// The message in which the first node tells that it set `a` to `off`.
-    Deliver,
-    List,
 }
 
 /// A call, and what it answers.
 pub(super) type Line = (Call, &'static str);
-
-/// Of a point that is set elsewhere and removed here, the old setting comes again.
-pub(super) const REMOVED: &[Line] = &[
-    (Call::Deliver, "Deliver(true)"),
-    (
-        Call::Pass("a"),
-        "Pass(Act { term: 0, stamp: Stamp { clock: 1, node: 0 }, task: Off })",
-    ),
-    (Call::Remove("a"), "Remove(Stamp { clock: 2, node: 1 })"),
-    (Call::Deliver, "Deliver(false)"),
-    (Call::List, ""),
-    (Call::Pass("a"), "Pass(Unset)"),
-    (Call::Emit(0), "message"),
-];
-
-pub(super) const LOADED: &[Line] = &[
-    (Call::Load(";a=off; ;b=2*return()"), "Load(2)"),
-    (Call::List, "a=off;b=2*return()"),
-    (
-        Call::Load("a=off;b=bad"),
-        "N3 BadActions S4 BadActions entry=1 A7 UnknownTask term=0",
-    ),
-    (Call::List, "a=off;b=2*return()"),
-    (Call::Load(""), "Load(0)"),
-];
-
-pub(super) const RIGHTS: &[Line] = &[
-    (Call::Set("p", "2*off"), "Set(Stamp { clock: 1, node: 1 })"),
-    (Call::Grant("p", 0, 3), "Grant(3)"),
-    (Call::Shift("p", 0, 0, 4), "Shift(4)"),
-    (Call::Shift("p", 0, 0, 2), "N11 TooFewRights have=1"),
-    (Call::Shift("p", 0, 1, 1), "N9 BadNode"),
-];
 
 pub(super) const POINTS: &[Line] = &[
     (Call::PassPoint("p"), "Pass(Unset)"),
@@ -73,10 +31,10 @@ pub(super) const POINTS: &[Line] = &[
 
 fn answer_text(alloc: Global, answer: &Result<Receipt, NodeFault>) -> Result<String, AllocError> {
     match answer {
-        Ok(receipt) => match &receipt.entry.reply {
-            Reply::Emit(_) => String::from_str(alloc, "message"),
-            reply => format!(in alloc; "{reply:?}"),
-        },
+        Ok(receipt) => {
+            let reply = &receipt.entry.reply;
+            format!(in alloc; "{reply:?}")
+        }
         Err(fault) => text_of(alloc, fault),
     }
 }
@@ -131,25 +89,8 @@ fn called<L: Label, R: Wait>(
 ) -> Result<Receipt, NodeFault> {
     match call {
         Call::Set(name, text) => registry.set(rt, alloc, seat, name, text),
-        Call::Remove(name) => registry.remove(rt, alloc, seat, name),
-        Call::Load(text) => registry.load(rt, alloc, seat, text),
-        Call::Pass(name) => registry.pass(rt, alloc, seat, name),
         Call::PassPoint(name) => passed_point(rt, alloc, registry, seat, name),
-        Call::Shift(name, term, to, amount) => {
-            registry.shift(rt, alloc, seat, name, *term, *to, *amount)
-        }
-        Call::Grant(name, term, amount) => registry.grant(rt, alloc, seat, name, *term, *amount),
-        Call::Emit(to) => registry.emit(rt, alloc, seat, *to),
-        Call::Deliver | Call::List => registry.deliver(rt, alloc, seat, &SETS_A),
     }
-}
-
-fn list<L: Label, R: Wait>(
-    rt: &R,
-    alloc: Global,
-    registry: &Registry<L>,
-) -> Result<String, AllocError> {
-    registry.with(rt, |node| node.list(alloc))
 }
 
 /// What a call answers in print.
@@ -160,10 +101,7 @@ fn answer<L: Label, R: Wait>(
     seat: &mut Seat<L>,
     call: &Call,
 ) -> Result<String, AllocError> {
-    match call {
-        Call::List => list(rt, alloc, registry),
-        _ => answer_text(alloc, &called(rt, alloc, registry, seat, call)),
-    }
+    answer_text(alloc, &called(rt, alloc, registry, seat, call))
 }
 
 /// Ends the test where a call answers otherwise.
