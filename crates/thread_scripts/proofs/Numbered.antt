@@ -1,6 +1,6 @@
 -- What is so of each element of a list by its number.
 use Rattle.std.proofs.Common.{◌≡◌, ℕ, suc, ◌+◌, ◌<◌, List, [], ◌∷◌, ◌++◌, length, sym, subst, arith}
-use Rattle.std.specs.Prelude.{slice_index_or, IfOk, Result, Ok, Err}
+use Rattle.std.specs.Prelude.{slice_index_or, IfOk, OnOk, Result, Ok, Err}
 use Rattle.thread_scripts.specs.Plays.{AllFrom}
 
 -- one more at the end
@@ -32,3 +32,14 @@ pub IfOk-both : {T E : Type 0} (r : Result T E) (A B Q : T → Type 0) → ((x :
     IfOk r B → IfOk r Q
 IfOk-both (Ok x) A B Q both a b = both x a b
 IfOk-both (Err e) A B Q both a b = tt
+
+-- a fact of an answer, and one that holds where there is an answer, give a third
+pub IfOk-on : {T E : Type 0} (r : Result T E) (A Q : T → Type 0) (B : Type 0) → ((x : T) → A x → B → Q x) → IfOk r A →
+    OnOk r B → IfOk r Q
+IfOk-on (Ok x) A Q B both a b = both x a b
+IfOk-on (Err e) A Q B both a b = tt
+
+-- what follows from a fact that holds where there is an answer
+pub OnOk-map : {T E : Type 0} (r : Result T E) (A B : Type 0) → (A → B) → OnOk r A → OnOk r B
+OnOk-map (Ok x) A B then a = then a
+OnOk-map (Err e) A B then a = tt

@@ -1,5 +1,5 @@
 -- Seats, and the receipts of their calls.
-use Rattle.std.proofs.Common.{◌≡◌, ℕ, ◌+◌, ◌<◌, Bool, List, [], ◌∷◌, ◌++◌, length, arith, subst, sym, vec_len}
+use Rattle.std.proofs.Common.{◌≡◌, ℕ, ◌+◌, Bool, List, [], ◌∷◌, ◌++◌, length, arith, subst, sym, vec_len}
 use Rattle.std.specs.Prelude.{All}
 use Rattle.std.proofs.lemmas.List.Elements.{All-cons, All-head, All-nil, All-tail}
 use Rattle.node_core.specs.declared.config.Config.{Config}
@@ -9,9 +9,6 @@ use Rattle.node_registry.specs.Workers.{AllNumbered, IsDone}
 use Rattle.node_registry.specs.declared.workers.Done.{Done}
 use Rattle.node_registry.specs.declared.workers.Job.{Job}
 use Rattle.node_registry.proofs.SeatReceipts.{given_on}
-use Rattle.audit.specs.Receipts.{Lists}
-use Rattle.thread_plans.specs.Plans.{PlanValue}
-use Rattle.thread_scripts.specs.Plays.{AreListsAt, AreListsOf, config_at}
 
 -- workers from seats without a call: each seat has as many calls then as it has receipts
 pub each_counted : {L : Type 0} (config : Config) (seed : List ℕ) (says : ℕ → ℕ → Bool → Type 0)
@@ -50,7 +47,12 @@ given_after config seed seat xs ys new counted before after is =
     subst (λ l. AreGivenSince config seed 0 l) (sym is)
     (given_on config seed 0 xs ys before (subst (λ n. AreGivenSince config seed n ys) here after))
 
--- lists of a node of a plan are lists of the plan
-pub lists_of : (plan : PlanValue) (node : ℕ) → node < plan.nodes → (lists : Lists) →
-    AreListsAt (config_at plan node) plan.seed lists → AreListsOf plan lists
-lists_of plan node below lists h = λ k d there. (node, below, h k d there)
+-- all seats but the last
+pub before_last : {A : Type 0} (P : A → Type 0) (xs : List A) (x : A) → All P (xs ++ x ∷ []) → All P xs
+before_last P [] x h = All-nil P
+before_last P (y ∷ xs) x h =
+    All-cons P y xs (All-head P y (xs ++ x ∷ []) h) (before_last P xs x (All-tail P y (xs ++ x ∷ []) h))
+
+pub the_last : {A : Type 0} (P : A → Type 0) (xs : List A) (x : A) → All P (xs ++ x ∷ []) → P x
+the_last P [] x h = All-head P x [] h
+the_last P (y ∷ xs) x h = the_last P xs x (All-tail P y (xs ++ x ∷ []) h)

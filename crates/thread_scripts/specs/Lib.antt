@@ -1,4 +1,6 @@
 pub mod Asks
+pub mod Calls
+pub mod Gossips
 pub mod Plays
 pub mod Laws
 pub mod Outputs

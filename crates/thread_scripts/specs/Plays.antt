@@ -1,5 +1,6 @@
 -- What the nodes of a plan come to.
-use Rattle.std.specs.Prelude.{ℕ, ◌+◌, ◌<◌, List, [], ◌∷◌, map, All, Vec}
+use Rattle.std.specs.Prelude.{◌≡◌, ℕ, ◌+◌, ◌==◌, List, [], ◌∷◌, ◌++◌, length, map, Option, All, Vec}
+use Rattle.std.specs.List.{AllZip, filter, flat_map}
 use Rattle.std.specs.declared.alloc.Global.{Global}
 use Rattle.node_core.specs.declared.config.Config.{Config}
 use Rattle.node_calls.specs.Asks.{call_from}
@@ -10,7 +11,11 @@ use Rattle.node_registry.specs.Cells.{IsDrawnBy}
 use Rattle.node_registry.specs.Receipts.{AreGivenSince}
 use Rattle.audit.specs.Receipts.{Lists}
 use Rattle.audit.specs.Traces.{Traces}
-use Rattle.thread_plans.specs.Plans.{PlanValue}
+use Rattle.gossip.specs.Mailboxes.{Place, new_place}
+use Rattle.thread_plans.specs.Plans.{BlockValue, PlanValue}
+use Rattle.thread_scripts.specs.Asks.{asks_of_block}
+use Rattle.thread_scripts.specs.Calls.{AreOfStarts, AreOfThread}
+use Rattle.thread_scripts.specs.Gossips.{AreOfGossip, gossip_over}
 
 -- a trace is legal for a node of this configuration, and its random draws are the first ones of this seed
 pub record IsTraceOf (config : Config) (seed : List ℕ) (trace : Packed) : Type 0 where
@@ -34,10 +39,39 @@ AreTracesOf plan traces = AllFrom (λ node trace. IsTraceOf (config_at plan node
 abbrev pub AreListsAt : Config → List ℕ → Lists → Type 0
 AreListsAt config seed lists = All (λ list. AreGivenSince config seed 0 list.items) lists
 
--- receipts that some node of the plan gave one seat from its first call on
-abbrev pub IsListOf : PlanValue → Vec Receipt Global → Type 0
-IsListOf plan list =
-    (node : ℕ) × (node < plan.nodes) × AreGivenSince (config_at plan node) plan.seed 0 list.items
+-- the blocks of a node
+abbrev pub blocks_of : PlanValue → ℕ → List BlockValue
+blocks_of plan node = filter (λ b. b.node == node) plan.blocks
 
+-- a node's wire before anything was sent, and the rounds of its gossip, if there is any
+abbrev pub gossip_at : PlanValue → ℕ → Option (Place × ℕ)
+gossip_at plan node = gossip_over (new_place plan.nodes node) plan.gossip
+
+-- behind lists that were there before: a list for each of a node's blocks, in their order, and that of its gossip
+pub record AreOfWork (config : Config) (seed : List ℕ) (blocks : List BlockValue) (gossip : Option (Place × ℕ))
+    (was lists : Lists) : Type 0 where
+  pub workers : Lists
+  pub gossiped : Lists
+  pub all : lists ≡ was ++ (workers ++ gossiped)
+  pub worked : AllZip (λ block list. AreOfThread config seed (asks_of_block block) list.items) blocks workers
+  pub told : AreOfGossip config seed gossip gossiped
+
+-- The lists of a node of a plan: of what it does before its workers, of each of its blocks, and of its gossip. It gave
+-- each to one seat, from its first call on
+pub record AreOfNode (config : Config) (seed : List ℕ) (plan : PlanValue) (gossip : Option (Place × ℕ)) (lists : Lists)
+    : Type 0 where
+  pub starts : Vec Receipt Global
+  pub given : AreListsAt config seed lists
+  pub started : AreOfStarts config seed plan.starts starts.items
+  pub beside : AreOfWork config seed (blocks_of plan config.node) gossip (starts ∷ []) lists
+
+-- the lists of so many nodes of a plan, from 0 on
+pub record AreListsBelow (plan : PlanValue) (nodes : ℕ) (lists : Lists) : Type 0 where
+  pub parts : List Lists
+  pub number : length parts ≡ nodes
+  pub all : lists ≡ flat_map (λ part. part) parts
+  pub each : AllFrom (λ node part. AreOfNode (config_at plan node) plan.seed plan (gossip_at plan node) part) 0 parts
+
+-- the lists of the plan's nodes, in their order
 abbrev pub AreListsOf : PlanValue → Lists → Type 0
-AreListsOf plan lists = All (IsListOf plan) lists
+AreListsOf plan lists = AreListsBelow plan plan.nodes lists

@@ -1,12 +1,17 @@
 //! Workers of a node, and its gossip beside them.
 
-ghost use Rattle.std.specs.Prelude.{◌≡◌, ◌≤◌, ◌<◌, ◌^◌, vec_len, All, IfOk};
+ghost use Rattle.std.specs.Prelude.{◌≡◌, ◌≤◌, ◌<◌, ◌^◌, map, vec_len, All, IfOk};
+ghost use Rattle.std.specs.List.{AllZip};
+ghost use Rattle.node_calls.specs.Told.{ask_told};
 ghost use Rattle.node_registry.specs.Receipts.{AreGivenSince};
+ghost use Rattle.thread_scripts.specs.Calls.{HandsBack};
+ghost use Rattle.thread_scripts.specs.Gossips.{AreRounds, IsGossip};
 
 use gossip::{GossipReport, MailWire, gossip_rounds};
 use node_registry::{Done, Gate, Job, Label, Registry, Seat, run_workers};
 use std::alloc::{AllocError, Global};
 use std::marker::PhantomData;
+use std::snapshot::Snapshot;
 use std::sync::Wait;
 use std::sync::atomic::{AtomicBool, Ordering};
 use std::thread;
@@ -17,6 +22,10 @@ use std::thread::{Promise, Scope, Threads};
 struct Open;
 
 impl Gate for Open {
+    ghost use Rattle.std.specs.Prelude.{◌≡◌, true};
+
+    ghost says = { λ _ _ _ answer. answer ≡ true };
+
     fn turn(&self, _worker: u16, _index: u32) -> bool {
         true
     }
@@ -35,6 +44,7 @@ pub(crate) struct Gossip {
 #[derive(Drop)]
 pub(crate) struct Gossiped<L: Label> {
     pub seat: Seat<L>,
+    pub wire: MailWire,
     pub report: GossipReport,
     ghost counted: { seat ≡ vec_len report.receipts },
 }
@@ -46,26 +56,42 @@ pub(crate) struct Both<L: Label> {
     pub gossiped: Gossiped<L>,
 }
 
-// What the gossip's thread runs. Where it couldn't start, no round is done.
+// Does the gossip of a node.
 fn do_gossip<L: Label, R: Wait>(
     rt: &R,
     alloc: Global,
     registry: &Registry<L>,
-    refused: &AtomicBool,
     mut seat: Seat<L>,
     gossip: Gossip,
 ) -> Gossiped<L>
     requires { seat ≡ 0 }
-    ensures { AreGivenSince L.config L.seed 0 result.report.receipts.items }
+    ensures given { AreGivenSince L.config L.seed 0 result.report.receipts.items }
+    ensures rounds { AreRounds L.config L.seed gossip.wire result.wire gossip.rounds
+        result.report }
 {
     let Gossip { mut wire, rounds } = gossip;
-    let rounds = if refused.load(Ordering::SeqCst) {
-        0
-    } else {
-        rounds
-    };
     let report = gossip_rounds(rt, alloc, registry, &mut seat, &mut wire, rounds);
-    Gossiped { seat, report }
+    Gossiped { seat, wire, report }
+}
+
+// What the gossip's thread runs. Where it couldn't start, no round is done.
+fn run_gossip<L: Label, R: Wait>(
+    rt: &R,
+    alloc: Global,
+    registry: &Registry<L>,
+    refused: &AtomicBool,
+    seat: Seat<L>,
+    gossip: Gossip,
+) -> Gossiped<L>
+    requires { seat ≡ 0 }
+    ensures { IsGossip L.config L.seed (gossip.wire, gossip.rounds) result.wire result.report }
+{
+    if refused.load(Ordering::SeqCst) {
+        let Gossip { wire, rounds: _ } = gossip;
+        do_gossip(rt, alloc, registry, seat, Gossip { wire, rounds: 0 })
+    } else {
+        do_gossip(rt, alloc, registry, seat, gossip)
+    }
 }
 
 /// Makes the calls of workers, each in a thread of its own.
@@ -81,6 +107,9 @@ pub(crate) fn work<L: Label + Send + Sync, R: Threads + Wait + Sync>(
     ensures counted { IfOk result (λ dones. All (λ d. d.seat ≡ vec_len d.receipts) dones.items) }
     ensures given { IfOk result (λ dones.
         All (λ d. AreGivenSince L.config L.seed 0 d.receipts.items) dones.items) }
+    ensures made { IfOk result (λ dones.
+        AllZip (λ j d. HandsBack L.config L.seed (map ask_told j.asks.items) d)
+        jobs.entry.items dones.items) }
 {
     match run_workers(rt, alloc, jobs, &Open) {
         Ok(dones) => Ok(dones),
@@ -100,14 +129,16 @@ struct Crew<'a, L: Label> {
     ghost fresh: { All (λ j. j.seat ≡ 0) jobs.items },
 }
 
-// What a gossip's thread comes to: receipts that its seat was given from its first call on.
+// A gossip's thread does so many rounds over this wire.
 #[derive(Drop)]
 struct Gossips<L: Label> {
+    wire: Snapshot<MailWire>,
+    rounds: u32,
     of: PhantomData<L>,
 }
 
 impl<L: Label> Promise<Gossiped<L>> for Gossips<L> {
-    ghost kept_by = { λ _ g. AreGivenSince L.config L.seed 0 g.report.receipts.items };
+    ghost kept_by = { λ p g. IsGossip L.config L.seed (p.wire.value, p.rounds) g.wire g.report };
 }
 
 // Lets all of them call beside each other.
@@ -124,16 +155,26 @@ fn work_in<'s, E, L: Label + Send + Sync + 's, R: Threads + Wait + Sync>(
         All (λ d. d.seat ≡ vec_len d.receipts) both.dones.items) }
     ensures given { IfOk result (λ both.
         All (λ d. AreGivenSince L.config L.seed 0 d.receipts.items) both.dones.items) }
-    ensures gossiped { IfOk result (λ both.
-        AreGivenSince L.config L.seed 0 both.gossiped.report.receipts.items) }
+    ensures made { IfOk result (λ both.
+        AllZip (λ j d. HandsBack L.config L.seed (map ask_told j.asks.items) d)
+        crew.entry.jobs.items both.dones.items) }
+    ensures gossiped { IfOk result (λ both. IsGossip L.config L.seed
+        (crew.entry.gossip.wire, crew.entry.gossip.rounds) both.gossiped.wire
+        both.gossiped.report) }
 {
     let Crew { seat, gossip, jobs } = crew;
+    let promise = Gossips {
+        wire: Snapshot::of(&gossip.wire),
+        rounds: gossip.rounds,
+        of: PhantomData,
+    };
     let gossiping = scope.spawn_with(
-        Gossips { of: PhantomData },
+        promise,
         move || -> Gossiped<L>
             requires { seat ≡ 0 }
-            ensures { AreGivenSince L.config L.seed 0 result.report.receipts.items }
-        { do_gossip(rt, alloc, registry, refused, seat, gossip) },
+            ensures { IsGossip L.config L.seed (gossip.wire, gossip.rounds) result.wire
+                result.report }
+        { run_gossip(rt, alloc, registry, refused, seat, gossip) },
     );
     let dones = work(rt, alloc, jobs);
     let gossiped = match gossiping {
@@ -167,8 +208,11 @@ pub(crate) fn work_and_gossip<L: Label + Send + Sync, R: Threads + Wait + Sync>(
         All (λ d. d.seat ≡ vec_len d.receipts) both.dones.items) }
     ensures given { IfOk result (λ both.
         All (λ d. AreGivenSince L.config L.seed 0 d.receipts.items) both.dones.items) }
-    ensures gossiped { IfOk result (λ both.
-        AreGivenSince L.config L.seed 0 both.gossiped.report.receipts.items) }
+    ensures made { IfOk result (λ both.
+        AllZip (λ j d. HandsBack L.config L.seed (map ask_told j.asks.items) d)
+        jobs.entry.items both.dones.items) }
+    ensures gossiped { IfOk result (λ both. IsGossip L.config L.seed
+        (gossip.wire, gossip.rounds) both.gossiped.wire both.gossiped.report) }
 {
     let crew = Crew { seat, gossip, jobs };
     let refused = AtomicBool::new(false);
@@ -182,8 +226,12 @@ pub(crate) fn work_and_gossip<L: Label + Send + Sync, R: Threads + Wait + Sync>(
                 All (λ d. d.seat ≡ vec_len d.receipts) both.dones.items) }
             ensures given { IfOk result (λ both.
                 All (λ d. AreGivenSince L.config L.seed 0 d.receipts.items) both.dones.items) }
-            ensures gossiped { IfOk result (λ both.
-                AreGivenSince L.config L.seed 0 both.gossiped.report.receipts.items) }
+            ensures made { IfOk result (λ both.
+                AllZip (λ j d. HandsBack L.config L.seed (map ask_told j.asks.items) d)
+                crew.entry.jobs.items both.dones.items) }
+            ensures gossiped { IfOk result (λ both. IsGossip L.config L.seed
+                (crew.entry.gossip.wire, crew.entry.gossip.rounds) both.gossiped.wire
+                both.gossiped.report) }
         { work_in(scope, rt, alloc, registry, refused, crew) },
     )
 }

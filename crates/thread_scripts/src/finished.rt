@@ -1,8 +1,10 @@
 //! Seats that are done.
 
-ghost use Rattle.std.specs.Prelude.{◌≡◌, ◌+◌, [], sum, vec_len, All, IfOk};
+ghost use Rattle.std.specs.Prelude.{◌≡◌, ◌+◌, ◌++◌, ◌∷◌, [], false, map, sum, vec_len, All, IfOk};
+ghost use Rattle.std.specs.Prelude.{OnOk};
 ghost use Rattle.std.specs.List.{sum_by};
 ghost use Rattle.node_registry.specs.Receipts.{AreGivenSince};
+ghost use Rattle.thread_scripts.specs.Calls.{lack_memory};
 ghost use Rattle.thread_scripts.specs.Plays.{AreListsAt};
 
 use crate::beside::Gossiped;
@@ -20,9 +22,19 @@ pub(crate) struct Finished<L: Label> {
     ghost counted: { sum seats.items ≡ sum_by (λ list. vec_len list) lists.items },
 }
 
+// Whether one of these refusals is out of memory.
+fn lack_memory(faults: &[(u32, NodeFault)]) -> bool
+    ensures { result ≡ lack_memory faults.now }
+{
+    faults
+        .iter()
+        .any(|(_, fault)| matches!(fault, NodeFault::OutOfMemory))
+}
+
 impl<L: Label> Finished<L> {
     pub(crate) fn new(alloc: Global) -> Finished<L>
         ensures len { vec_len result.seats ≡ 0 }
+        ensures none { result.lists.items ≡ [] }
         ensures given { AreListsAt L.config L.seed result.lists.items }
     {
         Finished {
@@ -42,6 +54,8 @@ impl<L: Label> Finished<L> {
         requires more { AreGivenSince L.config L.seed 0 receipts.items }
         ensures len { IfOk result (λ all. vec_len all.seats ≡ vec_len self.seats + 1) }
         ensures given { IfOk result (λ all. AreListsAt L.config L.seed all.lists.items) }
+        ensures lists { IfOk result (λ all.
+            all.lists.items ≡ self.lists.items ++ receipts ∷ []) }
     {
         let Finished {
             mut seats,
@@ -60,6 +74,10 @@ impl<L: Label> Finished<L> {
         ensures len { IfOk result (λ all.
             vec_len all.seats ≡ vec_len self.seats + vec_len dones) }
         ensures given { IfOk result (λ all. AreListsAt L.config L.seed all.lists.items) }
+        ensures lists { IfOk result (λ all.
+            all.lists.items ≡ self.lists.items ++ map (λ d. d.receipts) dones.items) }
+        ensures memory { OnOk result
+            (All (λ d. lack_memory d.faults.items ≡ false) dones.items) }
     {
         let mut finished = self;
         for done in dones {
@@ -69,10 +87,7 @@ impl<L: Label> Finished<L> {
                 receipts,
                 faults,
             } = done;
-            if faults
-                .iter()
-                .any(|(_, fault)| *fault == NodeFault::OutOfMemory)
-            {
+            if lack_memory(&faults) {
                 return Err(AllocError);
             }
             finished = finished.with(seat, receipts)?;
@@ -86,30 +101,18 @@ impl<L: Label> Finished<L> {
         requires more { AreGivenSince L.config L.seed 0 gossiped.report.receipts.items }
         ensures len { IfOk result (λ all. vec_len all.seats ≡ vec_len self.seats + 1) }
         ensures given { IfOk result (λ all. AreListsAt L.config L.seed all.lists.items) }
+        ensures lists { IfOk result (λ all.
+            all.lists.items ≡ self.lists.items ++ gossiped.report.receipts ∷ []) }
+        ensures ended { OnOk result (gossiped.report.ended ≡ Ended.Done) }
     {
-        let Gossiped { seat, report } = gossiped;
+        let Gossiped {
+            seat,
+            wire: _,
+            report,
+        } = gossiped;
         if report.ended == Ended::OutOfMemory {
             return Err(AllocError);
         }
         self.with(seat, report.receipts)
-    }
-
-    /// With seats that made no call.
-    pub(crate) fn with_idle(
-        self,
-        alloc: Global,
-        seats: Vec<Seat<L>>,
-    ) -> Result<Finished<L>, AllocError>
-        requires fresh { All (λ calls. calls ≡ 0) seats.items }
-        requires given { AreListsAt L.config L.seed self.lists.items }
-        ensures len { IfOk result (λ all.
-            vec_len all.seats ≡ vec_len self.seats + vec_len seats) }
-        ensures given { IfOk result (λ all. AreListsAt L.config L.seed all.lists.items) }
-    {
-        let mut finished = self;
-        for seat in seats {
-            finished = finished.with(seat, Vec::new(alloc))?;
-        }
-        Ok(finished)
     }
 }

@@ -1,11 +1,13 @@
 //! The nodes of a run: each makes its own calls, and hears of others by gossip alone.
 
 ghost use Rattle.std.specs.Prelude.{◌≡◌, ◌+◌, ◌<◌, ◌^◌, ◌==◌, cond, false, count_by, length, vec_len};
-ghost use Rattle.std.specs.Prelude.{All, IfOk};
+ghost use Rattle.std.specs.Prelude.{option_map, All, IfOk};
 ghost use Rattle.std.specs.List.{sum_by};
 ghost use Rattle.std.specs.Option.{is_some};
 ghost use Rattle.node_core.specs.Refusals.{is_bad_config};
-ghost use Rattle.thread_scripts.specs.Plays.{AreListsAt, IsTraceOf};
+ghost use Rattle.thread_plans.specs.Plans.{plan_value};
+ghost use Rattle.thread_scripts.specs.Plays.{AreListsAt, AreOfNode, AreOfWork, IsTraceOf};
+ghost use Rattle.thread_scripts.specs.Plays.{blocks_of};
 
 use crate::asks::jobs_of;
 use crate::beside::{Gossip, work, work_and_gossip};
@@ -36,7 +38,7 @@ pub(crate) struct NodePlayed {
     ghost counted: { length trace.calls ≡ sum_by (λ list. vec_len list) lists.items },
 }
 
-// The calls of a node's workers from these seats, and its gossip beside them from one of these.
+// The calls of a node's workers, and its gossip beside them, from as many seats.
 fn make_calls_beside<L: Label + Send + Sync, R: Threads + Wait + Sync>(
     rt: &R,
     alloc: Global,
@@ -48,25 +50,28 @@ fn make_calls_beside<L: Label + Send + Sync, R: Threads + Wait + Sync>(
     gossip: Option<Gossip>,
 ) -> Result<Finished<L>, AllocError>
     requires few { vec_len seats < 2 ^ 8 }
+    requires each { vec_len seats ≡ count_by (λ b. b.node == node) plan.now.blocks.items
+        + cond (is_some gossip) 1 0 }
     requires fresh { All (λ calls. calls ≡ 0) seats.items }
     requires given { AreListsAt L.config L.seed finished.lists.items }
     ensures len { IfOk result (λ all.
         vec_len all.seats ≡ vec_len finished.seats + vec_len seats) }
     ensures given { IfOk result (λ all. AreListsAt L.config L.seed all.lists.items) }
+    ensures calls { IfOk result (λ all. AreOfWork L.config L.seed
+        (blocks_of (plan_value plan.now) node)
+        (option_map (λ g. (g.wire, g.rounds)) gossip) finished.lists.items all.lists.items) }
 {
     let Some(gossip) = gossip else {
-        let (jobs, rest) = jobs_of(alloc, registry, seats, &plan.blocks, node)?;
-        let finished = finished.with_workers(work(rt, alloc, jobs)?)?;
-        return finished.with_idle(alloc, rest);
+        let jobs = jobs_of(alloc, registry, seats, &plan.blocks, node)?;
+        return finished.with_workers(work(rt, alloc, jobs)?);
     };
     let Some(seat) = seats.pop() else {
-        return Ok(finished);
+        unreachable!();
     };
-    let (jobs, rest) = jobs_of(alloc, registry, seats, &plan.blocks, node)?;
+    let jobs = jobs_of(alloc, registry, seats, &plan.blocks, node)?;
     let both = work_and_gossip(rt, alloc, registry, seat, gossip, jobs)?;
     let finished = finished.with_workers(both.dones)?;
-    let finished = finished.with_gossip(both.gossiped)?;
-    finished.with_idle(alloc, rest)
+    finished.with_gossip(both.gossiped)
 }
 
 // Makes the calls of a node: first the ones before the workers, and then those of the workers and of
@@ -80,14 +85,18 @@ fn make_calls<L: Label + Send + Sync, R: Threads + Wait + Sync>(
     node: u8,
     gossip: Option<Gossip>,
 ) -> Result<Finished<L>, AllocError>
+    requires node { node ≡ L.config.node }
     requires few { vec_len seats < 2 ^ 8 }
+    requires each { vec_len seats ≡ count_by (λ b. b.node == node) plan.now.blocks.items + 1
+        + cond (is_some gossip) 1 0 }
     requires fresh { All (λ calls. calls ≡ 0) seats.items }
     ensures len { IfOk result (λ all. vec_len all.seats ≡ vec_len seats) }
-    ensures given { IfOk result (λ all. AreListsAt L.config L.seed all.lists.items) }
+    ensures calls { IfOk result (λ all. AreOfNode L.config L.seed (plan_value plan.now)
+        (option_map (λ g. (g.wire, g.rounds)) gossip) all.lists.items) }
 {
     let finished = Finished::new(alloc);
     let Some(seat) = seats.pop() else {
-        return Ok(finished);
+        unreachable!();
     };
     let (seat, receipts) = make_starts(rt, alloc, registry, seat, &plan.starts, node)?;
     let finished = finished.with(seat, receipts)?;
@@ -105,11 +114,14 @@ fn run_registry<L: Label + Send + Sync, R: Threads + Wait + Sync>(
 ) -> Result<NodePlayed, AllocError>
     requires name { blank.name ≡ L.name }
     requires parts { (blank.parts ≡ L.parts) × (L.parts ≡ seats) × (0 < seats) }
+    requires each { seats ≡ count_by (λ b. b.node == job.config.node) plan.now.blocks.items + 1
+        + cond (is_some job.gossip) 1 0 }
     requires config { job.config ≡ L.config }
     requires seed { plan.now.seed ≡ L.seed }
     ensures trace { IfOk result (λ played. IsTraceOf job.config plan.now.seed played.trace) }
-    ensures lists { IfOk result (λ played.
-        AreListsAt job.config plan.now.seed played.lists.items) }
+    ensures lists { IfOk result (λ played. AreOfNode job.config plan.now.seed
+        (plan_value plan.now) (option_map (λ g. (g.wire, g.rounds)) job.gossip)
+        played.lists.items) }
 {
     let NodeJob { config, gossip } = job;
     let started = Registry::<L>::start(rt, alloc, blank, config, plan.seed, seats);
@@ -139,8 +151,9 @@ pub(crate) fn run_node<R: Threads + Wait + Sync>(
     job: NodeJob,
 ) -> Result<NodePlayed, AllocError>
     ensures trace { IfOk result (λ played. IsTraceOf job.config plan.now.seed played.trace) }
-    ensures lists { IfOk result (λ played.
-        AreListsAt job.config plan.now.seed played.lists.items) }
+    ensures lists { IfOk result (λ played. AreOfNode job.config plan.now.seed
+        (plan_value plan.now) (option_map (λ g. (g.wire, g.rounds)) job.gossip)
+        played.lists.items) }
 {
     let seats = seats_at(plan, &job);
     let blank = Blank::new(u64::from(seats));

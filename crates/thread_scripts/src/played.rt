@@ -1,10 +1,11 @@
 //! The run of a plan.
 
-ghost use Rattle.std.specs.Prelude.{◌≡◌, ◌+◌, ◌++◌, ◌∷◌, [], length, vec_len, IfOk};
+ghost use Rattle.std.specs.Prelude.{◌≡◌, ◌+◌, ◌++◌, ◌∷◌, [], length, option_map, vec_len, IfOk};
 ghost use Rattle.std.specs.List.{sum_by};
 ghost use Rattle.thread_plans.specs.Plans.{plan_value};
-ghost use Rattle.thread_scripts.specs.Plays.{AllFrom, AreListsAt, AreListsOf, AreTracesOf};
-ghost use Rattle.thread_scripts.specs.Plays.{IsTraceOf, config_at};
+ghost use Rattle.thread_scripts.specs.Gossips.{gossip_over};
+ghost use Rattle.thread_scripts.specs.Plays.{AllFrom, AreListsOf, AreOfNode, AreTracesOf};
+ghost use Rattle.thread_scripts.specs.Plays.{IsTraceOf, config_at, gossip_at};
 
 use crate::beside::Gossip;
 use crate::nodes::{NodeJob, NodePlayed, run_node};
@@ -71,26 +72,33 @@ impl Played {
     }
 }
 
+// The gossip of a node over its wire, if it does so many rounds.
+fn gossip_over(wire: MailWire, rounds: Option<u32>) -> Option<Gossip>
+    ensures { gossip_over wire rounds ≡ option_map (λ g. (g.wire, g.rounds)) result }
+{
+    match rounds {
+        Some(rounds) => Some(Gossip { wire, rounds }),
+        None => None,
+    }
+}
+
 // The nodes of a plan, each with its wire, if they do gossip.
 fn jobs_of(alloc: Global, plan: &ThreadPlan<'_>) -> Result<Vec<NodeJob>, AllocError>
     ensures len { IfOk result (λ jobs. vec_len jobs ≡ plan.now.size.nodes) }
-    ensures configs { IfOk result (λ jobs.
-        AllFrom (λ node job. job.config ≡ config_at (plan_value plan.now) node) 0 jobs.items) }
+    ensures each { IfOk result (λ jobs. AllFrom (λ node job.
+        (job.config ≡ config_at (plan_value plan.now) node)
+        × (option_map (λ g. (g.wire, g.rounds)) job.gossip
+        ≡ gossip_at (plan_value plan.now) node)) 0 jobs.items) }
 {
     let nodes = plan.size.nodes;
-    let mut wires = MailWire::all(alloc, nodes)?;
-    wires.reverse();
     let mut jobs = Vec::with_capacity(alloc, usize::from(nodes))?;
-    for node in 0..nodes {
+    for wire in MailWire::all(alloc, nodes)? {
         let config = Config {
-            node,
+            node: jobs.len() as u8,
             nodes,
             trace_cap: plan.size.trace_cap,
         };
-        let gossip = match (plan.gossip, wires.pop()) {
-            (Some(rounds), Some(wire)) => Some(Gossip { wire, rounds }),
-            _ => None,
-        };
+        let gossip = gossip_over(wire, plan.gossip);
         jobs.push_reserved(NodeJob { config, gossip });
     }
     Ok(jobs)
@@ -107,22 +115,23 @@ fn run_all<R: Threads + Wait + Sync>(
         IsTraceOf (config_at (plan_value plan.now) node) plan.now.seed played.trace)) 0
         runs.items) }
     ensures lists { IfOk result (λ runs. AllFrom (λ node run. IfOk run (λ played.
-        AreListsAt (config_at (plan_value plan.now) node) plan.now.seed played.lists.items)) 0
-        runs.items) }
+        AreOfNode (config_at (plan_value plan.now) node) plan.now.seed (plan_value plan.now)
+        (gossip_at (plan_value plan.now) node) played.lists.items)) 0 runs.items) }
 {
     let jobs = jobs_of(alloc, plan)?;
     let run = |job: NodeJob| -> Result<NodePlayed, AllocError>
         ensures trace { IfOk result (λ played.
             IsTraceOf job.config plan.entry.now.seed played.trace) }
-        ensures lists { IfOk result (λ played.
-            AreListsAt job.config plan.entry.now.seed played.lists.items) }
+        ensures lists { IfOk result (λ played. AreOfNode job.config plan.entry.now.seed
+            (plan_value plan.entry.now) (option_map (λ g. (g.wire, g.rounds)) job.gossip)
+            played.lists.items) }
     { run_node(rt, alloc, plan, job) };
     thread::map_vec(rt, jobs, &run)
 }
 
 /// Plays a plan: the nodes run beside each other, and so do the workers of each of them. Each trace is
-/// legal, and its random draws are the first ones of the plan's seed. Each list has the receipts that a
-/// node gave one seat, from its first call on.
+/// legal, and its random draws are the first ones of the plan's seed. The lists are, node by node, the
+/// receipts of what it does before its workers, of each of its blocks, and of its gossip.
 pub fn play<R: Threads + Wait + Sync>(
     rt: &R,
     alloc: Global,

@@ -1,7 +1,10 @@
 //! What a node does before its workers start.
 
-ghost use Rattle.std.specs.Prelude.{◌≡◌, vec_len, IfOk, OnOk};
+ghost use Rattle.std.specs.Prelude.{◌≡◌, ◌≢◌, ◌∷◌, [], map, vec_len, IfOk, OnOk};
+ghost use Rattle.node_calls.specs.Told.{ask_ref_told};
 ghost use Rattle.node_registry.specs.Receipts.{AreGivenSince};
+ghost use Rattle.thread_plans.specs.Plans.{start_line_value};
+ghost use Rattle.thread_scripts.specs.Calls.{Adds, AreMade, AreOfLine, AreOfSpread, AreOfStarts};
 
 use gossip::{Ended, spread};
 use node_core::{AskRef, NodeFault, Receipt};
@@ -9,6 +12,16 @@ use node_registry::{Label, Registry, Seat};
 use std::alloc::{AllocError, Global};
 use std::sync::Wait;
 use thread_plans::{Start, StartLine};
+
+// A refusal is no error, but for out of memory.
+fn pass_over(fault: NodeFault) -> Result<(), AllocError>
+    ensures { OnOk result (fault ≢ NodeFault.OutOfMemory) }
+{
+    if fault == NodeFault::OutOfMemory {
+        return Err(AllocError);
+    }
+    Ok(())
+}
 
 // Makes a call, and keeps its receipt.
 fn make_call<L: Label, R: Wait>(
@@ -23,6 +36,8 @@ fn make_call<L: Label, R: Wait>(
     requires given { AreGivenSince L.config L.seed 0 receipts.old.items }
     ensures counted { OnOk result (seat.new ≡ vec_len receipts.new) }
     ensures given { OnOk result (AreGivenSince L.config L.seed 0 receipts.new.items) }
+    ensures made { OnOk result (Adds (AreMade L.config L.seed (ask_ref_told call.entry ∷ []))
+        receipts.old.items receipts.new.items) }
 {
     let ask = call.copied(alloc)?;
     match registry.enter_owned(rt, alloc, seat, ask) {
@@ -30,8 +45,7 @@ fn make_call<L: Label, R: Wait>(
             receipts.push(receipt)?;
             Ok(())
         }
-        Err(NodeFault::OutOfMemory) => Err(AllocError),
-        Err(_) => Ok(()),
+        Err(fault) => pass_over(fault),
     }
 }
 
@@ -48,6 +62,8 @@ fn spread_rights<L: Label, R: Wait>(
     requires given { AreGivenSince L.config L.seed 0 receipts.old.items }
     ensures counted { OnOk result (seat.new ≡ vec_len receipts.new) }
     ensures given { OnOk result (AreGivenSince L.config L.seed 0 receipts.new.items) }
+    ensures spread { OnOk result (Adds (AreOfSpread L.config L.seed name.now)
+        receipts.old.items receipts.new.items) }
 {
     let report = spread(rt, alloc, registry, seat, name);
     if report.ended == Ended::OutOfMemory {
@@ -55,6 +71,33 @@ fn spread_rights<L: Label, R: Wait>(
     }
     receipts.extend(report.receipts)?;
     Ok(())
+}
+
+// Does what a line says before the workers start, if it is the node's, and keeps the receipts.
+fn do_start<L: Label, R: Wait>(
+    rt: &R,
+    alloc: Global,
+    registry: &Registry<L>,
+    seat: &mut Seat<L>,
+    line: &StartLine<'_>,
+    node: u8,
+    receipts: &mut Vec<Receipt>,
+) -> Result<(), AllocError>
+    requires node { node ≡ L.config.node }
+    requires counted { seat.old ≡ vec_len receipts.old }
+    requires given { AreGivenSince L.config L.seed 0 receipts.old.items }
+    ensures counted { OnOk result (seat.new ≡ vec_len receipts.new) }
+    ensures given { OnOk result (AreGivenSince L.config L.seed 0 receipts.new.items) }
+    ensures done { OnOk result (Adds (AreOfLine L.config L.seed (start_line_value line.now))
+        receipts.old.items receipts.new.items) }
+{
+    if line.node != node {
+        return Ok(());
+    }
+    match line.start {
+        Start::Call(call) => make_call(rt, alloc, registry, seat, call, receipts),
+        Start::Spread { name } => spread_rights(rt, alloc, registry, seat, name, receipts),
+    }
 }
 
 /// Does what a node does before its workers start, in its order, from a seat that has made no call.
@@ -67,22 +110,16 @@ pub(crate) fn make_starts<L: Label, R: Wait>(
     starts: &[StartLine<'_>],
     node: u8,
 ) -> Result<(Seat<L>, Vec<Receipt>), AllocError>
-    requires { seat ≡ 0 }
+    requires node { node ≡ L.config.node }
+    requires fresh { seat ≡ 0 }
     ensures counted { IfOk result (λ done. done.0 ≡ vec_len done.1) }
     ensures given { IfOk result (λ done. AreGivenSince L.config L.seed 0 done.1.items) }
+    ensures done { IfOk result (λ done. AreOfStarts L.config L.seed
+        (map start_line_value starts.now) done.1.items) }
 {
     let mut receipts = Vec::new(alloc);
     for line in starts {
-        if line.node == node {
-            match &line.start {
-                Start::Call(call) => {
-                    make_call(rt, alloc, registry, &mut seat, *call, &mut receipts)?;
-                }
-                Start::Spread { name } => {
-                    spread_rights(rt, alloc, registry, &mut seat, name, &mut receipts)?;
-                }
-            }
-        }
+        do_start(rt, alloc, registry, &mut seat, line, node, &mut receipts)?;
     }
     Ok((seat, receipts))
 }

@@ -1,3 +1,6 @@
+use Rattle.std.proofs.Common.{option_map, subst, sym}
+use Rattle.thread_plans.specs.Plans.{plan_value}
+use Rattle.thread_scripts.specs.Plays.{AreOfNode}
 use Rattle.thread_scripts.proofs.nodes.run_registry.Goals as goal
 
 pub returns-clause-trace : goal.returns-clause-trace
@@ -6,4 +9,9 @@ returns-clause-trace g c =
     rw (c.requires.config, c.requires.seed) record { legal = closed.legal; drawn = closed.drawn }
 
 pub returns-clause-lists : goal.returns-clause-lists
-returns-clause-lists g c = rw (c.requires.config, c.requires.seed) c.in_ok-finished.ensures.given
+returns-clause-lists g c =
+    let plan = plan_value c.args.plan.now in
+    let gossip = option_map (λ g. (g.wire, g.rounds)) c.args.job.gossip in
+    let lists = c.in_ok-finished.finished.lists.items in
+    subst (λ k. AreOfNode k c.args.plan.now.seed plan gossip lists) (sym c.requires.config)
+    (subst (λ s. AreOfNode g.L.Label.config s plan gossip lists) (sym c.requires.seed) c.in_ok-finished.ensures.calls)

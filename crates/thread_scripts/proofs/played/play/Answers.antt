@@ -1,12 +1,11 @@
-use Rattle.std.proofs.Common.{rules, arith, ◌≡◌, ◌+◌, ◌<◌, ◌∷◌, [], ℕ, IfOk, Result, length, length-append, ap, subst}
+use Rattle.std.proofs.Common.{rules, arith, ◌≡◌, ◌+◌, ◌∷◌, [], ℕ, IfOk, Result, length, length-append, ap, subst}
 use Rattle.std.specs.Vec.Iter.{into_iter_items}
 use Rattle.std.specs.declared.alloc.AllocError.{AllocError}
-use Rattle.std.proofs.lemmas.List.Elements.{All-append, All-nil}
 use Rattle.thread_plans.specs.Plans.{plan_value}
-use Rattle.thread_scripts.specs.Plays.{AllFrom, AreListsAt, IsListOf, IsTraceOf, config_at}
+use Rattle.thread_scripts.specs.Plays.{AllFrom, AreListsBelow, AreOfNode, IsTraceOf, config_at, gossip_at}
 use Rattle.thread_scripts.specs.declared.nodes.NodePlayed.{NodePlayed}
+use Rattle.thread_scripts.proofs.NodeLists.{below_more, below_none}
 use Rattle.thread_scripts.proofs.Numbered.{AllFrom-push}
-use Rattle.thread_scripts.proofs.Seats.{lists_of}
 use Rattle.thread_scripts.proofs.played.play.Goals as goal
 
 pub loop-run-init : goal.loop-run-init
@@ -17,7 +16,7 @@ loop-run-init g c =
       len = search rules;
       traces = rw c.new-played.ensures.none tt;
       rest = rw (c.new-played.ensures.none, same) each;
-      lists = rw c.new-played.ensures.no_list (All-nil _);
+      lists = rw (c.new-played.ensures.none, c.new-played.ensures.no_list) (below_none (plan_value c.args.plan.now));
       rest_lists = rw (c.new-played.ensures.none, same) c.in_ok-run-items.ensures.lists;
     }
 
@@ -36,13 +35,13 @@ loop-run-preserved g c =
     subst (λ xs. AllFrom Q (length before) xs) steps.0 was.rest in
     let this : IsTraceOf (config_at plan (length before)) seed trace = rw c.in_ok-run.was at now.0 in
     let Q_lists : ℕ → Result NodePlayed AllocError → Type 0 = λ node run. IfOk run
-    (λ p. AreListsAt (config_at plan node) seed p.lists.items) in
+    (λ p. AreOfNode (config_at plan node) seed plan (gossip_at plan node) p.lists.items) in
     let now_lists : AllFrom Q_lists (length before) (c.in-Some.run' ∷ into_iter_items c.next.new.self) =
     subst (λ xs. AllFrom Q_lists (length before) xs) steps.0 was.rest_lists in
     let lists = c.in_ok-run.field-0.lists.items in
-    let these : AreListsAt (config_at plan (length before)) seed lists = rw c.in_ok-run.was at now_lists.0 in
-    let below : length before < plan.nodes =
-    omega (arith, was.len, steps.1, c.loop-run.played.traces.ok.0) in
+    let n = length before in
+    let these : AreOfNode (config_at plan n) seed plan (gossip_at plan n) lists =
+    rw c.in_ok-run.was at now_lists.0 in
     let from_0 : length before ≡ 0 + length before = omega arith in
     let longer : length c.in_ok-played.played.traces.items ≡ length before + 1 =
     omega (arith, ap length more.traces, length-append before (trace ∷ [])) in
@@ -51,7 +50,14 @@ loop-run-preserved g c =
       traces = rw more.traces (AllFrom-push _ 0 before trace was.traces
           (subst (λ k. IsTraceOf (config_at plan k) seed trace) from_0 this));
       rest = rw longer now.1;
-      lists = rw more.lists (All-append (IsListOf plan) c.loop-run.played.lists.items lists was.lists
-          (lists_of plan (length before) below lists these));
+      lists = rw longer (below_more plan n c.loop-run.played.lists.items lists _ was.lists these more.lists);
       rest_lists = rw longer now_lists.1;
     }
+
+pub returns-clause-lists : goal.returns-clause-lists
+returns-clause-lists g c =
+    let plan = plan_value c.args.plan.now in
+    let was = c.loop-run.invariant in
+    let all : length c.loop-run.played.traces.items ≡ plan.nodes =
+    omega (arith, was.len, c.loop-run.played.traces.ok.0, c.in-None.ensures.steps.0) in
+    subst (λ n. AreListsBelow plan n c.loop-run.played.lists.items) all was.lists

@@ -1,7 +1,8 @@
 use Rattle.std.proofs.Common.{◌≡◌, IfOk, Result, subst, arith}
+use Rattle.std.specs.Prelude.{option_map}
 use Rattle.std.specs.declared.alloc.AllocError.{AllocError}
 use Rattle.thread_plans.specs.Plans.{plan_value}
-use Rattle.thread_scripts.specs.Plays.{AreListsAt, IsTraceOf, config_at}
+use Rattle.thread_scripts.specs.Plays.{AreOfNode, IsTraceOf, config_at, gossip_at}
 use Rattle.thread_scripts.specs.declared.nodes.NodeJob.{NodeJob}
 use Rattle.thread_scripts.specs.declared.nodes.NodePlayed.{NodePlayed}
 use Rattle.thread_scripts.proofs.Numbered.{AllFrom-returned, IfOk-both}
@@ -14,11 +15,12 @@ returns-clause-each g c =
     let jobs = c.in_ok-jobs.jobs in
     IfOk-both c.map_vec.result _ _ _
     (λ v long each.
-    AllFrom-returned {J = NodeJob} {R = Result NodePlayed AllocError} (λ n j. j.config ≡ config_at plan n)
+    AllFrom-returned {J = NodeJob} {R = Result NodePlayed AllocError}
+    (λ n j. (j.config ≡ config_at plan n) × (option_map (λ g. (g.wire, g.rounds)) j.gossip ≡ gossip_at plan n))
     (λ n r. IfOk r (λ p. IsTraceOf (config_at plan n) seed p.trace))
     (λ j r. IfOk r (λ p. IsTraceOf j.config seed p.trace))
-    (λ n j r is h. subst (λ k. IfOk r (λ p. IsTraceOf k seed p.trace)) is h)
-    0 jobs.items v.items (omega (arith, long, v.ok.0, jobs.ok.0)) c.in_ok-jobs.ensures.configs
+    (λ n j r is h. subst (λ k. IfOk r (λ p. IsTraceOf k seed p.trace)) is.0 h)
+    0 jobs.items v.items (omega (arith, long, v.ok.0, jobs.ok.0)) c.in_ok-jobs.ensures.each
     (λ i d below. let e = (each i d below).1 in (e.job, e.job_is, e.call.met.0)))
     c.map_vec.ensures.len c.map_vec.ensures.each
 
@@ -29,10 +31,13 @@ returns-clause-lists g c =
     let jobs = c.in_ok-jobs.jobs in
     IfOk-both c.map_vec.result _ _ _
     (λ v long each.
-    AllFrom-returned {J = NodeJob} {R = Result NodePlayed AllocError} (λ n j. j.config ≡ config_at plan n)
-    (λ n r. IfOk r (λ p. AreListsAt (config_at plan n) seed p.lists.items))
-    (λ j r. IfOk r (λ p. AreListsAt j.config seed p.lists.items))
-    (λ n j r is h. subst (λ k. IfOk r (λ p. AreListsAt k seed p.lists.items)) is h)
-    0 jobs.items v.items (omega (arith, long, v.ok.0, jobs.ok.0)) c.in_ok-jobs.ensures.configs
+    AllFrom-returned {J = NodeJob} {R = Result NodePlayed AllocError}
+    (λ n j. (j.config ≡ config_at plan n) × (option_map (λ g. (g.wire, g.rounds)) j.gossip ≡ gossip_at plan n))
+    (λ n r. IfOk r (λ p. AreOfNode (config_at plan n) seed plan (gossip_at plan n) p.lists.items))
+    (λ j r. IfOk r (λ p. AreOfNode j.config seed plan (option_map (λ g. (g.wire, g.rounds)) j.gossip) p.lists.items))
+    (λ n j r is h.
+    subst (λ k. IfOk r (λ p. AreOfNode k seed plan (gossip_at plan n) p.lists.items)) is.0
+    (subst (λ o. IfOk r (λ p. AreOfNode j.config seed plan o p.lists.items)) is.1 h))
+    0 jobs.items v.items (omega (arith, long, v.ok.0, jobs.ok.0)) c.in_ok-jobs.ensures.each
     (λ i d below. let e = (each i d below).1 in (e.job, e.job_is, e.call.met.1)))
     c.map_vec.ensures.len c.map_vec.ensures.each

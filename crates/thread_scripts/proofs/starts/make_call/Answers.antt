@@ -1,5 +1,8 @@
-use Rattle.std.proofs.Common.{arith}
+use Rattle.std.proofs.Common.{◌∷◌, [], arith, sym}
+use Rattle.std.proofs.lemmas.List.{append-nil}
 use Rattle.node_registry.proofs.SeatReceipts.{given_more}
+use Rattle.thread_scripts.proofs.StartLines.{made_one, refused_one}
+use Rattle.thread_scripts.proofs.Numbered.{OnOk-map}
 use Rattle.thread_scripts.proofs.starts.make_call.Goals as goal
 
 pub returns-in_ok-push-in-Ok-clause-given : goal.returns-in_ok-push-in-Ok-clause-given
@@ -8,3 +11,19 @@ returns-in_ok-push-in-Ok-clause-given g c =
     given_more g.L.Label.config g.L.Label.seed 0 c.args.seat.now c.args.receipts.now.items c.push.new.self.items
     c.in-Ok.receipt c.requires.given (omega (arith, c.requires.counted, c.args.receipts.now.ok.0)) told.given
     told.since c.in_ok-push-in-Ok.ensures.items
+
+pub returns-in_ok-push-in-Ok-clause-made : goal.returns-in_ok-push-in-Ok-clause-made
+returns-in_ok-push-in-Ok-clause-made g c = (
+  c.in-Ok.receipt ∷ [],
+  c.in_ok-push-in-Ok.ensures.items,
+  made_one g.L.Label.config g.L.Label.seed c.in-Ok.receipt _ _ c.in-Ok.ensures.asked c.in_ok-ask.ensures,
+)
+
+pub returns-in-Err-clause-made : goal.returns-in-Err-clause-made
+returns-in-Err-clause-made g c =
+    OnOk-map c.pass_over.result _ _
+    (λ memory. (
+      [],
+      sym (append-nil c.args.receipts.now.items),
+      refused_one g.L.Label.config g.L.Label.seed c.in-Err.fault _ _ c.in-Err.ensures.refused memory c.in_ok-ask.ensures,
+    )) c.pass_over.ensures

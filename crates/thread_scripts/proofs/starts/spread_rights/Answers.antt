@@ -1,8 +1,9 @@
-use Rattle.std.proofs.Common.{◌≡◌, ◌+◌, ◌∙◌, ◌++◌, ap, arith, length, sym, vec_len}
+use Rattle.std.proofs.Common.{◌≡◌, ◌+◌, ◌∙◌, ◌++◌, ap, arith, length, refl, rules, sym, vec_len}
 use Rattle.std.specs.Prelude.{OnOk}
 use Rattle.std.proofs.lemmas.List.{length-map, map-id}
 use Rattle.std.proofs.lemmas.Iterator.Adapters.{YieldsList-from_vec, fact_from_extend}
 use Rattle.thread_scripts.proofs.Seats.{given_after}
+use Rattle.thread_scripts.proofs.StartLines.{done_of}
 use Rattle.thread_scripts.proofs.starts.spread_rights.Goals as goal
 
 pub returns-clause-counted : goal.returns-clause-counted
@@ -27,3 +28,17 @@ returns-clause-given g c =
     given_after g.L.Label.config g.L.Label.seed c.args.seat.now was.items more.items c.extend.new.self.items
     (omega (arith, c.requires.counted, was.ok.0)) c.requires.given c.spread-report.ensures.told.given
     (rw c.in_ok-extend.was at longer)
+
+pub returns-clause-spread : goal.returns-clause-spread
+returns-clause-spread g c =
+    let was = c.args.receipts.now in
+    let report = c.spread-report.result in
+    let more = report.receipts in
+    let longer : OnOk c.extend.result (c.extend.new.self.items ≡ was.items ++ more.items) =
+    fact_from_extend (λ x. x) c.extend.result c.extend.ensures.ran
+    (λ it b. YieldsList-from_vec {s = it} _ b.0 (b.1 ∙ more.ok.0))
+    (λ xs e h. h.0 ∙ ap (λ ys. was.items ++ ys) (sym (map-id xs) ∙ e)) in (
+      more.items,
+      rw c.in_ok-extend.was at longer,
+      (report, refl, done_of report.ended (search rules), c.spread-report.ensures.spread),
+    )

@@ -1,0 +1,74 @@
+-- The lists of a node's receipts, and those of all nodes.
+use Rattle.std.proofs.Common.{◌≡◌, ◌∙◌, ℕ, ◌+◌, false, List, [], ◌∷◌, ◌++◌, length, length-append, map, ap, sym, refl, subst, append_assoc, Some, None, arith}
+use Rattle.std.specs.Prelude.{All}
+use Rattle.std.specs.List.{AllZip, flat_map}
+use Rattle.std.proofs.lemmas.Grind.{flat_map-append}
+use Rattle.std.proofs.lemmas.List.{append-nil}
+use Rattle.node_core.specs.declared.config.Config.{Config}
+use Rattle.node_calls.specs.Told.{ask_told}
+use Rattle.node_registry.specs.declared.workers.Done.{Done}
+use Rattle.node_registry.specs.declared.workers.Job.{Job}
+use Rattle.audit.specs.Receipts.{Lists}
+use Rattle.gossip.specs.Mailboxes.{Place}
+use Rattle.gossip.specs.declared.report.GossipReport.{GossipReport}
+use Rattle.gossip.specs.declared.report.Ended.TheVariants as ends
+use Rattle.thread_plans.specs.Plans.{BlockValue, PlanValue}
+use Rattle.thread_scripts.specs.Asks.{asks_of_block}
+use Rattle.thread_scripts.specs.Calls.{HandsBack, lack_memory}
+use Rattle.thread_scripts.specs.Gossips.{IsGossip}
+use Rattle.thread_scripts.specs.Plays.{AreListsBelow, AreOfNode, AreOfWork, config_at, gossip_at}
+use Rattle.thread_scripts.proofs.Made.{of_blocks}
+use Rattle.thread_scripts.proofs.Numbered.{AllFrom-push}
+
+-- workers alone
+pub of_workers : {L : Type 0} (config : Config) (seed : List ℕ) (blocks : List BlockValue) (jobs : List (Job L))
+    (dones : List (Done L)) (was lists : Lists)
+    → map (λ (j : Job L). map ask_told j.asks.items) jobs ≡ map asks_of_block blocks
+    → AllZip (λ (j : Job L) (d : Done L). HandsBack config seed (map ask_told j.asks.items) d) jobs dones
+    → All (λ (d : Done L). lack_memory d.faults.items ≡ false) dones
+    → lists ≡ was ++ map (λ (d : Done L). d.receipts) dones → AreOfWork config seed blocks None was lists
+of_workers {L = L} config seed blocks jobs dones was lists same back memory all =
+    let workers = map (λ (d : Done L). d.receipts) dones in record {
+      workers = workers;
+      gossiped = [];
+      all = all ∙ ap (λ ls. was ++ ls) (sym (append-nil workers));
+      worked = of_blocks config seed blocks jobs dones same back memory;
+      told = refl;
+    }
+
+-- workers, and gossip beside them
+pub of_both : {L : Type 0} (config : Config) (seed : List ℕ) (blocks : List BlockValue) (jobs : List (Job L))
+    (dones : List (Done L)) (gossip : Place × ℕ) (now : Place) (r : GossipReport) (was between lists : Lists)
+    → map (λ (j : Job L). map ask_told j.asks.items) jobs ≡ map asks_of_block blocks
+    → AllZip (λ (j : Job L) (d : Done L). HandsBack config seed (map ask_told j.asks.items) d) jobs dones
+    → All (λ (d : Done L). lack_memory d.faults.items ≡ false) dones
+    → between ≡ was ++ map (λ (d : Done L). d.receipts) dones → lists ≡ between ++ r.receipts ∷ []
+    → r.ended ≡ ends.Done → IsGossip config seed gossip now r
+    → AreOfWork config seed blocks (Some gossip) was lists
+of_both {L = L} config seed blocks jobs dones gossip now r was between lists same back memory first then ended is =
+    let workers = map (λ (d : Done L). d.receipts) dones in record {
+      workers = workers;
+      gossiped = r.receipts ∷ [];
+      all = then ∙ ap (λ ls. ls ++ r.receipts ∷ []) first ∙ append_assoc was workers (r.receipts ∷ []);
+      worked = of_blocks config seed blocks jobs dones same back memory;
+      told = (r, now, refl, ended, is);
+    }
+
+-- the lists of no node
+pub below_none : (plan : PlanValue) → AreListsBelow plan 0 []
+below_none plan = record { parts = []; number = refl; all = refl; each = tt }
+
+-- the lists of one node more
+pub below_more : (plan : PlanValue) (n : ℕ) (lists part new : Lists) → AreListsBelow plan n lists →
+    AreOfNode (config_at plan n) plan.seed plan (gossip_at plan n) part → new ≡ lists ++ part →
+    AreListsBelow plan (n + 1) new
+below_more plan n lists part new so_far here is =
+    let parts = so_far.parts in
+    let there : n ≡ 0 + length parts = omega (arith, so_far.number) in record {
+      parts = parts ++ part ∷ [];
+      number = omega (arith, so_far.number, length-append parts (part ∷ []));
+      all = is ∙ ap (λ ls. ls ++ part) so_far.all ∙ ap (λ ls. flat_map (λ p. p) parts ++ ls) (sym (append-nil part))
+          ∙ sym (flat_map-append (λ p. p) parts (part ∷ []));
+      each = AllFrom-push _ 0 parts part so_far.each
+          (subst (λ k. AreOfNode (config_at plan k) plan.seed plan (gossip_at plan k) part) there here);
+    }

@@ -1,0 +1,26 @@
+use Rattle.std.proofs.Common.{◌≡◌, ◌∙◌, ◌++◌, ◌∷◌, [], ap, subst}
+use Rattle.std.specs.Prelude.{option_map}
+use Rattle.thread_plans.specs.Plans.{plan_value}
+use Rattle.thread_scripts.specs.Plays.{AreOfWork, blocks_of}
+use Rattle.thread_scripts.proofs.Numbered.{IfOk-both}
+use Rattle.thread_scripts.proofs.nodes.make_calls.Goals as goal
+
+pub returns-clause-calls : goal.returns-clause-calls
+returns-clause-calls g c =
+    let config = g.L.Label.config in
+    let seed = g.L.Label.seed in
+    let plan = plan_value c.args.plan.now in
+    let gossip = option_map (λ g. (g.wire, g.rounds)) c.args.gossip in
+    let starts = c.in_ok-seat.receipts in
+    let first : c.in_ok-finished.finished.lists.items ≡ starts ∷ [] =
+    c.in_ok-finished.ensures.lists ∙ ap (λ ls. ls ++ starts ∷ []) c.new-finished.ensures.none in
+    IfOk-both c.make_calls_beside.result _ _ _
+    (λ all given calls. record {
+      starts = starts;
+      given = given;
+      started = rw c.deref.ensures.value at c.in_ok-seat.ensures.done;
+      beside = subst (λ node. AreOfWork config seed (blocks_of plan node) gossip (starts ∷ []) all.lists.items)
+          c.requires.node
+          (subst (λ was. AreOfWork config seed (blocks_of plan c.args.node) gossip was all.lists.items) first calls);
+    })
+    c.make_calls_beside.ensures.given c.make_calls_beside.ensures.calls

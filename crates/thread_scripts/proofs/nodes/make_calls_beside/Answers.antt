@@ -1,0 +1,39 @@
+use Rattle.std.proofs.Common.{◌≡◌, ℕ, None, rules}
+use Rattle.thread_scripts.proofs.NodeLists.{of_both, of_workers}
+use Rattle.thread_scripts.proofs.Numbered.{IfOk-on}
+use Rattle.thread_scripts.proofs.Seats.{before_last, the_last}
+use Rattle.thread_scripts.proofs.nodes.make_calls_beside.Goals as goal
+
+pub jobs_of-requires-2-clause-fresh : goal.jobs_of-requires-2-clause-fresh
+jobs_of-requires-2-clause-fresh g c =
+    before_last (λ (calls : ℕ). calls ≡ 0) c.pop.new.self.items c.in-Some-pop.seat
+    (rw c.in-Some-pop.ensures.items at c.requires.fresh)
+
+pub work_and_gossip-requires-clause-seat : goal.work_and_gossip-requires-clause-seat
+work_and_gossip-requires-clause-seat g c =
+    let last : c.in-Some-pop.seat ≡ 0 =
+    the_last (λ (calls : ℕ). calls ≡ 0) c.pop.new.self.items c.in-Some-pop.seat
+    (rw c.in-Some-pop.ensures.items at c.requires.fresh) in
+    search (rules, last)
+
+pub returns-in_default-clause-calls : goal.returns-in_default-clause-calls
+returns-in_default-clause-calls g c =
+    let none : c.args.gossip ≡ None = search rules in
+    rw none (IfOk-on c.with_workers.result _ _ _
+    (λ all is memory.
+    of_workers g.L.Label.config g.L.Label.seed _ c.in_ok-jobs.jobs.items c.in_ok-work.field-0.items
+    c.args.finished.lists.items all.lists.items (rw c.deref.ensures.value at c.in_ok-jobs.ensures.asks)
+    c.in_ok-work.ensures.made memory is)
+    c.with_workers.ensures.lists c.with_workers.ensures.memory)
+
+pub returns-clause-calls : goal.returns-clause-calls
+returns-clause-calls g c =
+    let both = c.in_ok-both.both in
+    let gossip = c.in-Some.gossip in
+    rw c.in-Some.is (IfOk-on c.with_gossip.result _ _ _
+    (λ all is ended.
+    of_both g.L.Label.config g.L.Label.seed _ c.in_ok-jobs-2.jobs.items both.dones.items (gossip.wire, gossip.rounds)
+    both.gossiped.wire both.gossiped.report c.args.finished.lists.items c.in_ok-finished.finished.lists.items
+    all.lists.items (rw c.deref-2.ensures.value at c.in_ok-jobs-2.ensures.asks) c.in_ok-both.ensures.made
+    c.in_ok-finished.ensures.memory c.in_ok-finished.ensures.lists is ended c.in_ok-both.ensures.gossiped)
+    c.with_gossip.ensures.lists c.with_gossip.ensures.ended)

@@ -1,0 +1,74 @@
+-- Which calls receipts are of.
+use Rattle.std.specs.Prelude.{◌≡◌, ◌≢◌, ◌⊎◌, ◌==◌, ℕ, Bool, true, false, MatchBool, List, [], ◌∷◌, ◌++◌}
+use Rattle.std.specs.List.{list_any}
+use Rattle.node_core.specs.declared.config.Config.{Config}
+use Rattle.node_calls.specs.declared.ask.Ask.{Ask}
+use Rattle.node_calls.specs.declared.fault.NodeFault.{NodeFault}
+use Rattle.node_calls.specs.declared.fault.NodeFault.TheVariants as faults
+use Rattle.node_calls.specs.declared.receipt.Receipt.{Receipt}
+use Rattle.node_calls.specs.Asks.{ask_value_first}
+use Rattle.node_calls.specs.Told.{AskTold, ask_told}
+use Rattle.node_registry.specs.declared.workers.Done.{Done}
+use Rattle.node_registry.specs.Receipts.{IsRefused}
+use Rattle.gossip.specs.declared.report.GossipReport.{GossipReport}
+use Rattle.gossip.specs.declared.report.Ended.TheVariants as ends
+use Rattle.gossip.specs.Spreads.{Spreads, SpreadsNothing}
+use Rattle.thread_plans.specs.Lines.{StartValue, makes, spreads}
+
+-- Calls that were asked in this order: each was accepted, and has the next receipt, or the node refused it, otherwise
+-- than as out of memory
+pub data AreMade (config : Config) (seed : List ℕ) : List AskTold → List Receipt → Type 0 where
+  no_call : AreMade config seed [] []
+  accepted : {r : Receipt} {asks : List AskTold} {receipts : List Receipt} → AreMade config seed asks receipts
+      → AreMade config seed (ask_told r.entry.ask ∷ asks) (r ∷ receipts)
+  refused : (ask : Ask) {fault : NodeFault} {asks : List AskTold} {receipts : List Receipt}
+      → IsRefused config seed (ask_value_first config.nodes ask) fault → fault ≢ faults.OutOfMemory
+      → AreMade config seed asks receipts → AreMade config seed (ask_told ask ∷ asks) receipts
+
+-- receipts were added behind others
+abbrev pub Adds : (List Receipt → Type 0) → List Receipt → List Receipt → Type 0
+Adds Are was now = (more : List Receipt) × (now ≡ was ++ more) × Are more
+
+-- ---- what a node does before its workers start
+
+-- a spread that wasn't ended by memory
+abbrev pub AreOfSpread : Config → List ℕ → List ℕ → List Receipt → Type 0
+AreOfSpread config seed name receipts =
+    (r : GossipReport) × (r.receipts.items ≡ receipts) × (r.ended ≡ ends.Done)
+    × (Spreads config seed name r ⊎ SpreadsNothing name r)
+
+abbrev pub AreOfStart : Config → List ℕ → StartValue → List Receipt → Type 0
+AreOfStart config seed (makes ask) receipts = AreMade config seed (ask ∷ []) receipts
+AreOfStart config seed (spreads name) receipts = AreOfSpread config seed name receipts
+
+-- a line of another node does nothing here
+abbrev pub AreOfLine : Config → List ℕ → ℕ × StartValue → List Receipt → Type 0
+AreOfLine config seed line receipts =
+    MatchBool (line.0 == config.node) (AreOfStart config seed line.1 receipts) (receipts ≡ [])
+
+-- lines, in their order
+pub data AreOfStarts (config : Config) (seed : List ℕ) : List (ℕ × StartValue) → List Receipt → Type 0 where
+  no_line : AreOfStarts config seed [] []
+  next_line : {line : ℕ × StartValue} {lines : List (ℕ × StartValue)} (first rest : List Receipt)
+      → AreOfLine config seed line first → AreOfStarts config seed lines rest
+      → AreOfStarts config seed (line ∷ lines) (first ++ rest)
+
+-- ---- what workers do
+
+-- a call that was refused as out of memory
+abbrev pub is_memory : NodeFault → Bool
+is_memory faults.OutOfMemory = true
+is_memory _ = false
+
+-- one of these was
+abbrev pub lack_memory : List (ℕ × NodeFault) → Bool
+lack_memory refusals = list_any (λ f. is_memory f.1) refusals
+
+-- of a thread that was to make these calls; of none, where it couldn't start
+abbrev pub AreOfThread : Config → List ℕ → List AskTold → List Receipt → Type 0
+AreOfThread config seed asks receipts = AreMade config seed asks receipts ⊎ (receipts ≡ [])
+
+-- what a worker handed back that was to make these calls, where none lacked memory
+abbrev pub HandsBack : {L : Type 0} → Config → List ℕ → List AskTold → Done L → Type 0
+HandsBack config seed asks d =
+    lack_memory d.faults.items ≡ false → AreOfThread config seed asks d.receipts.items
