@@ -11,35 +11,42 @@ fn set_failpoints(text: &str) {
 }
 
 #[test]
-fn a_scenario_reads_the_environment() {
-    // It isn't read before.
+fn the_environment_is_read() {
+    not_before_a_scenario();
+    by_each_scenario();
+    with_an_error_for_what_is_wrong();
+    once_by_setup();
+}
+
+fn not_before_a_scenario() {
     set_failpoints("number=return(3);b.c=20%1*print(x)->off");
     assert_eq!(number(), 0);
     cfg("other", "off").unwrap();
     assert_eq!((number(), list().len()), (0, 1));
+}
 
+fn by_each_scenario() {
     let scenario = FailScenario::setup();
     let mut listed = list();
     listed.sort();
-    assert_eq!(
-        listed[0],
-        ("b.c".to_owned(), "20%1*print(x)->off".to_owned())
-    );
+    let actions = "20%1*print(x)->off".to_owned();
+    assert_eq!(listed[0], ("b.c".to_owned(), actions));
     assert_eq!((number(), listed.len()), (3, 2));
     cfg("number", "return(4)").unwrap();
     assert_eq!(number(), 4);
     scenario.teardown();
     assert_eq!((number(), list().len()), (0, 0));
 
-    // Each scenario reads it; entries may be empty, with spaces round them.
+    // Entries may be empty, with spaces round them.
     set_failpoints(" ; number=return(5) ;; ");
     let scenario = FailScenario::setup();
     assert_eq!(number(), 5);
     drop(scenario);
-
     set_failpoints("");
     FailScenario::setup().teardown();
+}
 
+fn with_an_error_for_what_is_wrong() {
     for wrong in ["number", "number=retrun", "a=off,b=off", "a b=off"] {
         set_failpoints(wrong);
         let caught = std::panic::catch_unwind(|| drop(FailScenario::setup()));
@@ -48,11 +55,12 @@ fn a_scenario_reads_the_environment() {
         assert!(told.starts_with(&begin), "{told}");
     }
     set_failpoints("number=return(6)");
-    let scenario = FailScenario::setup();
+    let _scenario = FailScenario::setup();
     assert_eq!(number(), 6);
-    drop(scenario);
+}
 
-    // The program's registry made itself; it may be set up once more, which reads FAILPOINTS once.
+// The program's registry made itself above; it may be set up all the same.
+fn once_by_setup() {
     fail::setup(0, 1, 1000).unwrap();
     assert_eq!(number(), 6);
     fail::remove("number");
