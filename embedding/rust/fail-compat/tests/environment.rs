@@ -35,7 +35,9 @@ fn by_each_scenario() {
     cfg("number", "return(4)").unwrap();
     assert_eq!(number(), 4);
     scenario.teardown();
+    // The program's node is another one, and no pass of an unset point is a call of it.
     assert_eq!((number(), list().len()), (0, 0));
+    assert_eq!(fail::program().unwrap().calls(), Ok(0));
 
     // Entries may be empty, with spaces round them.
     set_failpoints(" ; number=return(5) ;; ");

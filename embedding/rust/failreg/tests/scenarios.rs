@@ -6,6 +6,9 @@ use std::sync::Arc;
 use std::sync::atomic::{AtomicUsize, Ordering};
 use std::thread;
 
+/// How often a refused pass was told of. It guards nothing.
+static TOLD: AtomicUsize = AtomicUsize::new(0);
+
 fn passed(node: &'static Registry, name: &'static str) -> bool {
     node.eval(name).is_some()
 }
@@ -13,7 +16,8 @@ fn passed(node: &'static Registry, name: &'static str) -> bool {
 #[test]
 fn a_node_of_several_removes_its_points() {
     let builder = Registry::builder().nodes(2).cap(12);
-    let node = builder.on_refusal(OnRefusal::Ignore).install().unwrap();
+    let count = OnRefusal::call(|_| _ = TOLD.fetch_add(1, Ordering::SeqCst));
+    let node = builder.on_refusal(count).install().unwrap();
     points_are_removed(node);
     others_hear_of_it(node);
     the_cap_is_met(node);
@@ -56,5 +60,7 @@ fn the_cap_is_met(node: &'static Registry) {
     let told = *caught.unwrap_err().downcast::<String>().unwrap();
     let begin = "failpoints can't be set up: N1 TraceFull: ";
     assert!(told.starts_with(begin), "{told}");
+    // The points do nothing from then on, and that was told once.
     assert!(!passed(node, "returns"));
+    assert_eq!(TOLD.load(Ordering::SeqCst), 1);
 }
