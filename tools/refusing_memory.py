@@ -5,8 +5,8 @@ import re
 import subprocess
 
 # The C library's calls for memory. They are counted from the start, or where the start isn't
-# counted after `ready` was written, up to the next write of standard output or the end, and then
-# told.
+# counted after `ready` or `listening` was written, up to the next write of standard output or the
+# end, and then told.
 COUNTED = r"""
 #include <errno.h>
 #include <stdio.h>
@@ -59,7 +59,7 @@ __attribute__((noreturn)) void _exit(int status) {
 ssize_t write(int file, const void *bytes, size_t length) {
     if (file == 1) {
         stop_counting();
-        counts = length >= 5 && memcmp(bytes, "ready", 5) == 0;
+        counts = length >= 5 && (memcmp(bytes, "ready", 5) == 0 || memcmp(bytes, "liste", 5) == 0);
     }
     return syscall(SYS_write, file, bytes, length);
 }
@@ -87,10 +87,12 @@ class CountedMemory:
         flags = ["-O1", "-fno-builtin", "-shared", "-fPIC"]
         subprocess.run(["cc", *flags, "-o", self.library, source], check=True)
 
+    def environment(self, first=ALL, last=ALL, start_is_counted=False):
+        """The environment of a program of which the growths from first to last are refused."""
+        environment = {"LD_PRELOAD": self.library, "FIRST_REFUSED": str(first), "LAST_REFUSED": str(last)}
+        return environment | ({"START_IS_COUNTED": "yes"} if start_is_counted else {})
+
     def run(self, words, first=ALL, last=ALL, start_is_counted=False, **how):
         """What a program did of which the growths from first to last were refused."""
-        environment = {"LD_PRELOAD": self.library, "FIRST_REFUSED": str(first)}
-        environment["LAST_REFUSED"] = str(last)
-        if start_is_counted:
-            environment["START_IS_COUNTED"] = "yes"
+        environment = self.environment(first, last, start_is_counted)
         return subprocess.run(words, env=environment, capture_output=True, **how)
