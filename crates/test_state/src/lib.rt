@@ -1,5 +1,5 @@
 //! What is tested of states and of what they are made of: terms of action texts, and replicas, which
-//! learn the same in several orders; and of what replicas tell each other.
+//! learn the same in several orders.
 #![tactic(auto)]
 
 #[cfg(test)]

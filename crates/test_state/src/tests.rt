@@ -5,7 +5,6 @@
 
 mod replicas;
 mod texts;
-mod versions;
 
 use std::alloc::{AllocError, Global};
 use std::fmt::{Debug, Display};

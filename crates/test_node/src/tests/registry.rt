@@ -61,12 +61,8 @@ fn waits<R: Clock>(rt: &R, word: &AtomicU64, wanted: u64) -> bool {
 enum Scene {
     /// One caller makes calls.
     Story(&'static [Line]),
-    /// One caller is told what the trace has.
-    Receipts,
     /// Two workers wait for each other.
     Meeting,
-    /// A worker's second call is refused.
-    BadName,
     /// Eight workers make calls of each kind.
     Stress,
 }
@@ -90,9 +86,7 @@ fn act<L: Label + Send + Sync, R: Abort + Threads + Wait + Clock + Sync>(
 {
     match scene {
         Scene::Story(lines) => calls::story(rt, alloc, &registry, seats, lines),
-        Scene::Receipts => calls::receipts(rt, alloc, &registry, seats),
         Scene::Meeting => workers::two_meet(rt, alloc, &registry, seats),
-        Scene::BadName => workers::bad_name(rt, alloc, &registry, seats),
         Scene::Stress => stress::stress(rt, alloc, registry, seats, callers),
     }
 }
@@ -121,14 +115,15 @@ fn play<L: Label + Send + Sync, R: Abort + Threads + Wait + Clock + Sync>(
     act(rt, alloc, scene, registry, seats, callers)
 }
 
-const SCENES: &[Scene] = &[Scene::Story(calls::POINTS), Scene::Receipts, Scene::BadName];
-
 #[test]
 fn one_caller(rt: HostRuntime) -> Result<(), Fail> {
-    for scene in SCENES {
-        play::<Brand, HostRuntime>(&rt, rt.alloc(), Blank::new(1), 1, *scene)?;
-    }
-    Ok(())
+    play::<Brand, HostRuntime>(
+        &rt,
+        rt.alloc(),
+        Blank::new(1),
+        1,
+        Scene::Story(calls::POINTS),
+    )
 }
 
 #[test]

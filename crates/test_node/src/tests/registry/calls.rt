@@ -1,4 +1,4 @@
-//! Receipts of calls, as they are told and as they are made by the place of a pass.
+//! Receipts of passes, as they are made by the place of a pass.
 
 use super::*;
 
@@ -117,54 +117,5 @@ pub(super) fn story<L: Label, R: Abort + Wait>(
         let answer = answer(rt, alloc, registry, &mut seat, call)?;
         expect(rt, &answer.as_str(), wanted);
     }
-    Ok(())
-}
-
-/// Whether a receipt's entry stands last in the trace, and at the receipt's index.
-fn is_last(alloc: Global, node: &NodeCore, receipt: &Receipt) -> Result<bool, AllocError> {
-    let trace = node.trace();
-    match trace.last() {
-        Some(last) => {
-            let is_at_its_index = receipt.index as usize + 1 == trace.len();
-            Ok(is_at_its_index && is_same(alloc, &receipt.entry, &last.to_entry(alloc)?)?)
-        }
-        None => Ok(false),
-    }
-}
-
-// Whether the receipt of an ask stands last in the trace.
-fn is_told<L: Label, R: Wait>(
-    rt: &R,
-    alloc: Global,
-    registry: &Registry<L>,
-    seat: &mut Seat<L>,
-    ask: &Ask,
-) -> Result<bool, Fail> {
-    let receipt = registry.enter(rt, alloc, seat, ask)?;
-    Ok(registry.with(rt, |node| is_last(alloc, node, &receipt))?)
-}
-
-/// The first call sets p, and the others pass it.
-fn numbered_ask(alloc: Global, number: u32) -> Result<Ask, AllocError> {
-    if number == 0 {
-        set_ask(alloc, "p", "2*off")
-    } else {
-        pass_ask(alloc, "p")
-    }
-}
-
-/// The receipt of each call, a setting and three passes, is the last entry of the trace.
-pub(super) fn receipts<L: Label, R: Abort + Wait>(
-    rt: &R,
-    alloc: Global,
-    registry: &Registry<L>,
-    seats: Vec<Seat<L>>,
-) -> Result<(), Fail> {
-    let mut seat = seat_of(seats)?;
-    for number in 0..4 {
-        let ask = numbered_ask(alloc, number)?;
-        expect(rt, &is_told(rt, alloc, registry, &mut seat, &ask)?, &true);
-    }
-    expect(rt, &seat.calls(), &4);
     Ok(())
 }

@@ -100,13 +100,13 @@ pub(super) fn worked<L: Label + Send + Sync, A: Asks, G: Gate + Sync, R: Threads
     run_workers(rt, alloc, jobs, gate).map_err(|_| NodeFault::OutOfMemory)
 }
 
-/// Two settings, of `a` and of this name.
-struct Sets(&'static str);
+/// Two settings, of `a` and of `b`.
+struct Sets;
 
 impl Asks for Sets {
     fn asks(&self, alloc: Global, _worker: u8) -> Result<Vec<Ask>, AllocError> {
         let mut asks = Vec::new(alloc);
-        for name in ["a", self.0] {
+        for name in ["a", "b"] {
             asks.push(set_ask(alloc, name, "off")?)?;
         }
         Ok(asks)
@@ -135,24 +135,10 @@ pub(super) fn two_meet<L: Label + Send + Sync, R: Abort + Threads + Wait + Clock
         arrived: AtomicU64::new(0),
         ended: AtomicU64::new(0),
     };
-    let dones = worked(rt, alloc, registry, seats, &Sets("b"), &meeting)?;
+    let dones = worked(rt, alloc, registry, seats, &Sets, &meeting)?;
     for worker in 0..2 {
         expect(rt, &answers(&dones, worker), &Some((2, [].as_slice())));
     }
     expect(rt, &dones.len(), &2);
-    Ok(())
-}
-
-/// A worker is answered the first of two calls, and refused the second for its name.
-pub(super) fn bad_name<L: Label + Send + Sync, R: Abort + Threads + Wait + Sync>(
-    rt: &R,
-    alloc: Global,
-    registry: &Registry<L>,
-    seats: Vec<Seat<L>>,
-) -> Result<(), Fail> {
-    let dones = worked(rt, alloc, registry, seats, &Sets("a!"), &Open)?;
-    let refused = [(1, NodeFault::BadName)];
-    expect(rt, &answers(&dones, 0), &Some((1, refused.as_slice())));
-    expect(rt, &dones.len(), &1);
     Ok(())
 }
