@@ -1,4 +1,5 @@
-//! What is tested of nodes, alone and behind a lock.
+//! What is tested of nodes behind a lock, and of what nodes are made of: terms of action texts, and
+//! replicas, which learn the same in several orders.
 #![tactic(auto)]
 
 #[cfg(test)]

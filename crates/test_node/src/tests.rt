@@ -1,7 +1,12 @@
 //! Examples from outside.
+//!
+//! What changes a replica is asked again where it is refused memory, and may have changed nothing by
+//! then. A test gives up where anything else is refused memory.
 
 mod fault_texts;
 mod registry;
+mod replicas;
+mod texts;
 
 use std::alloc::{AllocError, Global};
 use std::fmt::{Debug, Display};

@@ -1,7 +1,7 @@
 //! Action texts: their terms, how they and names are ordered, and which term a pass takes.
 
-use super::{expect, expect_print};
-use actions::{ActionFault, Actions, Name, NameFault, SettingFault, Term, decide, parse_actions};
+use super::expect;
+use actions::{ActionFault, Actions, Name, Term, decide, parse_actions};
 use std::alloc::{AllocError, Global};
 use std::cmp::Ordering;
 use std::process::Abort;
@@ -94,24 +94,6 @@ fn terms(rt: HostRuntime) -> Result<(), Fail> {
     for (text, wanted) in TERMS {
         expect_terms(&rt, rt.alloc(), text, wanted)?;
     }
-    Ok(())
-}
-
-#[test]
-fn out_of_memory_in_print(rt: HostRuntime) -> Result<(), Fail> {
-    expect_print(&rt, rt.alloc(), &NameFault::OutOfMemory, "OutOfMemory")?;
-    expect_print(
-        &rt,
-        rt.alloc(),
-        &ActionFault::OutOfMemory,
-        "A11 OutOfMemory",
-    )?;
-    expect_print(
-        &rt,
-        rt.alloc(),
-        &SettingFault::OutOfMemory,
-        "S5 OutOfMemory",
-    )?;
     Ok(())
 }
 
