@@ -328,7 +328,7 @@ def time_locks(program):
     few, many = CALLS
     print(
         f"\n{'way':<10}{'term':<11}{'by':<7}{f'ns a pass, {few}':>20}{many:>8}{'ratio':>7}{'to one':>8}"
-        f"{'ns of processors':>18}{'bytes kept':>12}{'with answers':>14}"
+        f"{'ns of processors':>18}{'bytes kept':>12}"
     )
     for term, answers in ((term, answers) for term in TERMS for answers in ANSWERS):
         rounds = [
@@ -337,10 +337,9 @@ def time_locks(program):
         best = [[[min(parts) for parts in zip(*runs)] for runs in zip(*sizes)] for sizes in zip(*rounds)]
         one_thread = best[WAYS.index("registry")][1][0]
         for way, ((first, _, memory), (second, processor, twice)) in zip(WAYS, best):
-            kept, kept_twice = (spent_on_calls(program, way, term, calls, "keep")[2] for calls in CALLS)
             print(
                 f"{way:<10}{term:<11}{answers:<7}{first / few:>20.0f}{second / many:>8.0f}{second / first:>7.2f}{second / one_thread:>8.2f}"
-                f"{processor / many * 1e9:>18.0f}{(twice - memory) / few:>12.0f}{(kept_twice - kept) / few:>14.0f}"
+                f"{processor / many * 1e9:>18.0f}{(twice - memory) / few:>12.0f}"
             )
 
 

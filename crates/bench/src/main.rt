@@ -21,7 +21,7 @@ use std::time::Clock;
 const USAGE: &str = "bench COMMAND.., where a COMMAND is one word of
 maps build|raise|join|take KEYS
 messages decode|encode plain|grants NAMES TIMES
-passes core|registry|threads|nodes uncounted|counted|chance PASSES drop|keep|point
+passes core|registry|threads|nodes uncounted|counted|chance PASSES drop|point
 rounds NODES CHANGED ROUNDS, of 1 to 32 nodes, and of 256 points at most
 audits passes|forwards|backwards ENTRIES make|audit";
 

@@ -5,7 +5,7 @@ ghost use Rattle.std.specs.Prelude.{◌≡◌, ◌<◌};
 use crate::calls::{call_all, set};
 use crate::figures::Figures;
 use actions::Name;
-use node_core::{Config, Generator, NodeCore, NodeFault, PassReply, Receipt};
+use node_core::{Config, Generator, NodeCore, NodeFault};
 use node_registry::{Label, Registry, Seat};
 use std::alloc::Global;
 use std::marker::Brand;
@@ -48,12 +48,11 @@ impl Term {
     }
 }
 
-// What passes answer: values of their own, which are dropped at once or kept until all are made; or,
-// where the name was read before, places alone.
+// What passes answer: values of their own, which are dropped at once; or, where the name was read
+// before, places alone.
 #[derive(Clone, Copy, PartialEq, Eq)]
 enum Answers {
     Dropped,
-    Kept,
     Places,
 }
 
@@ -104,8 +103,7 @@ fn config_of(node: u8) -> Config {
 }
 
 // Passes the point of a node, with a word of its own each time where the term takes one.
-fn pass_core(alloc: Global, node: &mut NodeCore, load: Load) -> Result<Vec<PassReply>, NodeFault> {
-    let mut kept = Vec::new(alloc);
+fn pass_core(alloc: Global, node: &mut NodeCore, load: Load) -> Result<(), NodeFault> {
     for number in 0..load.passes {
         // The multiples of such a number lie evenly in 0 to 2^32.
         let word = [number.wrapping_mul(2_654_435_769)];
@@ -114,12 +112,9 @@ fn pass_core(alloc: Global, node: &mut NodeCore, load: Load) -> Result<Vec<PassR
         } else {
             &[]
         };
-        let reply = node.pass_with(alloc, POINT, words)?;
-        if load.answers == Answers::Kept {
-            kept.push(reply)?;
-        }
+        node.pass_with(alloc, POINT, words)?;
     }
-    Ok(kept)
+    Ok(())
 }
 
 // Passes the point of a node by its name.
@@ -145,12 +140,10 @@ fn time_core<R: AllocGlobal + Clock>(
     node.set(rt.alloc(), POINT, load.term.text())?;
     let point = Name::parse(rt.alloc(), POINT)?;
     let start = Instant::now(rt)?;
-    if load.answers == Answers::Places {
-        pass_point(rt.alloc(), node, &point, load.passes)?;
-        let end = Instant::now(rt)?;
-        return Ok(Span { start, end });
+    match load.answers {
+        Answers::Places => pass_point(rt.alloc(), node, &point, load.passes)?,
+        Answers::Dropped => pass_core(rt.alloc(), node, load)?,
     }
-    let _kept = pass_core(rt.alloc(), node, load)?;
     let end = Instant::now(rt)?;
     Ok(Span { start, end })
 }
@@ -160,22 +153,17 @@ fn by_core<R: AllocGlobal + Clock>(rt: &R, load: Load) -> anyhow::Result<Option<
     Ok(Some(time_core(rt, &mut node, load)?))
 }
 
-// Passes the point from a seat, and answers the receipts that are to be kept.
+// Passes the point from a seat.
 fn pass_often<L: Label, R: AllocGlobal + Wait>(
     rt: &R,
     registry: &Registry<L>,
     seat: &mut Seat<L>,
-    load: Load,
-) -> Result<Vec<Receipt>, NodeFault> {
-    let alloc = rt.alloc();
-    let mut kept = Vec::new(alloc);
-    for _ in 0..load.passes {
-        let receipt = registry.pass(rt, alloc, seat, POINT)?;
-        if load.answers == Answers::Kept {
-            kept.push(receipt)?;
-        }
+    passes: u32,
+) -> Result<(), NodeFault> {
+    for _ in 0..passes {
+        registry.pass(rt, rt.alloc(), seat, POINT)?;
     }
-    Ok(kept)
+    Ok(())
 }
 
 // Passes the point from a seat by its name.
@@ -201,12 +189,10 @@ fn time_seat<L: Label, R: AllocGlobal + Clock + Wait>(
 ) -> anyhow::Result<Option<Span>> {
     let point = Name::parse(rt.alloc(), POINT)?;
     let start = Instant::now(rt)?;
-    if load.answers == Answers::Places {
-        pass_places(rt, registry, seat, &point, load.passes)?;
-        let end = Instant::now(rt)?;
-        return Ok(Some(Span { start, end }));
+    match load.answers {
+        Answers::Places => pass_places(rt, registry, seat, &point, load.passes)?,
+        Answers::Dropped => pass_often(rt, registry, seat, load.passes)?,
     }
-    let _kept = pass_often(rt, registry, seat, load)?;
     let end = Instant::now(rt)?;
     Ok(Some(Span { start, end }))
 }
@@ -294,7 +280,6 @@ fn term_of(word: &str) -> Option<Term> {
 fn answers_of(word: &str) -> Option<Answers> {
     Some(match word {
         "drop" => Answers::Dropped,
-        "keep" => Answers::Kept,
         "point" => Answers::Places,
         _ => return None,
     })
