@@ -27,7 +27,7 @@ fn place_of(name: &Name) -> u8 {
 }
 
 impl Guesses {
-    /// Row 0 everywhere.
+    /// The first row at each place.
     pub(crate) fn new() -> Guesses {
         Guesses { rows: [0; PLACES] }
     }
