@@ -163,6 +163,13 @@ impl PartialEq for Name {
     ghost laws = { Prim.search (comparing, rules) };
 
     fn eq(&self, other: &Name) -> bool {
+        if self.front != other.front {
+            return false;
+        }
+        // Of a name that is no longer the first eight bytes are all.
+        if self.text.len() <= 8 && other.text.len() <= 8 {
+            return true;
+        }
         self.text == other.text
     }
 }
@@ -190,6 +197,7 @@ impl Ord for Name {
 
     fn cmp(&self, other: &Name) -> Ordering {
         match self.front.cmp(&other.front) {
+            Ordering::Equal if self.text.len() <= 8 && other.text.len() <= 8 => Ordering::Equal,
             Ordering::Equal => self.text.cmp(&other.text),
             order @ (Ordering::Less | Ordering::Greater) => order,
         }
