@@ -106,6 +106,29 @@ impl NodeCore {
         Ok(())
     }
 
+    /// Passes a point by its name as `record_pass` does. No text is copied.
+    pub fn record_point(
+        &mut self,
+        alloc: Global,
+        point: &Name,
+        words: &[u32],
+    ) -> Result<(), NodeFault>
+        ensures ok { OnOk result (Accepts self.old self.new
+            (asks.Pass point.now) words.now (reply_to self.old (asks.Pass point.now) words.now)) }
+        ensures last { OnOk result (option_map asks.IsPassed (last_passed self.new)
+            ≡ Some (reply_to self.old (asks.Pass point.now) words.now)) }
+        ensures refused { IfErr result (IsRefusalOf self.old (asks.Pass point.now) words.now) }
+        ensures memory { IsErrOf result NodeFault.OutOfMemory → NameNeedsMemory self.old point.now }
+        ensures err { OnErr result (self.new ≡ self.old) }
+    {
+        self.check_trace()?;
+        // A name says of itself that it is one.
+        let _ = point.text();
+        let mut given = GivenWords::new(words);
+        self.pass(alloc, point, &mut given, false)?;
+        Ok(())
+    }
+
     /// Passes a point by its name as `pass_drawing` does, without a reply of its own (`last_pass`), and
     /// answers the random draws. No text is copied.
     pub fn pass_point<S: WordSource>(
