@@ -1,7 +1,5 @@
 -- Receipts: the entries of the traces, each once and none missing, in the order of each list.
-use Rattle.std.specs.Prelude.{◌≡◌, ℕ, ◌<◌, ◌≤◌, ◌==◌, ◌&&◌, if◌then◌else◌, List, length, All, Some, slice_get, slice_index_or, count_by, sum_by, Vec}
-use Rattle.std.specs.Ordering.{nat_cmp, ordering_then}
-use Rattle.std.specs.BTreeSet.{contains}
+use Rattle.std.specs.Prelude.{◌≡◌, ℕ, ◌<◌, ◌≤◌, ◌==◌, ◌&&◌, if◌then◌else◌, Bool, false, List, [], length, All, Option, Some, None, slice_get, slice_index_or, count_by, sum_by, Vec}
 use Rattle.std.specs.declared.alloc.Global.{Global}
 use Rattle.node_calls.specs.declared.receipt.Receipt.{Receipt}
 use Rattle.audit.specs.declared.receipts.Seen.{Seen}
@@ -29,10 +27,28 @@ given_count n i receipts = count_by (λ r. (r.node == n) && (r.index == i)) rece
 abbrev pub given_all : ℕ → ℕ → Lists → ℕ
 given_all n i lists = sum_by (λ list. given_count n i list.items) lists
 
+-- of the entries of a node, which were seen
+abbrev pub marks_in : Option (Vec Bool Global) → List Bool
+marks_in None = []
+marks_in (Some row) = row.items
+
+abbrev pub marks_of : Seen → ℕ → List Bool
+marks_of seen n = marks_in (slice_get seen.rows.items n)
+
 -- 1 where the place was seen, else 0
 unfoldable pub times_seen : Seen → ℕ → ℕ → ℕ
-times_seen seen n i =
-    if contains (λ x y. ordering_then (nat_cmp x.0 y.0) (nat_cmp x.1 y.1)) seen.places (n, i) then 1 else 0
+times_seen seen n i = if slice_index_or (marks_of seen n) i false then 1 else 0
+
+-- there is a place for this receipt
+abbrev pub HasPlace : Seen → Receipt → Type 0
+HasPlace seen receipt = receipt.index < length (marks_of seen receipt.node)
+
+-- there are as many places as these traces have entries
+abbrev pub HasPlaces : Seen → Traces → Type 0
+HasPlaces seen traces = (n : ℕ) → length (marks_of seen n) ≡ length (trace_of traces n)
+
+abbrev pub HaveSamePlaces : Seen → Seen → Type 0
+HaveSamePlaces seen other = (n : ℕ) → length (marks_of other n) ≡ length (marks_of seen n)
 
 -- no place has two receipts
 abbrev pub GivenOnce : Lists → Type 0

@@ -1,17 +1,17 @@
 //! Whether the receipts are those of the traces.
 
 ghost use Rattle.std.specs.Prelude.{◌≡◌, ℕ, ◌+◌, ◌<◌, ◌≤◌, ◌&&◌, ◌==◌, List, length, IfOk, IfSome};
-ghost use Rattle.std.specs.Prelude.{IfNone, IsTrue, ◌↔◌, All, if◌then◌else◌};
+ghost use Rattle.std.specs.Prelude.{IfNone, IsTrue, ◌↔◌, All, false, if◌then◌else◌, slice_index_or};
 ghost use Rattle.std.specs.Bool.{OnTrue, OnFalse};
 ghost use Rattle.audit.specs.Traces.{AreShort, trace_of};
 ghost use Rattle.audit.specs.Receipts.{IsReceiptOf, AllMatch, given_count, given_all, times_seen};
+ghost use Rattle.audit.specs.Receipts.{HasPlace, HasPlaces, HaveSamePlaces};
 ghost use Rattle.audit.specs.Receipts.{IsLate, Ascends, AllAscend, IsFirstLate};
 ghost use Rattle.audit.specs.Checked.{IsChecked};
 
 use crate::told::{call_at, same_call};
 use node_core::{Receipt, Trace};
 use std::alloc::{AllocError, Global};
-use std::collections::BTreeSet;
 
 /// Why the receipts aren't those of the traces.
 #[derive(Drop, Debug)]
@@ -23,37 +23,59 @@ pub(crate) enum ReceiptFault {
     OutOfOrder { list: usize, place: usize },
 }
 
-/// The places of the receipts seen so far.
+/// The places of the receipts seen so far: of each node's trace, which entries.
 #[derive(Drop)]
 pub(crate) struct Seen {
-    places: BTreeSet<(u8, u32)>,
+    rows: Vec<Vec<bool>>,
 }
 
 impl Seen {
-    pub(crate) fn new(alloc: Global) -> Seen
-        ensures { (n i : ℕ) → times_seen result n i ≡ 0 }
+    /// None of the places of these traces.
+    pub(crate) fn new(alloc: Global, traces: &[Trace]) -> Result<Seen, AllocError>
+        ensures none { IfOk result (λ seen. (n i : ℕ) → times_seen seen n i ≡ 0) }
+        ensures places { IfOk result (λ seen. HasPlaces seen traces.now) }
     {
-        Seen {
-            places: BTreeSet::new(alloc),
+        let mut rows = Vec::new(alloc);
+        for trace in traces {
+            rows.push(vec![in alloc; false; trace.len()]?)?;
         }
+        Ok(Seen { rows })
     }
 
     pub(crate) fn has(&self, node: u8, index: u32) -> bool
         ensures { times_seen self.now node index ≡ (if result then 1 else 0) }
     {
-        self.places.contains(&(node, index))
+        let node = node as usize;
+        if node >= self.rows.len() {
+            return false;
+        }
+        is_marked(self.rows[node].as_slice(), index as usize)
     }
 
     /// Notes a receipt; whether it is the first of its place.
-    pub(crate) fn note(&mut self, receipt: &Receipt) -> Result<bool, AllocError>
-        ensures first { IfOk result (λ first. OnTrue first ((n i : ℕ) →
+    pub(crate) fn note(&mut self, receipt: &Receipt) -> bool
+        requires { HasPlace self.old receipt.now }
+        ensures first { OnTrue result ((n i : ℕ) →
             times_seen self.new n i ≡ times_seen self.old n i
-            + (if (receipt.now.node == n) && (receipt.now.index == i) then 1 else 0))) }
-        ensures again { IfOk result (λ first. OnFalse first
-            (times_seen self.old receipt.now.node receipt.now.index ≡ 1)) }
+            + (if (receipt.now.node == n) && (receipt.now.index == i) then 1 else 0)) }
+        ensures again { OnFalse result
+            (times_seen self.old receipt.now.node receipt.now.index ≡ 1) }
+        ensures places { HaveSamePlaces self.old self.new }
     {
-        Ok(self.places.insert((receipt.node, receipt.index))?)
+        let row = &mut self.rows[receipt.node as usize];
+        let index = receipt.index as usize;
+        if row[index] {
+            return false;
+        }
+        row[index] = true;
+        true
     }
+}
+
+fn is_marked(row: &[bool], index: usize) -> bool
+    ensures { result ≡ slice_index_or row.now index false }
+{
+    index < row.len() && row[index]
 }
 
 /// Whether a receipt holds the entry at its place.
@@ -93,30 +115,37 @@ fn all_match(traces: &[Trace], lists: &[Vec<Receipt>]) -> bool
 }
 
 /// Notes a list of receipts; false where a place comes again.
-fn note_list(seen: &mut Seen, receipts: &[Receipt]) -> Result<bool, AllocError>
-    ensures once { IfOk result (λ once. OnTrue once ((n i : ℕ) →
-        times_seen seen.new n i ≡ times_seen seen.old n i + given_count n i receipts.now)) }
-    ensures twice { IfOk result (λ once. OnFalse once ((n : ℕ) × (i : ℕ)
-        × (2 ≤ times_seen seen.old n i + given_count n i receipts.now))) }
+fn note_list(seen: &mut Seen, receipts: &[Receipt]) -> bool
+    requires { All (HasPlace seen.old) receipts.now }
+    ensures once { OnTrue result ((n i : ℕ) →
+        times_seen seen.new n i ≡ times_seen seen.old n i + given_count n i receipts.now) }
+    ensures twice { OnFalse result ((n : ℕ) × (i : ℕ)
+        × (2 ≤ times_seen seen.old n i + given_count n i receipts.now)) }
+    ensures places { HaveSamePlaces seen.old seen.new }
 {
     for receipt in receipts {
-        if !seen.note(receipt)? {
-            return Ok(false);
+        if !seen.note(receipt) {
+            return false;
         }
     }
-    Ok(true)
+    true
 }
 
-/// Notes all receipts; `None` where a place comes again.
-fn note_all(alloc: Global, lists: &[Vec<Receipt>]) -> Result<Option<Seen>, AllocError>
+/// Notes all receipts, each of which is of a place; `None` where a place comes again.
+fn note_all(
+    alloc: Global,
+    traces: &[Trace],
+    lists: &[Vec<Receipt>],
+) -> Result<Option<Seen>, AllocError>
+    requires { AllMatch traces.now lists.now }
     ensures once { IfOk result (λ seen. IfSome seen (λ seen. (n i : ℕ) →
         times_seen seen n i ≡ given_all n i lists.now)) }
     ensures twice { IfOk result (λ seen. IfNone seen
         ((n : ℕ) × (i : ℕ) × (2 ≤ given_all n i lists.now))) }
 {
-    let mut seen = Seen::new(alloc);
+    let mut seen = Seen::new(alloc, traces)?;
     for list in lists {
-        if !note_list(&mut seen, list.as_slice())? {
+        if !note_list(&mut seen, list.as_slice()) {
             return Ok(None);
         }
     }
@@ -198,7 +227,7 @@ pub(crate) fn check_receipts(
     if !all_match(traces, lists) {
         return Err(ReceiptFault::Differs);
     }
-    let noted = match note_all(alloc, lists) {
+    let noted = match note_all(alloc, traces, lists) {
         Ok(noted) => noted,
         Err(_) => return Err(ReceiptFault::OutOfMemory),
     };

@@ -75,7 +75,7 @@ fn gives_pass(alloc: Global, core: &mut NodeCore, pass: Pass<'_>) -> Result<bool
         (with_call core.old (call_from core.old.config.nodes (pass_value pass.entry))) → ⊥)) }
     ensures err { IfErr result (λ fault. fault ≡ NodeFault.OutOfMemory) }
 {
-    match core.record_pass(alloc, pass.name.text(), pass.words) {
+    match core.record_point(alloc, pass.name, pass.words) {
         Ok(()) => Ok(has_passed(core, pass.reply())),
         Err(fault) => refused(fault),
     }
