@@ -1,16 +1,35 @@
 //! What an event is answered, as a line of the output.
 
-ghost use Rattle.std.specs.Prelude.{◌≡◌, ◌≢◌, ℕ, IfOk, IsOk, OnOk};
+ghost use Rattle.std.specs.Prelude.{◌≡◌, ◌≢◌, ℕ, IfOk, IsOk, OnOk, decimal};
+ghost use Rattle.stamp_register.specs.Keys.{stamp_text};
 ghost use Rattle.node_calls.specs.Asks.{answered_from};
 ghost use Rattle.node_calls.specs.Told.{passed_ref, reply_ref_told};
 ghost use Rattle.node_calls.specs.declared.fault.NodeFault.TheVariants.{OutOfMemory};
 ghost use Rattle.cluster_model.specs.declared.fault.WorldFault.TheVariants.{Refused};
-ghost use Rattle.scripts.specs.Replies.{PrintsLine, bad_line_text, pass_text, refused_text, reply_text};
+ghost use Rattle.scripts.specs.Replies.{Prints, PrintsLine, bad_line_text, pass_text, refused_text};
+ghost use Rattle.scripts.specs.Replies.{reply_text};
 
 use cluster_model::WorldFault;
+use itoa::Buffer;
 use node_core::{NodeFault, PassReplyRef, ReplyRef};
+use stamp_register::Stamp;
 use std::alloc::AllocError;
 use std::fmt::Write;
+
+// A formatter prints the same, and takes three times as long: passes are most of a script.
+fn print_number(out: &mut String, number: u64) -> Result<(), AllocError>
+    ensures { Prints result out.old out.new (decimal number) }
+{
+    out.push_str(Buffer::new().format(number))
+}
+
+fn print_stamp(out: &mut String, stamp: Stamp) -> Result<(), AllocError>
+    ensures { Prints result out.old out.new (stamp_text stamp) }
+{
+    print_number(out, stamp.clock)?;
+    out.push_str(".")?;
+    print_number(out, u64::from(stamp.node))
+}
 
 fn print_pass(out: &mut String, reply: PassReplyRef<'_>) -> Result<(), AllocError>
     ensures { PrintsLine result out.old out.new (pass_text (passed_ref reply.entry)) }
@@ -18,12 +37,12 @@ fn print_pass(out: &mut String, reply: PassReplyRef<'_>) -> Result<(), AllocErro
     match reply {
         PassReplyRef::Unset => writeln!(out, "unset"),
         PassReplyRef::NoTerm { stamp } => writeln!(out, "none {stamp}"),
-        // The words between are pushed as they are: a formatter makes them as dear as numbers.
+        // The words between are pushed as they are, for the same reason.
         PassReplyRef::Act { stamp, term, task } => {
             out.push_str("act ")?;
-            write!(out, "{stamp}")?;
+            print_stamp(out, stamp)?;
             out.push_str(" ")?;
-            write!(out, "{term}")?;
+            print_number(out, u64::from(term))?;
             out.push_str(" ")?;
             write!(out, "{task}")?;
             out.push_str("\n")
