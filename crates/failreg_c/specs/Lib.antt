@@ -4,3 +4,4 @@ pub mod Told
 pub mod Calls
 pub mod Pauses
 pub mod Points
+pub mod Answered

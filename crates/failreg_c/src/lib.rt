@@ -3,6 +3,7 @@
 #![tactic(auto)]
 
 mod act;
+mod answering;
 mod calls;
 mod handle;
 mod numbers;

@@ -17,11 +17,13 @@ ghost use Rattle.failreg_c.specs.Calls.{FillsFront, IsEmitted, IsLeft, IsMade, I
 ghost use Rattle.failreg_c.specs.Calls.{IsPassedDrawing, IsPassedGiven, IsRefused, IsRefusedOf};
 ghost use Rattle.failreg_c.specs.Calls.{AtPoint, HasNumber, IsLeftAt, IsRefusedAt, IsSaid};
 ghost use Rattle.failreg_c.specs.Calls.{said_of, words_drawn};
+ghost use Rattle.failreg_c.specs.Answered.{IsAnswered, IsNoRequest};
 
 use crate::act::{Act, UNSET, act_of, into_text, text_of};
 use crate::numbers::NO_STAMP;
 use crate::points::Points;
 use actions::{Name, NameFault};
+use http_paths::Routes;
 use node_core::{Generator, NodeCore, NodeFault};
 use stamp_register::Stamp;
 use std::alloc::{AllocError, Global};
@@ -369,6 +371,35 @@ impl Registry {
             Ok(changed) => (0, changed),
             Err(fault) => (self.refuse(fault), false),
         }
+    }
+
+    /// Answers a request of HTTP, and tells its status. The body of the reply is to be fetched.
+    pub(crate) fn answer(
+        &mut self,
+        alloc: Global,
+        method: &[u8],
+        path: &[u8],
+        body: &[u8],
+    ) -> (u32, u16)
+        ensures ok { result.0 ≡ 0
+            → IsAnswered method.now path.now body.now result.1 self.old self.new }
+        ensures refused { result.0 ≢ 0 → IsNoRequest method.now path.now result.0 }
+        ensures same { result.0 ≢ 0 → self.new ≡ self.old }
+        ensures none { result.0 ≢ 0 → result.1 ≡ 0 }
+    {
+        let Ok(method) = str::from_utf8(method) else {
+            return (NOT_TEXT, 0);
+        };
+        let Ok(path) = str::from_utf8(path) else {
+            return (NOT_TEXT, 0);
+        };
+        let Ok(routes) = Routes::new(alloc) else {
+            self.said = Said::Bytes(Vec::new(alloc));
+            return (0, 503);
+        };
+        let reply = http_routes::answer(&mut self.core, alloc, &routes, method, path, body);
+        self.said = Said::Bytes(reply.body);
+        (0, reply.status)
     }
 
     /// Lists the points that are set, to be fetched.
