@@ -41,8 +41,12 @@ impl Sums {
         ensures { OnOk result ((other : Stamp) (k : ℕ) → sum_of self.new other k
             ≡ sum_of self.old other k + (if is_term stamp term other k then amount else 0)) }
     {
-        let sum = self.of(stamp, term) + u128::from(amount);
-        self.sums.insert((stamp.clock, stamp.node, term), sum)?;
+        let place = (stamp.clock, stamp.node, term);
+        if let Some(sum) = self.sums.get_mut(&place) {
+            *sum += u128::from(amount);
+            return Ok(());
+        }
+        self.sums.insert(place, u128::from(amount))?;
         Ok(())
     }
 }
