@@ -297,7 +297,7 @@ pub(crate) fn others(peers: &[Peer], own: u8, nodes: u8) -> Result<Vec<Peer>, Er
             return Err(Error::new(ErrorKind::NotLocal, fault).at_address(addr));
         }
         if *node >= nodes {
-            let fault = format!("the cluster has {nodes} nodes, and no node {node}");
+            let fault = format!("there is no node {node} in a cluster of {nodes}");
             return Err(Error::new(ErrorKind::BadPeer, fault).at_address(addr));
         }
         if others.iter().any(|other| other.node == *node) {
@@ -407,7 +407,7 @@ mod tests {
             (
                 vec![at(2, "127.0.0.1:1")],
                 ErrorKind::BadPeer,
-                "address 127.0.0.1:1: the cluster has 2 nodes, and no node 2: ",
+                "address 127.0.0.1:1: there is no node 2 in a cluster of 2: ",
             ),
             (
                 vec![one, one],

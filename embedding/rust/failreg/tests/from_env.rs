@@ -1,8 +1,14 @@
 //! `from_env`, in processes of their own: each has one environment and one registry.
 
-use failreg::fail_point;
+mod clients;
+
+use failreg::{Registry, fail_point};
+use std::io::{BufRead, BufReader};
+use std::net::{SocketAddr, TcpStream};
 use std::path::{Path, PathBuf};
-use std::process::Command;
+use std::process::{Command, Stdio};
+use std::sync::Arc;
+use std::time::Duration;
 
 fn order() -> bool {
     fail_point!("order", |_| true);
@@ -93,11 +99,20 @@ fn a_bad_value_is_told_and_makes_no_registry() {
             "1e6",
             "BadVariable FAILREG_CAP=\"1e6\": wanted is ",
         ),
-        ("FAILREG_LISTEN", "", "Unsupported FAILREG_LISTEN=\"\": "),
+        (
+            "FAILREG_LISTEN",
+            "",
+            "BadVariable FAILREG_LISTEN=\"\": wanted is ",
+        ),
         (
             "FAILREG_PEERS",
             "a:1",
-            "Unsupported FAILREG_PEERS=\"a:1\": ",
+            "BadVariable FAILREG_PEERS=\"a:1\": wanted are ",
+        ),
+        (
+            "FAILREG_PEERS",
+            "1:7070",
+            "BadPeer FAILREG_PEERS: address 127.0.0.1:7070: there is no node 1 in a cluster of 1",
         ),
         (
             "FAILPOINTS",
@@ -113,6 +128,63 @@ fn a_bad_value_is_told_and_makes_no_registry() {
         let told = told(&[(name, value)]);
         assert!(told.contains(begin), "{name}: {told}");
     }
+}
+
+const SERVED: &str = "FAILREG_TEST_SERVED";
+
+// What the next test runs: it is served, and tells its peer, until `order` is removed.
+#[test]
+fn served_child() {
+    if std::env::var_os(SERVED).is_none() {
+        return;
+    }
+    let program = failreg::from_env().unwrap();
+    let addr = program.serving().unwrap().addr();
+    println!("\nserved at {addr}");
+    while program.is_set("order") {
+        std::thread::sleep(Duration::from_millis(5));
+    }
+    assert!(program.gossip().unwrap().peers()[0].messages > 0);
+    program.finish().unwrap();
+    assert!(TcpStream::connect(addr).is_err());
+    println!("\nthe end");
+}
+
+#[test]
+fn a_program_is_served_and_tells_its_peers() {
+    let node = Arc::new(Registry::open(0, 2, 1_000).unwrap());
+    let serving = failreg::serve(node.clone(), "127.0.0.1:0").unwrap();
+    let peers = format!("0:{},1:7", serving.addr().port());
+    let mut child = Command::new(std::env::current_exe().unwrap())
+        .args(["--exact", "served_child", "--nocapture"])
+        .env(SERVED, "")
+        .env("FAILREG_NODE", "1/2")
+        .env("FAILREG_LISTEN", "127.0.0.1:0")
+        .env("FAILREG_PEERS", peers)
+        .env("FAILPOINTS", "order=3*return->off")
+        .stdout(Stdio::piped())
+        .spawn()
+        .unwrap();
+    let mut lines = BufReader::new(child.stdout.take().unwrap()).lines();
+    let mut line_of = |begin: &str| {
+        let mut rest = lines.by_ref().map(Result::unwrap);
+        rest.find_map(|line| line.strip_prefix(begin).map(str::to_string))
+    };
+    let addr: SocketAddr = line_of("served at ").unwrap().parse().unwrap();
+    assert!(clients::comes(|| node.is_set("order")), "the child tells");
+    let listed = clients::ask(addr, "GET", "/fail", "");
+    assert_eq!(listed, (200, "order=3*return->off".into()));
+    let taken = [("FAILREG_LISTEN", addr.to_string())];
+    let taken = told(
+        &taken
+            .each_ref()
+            .map(|(name, value)| (*name, value.as_str())),
+    );
+    let begin = format!("CantListen FAILREG_LISTEN: address {addr}: Address already in use");
+    assert!(taken.contains(&begin), "{taken}");
+    assert_eq!(clients::ask(addr, "DELETE", "/fail/order", "").0, 200);
+    assert_eq!(line_of("the end"), Some(String::new()));
+    assert!(child.wait().unwrap().success());
 }
 
 #[test]
