@@ -45,10 +45,10 @@ fn nodes_share_a_count_and_fall_silent() {
         .iter()
         .map(|node| gossip(node.clone(), &peers, EVERY).unwrap())
         .collect();
-    let at = |path, body| {
+    let at = |path, body: &str| {
         ask(
             peers[0].addr,
-            if body == "" { "POST" } else { "PUT" },
+            if body.is_empty() { "POST" } else { "PUT" },
             path,
             body,
         )
