@@ -3,9 +3,10 @@
 //!
 //!     serving_speed [ROUNDS]
 //!
-//! Three nodes take turns, each a million passes in a round: one alone, one that is served and that
-//! nobody asks, one that is served and tells a peer. It prints the least and the median of the
-//! rounds, in nanoseconds a pass, and their ratios to those of the one alone.
+//! In a round each of three nodes makes a million passes: one alone, one that is served and that
+//! nobody asks, one that is served and tells a peer, which tells it; in the next round they change
+//! places. It prints the least and the median of the rounds, in nanoseconds a pass, and their ratios
+//! to those alone.
 
 use failreg::{Error, Gossip, Peer, Registry, Serving, fail_point, gossip, serve};
 use std::hint::black_box;
@@ -40,40 +41,48 @@ fn serve_free(node: &Arc<Registry>) -> Result<Serving, Error> {
     serve(node.clone(), (Ipv4Addr::LOCALHOST, 0))
 }
 
-// A peer's service, and two that tell each other.
-fn tell_each_other(
-    node: &Arc<Registry>,
-    serving: &Serving,
-    peer: &Arc<Registry>,
-) -> Result<(Serving, Gossip, Gossip), Error> {
-    let its = serve_free(peer)?;
-    let there = gossip(node.clone(), &[Peer::new(1, its.addr())], EVERY)?;
-    let back = gossip(peer.clone(), &[Peer::new(0, serving.addr())], EVERY)?;
-    Ok((its, there, back))
+/// A node, and a peer that it may tell. A peer is never opened again under its number.
+struct Pair {
+    node: Arc<Registry>,
+    peer: Arc<Registry>,
 }
 
-fn round(nodes: &[Arc<Registry>; 3], peer: &Arc<Registry>) -> Result<[f64; 3], Error> {
-    let alone = time(&nodes[0]);
-    let serving = serve_free(&nodes[1])?;
-    let served = time(&nodes[1]);
+impl Pair {
+    fn open() -> Result<Pair, Error> {
+        let (node, peer) = (open(0)?, open(1)?);
+        node.set("some.point", "off")?;
+        Ok(Pair { node, peer })
+    }
+
+    // The peer's service, and both telling each other.
+    fn tell(&self, serving: &Serving) -> Result<(Serving, Gossip, Gossip), Error> {
+        let its = serve_free(&self.peer)?;
+        let there = gossip(self.node.clone(), &[Peer::new(1, its.addr())], EVERY)?;
+        let back = gossip(self.peer.clone(), &[Peer::new(0, serving.addr())], EVERY)?;
+        Ok((its, there, back))
+    }
+}
+
+fn round([alone, served, telling]: [&Pair; 3]) -> Result<[f64; 3], Error> {
+    let alone = time(&alone.node);
+    let serving = serve_free(&served.node)?;
+    let served = time(&served.node);
     serving.stop();
-    let serving = serve_free(&nodes[2])?;
-    let (_its, there, _back) = tell_each_other(&nodes[2], &serving, peer)?;
-    let telling = time(&nodes[2]);
+    let serving = serve_free(&telling.node)?;
+    let (_its, there, _back) = telling.tell(&serving)?;
+    let telling = time(&telling.node);
     assert!(there.peers()[0].messages > 0, "the peer was told");
     Ok([alone, served, telling])
 }
 
 fn main() -> Result<(), Error> {
-    let rounds = std::env::args().nth(1).map_or(Ok(9), |text| text.parse());
+    let rounds = std::env::args().nth(1).map_or(Ok(12), |text| text.parse());
     let rounds: usize = rounds.expect("serving_speed [ROUNDS]");
-    let (nodes, peer) = ([open(0)?, open(0)?, open(0)?], open(1)?);
-    for node in &nodes {
-        node.set("some.point", "off")?;
-    }
+    let pairs = [Pair::open()?, Pair::open()?, Pair::open()?];
     let mut all: [Vec<f64>; 3] = Default::default();
-    for _ in 0..rounds {
-        let took = round(&nodes, &peer)?;
+    for turn in 0..rounds {
+        // Where in memory a node lies makes a difference, so each takes each turn.
+        let took = round([0, 1, 2].map(|kind| &pairs[(turn + kind) % 3]))?;
         all.iter_mut()
             .zip(took)
             .for_each(|(kind, took)| kind.push(took));

@@ -340,43 +340,22 @@ mod tests {
     }
 
     #[cfg(feature = "failpoints")]
+    const BAD_ADDRESSES: &str = "|7071|127.0.0.1|localhost:7071|127.0.0.1:65536|10.0.0.1:7071|\
+        0.0.0.0:7071|[::]:7071|127.0.0.1:7071,127.0.0.1:7072| 127.0.0.1:7071";
+
+    #[cfg(feature = "failpoints")]
+    const BAD_PEERS: &str = "|7070|0|0:|:7070|0:65536|256:1|+0:7070|0:+7070|0:7070,|0:7070 2:7072|\
+        0:7070, 2:7072|0@7070|0@10.0.0.1:7070|@127.0.0.1:7070|0@localhost:7070|a@127.0.0.1:7070|\
+        0:127.0.0.1:7070";
+
+    #[cfg(feature = "failpoints")]
     #[test]
     fn a_bad_address_or_peer_is_named() {
-        let addresses = [
-            "",
-            "7071",
-            "127.0.0.1",
-            "localhost:7071",
-            "127.0.0.1:65536",
-            "10.0.0.1:7071",
-            "0.0.0.0:7071",
-            "[::]:7071",
-            "127.0.0.1:7071,127.0.0.1:7072",
-            " 127.0.0.1:7071",
-        ];
-        let peers = [
-            "",
-            "7070",
-            "0",
-            "0:",
-            ":7070",
-            "0:65536",
-            "256:1",
-            "+0:7070",
-            "0:+7070",
-            "0:7070,",
-            "0:7070 2:7072",
-            "0:7070, 2:7072",
-            "0@7070",
-            "0@10.0.0.1:7070",
-            "@127.0.0.1:7070",
-            "0@localhost:7070",
-            "a@127.0.0.1:7070",
-            "0:127.0.0.1:7070",
-        ];
-        let addresses = addresses.map(|value| (LISTEN, value, LISTEN_WANTED));
-        let peers = peers.map(|value| (PEERS, value, PEERS_WANTED));
-        for (name, value, fault) in addresses.into_iter().chain(peers) {
+        let addresses = BAD_ADDRESSES
+            .split('|')
+            .map(|it| (LISTEN, it, LISTEN_WANTED));
+        let peers = BAD_PEERS.split('|').map(|it| (PEERS, it, PEERS_WANTED));
+        for (name, value, fault) in addresses.chain(peers) {
             let error = wanted(&[(name, value), (NODE, "1/3")]).unwrap_err();
             assert_eq!(error.kind(), ErrorKind::BadVariable, "{name}={value}");
             let text = format!("{name}={value:?}: {fault}: give it such a value, or unset it");

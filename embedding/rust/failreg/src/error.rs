@@ -89,13 +89,8 @@ impl ErrorKind {
             ErrorKind::AlreadyOpen => "set it up before anything else uses the program's points",
             ErrorKind::BadVariable => "give it such a value, or unset it",
             ErrorKind::Unsupported => "unset it",
-            ErrorKind::NotLocal => {
-                "give an address of this machine alone, as 127.0.0.1:7070 or [::1]:7070: whoever \
-                 connects may set points, without a password"
-            }
-            ErrorKind::CantListen => {
-                "give an address of this machine at which nobody listens; port 0 takes a free port"
-            }
+            ErrorKind::NotLocal => "give one of this machine alone, as 127.0.0.1:7070",
+            ErrorKind::CantListen => "give one where nobody listens, or port 0 for a free one",
             ErrorKind::BadPeer => "name each other node of the cluster once, by its number",
             ErrorKind::NoThread => "let the process have more threads, or more memory",
             ErrorKind::Disabled => "build it with the feature `failpoints` of the crate failreg",

@@ -293,7 +293,10 @@ pub(crate) fn others(peers: &[Peer], own: u8, nodes: u8) -> Result<Vec<Peer>, Er
     for peer in peers {
         let Peer { node, addr } = peer;
         if !addr.ip().is_loopback() {
-            let fault = format!("{} is no address of this machine alone", addr.ip());
+            let fault = format!(
+                "{} isn't of this machine alone, and there is no password",
+                addr.ip()
+            );
             return Err(Error::new(ErrorKind::NotLocal, fault).at_address(addr));
         }
         if *node >= nodes {
@@ -402,7 +405,7 @@ mod tests {
             (
                 vec![at(1, "10.0.0.1:7070")],
                 ErrorKind::NotLocal,
-                "address 10.0.0.1:7070: 10.0.0.1 is no address of this machine alone: ",
+                "address 10.0.0.1:7070: 10.0.0.1 isn't of this machine alone, and there is no password: ",
             ),
             (
                 vec![at(2, "127.0.0.1:1")],

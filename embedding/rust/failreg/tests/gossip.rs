@@ -33,32 +33,49 @@ fn news(gossip: &Gossip) -> PeerNews {
     peers.remove(0)
 }
 
+/// Nodes that are served, and tell each other until this is dropped.
+struct Cluster {
+    nodes: Vec<Arc<Registry>>,
+    gossips: Vec<Gossip>,
+    served: Vec<Serving>,
+}
+
+impl Cluster {
+    fn of(count: u8) -> Cluster {
+        let nodes: Vec<_> = (0..count).map(|number| open(number, count)).collect();
+        let served: Vec<_> = nodes.iter().map(serve_free).collect();
+        let peer = |(node, serving): (u8, &Serving)| Peer::new(node, serving.addr());
+        let peers: Vec<_> = (0..).zip(&served).map(peer).collect();
+        let tell = |node: &Arc<Registry>| gossip(node.clone(), &peers, EVERY).unwrap();
+        let gossips = nodes.iter().map(tell).collect();
+        Cluster {
+            nodes,
+            gossips,
+            served,
+        }
+    }
+
+    fn calls(&self) -> u64 {
+        self.nodes.iter().map(|node| node.calls().unwrap()).sum()
+    }
+
+    // Whether no node makes a call for ten rests between rounds.
+    fn is_silent(&self) -> bool {
+        let before = self.calls();
+        thread::sleep(10 * EVERY);
+        self.calls() == before
+    }
+}
+
 #[test]
 fn nodes_share_a_count_and_fall_silent() {
-    let nodes: Vec<_> = (0..3).map(|number| open(number, 3)).collect();
-    let served: Vec<_> = nodes.iter().map(serve_free).collect();
-    let peers: Vec<_> = (0..)
-        .zip(&served)
-        .map(|(node, serving)| Peer::new(node, serving.addr()))
-        .collect();
-    let tells: Vec<_> = nodes
-        .iter()
-        .map(|node| gossip(node.clone(), &peers, EVERY).unwrap())
-        .collect();
-    let at = |path, body: &str| {
-        ask(
-            peers[0].addr,
-            if body.is_empty() { "POST" } else { "PUT" },
-            path,
-            body,
-        )
-    };
-    assert_eq!(at("/fail/p", "5*return->off").0, 200);
-    assert_eq!(at("/shift/p/0/1/2", "").0, 200);
-    assert_eq!(at("/shift/p/0/2/1", "").0, 200);
-    assert!(comes(|| {
-        nodes[1].rights("p", 0, 1) == Ok(2) && nodes[2].rights("p", 0, 2) == Ok(1)
-    }));
+    let cluster = Cluster::of(3);
+    let (nodes, first) = (&cluster.nodes, cluster.served[0].addr());
+    assert_eq!(ask(first, "PUT", "/fail/p", "5*return->off").0, 200);
+    assert_eq!(ask(first, "POST", "/shift/p/0/1/2", "").0, 200);
+    assert_eq!(ask(first, "POST", "/shift/p/0/2/1", "").0, 200);
+    let rights = |of: u8| nodes[usize::from(of)].rights("p", 0, of);
+    assert!(comes(|| rights(1) == Ok(2) && rights(2) == Ok(1)));
     let ran = |node: &Arc<Registry>| (0..9).filter(|_| node.eval("p").is_some()).count();
     assert_eq!(nodes.iter().map(ran).collect::<Vec<_>>(), [2, 2, 1]);
     assert!(comes(|| nodes
@@ -66,25 +83,15 @@ fn nodes_share_a_count_and_fall_silent() {
         .all(|node| node.spent("p", 0) == Ok(5))));
     assert!(comes(|| nodes.iter().all(|node| node.hits("p") == Ok(27))));
     // Then nobody has anything to tell, and no entry is made.
-    let calls = || nodes.iter().map(|node| node.calls().unwrap()).sum::<u64>();
-    let mut last = 0;
-    assert!(comes(|| {
-        thread::sleep(10 * EVERY);
-        std::mem::replace(&mut last, calls()) == calls()
-    }));
+    assert!(comes(|| cluster.is_silent()));
+    let before = cluster.calls();
     thread::sleep(50 * EVERY);
-    assert_eq!(calls(), last);
-    let reports: Vec<_> = served
-        .iter()
-        .map(|it| ask(it.addr(), "GET", "/report", ""))
-        .collect();
-    assert!(
-        reports
-            .iter()
-            .all(|report| *report == reports[0] && report.0 == 200)
-    );
+    assert_eq!(cluster.calls(), before);
+    let report = |serving: &Serving| ask(serving.addr(), "GET", "/report", "");
+    let reports: Vec<_> = cluster.served.iter().map(report).collect();
+    assert!(reports.iter().all(|it| *it == reports[0] && it.0 == 200));
     // The node itself is no peer of its own.
-    assert!(tells.iter().all(|it| it.peers().len() == 2));
+    assert!(cluster.gossips.iter().all(|it| it.peers().len() == 2));
 }
 
 #[test]

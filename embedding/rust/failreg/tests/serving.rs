@@ -86,6 +86,14 @@ fn each_request_is_answered() {
         let body = told.as_bytes().to_vec();
         assert_eq!(reply, Reply { status: 200, body });
     }
+    // A program's own server may hand on a body of any length.
+    let reply = node
+        .answer("POST", "/gossip", &vec![0; 67_108_865])
+        .unwrap();
+    assert_eq!(
+        (reply.status, reply.body.as_slice()),
+        (413, &b"too long"[..])
+    );
     let (status, report) = ask(addr, "GET", "/report", "");
     assert!(status == 200 && report.starts_with("[{\"actions\":\"3*return(x)->off\","));
     // Threads see what requests set.
@@ -138,99 +146,97 @@ fn what_requests_ask_for_is_in_the_drill() {
     );
 }
 
+// What is sent behind `PUT /fail/p HTTP/1.1` and a Host: fields, the body, and the status.
+const BAD_FIELDS: [(&str, &str, u16); 15] = [
+    ("X: y\n", "", 400),
+    ("X y\r\n", "", 400),
+    ("Host: localhost\r\n", "", 400),
+    ("Content-Length: 3\r\nContent-Length: 3\r\n", "off", 400),
+    ("Content-Length: 3\r\nContent-Length: 4\r\n", "off", 400),
+    ("Content-Length: three\r\n", "off", 400),
+    ("Content-Length: 3\r\n", "offextra", 400),
+    (
+        "Content-Length: 3\r\n",
+        "offGET /fail HTTP/1.1\r\nHost: localhost\r\n\r\n",
+        400,
+    ),
+    ("", "off", 400),
+    ("Content-Length: 67108865\r\n", "", 413),
+    (
+        "Expect: 100-continue\r\nContent-Length: 67108865\r\n",
+        "",
+        413,
+    ),
+    (
+        "Transfer-Encoding: chunked\r\n",
+        "3\r\noff\r\n0\r\n\r\n",
+        411,
+    ),
+    ("Expect: more\r\nContent-Length: 3\r\n", "off", 417),
+    (
+        "Origin: http://127.0.0.1:1\r\nContent-Length: 3\r\n",
+        "off",
+        403,
+    ),
+    ("Origin: null\r\nContent-Length: 3\r\n", "off", 403),
+];
+
+// What is sent, and the status.
+const BAD_HEADS: [(&str, u16); 8] = [
+    ("PUT /fail/p HTTP/1.1\nHost: localhost\n\n", 400),
+    ("DELETE /fail/p HTTP/1.1\r\nHost: example.org\r\n\r\n", 403),
+    (
+        "DELETE /fail/p HTTP/1.1\r\nHost: 127.0.0.1.example.org:7070\r\n\r\n",
+        403,
+    ),
+    ("DELETE /fail/p HTTP/1.1\r\n\r\n", 400),
+    (
+        "DELETE http://localhost/fail/p HTTP/1.1\r\nHost: localhost\r\n\r\n",
+        400,
+    ),
+    ("DELETE /fail/p HTTP/2\r\nHost: localhost\r\n\r\n", 400),
+    ("hello\r\n\r\n", 400),
+    ("\x16\x03\x01\x02\0\x01\0\x01\n\x03\x03\r\n\r\n", 400),
+];
+
+// A request that sets `p`.
+fn put(fields: &str, body: &str) -> String {
+    format!("PUT /fail/p HTTP/1.1\r\nHost: localhost\r\n{fields}\r\n{body}")
+}
+
 #[test]
 fn requests_that_are_none_are_refused() {
     let (node, _serving, addr) = served(1);
-    let host = format!("Host: {addr}\r\n");
-    let put =
-        |fields: &str, body: &str| format!("PUT /fail/p HTTP/1.1\r\n{host}{fields}\r\n{body}");
-    let long = format!("X: {}\r\n", "a".repeat(9_000));
-    let other = "Origin: http://127.0.0.1:1\r\n";
-    for (what, sent, status) in [
-        (
-            "bare newlines",
-            "PUT /fail/p HTTP/1.1\nHost: localhost\n\n".to_string(),
-            400,
-        ),
-        ("a bare newline", put("X: y\n", ""), 400),
-        (
-            "two lengths",
-            put("Content-Length: 3\r\nContent-Length: 3\r\n", "off"),
-            400,
-        ),
-        (
-            "other lengths",
-            put("Content-Length: 3\r\nContent-Length: 4\r\n", "off"),
-            400,
-        ),
-        (
-            "more body than told",
-            put("Content-Length: 3\r\n", "offextra"),
-            400,
-        ),
-        ("a body without a length", put("", "off"), 400),
-        (
-            "a second request",
-            put("Content-Length: 3\r\n", &put("", "")),
-            400,
-        ),
-        (
-            "a length beyond the limit",
-            put("Content-Length: 67108865\r\n", ""),
-            413,
-        ),
-        (
-            "and expecting",
-            put("Expect: 100-continue\r\nContent-Length: 67108865\r\n", ""),
-            413,
-        ),
-        (
-            "chunks",
-            put("Transfer-Encoding: chunked\r\n", "3\r\noff\r\n0\r\n\r\n"),
-            411,
-        ),
-        ("a head of 9,000 bytes", put(&long, ""), 431),
-        ("a head without an end", "a".repeat(9_000), 431),
-        (
-            "another Origin",
-            put(&format!("{other}Content-Length: 3\r\n"), "off"),
-            403,
-        ),
-        (
-            "a page's Origin",
-            put("Origin: null\r\nContent-Length: 3\r\n", "off"),
-            403,
-        ),
-        (
-            "a foreign Host",
-            "DELETE /fail/p HTTP/1.1\r\nHost: example.org\r\n\r\n".into(),
-            403,
-        ),
-        ("no Host", "DELETE /fail/p HTTP/1.1\r\n\r\n".into(), 400),
-        (
-            "an absolute target",
-            "DELETE http://localhost/fail/p HTTP/1.1\r\n\r\n".into(),
-            400,
-        ),
-        ("no HTTP", "hello\r\n\r\n".into(), 400),
-        (
-            "TLS",
-            "\x16\x03\x01\x02\0\x01\0\x01\n\x03\x03\r\n\r\n".into(),
-            400,
-        ),
-    ] {
+    let fields = BAD_FIELDS.map(|(fields, body, status)| (put(fields, body), status));
+    let heads = BAD_HEADS.map(|(head, status)| (head.to_string(), status));
+    let long = [
+        put(&format!("X: {}\r\n", "a".repeat(9_000)), ""),
+        "a".repeat(9_000),
+    ];
+    let long = long.map(|head| (head, 431));
+    for (sent, status) in fields.into_iter().chain(heads).chain(long) {
         let reply = raw(addr, sent.as_bytes());
-        assert_eq!(status_of(&reply), status, "{what}: {reply}");
+        assert_eq!(status_of(&reply), status, "{sent:?}: {reply}");
         let (head, text) = reply.split_once("\r\n\r\n").unwrap();
-        assert!(
-            head.contains("\r\nconnection: close") && !text.is_empty(),
-            "{what}: {reply}"
-        );
+        let is_last = head.contains("\r\nconnection: close");
+        assert!(is_last && !text.is_empty(), "{sent:?}: {reply}");
     }
     assert_eq!((node.calls(), node.list()), (Ok(0), Ok(String::new())));
     // The service itself may be the origin.
     let own = format!("Origin: http://{addr}\r\nContent-Length: 3\r\n");
     assert_eq!(status_of(&raw(addr, put(&own, "off").as_bytes())), 200);
+}
+
+#[test]
+fn a_head_may_have_8192_bytes() {
+    let (_node, _serving, addr) = served(1);
+    let head_of = |length| {
+        let rest = length - put("X: \r\n", "").len();
+        put(&format!("X: {}\r\n", "a".repeat(rest)), "")
+    };
+    // An empty text is no action.
+    assert!(raw(addr, head_of(8_192).as_bytes()).contains(" 400 Bad Request\r\n"));
+    assert!(raw(addr, head_of(8_193).as_bytes()).contains(" 431 "));
 }
 
 // A stream of bytes that look like any, the same in each run.
@@ -492,7 +498,7 @@ fn an_address_is_one_of_this_machine_and_free() {
         let error = serve(open(0, 1), addr).unwrap_err();
         assert_eq!(error.kind(), ErrorKind::NotLocal);
         let ip = addr.parse::<SocketAddr>().unwrap().ip();
-        let text = format!("address \"{addr}\": {ip} is no address of this machine alone: give");
+        let text = format!("address \"{addr}\": {ip} isn't of this machine alone, and ");
         assert!(error.to_string().starts_with(&text), "{error}");
     }
     let taken = TcpListener::bind("127.0.0.1:0").unwrap();
@@ -508,7 +514,15 @@ fn an_address_is_one_of_this_machine_and_free() {
     assert_eq!(error.kind(), ErrorKind::CantListen);
     assert!(error.to_string().starts_with("address \"nowhere\": "));
     // Of these there is more than one on a machine.
-    serve(open(0, 1), "127.0.0.2:0").unwrap().stop();
+    for addr in ["127.0.0.2:0", "[::1]:0"] {
+        if TcpListener::bind(addr).is_ok() {
+            let serving = serve(open(0, 1), addr).unwrap();
+            assert_eq!(
+                ask(serving.addr(), "GET", "/fail", ""),
+                (200, String::new())
+            );
+        }
+    }
 }
 
 #[test]
