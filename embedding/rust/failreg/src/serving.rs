@@ -33,7 +33,7 @@ struct Service {
     addr: SocketAddr,
     /// Guards who is served, and what the service does.
     clients: Mutex<Clients>,
-    /// Told under the lock where a client goes, or the service does something else.
+    /// Told of each change of what the lock guards.
     changed: Condvar,
 }
 

@@ -474,6 +474,7 @@ fn a_full_trace_ends_the_points() {
     // Reading goes on, and nothing changes any more; threads that pause go on.
     assert_eq!(ask("GET", "/fail", ""), (200, "p=pause".into()));
     assert_eq!(ask("DELETE", "/fail/p", ""), (503, "N1 TraceFull".into()));
+    assert!(comes(|| paused.is_finished()), "it goes on");
     assert_eq!(paused.join().unwrap(), None);
     assert_eq!((node.eval("p"), node.is_set("p")), (None, false));
 }
