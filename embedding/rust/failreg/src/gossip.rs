@@ -137,10 +137,10 @@ impl Pace {
     }
 }
 
-/// What is known of telling the peers, in their order.
+/// What is known of telling the peers, in their order. The lock guards it, and is held while it is
+/// read or written alone.
 type Known = Mutex<Vec<PeerNews>>;
 
-// Guards what `Gossip::peers` shows, and is held for that alone.
 fn shown(known: &Known) -> MutexGuard<'_, Vec<PeerNews>> {
     known
         .lock()
@@ -249,6 +249,7 @@ fn rounds(registry: &Registry, every: Duration, known: &Known, end: &Receiver<()
 #[must_use = "nobody is told any more when it is dropped: keep it as long as the node lives"]
 pub struct Gossip {
     known: Arc<Known>,
+    /// The thread rests by waiting for the sender, and ends once that is dropped.
     thread: Option<(Sender<()>, JoinHandle<()>)>,
 }
 

@@ -437,7 +437,7 @@ fn a_pause_ends_by_a_request() {
     assert_eq!(paused.join().unwrap(), None);
 }
 
-// Says so when it is dropped.
+// Says so when it is dropped, so that what was before is seen by who reads it.
 struct Held(Arc<AtomicBool>);
 
 impl Drop for Held {
@@ -529,7 +529,9 @@ fn an_address_is_one_of_this_machine_and_free() {
 #[test]
 fn threads_pass_set_remove_and_ask_at_once() {
     let (node, serving, addr) = served(2);
-    let (node, ran) = (&*node, &std::sync::atomic::AtomicU64::new(0));
+    // How often `counted` ran: it orders nothing.
+    let ran = &std::sync::atomic::AtomicU64::new(0);
+    let node = &*node;
     let other = open(1, 2);
     other.set("told", "off").unwrap();
     let message = other.emit(0).unwrap();
