@@ -237,6 +237,40 @@ fn a_head_may_have_8192_bytes() {
     // An empty text is no action.
     assert!(raw(addr, head_of(8_192).as_bytes()).contains(" 400 Bad Request\r\n"));
     assert!(raw(addr, head_of(8_193).as_bytes()).contains(" 431 "));
+    // Also where its end comes in a piece that began before.
+    let mut stream = TcpStream::connect(addr).unwrap();
+    let head = head_of(8_200);
+    stream.write_all(&head.as_bytes()[..8_190]).unwrap();
+    thread::sleep(A_WHILE);
+    stream.write_all(&head.as_bytes()[8_190..]).unwrap();
+    assert!(rest_of(&mut stream).contains(" 431 "));
+}
+
+#[test]
+fn a_body_that_is_awaited_has_no_more_bytes_than_told() {
+    let (_node, _serving, addr) = served(1);
+    for (sent, told) in [("none", "N16 BadMessage"), ("none!", "more body")] {
+        let mut stream = expecting(addr, 4);
+        assert!(is_told_to_go_on(&mut stream, SOON));
+        stream.write_all(sent.as_bytes()).unwrap();
+        let reply = rest_of(&mut stream);
+        assert!(reply.contains(&format!("\r\n\r\n{told}")), "{reply}");
+    }
+}
+
+#[test]
+fn who_sends_on_after_a_refusal_reads_it() {
+    let (_node, _serving, addr) = served(1);
+    let body = "a".repeat(8_000_000);
+    let long = ("Content-Length: 67108865\r\n", 413);
+    for (fields, status) in [long, ("Transfer-Encoding: chunked\r\n", 411)] {
+        let mut stream = TcpStream::connect(addr).unwrap();
+        stream.write_all(put(fields, &body).as_bytes()).unwrap();
+        let mut reply = String::new();
+        // No reset comes before or behind it.
+        stream.read_to_string(&mut reply).unwrap();
+        assert_eq!(status_of(&reply), status);
+    }
 }
 
 // A stream of bytes that look like any, the same in each run.
@@ -437,6 +471,29 @@ fn a_pause_ends_by_a_request() {
     assert_eq!(paused.join().unwrap(), None);
 }
 
+// Panics when it is dropped.
+struct Bad;
+
+impl Drop for Bad {
+    fn drop(&mut self) {
+        panic!("it is dropped");
+    }
+}
+
+#[test]
+fn a_panic_ends_one_client_alone() {
+    let (node, serving, addr) = served(1);
+    let bad = Bad;
+    node.set_callback("p", move || _ = &bad).unwrap();
+    let request = put("Content-Length: 6\r\n", "return");
+    assert_eq!(raw(addr, request.as_bytes()), "");
+    // What it asked for was done, and the others are served.
+    assert_eq!(ask(addr, "GET", "/fail", ""), (200, "p=return".into()));
+    assert_eq!(node.eval("p"), Some(None));
+    serving.stop();
+    assert_eq!(Arc::strong_count(&node), 1);
+}
+
 // Says so when it is dropped, so that what was before is seen by who reads it.
 struct Held(Arc<AtomicBool>);
 
@@ -457,6 +514,29 @@ fn a_callback_that_is_over_is_dropped_by_a_request() {
     assert_eq!(ask(addr, "PUT", "/fail/p", "return").0, 200);
     assert!(is_dropped.load(Ordering::Acquire));
     assert_eq!(node.eval("p"), Some(None));
+}
+
+// Asks the registry when it is dropped.
+struct Asks(Arc<Registry>);
+
+impl Drop for Asks {
+    fn drop(&mut self) {
+        self.0.calls().unwrap();
+    }
+}
+
+#[test]
+fn what_a_callback_holds_may_call_the_registry_when_it_is_dropped() {
+    let node = open(0, 1);
+    let asks = Asks(node.clone());
+    node.set_callback("p", move || _ = &asks).unwrap();
+    let answers = thread::spawn({
+        let node = node.clone();
+        move || node.answer("DELETE", "/fail/p", b"")
+    });
+    assert!(comes(|| answers.is_finished()), "it waits for itself");
+    assert_eq!(answers.join().unwrap().unwrap().status, 200);
+    assert_eq!(Arc::strong_count(&node), 1);
 }
 
 #[test]
