@@ -1,6 +1,7 @@
-/* Asks a node by requests of HTTP, each with each of its allocations refused in turn. Where one was
- * refused, the reply is 503 and nothing has changed, or the request was done and is answered as such;
- * made again, it is answered as if nothing had been refused. Link with --wrap=malloc,--wrap=realloc. */
+/* Asks a node by requests of HTTP, each with each of its allocations refused in turn. Where one
+ * was refused, the reply is 503 and nothing has changed, or the request was done and is answered as
+ * such; made again, it is answered as if nothing had been refused. Link with
+ * --wrap=malloc,--wrap=realloc. */
 #include "failreg.h"
 
 #include <stdio.h>

@@ -40,7 +40,6 @@ const EVERY: Duration = Duration::from_millis(100);
 /// | `FAILREG_CAP` | how many calls the node accepts in its life | 4294967295 |
 /// | `FAILPOINTS` | the points to begin with, as `name=actions;name=actions` | none |
 /// | `FAILREG_RECORD` | the path for a drill, written when the value is dropped; there is no file yet. It takes a cluster of one node | no drill |
-///
 /// | `FAILREG_LISTEN` | the address at which the node is served, as [`serve`](crate::serve) does, as `127.0.0.1:7071` | it isn't served |
 /// | `FAILREG_PEERS` | where other nodes are served that are told, as [`gossip`] does, every 100 ms: each as a node and a port of 127.0.0.1, `0:7070,2:7072`, or with an address, `0@[::1]:7070` | nobody is told |
 ///

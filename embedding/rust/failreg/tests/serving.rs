@@ -606,45 +606,48 @@ fn an_address_is_one_of_this_machine_and_free() {
     }
 }
 
+// One turn of a thread: it sets, removes or takes in, passes two points and asks for a report.
+// Answers whether `counted` ran.
+fn take_turn(node: &Registry, addr: SocketAddr, message: &[u8], number: u32, turn: u32) -> bool {
+    let name = format!("p{}", turn % 3);
+    let path = format!("/fail/{name}");
+    match number % 4 {
+        0 => drop(node.set(&name, "return").unwrap()),
+        1 => assert_eq!(ask(addr, "DELETE", &path, "").0, 200),
+        2 => assert!(node.deliver(message).is_ok()),
+        _ => assert_eq!(ask(addr, "PUT", &path, "off").0, 200),
+    }
+    node.eval(&name);
+    let has_run = node.eval("counted").is_some();
+    assert_eq!(ask(addr, "GET", "/report", "").0, 200);
+    has_run
+}
+
 #[test]
 fn threads_pass_set_remove_and_ask_at_once() {
     let (node, serving, addr) = served(2);
-    // How often `counted` ran: it orders nothing.
-    let ran = &std::sync::atomic::AtomicU64::new(0);
-    let node = &*node;
     let other = open(1, 2);
     other.set("told", "off").unwrap();
     let message = other.emit(0).unwrap();
     ask(addr, "PUT", "/fail/counted", "40*return->off");
-    thread::scope(|scope| {
-        for number in 0..16 {
-            let message = &message;
-            scope.spawn(move || {
-                for turn in 0..30 {
-                    let name = format!("p{}", turn % 3);
-                    match number % 4 {
-                        0 => drop(node.set(&name, "return").unwrap()),
-                        1 => assert_eq!(ask(addr, "DELETE", &format!("/fail/{name}"), "").0, 200),
-                        2 => assert!(node.deliver(message).is_ok()),
-                        _ => assert_eq!(ask(addr, "PUT", &format!("/fail/{name}"), "off").0, 200),
-                    }
-                    node.eval(&name);
-                    if node.eval("counted").is_some() {
-                        ran.fetch_add(1, Ordering::Relaxed);
-                    }
-                    assert_eq!(ask(addr, "GET", "/report", "").0, 200);
-                }
-            });
-        }
+    let (node, message) = (&*node, &message[..]);
+    let ran: usize = thread::scope(|scope| {
+        let turns = |number| {
+            let has_run = move |turn: &u32| take_turn(node, addr, message, number, *turn);
+            scope.spawn(move || (0..30).filter(has_run).count())
+        };
+        let threads: Vec<_> = (0..16).map(turns).collect();
+        threads.into_iter().map(|it| it.join().unwrap()).sum()
     });
-    assert_eq!(ran.load(Ordering::Relaxed), 40);
-    assert_eq!(node.spent("counted", 0), Ok(40));
+    assert_eq!((ran, node.spent("counted", 0)), (40, Ok(40)));
     let list = node.list().unwrap();
     assert_eq!(ask(addr, "GET", "/fail", ""), (200, list.clone()));
+    let listed: Vec<_> = list
+        .split(';')
+        .filter_map(|it| it.split_once('='))
+        .collect();
     for name in ["p0", "p1", "p2", "counted", "told"] {
-        let is_listed = list
-            .split(';')
-            .any(|entry| entry.starts_with(&format!("{name}=")));
+        let is_listed = listed.iter().any(|(known, _)| *known == name);
         assert_eq!(node.is_set(name), is_listed, "{name}: {list}");
     }
     serving.stop();
