@@ -198,6 +198,16 @@ uint32_t failreg_acked(failreg *node, uint8_t to, uint64_t *acked);
 /* How many calls the node has accepted. */
 uint32_t failreg_calls(failreg *node, uint64_t *calls);
 
+/* Answers a request of HTTP as a node does that is served (docs/serving.md has the requests), and
+ * tells the status of the reply: fetch its body. It is 0, whatever the status, unless the method or
+ * the path isn't UTF-8, or the node is closed. `path` has no `?` and what follows it. What the
+ * request asks for is [entry] where that is so of the call (failreg_set, failreg_remove,
+ * failreg_load, failreg_shift, failreg_grant, failreg_deliver), and it was accepted: the status is
+ * 200 then. Of a refusal the body says why; failreg_fault doesn't. Where memory is refused the
+ * status is 503, nothing has changed, and there may be no body. */
+uint32_t failreg_answer(failreg *node, const char *method, size_t method_len, const char *path,
+                        size_t path_len, const uint8_t *body, size_t body_len, uint16_t *status);
+
 /* Lists the points that are set, as a text for failreg_load: fetch it. */
 uint32_t failreg_list(failreg *node);
 
@@ -205,8 +215,9 @@ uint32_t failreg_list(failreg *node);
  * it. It has no bytes after FAILREG_NOT_UTF8. */
 uint32_t failreg_fault(failreg *node);
 
-/* Copies what the last pass (its text), emit, list or fault left to be fetched, as much as `room`
- * is, and answers how long it is: with room 0 only that. It stays until the next of those calls. */
+/* Copies what the last pass (its text), emit, answer, list or fault left to be fetched, as much as
+ * `room` is, and answers how long it is: with room 0 only that. It stays until the next of those
+ * calls. */
 size_t failreg_fetch(failreg *node, void *into, size_t room);
 
 /* Copies the random draws of the last failreg_pass or failreg_pass_at, as much as `room` is, and

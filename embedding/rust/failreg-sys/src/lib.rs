@@ -319,6 +319,22 @@ unsafe extern "C" {
     /// How many calls the node has accepted.
     pub safe fn failreg_calls(node: &mut failreg, calls: &mut u64) -> u32;
 
+    /// Answers a request of HTTP as a served node does, and tells the status of the reply, whose
+    /// body is to be fetched. `[entry]` where the call is that the request asks for.
+    ///
+    /// # Safety
+    /// `method`, `path` and `body` lead to as many bytes as the lengths beside them say.
+    pub fn failreg_answer(
+        node: &mut failreg,
+        method: Bytes,
+        method_len: usize,
+        path: Bytes,
+        path_len: usize,
+        body: Bytes,
+        body_len: usize,
+        status: &mut u16,
+    ) -> u32;
+
     /// Lists the points that are set, to be fetched.
     pub safe fn failreg_list(node: &mut failreg) -> u32;
 

@@ -2,18 +2,27 @@
 
 use crate::error::{Error, ErrorKind};
 use crate::fail_rs::has_failpoints;
+use crate::gossip::{Gossip, Peer, gossip, others};
 use crate::program::first;
 use crate::registry::{Registry, write_drill};
+use crate::serving::{Serving, listen, serve_at};
 use std::ffi::{OsStr, OsString};
 use std::fs::File;
 use std::io::{self, BufWriter};
+use std::net::{Ipv4Addr, SocketAddr};
 use std::ops::Deref;
 use std::path::Path;
+use std::str::FromStr;
+use std::time::Duration;
 
 const NODE: &str = "FAILREG_NODE";
 const CAP: &str = "FAILREG_CAP";
 const RECORD: &str = "FAILREG_RECORD";
-const NOT_YET: [&str; 2] = ["FAILREG_LISTEN", "FAILREG_PEERS"];
+const LISTEN: &str = "FAILREG_LISTEN";
+const PEERS: &str = "FAILREG_PEERS";
+
+/// How long to rest between two rounds in which peers are told.
+const EVERY: Duration = Duration::from_millis(100);
 
 /// Makes the program's registry as its environment asks for, in one line of `main`:
 ///
@@ -31,13 +40,16 @@ const NOT_YET: [&str; 2] = ["FAILREG_LISTEN", "FAILREG_PEERS"];
 /// | `FAILREG_CAP` | how many calls the node accepts in its life | 4294967295 |
 /// | `FAILPOINTS` | the points to begin with, as `name=actions;name=actions` | none |
 /// | `FAILREG_RECORD` | the path for a drill, written when the value is dropped; there is no file yet. It takes a cluster of one node | no drill |
+/// | `FAILREG_LISTEN` | the address at which the node is served, as [`serve`](crate::serve) does, as `127.0.0.1:7071` | it isn't served |
+/// | `FAILREG_PEERS` | where other nodes are served that are told, as [`gossip`] does, every 100 ms: each as a node and a port of 127.0.0.1, `0:7070,2:7072`, or with an address, `0@[::1]:7070` | nobody is told |
 ///
-/// A value that isn't one of these is refused, and so are `FAILREG_LISTEN` and `FAILREG_PEERS`,
-/// which nothing reads yet. Where it is refused, or the program has a registry already, none is
-/// made.
+/// # Errors
+/// A value that isn't one of these is refused, and so is an address at which nobody can be served.
+/// Where it is refused, or the program has a registry already, none is made, unless it is for want
+/// of a thread ([`NoThread`](ErrorKind::NoThread)).
 pub fn from_env() -> Result<Program, Error> {
     let wanted = Wanted::of(&|name| std::env::var_os(name))?;
-    let mut record = None;
+    let (mut record, mut listener) = (None, None);
     let registry = first(|| {
         let builder = Registry::builder()
             .node(wanted.number)
@@ -46,19 +58,38 @@ pub fn from_env() -> Result<Program, Error> {
             .recording(wanted.record.is_some());
         let registry = builder.build()?;
         registry.load_env()?;
+        listener = match wanted.listen {
+            Some(addr) => Some(listen(addr).map_err(|error| error.of_variable(LISTEN))?),
+            None => None,
+        };
         record = wanted.record.as_deref().map(new_file).transpose()?;
         Ok(registry)
     })?;
-    Ok(Program { registry, record })
+    let mut program = Program {
+        registry,
+        record,
+        serving: None,
+        gossip: None,
+    };
+    if let Some(listener) = listener {
+        program.serving = Some(serve_at(registry, listener)?);
+    }
+    if !wanted.peers.is_empty() {
+        program.gossip = Some(gossip(registry, &wanted.peers, EVERY)?);
+    }
+    Ok(program)
 }
 
-/// The program's registry, and the drill that is written of it when this is dropped: let it live as
-/// long as `main`. What `std::process::exit` and an abort end writes none.
+/// The program's registry, which is served and tells its peers until this is dropped, and the drill
+/// that is written of it then: let it live as long as `main`. What `std::process::exit` and an abort
+/// end writes none.
 #[derive(Debug)]
-#[must_use = "the drill is written when it is dropped: keep it as long as the program runs"]
+#[must_use = "a drop ends the service and writes the drill: keep it as long as the program runs"]
 pub struct Program {
     registry: &'static Registry,
     record: Option<File>,
+    serving: Option<Serving>,
+    gossip: Option<Gossip>,
 }
 
 impl Program {
@@ -67,13 +98,26 @@ impl Program {
         self.registry
     }
 
-    /// Writes the drill, if one is asked for, and says whether that went well. A drop writes it as
-    /// well, and says on standard error where it can't.
+    /// The service, where `FAILREG_LISTEN` asks for one.
+    pub fn serving(&self) -> Option<&Serving> {
+        self.serving.as_ref()
+    }
+
+    /// The thread that tells the peers, where `FAILREG_PEERS` names others.
+    pub fn gossip(&self) -> Option<&Gossip> {
+        self.gossip.as_ref()
+    }
+
+    /// Ends the service, writes the drill, if one is asked for, and says whether that went well. A
+    /// drop does it as well, and says on standard error where the drill can't be written.
     pub fn finish(mut self) -> io::Result<()> {
         self.write()
     }
 
     fn write(&mut self) -> io::Result<()> {
+        // First, so that the drill has all that was answered.
+        self.serving = None;
+        self.gossip = None;
         match self.record.take() {
             Some(file) => write_drill(&[self.registry], &mut BufWriter::new(file)),
             None => Ok(()),
@@ -104,6 +148,8 @@ struct Wanted {
     nodes: u8,
     cap: u32,
     record: Option<OsString>,
+    listen: Option<SocketAddr>,
+    peers: Vec<Peer>,
 }
 
 fn bad(kind: ErrorKind, name: &str, value: &OsStr, fault: &'static str) -> Error {
@@ -112,31 +158,28 @@ fn bad(kind: ErrorKind, name: &str, value: &OsStr, fault: &'static str) -> Error
 
 impl Wanted {
     fn of(var: &dyn Fn(&str) -> Option<OsString>) -> Result<Wanted, Error> {
-        for name in NOT_YET {
-            if let Some(value) = var(name) {
-                let fault = "no program is served yet, nor does it tell others by itself";
-                return Err(bad(ErrorKind::Unsupported, name, &value, fault));
-            }
-        }
         let node = read(var, NODE, NODE_WANTED, node_of)?;
         let cap = read(var, CAP, CAP_WANTED, |text| text.parse().ok())?;
         let (number, nodes) = node.unwrap_or((0, 1));
-        let record = var(RECORD);
-        if let Some(value) = &record {
-            if !has_failpoints() {
+        for name in [RECORD, LISTEN, PEERS] {
+            if let Some(value) = var(name).filter(|_| !has_failpoints()) {
                 let fault = "the program was built without failpoints";
-                return Err(bad(ErrorKind::Disabled, RECORD, value, fault));
-            }
-            if nodes != 1 {
-                let fault = "a drill takes all nodes of its cluster, and so one node alone";
-                return Err(bad(ErrorKind::Unsupported, RECORD, value, fault));
+                return Err(bad(ErrorKind::Disabled, name, &value, fault));
             }
         }
+        let record = var(RECORD);
+        if let Some(value) = record.as_ref().filter(|_| nodes != 1) {
+            let fault = "a drill takes all nodes of its cluster, and so one node alone";
+            return Err(bad(ErrorKind::Unsupported, RECORD, value, fault));
+        }
+        let peers = read(var, PEERS, PEERS_WANTED, peers_of)?.unwrap_or_default();
         Ok(Wanted {
             number,
             nodes,
             cap: cap.unwrap_or(u32::MAX),
             record,
+            listen: read(var, LISTEN, LISTEN_WANTED, listen_of)?,
+            peers: others(&peers, number, nodes).map_err(|error| error.of_variable(PEERS))?,
         })
     }
 }
@@ -144,6 +187,40 @@ impl Wanted {
 const NODE_WANTED: &str = "wanted is the number of the node, and behind a `/` how many nodes the \
                            cluster has, 1 to 32, as 0/3, 1/3 or 2/3";
 const CAP_WANTED: &str = "wanted is a number of calls, 0 to 4294967295";
+
+const LISTEN_WANTED: &str = "wanted is an address of this machine alone and a port, as \
+                             127.0.0.1:7071 or [::1]:7071";
+const PEERS_WANTED: &str = "wanted are other nodes, each its number, a `:` and the port of 127.0.0.1 \
+                            at which it is served, as 0:7070,2:7072, or a `@` and an address with \
+                            a port, as 0@[::1]:7070";
+
+fn listen_of(text: &str) -> Option<SocketAddr> {
+    text.parse()
+        .ok()
+        .filter(|addr: &SocketAddr| addr.ip().is_loopback())
+}
+
+fn peers_of(text: &str) -> Option<Vec<Peer>> {
+    text.split(',').map(peer_of).collect()
+}
+
+/// The peer of a text as `0:7070`, which is the form that `failreg serve` takes, or `0@[::1]:7070`.
+fn peer_of(text: &str) -> Option<Peer> {
+    let (node, addr) = match text.split_once('@') {
+        Some((node, addr)) => (node, listen_of(addr)?),
+        None => {
+            let (node, port) = text.split_once(':')?;
+            (node, (Ipv4Addr::LOCALHOST, number_of(port)?).into())
+        }
+    };
+    Some(Peer::new(number_of(node)?, addr))
+}
+
+/// A number of digits alone.
+fn number_of<T: FromStr>(text: &str) -> Option<T> {
+    let is_number = text.bytes().all(|b| b.is_ascii_digit());
+    text.parse().ok().filter(|_| is_number)
+}
 
 /// The node and the number of nodes of a text as `1/3`.
 fn node_of(text: &str) -> Option<(u8, u8)> {
@@ -221,18 +298,76 @@ mod tests {
     }
 
     #[test]
-    fn what_there_is_not_yet_is_refused() {
-        for name in NOT_YET {
-            let error = wanted(&[(name, "127.0.0.1:7070")]).unwrap_err();
-            assert_eq!(error.kind(), ErrorKind::Unsupported);
-            assert!(
-                error
-                    .to_string()
-                    .starts_with(&format!("{name}=\"127.0.0.1:7070\": "))
-            );
-        }
+    fn a_drill_takes_all_nodes() {
         let error = wanted(&[(RECORD, "drill"), (NODE, "0/2")]).unwrap_err();
         let kinds = [ErrorKind::Disabled, ErrorKind::Unsupported];
         assert_eq!(error.kind(), kinds[usize::from(has_failpoints())]);
+    }
+
+    #[cfg(not(feature = "failpoints"))]
+    #[test]
+    fn nothing_is_served_without_failpoints() {
+        for (name, value) in [(LISTEN, "127.0.0.1:0"), (PEERS, "0:7070"), (PEERS, "?")] {
+            let error = wanted(&[(name, value)]).unwrap_err();
+            assert_eq!(error.kind(), ErrorKind::Disabled);
+            assert!(
+                error
+                    .to_string()
+                    .starts_with(&format!("{name}={value:?}: "))
+            );
+        }
+    }
+
+    #[cfg(feature = "failpoints")]
+    #[test]
+    fn an_address_and_peers_are_read() {
+        let at = |text: &str| text.parse::<SocketAddr>().unwrap();
+        for text in ["127.0.0.1:7071", "127.9.9.9:0", "[::1]:65535"] {
+            let all = wanted(&[(LISTEN, text)]).unwrap();
+            assert_eq!((all.listen, all.peers), (Some(at(text)), vec![]));
+        }
+        // The node itself is left out.
+        let peers = "0:7070,1:7071,2@127.0.0.2:7072,31@[::1]:7073";
+        let all = wanted(&[(NODE, "1/32"), (PEERS, peers)]).unwrap();
+        let others = [
+            Peer::new(0, at("127.0.0.1:7070")),
+            Peer::new(2, at("127.0.0.2:7072")),
+            Peer::new(31, at("[::1]:7073")),
+        ];
+        assert_eq!((all.listen, all.peers.as_slice()), (None, &others[..]));
+        assert_eq!(wanted(&[(PEERS, "0:7070")]).unwrap().peers, []);
+    }
+
+    #[cfg(feature = "failpoints")]
+    const BAD_ADDRESSES: &str = "|7071|127.0.0.1|localhost:7071|127.0.0.1:65536|10.0.0.1:7071|\
+        0.0.0.0:7071|[::]:7071|127.0.0.1:7071,127.0.0.1:7072| 127.0.0.1:7071";
+
+    #[cfg(feature = "failpoints")]
+    const BAD_PEERS: &str = "|7070|0|0:|:7070|0:65536|256:1|+0:7070|0:+7070|0:7070,|0:7070 2:7072|\
+        0:7070, 2:7072|0@7070|0@10.0.0.1:7070|@127.0.0.1:7070|0@localhost:7070|a@127.0.0.1:7070|\
+        0:127.0.0.1:7070";
+
+    #[cfg(feature = "failpoints")]
+    #[test]
+    fn a_bad_address_or_peer_is_named() {
+        let addresses = BAD_ADDRESSES
+            .split('|')
+            .map(|it| (LISTEN, it, LISTEN_WANTED));
+        let peers = BAD_PEERS.split('|').map(|it| (PEERS, it, PEERS_WANTED));
+        for (name, value, fault) in addresses.chain(peers) {
+            let error = wanted(&[(name, value), (NODE, "1/3")]).unwrap_err();
+            assert_eq!(error.kind(), ErrorKind::BadVariable, "{name}={value}");
+            let text = format!("{name}={value:?}: {fault}: give it such a value, or unset it");
+            assert_eq!(error.to_string(), text);
+        }
+        for value in ["3:7070", "0:7070,0:7071"] {
+            let error = wanted(&[(PEERS, value), (NODE, "1/3")]).unwrap_err();
+            assert_eq!(error.kind(), ErrorKind::BadPeer);
+            assert!(
+                error
+                    .to_string()
+                    .starts_with("FAILREG_PEERS: address 127.0.0.1:707")
+            );
+        }
     }
 }

@@ -43,6 +43,14 @@ pub enum ErrorKind {
     BadVariable,
     /// A variable of the environment asks for what there isn't yet.
     Unsupported,
+    /// The address isn't one of this machine alone.
+    NotLocal,
+    /// Nobody can be served at the address.
+    CantListen,
+    /// A peer isn't another node of the cluster, or is named twice.
+    BadPeer,
+    /// A thread can't be started.
+    NoThread,
     /// The program was built without the feature `failpoints`.
     Disabled,
     /// The library answered what this crate doesn't know.
@@ -81,6 +89,10 @@ impl ErrorKind {
             ErrorKind::AlreadyOpen => "set it up before anything else uses the program's points",
             ErrorKind::BadVariable => "give it such a value, or unset it",
             ErrorKind::Unsupported => "unset it",
+            ErrorKind::NotLocal => "give one of this machine alone, as 127.0.0.1:7070",
+            ErrorKind::CantListen => "give one where nobody listens, or port 0 for a free one",
+            ErrorKind::BadPeer => "name each other node of the cluster once, by its number",
+            ErrorKind::NoThread => "let the process have more threads, or more memory",
             ErrorKind::Disabled => "build it with the feature `failpoints` of the crate failreg",
             ErrorKind::Mismatch => "build the library and the crate from one tree",
         }
@@ -93,7 +105,7 @@ pub struct Error {
     kind: ErrorKind,
     code: Option<u32>,
     fault: Cow<'static, str>,
-    // What it was met at: a point, or a variable.
+    // What it was met at: a point, a variable, or an address.
     at: Option<String>,
 }
 
@@ -118,6 +130,24 @@ impl Error {
     pub(crate) fn at_point(self, name: &str) -> Error {
         Error {
             at: Some(format!("point {name:?}")),
+            ..self
+        }
+    }
+
+    pub(crate) fn at_address(self, addr: impl fmt::Debug) -> Error {
+        Error {
+            at: Some(format!("address {addr:?}")),
+            ..self
+        }
+    }
+
+    /// The same of what a variable names.
+    pub(crate) fn of_variable(self, name: &str) -> Error {
+        let at = self
+            .at
+            .map_or(name.to_string(), |at| format!("{name}: {at}"));
+        Error {
+            at: Some(at),
             ..self
         }
     }

@@ -32,10 +32,13 @@
 //! What is proved is the node behind the calls of C. This crate is not: its declarations of those
 //! calls, its locks, and how it carries tasks out.
 
+mod answers;
 mod builder;
 mod environment;
 mod error;
 mod fail_rs;
+mod gossip;
+mod http;
 #[cfg(feature = "failpoints")]
 mod node;
 #[cfg(not(feature = "failpoints"))]
@@ -46,18 +49,22 @@ mod points;
 mod program;
 mod receipts;
 mod registry;
+mod serving;
 mod told;
 
+pub use answers::Reply;
 pub use builder::{Builder, OnRefusal};
 pub use environment::{Program, from_env};
 pub use error::{Error, ErrorKind};
 #[doc(hidden)]
 pub use fail_rs::eval;
 pub use fail_rs::{FailGuard, FailScenario, cfg, cfg_callback, has_failpoints, list, remove};
+pub use gossip::{Failure, Gossip, Peer, PeerNews, gossip};
 #[doc(hidden)]
 pub use points::Site;
 pub use program::{program, setup};
 pub use registry::{Registry, write_drill};
+pub use serving::{Serving, serve};
 pub use told::{Passed, Stamp, Task};
 
 /// Passes a point, if it is set, and carries its task out. `fail_point!("name")` panics where the

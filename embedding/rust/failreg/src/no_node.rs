@@ -96,6 +96,15 @@ impl Node {
         disabled()
     }
 
+    pub fn reply_to(
+        &mut self,
+        _method: &str,
+        _path: &str,
+        _body: &[u8],
+    ) -> Result<(u16, Vec<u8>), Error> {
+        disabled()
+    }
+
     pub fn list(&mut self) -> Result<String, Error> {
         self.tell(String::new())
     }

@@ -244,6 +244,26 @@ impl Node {
         self.answer(status, changed)
     }
 
+    /// Answers a request of HTTP: the status and the body of the reply.
+    pub fn reply_to(
+        &mut self,
+        method: &str,
+        path: &str,
+        body: &[u8],
+    ) -> Result<(u16, Vec<u8>), Error> {
+        let mut status = 0;
+        let h = &mut self.handle;
+        let (at, at_len) = (path.as_ptr(), path.len());
+        let (sent, sent_len) = (body.as_ptr(), body.len());
+        // SAFETY: two texts and bytes, each with its length.
+        let answered = unsafe {
+            let (by, by_len) = (method.as_ptr(), method.len());
+            sys::failreg_answer(h, by, by_len, at, at_len, sent, sent_len, &mut status)
+        };
+        self.answer(answered, ())?;
+        Ok((status, self.fetch()))
+    }
+
     pub fn list(&mut self) -> Result<String, Error> {
         let status = sys::failreg_list(&mut self.handle);
         self.answer(status, ())?;

@@ -166,6 +166,41 @@ pub mod reply {
     }
 }
 
+/// What was asked by a request of HTTP that the node accepted as a call, and what it was told.
+pub fn of_request(method: &str, path: &str, body: &[u8], told: &str) -> (String, String) {
+    let parts: Vec<&str> = path.split('/').skip(1).collect();
+    let asked = String::from_utf8_lossy(body);
+    match (method, parts.as_slice()) {
+        ("PUT", ["fail", name]) => (ask::set(name, &asked), stamped("set", told)),
+        (_, ["fail", name]) => (ask::remove(name), stamped("removed", told)),
+        (_, ["load"]) => (ask::load(body), format!("[\"loaded\",{told}]")),
+        (_, ["shift", name, term, to, amount]) => {
+            let row = [term, to, amount].map(|digits| number(digits)).join(",");
+            let asked = format!("[\"shift\",{},{row}]", text(name));
+            (asked, format!("[\"shifted\",{told}]"))
+        }
+        (_, ["grant", name, term, amount]) => {
+            let row = [term, amount].map(|digits| number(digits)).join(",");
+            let asked = format!("[\"grant\",{},{row}]", text(name));
+            (asked, format!("[\"granted\",{told}]"))
+        }
+        _ => (ask::deliver(body), reply::delivered(told == "changed")),
+    }
+}
+
+// A reply whose stamp was told as `7.1`.
+fn stamped(what: &str, told: &str) -> String {
+    format!("[\"{what}\",{}]", told.replace('.', ","))
+}
+
+// A number of a path, as JSON spells it: without zeros in front.
+fn number(digits: &str) -> &str {
+    match digits.trim_start_matches('0') {
+        "" => "0",
+        rest => rest,
+    }
+}
+
 fn task(task: &Task) -> String {
     match task {
         Task::Off => "[\"off\"]".into(),

@@ -80,6 +80,20 @@ impl State {
         (*since == stamp).then(|| run.clone())
     }
 
+    /// Keeps the receipt of a call that was accepted, what was asked and what was answered, where
+    /// receipts are kept.
+    pub(crate) fn keep(&mut self, receipt: impl FnOnce() -> (String, String)) {
+        if let Some(receipts) = &mut self.receipts {
+            let (ask, reply) = receipt();
+            receipts.all.push(Receipt {
+                caller: std::thread::current().id(),
+                ask,
+                words: Vec::new(),
+                reply,
+            });
+        }
+    }
+
     /// Takes out the callbacks of points that have another setting by now, or none.
     fn callbacks_over(&mut self) -> Vec<Callback> {
         let State {
@@ -169,18 +183,7 @@ impl Registry {
     ) -> Result<T, Error> {
         let answer = make(&mut state.node);
         match &answer {
-            Ok(value) => {
-                if let Some(receipts) = &mut state.receipts {
-                    let caller = std::thread::current().id();
-                    let (ask, reply) = (asked(), replied(value));
-                    receipts.all.push(Receipt {
-                        caller,
-                        ask,
-                        words: Vec::new(),
-                        reply,
-                    });
-                }
-            }
+            Ok(value) => state.keep(|| (asked(), replied(value))),
             Err(error) if error.kind() == ErrorKind::CapReached => self.end(state),
             Err(_) => {}
         }
@@ -204,7 +207,7 @@ impl Registry {
     }
 
     // No setting changes any more: the points do nothing, and no thread is kept waiting.
-    fn end(&self, state: &mut State) {
+    pub(crate) fn end(&self, state: &mut State) {
         state.is_over = true;
         self.show(state, Some(HashSet::new()));
         self.changed.notify_all();
@@ -218,7 +221,7 @@ impl Registry {
     }
 
     // Shows which points are set after a change; answers the callbacks that are over by it.
-    fn settings_changed(&self, state: &mut State) -> Vec<Callback> {
+    pub(crate) fn settings_changed(&self, state: &mut State) -> Vec<Callback> {
         let list = state.node.list();
         self.show(state, list.ok().map(|list| names_in(&list)));
         self.changed.notify_all();

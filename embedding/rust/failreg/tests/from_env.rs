@@ -1,8 +1,14 @@
 //! `from_env`, in processes of their own: each has one environment and one registry.
 
-use failreg::fail_point;
+mod clients;
+
+use failreg::{Registry, fail_point};
+use std::io::{BufRead, BufReader, Lines, Write};
+use std::net::{SocketAddr, TcpStream};
 use std::path::{Path, PathBuf};
-use std::process::Command;
+use std::process::{Child, ChildStdout, Command, Stdio};
+use std::sync::Arc;
+use std::time::Duration;
 
 fn order() -> bool {
     fail_point!("order", |_| true);
@@ -80,39 +86,153 @@ fn variables_make_the_registry() {
     assert!(second.contains("lost 2, Registry { node: 1, nodes: 3, cap: 500, .. }"));
 }
 
+// A variable, a value, and how it is told of.
+const BAD_VALUES: [(&str, &str, &str); 7] = [
+    (
+        "FAILREG_NODE",
+        "3/3",
+        "BadVariable FAILREG_NODE=\"3/3\": wanted is ",
+    ),
+    (
+        "FAILREG_CAP",
+        "1e6",
+        "BadVariable FAILREG_CAP=\"1e6\": wanted is ",
+    ),
+    (
+        "FAILREG_LISTEN",
+        "",
+        "BadVariable FAILREG_LISTEN=\"\": wanted is ",
+    ),
+    (
+        "FAILREG_PEERS",
+        "a:1",
+        "BadVariable FAILREG_PEERS=\"a:1\": wanted are ",
+    ),
+    (
+        "FAILREG_PEERS",
+        "1:7070",
+        "BadPeer FAILREG_PEERS: address 127.0.0.1:7070: there is no ",
+    ),
+    (
+        "FAILPOINTS",
+        "order=retrun",
+        "BadText FAILPOINTS=\"order=retrun\": N3 ",
+    ),
+    (
+        "FAILREG_RECORD",
+        "/nowhere/at/all",
+        "BadVariable FAILREG_RECORD=",
+    ),
+];
+
 #[test]
 fn a_bad_value_is_told_and_makes_no_registry() {
-    for (name, value, begin) in [
-        (
-            "FAILREG_NODE",
-            "3/3",
-            "BadVariable FAILREG_NODE=\"3/3\": wanted is ",
-        ),
-        (
-            "FAILREG_CAP",
-            "1e6",
-            "BadVariable FAILREG_CAP=\"1e6\": wanted is ",
-        ),
-        ("FAILREG_LISTEN", "", "Unsupported FAILREG_LISTEN=\"\": "),
-        (
-            "FAILREG_PEERS",
-            "a:1",
-            "Unsupported FAILREG_PEERS=\"a:1\": ",
-        ),
-        (
-            "FAILPOINTS",
-            "order=retrun",
-            "BadText FAILPOINTS=\"order=retrun\": N3 ",
-        ),
-        (
-            "FAILREG_RECORD",
-            "/nowhere/at/all",
-            "BadVariable FAILREG_RECORD=",
-        ),
-    ] {
+    for (name, value, begin) in BAD_VALUES {
         let told = told(&[(name, value)]);
         assert!(told.contains(begin), "{name}: {told}");
     }
+}
+
+const SERVED: &str = "FAILREG_TEST_SERVED";
+
+// What the next tests run: it is served, and tells its peers, until `order` is removed.
+#[test]
+fn served_child() {
+    if std::env::var_os(SERVED).is_none() {
+        return;
+    }
+    let program = failreg::from_env().unwrap();
+    let addr = program.serving().unwrap().addr();
+    println!("\nserved at {addr}");
+    while program.is_set("order") {
+        std::thread::sleep(Duration::from_millis(5));
+    }
+    if let Some(gossip) = program.gossip() {
+        assert!(gossip.peers()[0].messages > 0);
+    }
+    program.finish().unwrap();
+    assert!(TcpStream::connect(addr).is_err());
+    println!("\nthe end");
+}
+
+/// A process that is served, in which `order` is set.
+struct Served {
+    process: Child,
+    lines: Lines<BufReader<ChildStdout>>,
+    addr: SocketAddr,
+}
+
+impl Served {
+    fn start(set: &[(&str, &str)]) -> Served {
+        let mut process = Command::new(std::env::current_exe().unwrap());
+        process.args(["--exact", "served_child", "--nocapture"]);
+        VARIABLES
+            .iter()
+            .for_each(|name| _ = process.env_remove(name));
+        process.env(SERVED, "").env("FAILREG_LISTEN", "127.0.0.1:0");
+        process.env("FAILPOINTS", "order=3*return->off");
+        process.envs(set.iter().copied()).stdout(Stdio::piped());
+        let mut process = process.spawn().unwrap();
+        let mut lines = BufReader::new(process.stdout.take().unwrap()).lines();
+        let addr = line_of(&mut lines, "served at ").parse().unwrap();
+        Served {
+            process,
+            lines,
+            addr,
+        }
+    }
+
+    fn remove_order(&self) {
+        let removed = clients::ask(self.addr, "DELETE", "/fail/order", "");
+        assert_eq!(removed.0, 200);
+    }
+
+    fn ends(mut self) {
+        assert_eq!(line_of(&mut self.lines, "the end"), "");
+        assert!(self.process.wait().unwrap().success());
+    }
+}
+
+// What follows this in the next line that begins with it.
+fn line_of(lines: &mut Lines<BufReader<ChildStdout>>, begin: &str) -> String {
+    let mut lines = lines.map(Result::unwrap);
+    let found = lines.find_map(|line| line.strip_prefix(begin).map(str::to_string));
+    found.expect("the process says so")
+}
+
+#[test]
+fn a_program_is_served_and_tells_its_peers() {
+    let node = Arc::new(Registry::open(0, 2, 1_000).unwrap());
+    let serving = failreg::serve(node.clone(), "127.0.0.1:0").unwrap();
+    let peers = format!("0:{},1:7", serving.addr().port());
+    let child = Served::start(&[("FAILREG_NODE", "1/2"), ("FAILREG_PEERS", &peers)]);
+    assert!(clients::comes(|| node.is_set("order")), "the child tells");
+    let listed = clients::ask(child.addr, "GET", "/fail", "");
+    assert_eq!(listed, (200, "order=3*return->off".into()));
+    let addr = child.addr.to_string();
+    let taken = told(&[("FAILREG_LISTEN", &addr)]);
+    let begin = format!("CantListen FAILREG_LISTEN: address {addr}: Address already in use");
+    assert!(taken.contains(&begin), "{taken}");
+    child.remove_order();
+    child.ends();
+}
+
+#[test]
+fn who_is_being_served_at_the_end_is_in_the_drill() {
+    let path = file("of_a_served_program");
+    let child = Served::start(&[("FAILREG_RECORD", path.to_str().unwrap())]);
+    let mut late = TcpStream::connect(child.addr).unwrap();
+    let head = "PUT /fail/late HTTP/1.1\r\nHost: localhost\r\nContent-Length: 3\r\n\r\n";
+    late.write_all(head.as_bytes()).unwrap();
+    std::thread::sleep(Duration::from_millis(100));
+    child.remove_order();
+    assert!(clients::comes(|| TcpStream::connect(child.addr).is_err()));
+    late.write_all(b"off").unwrap();
+    assert!(clients::rest_of(&mut late).ends_with("\r\n\r\n3.0"));
+    child.ends();
+    let drill = std::fs::read_to_string(&path).unwrap();
+    let entry = "{\"ask\":[\"set\",\"late\",\"off\"],\"reply\":[\"set\",3,0],\"words\":[]}";
+    assert!(drill.contains(entry), "{drill}");
 }
 
 #[test]

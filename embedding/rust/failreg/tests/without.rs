@@ -2,7 +2,9 @@
 
 #![cfg(not(feature = "failpoints"))]
 
-use failreg::{Error, ErrorKind, Passed, Registry, fail_point};
+use failreg::{Error, ErrorKind, Passed, Registry, fail_point, gossip, serve};
+use std::sync::Arc;
+use std::time::Duration;
 
 fn value(node: &Registry) -> u32 {
     fail_point!(in node, "value", |_| 1);
@@ -27,8 +29,18 @@ fn what_would_set_a_point_is_refused() {
         kind(node.grant("value", 0, 1)),
         kind(node.emit(1)),
         kind(node.deliver(b"")),
+        kind(node.answer("PUT", "/fail/value", b"return")),
+        kind(serve(
+            Arc::new(Registry::open(0, 2, 10).unwrap()),
+            "127.0.0.1:0",
+        )),
+        kind(gossip(
+            Arc::new(Registry::open(0, 2, 10).unwrap()),
+            &[],
+            Duration::ZERO,
+        )),
     ];
-    assert_eq!(disabled, [ErrorKind::Disabled; 8]);
+    assert_eq!(disabled, [ErrorKind::Disabled; 11]);
     let told = node.set("value", "return").unwrap_err();
     assert_eq!(
         told.to_string(),

@@ -1,0 +1,71 @@
+//! Requests of HTTP at a registry, whoever received them.
+
+use crate::error::Error;
+use crate::receipts;
+use crate::registry::Registry;
+
+/// The reply to a request of HTTP.
+#[derive(Clone, Debug, PartialEq, Eq, Hash)]
+pub struct Reply {
+    /// The status: 200 where the request was done.
+    pub status: u16,
+    /// The body, which is a text without a newline; of a refusal it says why.
+    pub body: Vec<u8>,
+}
+
+/// How the text of a refusal begins that says that the node has accepted as many calls as its cap.
+const CAP_REACHED: &[u8] = b"N1 ";
+
+impl Registry {
+    /// Answers a request of HTTP as a served node does: for a program that has a server of its own,
+    /// which hands over what stands below a path of its choice. `path` is that of the request line,
+    /// without a `?` and what follows it:
+    ///
+    /// | Request | Body | Reply |
+    /// |---|---|---|
+    /// | `PUT /fail/<name>` | an action text | the stamp of the setting, as `1.0` |
+    /// | `DELETE /fail/<name>` | | the stamp of the removal |
+    /// | `GET /fail` | | the points that are set, as a text for [`load`](Registry::load) |
+    /// | `POST /load` | a setting text | how many entries were set |
+    /// | `POST /shift/<name>/<term>/<to>/<amount>` | | how many were moved there in all |
+    /// | `POST /grant/<name>/<term>/<amount>` | | how many were granted in all |
+    /// | `GET /report` | | what the node knows, as JSON |
+    /// | `POST /gossip` | a message of another node | `changed` or `same` |
+    ///
+    /// What is done is as by the calls of the registry: threads see new settings, pauses end, and
+    /// where the registry records, an accepted call has its receipt. A body has at most 67,108,864
+    /// bytes, else the reply is 413.
+    ///
+    /// # Errors
+    /// [`Closed`](crate::ErrorKind::Closed) or [`Disabled`](crate::ErrorKind::Disabled). A request
+    /// that the node refuses is a [`Reply`], as 409 and `N6 NotSet`.
+    pub fn answer(&self, method: &str, path: &str, body: &[u8]) -> Result<Reply, Error> {
+        let mut state = self.lock();
+        let before = state.node.calls()?;
+        let (status, told) = state.node.reply_to(method, path, body)?;
+        let mut over = Vec::new();
+        if state.node.calls()? > before {
+            state
+                .keep(|| receipts::of_request(method, path, body, &String::from_utf8_lossy(&told)));
+            if changes_settings(path, &told) {
+                over = self.settings_changed(&mut state);
+            }
+        } else if status == 503 && told.starts_with(CAP_REACHED) {
+            self.end(&mut state);
+        }
+        drop(state);
+        // Without the lock: what a closure holds may call the registry when it is dropped.
+        drop(over);
+        Ok(Reply { status, body: told })
+    }
+}
+
+// Whether an accepted call may have changed which points are set: one that moved or granted rights,
+// or taught nothing, hasn't.
+fn changes_settings(path: &str, told: &[u8]) -> bool {
+    match path.split('/').nth(1) {
+        Some("shift" | "grant") => false,
+        Some("gossip") => told == b"changed",
+        _ => true,
+    }
+}

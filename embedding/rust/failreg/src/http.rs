@@ -1,0 +1,542 @@
+//! As much of HTTP/1.1 as a served node takes: one request a connection, with a body whose length
+//! its head tells.
+
+use std::io::{self, ErrorKind, Read, Write};
+use std::net::{Ipv4Addr, Ipv6Addr, Shutdown, SocketAddr, TcpStream};
+use std::time::{Duration, Instant};
+
+/// The longest head, in bytes.
+const MAX_HEAD: usize = 8_192;
+
+/// The longest body, in bytes: that of the longest message.
+const MAX_BODY: usize = 67_108_864;
+
+/// What is read of a body at once; as much room is made before any of it came.
+const PIECE: usize = 65_536;
+
+const HEAD_TIME: Duration = Duration::from_secs(2);
+const WHOLE_TIME: Duration = Duration::from_secs(10);
+
+/// How long a client may go on sending what nobody reads, so that it comes to read the reply.
+const DRAIN_TIME: Duration = Duration::from_secs(1);
+
+/// Why nothing is asked of the node.
+#[derive(Debug, PartialEq, Eq)]
+pub enum Fault {
+    /// This is the reply.
+    Reply(u16, &'static str),
+    /// The client is gone, or is too slow.
+    Gone,
+}
+
+impl From<io::Error> for Fault {
+    fn from(_: io::Error) -> Fault {
+        Fault::Gone
+    }
+}
+
+const BAD_LINE: Fault = Fault::Reply(400, "bad request line: send it as GET /fail HTTP/1.1");
+const BAD_FIELD: Fault = Fault::Reply(400, "bad field: send each as Name: value, ended by CR LF");
+const BAD_LENGTH: Fault = Fault::Reply(400, "bad Content-Length: send one, of digits alone");
+const BAD_HOST: Fault = Fault::Reply(400, "bad Host: send one");
+const BARE_NEWLINE: Fault = Fault::Reply(400, "bad newline: end each line by CR LF");
+const MORE_BODY: Fault = Fault::Reply(400, "more body than Content-Length says: tell all of it");
+const FOREIGN_HOST: Fault = Fault::Reply(
+    403,
+    "another machine's Host: ask for localhost, 127.0.0.1 or [::1]",
+);
+const FOREIGN_ORIGIN: Fault = Fault::Reply(
+    403,
+    "a page of another Origin: no browser may ask for it, send no Origin",
+);
+const CHUNKS: Fault = Fault::Reply(411, "no length: send Content-Length, and no chunks");
+const LONG_BODY: Fault = Fault::Reply(413, "too long");
+const NO_EXPECTATION: Fault = Fault::Reply(417, "unknown Expect: send 100-continue, or none");
+const LONG_HEAD: Fault = Fault::Reply(431, "too long a head: send at most 8192 bytes");
+
+/// The head of a request.
+#[derive(Debug, PartialEq, Eq)]
+pub struct Head {
+    pub method: String,
+    /// The path, without a `?` and what follows it.
+    pub path: String,
+    /// How many bytes the body has.
+    pub length: usize,
+    is_expecting: bool,
+}
+
+fn is_token(bytes: &[u8]) -> bool {
+    let is_part = |b: &u8| b.is_ascii_alphanumeric() || b"!#$%&'*+-.^_`|~".contains(b);
+    !bytes.is_empty() && bytes.iter().all(is_part)
+}
+
+// The method, the path and the version of a line as `PUT /fail/a HTTP/1.1`.
+fn request_line(line: &[u8]) -> Option<(&str, &str, &str)> {
+    let (method, rest) = std::str::from_utf8(line).ok()?.split_once(' ')?;
+    let (target, version) = rest.split_once(' ')?;
+    let is_target = target.starts_with('/') && target.bytes().all(|b| b.is_ascii_graphic());
+    let is_version = version == "HTTP/1.1" || version == "HTTP/1.0";
+    let path = target.split('?').next()?;
+    (is_token(method.as_bytes()) && is_target && is_version).then_some((method, path, version))
+}
+
+fn field(line: &[u8]) -> Option<(String, &[u8])> {
+    let colon = line.iter().position(|b| *b == b':')?;
+    let (name, value) = (&line[..colon], line[colon + 1..].trim_ascii());
+    let is_text = |b: &u8| *b == b'\t' || (*b >= b' ' && *b != 0x7f);
+    (is_token(name) && value.iter().all(is_text))
+        .then(|| (String::from_utf8_lossy(name).to_ascii_lowercase(), value))
+}
+
+// A length that has more digits than a number here is too long, and not bad.
+fn length_of(value: &[u8]) -> Option<usize> {
+    let is_number = !value.is_empty() && value.iter().all(u8::is_ascii_digit);
+    let digits = std::str::from_utf8(value).ok().filter(|_| is_number)?;
+    Some(digits.parse().unwrap_or(usize::MAX))
+}
+
+// Whether a `Host` is this machine, with or without a port: a page that has a name of its own for
+// this machine's address sends that name.
+fn is_this_machine(host: &[u8]) -> bool {
+    let Ok(host) = std::str::from_utf8(host) else {
+        return false;
+    };
+    let (is_name, port) = match host.strip_prefix('[') {
+        Some(rest) => match rest.split_once(']') {
+            Some((ip, port)) => (
+                ip.parse::<Ipv6Addr>().is_ok_and(|ip| ip.is_loopback()),
+                port,
+            ),
+            None => return false,
+        },
+        None => {
+            let (name, port) = host.split_at(host.find(':').unwrap_or(host.len()));
+            let is_ip = name.parse::<Ipv4Addr>().is_ok_and(|ip| ip.is_loopback());
+            (is_ip || name.eq_ignore_ascii_case("localhost"), port)
+        }
+    };
+    let is_port =
+        |port: &str| port.bytes().all(|b| b.is_ascii_digit()) && port.parse::<u16>().is_ok();
+    is_name && (port.is_empty() || port.strip_prefix(':').is_some_and(is_port))
+}
+
+fn is_served(origin: &[u8], addr: SocketAddr) -> bool {
+    origin == format!("http://{addr}").as_bytes()
+}
+
+/// What the fields of a head say.
+#[derive(Default)]
+struct Fields {
+    length: Option<usize>,
+    has_host: bool,
+    is_expecting: bool,
+}
+
+impl Fields {
+    fn take(&mut self, name: &str, value: &[u8], addr: SocketAddr) -> Result<(), Fault> {
+        match name {
+            "content-length" => {
+                let told = length_of(value).ok_or(BAD_LENGTH)?;
+                if self.length.replace(told).is_some() {
+                    return Err(BAD_LENGTH);
+                }
+            }
+            "transfer-encoding" => return Err(CHUNKS),
+            "origin" if !is_served(value, addr) => return Err(FOREIGN_ORIGIN),
+            "host" if !is_this_machine(value) => return Err(FOREIGN_HOST),
+            "host" if std::mem::replace(&mut self.has_host, true) => return Err(BAD_HOST),
+            "expect" if !value.eq_ignore_ascii_case(b"100-continue") => return Err(NO_EXPECTATION),
+            "expect" => self.is_expecting = true,
+            _ => {}
+        }
+        Ok(())
+    }
+}
+
+// A whole head, each line of it with its CR LF, at a node that is served at this address.
+fn head_of(bytes: &[u8], addr: SocketAddr) -> Result<Head, Fault> {
+    let mut lines = bytes
+        .strip_suffix(b"\r\n")
+        .ok_or(BAD_LINE)?
+        .split(|b| *b == b'\n');
+    let first = lines.next().unwrap_or_default();
+    let first = first.strip_suffix(b"\r").unwrap_or(first);
+    let (method, path, version) = request_line(first).ok_or(BAD_LINE)?;
+    let mut fields = Fields::default();
+    for line in lines {
+        let line = line.strip_suffix(b"\r").unwrap_or(line);
+        let (name, value) = field(line).ok_or(BAD_FIELD)?;
+        fields.take(&name, value, addr)?;
+    }
+    if version == "HTTP/1.1" && !fields.has_host {
+        return Err(BAD_HOST);
+    }
+    let length = fields.length.unwrap_or(0);
+    if length > MAX_BODY {
+        return Err(LONG_BODY);
+    }
+    Ok(Head {
+        method: method.to_string(),
+        path: path.to_string(),
+        length,
+        is_expecting: fields.is_expecting,
+    })
+}
+
+// Where the head ends that these bytes begin with, if all of it is there. None of its newlines
+// stands without its CR. What lies before `from` was looked at.
+fn end_of_head(bytes: &[u8], from: usize) -> Result<Option<usize>, Fault> {
+    for (at, byte) in bytes.iter().enumerate().skip(from) {
+        if *byte == b'\n' {
+            if at == 0 || bytes[at - 1] != b'\r' {
+                return Err(BARE_NEWLINE);
+            }
+            if bytes[..at - 1].ends_with(b"\r\n") {
+                return Ok(Some(at + 1));
+            }
+        }
+    }
+    Ok(None)
+}
+
+/// A connection with a client, who has a while for its request and the reply.
+pub struct Connection<'a> {
+    stream: &'a TcpStream,
+    begun: Instant,
+    /// What was read behind the head.
+    rest: Vec<u8>,
+}
+
+impl<'a> Connection<'a> {
+    /// A connection whose time begins now.
+    pub fn new(stream: &'a TcpStream) -> Connection<'a> {
+        Connection {
+            stream,
+            begun: Instant::now(),
+            rest: Vec::new(),
+        }
+    }
+
+    /// When the time for all of it is over.
+    pub fn end(&self) -> Instant {
+        self.begun + WHOLE_TIME
+    }
+
+    fn read_by(&mut self, into: &mut [u8], deadline: Instant) -> Result<usize, Fault> {
+        match read_by(self.stream, into, deadline)? {
+            0 => Err(Fault::Gone),
+            read => Ok(read),
+        }
+    }
+
+    /// Reads the head of the request.
+    pub fn read_head(&mut self, addr: SocketAddr) -> Result<Head, Fault> {
+        let (mut bytes, mut piece, mut looked) = (Vec::new(), [0; 4_096], 0);
+        let end = loop {
+            let read = self.read_by(&mut piece, self.begun + HEAD_TIME)?;
+            bytes.extend_from_slice(&piece[..read]);
+            match end_of_head(&bytes, looked)? {
+                Some(end) if end <= MAX_HEAD => break end,
+                None if bytes.len() < MAX_HEAD => looked = bytes.len(),
+                _ => return Err(LONG_HEAD),
+            }
+        };
+        self.rest = bytes.split_off(end);
+        head_of(&bytes[..end - 2], addr)
+    }
+
+    /// Reads the body that a head tells of. Memory grows as the body comes.
+    pub fn read_body(&mut self, head: &Head) -> Result<Vec<u8>, Fault> {
+        let mut body = std::mem::take(&mut self.rest);
+        if head.is_expecting && body.len() < head.length {
+            let end = self.end();
+            write_by(self.stream, b"HTTP/1.1 100 Continue\r\n\r\n", end)?;
+        }
+        let mut piece = Vec::new();
+        while body.len() < head.length {
+            // One byte more, so that it is seen where more comes than was told.
+            let left = head.length - body.len() + 1;
+            piece.resize(left.min(PIECE), 0);
+            let read = self.read_by(&mut piece, self.end())?;
+            body.extend_from_slice(&piece[..read]);
+        }
+        match body.len() == head.length {
+            true => Ok(body),
+            false => Err(MORE_BODY),
+        }
+    }
+
+    /// Writes the reply, the last of the connection. `HEAD` is answered without the body.
+    pub fn write(&mut self, method: &str, status: u16, body: &[u8]) -> io::Result<()> {
+        let (reason, length) = (reason(status), body.len());
+        let head = format!(
+            "HTTP/1.1 {status} {reason}\r\ncontent-length: {length}\r\nconnection: close\r\n\r\n"
+        );
+        let mut reply = head.into_bytes();
+        if method != "HEAD" {
+            reply.extend_from_slice(body);
+        }
+        write_by(self.stream, &reply, self.end())?;
+        self.stream.shutdown(Shutdown::Write)
+    }
+
+    /// Takes what a client goes on sending whose request isn't read to its end, for a while: bytes
+    /// that nobody took would end the connection before the client has the reply.
+    pub fn drain(&mut self) {
+        let end = self.end().min(Instant::now() + DRAIN_TIME);
+        let mut piece = vec![0; PIECE];
+        while let Ok(1..) = read_by(self.stream, &mut piece, end) {}
+    }
+}
+
+fn left_until(deadline: Instant) -> io::Result<Duration> {
+    let left = deadline.saturating_duration_since(Instant::now());
+    match left.is_zero() {
+        true => Err(ErrorKind::TimedOut.into()),
+        false => Ok(left),
+    }
+}
+
+// Reads once, by the deadline.
+fn read_by(mut stream: &TcpStream, into: &mut [u8], deadline: Instant) -> io::Result<usize> {
+    loop {
+        stream.set_read_timeout(Some(left_until(deadline)?))?;
+        match stream.read(into) {
+            Err(error) if error.kind() == ErrorKind::Interrupted => {}
+            read => return read,
+        }
+    }
+}
+
+// Writes all of it, by the deadline.
+fn write_by(mut stream: &TcpStream, mut bytes: &[u8], deadline: Instant) -> io::Result<()> {
+    while !bytes.is_empty() {
+        stream.set_write_timeout(Some(left_until(deadline)?))?;
+        match stream.write(bytes) {
+            Ok(0) => return Err(ErrorKind::WriteZero.into()),
+            Ok(written) => bytes = &bytes[written..],
+            Err(error) if error.kind() == ErrorKind::Interrupted => {}
+            Err(error) => return Err(error),
+        }
+    }
+    Ok(())
+}
+
+fn reason(status: u16) -> &'static str {
+    match status {
+        200 => "OK",
+        400 => "Bad Request",
+        403 => "Forbidden",
+        404 => "Not Found",
+        405 => "Method Not Allowed",
+        409 => "Conflict",
+        411 => "Length Required",
+        413 => "Content Too Large",
+        417 => "Expectation Failed",
+        431 => "Request Header Fields Too Large",
+        _ => "Service Unavailable",
+    }
+}
+
+/// Posts a message to a node that is served at this address, and answers the status of the reply.
+pub fn post(stream: &TcpStream, addr: SocketAddr, message: &[u8], end: Instant) -> io::Result<u16> {
+    let length = message.len();
+    let head = format!(
+        "POST /gossip HTTP/1.1\r\nhost: {addr}\r\nconnection: close\r\n\
+         content-length: {length}\r\n\r\n"
+    );
+    write_by(stream, head.as_bytes(), end)?;
+    write_by(stream, message, end)?;
+    let (mut line, mut piece) = (Vec::new(), [0; 256]);
+    while line.len() < 12 {
+        match read_by(stream, &mut piece, end)? {
+            0 => break,
+            read => line.extend_from_slice(&piece[..read]),
+        }
+    }
+    status_of(&line).ok_or_else(|| io::Error::new(ErrorKind::InvalidData, "no reply of HTTP"))
+}
+
+// The status of a reply that begins so.
+fn status_of(line: &[u8]) -> Option<u16> {
+    let digits = line.strip_prefix(b"HTTP/1.")?.get(2..5)?;
+    std::str::from_utf8(digits).ok()?.parse().ok()
+}
+
+#[cfg(test)]
+mod tests {
+    use super::*;
+
+    const ADDR: SocketAddr = SocketAddr::new(std::net::IpAddr::V4(Ipv4Addr::LOCALHOST), 7070);
+
+    // A head of HTTP/1.1 with these fields behind its Host.
+    fn read_line(line: &str, fields: &str) -> Result<Head, u16> {
+        read(&format!("{line}\r\nHost: localhost:7070\r\n{fields}"))
+    }
+
+    fn read(text: &str) -> Result<Head, u16> {
+        head_of(text.as_bytes(), ADDR).map_err(|fault| match fault {
+            Fault::Reply(status, _) => status,
+            Fault::Gone => 0,
+        })
+    }
+
+    #[test]
+    fn a_head_is_read() {
+        let head = read_line(
+            "PUT /fail/a?x=1 HTTP/1.1",
+            "Content-Length:  12\t\r\nExpect: 100-Continue\r\nX: \r\n",
+        );
+        let wanted = Head {
+            method: "PUT".into(),
+            path: "/fail/a".into(),
+            length: 12,
+            is_expecting: true,
+        };
+        assert_eq!(head, Ok(wanted));
+        // HTTP/1.0 knows no Host, and no length is none.
+        assert_eq!(read("GET / HTTP/1.0\r\n").map(|head| head.length), Ok(0));
+        let longest = format!("Content-Length: {MAX_BODY}\r\n");
+        let length = read_line("POST /load HTTP/1.1", &longest).map(|head| head.length);
+        assert_eq!(length, Ok(MAX_BODY));
+    }
+
+    #[test]
+    fn what_is_no_head_is_refused() {
+        for line in [
+            "",
+            "GET",
+            "GET /",
+            "GET / HTTP/2",
+            "GET / HTTP/1.1 ",
+            "GET  / HTTP/1.1",
+            " GET / HTTP/1.1",
+            "GET x HTTP/1.1",
+            "GET http://localhost/fail HTTP/1.1",
+            "GET * HTTP/1.1",
+            "G(T / HTTP/1.1",
+            "GET /\u{e9} HTTP/1.1",
+            "GET /\0 HTTP/1.1",
+            "GET /\r HTTP/1.1",
+        ] {
+            assert_eq!(read_line(line, ""), Err(400), "{line:?}");
+        }
+        for fields in [
+            " X: y\r\n",
+            "X : y\r\n",
+            "X\r\n",
+            ": y\r\n",
+            "X: y\rz\r\n",
+            "X: \0\r\n",
+            "Content-Length: +1\r\n",
+            "Content-Length: -1\r\n",
+            "Content-Length:\r\n",
+            "Content-Length: 1, 1\r\n",
+            "Content-Length: 0x1\r\n",
+            "Content-Length: 1\r\ncontent-length: 1\r\n",
+            "Host: localhost\r\n",
+        ] {
+            assert_eq!(read_line("GET / HTTP/1.1", fields), Err(400), "{fields:?}");
+        }
+        assert_eq!(read("GET / HTTP/1.1\r\n"), Err(400), "no Host");
+        assert_eq!(read("GET / HTTP/1.0"), Err(400), "no newline");
+    }
+
+    #[test]
+    fn what_is_not_taken_has_its_status() {
+        for (fields, status) in [
+            ("Transfer-Encoding: chunked\r\n", 411),
+            ("Transfer-Encoding: identity\r\nContent-Length: 1\r\n", 411),
+            ("Content-Length: 67108865\r\n", 413),
+            ("Content-Length: 99999999999999999999999\r\n", 413),
+            ("Expect: a miracle\r\n", 417),
+            ("Origin: http://example.org\r\n", 403),
+            ("Origin: null\r\n", 403),
+            ("Origin: http://127.0.0.1:7071\r\n", 403),
+            ("Origin: https://127.0.0.1:7070\r\n", 403),
+            ("Origin: http://127.0.0.1:70700\r\n", 403),
+        ] {
+            let answered = read_line("POST /load HTTP/1.1", fields);
+            assert_eq!(answered, Err(status), "{fields:?}");
+        }
+        assert!(read_line("GET /report HTTP/1.1", "Origin: http://127.0.0.1:7070\r\n").is_ok());
+    }
+
+    #[test]
+    fn a_host_is_this_machine() {
+        let hosts = [
+            "localhost",
+            "LOCALHOST:1",
+            "127.0.0.1",
+            "127.0.0.1:65535",
+            "127.1.2.3:80",
+            "[::1]",
+            "[::1]:7070",
+        ];
+        let foreign = [
+            "",
+            ":7070",
+            "example.org",
+            "example.org:7070",
+            "localhost.example.org",
+            "127.0.0.1.example.org",
+            "127.0.0.1:",
+            "127.0.0.1:65536",
+            "127.0.0.1:+1",
+            "127.0.0.1:a",
+            "10.0.0.1",
+            "0.0.0.0",
+            "[::1",
+            "::1",
+            "[::1]x",
+            "[::2]:7070",
+            "[127.0.0.1]",
+            "localhost]",
+            "\u{e9}",
+        ];
+        for host in hosts {
+            assert!(is_this_machine(host.as_bytes()), "{host:?}");
+        }
+        for host in foreign {
+            assert!(!is_this_machine(host.as_bytes()), "{host:?}");
+            let head = read(&format!("GET / HTTP/1.1\r\nHost: {host}\r\n"));
+            assert_eq!(head, Err(403), "{host:?}");
+        }
+    }
+
+    #[test]
+    fn a_head_ends_at_its_empty_line_in_whatever_pieces_it_comes() {
+        let text = b"GET / HTTP/1.1\r\nHost: a\r\n\r\nbody\n";
+        for from in 0..text.len() - 5 {
+            let (whole, part) = (end_of_head(text, from), end_of_head(&text[..from], 0));
+            assert_eq!(
+                (whole, part),
+                (Ok(Some(text.len() - 5)), Ok(None)),
+                "{from}"
+            );
+        }
+        for bare in ["\n", "GET / HTTP/1.1\n", "GET / HTTP/1.1\r\n\n", "\r\r\n\n"] {
+            assert_eq!(
+                end_of_head(bare.as_bytes(), 0),
+                Err(BARE_NEWLINE),
+                "{bare:?}"
+            );
+        }
+        assert_eq!(end_of_head(b"\r\n\r\n", 0), Ok(Some(4)));
+    }
+
+    #[test]
+    fn a_reply_has_a_status() {
+        assert_eq!(status_of(b"HTTP/1.1 200 OK"), Some(200));
+        assert_eq!(status_of(b"HTTP/1.0 409"), Some(409));
+        for none in [
+            "",
+            "HTTP/1.1 20",
+            "HTTP/2 200 OK",
+            "HTTP/1.1 abc",
+            "220 hello",
+        ] {
+            assert_eq!(status_of(none.as_bytes()), None, "{none:?}");
+        }
+    }
+}
