@@ -69,11 +69,12 @@ CHANGED = (0, 1, 256)
 MESSAGES = {0: 40_000, 1: 20_000, 256: 2_000}
 
 
-def build(crate, *arguments):
-    """Proves and builds a program, where it has changed."""
+def build(is_built, crate, *arguments):
+    """Proves and builds a program, where it has changed, unless it is to be taken as it stands."""
     folder = os.path.join(CRATES, crate)
-    how = {"check": True, "stdin": subprocess.DEVNULL, "stdout": subprocess.DEVNULL}
-    subprocess.run(["rt", "run", "--", *arguments], cwd=folder, **how)
+    if not is_built:
+        how = {"check": True, "stdin": subprocess.DEVNULL, "stdout": subprocess.DEVNULL}
+        subprocess.run(["rt", "run", "--", *arguments], cwd=folder, **how)
     return os.path.join(folder, "out", crate)
 
 
@@ -394,15 +395,17 @@ def time_audits(program):
 
 
 def main():
-    failreg = build("failreg", "--help")
-    if len(sys.argv) > 1:
-        compare_passes(os.path.abspath(sys.argv[1]), failreg)
+    words = [word for word in sys.argv[1:] if word != "--built"]
+    is_built = len(words) < len(sys.argv) - 1
+    failreg = build(is_built, "failreg", "--help")
+    if words:
+        compare_passes(os.path.abspath(words[0]), failreg)
         return
     time_passes(failreg)
     time_calls(failreg)
     time_exchanges(failreg)
     time_turns(failreg)
-    bench = build("bench", "maps build 1")
+    bench = build(is_built, "bench", "maps build 1")
     time_maps(bench)
     for form in FORMS:
         time_messages(bench, form)
