@@ -16,7 +16,7 @@ use stamp_register::Stamp;
 use std::alloc::AllocError;
 use std::fmt::Write;
 
-// A formatter prints the same, and takes three times as long: passes are most of a script.
+// A formatter prints the same and takes longer, and passes are most of a script.
 fn print_number(out: &mut String, number: u64) -> Result<(), AllocError>
     ensures { Prints result out.old out.new (decimal number) }
 {
