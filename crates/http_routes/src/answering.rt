@@ -1,26 +1,92 @@
 //! Requests at a node.
 
-ghost use Rattle.node_calls.specs.Told.{ask_told};
+ghost use Rattle.std.specs.Prelude.{◌≡◌, [], IfOk, IfErr, IsErrOf, OnErr};
+ghost use Rattle.node_calls.specs.Asks.{asked_first, asked_from, reply_value};
+ghost use Rattle.node_calls.specs.Told.{ask_ref_told, reply_told};
+ghost use Rattle.node_core.specs.Traces.{Accepts, IsRefusalOf};
+ghost use Rattle.http_routes.specs.Answers.{Answers, Comes};
+ghost use Rattle.http_routes.specs.Memory.{AskNeedsMemory, IsOutOfMemory, NeedsMemory};
 ghost use Rattle.http_routes.specs.Replies.{http_value};
 ghost use Rattle.http_routes.specs.Requests.{call, wanted};
-ghost use Rattle.http_routes.specs.Answers.{Answers};
+ghost use Rattle.http_routes.specs.Rooms.{room_reply_value};
 
-use crate::reply::{HttpReply, ReplyRoom};
-use crate::wanted::{Wanted, route};
+use crate::reply::HttpReply;
+use crate::room::{KeptRoom, RoomReply};
+use crate::wanted_ref::{WantedRef, route_ref};
 use http_paths::Routes;
-use node_core::{Ask, NodeCore};
+use node_core::{AskRef, NodeCore, NodeFault, Reply};
 use report_text::report_json;
 use std::alloc::Global;
 
-// Makes a call once there is room for its reply.
-fn call(core: &mut NodeCore, alloc: Global, ask: Ask) -> HttpReply
-    ensures { Answers core.old (call (ask_told ask)) core.new (http_value result) }
+// Makes a call that a request asks for by the node's call of its own, which takes no memory before
+// it is needed.
+fn made(core: &mut NodeCore, alloc: Global, ask: AskRef<'_>) -> Result<Reply, NodeFault>
+    ensures ok { IfOk result (λ r. Accepts core.old core.new
+        (asked_from core.old.config.nodes (ask_ref_told ask.entry) (reply_told r)) []
+        (reply_value core.old.config.nodes r)) }
+    ensures refused { IfErr result (IsRefusalOf core.old
+        (asked_first core.old.config.nodes (ask_ref_told ask.entry)) []) }
+    ensures memory { IsErrOf result NodeFault.OutOfMemory
+        → AskNeedsMemory core.old (ask_ref_told ask.entry) }
+    ensures err { OnErr result (core.new ≡ core.old) }
 {
-    let Ok(room) = ReplyRoom::new(alloc) else {
-        return HttpReply::no_memory(alloc);
-    };
-    let outcome = core.submit(alloc, ask, &[]);
-    room.reply(&outcome)
+    match ask {
+        AskRef::Set { name, text } => Ok(Reply::Set(core.set(alloc, name, text)?)),
+        AskRef::Remove { name } => Ok(Reply::Remove(core.remove(alloc, name)?)),
+        AskRef::Load { text } => Ok(Reply::Load(core.load(alloc, text)?)),
+        AskRef::Shift {
+            name,
+            term,
+            to,
+            amount,
+        } => Ok(Reply::Shift(core.shift(alloc, name, term, to, amount)?)),
+        AskRef::Grant { name, term, amount } => {
+            Ok(Reply::Grant(core.grant(alloc, name, term, amount)?))
+        }
+        AskRef::Deliver { message } => Ok(Reply::Deliver(core.deliver(alloc, message)?)),
+        // No request asks for either.
+        AskRef::Pass { .. } | AskRef::Emit { .. } => core.call(alloc, ask, &[]),
+    }
+}
+
+// Makes a call, whose reply has room.
+fn call_in(core: &mut NodeCore, alloc: Global, room: &mut KeptRoom, ask: AskRef<'_>) -> RoomReply
+    ensures comes { Comes core.old (call (ask_ref_told ask.entry)) core.new
+        (room_reply_value room.new result) }
+    ensures memory { IsOutOfMemory (room_reply_value room.new result)
+        → NeedsMemory core.old (call (ask_ref_told ask.entry)) }
+{
+    let outcome = made(core, alloc, ask);
+    room.reply(alloc, &outcome)
+}
+
+/// Answers a request at a node, in room that is kept: what it wants is done, or refused without a
+/// change, and the reply says which. That memory was refused is the reply only where memory was
+/// needed: a request that wants nothing of the node is always answered as such.
+pub fn answer_in(
+    core: &mut NodeCore,
+    alloc: Global,
+    routes: &Routes,
+    room: &mut KeptRoom,
+    method: &str,
+    path: &str,
+    body: &[u8],
+) -> RoomReply
+    ensures comes { Comes core.old (wanted method.now path.now body.now) core.new
+        (room_reply_value room.new result) }
+    ensures memory { IsOutOfMemory (room_reply_value room.new result)
+        → NeedsMemory core.old (wanted method.now path.now body.now) }
+{
+    match route_ref(routes, method, path, body) {
+        WantedRef::Do(ask) => call_in(core, alloc, room, ask),
+        WantedRef::List => RoomReply::Apart(HttpReply::written(alloc, 200, core.list(alloc))),
+        WantedRef::Report => {
+            let nodes = core.config().nodes;
+            let report = report_json(alloc, core.state(), nodes);
+            RoomReply::Apart(HttpReply::written(alloc, 200, report))
+        }
+        WantedRef::Refused(fault) => room.refuse_request(fault),
+    }
 }
 
 /// Answers a request at a node: what it wants is done, or refused without a change, and the reply
@@ -36,13 +102,14 @@ pub fn answer(
 ) -> HttpReply
     ensures { Answers core.old (wanted method.now path.now body.now) core.new (http_value result) }
 {
-    match route(alloc, routes, method, path, body) {
-        Wanted::Do(ask) => call(core, alloc, ask),
-        Wanted::List => HttpReply::written(alloc, 200, core.list(alloc)),
-        Wanted::Report => {
-            let nodes = core.config().nodes;
-            HttpReply::written(alloc, 200, report_json(alloc, core.state(), nodes))
-        }
-        Wanted::Answered(reply) => reply,
+    let Ok(mut room) = KeptRoom::new(alloc) else {
+        return HttpReply::no_memory(alloc);
+    };
+    match answer_in(core, alloc, routes, &mut room, method, path, body) {
+        RoomReply::Kept(status) => HttpReply {
+            status,
+            body: room.into_body(),
+        },
+        RoomReply::Apart(reply) => reply,
     }
 }

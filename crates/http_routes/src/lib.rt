@@ -25,8 +25,12 @@
 
 mod answering;
 mod reply;
+mod room;
 mod wanted;
+mod wanted_ref;
 
-pub use answering::answer;
+pub use answering::{answer, answer_in};
 pub use reply::{HttpReply, ReplyRoom, reply_of};
+pub use room::{KeptRoom, RoomReply};
 pub use wanted::{MAX_BODY, Wanted, route, route_owned, too_long};
+pub use wanted_ref::{RequestFault, WantedRef, route_ref};

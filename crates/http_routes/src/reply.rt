@@ -14,7 +14,7 @@ use std::alloc::{AllocError, Global};
 use std::fmt::Write;
 
 /// Room for the reply to any call, in bytes: that of an accepted one always fits.
-const ROOM: usize = 128;
+pub(crate) const ROOM: usize = 128;
 
 /// The status and the body of a reply.
 #[derive(Debug, Drop)]
@@ -83,17 +83,21 @@ impl ReplyRoom {
         ensures refused { IfErr outcome.now (λ f. IsReply (refusal_value f) (http_value result)) }
     {
         match outcome {
-            Ok(reply) => HttpReply {
-                status: 200,
-                body: answered(self.text, reply).into_bytes(),
-            },
+            Ok(reply) => {
+                let mut text = self.text;
+                answered(&mut text, reply);
+                HttpReply {
+                    status: 200,
+                    body: text.into_bytes(),
+                }
+            }
             Err(fault) => refused(self.text, *fault),
         }
     }
 }
 
-// Adds a text for which there is room.
-fn append(text: &mut String, more: &str)
+/// Adds a text for which there is room.
+pub(crate) fn append(text: &mut String, more: &str)
     requires { string_len text.old + length more.now ≤ string_capacity text.old }
     ensures bytes { string_bytes text.new ≡ string_bytes text.old ++ more.now }
     ensures len { string_len text.new ≡ string_len text.old + length more.now }
@@ -103,8 +107,8 @@ fn append(text: &mut String, more: &str)
     let _ = text.push_str(more);
 }
 
-// Adds a number for which there is room.
-fn append_number(text: &mut String, number: u64)
+/// Adds a number for which there is room.
+pub(crate) fn append_number(text: &mut String, number: u64)
     requires { string_len text.old + 40 ≤ string_capacity text.old }
     ensures bytes { string_bytes text.new ≡ string_bytes text.old ++ decimal number }
     ensures len { string_len text.new ≤ string_len text.old + 40 }
@@ -116,31 +120,31 @@ fn append_number(text: &mut String, number: u64)
 // Adds a stamp for which there is room.
 fn append_stamp(text: &mut String, stamp: Stamp)
     requires { string_len text.old + 81 ≤ string_capacity text.old }
-    ensures { string_bytes text.new ≡ string_bytes text.old ++ stamp_text stamp }
+    ensures bytes { string_bytes text.new ≡ string_bytes text.old ++ stamp_text stamp }
+    ensures capacity { string_capacity text.old ≤ string_capacity text.new }
 {
     append_number(text, stamp.clock);
     append(text, ".");
     append_number(text, u64::from(stamp.node));
 }
 
-// What an accepted call is answered, in room for it.
-fn answered(room: String, reply: &Reply) -> String
-    requires empty { string_len room ≡ 0 }
-    requires wide { 128 ≤ string_capacity room }
-    ensures { (nodes : ℕ)
-        → string_bytes result ≡ answered_text (reply_value nodes reply.now) }
+/// Writes what an accepted call is answered, in room for it.
+pub(crate) fn answered(text: &mut String, reply: &Reply)
+    requires empty { string_len text.old ≡ 0 }
+    requires wide { 128 ≤ string_capacity text.old }
+    ensures bytes { (nodes : ℕ)
+        → string_bytes text.new ≡ answered_text (reply_value nodes reply.now) }
+    ensures capacity { string_capacity text.old ≤ string_capacity text.new }
 {
-    let mut text = room;
     match reply {
-        Reply::Set(stamp) | Reply::Remove(stamp) => append_stamp(&mut text, *stamp),
-        Reply::Load(entries) => append_number(&mut text, u64::from(*entries)),
-        Reply::Shift(total) | Reply::Grant(total) => append_number(&mut text, *total),
-        Reply::Deliver(true) => append(&mut text, "changed"),
-        Reply::Deliver(false) => append(&mut text, "same"),
+        Reply::Set(stamp) | Reply::Remove(stamp) => append_stamp(text, *stamp),
+        Reply::Load(entries) => append_number(text, u64::from(*entries)),
+        Reply::Shift(total) | Reply::Grant(total) => append_number(text, *total),
+        Reply::Deliver(true) => append(text, "changed"),
+        Reply::Deliver(false) => append(text, "same"),
         // No request asks for either.
         Reply::Pass(_) | Reply::Emit(_) => {}
     }
-    text
 }
 
 // The reply to a refused call, written to an empty text.
@@ -162,7 +166,8 @@ fn refused(room: String, fault: NodeFault) -> HttpReply
     }
 }
 
-fn status_of(fault: NodeFault) -> u16
+/// The status of the reply to a call that is refused so.
+pub(crate) fn status_of(fault: NodeFault) -> u16
     ensures { result ≡ status_of fault }
 {
     match fault {

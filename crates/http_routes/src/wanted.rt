@@ -115,7 +115,8 @@ fn load_wanted(alloc: Global, body: Vec<u8>) -> Wanted
     }
 }
 
-fn is_allowed(target: &Target<'_>, method: &str) -> bool
+/// Whether the route has this method.
+pub(crate) fn is_allowed(target: &Target<'_>, method: &str) -> bool
     ensures { result ≡ is_allowed (target_value target.now) method.now }
 {
     match target {
