@@ -352,7 +352,7 @@ pub stops_unheard : {config : Config} {seed : List ℕ} {was now : Traffic} {old
 stops_unheard message p = ([], message ∷ [], ([], refl), omega arith, p)
 
 -- a report of all calls
-carries_of : {config : Config} {seed : List ℕ} {was now : Traffic} {old new : GossipReport} {tos : List ℕ}
+pub carries_of : {config : Config} {seed : List ℕ} {was now : Traffic} {old new : GossipReport} {tos : List ℕ}
     {left : List (List ℕ)} → Moves config seed was now old new tos left → old.receipts.items ≡ [] → old.lost ≡ 0 →
     old.refused ≡ 0 → Carries config seed was now new.receipts.items new.lost new.refused tos left
 carries_of {config = config} {seed = seed} {was = was} {now = now} {old = old} {new = new} {tos = tos} {left = left} p

@@ -2,6 +2,7 @@ pub mod AskLemmas
 pub mod CarryLemmas
 pub mod LogWalks
 pub mod MailLemmas
+pub mod NewsLemmas
 pub mod PartLemmas
 pub mod RangeLemmas
 pub mod StepLemmas

@@ -1,4 +1,6 @@
 pub mod Carried
+pub mod News
+pub mod NewsRounds
 pub mod FaultText
 pub mod Mailboxes
 pub mod Parts

@@ -1,7 +1,7 @@
 //! Rounds of gossip.
 
 ghost use Rattle.std.specs.Prelude.{◌≡◌, ◌+◌, ◌*◌, ◌≤◌, ◌<◌, ◌-◌, ◌^◌, [], ◌∷◌, length, vec_len};
-ghost use Rattle.std.specs.Prelude.{vec_capacity, OnErr, OnOk, Some, true};
+ghost use Rattle.std.specs.Prelude.{cond, vec_capacity, IfOk, OnErr, OnOk, Some, true};
 ghost use Rattle.node_calls.specs.Asks.{bare_emit};
 ghost use Rattle.node_registry.specs.Receipts.{IsGiven};
 ghost use Rattle.node_calls.specs.Told.{reply_told};
@@ -146,19 +146,22 @@ fn tell<L: Label, W: Wire, R: Wait>(
     Ok(())
 }
 
-// Makes a message to a node, and sends it.
-fn tell_one<L: Label, W: Wire, R: Wait>(
+/// Makes a message to a node, and sends it. Answers whether it was sent: else it is lost, or the node
+/// refused to make it.
+pub(crate) fn tell_one<L: Label, W: Wire, R: Wait>(
     caller: &Caller<'_, L, R>,
     seat: &mut Seat<L>,
     wire: &mut W,
     to: u8,
     report: &mut GossipReport,
-) -> Result<(), AllocError>
+) -> Result<bool, AllocError>
     requires { calls_of report.old < 2 ^ 63 }
     ensures adds { Adds L.config L.seed seat.old seat.new
         report.old report.new (bare_emit to ∷ []) }
     ensures tried { OnOk result (tried_of report.old + 1 ≤ tried_of report.new) }
     ensures few { calls_of report.new ≤ calls_of report.old + 1 }
+    ensures missed { IfOk result (λ is_sent. report.new.lost + report.new.refused
+        ≡ report.old.lost + report.old.refused + cond is_sent 0 1) }
     ensures moves { OnOk result (Moves L.config L.seed (W.traffic wire.old)
         (W.traffic wire.new) report.old report.new (to ∷ []) []) }
     ensures stops { OnErr result (Stops L.config L.seed (W.traffic wire.old)
@@ -171,10 +174,14 @@ fn tell_one<L: Label, W: Wire, R: Wait>(
             report.record_emit(receipt, sent.is_err());
             match sent {
                 Err(WireError::OutOfMemory) => Err(AllocError),
-                _ => Ok(()),
+                Err(_) => Ok(false),
+                Ok(()) => Ok(true),
             }
         }
-        Err(fault) => report.refuse(fault),
+        Err(fault) => {
+            report.refuse(fault)?;
+            Ok(false)
+        }
     }
 }
 
@@ -197,8 +204,8 @@ fn send<L: Label, W: Wire, R: Wait>(
     }
 }
 
-// Takes in what the wire brings, as far as a round does.
-fn hear<L: Label, W: Wire, R: Wait>(
+/// Takes in what the wire brings, as far as a round does.
+pub(crate) fn hear<L: Label, W: Wire, R: Wait>(
     caller: &Caller<'_, L, R>,
     seat: &mut Seat<L>,
     wire: &mut W,

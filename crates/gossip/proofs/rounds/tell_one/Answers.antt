@@ -2,7 +2,7 @@ use Rattle.std.proofs.Common.{◌≡◌, ℕ, ◌+◌, ◌∷◌, [], cond, fals
 use Rattle.std.specs.Result.{is_err}
 use Rattle.gossip.proofs.AskLemmas.{emit_brings_none, emit_carries, first_of_emit}
 use Rattle.gossip.proofs.StepLemmas.{adds_emit, adds_none}
-use Rattle.gossip.proofs.CarryLemmas.{emit_refused, err_at, moves_lost, moves_nothing, moves_sent, ok_at, on_err, stops_at_end, stops_at_once, with_err}
+use Rattle.gossip.proofs.CarryLemmas.{emit_refused, err_at, moves_lost, moves_nothing, moves_sent, ok_at, on_err, stops_at_end, stops_at_once}
 use Rattle.gossip.proofs.rounds.tell_one.Goals as goal
 
 pub returns-in_err-reserve-clause-adds : goal.returns-in_err-reserve-clause-adds
@@ -15,8 +15,8 @@ returns-in-Err-OutOfMemory-clause-adds g c =
     adds_emit _ _ _ _ _ _ _ _ c.in-Ok.receipt told.receipt.1 told.given told.since told.counted
     c.reserve.ensures.items done.receipts done.emitted done.delivered done.ended
 
-pub returns-in_default : goal.returns-in_default
-returns-in_default g c =
+pub returns-in-Err-sent : goal.returns-in-Err-sent
+returns-in-Err-sent g c =
     let told = c.in-Ok.ensures in
     let done = c.record_emit.ensures in
     let first = first_of_emit _ _ _ _ told.receipt.1 in
@@ -26,21 +26,33 @@ returns-in_default g c =
       tried = omega (arith, done.emitted, done.refused);
       few = omega (arith, done.emitted, done.refused, done.delivered);
       moves = moves_lost c.args.to _ c.in-Ok.receipt c.reserve.ensures.items done.receipts
-          (done.lost ∙ ap (λ b. c.args.report.now.lost + cond b 1 0) (c.is_err.ensures.value ∙ ap is_err c.in_default.is))
+          (done.lost ∙ ap (λ b. c.args.report.now.lost + cond b 1 0) (c.is_err.ensures.value ∙ ap is_err c.in-Err-sent.is))
           done.refused (emit_carries _ _ _ _ first) (emit_brings_none _ _ _ first)
-          (err_at _ _ c.in_default.is c.send-sent.ensures.err);
+          (err_at _ _ c.in-Err-sent.is c.send-sent.ensures.err);
+      missed = omega (
+        arith,
+        done.lost,
+        done.refused,
+        ap {B = ℕ} (λ b. cond b 1 0) (c.is_err.ensures.value ∙ ap is_err c.in-Err-sent.is),
+      );
       stops = tt;
     }
 
-pub returns-in_default-2-clause-adds : goal.returns-in_default-2-clause-adds
-returns-in_default-2-clause-adds g c =
+pub returns-in-Ok-sent-clause-adds : goal.returns-in-Ok-sent-clause-adds
+returns-in-Ok-sent-clause-adds g c =
     let told = c.in-Ok.ensures in
     let done = c.record_emit.ensures in
     adds_emit _ _ _ _ _ _ _ _ c.in-Ok.receipt told.receipt.1 told.given told.since told.counted
     c.reserve.ensures.items done.receipts done.emitted done.delivered done.ended
 
-pub returns-in-Err-clause-adds : goal.returns-in-Err-clause-adds
-returns-in-Err-clause-adds g c =
+pub returns-in_err-refuse-in-Err-clause-adds : goal.returns-in_err-refuse-in-Err-clause-adds
+returns-in_err-refuse-in-Err-clause-adds g c =
+    let refused = c.refuse.ensures in
+    adds_none _ _ _ _ _ _ _ c.in-Err.ensures.err (refused.receipts ∙ c.reserve.ensures.items)
+    refused.emitted refused.delivered refused.ended
+
+pub returns-in_ok-refuse-in-Err-clause-adds : goal.returns-in_ok-refuse-in-Err-clause-adds
+returns-in_ok-refuse-in-Err-clause-adds g c =
     let refused = c.refuse.ensures in
     adds_none _ _ _ _ _ _ _ c.in-Err.ensures.err (refused.receipts ∙ c.reserve.ensures.items)
     refused.emitted refused.delivered refused.ended
@@ -58,25 +70,25 @@ returns-in-Err-OutOfMemory-clause-stops g c =
     done.refused (emit_carries _ _ _ _ first) (emit_brings_none _ _ _ first)
     (err_at _ _ c.in-Err-OutOfMemory.is c.send-sent.ensures.err))
 
-pub returns-in_default-2-clause-moves : goal.returns-in_default-2-clause-moves
-returns-in_default-2-clause-moves g c =
+pub returns-in-Ok-sent-clause-moves : goal.returns-in-Ok-sent-clause-moves
+returns-in-Ok-sent-clause-moves g c =
     let done = c.record_emit.ensures in
     let first = first_of_emit _ _ _ _ c.in-Ok.ensures.receipt.1 in
-    let none : c.is_err.result ≡ false = c.is_err.ensures.value ∙ ap is_err c.in_default.is in
+    let none : c.is_err.result ≡ false = c.is_err.ensures.value ∙ ap is_err c.in-Ok-sent.is in
     let unlost : c.record_emit.new.self.lost ≡ c.args.report.now.lost =
     omega (arith, done.lost, ap {B = ℕ} (λ b. cond b 1 0) none) in
     moves_sent c.args.to _ c.in-Ok.receipt c.reserve.ensures.items done.receipts unlost done.refused
-    (emit_carries _ _ _ _ first) (emit_brings_none _ _ _ first) (ok_at _ _ c.in_default.is c.send-sent.ensures.ok)
+    (emit_carries _ _ _ _ first) (emit_brings_none _ _ _ first) (ok_at _ _ c.in-Ok-sent.is c.send-sent.ensures.ok)
 
-pub returns-in-Err-clause-moves : goal.returns-in-Err-clause-moves
-returns-in-Err-clause-moves g c =
+pub returns-in_ok-refuse-in-Err-clause-moves : goal.returns-in_ok-refuse-in-Err-clause-moves
+returns-in_ok-refuse-in-Err-clause-moves g c =
     let refused = c.refuse.ensures in
-    emit_refused _ _ _ _ _ _ c.refuse.result c.args.to c.in-Err.fault refused.memory refused.ok
-    (refused.receipts ∙ c.reserve.ensures.items) refused.lost c.in-Err.ensures.refused refl
+    ok_at _ _ c.in_ok-refuse-in-Err.was
+    (emit_refused _ _ _ _ _ _ c.refuse.result c.args.to c.in-Err.fault refused.memory refused.ok
+    (refused.receipts ∙ c.reserve.ensures.items) refused.lost c.in-Err.ensures.refused refl)
 
-pub returns-in-Err-clause-stops : goal.returns-in-Err-clause-stops
-returns-in-Err-clause-stops g c =
-    let refused = c.refuse.ensures in
-    with_err c.refuse.result
-    (λ uncounted. stops_at_once (c.args.to ∷ [])
-    (moves_nothing refl (refused.receipts ∙ c.reserve.ensures.items) refused.lost uncounted)) refused.err
+pub returns-in_err-refuse-in-Err-clause-stops : goal.returns-in_err-refuse-in-Err-clause-stops
+returns-in_err-refuse-in-Err-clause-stops g c =
+    on_err _ (stops_at_once (c.args.to ∷ [])
+    (moves_nothing refl (c.refuse.ensures.receipts ∙ c.reserve.ensures.items) c.refuse.ensures.lost
+    (err_at _ _ c.in_err-refuse-in-Err.was c.refuse.ensures.err)))

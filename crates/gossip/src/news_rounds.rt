@@ -1,0 +1,122 @@
+//! Rounds of gossip that tell only news.
+
+ghost use Rattle.std.specs.Prelude.{◌≡◌, ◌+◌, ◌<◌, ◌^◌, [], ◌∷◌, length, IfOk, OnErr, OnOk};
+ghost use Rattle.gossip.specs.News.{IsSeen};
+ghost use Rattle.gossip.specs.NewsRounds.{Breaks, IsEmpty, IsNewsBroken, IsNewsRound, Looks};
+ghost use Rattle.gossip.specs.Reports.{IsTold, calls_of};
+
+use crate::caller::Caller;
+use crate::news::{News, Pace};
+use crate::report::{Ended, GossipReport};
+use crate::rounds::{hear, tell_one};
+use crate::wire::Wire;
+use node_registry::{Label, Registry, Seat};
+use std::alloc::{AllocError, Global};
+use std::sync::Wait;
+
+/// Does a round of gossip that tells only news. Each of these peers is looked at, in their order: where
+/// the node has something to tell it, and its time has come, a message is made and sent, and its pace
+/// says when it is told again. Where nothing is due no message is made, and the node isn't called.
+/// Then the round takes in what the wire brings, at most 64 messages. A message that couldn't be sent
+/// is counted, and so is a call that the node refuses. Out of memory, also on the wire, ends the round.
+pub fn gossip_news<L: Label, W: Wire, R: Wait>(
+    rt: &R,
+    alloc: Global,
+    registry: &Registry<L>,
+    seat: &mut Seat<L>,
+    wire: &mut W,
+    paces: &mut [Pace],
+) -> GossipReport
+    requires { length paces.old < 2 ^ 32 }
+    ensures told { IsTold L.config L.seed seat.old seat.new result }
+    ensures round { result.ended ≡ Ended.Done → IsNewsRound L.config L.seed
+        (W.traffic wire.old) (W.traffic wire.new) paces.old paces.new result }
+    ensures broken { result.ended ≡ Ended.OutOfMemory → IsNewsBroken L.config L.seed
+        (W.traffic wire.old) (W.traffic wire.new) paces.old paces.new result }
+{
+    let caller = Caller {
+        rt,
+        alloc,
+        registry,
+    };
+    let mut report = GossipReport::new(alloc);
+    if round(&caller, seat, wire, paces, &mut report).is_err() {
+        report.ended = Ended::OutOfMemory;
+    }
+    report
+}
+
+// Looks at each peer, and takes in what comes.
+fn round<L: Label, W: Wire, R: Wait>(
+    caller: &Caller<'_, L, R>,
+    seat: &mut Seat<L>,
+    wire: &mut W,
+    paces: &mut [Pace],
+    report: &mut GossipReport,
+) -> Result<(), AllocError>
+    requires few { length paces.old < 2 ^ 32 }
+    requires empty { IsEmpty report.old }
+    ensures told { IsTold L.config L.seed seat.old seat.new report.new }
+    ensures ended { report.new.ended ≡ report.old.ended }
+    ensures round { OnOk result (IsNewsRound L.config L.seed
+        (W.traffic wire.old) (W.traffic wire.new) paces.old paces.new report.new) }
+    ensures broken { OnErr result (IsNewsBroken L.config L.seed
+        (W.traffic wire.old) (W.traffic wire.new) paces.old paces.new report.new) }
+{
+    look_at_all(caller, seat, wire, paces, report)?;
+    hear(caller, seat, wire, report)
+}
+
+// Looks at each peer.
+fn look_at_all<L: Label, W: Wire, R: Wait>(
+    caller: &Caller<'_, L, R>,
+    seat: &mut Seat<L>,
+    wire: &mut W,
+    paces: &mut [Pace],
+    report: &mut GossipReport,
+) -> Result<(), AllocError>
+    requires few { length paces.old < 2 ^ 32 }
+    requires room { calls_of report.old < 2 ^ 32 }
+    ensures looks { OnOk result (Looks L.config L.seed seat.old seat.new (W.traffic wire.old)
+        (W.traffic wire.new) report.old report.new paces.old paces.new) }
+    ensures breaks { OnErr result (Breaks L.config L.seed seat.old seat.new (W.traffic wire.old)
+        (W.traffic wire.new) report.old report.new paces.old paces.new) }
+{
+    for pace in paces.iter_mut() {
+        *pace = look_at(caller, seat, wire, *pace, report)?;
+    }
+    Ok(())
+}
+
+// Looks at a peer, tells it if that is due, and answers its pace after that.
+fn look_at<L: Label, W: Wire, R: Wait>(
+    caller: &Caller<'_, L, R>,
+    seat: &mut Seat<L>,
+    wire: &mut W,
+    pace: Pace,
+    report: &mut GossipReport,
+) -> Result<Pace, AllocError>
+    requires { calls_of report.old < 2 ^ 63 }
+    ensures looks { IfOk result (λ after. Looks L.config L.seed seat.old seat.new
+        (W.traffic wire.old) (W.traffic wire.new) report.old report.new
+        (pace ∷ []) (after ∷ [])) }
+    ensures breaks { OnErr result (Breaks L.config L.seed seat.old seat.new (W.traffic wire.old)
+        (W.traffic wire.new) report.old report.new (pace ∷ []) (pace ∷ [])) }
+{
+    let news = news_for(caller, pace.node);
+    if !pace.is_due(news) {
+        return Ok(pace.rested());
+    }
+    if tell_one(caller, seat, wire, pace.node, report)? {
+        Ok(pace.told(news))
+    } else {
+        Ok(pace.missed())
+    }
+}
+
+// What there is to tell a peer.
+fn news_for<L: Label, R: Wait>(caller: &Caller<'_, L, R>, peer: u8) -> News
+    ensures { IsSeen L.config L.seed peer result }
+{
+    caller.registry.with(caller.rt, |core| News::of(core, peer))
+}
