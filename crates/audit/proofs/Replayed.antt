@@ -18,7 +18,7 @@ use Rattle.node_core.specs.Deliveries.{TellsDelta}
 use Rattle.node_core.specs.Nodes.{Node, start}
 use Rattle.node_core.specs.Steps.{after, reply}
 use Rattle.node_core.specs.Refusals.{refusal_at}
-use Rattle.node_core.specs.Traces.{Kept, node_of, refusal, reply_to, Accepts, IsRefusalOf, SendsDelta, IsLegal, IsLegalFrom}
+use Rattle.node_core.specs.Traces.{Kept, node_of, refusal, reply_to, Accepts, IsRefusalOf, SendsDelta, IsLegal, IsLegalFrom, with_call}
 use Rattle.node_core.proofs.LegalTraces.{legal_more, nothing_legal}
 use Rattle.node_core.proofs.RepliedDelta.{call_sends, delta_bytes}
 use Rattle.cluster_model.specs.Laws.{IsLegalEmit}
@@ -26,7 +26,7 @@ use Rattle.cluster_model.specs.Worlds.{config_of}
 use Rattle.node_calls.specs.Told as tells_of
 use Rattle.node_calls.specs.Told.{Told, AskTold, Passed, ReplyTold, was_set, was_removed, was_loaded, was_passed, was_shifted, was_granted, was_emitted, was_delivered, reply_told}
 use Rattle.audit.specs.Traces.{Traces, trace_of, audited, IsLegalAlone, AllLegal, IsFirstWrong}
-use Rattle.audit.specs.Replays.{IsLegalKept, with_call}
+use Rattle.audit.specs.Replays.{IsLegalKept}
 use Rattle.audit.proofs.LegalCalls.{IsLegalCall, legal_parts, legal_short}
 use Rattle.audit.proofs.Runs.{trace_past}
 use Rattle.audit.proofs.Steps.{take_one_more}
@@ -278,13 +278,13 @@ legal_begins nodes n es k legal =
     (legal_prefix (config_of (audited nodes) n) 0 start (map (call_from nodes) es) k legal)
 
 abbrev pub alone : Config → List Told → Kept
-alone config es = record { config = config; trace = map (call_from config.nodes) es }
+alone config es = record { config = config; trace = map (call_from config.nodes) es; from = 0 }
 
 one_more : (config : Config) (es : List Told) (k : ℕ) (e : Told) → slice_get es k ≡ Some e →
     with_call (alone config (take k es)) (call_from config.nodes e) ≡ alone config (take (k + 1) es)
 one_more config es k e is =
     let more : take (k + 1) es ≡ take k es ++ e ∷ [] = ap (λ n. take n es) (add-one k) ∙ take_one_more es k e is in
-    ap (λ t. record { config = config; trace = t }) (sym (ap (λ xs. map (call_from config.nodes) xs) more ∙
+    ap (λ t. record { config = config; trace = t; from = 0 }) (sym (ap (λ xs. map (call_from config.nodes) xs) more ∙
     map-append (call_from config.nodes) (take k es) (e ∷ [])))
 
 pub replayed_more : (config : Config) (es : List Told) (k : ℕ) (e : Told) (core new : Kept) →

@@ -159,7 +159,7 @@ has_emitted traces node index bytes h = at (entry_at traces node index) refl h
     at None p q = absurd (let impossible : ⊥ = cc in impossible)
 
 abbrev with_trace : Config → List Call → Kept
-with_trace config trace = record { config = config; trace = trace }
+with_trace config trace = record { config = config; trace = trace; from = 0 }
 
 -- ---- from places to a schedule
 

@@ -9,13 +9,13 @@ use Rattle.node_calls.specs.Asks.{Asked, Call, call_from}
 use Rattle.node_calls.specs.Asks as asks
 use Rattle.node_core.specs.Nodes.{Node, start, state_shown}
 use Rattle.node_core.specs.Steps.{after}
-use Rattle.node_core.specs.Traces.{Kept}
+use Rattle.node_core.specs.Traces.{Kept, with_call}
 use Rattle.cluster_model.specs.Histories.{keys_by, acts}
 use Rattle.audit.specs.declared.sums.Sums.{Sums}
 use Rattle.audit.specs.declared.tally.Tally.{Tally}
 use Rattle.audit.specs.Sums.{is_term, sum_of}
 use Rattle.audit.specs.Counts.{AreCountsOf, AddsKeys}
-use Rattle.audit.specs.Replays.{IsLegalKept, with_call}
+use Rattle.audit.specs.Replays.{IsLegalKept}
 use Rattle.audit.specs.Traces.{Traces, trace_of}
 
 -- ---- of the calls of node i, from this state of it on

@@ -39,6 +39,7 @@ module _ (c : Cluster) where
       record {
         sizes = λ i k h. ap (λ (n : Kept). n.config.nodes) (is_new i k h) ∙ sym size;
         numbers = λ i k h. ap (λ (n : Kept). n.config.node) (is_new i k h);
+        whole = λ i k h. ap (λ (n : Kept). n.from) (is_new i k h);
         placed = λ n p h. absurd (let low = get_below {A = Place} [] n p h in omega (arith, low));
       }
 

@@ -97,6 +97,7 @@ module _ (nodes : List Kept) (i : ℕ) (k : Kept) (there : slice_get nodes i ≡
         record {
           sizes = λ j l h. by_place j l h (cases_eq j i);
           numbers = λ j l h. numbered j l h (cases_eq j i);
+          whole = λ j l h. kept_whole j l h (cases_eq j i);
           placed = λ n p h. place_stays p (is.placed n p h);
         }
       where
@@ -119,6 +120,10 @@ module _ (nodes : List Kept) (i : ℕ) (k : Kept) (there : slice_get nodes i ≡
             sym same
         numbered j l h (inr other) = is.numbers j l (sym (get_set_other nodes i j (after_call k ask words) other) ∙ h)
 
+        kept_whole : (j : ℕ) (l : Kept) → slice_get after j ≡ Some l → (j ≡ i) ⊎ (j ≢ i) → l.from ≡ 0
+        kept_whole j l h (inl same) = ap (λ (l : Kept). l.from) (sym (set_here j l h same)) ∙ is.whole i k there
+        kept_whole j l h (inr other) = is.whole j l (sym (get_set_other nodes i j (after_call k ask words) other) ∙ h)
+
 -- ---- one message more
 
 pub world_pushed : (nodes : List Kept) (places : List Place) (place : Place) → IsWorld nodes places →
@@ -127,6 +132,7 @@ world_pushed nodes places place is new =
     record {
       sizes = is.sizes;
       numbers = is.numbers;
+      whole = is.whole;
       placed = λ n p h. at n p h (cases_eq n (length places));
     }
   where

@@ -84,7 +84,7 @@ is_agreed c w e low h = ap (λ b. cond b (Some e.ask) None) (and_from _ _ (lt-lt
     (and_from _ _ (eq-eqb e.node e.node refl) (ap is_none h)))
 
 abbrev kept_with : Config → List Call → Kept
-kept_with config trace = record { config = config; trace = trace }
+kept_with config trace = record { config = config; trace = trace; from = 0 }
 
 pub event_is_call : (c : Cluster) (es : List Event) (e : Event) → IsCall c es e
 event_is_call c es e =
@@ -96,6 +96,7 @@ event_is_call c es e =
         config = config_of c i;
         trace =
             trace_after i (w.node i) (w.trace i) (not_asked c w e i ne r) e.words;
+        from = 0;
       };
     }
   where

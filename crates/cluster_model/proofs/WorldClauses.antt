@@ -279,12 +279,16 @@ pub no_node : (w : WorldValue) (e : EventValue) → length w.nodes ≤ node_aske
 no_node w e high = inr (sym (no_node_answer w e (slice_get_past w.nodes (node_asked e) high)))
 
 -- the sender of a message has it in its trace
+pub sender_at : (nodes : List Kept) (place : Place) → IsPlace nodes place → (s : Kept) →
+    s ≡ get_or nodes place.node s → slice_get nodes place.node ≡ Some s
+sender_at nodes place is s at_place =
+    slice_get_read nodes (length nodes) place.node s refl (get_below nodes place.node is.node is.there) at_place
+
 pub emit_at : (nodes : List Kept) (place : Place) (is : IsPlace nodes place) (s : Kept) →
     s ≡ get_or nodes place.node s → IsEmit s.trace place.entry
 emit_at nodes place is s at_place =
-    let sender : slice_get nodes place.node ≡ Some s = slice_get_read nodes (length nodes) place.node s refl
-    (get_below nodes place.node is.node is.there) at_place in
-    subst (λ (n : Kept). IsEmit n.trace place.entry) (same_kept is.node s (sym is.there ∙ sender)) is.emit
+    subst (λ (n : Kept). IsEmit n.trace place.entry)
+    (same_kept is.node s (sym is.there ∙ sender_at nodes place is s at_place)) is.emit
 
 -- ---- the last reply is the answer
 

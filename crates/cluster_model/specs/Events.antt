@@ -9,7 +9,7 @@ use Rattle.node_calls.specs.Asks.{Asked, Answered, Call, Message, asked_with, em
 use Rattle.node_calls.specs.Asks as asks
 use Rattle.node_core.specs.Emissions.{message_emitted}
 use Rattle.node_core.specs.Lasts.{last_call}
-use Rattle.node_core.specs.Traces.{Kept, after_call, node_of, refusal, reply_to}
+use Rattle.node_core.specs.Traces.{Kept, after_call, new_kept, node_of, refusal, reply_to}
 use Rattle.cluster_model.specs.declared.event.Event as code
 use Rattle.cluster_model.specs.declared.event.Event.TheVariants as events
 use Rattle.cluster_model.specs.declared.fault.WorldFault.{WorldFault}
@@ -23,7 +23,7 @@ pub record WorldValue : Type 0 where
 
 -- of a cluster none of whose nodes has accepted a call
 abbrev pub new_node : Cluster → ℕ → Kept
-new_node c i = record { config = config_of c i; trace = [] }
+new_node c i = new_kept (config_of c i)
 
 abbrev pub new_world : Cluster → WorldValue
 new_world c = record { nodes = map (new_node c) (range_with_len 0 c.nodes); messages = [] }

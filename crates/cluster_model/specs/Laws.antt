@@ -31,9 +31,9 @@ abbrev pub NodeIsReplay : Type 0
 NodeIsReplay = (c : Cluster) (es : List Event) (i : ℕ) →
     (world c es).node i ≡ replay i ((world c es).trace i)
 
--- node i as its callers see it
+-- node i as its callers see it, which keeps all calls
 abbrev pub kept : Cluster → List Event → ℕ → Kept
-kept c es i = record { config = config_of c i; trace = (world c es).trace i }
+kept c es i = record { config = config_of c i; trace = (world c es).trace i; from = 0 }
 
 -- an event is a call of its node: one that the node refuses, or that names no node, changes nothing, and another
 -- changes that node as the call does, and no other node

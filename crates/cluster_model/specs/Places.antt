@@ -43,8 +43,9 @@ pub record IsPlace (nodes : List Kept) (place : Place) : Type 0 where
 abbrev pub AreSizes : List Kept → Type 0
 AreSizes nodes = (i : ℕ) (k : Kept) → slice_get nodes i ≡ Some k → k.config.nodes ≡ length nodes
 
--- each node has that size and has its number there, and each message has its place
+-- each node has that size, has its number there, and keeps all its calls, and each message has its place
 pub record IsWorld (nodes : List Kept) (places : List Place) : Type 0 where
   pub sizes : AreSizes nodes
   pub numbers : (i : ℕ) (k : Kept) → slice_get nodes i ≡ Some k → k.config.node ≡ i
+  pub whole : (i : ℕ) (k : Kept) → slice_get nodes i ≡ Some k → k.from ≡ 0
   pub placed : (number : ℕ) (place : Place) → slice_get places number ≡ Some place → IsPlace nodes place

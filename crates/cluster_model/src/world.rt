@@ -1,8 +1,8 @@
 //! A cluster in one program: its nodes, and the messages between them.
 
-ghost use Rattle.std.specs.Prelude.{◌≡◌, ◌≢◌, ◌<◌, ◌≤◌, [], false, true, length, option_map, IfOk};
+ghost use Rattle.std.specs.Prelude.{◌≡◌, ◌≢◌, ◌<◌, ◌≤◌, [], false, true, length, map, option_map, IfOk};
 ghost use Rattle.std.specs.Prelude.{IfErr, OnOk, OnErr, IsTrue, Ok, Err, Some, slice_get};
-ghost use Rattle.node_calls.specs.Asks.{Message, answered_from, message_read};
+ghost use Rattle.node_calls.specs.Asks.{Message, answered_from, call_from, message_read};
 ghost use Rattle.node_calls.specs.Told.{ask_ref_told, emits, passes, reply_ref_told};
 ghost use Rattle.node_calls.specs.declared.fault.NodeFault.TheVariants.{OutOfMemory};
 ghost use Rattle.cluster_model.specs.Events.{event_value, calls, delivers, has_message, new_world};
@@ -14,7 +14,7 @@ ghost use Rattle.cluster_model.specs.Worlds.{cluster_of, is_cluster_size};
 
 use crate::event::Event;
 use crate::fault::WorldFault;
-use node_core::{AskRef, Config, NodeCore, NodeFault, Reply, ReplyRef};
+use node_core::{AskRef, Config, NodeCore, NodeFault, Reply, ReplyRef, Trace};
 use std::alloc::Global;
 use std::marker::Model;
 
@@ -43,13 +43,22 @@ impl Model for World {
     ghost invariant = { λ w. IsWorld w.nodes.items w.messages.items };
 }
 
+// The accepted calls of a node that keeps all of them.
+fn whole_trace(node: &NodeCore) -> &Trace
+    requires { node.now.from ≡ 0 }
+    ensures { map (call_from node.now.config.nodes) result.now.calls ≡ node.now.trace }
+{
+    node.trace()
+}
+
 // The bytes of the message that an entry of a node's trace made.
 fn message_in(node: &NodeCore, entry: usize) -> &[u8]
-    requires { IsEmit node.now.trace entry }
+    requires made { IsEmit node.now.trace entry }
+    requires whole { node.now.from ≡ 0 }
     ensures { (message : Message) → IsEmitOf node.now.trace entry message →
         message_read node.now.config.nodes result.now ≡ Ok message }
 {
-    let Some(seen) = node.trace().at(entry) else {
+    let Some(seen) = whole_trace(node).at(entry) else {
         unreachable!()
     };
     match seen.reply() {
@@ -199,7 +208,7 @@ impl World {
     {
         self.messages.reserve(1)?;
         let sender = &mut self.nodes[node as usize];
-        let entry = sender.trace().len();
+        let entry = sender.calls() as usize;
         let reply = sender.call(alloc, AskRef::Emit { to }, words)?;
         self.messages.push_reserved(Place { node, entry });
         Ok(reply)
@@ -231,7 +240,7 @@ impl World {
             ≡ last_reply self.now node }
     {
         let core = self.nodes.get(node as usize)?;
-        Some(core.trace().last()?.reply())
+        Some(whole_trace(core).last()?.reply())
     }
 
     /// Asks a node as `step` does. The reply is in the node's trace (`last_reply`): of a pass no copy

@@ -12,7 +12,7 @@ use Rattle.node_core.specs.Lasts.{passed_at}
 use Rattle.node_core.specs.Memory.{NameNeedsMemory}
 use Rattle.node_core.specs.Passes.{words_for}
 use Rattle.node_core.specs.Refusals.{is_bad_config}
-use Rattle.node_core.specs.Traces.{Kept, Accepts, Emits, IsRefusalOf, after_call, refusal, reply_to, state_known}
+use Rattle.node_core.specs.Traces.{Kept, Accepts, Emits, IsRefusalOf, after_call, call_kept, new_kept, refusal, reply_to, state_known}
 use Rattle.node_core.specs.Words.{place_after, words_next}
 use Rattle.failreg_c.specs.Numbers.{no_memory, no_point, not_text, number}
 use Rattle.failreg_c.specs.Told.{IsPassTold, passed_text}
@@ -41,7 +41,7 @@ text_of (Some passed) = passed_text passed
 
 abbrev pub said_in : Kept → Said → List ℕ
 said_in core (saids.Bytes bytes) = bytes.items
-said_in core (saids.TextAt index) = text_of (passed_at (slice_get core.trace index))
+said_in core (saids.TextAt index) = text_of (passed_at (call_kept core index))
 
 abbrev pub said_of : Registry → List ℕ
 said_of k = said_in k.core k.said
@@ -49,7 +49,7 @@ said_of k = said_in k.core k.said
 -- a registry that was just opened
 abbrev pub IsOpened : Config → List ℕ → Registry → Type 0
 IsOpened config seed k =
-    (k.core ≡ record { config = config; trace = [] }) ×
+    (k.core ≡ new_kept config) ×
     (k.generator ≡ record { key = key_of seed; stream = config.node; word_pos = 0 }) ×
     (said_of k ≡ []) × (k.words.items ≡ []) × (k.points ≡ []) × (k.fault ≡ None)
 

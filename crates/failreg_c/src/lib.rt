@@ -6,6 +6,7 @@ mod act;
 mod answering;
 mod calls;
 mod handle;
+mod keeping;
 mod numbers;
 mod parts;
 mod pauses;

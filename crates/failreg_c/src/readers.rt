@@ -189,7 +189,7 @@ pub extern "C" fn failreg_calls(alloc: Global, node: &mut Node, calls: &mut u64)
         *calls = 0;
         return CLOSED;
     };
-    *calls = registry.core.trace().len() as u64;
+    *calls = registry.core.calls();
     *node = Node::of(registry);
     0
 }

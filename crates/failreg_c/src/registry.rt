@@ -10,7 +10,7 @@ ghost use Rattle.node_core.specs.Memory.{DeliveryNeedsMemory, EmitNeedsMemory, L
 ghost use Rattle.node_core.specs.Memory.{NameNeedsMemory, SetNeedsMemory};
 ghost use Rattle.node_calls.specs.FaultText.{node_fault_text};
 ghost use Rattle.node_core.specs.Texts.{list_text};
-ghost use Rattle.node_core.specs.Traces.{delivery_of, state_known};
+ghost use Rattle.node_core.specs.Traces.{call_kept, delivery_of, state_known};
 ghost use Rattle.failreg_c.specs.Numbers.{IsNumbered, no_memory, not_text, number};
 ghost use Rattle.failreg_c.specs.Told.{IsTold, no_act, text_or_none};
 ghost use Rattle.failreg_c.specs.Calls.{FillsFront, IsEmitted, IsLeft, IsMade, IsNoName};
@@ -45,7 +45,7 @@ pub struct Registry {
 #[derive(Drop)]
 pub enum Said {
     Bytes(Vec<u8>),
-    TextAt(usize),
+    TextAt(u64),
 }
 
 /// What a text that is not UTF-8 is answered.
@@ -102,8 +102,8 @@ pub(crate) fn read_name(alloc: Global, bytes: &[u8]) -> Result<Name, u32>
 }
 
 // What C is told of the pass at a place.
-fn told_at(core: &NodeCore, index: usize) -> Act
-    ensures { MatchOption (passed_at (slice_get core.now.trace index)) (result ≡ no_act)
+fn told_at(core: &NodeCore, index: u64) -> Act
+    ensures { MatchOption (passed_at (call_kept core.now index)) (result ≡ no_act)
         (λ passed. IsTold passed result) }
 {
     match core.passed_at(index) {
@@ -283,7 +283,7 @@ impl Registry {
             self.fault = None;
             return (NO_POINT, UNSET);
         };
-        let index = self.core.trace().len();
+        let index = self.core.calls();
         match self
             .core
             .pass_point_generating(alloc, name, &mut self.generator)

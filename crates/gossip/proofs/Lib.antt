@@ -1,6 +1,5 @@
 pub mod AskLemmas
 pub mod CarryLemmas
-pub mod LogWalks
 pub mod MailLemmas
 pub mod NewsLemmas
 pub mod PartLemmas

@@ -2,7 +2,6 @@
 #![tactic(auto)]
 
 mod caller;
-mod log;
 mod mail;
 mod mailbox;
 mod news;
@@ -12,7 +11,7 @@ mod rounds;
 mod spreading;
 mod wire;
 
-pub use log::Log;
+pub use history::Log;
 pub use mail::MailWire;
 pub use mailbox::MOST_MESSAGES;
 pub use news::{News, Pace};

@@ -5,9 +5,9 @@ ghost use Rattle.std.specs.List.{range_with_len};
 ghost use Rattle.gossip.specs.Mailboxes.{finds, new_place, posts, traffic_of};
 ghost use Rattle.gossip.specs.Traffic.{sends, takes};
 
-use crate::log::Log;
 use crate::mailbox::{Look, Mailbox, Posted};
 use crate::wire::{Wire, WireError};
+use history::Log;
 use std::alloc::{AllocError, Global};
 use std::marker::Model;
 use std::sync::{Arc, Wait};

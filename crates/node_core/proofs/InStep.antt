@@ -1,5 +1,5 @@
 -- What a node holds stays in step with its trace, when a call is put at its end.
-use Rattle.std.proofs.Common.{◌≡◌, ℕ, ◌+◌, max, Bool, nat_lt, List, [], ◌∷◌, ◌++◌, Option, Result, refl}
+use Rattle.std.proofs.Common.{◌≡◌, ℕ, ◌+◌, max, Bool, nat_lt, List, ◌++◌, Option, Result, refl}
 use Rattle.std.specs.Int.{from_bool}
 use Rattle.replica_state.specs.States.{State, with_key, with_shifts}
 use Rattle.operations.specs.Operations.{Operation}
@@ -10,14 +10,11 @@ use Rattle.delta_exchange.specs.Told.{HasLearned}
 use Rattle.node_calls.specs.Asks.{Asked, Call, Message}
 use Rattle.node_core.specs.Outcomes.{state_done, state_loaded}
 use Rattle.node_core.specs.Steps.{message_in, new_key}
-use Rattle.node_core.specs.Traces.{Kept, state_known}
+use Rattle.node_core.specs.Traces.{Kept, state_known, with_call}
 use Rattle.node_core.specs.Holds.{IsInStep}
 use Rattle.node_core.proofs.Kept.{issue_kept, load_kept, pass_kept, moved_kept, emit_kept, deliver_kept}
 use Rattle.node_core.proofs.KeptTelling.{issue_tell, load_tell, pass_tell, moved_tell, emit_tell, deliver_tell}
 use Rattle.node_core.proofs.CallFacts.{SetsPoint, LoadsPoints, PassesPoint, MovesRights, TakesIn, MakesMessage}
-
-abbrev pub with_call : Kept → Call → Kept
-with_call k c = record { config = k.config; trace = k.trace ++ c ∷ [] }
 
 module _ (k : Kept) (clock version : ℕ) (state next : State) (c : Call) (is : IsInStep k clock version state) where
   -- with the next call, this clock, so much more of the version, and the next state

@@ -25,7 +25,7 @@ use Rattle.node_core.specs.Traces.{Kept, node_of, state_known, replay, replay_fr
 use Rattle.node_core.specs.KeptVersions.{KeepsVersions}
 use Rattle.node_core.specs.Deliveries.{TellsDelta}
 use Rattle.node_core.proofs.Changed.{changes_kept, nothing_changes, changes_start, delta_is_changed}
-use Rattle.node_core.proofs.InStep.{with_call}
+use Rattle.node_core.specs.Traces.{with_call}
 use Rattle.node_core.proofs.LawfulSteps.{set_changes, pass_changes, shift_changes}
 use Rattle.node_core.proofs.Pasts.{HasHistory, has_history}
 use Rattle.node_core.proofs.CallFacts.{SetsPoint, LoadsPoints, PassesPoint, MovesRights, TakesMessage, MakesMessage}

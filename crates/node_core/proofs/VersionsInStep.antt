@@ -1,6 +1,6 @@
 -- The clock and the replica with versions of a node stay in step with its trace, when a call is put at its end.
-use Rattle.std.proofs.Common.{◌≡◌, ◌≢◌, ℕ, ◌+◌, ◌<◌, ◌≤◌, ◌^◌, max, Bool, true, false, nat_lt, List, [], ◌∷◌, ◌++◌, length, map, Option, Some, None, Result, refl, sym, ◌∙◌, ap, subst, arith}
-use Rattle.std.proofs.lemmas.List.{length-map, map-append}
+use Rattle.std.proofs.Common.{◌≡◌, ◌≢◌, ℕ, ◌+◌, ◌<◌, ◌≤◌, ◌^◌, max, Bool, true, false, nat_lt, List, [], ◌∷◌, ◌++◌, length, map, Option, Some, None, Result, refl, sym, ◌∙◌, ap, drop, subst, arith}
+use Rattle.std.proofs.lemmas.List.{drop-map, length-map, map-append}
 use Rattle.std.specs.Int.{from_bool}
 use Rattle.std.specs.Option.{IfSome, IsSome}
 use Rattle.std.specs.Prelude.{pos, ◌≤ℤ◌}
@@ -23,8 +23,9 @@ use Rattle.node_core.specs.Nodes.{Node}
 use Rattle.node_core.specs.Outcomes.{HasKey, state_loaded}
 use Rattle.node_core.specs.Room.{HasRoom}
 use Rattle.node_core.specs.Steps.{message_in, new_key, operations_issued, settings}
-use Rattle.node_core.specs.Traces.{Kept, kept_of, node_of, state_known}
-use Rattle.node_core.proofs.InStep.{with_call, issue_in_step, load_in_step, pass_in_step, moved_in_step, deliver_in_step, emit_in_step}
+use Rattle.history.specs.Histories.{Calls, grown, no_calls}
+use Rattle.node_core.specs.Traces.{Kept, kept_of, node_of, state_known, with_call}
+use Rattle.node_core.proofs.InStep.{issue_in_step, load_in_step, pass_in_step, moved_in_step, deliver_in_step, emit_in_step}
 use Rattle.node_core.proofs.KeptVersions.{versions_start, set_versions, load_versions, pass_versions, unset_versions, moved_versions, emit_versions, deliver_versions}
 use Rattle.node_core.proofs.LawfulSteps.{unknown_key}
 use Rattle.node_core.proofs.Rights.{counted_by_rights}
@@ -32,8 +33,8 @@ use Rattle.node_core.proofs.SettingSteps.{fold_alone, turned}
 use Rattle.node_core.proofs.CallFacts.{SetsPoint, LoadsPoints, PassesPoint, MovesRights, TakesMessage, MakesMessage}
 
 -- a new node
-pub new_with : (config : Config) → IsInStep (kept_of config []) 0 0 (fold []) →
-    IsInStepWith (kept_of config []) 0 nothing_known
+pub new_with : (config : Config) → IsInStep (kept_of config no_calls) 0 0 (fold []) →
+    IsInStepWith (kept_of config no_calls) 0 nothing_known
 new_with config is = (is, versions_start config.node)
 
 -- a key that is issued is above the one that its point has
@@ -81,32 +82,39 @@ may_pass k clock value is room name is_set spent key right set =
     room_for (Some t) = let few = is.0.0.execs_few name t in let small = is.0.0.small in omega (arith, room, small, few)
 
 -- a trace that takes one more call has fewer than its numbers can count
-pub few_calls : (config : Config) (clock : ℕ) (value : VersionedValue) (calls now : List Told) →
+pub few_calls : (config : Config) (clock : ℕ) (value : VersionedValue) (calls now : Calls) →
     IsInStepWith (kept_of config calls) clock value → HasRoom (kept_of config calls) → now ≡ calls →
-    length now < 2 ^ 32
+    length now.all < 2 ^ 32
 few_calls config clock value calls now is room same =
     let small = is.0.0.small in
-    let long = length-map calls (call_from config.nodes) in
-    let more = ap length same in
+    let long = length-map calls.all (call_from config.nodes) in
+    let more = ap (λ (c : Calls). length c.all) same in
     omega (arith, small, room, long, more)
 
+-- a node whose trace grew by one call
+pub kept_with : (config : Config) (old new : Calls) (t : Told) → new ≡ grown old t →
+    kept_of config new ≡ with_call (kept_of config old) (call_from config.nodes t)
+kept_with config old new t more =
+    ap (kept_of config) more
+    ∙ ap (λ (trace : List Call). record { config = config; trace = trace; from = old.from })
+    (map-append (call_from config.nodes) old.all (t ∷ []))
+
+-- what is kept of the calls of a node
+pub kept_told : (config : Config) (calls : Calls) (k : Kept) (told : List Told) → kept_of config calls ≡ k →
+    told ≡ drop calls.from calls.all → map (call_from k.config.nodes) told ≡ drop k.from k.trace
+kept_told config calls k told is kept =
+    subst (λ (n : Kept). map (call_from n.config.nodes) told ≡ drop n.from n.trace) is
+    (ap (λ (ts : List Told). map (call_from config.nodes) ts) kept
+    ∙ sym (drop-map (call_from config.nodes) calls.from calls.all))
+
 -- the entries of a trace that grew by one
-pub entries_with : (config : Config) (clock : ℕ) (value : VersionedValue) (old mid new : List Told) (e : Told) →
-    new ≡ mid ++ e ∷ [] → mid ≡ old →
+pub entries_with : (config : Config) (clock : ℕ) (value : VersionedValue) (old mid new : Calls) (e : Told) →
+    new ≡ grown mid e → mid ≡ old →
     IsInStepWith (with_call (kept_of config old) (call_from config.nodes e)) clock value →
     IsInStepWith (kept_of config new) clock value
-entries_with config clock value old mid new e grown same is =
-    let calls : map (call_from config.nodes) new ≡ map (call_from config.nodes) old ++ call_from config.nodes e ∷ [] =
-    ap (λ (es : List Told). map (call_from config.nodes) es) (grown ∙ ap (λ (es : List Told). es ++ e ∷ []) same) ∙
-    map-append (call_from config.nodes) old (e ∷ []) in
-    subst (λ (trace : List Call). IsInStepWith (record { config = config; trace = trace }) clock value) (sym calls) is
-
--- a node whose trace grew by one call
-pub kept_with : (config : Config) (old new : List Told) (t : Told) → new ≡ old ++ t ∷ [] →
-    kept_of config new ≡ with_call (kept_of config old) (call_from config.nodes t)
-kept_with config old new t grown =
-    ap (λ (trace : List Call). record { config = config; trace = trace })
-    (ap (λ (ts : List Told). map (call_from config.nodes) ts) grown ∙ map-append (call_from config.nodes) old (t ∷ []))
+entries_with config clock value old mid new e more same is =
+    subst (λ (k : Kept). IsInStepWith k clock value)
+    (sym (kept_with config old new e (more ∙ ap (λ (c : Calls). grown c e) same))) is
 
 module _ (k : Kept) (clock : ℕ) (value next : VersionedValue) (c : Call)
     (is : IsInStepWith k clock value) where

@@ -1,12 +1,12 @@
 -- Traces: the accepted calls of a node, and what they come to.
-use Rattle.std.specs.Prelude.{◌≡◌, ◌⊎◌, ℕ, ◌+◌, List, [], ◌∷◌, ◌++◌, length, map, Option, Some, None}
+use Rattle.std.specs.Prelude.{◌≡◌, ◌⊎◌, ℕ, ◌+◌, nat_lt, cond, List, [], ◌∷◌, ◌++◌, length, map, slice_get, Option, Some, None}
+use Rattle.history.specs.Histories.{Calls}
 use Rattle.replica_state.specs.Deltas.{IsDelta}
 use Rattle.replica_state.specs.States.{State}
 use Rattle.node_core.specs.declared.config.Config.{Config}
 use Rattle.node_calls.specs.declared.fault.NodeFault.{NodeFault}
 use Rattle.node_calls.specs.declared.fault.NodeFault.TheVariants.{OutOfMemory}
 use Rattle.node_calls.specs.declared.trace.Entry.{Entry}
-use Rattle.node_calls.specs.Told.{Told}
 use Rattle.node_calls.specs.Asks.{Asked, Answered, Call, Versions, bare_emit, call, call_from, emit_of, message_read}
 use Rattle.node_calls.specs.Asks as asks
 use Rattle.node_core.specs.Nodes.{Node, Marks, start, state_shown}
@@ -21,14 +21,32 @@ replay_from i n (c ∷ cs) = replay_from i (after i n c.ask c.words) cs
 abbrev pub replay : ℕ → List Call → Node
 replay i trace = replay_from i start trace
 
--- a node as its callers see it: its configuration and its trace, which tell all that it holds
+-- a node as its callers see it: its configuration and the trace of its whole life, which tell all that it holds;
+-- and how many of the first calls it no longer keeps
 pub record Kept : Type 0 where
   pub config : Config
   pub trace : List Call
+  pub from : ℕ
 
--- the node that a configuration tells of, and what the entries of a trace tell
-abbrev pub kept_of : Config → List Told → Kept
-kept_of config entries = record { config = config; trace = map (call_from config.nodes) entries }
+-- a node that has accepted no call
+abbrev pub new_kept : Config → Kept
+new_kept config = record { config = config; trace = []; from = 0 }
+
+-- the node that a configuration tells of, and what the calls of its life tell
+abbrev pub kept_of : Config → Calls → Kept
+kept_of config calls =
+    record { config = config; trace = map (call_from config.nodes) calls.all; from = calls.from }
+
+-- with one more call; and where it no longer keeps those that it kept
+abbrev pub with_call : Kept → Call → Kept
+with_call k c = record { config = k.config; trace = k.trace ++ c ∷ []; from = k.from }
+
+abbrev pub without_kept : Kept → Kept
+without_kept k = record { config = k.config; trace = k.trace; from = length k.trace }
+
+-- a call that it keeps, by its number
+abbrev pub call_kept : Kept → ℕ → Option Call
+call_kept k index = cond (nat_lt index k.from) None (slice_get k.trace index)
 
 -- an entry of its trace as a call
 abbrev pub call_of : Kept → Entry → Call
@@ -55,7 +73,7 @@ abbrev pub entry_for : Kept → Asked → List ℕ → Call
 entry_for k ask words = record { ask = ask; words = words; reply = reply_to k ask words }
 
 abbrev pub after_call : Kept → Asked → List ℕ → Kept
-after_call k ask words = record { config = k.config; trace = k.trace ++ entry_for k ask words ∷ [] }
+after_call k ask words = with_call k (entry_for k ask words)
 
 -- an ask is accepted: nothing refuses it, this is the step's reply, and the node is then the one after it
 abbrev pub Accepts : Kept → Kept → Asked → List ℕ → Answered → Type 0

@@ -1,6 +1,6 @@
 //! A node: what it holds, and what it tells of it. Each call stands in a module of its own.
 
-ghost use Rattle.std.specs.Prelude.{◌≡◌, [], length, ◌≤◌, ◌⊎◌, ◌↔◌, pos, ◌≤ℤ◌, map, IfOk, IfErr};
+ghost use Rattle.std.specs.Prelude.{◌≡◌, drop, length, ◌≤◌, ◌⊎◌, ◌↔◌, pos, ◌≤ℤ◌, map, IfOk, IfErr};
 ghost use Rattle.std.specs.Prelude.{OnOk, IsErrOf, IsTrue, string_bytes, true, false};
 ghost use Rattle.actions.specs.Names.{is_name};
 ghost use Rattle.node_core.specs.Replicas.{state_in};
@@ -12,7 +12,7 @@ ghost use Rattle.node_core.specs.Refusals.{is_bad_config};
 ghost use Rattle.node_core.specs.Room.{HasRoom};
 ghost use Rattle.node_core.specs.Stamps.{HasStamp};
 ghost use Rattle.node_core.specs.Texts.{list_text};
-ghost use Rattle.node_core.specs.Traces.{node_of, state_known};
+ghost use Rattle.node_core.specs.Traces.{new_kept, node_of, state_known, without_kept};
 
 mod apply;
 mod deliver;
@@ -29,6 +29,7 @@ use crate::list::list_of;
 use crate::setting::words_needed;
 use actions::{Name, NameFault};
 use delta_exchange::{MAX_NODES, Versioned};
+use history::History;
 use node_calls::NodeFault;
 use packed_trace::Trace;
 use replica_state::Replica;
@@ -43,7 +44,7 @@ pub struct NodeCore {
     config: Config,
     clock: u64,
     replica: Versioned<State>,
-    trace: Trace,
+    history: History,
 }
 
 impl Model for NodeCore {
@@ -53,15 +54,15 @@ impl Model for NodeCore {
 
     ghost Value = { Kept };
 
-    ghost view = { λ c. kept_of c.config c.trace.calls };
+    ghost view = { λ c. kept_of c.config c.history.calls };
 
-    ghost invariant = { λ c. IsInStepWith (kept_of c.config c.trace.calls) c.clock (value_in c.replica) };
+    ghost invariant = { λ c. IsInStepWith (kept_of c.config c.history.calls) c.clock (value_in c.replica) };
 }
 
 impl NodeCore {
     /// A node that has accepted no call.
     pub fn new(alloc: Global, config: Config) -> Result<NodeCore, NodeFault>
-        ensures ok { IfOk result (λ n. n ≡ record { config = config; trace = [] }) }
+        ensures ok { IfOk result (λ n. n ≡ new_kept config) }
         ensures good { OnOk result (is_bad_config config ≡ false) }
         ensures err { IfErr result (λ f. (f ≡ NodeFault.BadConfig) × IsTrue (is_bad_config config)) }
     {
@@ -72,7 +73,7 @@ impl NodeCore {
             config,
             clock: 0,
             replica: Versioned::new(alloc),
-            trace: Trace::new(alloc),
+            history: History::new(alloc),
         })
     }
 
@@ -160,24 +161,57 @@ impl NodeCore {
         self.replica.state()
     }
 
-    /// The accepted calls.
-    pub fn trace(&self) -> &Trace
-        ensures { map (call_from self.now.config.nodes) result.now.calls ≡ self.now.trace }
+    /// How many calls the node accepted in its life.
+    pub fn calls(&self) -> u64
+        ensures { result ≡ length self.now.trace }
     {
-        &self.trace
+        self.history.len()
     }
 
-    /// The accepted calls, without the node.
+    /// How many of the first calls are no longer kept.
+    pub fn from(&self) -> u64
+        ensures { result ≡ self.now.from }
+    {
+        self.history.from()
+    }
+
+    /// The accepted calls that are kept: all of them, where none were given or forgotten.
+    pub fn trace(&self) -> &Trace
+        ensures { map (call_from self.now.config.nodes) result.now.calls
+            ≡ drop self.now.from self.now.trace }
+    {
+        self.history.kept()
+    }
+
+    /// The accepted calls that are kept, without the node.
     pub fn into_trace(self) -> Trace
-        ensures { map (call_from self.config.nodes) result.calls ≡ self.trace }
+        ensures { map (call_from self.config.nodes) result.calls ≡ drop self.from self.trace }
     {
         let NodeCore {
             config: _,
             clock: _,
             replica: _,
-            trace,
+            history,
         } = self;
-        trace
+        history.into_kept()
+    }
+
+    /// Hands out the accepted calls that are kept, to be written or looked at, and keeps none. What
+    /// the node holds, and the numbers of its calls, stay what they are. It takes no memory.
+    pub fn give(&mut self, alloc: Global) -> Trace
+        ensures calls { self.new ≡ without_kept self.old }
+        ensures those { map (call_from self.old.config.nodes) result.calls
+            ≡ drop self.old.from self.old.trace }
+    {
+        self.history.give(alloc)
+    }
+
+    /// Frees the accepted calls that are kept. What the node holds, and the numbers of its calls, stay
+    /// what they are.
+    pub fn forget(&mut self, alloc: Global)
+        ensures { self.new ≡ without_kept self.old }
+    {
+        self.history.forget(alloc);
     }
 
     // What the node knows is lawful: messages can tell each operation of it.
@@ -193,7 +227,7 @@ impl NodeCore {
         ensures full { IfErr result (λ f. (f ≡ NodeFault.TraceFull)
             × (self.now.config.trace_cap ≤ length self.now.trace)) }
     {
-        if self.trace.len() >= self.config.trace_cap as usize {
+        if self.history.len() >= u64::from(self.config.trace_cap) {
             return Err(NodeFault::TraceFull);
         }
         Ok(())

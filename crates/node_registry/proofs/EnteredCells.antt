@@ -108,13 +108,13 @@ refused_cell k g ask f stream h = subst (λ s. IsRefusalOf k ask (words_from g.k
 
 -- a new cell
 pub new_kept : (config : Config) (seed : List ℕ) (k : Kept) (h : ChaCha) (stream : ℕ) → config.trace_cap < 2 ^ 32 →
-    k ≡ record { config = config; trace = [] } → stream ≡ config.node →
+    k ≡ record { config = config; trace = []; from = 0 } → stream ≡ config.node →
     h ≡ record { key = key_of seed; stream = stream; word_pos = 0 } → IsKept k h
 new_kept config seed k h stream small new here made =
     let is : h ≡ record { key = key_of seed; stream = config.node; word_pos = 0 } = made ∙
     (λ i. record { key = key_of seed; stream = here i; word_pos = 0 }) in
     subst (λ n. IsKept n h) (sym new)
-    (subst (λ a. IsKept (record { config = config; trace = [] }) a) (sym is)
+    (subst (λ a. IsKept (record { config = config; trace = []; from = 0 }) a) (sym is)
     (refl, new_lawful config seed, record { few_words = omega arith; few_calls = omega arith; small_cap = small }))
 
 -- an ask and its copy, before there is a reply

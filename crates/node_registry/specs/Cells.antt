@@ -1,5 +1,5 @@
 -- A node with its generator, as callers see it.
-use Rattle.std.specs.Prelude.{◌≡◌, ℕ, ◌+◌, ◌*◌, ◌≤◌, ◌<◌, ◌^◌, List, [], length, None}
+use Rattle.std.specs.Prelude.{◌≡◌, ℕ, ◌+◌, ◌*◌, ◌≤◌, ◌<◌, ◌^◌, List, length, None}
 use Rattle.rand_chacha.specs.ChaCha.{ChaCha, key_of}
 use Rattle.node_core.specs.declared.config.Config.{Config}
 use Rattle.node_calls.specs.declared.fault.NodeFault.{NodeFault}
@@ -10,7 +10,7 @@ use Rattle.node_core.specs.Applied.{TellsIfEmit}
 use Rattle.node_calls.specs.Asks.{Asked, Call, Pass}
 use Rattle.node_calls.specs.Told.{Passed, ask_told}
 use Rattle.node_core.specs.Passes.{pass_reply}
-use Rattle.node_core.specs.Traces.{Kept, IsLegal, IsRefusalOf, Records, after_call, call_of, refusal, state_known}
+use Rattle.node_core.specs.Traces.{Kept, IsLegal, IsRefusalOf, Records, after_call, call_of, new_kept, refusal, state_known}
 use Rattle.node_core.specs.Words.{words_from}
 use Rattle.node_registry.specs.Words.{words_of, words_taken}
 
@@ -26,7 +26,7 @@ cell_of k g = record { node = k; key = g.key; place = g.word_pos }
 
 -- a node that has accepted no call, at the start of its stream
 abbrev pub new_cell : Config → List ℕ → Cell
-new_cell config seed = record { node = record { config = config; trace = [] }; key = key_of seed; place = 0 }
+new_cell config seed = record { node = new_kept config; key = key_of seed; place = 0 }
 
 -- the words that a call takes
 abbrev pub next_words : Cell → Asked → List ℕ
@@ -60,10 +60,12 @@ next_passed c name = pass_reply c.node.config.node (state_known c.node) name (ne
 abbrev pub IsRefusedBy : Cell → Asked → NodeFault → Type 0
 IsRefusedBy c ask = IsRefusalOf c.node ask (next_words c ask)
 
--- the trace is legal, and its words are those of the stream from its start on, as many as the place says
+-- the trace is legal, its words are those of the stream from its start on, as many as the place says, and all of it
+-- is kept
 pub record IsLawful (c : Cell) : Type 0 where
   pub legal : IsLegal c.node.config c.node.trace
   pub drawn : words_of c.node.trace ≡ words_from c.key c.node.config.node 0 c.place
+  pub whole : c.node.from ≡ 0
 
 -- a lawful cell of a node of this configuration, whose key is that of this seed
 abbrev pub IsLawfulAt : Config → List ℕ → Cell → Type 0

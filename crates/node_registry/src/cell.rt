@@ -56,6 +56,13 @@ impl NodeCell {
         &self.core
     }
 
+    // The accepted calls, of which a cell keeps all.
+    pub(crate) fn trace(&self) -> &Trace
+        ensures { map (call_from self.now.node.config.nodes) result.now.calls ≡ self.now.node.trace }
+    {
+        self.core.trace()
+    }
+
     /// The place of the next random draw.
     pub fn place(&self) -> u128
         ensures { result ≡ self.now.place }

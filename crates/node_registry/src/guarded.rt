@@ -147,7 +147,7 @@ impl<L: Label> Guarded<L> {
         book.audit(share);
         let core = cell.core();
         let node = core.config().node;
-        let index = core.trace().len() as u32;
+        let index = core.calls() as u32;
         let entry = cell.enter_owned(alloc, ask)?;
         book.add(share, 1);
         *calls += 1;
@@ -200,7 +200,7 @@ impl<L: Label> Guarded<L> {
         tally.audit(share);
         let core = cell.core();
         let node = core.config().node;
-        let place = core.trace().len() as u32;
+        let place = core.calls() as u32;
         let outcome = cell.pass_point(alloc, point)?;
         tally.add(share, 1);
         *calls += 1;
@@ -232,12 +232,11 @@ impl<L: Label> Guarded<L> {
         } = self;
         let Seat { calls: _, share } = seat;
         account.audit(share);
-        let core = cell.core();
-        let Some(call) = core.trace().at(index as usize) else {
+        let node = cell.core().config().node;
+        let Some(call) = cell.trace().at(index as usize) else {
             return Ok(None);
         };
         let entry = call.to_entry(alloc)?;
-        let node = core.config().node;
         Ok(Some(Receipt { node, index, entry }))
     }
 

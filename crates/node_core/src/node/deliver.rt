@@ -102,7 +102,7 @@ impl NodeCore {
             clock,
             received,
         } = delivery;
-        self.trace.reserve_entry()?;
+        self.history.reserve_entry()?;
         let changed = self.replica.receive_replica(alloc, &message, received)?;
         self.clock = self.clock.max(clock);
         let entry = Entry {
@@ -110,7 +110,7 @@ impl NodeCore {
             words: Vec::new(alloc),
             reply: Reply::Deliver(changed),
         };
-        self.trace.push_entry(entry);
+        self.history.push_entry(entry);
         Ok(changed)
     }
 }

@@ -65,13 +65,13 @@ impl NodeCore {
         ensures after { OnOk result (self.new ≡ after_call self.old (emission_of self.old to message.items) []) }
         ensures err { OnErr result (self.new ≡ self.old) }
     {
-        self.trace.reserve_entry()?;
+        self.history.reserve_entry()?;
         let entry = Entry {
             ask: Ask::Emit { to },
             words: Vec::new(alloc),
             reply: Reply::Emit(message),
         };
-        self.trace.push_entry(entry);
+        self.history.push_entry(entry);
         Ok(())
     }
 }

@@ -83,7 +83,7 @@ impl NodeCore {
         ensures err { OnErr result (self.new ≡ self.old) }
     {
         let me = self.config.node;
-        self.trace.reserve_entry()?;
+        self.history.reserve_entry()?;
         self.replica
             .count_shift(alloc, &point, term, me, me, total)?;
         let entry = Entry {
@@ -95,7 +95,7 @@ impl NodeCore {
             words: Vec::new(alloc),
             reply: Reply::Grant(total),
         };
-        self.trace.push_entry(entry);
+        self.history.push_entry(entry);
         Ok(())
     }
 }

@@ -94,7 +94,7 @@ impl NodeCore {
         ensures after { OnOk result (self.new ≡ after_call self.old (asks.Load (string_bytes text)) []) }
         ensures err { OnErr result (self.new ≡ self.old) }
     {
-        self.trace.reserve_entry()?;
+        self.history.reserve_entry()?;
         self.replica.issue(alloc, ops)?;
         self.clock += u64::from(entries);
         let entry = Entry {
@@ -102,7 +102,7 @@ impl NodeCore {
             words: Vec::new(alloc),
             reply: Reply::Load(entries),
         };
-        self.trace.push_entry(entry);
+        self.history.push_entry(entry);
         Ok(())
     }
 }

@@ -2,7 +2,7 @@
 
 ghost use Rattle.std.specs.Prelude.{◌≡◌, ◌⊎◌, ℕ, vec_len, ◌^◌, ◌<◌, ◌≤ℤ◌, pos, IfOk, IfErr, OnOk};
 ghost use Rattle.std.specs.Prelude.{OnErr, IsErrOf, IsSome, IfSome, IsTrue, MatchOption, true};
-ghost use Rattle.std.specs.Prelude.{Some, None, is_some, option_map, slice_get};
+ghost use Rattle.std.specs.Prelude.{◌≤◌, Some, None, is_some, option_map, length};
 ghost use Rattle.std.specs.Bool.{then_some};
 ghost use Rattle.actions.specs.Names.{is_name};
 ghost use Rattle.stamp_register.specs.Keys.{key_value};
@@ -20,7 +20,8 @@ ghost use Rattle.node_core.specs.Outcomes.{spent_by, ops_done, HasKey};
 ghost use Rattle.node_core.specs.Passes.{words_for, triggered_term, pass_reply, pass_ops};
 ghost use Rattle.node_core.specs.Refusals.{bad_words};
 ghost use Rattle.node_core.specs.Room.{HasRoom};
-ghost use Rattle.node_core.specs.Traces.{Accepts, IsRefusalOf, after_call, reply_to, state_known};
+ghost use Rattle.node_core.specs.Traces.{Accepts, IsRefusalOf, after_call, call_kept, reply_to};
+ghost use Rattle.node_core.specs.Traces.{state_known};
 
 use super::{NodeCore, read_name};
 use crate::State;
@@ -161,19 +162,19 @@ impl NodeCore {
         Ok(words)
     }
 
-    /// What the last accepted call was answered, if that was a pass.
+    /// What the last accepted call was answered, if that was a pass that is kept.
     pub fn last_pass(&self) -> Option<PassReplyRef<'_>>
         ensures { option_map passed_ref result ≡ last_passed self.now }
     {
-        self.trace.last()?.pass_reply()
+        self.history.last()?.pass_reply()
     }
 
-    /// What the accepted call at a place of the trace was answered, if that was a pass; none where there
+    /// What the accepted call of a number was answered, if that was a pass that is kept; none where there
     /// are fewer calls.
-    pub fn passed_at(&self, index: usize) -> Option<PassReplyRef<'_>>
-        ensures { option_map passed_ref result ≡ passed_at (slice_get self.now.trace index) }
+    pub fn passed_at(&self, index: u64) -> Option<PassReplyRef<'_>>
+        ensures { option_map passed_ref result ≡ passed_at (call_kept self.now index) }
     {
-        self.trace.at(index)?.pass_reply()
+        self.history.at(index)?.pass_reply()
     }
 
     // Passes a point whose name was read, with the next random draws of a source, and answers these,
@@ -196,6 +197,7 @@ impl NodeCore {
         ensures reply { IfOk result (λ r. option_map (λ p. asks.IsPassed (passed p)) r.1
             ≡ then_some wants_reply (reply_to self.old (asks.Pass point.now) r.0.items)) }
         ensures few { OnOk result (words_for (state_known self.old) point.now < 2 ^ 8) }
+        ensures within { OnOk result (self.old.from ≤ length self.old.trace) }
         ensures drawn { OnOk result (source.new
             ≡ S.after_words source.old (words_for (state_known self.old) point.now)) }
         ensures refused { IfErr result (IsRefusalOf self.old (asks.Pass point.now)
@@ -208,10 +210,10 @@ impl NodeCore {
         let (words, outcome) = outcome_of(alloc, self.replica.state(), me, point, source)?;
         let pass = outcome.pass(point, &words);
         let reply = reply_if(alloc, pass, wants_reply)?;
-        let prepared = self.trace.prepare(alloc, pass)?;
+        let prepared = self.history.prepare(alloc, pass)?;
         let (is_set, spent) = (outcome.setting.is_some(), outcome.spent);
         count(&mut self.replica, alloc, me, point, is_set, spent)?;
-        self.trace.push(prepared);
+        self.history.push(prepared);
         Ok((words, reply))
     }
 }

@@ -149,7 +149,7 @@ impl NodeCore {
         ensures after { OnOk result (self.new ≡ after_call self.old (call_of self.old entry).ask []) }
         ensures err { OnErr result (self.new ≡ self.old) }
     {
-        self.trace.reserve_entry()?;
+        self.history.reserve_entry()?;
         let key = Key {
             clock: self.clock + 1,
             node: self.config.node,
@@ -157,7 +157,7 @@ impl NodeCore {
         };
         self.replica.set_key(alloc, point, key)?;
         self.clock += 1;
-        self.trace.push_entry(entry);
+        self.history.push_entry(entry);
         Ok(())
     }
 }

@@ -88,7 +88,7 @@ impl NodeCore {
         ensures err { OnErr result (self.new ≡ self.old) }
     {
         let me = self.config.node;
-        self.trace.reserve_entry()?;
+        self.history.reserve_entry()?;
         self.replica
             .count_shift(alloc, &point, term, me, to, total)?;
         let entry = Entry {
@@ -101,7 +101,7 @@ impl NodeCore {
             words: Vec::new(alloc),
             reply: Reply::Shift(total),
         };
-        self.trace.push_entry(entry);
+        self.history.push_entry(entry);
         Ok(())
     }
 }

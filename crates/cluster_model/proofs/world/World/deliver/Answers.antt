@@ -3,7 +3,7 @@ use Rattle.std.specs.Prelude.{slice_get}
 use Rattle.std.proofs.lemmas.Result.{err_from_is_err_and}
 use Rattle.node_calls.specs.Asks.{message_read}
 use Rattle.cluster_model.proofs.Lists.{get_below}
-use Rattle.cluster_model.proofs.WorldClauses.{at_hand, some_hand, emit_at, read_at, delivery_fits, delivery_refused, no_message}
+use Rattle.cluster_model.proofs.WorldClauses.{at_hand, some_hand, emit_at, sender_at, read_at, delivery_fits, delivery_refused, no_message}
 use Rattle.cluster_model.proofs.world.World.deliver.Goals as goal
 
 pub returns-in_default-clause-answer : goal.returns-in_default-clause-answer
@@ -79,5 +79,11 @@ pub message_in-requires : goal.message_in-requires
 message_in-requires c =
     let found = ap (λ ps. slice_get ps c.args.message) (sym c.deref.ensures.value) ∙ sym c.place_at.ensures ∙
     c.in-Some.is in
-    emit_at c.self.inside.nodes.items c.in-Some.place (c.self.invariant.placed c.args.message c.in-Some.place found)
-    c.index-sender.result.now c.index-sender.ensures
+    let nodes = c.self.inside.nodes.items in
+    let is = c.self.invariant.placed c.args.message c.in-Some.place found in
+    let sender = c.index-sender.result.now in
+    record {
+      made = emit_at nodes c.in-Some.place is sender c.index-sender.ensures;
+      whole = c.self.invariant.whole c.in-Some.place.node sender
+          (sender_at nodes c.in-Some.place is sender c.index-sender.ensures);
+    }

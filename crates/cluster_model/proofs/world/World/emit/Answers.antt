@@ -1,7 +1,5 @@
-use Rattle.std.proofs.Common.{◌∙◌, ap, sym, inr, length, ◌++◌, ◌∷◌, []}
-use Rattle.std.proofs.lemmas.List.{length-map}
+use Rattle.std.proofs.Common.{◌∙◌, ap, sym, inr, ◌++◌, ◌∷◌, []}
 use Rattle.std.proofs.lemmas.Result.{err_from_is_err_and}
-use Rattle.node_calls.specs.Asks.{call_from}
 use Rattle.cluster_model.proofs.WorldClauses.{at_hand, emit_fits, emit_refused}
 use Rattle.cluster_model.proofs.world.World.emit.Goals as goal
 
@@ -20,10 +18,9 @@ invariant_of-self-2 c =
     let k = c.index_mut-sender.result.now in
     let hand = at_hand _ _ c.args.self.now c.args.node k c.self.invariant c.self.view_is c.requires
     c.index_mut-sender.ensures.value in
-    let last = c.len-entry.ensures ∙ sym (length-map c.trace.result.now.calls (call_from k.config.nodes)) ∙
-    ap length c.trace.ensures in
+    let last = c.calls-entry.ensures in
     let pushed = c.push_reserved.ensures.items ∙ ap (λ ps. ps ++
-    record { node = c.args.node; entry = c.len-entry.result } ∷ []) c.in_ok-reserve.ensures.items
+    record { node = c.args.node; entry = c.calls-entry.result } ∷ []) c.in_ok-reserve.ensures.items
     ∙ ap (λ n. c.self.inside.messages.items ++ record { node = c.args.node; entry = n } ∷ []) last in
     let fits = emit_fits hand c.args.to c.args.words.now c.in_ok-reply.reply
     c.in_ok-reply.ensures.delta c.call.new.self c.in_ok-reply.ensures.ok c.push_reserved.new.self.items pushed in
@@ -34,10 +31,9 @@ returns c =
     let k = c.index_mut-sender.result.now in
     let hand = at_hand _ _ c.args.self.now c.args.node k c.self.invariant c.self.view_is c.requires
     c.index_mut-sender.ensures.value in
-    let last = c.len-entry.ensures ∙ sym (length-map c.trace.result.now.calls (call_from k.config.nodes)) ∙
-    ap length c.trace.ensures in
+    let last = c.calls-entry.ensures in
     let pushed = c.push_reserved.ensures.items ∙ ap (λ ps. ps ++
-    record { node = c.args.node; entry = c.len-entry.result } ∷ []) c.in_ok-reserve.ensures.items
+    record { node = c.args.node; entry = c.calls-entry.result } ∷ []) c.in_ok-reserve.ensures.items
     ∙ ap (λ n. c.self.inside.messages.items ++ record { node = c.args.node; entry = n } ∷ []) last in
     let fits = emit_fits hand c.args.to c.args.words.now c.in_ok-reply.reply
     c.in_ok-reply.ensures.delta c.call.new.self c.in_ok-reply.ensures.ok c.push_reserved.new.self.items pushed in

@@ -13,7 +13,7 @@ use Rattle.node_core.proofs.node.NodeCore.deliver_checked.Goals as goal
 pub returns-then-is_message_ahead-clause-refused : goal.returns-then-is_message_ahead-clause-refused
 returns-then-is_message_ahead-clause-refused c =
     let node = c.self.inside in
-    let k = kept_of node.config node.trace.calls in
+    let k = kept_of node.config node.history.calls in
     let value = value_in node.replica in
     let checked : Checked k node.clock value.version value.state c.args.bytes.now
     (message_value c.in_ok-message.message) =
@@ -32,7 +32,7 @@ returns-then-is_message_ahead-clause-refused c =
 pub returns-then-message-version-clause-refused : goal.returns-then-message-version-clause-refused
 returns-then-message-version-clause-refused c =
     let node = c.self.inside in
-    let k = kept_of node.config node.trace.calls in
+    let k = kept_of node.config node.history.calls in
     let value = value_in node.replica in
     let checked : Checked k node.clock value.version value.state c.args.bytes.now
     (message_value c.in_ok-message.message) =
@@ -52,7 +52,7 @@ returns-then-message-version-clause-refused c =
 pub returns-then-is_any_overspent-clause-refused : goal.returns-then-is_any_overspent-clause-refused
 returns-then-is_any_overspent-clause-refused c =
     let node = c.self.inside in
-    let k = kept_of node.config node.trace.calls in
+    let k = kept_of node.config node.history.calls in
     let value = value_in node.replica in
     let checked : Checked k node.clock value.version value.state c.args.bytes.now
     (message_value c.in_ok-message.message) =
@@ -82,7 +82,7 @@ pub returns-then-names_together-gt-MAX_NAMES-clause-refused :
     goal.returns-then-names_together-gt-MAX_NAMES-clause-refused
 returns-then-names_together-gt-MAX_NAMES-clause-refused c =
     let node = c.self.inside in
-    let k = kept_of node.config node.trace.calls in
+    let k = kept_of node.config node.history.calls in
     let value = value_in node.replica in
     let checked : Checked k node.clock value.version value.state c.args.bytes.now
     (message_value c.in_ok-message.message) =
@@ -113,7 +113,7 @@ returns-then-names_together-gt-MAX_NAMES-clause-refused c =
 pub returns-clause-ok : goal.returns-clause-ok
 returns-clause-ok c =
     let node = c.self.inside in
-    let k = kept_of node.config node.trace.calls in
+    let k = kept_of node.config node.history.calls in
     let value = value_in node.replica in
     let checked : Checked k node.clock value.version value.state c.args.bytes.now
     (message_value c.in_ok-message.message) =
@@ -144,7 +144,7 @@ returns-clause-ok c =
 pub returns-clause-delivery : goal.returns-clause-delivery
 returns-clause-delivery c =
     let node = c.self.inside in
-    let k = kept_of node.config node.trace.calls in
+    let k = kept_of node.config node.history.calls in
     let value = value_in node.replica in
     let checked : Checked k node.clock value.version value.state c.args.bytes.now
     (message_value c.in_ok-message.message) =

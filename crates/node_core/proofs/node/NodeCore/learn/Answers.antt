@@ -11,10 +11,10 @@ use Rattle.node_core.proofs.node.NodeCore.learn.Goals as goal
 pub invariant_of-self-2 : goal.invariant_of-self-2
 invariant_of-self-2 c =
     let node = c.self.inside in
-    let k = kept_of node.config node.trace.calls in
+    let k = kept_of node.config node.history.calls in
     let room = rw (← c.self.view_is) at c.requires.room in
     let told = rw (← c.self.view_is) at c.requires.delivery in
-    entries_with node.config _ _ node.trace.calls _ c.push_entry.new.self.calls _ c.push_entry.ensures.calls
+    entries_with node.config _ _ node.history.calls _ c.push_entry.new.self.calls _ c.push_entry.ensures.calls
     c.in_ok-reserve_entry.ensures.calls
     (deliver_with k node.clock (value_in node.replica) _ _ c.self.invariant
     {read = message_read node.config.nodes c.args.bytes.items} {m = message_value c.args.delivery.message}
@@ -35,5 +35,5 @@ pub push_entry-requires-clause-few : goal.push_entry-requires-clause-few
 push_entry-requires-clause-few c =
     let node = c.self.inside in
     let room = rw (← c.self.view_is) at c.requires.room in
-    few_calls node.config node.clock (value_in node.replica) node.trace.calls _ c.self.invariant room
+    few_calls node.config node.clock (value_in node.replica) node.history.calls _ c.self.invariant room
     c.in_ok-reserve_entry.ensures.calls

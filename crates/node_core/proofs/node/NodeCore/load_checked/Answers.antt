@@ -14,7 +14,7 @@ use Rattle.node_core.proofs.node.NodeCore.load_checked.Goals.{After-names_togeth
 
 -- what was found when the names are counted
 loads : (c : After-names_together) → let node = c.self.inside in
-    Loads (kept_of node.config node.trace.calls) node.clock (value_in node.replica).version
+    Loads (kept_of node.config node.history.calls) node.clock (value_in node.replica).version
     (value_in node.replica).state (state_in c.in_ok-named.named).names c.args.text.now c.in_ok-points.points.items
 loads c = record {
   step = c.self.invariant.0;
@@ -63,7 +63,7 @@ returns-clause-ops c =
     rw (← c.self.view_is)
     (c.in_ok-ops.ensures.value
     ∙ ap (λ (at : ℕ). operations_issued node.config.node at (settings_of points)) (sym c.self.invariant.0.0.clock_is)
-    ∙ ap (λ r. operations_issued node.config.node (last_clock (kept_of node.config node.trace.calls))
+    ∙ ap (λ r. operations_issued node.config.node (last_clock (kept_of node.config node.history.calls))
     (settings_of (points_read r))) (sym c.in_ok-points.ensures.ok))
 
 pub returns-clause-tellable : goal.returns-clause-tellable

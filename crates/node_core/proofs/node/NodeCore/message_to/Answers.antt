@@ -10,7 +10,7 @@ use Rattle.node_core.proofs.node.NodeCore.message_to.Goals as goal
 pub encode-requires : goal.encode-requires
 encode-requires c =
     let node = c.self.inside in
-    let k = kept_of node.config node.trace.calls in
+    let k = kept_of node.config node.history.calls in
     let to = rw (← c.self.view_is) at c.requires.to in
     let since = c.in_ok-message.ensures k.config.nodes (can_be_told k node.clock (value_in node.replica)
     c.self.invariant c.args.to to.0 to.1) in
@@ -23,7 +23,7 @@ if_ok (Err e) P Q f h = tt
 pub returns : goal.returns
 returns c =
     let node = c.self.inside in
-    let k = kept_of node.config node.trace.calls in
+    let k = kept_of node.config node.history.calls in
     let to = rw (← c.self.view_is) at c.requires.to in
     let since = c.in_ok-message.ensures k.config.nodes (can_be_told k node.clock (value_in node.replica)
     c.self.invariant c.args.to to.0 to.1) in

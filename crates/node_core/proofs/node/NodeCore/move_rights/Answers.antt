@@ -12,7 +12,7 @@ use Rattle.node_core.proofs.node.NodeCore.move_rights.Goals as goal
 pub count_shift-requires-clause-counted : goal.count_shift-requires-clause-counted
 count_shift-requires-clause-counted c =
     let node = c.self.inside in
-    let k = kept_of node.config node.trace.calls in
+    let k = kept_of node.config node.history.calls in
     let enough = rw (← c.self.view_is) at c.requires.enough in
     let there = rw (← c.self.view_is) at c.requires.there in
     subst (λ (v : State). IsSome (budget_of v c.args.point c.args.term)) c.self.invariant.1.state_is
@@ -21,13 +21,13 @@ count_shift-requires-clause-counted c =
 pub invariant_of-self-2 : goal.invariant_of-self-2
 invariant_of-self-2 c =
     let node = c.self.inside in
-    let k = kept_of node.config node.trace.calls in
+    let k = kept_of node.config node.history.calls in
     let room = rw (← c.self.view_is) at c.requires.room in
     let set = rw (← c.self.view_is) at c.requires.set in
     let enough = rw (← c.self.view_is) at c.requires.enough in
     let there = rw (← c.self.view_is) at c.requires.there in
     let total = rw (← c.self.view_is) at c.requires.total in
-    entries_with node.config _ _ node.trace.calls _ c.push_entry.new.self.calls _ c.push_entry.ensures.calls
+    entries_with node.config _ _ node.history.calls _ c.push_entry.new.self.calls _ c.push_entry.ensures.calls
     c.in_ok-reserve_entry.ensures.calls
     (moved_with k node.clock (value_in node.replica) _ _ c.self.invariant
     {ask = Shift c.args.point c.args.term c.args.to c.args.amount} (record {
@@ -46,5 +46,5 @@ pub push_entry-requires-clause-few : goal.push_entry-requires-clause-few
 push_entry-requires-clause-few c =
     let node = c.self.inside in
     let room = rw (← c.self.view_is) at c.requires.room in
-    few_calls node.config node.clock (value_in node.replica) node.trace.calls _ c.self.invariant room
+    few_calls node.config node.clock (value_in node.replica) node.history.calls _ c.self.invariant room
     c.in_ok-reserve_entry.ensures.calls

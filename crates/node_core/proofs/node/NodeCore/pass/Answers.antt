@@ -1,13 +1,14 @@
-use Rattle.std.proofs.Common.{◌≡◌, ◌<◌, ◌^◌, ◌∙◌, ℕ, List, [], ◌∷◌, ◌++◌, length, Option, ap, refl, subst, sym}
+use Rattle.std.proofs.Common.{◌≡◌, ◌<◌, ◌^◌, ◌∙◌, ℕ, List, length, Option, ap, refl, subst, sym}
 use Rattle.std.specs.Option.{IfSome}
 use Rattle.replica_state.specs.States.{State}
 use Rattle.node_core.proofs.NamedRefusals.{passed_on}
 use Rattle.node_core.proofs.PassAccepted.{pass_call, pass_fits, pass_refused}
 use Rattle.node_core.proofs.VersionsInStep.{entries_with, few_calls, kept_with, may_pass, pass_with}
+use Rattle.history.specs.Histories.{Calls, grown}
 use Rattle.node_calls.specs.Asks.{Pass}
 use Rattle.node_calls.specs.Told.{Told, passes, was_passed}
 use Rattle.packed_trace.specs.Packed.{pass_value, passed_by, setting_ref_told}
-use Rattle.node_core.proofs.InStep.{with_call}
+use Rattle.node_core.specs.Traces.{with_call}
 use Rattle.node_core.specs.Passes.{pass_reply, words_for}
 use Rattle.node_core.specs.Traces.{IsRefusalOf, Kept, after_call, kept_of, state_known}
 use Rattle.node_core.specs.Replicas.{state_in, value_in}
@@ -27,7 +28,7 @@ returns-in_err-words-clause-refused g c =
 pub count-requires : goal.count-requires
 count-requires g c =
     let node = c.self.inside in
-    let k = kept_of node.config node.trace.calls in
+    let k = kept_of node.config node.history.calls in
     let room = rw (← c.self.view_is) at c.requires.room in
     let key = rw c.state.ensures at c.in_ok-words.ensures.key in
     let rights = rw c.state.ensures at c.in_ok-words.ensures.rights in
@@ -42,23 +43,23 @@ kept g c = record {
   reply = was_passed (passed_by (setting_ref_told c.in_ok-words.outcome.setting) c.in_ok-words.outcome.term);
 }
 
-is_kept : (g : Over) (c : goal.After-push g) → c.push.new.self.calls ≡ c.self.inside.trace.calls ++ kept g c ∷ []
+is_kept : (g : Over) (c : goal.After-push g) → c.push.new.self.calls ≡ grown c.self.inside.history.calls (kept g c)
 is_kept g c =
     let told = c.in_ok-prepared.ensures.told ∙ ap pass_value c.pass-pass.ensures ∙
     ap (λ (ws : List ℕ). record { ask = passes c.args.point.now; words = ws; reply = (kept g c).reply })
     c.deref.ensures.value in
-    c.push.ensures.calls ∙ ap (λ (t : Told). c.prepare.new.self.calls ++ t ∷ []) told
-    ∙ ap (λ (ts : List Told). ts ++ kept g c ∷ []) c.in_ok-prepared.ensures.calls
+    c.push.ensures.calls ∙ ap (λ (t : Told). grown c.prepare.new.self.calls t) told
+    ∙ ap (λ (calls : Calls). grown calls (kept g c)) c.in_ok-prepared.ensures.calls
 
 pub invariant_of-self-2 : goal.invariant_of-self-2
 invariant_of-self-2 g c =
     let node = c.self.inside in
-    let k = kept_of node.config node.trace.calls in
+    let k = kept_of node.config node.history.calls in
     let room = rw (← c.self.view_is) at c.requires.room in
     let ops = rw (← c.is_some-is_set.ensures) at rw c.state.ensures at c.in_ok-words.ensures.ops in
     let key = rw c.state.ensures at c.in_ok-words.ensures.key in
     let rights = rw c.state.ensures at c.in_ok-words.ensures.rights in
-    entries_with node.config _ _ node.trace.calls _ c.push.new.self.calls (kept g c) (is_kept g c) refl
+    entries_with node.config _ _ node.history.calls _ c.push.new.self.calls (kept g c) (is_kept g c) refl
     (pass_with k node.clock (value_in node.replica) _ _ c.self.invariant c.is_some-is_set.result
     {name = c.args.point.now} {words = c.in_ok-words.words.items} {spent = c.in_ok-words.outcome.spent} (record {
       room = room;
@@ -77,13 +78,13 @@ pub push-requires-clause-few : goal.push-requires-clause-few
 push-requires-clause-few g c =
     let node = c.self.inside in
     let room = rw (← c.self.view_is) at c.requires.room in
-    few_calls node.config node.clock (value_in node.replica) node.trace.calls _ c.self.invariant room
+    few_calls node.config node.clock (value_in node.replica) node.history.calls _ c.self.invariant room
     c.in_ok-prepared.ensures.calls
 
 pub returns-clause-ok : goal.returns-clause-ok
 returns-clause-ok g c =
     let node = c.self.inside in
-    let k = kept_of node.config node.trace.calls in
+    let k = kept_of node.config node.history.calls in
     let name = c.args.point.now in
     let words = c.in_ok-words.words.items in
     let known : state_in c.state.result.now ≡ state_known k = c.state.ensures ∙ sym c.self.invariant.1.state_is in
@@ -94,7 +95,7 @@ returns-clause-ok g c =
     ∙ ap (λ (v : State). pass_reply node.config.node v name words) known in (
       pass_fits c.args.self.now name words c.requires.room c.requires.named many,
       refl,
-      kept_with node.config node.trace.calls c.push.new.self.calls (kept g c) (is_kept g c)
+      kept_with node.config node.history.calls c.push.new.self.calls (kept g c) (is_kept g c)
           ∙ ap (with_call k) (pass_call k name words _ answered)
           ∙ ap (λ (j : Kept). after_call j (Pass name) words) c.self.view_is,
     )

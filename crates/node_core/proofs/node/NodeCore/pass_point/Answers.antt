@@ -18,4 +18,4 @@ returns-in_err-check_trace-clause-refused g c =
 pub returns-clause-last : goal.returns-clause-last
 returns-clause-last g c =
     ap (λ o. option_map (λ p. IsPassed p) (passed_at o)) (last_after c.args.self.now c.pass.new.self
-    (Pass c.args.point.now) c.in_ok-words.words.items c.in_ok-words.ensures.ok.2)
+    (Pass c.args.point.now) c.in_ok-words.words.items c.in_ok-words.ensures.within c.in_ok-words.ensures.ok.2)

@@ -17,7 +17,7 @@ returns-clause-last c =
     let named = c.in_ok-point.ensures.ok in
     let given = c.in_ok-pass.ensures.words ∙ c.new-given.ensures in
     ap (λ o. option_map (λ p. IsPassed p) (passed_at o)) (last_after c.args.self.now c.pass.new.self
-    (Pass c.in_ok-point.point) c.in_ok-pass.field-0.0.items accepted.2)
+    (Pass c.in_ok-point.point) c.in_ok-pass.field-0.0.items c.in_ok-pass.ensures.within accepted.2)
     ∙ ap (λ words. Some (IsPassed (pass_reply c.args.self.now.config.node (state_known c.args.self.now)
     c.in_ok-point.point words))) given
     ∙ ap (λ name. Some (IsPassed (pass_reply c.args.self.now.config.node (state_known c.args.self.now) name

@@ -22,7 +22,7 @@ returns-in_err-point-clause-refused c =
 pub returns-in_err-total-clause-refused : goal.returns-in_err-total-clause-refused
 returns-in_err-total-clause-refused c =
     let node = c.self.inside in
-    let k = kept_of node.config node.trace.calls in
+    let k = kept_of node.config node.history.calls in
     let room = rw (← c.self.view_is) at c.in_ok-check_trace.ensures.ok in
     let value = value_in node.replica in
     let found = rw c.state.ensures at c.in_err-total.ensures in
@@ -39,7 +39,7 @@ returns-in_err-total-clause-refused c =
 pub returns-clause-ok : goal.returns-clause-ok
 returns-clause-ok c =
     let node = c.self.inside in
-    let k = kept_of node.config node.trace.calls in
+    let k = kept_of node.config node.history.calls in
     let room = rw (← c.self.view_is) at c.in_ok-check_trace.ensures.ok in
     let value = value_in node.replica in
     let found = rw c.state.ensures at c.in_ok-total.ensures in (

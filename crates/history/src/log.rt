@@ -3,6 +3,7 @@
 ghost use Rattle.std.specs.Prelude.{◌≡◌, List, [], ◌∷◌, ◌++◌};
 ghost use Rattle.std.specs.Borrow.{ftrue};
 
+use std::fmt::{self, Debug, Formatter};
 use std::marker::{Model, PhantomData};
 
 /// What was noted, the first one first. It takes no memory, and its methods do nothing when a
@@ -15,6 +16,12 @@ pub struct Log<T> {
 
 impl<T> Model for Log<T> {
     ghost also_owns = { λ _. ftrue };
+}
+
+impl<T> Debug for Log<T> {
+    fn fmt<W: fmt::Write>(&self, f: &mut Formatter<W>) -> fmt::Result {
+        f.write_str("Log")
+    }
 }
 
 // It owns nothing.

@@ -1,7 +1,7 @@
 -- A log owns nothing, so it may go to another thread.
 use denote.RattleType.{RattleType}
 use denote.Param.Send.{IsSend}
-use Rattle.gossip.specs.contracts.log.Log.{the_row}
+use Rattle.history.specs.contracts.log.Log.{the_row}
 
 pub send : (A : RattleType) → IsSend (the_row A)
 send A = record { owned = λ d vs. ((λ vss. (tt, ((λ uss. (tt, tt)), tt))), tt); leaving = λ k f vs. tt }
