@@ -41,7 +41,7 @@ def build_c(folder):
     """The program of C, and whether it has libfiu."""
     program = os.path.join(folder, "speed")
     words = ["cc", "-std=c11", "-O2", "-I", EMBEDDING, f"{EMBEDDING}/c/speed.c", "-o", program]
-    libraries = [f"{EMBEDDING}/lib/libfailreg_c.a", f"{EMBEDDING}/lib/liblibc_c.a", "-lpthread"]
+    libraries = [f"{EMBEDDING}/lib/libfailreg.a", "-lpthread"]
     with_fiu = [*words, "-DFIU_ENABLE", *libraries, "-lfiu"]
     if subprocess.run(with_fiu, stderr=subprocess.DEVNULL).returncode == 0:
         return program, True
@@ -57,7 +57,7 @@ def build_rust(folder):
 
 
 def main():
-    if not os.path.isfile(f"{EMBEDDING}/lib/libfailreg_c.a"):
+    if not os.path.isfile(f"{EMBEDDING}/lib/libfailreg.a"):
         run(f"{EMBEDDING}/build")
     with tempfile.TemporaryDirectory() as folder:
         of_c, has_fiu = build_c(folder)

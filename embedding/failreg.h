@@ -1,15 +1,16 @@
 /* failreg: one node of a cluster's failpoints, for programs of C and C++.
  *
- * A node holds named points. failreg_open opens one, failreg_end ends it. Of a term that is
+ * A node holds named points. failreg_open opens one, failreg_close closes it. Of a term that is
  * counted, as in "5*panic->off", all nodes together run no more than the count and what was granted
  * beyond it, whatever becomes of their messages.
  *
  * What a call is given, and what it must be given, since nothing checks it:
  *
- *  - A node is given to one call at a time: by a mutex of yours, or by one thread. Calls of
- *    different nodes need no order. A node may go from thread to thread.
+ *  - A node is given to one call at a time, also to those that take it as const: by a mutex of
+ *    yours, or by one thread. Calls of different nodes need no order. A node may go from thread to
+ *    thread. It isn't itself const: a call takes it apart and puts it together.
  *  - A node that is given is one that failreg_open or a later call left, or FAILREG_CLOSED_NODE. A
- *    copy of its bytes is the same node: use and end one of them alone.
+ *    copy of its bytes is the same node: use and close one of them alone.
  *  - No pointer is null, also where a length is 0: then give "" or any other address. A pointer
  *    leads to as many bytes or numbers as the length beside it says, and what a call writes to
  *    overlaps nothing else that it is given.
@@ -18,10 +19,11 @@
  *
  * Texts have a length and no closing zero. Whether they are UTF-8 is looked at by the calls.
  *
- * Every call but failreg_close, failreg_fetch and failreg_words answers 0, or why it is refused.
+ * Every call that answers a uint32_t, but failreg_version, answers FAILREG_OK or why it is refused.
  * Then the node and its generator are as they were, and what the call would have told is 0 or
- * false. An accepted call that changes the node, marked below by [entry], is an entry of the node's
- * trace: it takes memory until the node is ended, and counts against the cap. */
+ * false. A call that takes the node as const leaves it as it was in any case. An accepted call that
+ * changes the node, marked below by [entry], is an entry of the node's trace: it takes memory until
+ * the node is closed, and counts against the cap. */
 #ifndef FAILREG_H
 #define FAILREG_H
 
@@ -33,44 +35,84 @@
 extern "C" {
 #endif
 
+/* The version of this header: 10000 times its first number, 100 times its second, and its third. */
+#define FAILREG_VERSION 100
+#define FAILREG_VERSION_TEXT "0.1.0"
+
+/* The same of the library that was linked. */
+uint32_t failreg_version(void);
+
 /* A node, open or closed. Its fields are the library's own. */
 typedef struct failreg {
     bool is_open;
     void *at;
 } failreg;
 
-/* What a node is before it is opened and after it was ended: all zero. */
+/* What a node is before it is opened and after it was closed. */
 #define FAILREG_CLOSED_NODE { false, NULL }
 
 /* What a call answers. 1 to 22 are the numbers with which the texts of faults begin, as that of
  * "N7 NoSuchTerm". */
 enum failreg_status {
     FAILREG_OK = 0,
-    FAILREG_TRACE_FULL = 1,     /* the node has accepted as many calls as it may */
-    FAILREG_BAD_NAME = 2,       /* a name is 1 to 128 ASCII letters, digits, _ - . and : */
-    FAILREG_BAD_ACTIONS = 3,    /* the action text, or the setting text */
-    FAILREG_TOO_MANY_POINTS = 4, /* more than 256 names, removed ones counted */
-    FAILREG_CLOCK_FULL = 5,
-    FAILREG_NOT_SET = 6,
-    FAILREG_NO_SUCH_TERM = 7,
-    FAILREG_NOT_COUNTED = 8,
-    FAILREG_BAD_NODE = 9,       /* no node of the cluster, or this one */
-    FAILREG_ZERO_AMOUNT = 10,
-    FAILREG_TOO_FEW_RIGHTS = 11,
-    FAILREG_CELL_FULL = 12,
-    FAILREG_BAD_WORDS = 14,     /* the pass takes another number of random draws */
-    FAILREG_BAD_MESSAGE = 16,
-    FAILREG_NOT_FOR_ME = 17,
-    FAILREG_OWN_AHEAD = 18,
-    FAILREG_ACK_AHEAD = 19,
-    FAILREG_OVERSPENT = 20,
-    FAILREG_BAD_CONFIG = 21,    /* a cluster has 1 to 32 nodes, and this is one of them */
-    FAILREG_NO_MEMORY = 22,
-    FAILREG_NOT_UTF8 = 30,      /* a name or a text isn't UTF-8 */
-    FAILREG_CLOSED = 31,        /* the node is closed */
-    FAILREG_ALREADY_OPEN = 32,  /* failreg_open of a node that is open */
-    FAILREG_NO_POINT = 33       /* failreg_point of this node told no such number */
+    FAILREG_E_TRACE_FULL = 1,     /* the node has accepted as many calls as it may */
+    FAILREG_E_BAD_NAME = 2,       /* a name is 1 to 128 ASCII letters, digits, _ - . and : */
+    FAILREG_E_BAD_ACTIONS = 3,    /* the action text, or the setting text */
+    FAILREG_E_TOO_MANY_POINTS = 4, /* more than 256 names, removed ones counted */
+    FAILREG_E_CLOCK_FULL = 5,
+    FAILREG_E_NOT_SET = 6,
+    FAILREG_E_NO_SUCH_TERM = 7,
+    FAILREG_E_NOT_COUNTED = 8,
+    FAILREG_E_BAD_NODE = 9,       /* no node of the cluster, or this one */
+    FAILREG_E_ZERO_AMOUNT = 10,
+    FAILREG_E_TOO_FEW_RIGHTS = 11,
+    FAILREG_E_CELL_FULL = 12,
+    FAILREG_E_BAD_WORDS = 14,     /* the pass takes another number of random draws */
+    FAILREG_E_BAD_MESSAGE = 16,
+    FAILREG_E_NOT_FOR_ME = 17,
+    FAILREG_E_OWN_AHEAD = 18,
+    FAILREG_E_ACK_AHEAD = 19,
+    FAILREG_E_OVERSPENT = 20,
+    FAILREG_E_BAD_CONFIG = 21,    /* a cluster has 1 to 32 nodes, and this is one of them */
+    FAILREG_E_NO_MEMORY = 22,
+    FAILREG_E_NOT_UTF8 = 30,      /* a name or a text isn't UTF-8 */
+    FAILREG_E_CLOSED = 31,        /* the node is closed */
+    FAILREG_E_ALREADY_OPEN = 32,  /* failreg_open of a node that is open */
+    FAILREG_E_NO_POINT = 33       /* failreg_point of this node told no such number */
 };
+
+/* What a status says, in words. failreg_fault has the text of a refusal, which says more. */
+static inline const char *failreg_strerror(uint32_t status)
+{
+    switch (status) {
+    case FAILREG_OK: return "accepted";
+    case FAILREG_E_TRACE_FULL: return "the node has accepted as many calls as it may";
+    case FAILREG_E_BAD_NAME: return "not a name";
+    case FAILREG_E_BAD_ACTIONS: return "not an action text, or not a setting text";
+    case FAILREG_E_TOO_MANY_POINTS: return "more than 256 names";
+    case FAILREG_E_CLOCK_FULL: return "the clock of settings is at its end";
+    case FAILREG_E_NOT_SET: return "the point isn't set";
+    case FAILREG_E_NO_SUCH_TERM: return "the setting has no such term";
+    case FAILREG_E_NOT_COUNTED: return "the term has no count";
+    case FAILREG_E_BAD_NODE: return "no other node of the cluster";
+    case FAILREG_E_ZERO_AMOUNT: return "the amount is 0";
+    case FAILREG_E_TOO_FEW_RIGHTS: return "the node has fewer rights to give";
+    case FAILREG_E_CELL_FULL: return "the total is at its end";
+    case FAILREG_E_BAD_WORDS: return "the pass takes another number of random draws";
+    case FAILREG_E_BAD_MESSAGE: return "not a message of this cluster";
+    case FAILREG_E_NOT_FOR_ME: return "the message is for another node";
+    case FAILREG_E_OWN_AHEAD: return "the message says more of this node than it knows itself";
+    case FAILREG_E_ACK_AHEAD: return "the message knows a version of this node that there isn't";
+    case FAILREG_E_OVERSPENT: return "with the message a term would run too often";
+    case FAILREG_E_BAD_CONFIG: return "a cluster has 1 to 32 nodes, and this is one of them";
+    case FAILREG_E_NO_MEMORY: return "out of memory";
+    case FAILREG_E_NOT_UTF8: return "a name or a text isn't UTF-8";
+    case FAILREG_E_CLOSED: return "the node is closed";
+    case FAILREG_E_ALREADY_OPEN: return "the node is open already";
+    case FAILREG_E_NO_POINT: return "no point of the node has the number";
+    default: return "no status of this library";
+    }
+}
 
 /* The clock of a setting and the node that made it: no two settings of a cluster have one stamp. */
 typedef struct failreg_stamp {
@@ -85,20 +127,20 @@ typedef struct failreg_wide {
 } failreg_wide;
 
 enum failreg_outcome {
-    FAILREG_UNSET = 0, /* the point isn't set here */
-    FAILREG_NONE = 1,  /* it is set, and no term's turn came */
-    FAILREG_ACT = 2    /* a term was triggered: carry its task out */
+    FAILREG_OUTCOME_UNSET = 0, /* the point isn't set here */
+    FAILREG_OUTCOME_NONE = 1,  /* it is set, and no term's turn came */
+    FAILREG_OUTCOME_ACT = 2    /* a term was triggered: carry its task out */
 };
 
 enum failreg_task {
-    FAILREG_OFF = 0,
-    FAILREG_RETURN = 1, /* return, with the text as its argument */
-    FAILREG_SLEEP = 2,  /* for `millis` milliseconds */
-    FAILREG_PANIC = 3,
-    FAILREG_PRINT = 4,
-    FAILREG_PAUSE = 5,  /* until failreg_pause_over tells true */
-    FAILREG_YIELD = 6,
-    FAILREG_DELAY = 7   /* keep busy for `millis` milliseconds */
+    FAILREG_TASK_OFF = 0,
+    FAILREG_TASK_RETURN = 1, /* return, with the text as its argument */
+    FAILREG_TASK_SLEEP = 2,  /* for `millis` milliseconds */
+    FAILREG_TASK_PANIC = 3,
+    FAILREG_TASK_PRINT = 4,
+    FAILREG_TASK_PAUSE = 5,  /* until failreg_pause_over tells true */
+    FAILREG_TASK_YIELD = 6,
+    FAILREG_TASK_DELAY = 7   /* keep busy for `millis` milliseconds */
 };
 
 /* What a pass came to. */
@@ -118,15 +160,8 @@ typedef struct failreg_act {
 uint32_t failreg_open(failreg *node, uint8_t number, uint8_t nodes, uint32_t trace_cap,
                       const uint8_t seed[32]);
 
-/* Ends a node, and leaves it closed. (The export takes it by value.) */
-void failreg_close(failreg node);
-static inline void failreg_end(failreg *node)
-{
-    failreg was = *node;
-    node->is_open = false;
-    node->at = NULL;
-    failreg_close(was);
-}
+/* Closes a node, if it is open: its memory is given back. */
+void failreg_close(failreg *node);
 
 /* [entry] Sets a point to an action text, as "20%3*print(hi)->off". */
 uint32_t failreg_set(failreg *node, const char *name, size_t name_len, const char *actions,
@@ -143,7 +178,7 @@ uint32_t failreg_load(failreg *node, const char *text, size_t text_len, uint16_t
 uint32_t failreg_pass(failreg *node, const char *name, size_t name_len, failreg_act *act);
 
 /* Tells the number of a point, whether it is set or not: ask once, and pass it by its number from
- * then on. It is the point's until the node is ended, and says nothing to another node. */
+ * then on. It is the point's until the node is closed, and says nothing to another node. */
 uint32_t failreg_point(failreg *node, const char *name, size_t name_len, uint32_t *point);
 
 /* [entry] Passes a point as failreg_pass does, by its number. */
@@ -155,10 +190,10 @@ uint32_t failreg_pass_with(failreg *node, const char *name, size_t name_len, con
                            size_t words_len, failreg_act *act);
 
 /* Whether a point is set. This is no pass, and no entry of the trace. */
-uint32_t failreg_is_set(failreg *node, const char *name, size_t name_len, bool *is_set);
+uint32_t failreg_is_set(const failreg *node, const char *name, size_t name_len, bool *is_set);
 
 /* Whether a pause is over that began with a pass of this stamp: the point isn't set under it. */
-uint32_t failreg_pause_over(failreg *node, const char *name, size_t name_len,
+uint32_t failreg_pause_over(const failreg *node, const char *name, size_t name_len,
                             const failreg_stamp *stamp, bool *is_over);
 
 /* [entry] Moves rights of a counted term, by its number from 0, to another node, which can spend
@@ -180,23 +215,23 @@ uint32_t failreg_deliver(failreg *node, const uint8_t *message, size_t message_l
 
 /* How often a term ran at all nodes under the setting, and how often a point was passed at all
  * nodes while it was set, as far as this node knows. */
-uint32_t failreg_spent(failreg *node, const char *name, size_t name_len, uint8_t term,
+uint32_t failreg_spent(const failreg *node, const char *name, size_t name_len, uint8_t term,
                        failreg_wide *spent);
-uint32_t failreg_hits(failreg *node, const char *name, size_t name_len, failreg_wide *hits);
+uint32_t failreg_hits(const failreg *node, const char *name, size_t name_len, failreg_wide *hits);
 
 /* The rights that node `of` has left of a counted term, as far as this node knows. Of another node
  * they may be below 0. What doesn't fit is told as the nearest number that does. */
-uint32_t failreg_rights(failreg *node, const char *name, size_t name_len, uint8_t term, uint8_t of,
-                        int64_t *rights);
+uint32_t failreg_rights(const failreg *node, const char *name, size_t name_len, uint8_t term,
+                        uint8_t of, int64_t *rights);
 
 /* How many accepted calls changed what the node knows; the version of another node that it has all
  * of; and the version of its own that another one said it has: whom there is something to tell. */
-uint32_t failreg_version(failreg *node, uint64_t *version);
-uint32_t failreg_known(failreg *node, uint8_t from, uint64_t *known);
-uint32_t failreg_acked(failreg *node, uint8_t to, uint64_t *acked);
+uint32_t failreg_state_version(const failreg *node, uint64_t *version);
+uint32_t failreg_known(const failreg *node, uint8_t from, uint64_t *known);
+uint32_t failreg_acked(const failreg *node, uint8_t to, uint64_t *acked);
 
 /* How many calls the node has accepted. */
-uint32_t failreg_calls(failreg *node, uint64_t *calls);
+uint32_t failreg_calls(const failreg *node, uint64_t *calls);
 
 /* Answers a request of HTTP as a node does that is served (docs/serving.md has the requests), and
  * tells the status of the reply: fetch its body. It is 0, whatever the status, unless the method or
@@ -204,25 +239,26 @@ uint32_t failreg_calls(failreg *node, uint64_t *calls);
  * request asks for is [entry] where that is so of the call (failreg_set, failreg_remove,
  * failreg_load, failreg_shift, failreg_grant, failreg_deliver), and it was accepted: the status is
  * 200 then. Of a refusal the body says why; failreg_fault doesn't. Where memory is refused the
- * status is 503, nothing has changed, and there may be no body. */
+ * status is 503, nothing has changed, and there may be no body; what asks nothing of the node, as a
+ * path that isn't there, is answered as such all the same. */
 uint32_t failreg_answer(failreg *node, const char *method, size_t method_len, const char *path,
                         size_t path_len, const uint8_t *body, size_t body_len, uint16_t *status);
 
 /* Lists the points that are set, as a text for failreg_load: fetch it. */
 uint32_t failreg_list(failreg *node);
 
-/* The text of the last call marked [entry] that was refused, as "N11 TooFewRights have=2": fetch
- * it. It has no bytes after FAILREG_NOT_UTF8. */
-uint32_t failreg_fault(failreg *node);
+/* Copies the text of the last call marked [entry] that was refused, as "N11 TooFewRights have=2", as
+ * much as `room` is, and tells how long it is. It has no bytes after FAILREG_E_NOT_UTF8. What is to
+ * be fetched stays. */
+uint32_t failreg_fault(const failreg *node, char *into, size_t room, size_t *length);
 
-/* Copies what the last pass (its text), emit, answer, list or fault left to be fetched, as much as
- * `room` is, and answers how long it is: with room 0 only that. It stays until the next of those
- * calls. */
-size_t failreg_fetch(failreg *node, void *into, size_t room);
+/* Copies what the last pass (its text), emit, answer or list left to be fetched, as much as `room`
+ * is, and answers how long it is: with room 0 only that. It stays until the next of those calls. */
+size_t failreg_fetch(const failreg *node, void *into, size_t room);
 
 /* Copies the random draws of the last failreg_pass or failreg_pass_at, as much as `room` is, and
  * answers how many there are; `room` counts words of 32 bits. */
-size_t failreg_words(failreg *node, uint32_t *into, size_t room);
+size_t failreg_words(const failreg *node, uint32_t *into, size_t room);
 
 /* Where a lock of yours that guards a node is found taken: pauses, longer the more often it was, and
  * tells whether to look again, or to sleep until the lock is free. `looks` begins at 0. A call holds

@@ -1,6 +1,6 @@
 /* One failpoint in a program of C: FAILPOINTS='save=2*return->off' loses two orders.
  *
- *     cc -I embedding examples/orders.c embedding/lib/libfailreg_c.a embedding/lib/liblibc_c.a -o orders */
+ *     cc -I embedding examples/orders.c embedding/lib/libfailreg.a -o orders */
 #include "failreg.h"
 #include <stdio.h>
 #include <stdlib.h>
@@ -14,7 +14,7 @@ static bool is_failing(failreg *node, const char *name)
     if (failreg_is_set(node, name, strlen(name), &is_set) != FAILREG_OK || !is_set)
         return false;
     return failreg_pass(node, name, strlen(name), &act) == FAILREG_OK
-        && act.outcome == FAILREG_ACT && act.task == FAILREG_RETURN;
+        && act.outcome == FAILREG_OUTCOME_ACT && act.task == FAILREG_TASK_RETURN;
 }
 
 int main(void)
@@ -29,5 +29,5 @@ int main(void)
         return 1;
     for (int order = 0; order < 4; order++)
         printf("order %d is %s\n", order, is_failing(&node, "save") ? "lost" : "saved");
-    failreg_end(&node);
+    failreg_close(&node);
 }

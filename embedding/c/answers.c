@@ -1,7 +1,7 @@
 /* Asks a node by requests of HTTP, each with each of its allocations refused in turn. Where one
  * was refused, the reply is 503 and nothing has changed, or the request was done and is answered as
- * such; made again, it is answered as if nothing had been refused. Link with
- * --wrap=malloc,--wrap=realloc. */
+ * such; made again, it is answered as if nothing had been refused. What needs no memory takes none.
+ * Link with --wrap=malloc,--wrap=realloc. */
 #include "failreg.h"
 
 #include <stdio.h>
@@ -49,23 +49,25 @@ typedef struct request {
     uint16_t status;
     const char *told; /* the body of the reply, unless it is NULL */
     bool is_entry;
+    bool needs_memory;
 } request;
 
 static const request REQUESTS[] = {
-    { "PUT", "/fail/a", "3*return(x)->off", 200, "1.0", true },
-    { "GET", "/fail", "", 200, "a=3*return(x)->off", false },
-    { "POST", "/grant/a/0/2", "", 200, "2", true },
-    { "POST", "/shift/a/0/1/04", "", 200, "4", true },
-    { "POST", "/shift/a/0/1/4", "", 409, "N11 TooFewRights have=1", false },
-    { "POST", "/shift/a/0/1/x", "", 400, "bad number", false },
-    { "POST", "/load", "b=off;c=print", 200, "2", true },
-    { "POST", "/load", "\xff", 400, "bad text", false },
-    { "PUT", "/fail/a", "fly", 400, "N3 BadActions A7 UnknownTask term=0", false },
-    { "DELETE", "/fail/b", "", 200, "4.0", true },
-    { "POST", "/gossip", "none", 400, "N16 BadMessage W1 Magic offset=0", false },
-    { "GET", "/nope", "", 404, "not found", false },
-    { "PUT", "/report", "", 405, "bad method", false },
-    { "GET", "/report", "", 200, NULL, false },
+    { "PUT", "/fail/a", "3*return(x)->off", 200, "1.0", true, true },
+    { "GET", "/fail", "", 200, "a=3*return(x)->off", false, true },
+    { "POST", "/grant/a/0/2", "", 200, "2", true, true },
+    { "POST", "/shift/a/0/1/04", "", 200, "4", true, true },
+    { "POST", "/shift/a/0/1/4", "", 409, "N11 TooFewRights have=1", false, true },
+    { "POST", "/shift/a/0/1/x", "", 400, "bad number", false, false },
+    { "POST", "/load", "b=off;c=print", 200, "2", true, true },
+    { "POST", "/load", "\xff", 400, "bad text", false, false },
+    { "PUT", "/fail/a", "fly", 400, "N3 BadActions A7 UnknownTask term=0", false, true },
+    { "DELETE", "/fail/b", "", 200, "4.0", true, true },
+    { "POST", "/gossip", "none", 400, "N16 BadMessage W1 Magic offset=0", false, true },
+    { "GET", "/nope", "", 404, "not found", false, false },
+    { "PUT", "/report", "", 405, "bad method", false, false },
+    { "GET", "/report", "", 200, NULL, false, true },
+    { "DELETE", "/fail/a!", "", 400, "N2 BadName", false, false },
 };
 
 typedef struct reply {
@@ -113,6 +115,7 @@ static long try_each_growth(failreg *node, const request *it)
         }
         CHECK(is_as_wanted(it, &got));
         CHECK(calls_of(node) == before + it->is_entry);
+        CHECK(it->needs_memory || growths == 0);
         return growths;
     }
 }
@@ -138,7 +141,7 @@ static void take_a_message(failreg *node)
         told[known] = 0;
         CHECK(status == 200 && strcmp(told, time ? "same" : "changed") == 0);
     }
-    failreg_end(&other);
+    failreg_close(&other);
 }
 
 /* What is refused before it is a request tells nothing, and changes nothing. */
@@ -149,14 +152,32 @@ static void refuse_what_is_none(failreg *node)
     uint16_t status = 7;
     tried = "what is no request";
     uint64_t before = calls_of(node);
-    CHECK(failreg_answer(&closed, "GET", 3, "/fail", 5, body, 0, &status) == FAILREG_CLOSED);
+    CHECK(failreg_answer(&closed, "GET", 3, "/fail", 5, body, 0, &status) == FAILREG_E_CLOSED);
     CHECK(status == 0);
     status = 7;
-    CHECK(failreg_answer(node, "G\xff", 2, "/fail", 5, body, 0, &status) == FAILREG_NOT_UTF8);
+    CHECK(failreg_answer(node, "G\xff", 2, "/fail", 5, body, 0, &status) == FAILREG_E_NOT_UTF8);
     CHECK(status == 0);
     status = 7;
-    CHECK(failreg_answer(node, "GET", 3, "/\xff", 2, body, 0, &status) == FAILREG_NOT_UTF8);
+    CHECK(failreg_answer(node, "GET", 3, "/\xff", 2, body, 0, &status) == FAILREG_E_NOT_UTF8);
     CHECK(status == 0 && calls_of(node) == before);
+}
+
+/* A node whose trace is full says so, whether there is memory or not. */
+static void refuse_at_a_full_node(void)
+{
+    static const uint8_t seed[32] = { 1 };
+    static const request FULL = { "PUT", "/fail/b", "off", 503, "N1 TraceFull", false, false };
+    failreg node = FAILREG_CLOSED_NODE;
+    failreg_stamp stamp;
+    tried = "a full node";
+    CHECK(failreg_open(&node, 0, 2, 1, seed) == FAILREG_OK);
+    CHECK(failreg_set(&node, "a", 1, "off", 3, &stamp) == FAILREG_OK);
+    refused.left = 0;
+    refused.met = false;
+    reply got = asked(&node, &FULL);
+    refused.left = -1;
+    CHECK(!refused.met && is_as_wanted(&FULL, &got));
+    failreg_close(&node);
 }
 
 int main(void)
@@ -172,7 +193,8 @@ int main(void)
     }
     CHECK(growths > 0);
     take_a_message(&node);
-    failreg_end(&node);
+    failreg_close(&node);
+    refuse_at_a_full_node();
     printf("%ld growths of requests refused\n", growths);
     return 0;
 }

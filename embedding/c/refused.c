@@ -221,9 +221,7 @@ static void list(failreg *n, told *t)
 
 static void fault(failreg *n, told *t)
 {
-    t->status = failreg_fault(n);
-    if (t->status == FAILREG_OK)
-        fetch(n, t);
+    t->status = failreg_fault(n, t->bytes, sizeof t->bytes, &t->length);
 }
 
 static const struct {
@@ -272,7 +270,7 @@ static failreg prepared(void)
     CHECK(failreg_set(&node, TEXT("q"), TEXT("2*off->yield"), &t.stamp) == FAILREG_OK);
     CHECK(failreg_grant(&node, TEXT("q"), 0, 4, &t.number) == FAILREG_OK);
     CHECK(failreg_shift(&node, TEXT("q"), 0, 31, 2, &t.number) == FAILREG_OK);
-    CHECK(failreg_shift(&node, TEXT("q"), 0, 31, 9, &t.number) == FAILREG_TOO_FEW_RIGHTS);
+    CHECK(failreg_shift(&node, TEXT("q"), 0, 31, 9, &t.number) == FAILREG_E_TOO_FEW_RIGHTS);
     return node;
 }
 
@@ -287,7 +285,7 @@ static bool shows_same(failreg *one, failreg *other)
     list(other, &b);
     for (int n = 0; n < 2; n++) {
         CHECK(failreg_calls(both[n], &calls[n]) == FAILREG_OK);
-        CHECK(failreg_version(both[n], &version[n]) == FAILREG_OK);
+        CHECK(failreg_state_version(both[n], &version[n]) == FAILREG_OK);
         CHECK(failreg_known(both[n], 0, &known[n]) == FAILREG_OK);
     }
     return is_told_same(&a, &b) && calls[0] == calls[1] && version[0] == version[1]
@@ -320,7 +318,7 @@ static bool are_same(failreg *one, failreg *other)
 /* Makes a call at a node of which growths are refused, and again. Tells whether any was. */
 static bool is_refused(void (*call)(failreg *, told *), long first, long last)
 {
-    static const told nothing = { .status = FAILREG_NO_MEMORY };
+    static const told nothing = { .status = FAILREG_E_NO_MEMORY };
     told wanted = { 0 }, got = { 0 };
     failreg node = prepared(), before = prepared(), other = prepared();
     call(&other, &wanted);
@@ -328,7 +326,7 @@ static bool is_refused(void (*call)(failreg *, told *), long first, long last)
     call(&node, &got);
     bool any = refused.met > 0;
     refuse(0, 0);
-    if (got.status == FAILREG_NO_MEMORY) {
+    if (got.status == FAILREG_E_NO_MEMORY) {
         CHECK(is_told_same(&got, &nothing));
         CHECK(shows_same(&node, &before));
         call(&node, &got);
@@ -337,9 +335,9 @@ static bool is_refused(void (*call)(failreg *, told *), long first, long last)
     }
     CHECK(is_told_same(&got, &wanted));
     CHECK(are_same(&node, &other));
-    failreg_end(&node);
-    failreg_end(&before);
-    failreg_end(&other);
+    failreg_close(&node);
+    failreg_close(&before);
+    failreg_close(&other);
     return any;
 }
 
@@ -352,13 +350,13 @@ static bool open_is_refused(long first, long last)
     uint32_t status = failreg_open(&node, NUMBER, NODES, 100, SEED);
     bool any = refused.met > 0;
     refuse(0, 0);
-    CHECK(status == (any ? FAILREG_NO_MEMORY : FAILREG_OK));
+    CHECK(status == (any ? FAILREG_E_NO_MEMORY : FAILREG_OK));
     if (any) {
-        CHECK(failreg_calls(&node, &calls) == FAILREG_CLOSED);
+        CHECK(failreg_calls(&node, &calls) == FAILREG_E_CLOSED);
         CHECK(failreg_open(&node, NUMBER, NODES, 100, SEED) == FAILREG_OK);
     }
     CHECK(failreg_calls(&node, &calls) == FAILREG_OK && calls == 0);
-    failreg_end(&node);
+    failreg_close(&node);
     return any;
 }
 
@@ -369,7 +367,7 @@ int main(void)
     CHECK(failreg_pass(&sender, TEXT("z"), &message.act) == FAILREG_OK);
     CHECK(failreg_emit(&sender, NUMBER) == FAILREG_OK);
     fetch(&sender, &message);
-    failreg_end(&sender);
+    failreg_close(&sender);
     long growths = 0;
     tried = "open";
     for (long first = 1; open_is_refused(first, first) && open_is_refused(first, LONG_MAX); first++)

@@ -183,7 +183,7 @@ int main(int count, char **words)
             pthread_join(all[t], NULL);
         double made = (double)(passes_of_each * threads);
         printf("%.1f %.1f\n", (nanoseconds() - begun) / made, (bytes_resident() - resident) / made);
-        failreg_end(&node);
+        failreg_close(&node);
         return 0;
     }
     stop("no such kind");

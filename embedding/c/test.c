@@ -49,7 +49,7 @@ static failreg_act pass(failreg *node)
 }
 
 /* What is to be fetched, with a closing zero. The caller frees it. */
-static char *fetched(failreg *node, size_t *length)
+static char *fetched(const failreg *node, size_t *length)
 {
     *length = failreg_fetch(node, "", 0);
     char *bytes = malloc(*length + 1);
@@ -58,13 +58,23 @@ static char *fetched(failreg *node, size_t *length)
     return bytes;
 }
 
-static bool said(failreg *node, const char *wanted)
+static bool said(const failreg *node, const char *wanted)
 {
     size_t length;
     char *bytes = fetched(node, &length);
     bool is_same = strcmp(bytes, wanted) == 0;
     free(bytes);
     return is_same;
+}
+
+/* Whether the last refusal has this text. */
+static bool faulted(const failreg *node, const char *wanted)
+{
+    char text[256];
+    size_t length, wanted_length = strlen(wanted);
+    CHECK(failreg_fault(node, text, sizeof text, &length) == FAILREG_OK);
+    CHECK(length <= sizeof text);
+    return length == wanted_length && memcmp(text, wanted, length) == 0;
 }
 
 static bool tell(failreg *from, uint8_t number, failreg *to)
@@ -96,7 +106,7 @@ static void *pass_often(void *given)
         take(&at->mutex);
         failreg_act act = pass(&at->node);
         pthread_mutex_unlock(&at->mutex);
-        ran += act.outcome == FAILREG_ACT && act.task == FAILREG_RETURN;
+        ran += act.outcome == FAILREG_OUTCOME_ACT && act.task == FAILREG_TASK_RETURN;
     }
     return (void *)ran;
 }
@@ -137,7 +147,7 @@ static void a_count_is_shared_over_threads(void)
     CHECK(failreg_rights(first, TEXT("p"), 0, 0, &left) == FAILREG_OK && left == 5);
     CHECK(failreg_rights(first, TEXT("p"), 0, 1, &left) == FAILREG_OK && left == 0);
     for (int n = 0; n < NODES; n++) {
-        failreg_end(&nodes[n].node);
+        failreg_close(&nodes[n].node);
         pthread_mutex_destroy(&nodes[n].mutex);
     }
 }
@@ -166,19 +176,19 @@ static bool carry_out(failreg *node, failreg_act act)
     bool is_over = true;
     failreg_stamp stamp = { act.clock, act.node };
     switch (act.task) {
-    case FAILREG_RETURN:
+    case FAILREG_TASK_RETURN:
         return true;
-    case FAILREG_SLEEP:
+    case FAILREG_TASK_SLEEP:
         nanosleep(&time, NULL);
         break;
-    case FAILREG_DELAY:
+    case FAILREG_TASK_DELAY:
         while (seconds() < end)
             ;
         break;
-    case FAILREG_YIELD:
+    case FAILREG_TASK_YIELD:
         sched_yield();
         break;
-    case FAILREG_PAUSE:
+    case FAILREG_TASK_PAUSE:
         CHECK(failreg_pause_over(node, TEXT("p"), &stamp, &is_over) == FAILREG_OK && !is_over);
         set(node, "off");
         CHECK(failreg_pause_over(node, TEXT("p"), &stamp, &is_over) == FAILREG_OK && is_over);
@@ -196,33 +206,33 @@ static void tasks_are_told_and_carried_out(void)
         uint64_t millis;
         const char *text; /* NULL: none is given */
     } rows[] = {
-        { "off", FAILREG_OFF, 0, NULL },
-        { "return", FAILREG_RETURN, 0, NULL },
-        { "return()", FAILREG_RETURN, 0, "" },
-        { "return(no luck)", FAILREG_RETURN, 0, "no luck" },
-        { "sleep(20)", FAILREG_SLEEP, 20, NULL },
-        { "panic(boom)", FAILREG_PANIC, 0, "boom" },
-        { "print(\xc3\xa9)", FAILREG_PRINT, 0, "\xc3\xa9" },
-        { "pause", FAILREG_PAUSE, 0, NULL },
-        { "yield", FAILREG_YIELD, 0, NULL },
-        { "delay(20)", FAILREG_DELAY, 20, NULL },
+        { "off", FAILREG_TASK_OFF, 0, NULL },
+        { "return", FAILREG_TASK_RETURN, 0, NULL },
+        { "return()", FAILREG_TASK_RETURN, 0, "" },
+        { "return(no luck)", FAILREG_TASK_RETURN, 0, "no luck" },
+        { "sleep(20)", FAILREG_TASK_SLEEP, 20, NULL },
+        { "panic(boom)", FAILREG_TASK_PANIC, 0, "boom" },
+        { "print(\xc3\xa9)", FAILREG_TASK_PRINT, 0, "\xc3\xa9" },
+        { "pause", FAILREG_TASK_PAUSE, 0, NULL },
+        { "yield", FAILREG_TASK_YIELD, 0, NULL },
+        { "delay(20)", FAILREG_TASK_DELAY, 20, NULL },
     };
     failreg node = opened(0);
-    CHECK(pass(&node).outcome == FAILREG_UNSET);
+    CHECK(pass(&node).outcome == FAILREG_OUTCOME_UNSET);
     for (size_t i = 0; i < sizeof rows / sizeof rows[0]; i++) {
         set(&node, rows[i].actions);
         failreg_act act = pass(&node);
         const char *text = rows[i].text ? rows[i].text : "";
-        CHECK(act.outcome == FAILREG_ACT && act.term == 0 && act.task == rows[i].task);
+        CHECK(act.outcome == FAILREG_OUTCOME_ACT && act.term == 0 && act.task == rows[i].task);
         CHECK(act.millis == rows[i].millis && act.has_text == (rows[i].text != NULL));
         CHECK(act.text_len == strlen(text) && said(&node, text));
         double begun = seconds();
-        CHECK(carry_out(&node, act) == (act.task == FAILREG_RETURN));
+        CHECK(carry_out(&node, act) == (act.task == FAILREG_TASK_RETURN));
         CHECK(seconds() - begun >= (double)act.millis / 1000);
     }
     set(&node, "1*off");
-    CHECK(pass(&node).outcome == FAILREG_ACT && pass(&node).outcome == FAILREG_NONE);
-    failreg_end(&node);
+    CHECK(pass(&node).outcome == FAILREG_OUTCOME_ACT && pass(&node).outcome == FAILREG_OUTCOME_NONE);
+    failreg_close(&node);
 }
 
 /* Words: those that a pass drew give the same when they are given, and no others are drawn. */
@@ -239,10 +249,10 @@ static void words_are_drawn(void)
         CHECK(failreg_pass_with(&other, TEXT("p"), words, 2, &again) == FAILREG_OK);
         CHECK(again.term == act.term);
     }
-    CHECK(failreg_pass_with(&other, TEXT("p"), words, 1, &again) == FAILREG_BAD_WORDS);
-    CHECK(failreg_fault(&other) == FAILREG_OK && said(&other, "N14 BadWords need=2"));
-    failreg_end(&node);
-    failreg_end(&other);
+    CHECK(failreg_pass_with(&other, TEXT("p"), words, 1, &again) == FAILREG_E_BAD_WORDS);
+    CHECK(faulted(&other, "N14 BadWords need=2"));
+    failreg_close(&node);
+    failreg_close(&other);
 }
 
 /* Numbers of points: a name has one and keeps it, and a pass by it is one by the name, with its text, which
@@ -255,14 +265,14 @@ static void points_have_numbers(void)
     uint64_t calls;
     uint32_t p = 9, q = 9, word, same;
     CHECK(failreg_point(&node, TEXT("p"), &p) == FAILREG_OK && p == 0);
-    CHECK(failreg_pass_at(&node, p, &act) == FAILREG_OK && act.outcome == FAILREG_UNSET);
+    CHECK(failreg_pass_at(&node, p, &act) == FAILREG_OK && act.outcome == FAILREG_OUTCOME_UNSET);
     CHECK(failreg_point(&node, TEXT("q"), &q) == FAILREG_OK && q == 1);
     CHECK(failreg_point(&node, TEXT("p"), &p) == FAILREG_OK && p == 0);
-    CHECK(failreg_point(&node, TEXT("a b"), &p) == FAILREG_BAD_NAME && p == 0);
-    CHECK(failreg_point(&node, "\xff", 1, &p) == FAILREG_NOT_UTF8);
-    CHECK(failreg_pass_at(&node, 2, &act) == FAILREG_NO_POINT && act.outcome == FAILREG_UNSET);
-    CHECK(failreg_pass_at(&node, UINT32_MAX, &act) == FAILREG_NO_POINT);
-    CHECK(failreg_fault(&node) == FAILREG_OK && said(&node, ""));
+    CHECK(failreg_point(&node, TEXT("a b"), &p) == FAILREG_E_BAD_NAME && p == 0);
+    CHECK(failreg_point(&node, "\xff", 1, &p) == FAILREG_E_NOT_UTF8);
+    CHECK(failreg_pass_at(&node, 2, &act) == FAILREG_E_NO_POINT && act.outcome == FAILREG_OUTCOME_UNSET);
+    CHECK(failreg_pass_at(&node, UINT32_MAX, &act) == FAILREG_E_NO_POINT);
+    CHECK(faulted(&node, ""));
     CHECK(failreg_calls(&node, &calls) == FAILREG_OK && calls == 1);
     pass(&other);
     for (int i = 0; i < 2; i++)
@@ -281,12 +291,12 @@ static void points_have_numbers(void)
     set(&node, "print(second)");
     CHECK(said(&node, "first"));
     CHECK(failreg_remove(&node, TEXT("p"), &stamp) == FAILREG_OK && said(&node, "first"));
-    CHECK(failreg_pass_at(&node, p, &act) == FAILREG_OK && act.outcome == FAILREG_UNSET);
+    CHECK(failreg_pass_at(&node, p, &act) == FAILREG_OK && act.outcome == FAILREG_OUTCOME_UNSET);
     CHECK(said(&node, ""));
-    failreg_end(&node);
-    failreg_end(&other);
-    CHECK(failreg_point(&node, TEXT("p"), &p) == FAILREG_CLOSED && p == 0);
-    CHECK(failreg_pass_at(&node, 0, &act) == FAILREG_CLOSED);
+    failreg_close(&node);
+    failreg_close(&other);
+    CHECK(failreg_point(&node, TEXT("p"), &p) == FAILREG_E_CLOSED && p == 0);
+    CHECK(failreg_pass_at(&node, 0, &act) == FAILREG_E_CLOSED);
 }
 
 /* A look at a point, its settings, and the versions. Only accepted calls that change it count. */
@@ -304,12 +314,12 @@ static void readers_take_no_entry(void)
     CHECK(failreg_is_set(&node, TEXT("p"), &is_set) == FAILREG_OK && !is_set);
     CHECK(failreg_list(&node) == FAILREG_OK && said(&node, "q=2*panic->off"));
     CHECK(failreg_calls(&node, &calls) == FAILREG_OK && calls == 2);
-    CHECK(failreg_version(&node, &version) == FAILREG_OK && version == 2);
+    CHECK(failreg_state_version(&node, &version) == FAILREG_OK && version == 2);
     CHECK(tell(&node, 1, &other) && !tell(&other, 0, &node));
     CHECK(failreg_known(&other, 0, &known) == FAILREG_OK && known == version);
     CHECK(failreg_acked(&node, 1, &acked) == FAILREG_OK && acked == version);
-    failreg_end(&node);
-    failreg_end(&other);
+    failreg_close(&node);
+    failreg_close(&other);
 }
 
 /* What is refused leaves the node, and says why. */
@@ -320,29 +330,68 @@ static void refusals_are_told(void)
     failreg_act act;
     uint64_t calls;
     bool is_set;
-    CHECK(failreg_pass(&node, TEXT("p"), &act) == FAILREG_CLOSED);
+    CHECK(failreg_pass(&node, TEXT("p"), &act) == FAILREG_E_CLOSED);
     CHECK(failreg_fetch(&node, "", 0) == 0);
-    CHECK(failreg_is_set(&node, TEXT("p"), &is_set) == FAILREG_CLOSED && !is_set);
-    CHECK(failreg_open(&node, 2, NODES, 9, SEED) == FAILREG_BAD_CONFIG && !node.is_open);
+    CHECK(failreg_is_set(&node, TEXT("p"), &is_set) == FAILREG_E_CLOSED && !is_set);
+    CHECK(failreg_open(&node, 2, NODES, 9, SEED) == FAILREG_E_BAD_CONFIG && !node.is_open);
     CHECK(failreg_open(&node, 0, NODES, 2, SEED) == FAILREG_OK);
-    CHECK(failreg_open(&node, 0, NODES, 2, SEED) == FAILREG_ALREADY_OPEN);
-    CHECK(failreg_set(&node, "\xff", 1, TEXT("off"), &stamp) == FAILREG_NOT_UTF8);
-    CHECK(stamp.clock == 0 && failreg_fault(&node) == FAILREG_OK && said(&node, ""));
-    CHECK(failreg_set(&node, TEXT("p"), "\xff", 1, &stamp) == FAILREG_NOT_UTF8);
-    CHECK(failreg_set(&node, TEXT("a b"), TEXT("off"), &stamp) == FAILREG_BAD_NAME);
-    CHECK(failreg_set(&node, TEXT("p"), TEXT("offf"), &stamp) == FAILREG_BAD_ACTIONS);
-    CHECK(failreg_is_set(&node, TEXT("\xc0"), &is_set) == FAILREG_NOT_UTF8);
-    CHECK(failreg_is_set(&node, TEXT(""), &is_set) == FAILREG_BAD_NAME);
+    CHECK(failreg_open(&node, 0, NODES, 2, SEED) == FAILREG_E_ALREADY_OPEN);
+    CHECK(failreg_set(&node, "\xff", 1, TEXT("off"), &stamp) == FAILREG_E_NOT_UTF8);
+    CHECK(stamp.clock == 0 && faulted(&node, ""));
+    CHECK(failreg_set(&node, TEXT("p"), "\xff", 1, &stamp) == FAILREG_E_NOT_UTF8);
+    CHECK(failreg_set(&node, TEXT("a b"), TEXT("off"), &stamp) == FAILREG_E_BAD_NAME);
+    CHECK(failreg_set(&node, TEXT("p"), TEXT("offf"), &stamp) == FAILREG_E_BAD_ACTIONS);
+    CHECK(failreg_is_set(&node, TEXT("\xc0"), &is_set) == FAILREG_E_NOT_UTF8);
+    CHECK(failreg_is_set(&node, TEXT(""), &is_set) == FAILREG_E_BAD_NAME);
     CHECK(failreg_calls(&node, &calls) == FAILREG_OK && calls == 0);
     set(&node, "off");
     pass(&node);
-    CHECK(failreg_pass(&node, TEXT("p"), &act) == FAILREG_TRACE_FULL);
-    CHECK(act.outcome == FAILREG_UNSET);
-    CHECK(failreg_fault(&node) == FAILREG_OK && said(&node, "N1 TraceFull"));
-    CHECK(failreg_pass(&node, "\xff", 1, &act) == FAILREG_NOT_UTF8);
-    failreg_end(&node);
-    failreg_end(&node);
-    CHECK(failreg_list(&node) == FAILREG_CLOSED);
+    CHECK(failreg_pass(&node, TEXT("p"), &act) == FAILREG_E_TRACE_FULL);
+    CHECK(act.outcome == FAILREG_OUTCOME_UNSET);
+    CHECK(faulted(&node, "N1 TraceFull"));
+    CHECK(failreg_pass(&node, "\xff", 1, &act) == FAILREG_E_NOT_UTF8);
+    failreg_close(&node);
+    failreg_close(&node);
+    CHECK(failreg_list(&node) == FAILREG_E_CLOSED);
+}
+
+/* The text of a fault has a call of its own: what is to be fetched stays, and as much is written as there
+ * is room for. */
+static void faults_leave_what_is_to_be_fetched(void)
+{
+    failreg node = opened(0), other = opened(1);
+    char text[] = ".......................";
+    size_t length = 7, message_length;
+    uint64_t amount;
+    bool changed;
+    set(&node, "2*off");
+    CHECK(failreg_emit(&node, 1) == FAILREG_OK);
+    message_length = failreg_fetch(&node, "", 0);
+    CHECK(failreg_shift(&node, TEXT("p"), 0, 1, 9, &amount) == FAILREG_E_TOO_FEW_RIGHTS);
+    CHECK(failreg_fault(&node, text, 0, &length) == FAILREG_OK && length == 23 && text[0] == '.');
+    CHECK(failreg_fault(&node, text, 3, &length) == FAILREG_OK && length == 23);
+    CHECK(memcmp(text, "N11.....", 8) == 0 && faulted(&node, "N11 TooFewRights have=2"));
+    char *message = fetched(&node, &length);
+    CHECK(length == message_length);
+    CHECK(failreg_deliver(&other, (uint8_t *)message, length, &changed) == FAILREG_OK && changed);
+    free(message);
+    failreg_close(&node);
+    failreg_close(&other);
+    length = 7;
+    CHECK(failreg_fault(&node, text, 3, &length) == FAILREG_E_CLOSED && length == 0);
+}
+
+/* Words for each status, and the version of the library is that of its header. */
+static void words_and_versions(void)
+{
+    CHECK(strcmp(failreg_strerror(FAILREG_OK), "accepted") == 0);
+    CHECK(strcmp(failreg_strerror(FAILREG_E_NO_MEMORY), "out of memory") == 0);
+    CHECK(strcmp(failreg_strerror(13), "no status of this library") == 0);
+    CHECK(failreg_version() == FAILREG_VERSION);
+    char text[32];
+    snprintf(text, sizeof text, "%d.%d.%d", FAILREG_VERSION / 10000, FAILREG_VERSION / 100 % 100,
+             FAILREG_VERSION % 100);
+    CHECK(strcmp(text, FAILREG_VERSION_TEXT) == 0);
 }
 
 int main(void)
@@ -354,6 +403,8 @@ int main(void)
     points_have_numbers();
     readers_take_no_entry();
     refusals_are_told();
+    faults_leave_what_is_to_be_fetched();
+    words_and_versions();
     puts("the C test passed");
     return 0;
 }

@@ -1,3 +1,4 @@
 pub mod AsBox
+pub mod Crossing
 mod FaultNumbers
 mod NumberedPoints

@@ -1,11 +1,12 @@
 -- What C is told of a call, and what the call leaves of the registry. Where C's node is closed there is none.
-use Rattle.std.specs.Prelude.{◌≡◌, ◌≢◌, ◌⊎◌, ℕ, List, [], ◌∷◌, ◌++◌, length, take, drop, slice_get, MatchOption, Option, Some, None, true, false, IsTrue, IsUtf8}
+use Rattle.std.specs.Prelude.{◌≡◌, ◌≢◌, ◌⊎◌, ℕ, List, [], ◌∷◌, ◌++◌, length, take, drop, slice_get, option_map, MatchOption, Option, Some, None, true, false, IsTrue, IsUtf8}
 use Rattle.rand_chacha.specs.ChaCha.{key_of}
 use Rattle.actions.specs.Names.{is_name}
 use Rattle.node_core.specs.declared.config.Config.{Config}
 use Rattle.node_calls.specs.declared.fault.NodeFault.TheVariants.{BadConfig, BadName}
 use Rattle.node_calls.specs.Asks.{Asked, Answered}
 use Rattle.node_calls.specs.Asks as asks
+use Rattle.node_calls.specs.FaultText.{node_fault_text}
 use Rattle.node_calls.specs.Told.{Passed}
 use Rattle.node_core.specs.Deliveries.{TellsDelta}
 use Rattle.node_core.specs.Lasts.{passed_at}
@@ -15,7 +16,7 @@ use Rattle.node_core.specs.Refusals.{is_bad_config}
 use Rattle.node_core.specs.Traces.{Kept, Accepts, Emits, IsRefusalOf, after_call, call_kept, new_kept, refusal, reply_to, state_known}
 use Rattle.node_core.specs.Words.{place_after, words_next}
 use Rattle.failreg_c.specs.Numbers.{no_memory, no_point, not_text, number}
-use Rattle.failreg_c.specs.Told.{IsPassTold, passed_text}
+use Rattle.failreg_c.specs.Told.{IsPassTold, passed_text, text_or_none}
 use Rattle.failreg_c.specs.declared.act.Act.{Act}
 use Rattle.failreg_c.specs.declared.registry.Registry.{Registry}
 use Rattle.failreg_c.specs.declared.registry.Said.{Said}
@@ -34,24 +35,30 @@ Stays (Some k) None f = ⊥
 Stays None (Some l) f = ⊥
 Stays None None f = Unit {0}
 
--- what is to be fetched: these bytes, or the text of the task that the pass at this place came to
+-- what is to be fetched: these bytes, the text of the task that the pass at this place came to, or what stands in the
+-- room for replies
 abbrev pub text_of : Option Passed → List ℕ
 text_of None = []
 text_of (Some passed) = passed_text passed
 
-abbrev pub said_in : Kept → Said → List ℕ
-said_in core (saids.Bytes bytes) = bytes.items
-said_in core (saids.TextAt index) = text_of (passed_at (call_kept core index))
+abbrev pub said_in : Kept → List ℕ → Said → List ℕ
+said_in core room (saids.Bytes bytes) = bytes.items
+said_in core room (saids.TextAt index) = text_of (passed_at (call_kept core index))
+said_in core room saids.InRoom = room
 
 abbrev pub said_of : Registry → List ℕ
-said_of k = said_in k.core k.said
+said_of k = said_in k.core k.room k.said
+
+-- the text of the last refusal, which has a call of its own
+abbrev pub fault_said : Registry → List ℕ
+fault_said k = text_or_none (option_map node_fault_text k.fault)
 
 -- a registry that was just opened
 abbrev pub IsOpened : Config → List ℕ → Registry → Type 0
 IsOpened config seed k =
     (k.core ≡ new_kept config) ×
     (k.generator ≡ record { key = key_of seed; stream = config.node; word_pos = 0 }) ×
-    (said_of k ≡ []) × (k.words.items ≡ []) × (k.points ≡ []) × (k.fault ≡ None)
+    (k.room ≡ []) × (said_of k ≡ []) × (k.words.items ≡ []) × (k.points ≡ []) × (k.fault ≡ None)
 
 -- why a closed node isn't opened
 abbrev pub IsNotOpened : Config → ℕ → Type 0
@@ -91,7 +98,8 @@ words_drawn k name = words_next k.generator (words_needed k name)
 abbrev pub IsPassedDrawing : List ℕ → Act → Registry → Registry → Type 0
 IsPassedDrawing name act k l =
     IsPassedWith name (words_drawn k name) act k l × (l.words.items ≡ words_drawn k name) ×
-    (l.generator ≡ place_after k.generator (words_needed k name)) × (l.points ≡ k.points) × (l.fault ≡ k.fault)
+    (l.generator ≡ place_after k.generator (words_needed k name)) × (l.points ≡ k.points) × (l.fault ≡ k.fault) ×
+    (l.routes ≡ k.routes) × (l.room ≡ k.room)
 
 -- a text is to be fetched, and nothing else changed
 abbrev pub IsSaid : List ℕ → Registry → Registry → Type 0

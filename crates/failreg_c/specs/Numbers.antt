@@ -55,6 +55,10 @@ already_open = 32
 abbrev pub no_point : ℕ
 no_point = 33
 
+-- version 0.1.0: its numbers times 10000, 100 and 1
+abbrev pub library_version : ℕ
+library_version = 0 * 10000 + 1 * 100 + 0
+
 -- a stamp as C has it, and what C is told where there is none
 abbrev pub stamp_in : Stamped → Stamp
 stamp_in s = record { clock = s.clock; node = s.node }

@@ -3,7 +3,7 @@
 ghost use Rattle.std.specs.Prelude.{◌≡◌, ◌≢◌, MatchOption};
 ghost use Rattle.failreg_c.specs.Numbers.{closed};
 ghost use Rattle.failreg_c.specs.Calls.{Both};
-ghost use Rattle.failreg_c.specs.Answered.{IsAnswered, IsNoRequest};
+ghost use Rattle.failreg_c.specs.Answered.{IsAnswered, IsNoRequest, MayLackMemory};
 
 use crate::calls::CLOSED;
 use crate::handle::Node;
@@ -22,6 +22,9 @@ pub extern "C" fn failreg_answer(
 ) -> u32
     ensures ok { result ≡ 0 → Both node.old.handle.kept node.new.handle.kept
         (IsAnswered method.now path.now body.now status.new) }
+    // That memory was refused is told only where memory was needed.
+    ensures memory { result ≡ 0 → Both node.old.handle.kept node.new.handle.kept
+        (MayLackMemory method.now path.now body.now status.new) }
     ensures refused { result ≢ 0 → MatchOption node.old.handle.kept (result ≡ closed)
         (λ _. IsNoRequest method.now path.now result) }
     ensures same { result ≢ 0 → node.new.handle.kept ≡ node.old.handle.kept }

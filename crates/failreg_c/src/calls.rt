@@ -1,6 +1,6 @@
 //! The calls that change a node.
 
-ghost use Rattle.std.specs.Prelude.{◌≡◌, ◌≢◌, [], false, IsSome, IsUtf8, MatchOption};
+ghost use Rattle.std.specs.Prelude.{◌≡◌, ◌≢◌, [], false, IfOk, IsSome, IsUtf8, MatchOption, None};
 ghost use Rattle.node_calls.specs.Asks as asks;
 ghost use Rattle.node_calls.specs.Asks.{bare_emit};
 ghost use Rattle.node_core.specs.Memory.{DeliveryNeedsMemory, EmitNeedsMemory, LoadNeedsMemory};
@@ -11,14 +11,14 @@ ghost use Rattle.failreg_c.specs.Told.{no_act};
 ghost use Rattle.failreg_c.specs.Calls.{AtPoint, Both, HasNumber, IsEmitted, IsLeft, IsLeftAt, IsMade};
 ghost use Rattle.failreg_c.specs.Calls.{IsNoName, IsNotOpened, IsOpened, IsRefusedAt};
 ghost use Rattle.failreg_c.specs.Calls.{IsPassedDrawing, IsPassedGiven, IsRefused, IsRefusedOf};
-ghost use Rattle.failreg_c.specs.Calls.{Stays, words_drawn};
+ghost use Rattle.failreg_c.specs.Calls.{Stays, said_of, words_drawn};
 
 use crate::act::{Act, UNSET};
 use crate::handle::Node;
 use crate::numbers::{NO_STAMP, Stamped};
 use crate::registry::{Registry, number_of};
 use node_core::{Config, Generator, NodeCore, NodeFault};
-use std::alloc::Global;
+use std::alloc::{AllocError, Global};
 
 /// What a call of a node that is closed is answered.
 pub(crate) const CLOSED: u32 = 31;
@@ -58,7 +58,7 @@ pub extern "C" fn failreg_open(
         Err(fault) => return number_of(fault),
     };
     let generator = Generator::new(*seed, u64::from(number));
-    match Box::new(alloc, Registry::new(alloc, core, generator)) {
+    match boxed(alloc, core, generator) {
         Ok(registry) => {
             *node = Node::of(registry);
             0
@@ -67,10 +67,25 @@ pub extern "C" fn failreg_open(
     }
 }
 
-/// Closes a node, if it is open. C forgets what it gave.
+// The registry of a node that has accepted no call.
+fn boxed(alloc: Global, core: NodeCore, generator: Generator) -> Result<Box<Registry>, AllocError>
+    ensures core { IfOk result (λ b. b.value.core ≡ core) }
+    ensures generator { IfOk result (λ b. b.value.generator ≡ generator) }
+    ensures room { IfOk result (λ b. b.value.room ≡ []) }
+    ensures said { IfOk result (λ b. said_of b.value ≡ []) }
+    ensures words { IfOk result (λ b. b.value.words.items ≡ []) }
+    ensures points { IfOk result (λ b. b.value.points ≡ []) }
+    ensures fault { IfOk result (λ b. b.value.fault ≡ None) }
+{
+    Ok(Box::new(alloc, Registry::new(alloc, core, generator)?)?)
+}
+
+/// Closes a node, if it is open: what it held is given back, and it is left closed.
 #[unsafe(no_mangle)]
-pub extern "C" fn failreg_close(node: Node) {
-    drop(node.into_box());
+pub extern "C" fn failreg_close(alloc: Global, node: &mut Node)
+    ensures { node.new.handle.kept ≡ None }
+{
+    drop(node.take(alloc));
 }
 
 /// Sets a point to an action text, and tells the stamp of the setting.

@@ -90,8 +90,8 @@ impl Node {
         replace(self, closed).into_box()
     }
 
-    /// The registry, if the node is open.
-    pub(crate) fn into_box(self) -> Option<Box<Registry>>
+    // The registry, if the node is open.
+    fn into_box(self) -> Option<Box<Registry>>
         ensures { option_map (λ b. b.value) result ≡ self.handle.kept }
     {
         let Node { is_open, handle } = self;

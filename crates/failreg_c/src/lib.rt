@@ -13,6 +13,7 @@ mod pauses;
 mod points;
 mod readers;
 mod registry;
+mod version;
 
 pub use act::Act;
 pub use handle::{Handle, Node, Opaque};

@@ -1,21 +1,19 @@
 //! The calls that read a node and leave it as it is.
 
-ghost use Rattle.std.specs.Prelude.{◌≡◌, ◌≢◌, ◌↔◌, pos, false, length, option_map, IsSome, IsTrue, MatchOption};
+ghost use Rattle.std.specs.Prelude.{◌≡◌, ◌≢◌, ◌↔◌, pos, false, length, IsSome, IsTrue, MatchOption};
 ghost use Rattle.node_core.specs.Nodes.{setting_of};
-ghost use Rattle.node_calls.specs.FaultText.{node_fault_text};
 ghost use Rattle.node_core.specs.Texts.{list_text};
 ghost use Rattle.node_core.specs.Traces.{node_of, state_known};
 ghost use Rattle.replica_state.specs.States.{rights_of, spent_of, total_hits};
 ghost use Rattle.failreg_c.specs.Numbers.{IsNearest, closed, no_memory, whole};
-ghost use Rattle.failreg_c.specs.Told.{text_or_none};
-ghost use Rattle.failreg_c.specs.Calls.{Both, FillsFront, IsNoName, IsSaid, said_of};
+ghost use Rattle.failreg_c.specs.Calls.{Both, FillsFront, IsNoName, IsSaid, fault_said, said_of};
 
 use crate::calls::CLOSED;
 use crate::handle::Node;
 use crate::numbers::{Wide, narrow};
-use crate::registry::{Registry, read_name};
+use crate::registry::{Registry, number_of, read_name};
 use actions::Name;
-use node_core::NodeCore;
+use node_core::{NodeCore, NodeFault};
 use replica_state::Replica;
 use std::alloc::Global;
 
@@ -120,7 +118,7 @@ pub extern "C" fn failreg_rights(
 
 /// Tells how many accepted calls changed what the node knows.
 #[unsafe(no_mangle)]
-pub extern "C" fn failreg_version(alloc: Global, node: &mut Node, version: &mut u64) -> u32
+pub extern "C" fn failreg_state_version(alloc: Global, node: &mut Node, version: &mut u64) -> u32
     ensures value { result ≡ 0 → MatchOption node.old.handle.kept ⊥ (λ k.
         version.new ≡ (node_of k.core).marks.version) }
     ensures refused { result ≢ 0
@@ -211,22 +209,35 @@ pub extern "C" fn failreg_list(alloc: Global, node: &mut Node) -> u32
     status
 }
 
-/// Writes the text of the last refusal, which is then to be fetched: nothing where that was a text
-/// that isn't UTF-8.
+/// Copies the text of the last refusal, as much as there is room for, and tells its whole length:
+/// nothing where that was a text that isn't UTF-8. What is to be fetched stays.
 #[unsafe(no_mangle)]
-pub extern "C" fn failreg_fault(alloc: Global, node: &mut Node) -> u32
-    ensures text { result ≡ 0 → Both node.old.handle.kept node.new.handle.kept (λ k l.
-        IsSaid (text_or_none (option_map node_fault_text k.fault)) k l) }
+pub extern "C" fn failreg_fault(
+    alloc: Global,
+    node: &mut Node,
+    into: &mut [u8],
+    told: &mut usize,
+) -> u32
+    ensures text { result ≡ 0 → MatchOption node.old.handle.kept ⊥ (λ k.
+        (told.new ≡ length (fault_said k)) × FillsFront (fault_said k) into.old into.new) }
     ensures refused { result ≢ 0
         → MatchOption node.old.handle.kept (result ≡ closed) (λ _. result ≡ no_memory) }
-    ensures same { result ≢ 0 → node.new.handle.kept ≡ node.old.handle.kept }
+    ensures none { result ≢ 0 → (told.new ≡ 0) × (into.new ≡ into.old) }
+    ensures same { node.new.handle.kept ≡ node.old.handle.kept }
 {
-    let Some(mut registry) = node.take(alloc) else {
+    *told = 0;
+    let Some(registry) = node.take(alloc) else {
         return CLOSED;
     };
-    let status = registry.fault_text(alloc);
+    let text = registry.fault_text(alloc, into);
     *node = Node::of(registry);
-    status
+    match text {
+        Ok(length) => {
+            *told = length;
+            0
+        }
+        Err(_) => number_of(NodeFault::OutOfMemory),
+    }
 }
 
 /// Copies what is to be fetched, as much as there is room for, and answers its whole length.

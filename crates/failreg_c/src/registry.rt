@@ -1,6 +1,6 @@
 //! A node with its generator, and what C is told of its last call.
 
-ghost use Rattle.std.specs.Prelude.{◌≡◌, ◌≢◌, [], Some, None, false, length, option_map, slice_get, IfOk, IfErr};
+ghost use Rattle.std.specs.Prelude.{◌≡◌, ◌≢◌, [], Some, None, false, length, slice_get, IfOk, IfErr, OnErr};
 ghost use Rattle.std.specs.Prelude.{IsUtf8, MatchOption, OnOk, true};
 ghost use Rattle.actions.specs.Names.{is_name};
 ghost use Rattle.node_calls.specs.Asks as asks;
@@ -8,44 +8,48 @@ ghost use Rattle.node_calls.specs.Asks.{bare_emit};
 ghost use Rattle.node_core.specs.Lasts.{passed_at};
 ghost use Rattle.node_core.specs.Memory.{DeliveryNeedsMemory, EmitNeedsMemory, LoadNeedsMemory};
 ghost use Rattle.node_core.specs.Memory.{NameNeedsMemory, SetNeedsMemory};
-ghost use Rattle.node_calls.specs.FaultText.{node_fault_text};
 ghost use Rattle.node_core.specs.Texts.{list_text};
 ghost use Rattle.node_core.specs.Traces.{call_kept, delivery_of, state_known};
 ghost use Rattle.failreg_c.specs.Numbers.{IsNumbered, no_memory, not_text, number};
-ghost use Rattle.failreg_c.specs.Told.{IsTold, no_act, text_or_none};
+ghost use Rattle.failreg_c.specs.Told.{IsTold, no_act};
 ghost use Rattle.failreg_c.specs.Calls.{FillsFront, IsEmitted, IsLeft, IsMade, IsNoName};
 ghost use Rattle.failreg_c.specs.Calls.{IsPassedDrawing, IsPassedGiven, IsRefused, IsRefusedOf};
 ghost use Rattle.failreg_c.specs.Calls.{AtPoint, HasNumber, IsLeftAt, IsRefusedAt, IsSaid};
-ghost use Rattle.failreg_c.specs.Calls.{said_of, words_drawn};
-ghost use Rattle.failreg_c.specs.Answered.{IsAnswered, IsNoRequest};
+ghost use Rattle.failreg_c.specs.Calls.{fault_said, said_of, words_drawn};
+ghost use Rattle.failreg_c.specs.Answered.{IsAnswered, IsNoRequest, MayLackMemory};
 
 use crate::act::{Act, UNSET, act_of, into_text, text_of};
 use crate::numbers::NO_STAMP;
 use crate::points::Points;
 use actions::{Name, NameFault};
 use http_paths::Routes;
+use http_routes::{KeptRoom, RoomReply, answer_in};
 use node_core::{Generator, NodeCore, NodeFault};
 use stamp_register::Stamp;
 use std::alloc::{AllocError, Global};
 
-/// A node with the generator of its random draws, what of the last answer is to be fetched, the random
-/// draws that the last pass drew, the points that have numbers, and the last refusal.
+/// A node with the generator of its random draws, the routes of requests and the room for replies to
+/// them, what of the last answer is to be fetched, the random draws that the last pass drew, the
+/// points that have numbers, and the last refusal.
 #[derive(Drop)]
 pub struct Registry {
     pub core: NodeCore,
     pub generator: Generator,
+    pub routes: Routes,
+    pub room: KeptRoom,
     pub said: Said,
     pub words: Vec<u32>,
     pub points: Points,
     pub fault: Option<NodeFault>,
 }
 
-/// What is to be fetched: these bytes, or the text of the task that the pass at this place of the
-/// trace came to.
+/// What is to be fetched: these bytes, the text of the task that the pass at this place of the trace
+/// came to, or the body that stands in the room for replies.
 #[derive(Drop)]
 pub enum Said {
     Bytes(Vec<u8>),
     TextAt(u64),
+    InRoom,
 }
 
 /// What a text that is not UTF-8 is answered.
@@ -112,24 +116,43 @@ fn told_at(core: &NodeCore, index: u64) -> Act
     }
 }
 
+// Copies as much as there is room for, and answers the length of all.
+fn fill_front(said: &[u8], into: &mut [u8]) -> usize
+    ensures length { result ≡ length said.now }
+    ensures bytes { FillsFront said.now into.old into.new }
+{
+    let length = said.len();
+    let shown = length.min(into.len());
+    let (front, _) = into.split_at_mut(shown);
+    front.copy_from_slice(&said[..shown]);
+    length
+}
+
 impl Registry {
-    /// A node that has accepted no call.
-    pub(crate) fn new(alloc: Global, core: NodeCore, generator: Generator) -> Registry
-        ensures core { result.core ≡ core }
-        ensures generator { result.generator ≡ generator }
-        ensures said { said_of result ≡ [] }
-        ensures words { result.words.items ≡ [] }
-        ensures points { result.points ≡ [] }
-        ensures fault { result.fault ≡ None }
+    /// A node that has accepted no call. The only error is out of memory.
+    pub(crate) fn new(
+        alloc: Global,
+        core: NodeCore,
+        generator: Generator,
+    ) -> Result<Registry, AllocError>
+        ensures core { IfOk result (λ k. k.core ≡ core) }
+        ensures generator { IfOk result (λ k. k.generator ≡ generator) }
+        ensures room { IfOk result (λ k. k.room ≡ []) }
+        ensures said { IfOk result (λ k. said_of k ≡ []) }
+        ensures words { IfOk result (λ k. k.words.items ≡ []) }
+        ensures points { IfOk result (λ k. k.points ≡ []) }
+        ensures fault { IfOk result (λ k. k.fault ≡ None) }
     {
-        Registry {
+        Ok(Registry {
             core,
             generator,
+            routes: Routes::new(alloc)?,
+            room: KeptRoom::new(alloc)?,
             said: Said::Bytes(Vec::new(alloc)),
             words: Vec::new(alloc),
             points: Points::new(alloc),
             fault: None,
-        }
+        })
     }
 
     // Keeps a refusal, and answers its number.
@@ -383,6 +406,8 @@ impl Registry {
     ) -> (u32, u16)
         ensures ok { result.0 ≡ 0
             → IsAnswered method.now path.now body.now result.1 self.old self.new }
+        ensures memory { result.0 ≡ 0
+            → MayLackMemory method.now path.now body.now result.1 self.old self.new }
         ensures refused { result.0 ≢ 0 → IsNoRequest method.now path.now result.0 }
         ensures same { result.0 ≢ 0 → self.new ≡ self.old }
         ensures none { result.0 ≢ 0 → result.1 ≡ 0 }
@@ -393,13 +418,17 @@ impl Registry {
         let Ok(path) = str::from_utf8(path) else {
             return (NOT_TEXT, 0);
         };
-        let Ok(routes) = Routes::new(alloc) else {
-            self.said = Said::Bytes(Vec::new(alloc));
-            return (0, 503);
-        };
-        let reply = http_routes::answer(&mut self.core, alloc, &routes, method, path, body);
-        self.said = Said::Bytes(reply.body);
-        (0, reply.status)
+        let (core, room) = (&mut self.core, &mut self.room);
+        match answer_in(core, alloc, &self.routes, room, method, path, body) {
+            RoomReply::Kept(status) => {
+                self.said = Said::InRoom;
+                (0, status)
+            }
+            RoomReply::Apart(reply) => {
+                self.said = Said::Bytes(reply.body);
+                (0, reply.status)
+            }
+        }
     }
 
     /// Lists the points that are set, to be fetched.
@@ -418,25 +447,19 @@ impl Registry {
         }
     }
 
-    /// Writes the text of the last refusal, to be fetched: nothing where that was a text that isn't
-    /// UTF-8, or where there was none.
-    pub(crate) fn fault_text(&mut self, alloc: Global) -> u32
-        ensures text { result ≡ 0 → IsSaid
-            (text_or_none (option_map node_fault_text self.old.fault)) self.old self.new }
-        ensures only { result ≢ 0 → result ≡ no_memory }
-        ensures same { result ≢ 0 → self.new ≡ self.old }
+    /// Copies the text of the last refusal, as much of it as there is room for, and answers its
+    /// length: nothing where that was a text that isn't UTF-8, or where there was none. The only
+    /// error is out of memory.
+    pub(crate) fn fault_text(&self, alloc: Global, into: &mut [u8]) -> Result<usize, AllocError>
+        ensures length { IfOk result (λ n. n ≡ length (fault_said self.now)) }
+        ensures bytes { OnOk result (FillsFront (fault_said self.now) into.old into.new) }
+        ensures err { OnErr result (into.new ≡ into.old) }
     {
         let Some(fault) = self.fault else {
-            self.said = Said::Bytes(Vec::new(alloc));
-            return 0;
+            return Ok(0);
         };
-        match format!(in alloc; "{fault}") {
-            Ok(text) => {
-                self.said = Said::Bytes(text.into_bytes());
-                0
-            }
-            Err(_) => number_of(NodeFault::OutOfMemory),
-        }
+        let text = format!(in alloc; "{fault}")?;
+        Ok(fill_front(text.as_bytes(), into))
     }
 
     // What is to be fetched.
@@ -449,6 +472,7 @@ impl Registry {
                 Some(reply) => text_of(reply).as_bytes(),
                 None => &[],
             },
+            Said::InRoom => self.room.body(),
         }
     }
 
@@ -457,12 +481,7 @@ impl Registry {
         ensures length { result ≡ length (said_of self.now) }
         ensures bytes { FillsFront (said_of self.now) into.old into.new }
     {
-        let said = self.said();
-        let length = said.len();
-        let shown = length.min(into.len());
-        let (front, _) = into.split_at_mut(shown);
-        front.copy_from_slice(&said[..shown]);
-        length
+        fill_front(self.said(), into)
     }
 
     /// Copies the random draws that the last pass drew, as many as there is room for, and answers

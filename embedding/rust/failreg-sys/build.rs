@@ -1,7 +1,7 @@
-//! Links the two archives that `embedding/build` leaves in `embedding/lib`, or in the folder that
-//! FAILREG_LIB names: the proved library, and the memory functions that it calls.
+//! Links the archive that `embedding/build` leaves in `embedding/lib`, or in the folder that
+//! FAILREG_LIB names: the proved library, with the memory functions that it calls.
 //!
-//! Where they aren't there it says so and goes on: what links nothing (`cargo check`, `cargo doc`)
+//! Where it isn't there it says so and goes on: what links nothing (`cargo check`, `cargo doc`)
 //! needs none, and the linker stops at what does.
 
 use std::env;
@@ -17,17 +17,15 @@ fn folder() -> PathBuf {
 fn main() {
     println!("cargo::rerun-if-env-changed=FAILREG_LIB");
     let folder = folder();
-    for name in ["failreg_c", "libc_c"] {
-        let archive = folder.join(format!("lib{name}.a"));
-        if !archive.is_file() {
-            println!(
-                "cargo::warning={} isn't there: run embedding/build, or let FAILREG_LIB name the \
-                 folder that has it",
-                archive.display()
-            );
-        }
-        println!("cargo::rerun-if-changed={}", archive.display());
-        println!("cargo::rustc-link-lib=static={name}");
+    let archive = folder.join("libfailreg.a");
+    if !archive.is_file() {
+        println!(
+            "cargo::warning={} isn't there: run embedding/build, or let FAILREG_LIB name the \
+             folder that has it",
+            archive.display()
+        );
     }
+    println!("cargo::rerun-if-changed={}", archive.display());
+    println!("cargo::rustc-link-lib=static=failreg");
     println!("cargo::rustc-link-search=native={}", folder.display());
 }

@@ -1,4 +1,4 @@
-//! The calls of `libfailreg_c.a`, as `failreg.h` declares them: what each does, and what it must be
+//! The calls of `libfailreg.a`, as `failreg.h` declares them: what each does, and what it must be
 //! given, stands there in full. The crate `failreg` is the safe one over it.
 //!
 //! What is marked `[entry]` is an entry of the node's trace where it is accepted: it takes memory
@@ -64,9 +64,9 @@ pub struct failreg_act {
     pub node: u8,
     /// Which term was triggered, from 0.
     pub term: u8,
-    /// One of `FAILREG_UNSET`, `FAILREG_NONE` and `FAILREG_ACT`.
+    /// One of `FAILREG_OUTCOME_UNSET`, `FAILREG_OUTCOME_NONE` and `FAILREG_OUTCOME_ACT`.
     pub outcome: u8,
-    /// One of the tasks, as `FAILREG_PANIC`.
+    /// One of the tasks, as `FAILREG_TASK_PANIC`.
     pub task: u8,
     /// Whether there is a text: `return()` has one of no bytes, `return` has none.
     pub has_text: bool,
@@ -83,54 +83,63 @@ macro_rules! numbers {
 
 numbers! { STATUSES: u32;
     "The call is accepted." FAILREG_OK = 0,
-    "The node has accepted as many calls as it may." FAILREG_TRACE_FULL = 1,
-    "A name is 1 to 128 ASCII letters, digits, `_`, `-`, `.` and `:`." FAILREG_BAD_NAME = 2,
-    "The action text, or the setting text." FAILREG_BAD_ACTIONS = 3,
-    "More than 256 names, removed ones counted." FAILREG_TOO_MANY_POINTS = 4,
-    "The clock of settings is at its end." FAILREG_CLOCK_FULL = 5,
-    "The point isn't set at this node." FAILREG_NOT_SET = 6,
-    "The setting has no term of this number." FAILREG_NO_SUCH_TERM = 7,
-    "The term has no count." FAILREG_NOT_COUNTED = 8,
-    "No node of the cluster, or this one." FAILREG_BAD_NODE = 9,
-    "The amount is 0." FAILREG_ZERO_AMOUNT = 10,
-    "The node has fewer rights to give." FAILREG_TOO_FEW_RIGHTS = 11,
-    "What was moved or granted in all is at its end." FAILREG_CELL_FULL = 12,
-    "The pass takes another number of random draws." FAILREG_BAD_WORDS = 14,
-    "The bytes are no message of this cluster." FAILREG_BAD_MESSAGE = 16,
-    "The message is for another node." FAILREG_NOT_FOR_ME = 17,
-    "The message says more of this node than it knows itself." FAILREG_OWN_AHEAD = 18,
-    "The message knows a version of this node that there isn't." FAILREG_ACK_AHEAD = 19,
-    "With the message a term would have run more often than it may." FAILREG_OVERSPENT = 20,
-    "A cluster has 1 to 32 nodes, and this is one of them." FAILREG_BAD_CONFIG = 21,
-    "Memory was refused." FAILREG_NO_MEMORY = 22,
-    "A name or a text isn't UTF-8." FAILREG_NOT_UTF8 = 30,
-    "The node is closed." FAILREG_CLOSED = 31,
-    "`failreg_open` of a node that is open." FAILREG_ALREADY_OPEN = 32,
-    "`failreg_point` of this node told no such number." FAILREG_NO_POINT = 33,
+    "The node has accepted as many calls as it may." FAILREG_E_TRACE_FULL = 1,
+    "A name is 1 to 128 ASCII letters, digits, `_`, `-`, `.` and `:`." FAILREG_E_BAD_NAME = 2,
+    "The action text, or the setting text." FAILREG_E_BAD_ACTIONS = 3,
+    "More than 256 names, removed ones counted." FAILREG_E_TOO_MANY_POINTS = 4,
+    "The clock of settings is at its end." FAILREG_E_CLOCK_FULL = 5,
+    "The point isn't set at this node." FAILREG_E_NOT_SET = 6,
+    "The setting has no term of this number." FAILREG_E_NO_SUCH_TERM = 7,
+    "The term has no count." FAILREG_E_NOT_COUNTED = 8,
+    "No node of the cluster, or this one." FAILREG_E_BAD_NODE = 9,
+    "The amount is 0." FAILREG_E_ZERO_AMOUNT = 10,
+    "The node has fewer rights to give." FAILREG_E_TOO_FEW_RIGHTS = 11,
+    "What was moved or granted in all is at its end." FAILREG_E_CELL_FULL = 12,
+    "The pass takes another number of random draws." FAILREG_E_BAD_WORDS = 14,
+    "The bytes are no message of this cluster." FAILREG_E_BAD_MESSAGE = 16,
+    "The message is for another node." FAILREG_E_NOT_FOR_ME = 17,
+    "The message says more of this node than it knows itself." FAILREG_E_OWN_AHEAD = 18,
+    "The message knows a version of this node that there isn't." FAILREG_E_ACK_AHEAD = 19,
+    "With the message a term would have run more often than it may." FAILREG_E_OVERSPENT = 20,
+    "A cluster has 1 to 32 nodes, and this is one of them." FAILREG_E_BAD_CONFIG = 21,
+    "Memory was refused." FAILREG_E_NO_MEMORY = 22,
+    "A name or a text isn't UTF-8." FAILREG_E_NOT_UTF8 = 30,
+    "The node is closed." FAILREG_E_CLOSED = 31,
+    "`failreg_open` of a node that is open." FAILREG_E_ALREADY_OPEN = 32,
+    "`failreg_point` of this node told no such number." FAILREG_E_NO_POINT = 33,
 }
 
 numbers! { OUTCOMES: u8;
-    "The point isn't set here." FAILREG_UNSET = 0,
-    "It is set, and no term's turn came." FAILREG_NONE = 1,
-    "A term was triggered: carry its task out." FAILREG_ACT = 2,
+    "The point isn't set here." FAILREG_OUTCOME_UNSET = 0,
+    "It is set, and no term's turn came." FAILREG_OUTCOME_NONE = 1,
+    "A term was triggered: carry its task out." FAILREG_OUTCOME_ACT = 2,
 }
 
 numbers! { TASKS: u8;
-    "Do nothing." FAILREG_OFF = 0,
-    "Return, with the text as its argument." FAILREG_RETURN = 1,
-    "For `millis` milliseconds." FAILREG_SLEEP = 2,
-    "Panic, with the text." FAILREG_PANIC = 3,
-    "Print the text." FAILREG_PRINT = 4,
-    "Until `failreg_pause_over` tells true." FAILREG_PAUSE = 5,
-    "Let other threads run." FAILREG_YIELD = 6,
-    "Keep busy for `millis` milliseconds." FAILREG_DELAY = 7,
+    "Do nothing." FAILREG_TASK_OFF = 0,
+    "Return, with the text as its argument." FAILREG_TASK_RETURN = 1,
+    "For `millis` milliseconds." FAILREG_TASK_SLEEP = 2,
+    "Panic, with the text." FAILREG_TASK_PANIC = 3,
+    "Print the text." FAILREG_TASK_PRINT = 4,
+    "Until `failreg_pause_over` tells true." FAILREG_TASK_PAUSE = 5,
+    "Let other threads run." FAILREG_TASK_YIELD = 6,
+    "Keep busy for `millis` milliseconds." FAILREG_TASK_DELAY = 7,
 }
 
+/// The version of the declarations: 10000 times its first number, 100 times its second, and its
+/// third.
+pub const FAILREG_VERSION: u32 = 100;
+
+// What a call only reads is lent to it by `&mut` all the same: it takes the node apart and puts it
+// together.
 type Bytes = *const u8;
 
 // SAFETY: these are the declarations of `failreg.h`. Those that are `safe` take a node, which comes
 // from `failreg::CLOSED` and the calls alone, references and numbers: any of these will do.
 unsafe extern "C" {
+    /// The version of the library, as [`FAILREG_VERSION`] is that of these declarations.
+    pub safe fn failreg_version() -> u32;
+
     /// Opens a closed node, as node `number` of a cluster of `nodes`.
     pub safe fn failreg_open(
         node: &mut failreg,
@@ -140,8 +149,8 @@ unsafe extern "C" {
         seed: &[u8; 32],
     ) -> u32;
 
-    /// Ends a node.
-    pub safe fn failreg_close(node: failreg);
+    /// Closes a node, if it is open: its memory is given back.
+    pub safe fn failreg_close(node: &mut failreg);
 
     /// `[entry]` Sets a point to an action text.
     ///
@@ -308,7 +317,7 @@ unsafe extern "C" {
     ) -> u32;
 
     /// How many accepted calls changed what the node knows.
-    pub safe fn failreg_version(node: &mut failreg, version: &mut u64) -> u32;
+    pub safe fn failreg_state_version(node: &mut failreg, version: &mut u64) -> u32;
 
     /// The version of another node that this one has all of.
     pub safe fn failreg_known(node: &mut failreg, from: u8, known: &mut u64) -> u32;
@@ -338,8 +347,13 @@ unsafe extern "C" {
     /// Lists the points that are set, to be fetched.
     pub safe fn failreg_list(node: &mut failreg) -> u32;
 
-    /// The text of the last refusal of a call marked `[entry]`, to be fetched.
-    pub safe fn failreg_fault(node: &mut failreg) -> u32;
+    /// Copies the text of the last refusal of a call marked `[entry]`, as much as `room` is, and
+    /// tells how long it is. What is to be fetched stays.
+    ///
+    /// # Safety
+    /// `into` leads to `room` bytes that may be written.
+    pub fn failreg_fault(node: &mut failreg, into: *mut u8, room: usize, length: &mut usize)
+    -> u32;
 
     /// Copies what is to be fetched, as much as `room` is, and answers how long it is.
     ///

@@ -39,5 +39,5 @@ fn passes_draw_from_the_stream_of_their_node() {
     for draw in FIRST_DRAWS {
         assert_eq!(draws_of_pass(&mut node), [draw]);
     }
-    failreg_close(node);
+    failreg_close(&mut node);
 }

@@ -1,6 +1,6 @@
-//! The numbers here are those of `failreg.h`, and none is missing.
+//! The numbers here are those of `failreg.h`, and none is missing; nor is a call, or the words for a status.
 
-use failreg_sys::{OUTCOMES, STATUSES, TASKS};
+use failreg_sys::{FAILREG_VERSION, OUTCOMES, STATUSES, TASKS, failreg_version};
 use std::collections::BTreeMap;
 
 const HEADER: &str = include_str!("../../../failreg.h");
@@ -28,6 +28,26 @@ fn numbers_are_those_of_the_header() {
     );
     assert_eq!(numbers_of("failreg_outcome"), wide(OUTCOMES));
     assert_eq!(numbers_of("failreg_task"), wide(TASKS));
+}
+
+#[test]
+fn each_status_has_words() {
+    let wordless = STATUSES
+        .iter()
+        .filter(|(name, _)| !HEADER.contains(&format!("    case {name}: return \"")));
+    assert_eq!(wordless.count(), 0);
+}
+
+#[test]
+fn versions_are_one() {
+    let parts = env!("CARGO_PKG_VERSION").split('.');
+    let of_crate = parts.fold(0, |all, part| all * 100 + part.parse::<u32>().unwrap());
+    assert_eq!(FAILREG_VERSION, of_crate);
+    assert_eq!(failreg_version(), of_crate);
+    let defined = |name, value: &str| HEADER.contains(&format!("#define {name} {value}\n"));
+    assert!(defined("FAILREG_VERSION", &of_crate.to_string()));
+    let text = format!("{:?}", env!("CARGO_PKG_VERSION"));
+    assert!(defined("FAILREG_VERSION_TEXT", &text));
 }
 
 #[test]

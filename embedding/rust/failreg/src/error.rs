@@ -181,27 +181,29 @@ impl Error {
 #[cfg(feature = "failpoints")]
 fn kind_of(status: u32) -> Option<ErrorKind> {
     Some(match status {
-        failreg_sys::FAILREG_TRACE_FULL => ErrorKind::CapReached,
-        failreg_sys::FAILREG_BAD_NAME => ErrorKind::BadName,
-        failreg_sys::FAILREG_BAD_ACTIONS | failreg_sys::FAILREG_NOT_UTF8 => ErrorKind::BadText,
-        failreg_sys::FAILREG_TOO_MANY_POINTS => ErrorKind::TooManyPoints,
-        failreg_sys::FAILREG_NOT_SET => ErrorKind::NotSet,
-        failreg_sys::FAILREG_NO_SUCH_TERM
-        | failreg_sys::FAILREG_NOT_COUNTED
-        | failreg_sys::FAILREG_BAD_NODE
-        | failreg_sys::FAILREG_ZERO_AMOUNT
-        | failreg_sys::FAILREG_BAD_WORDS
-        | failreg_sys::FAILREG_NO_POINT => ErrorKind::BadArgument,
-        failreg_sys::FAILREG_TOO_FEW_RIGHTS => ErrorKind::TooFewRights,
-        failreg_sys::FAILREG_CLOCK_FULL | failreg_sys::FAILREG_CELL_FULL => ErrorKind::NumberFull,
-        failreg_sys::FAILREG_BAD_MESSAGE => ErrorKind::BadMessage,
-        failreg_sys::FAILREG_NOT_FOR_ME => ErrorKind::WrongReceiver,
-        failreg_sys::FAILREG_OWN_AHEAD | failreg_sys::FAILREG_ACK_AHEAD => ErrorKind::Forgotten,
-        failreg_sys::FAILREG_OVERSPENT => ErrorKind::Overspent,
-        failreg_sys::FAILREG_BAD_CONFIG => ErrorKind::BadConfig,
-        failreg_sys::FAILREG_NO_MEMORY => ErrorKind::OutOfMemory,
-        failreg_sys::FAILREG_CLOSED => ErrorKind::Closed,
-        failreg_sys::FAILREG_ALREADY_OPEN => ErrorKind::AlreadyOpen,
+        failreg_sys::FAILREG_E_TRACE_FULL => ErrorKind::CapReached,
+        failreg_sys::FAILREG_E_BAD_NAME => ErrorKind::BadName,
+        failreg_sys::FAILREG_E_BAD_ACTIONS | failreg_sys::FAILREG_E_NOT_UTF8 => ErrorKind::BadText,
+        failreg_sys::FAILREG_E_TOO_MANY_POINTS => ErrorKind::TooManyPoints,
+        failreg_sys::FAILREG_E_NOT_SET => ErrorKind::NotSet,
+        failreg_sys::FAILREG_E_NO_SUCH_TERM
+        | failreg_sys::FAILREG_E_NOT_COUNTED
+        | failreg_sys::FAILREG_E_BAD_NODE
+        | failreg_sys::FAILREG_E_ZERO_AMOUNT
+        | failreg_sys::FAILREG_E_BAD_WORDS
+        | failreg_sys::FAILREG_E_NO_POINT => ErrorKind::BadArgument,
+        failreg_sys::FAILREG_E_TOO_FEW_RIGHTS => ErrorKind::TooFewRights,
+        failreg_sys::FAILREG_E_CLOCK_FULL | failreg_sys::FAILREG_E_CELL_FULL => {
+            ErrorKind::NumberFull
+        }
+        failreg_sys::FAILREG_E_BAD_MESSAGE => ErrorKind::BadMessage,
+        failreg_sys::FAILREG_E_NOT_FOR_ME => ErrorKind::WrongReceiver,
+        failreg_sys::FAILREG_E_OWN_AHEAD | failreg_sys::FAILREG_E_ACK_AHEAD => ErrorKind::Forgotten,
+        failreg_sys::FAILREG_E_OVERSPENT => ErrorKind::Overspent,
+        failreg_sys::FAILREG_E_BAD_CONFIG => ErrorKind::BadConfig,
+        failreg_sys::FAILREG_E_NO_MEMORY => ErrorKind::OutOfMemory,
+        failreg_sys::FAILREG_E_CLOSED => ErrorKind::Closed,
+        failreg_sys::FAILREG_E_ALREADY_OPEN => ErrorKind::AlreadyOpen,
         // A status that this crate doesn't know has no kind.
         _ => return None,
     })

@@ -7,6 +7,9 @@ use failreg_sys as sys;
 use std::borrow::Cow;
 use std::time::Duration;
 
+/// More bytes than the text of any refusal has.
+const LONGEST_FAULT: usize = 256;
+
 pub struct Node {
     handle: sys::failreg,
 }
@@ -41,8 +44,8 @@ impl Node {
         let status = sys::failreg_open(&mut node.handle, number, nodes, cap, seed);
         let fault = match status {
             sys::FAILREG_OK => return Ok(node),
-            sys::FAILREG_BAD_CONFIG => "N21 BadConfig".into(),
-            sys::FAILREG_NO_MEMORY => "N22 OutOfMemory".into(),
+            sys::FAILREG_E_BAD_CONFIG => "N21 BadConfig".into(),
+            sys::FAILREG_E_NO_MEMORY => "N22 OutOfMemory".into(),
             status => Cow::from(format!("N{status}")),
         };
         Err(Error::of_status(status, fault))
@@ -50,12 +53,12 @@ impl Node {
 
     /// Gives the memory back. Every call is then refused.
     pub fn close(&mut self) {
-        sys::failreg_close(std::mem::replace(&mut self.handle, sys::failreg::CLOSED));
+        sys::failreg_close(&mut self.handle);
     }
 
     /// Whether it was closed.
     pub fn is_closed(&mut self) -> bool {
-        sys::failreg_calls(&mut self.handle, &mut 0) == sys::FAILREG_CLOSED
+        sys::failreg_calls(&mut self.handle, &mut 0) == sys::FAILREG_E_CLOSED
     }
 
     fn answer<T>(&mut self, status: u32, value: T) -> Result<T, Error> {
@@ -67,21 +70,32 @@ impl Node {
 
     fn fault_of(&mut self, status: u32) -> Cow<'static, str> {
         match status {
-            sys::FAILREG_NO_MEMORY => "N22 OutOfMemory".into(),
-            sys::FAILREG_NOT_UTF8 => "the text is not UTF-8".into(),
-            sys::FAILREG_CLOSED => "the registry is closed".into(),
-            sys::FAILREG_NO_POINT => "no point has the number".into(),
-            _ if sys::failreg_fault(&mut self.handle) == sys::FAILREG_OK => {
-                self.fetch_text().into()
-            }
-            _ => format!("N{status}").into(),
+            sys::FAILREG_E_NO_MEMORY => "N22 OutOfMemory".into(),
+            sys::FAILREG_E_NOT_UTF8 => "the text is not UTF-8".into(),
+            sys::FAILREG_E_CLOSED => "the registry is closed".into(),
+            sys::FAILREG_E_NO_POINT => "no point has the number".into(),
+            _ => match self.last_fault() {
+                Some(fault) => fault.into(),
+                None => format!("N{status}").into(),
+            },
         }
+    }
+
+    // The text of the last refusal, unless there is no memory for it.
+    fn last_fault(&mut self) -> Option<String> {
+        let mut bytes = [0; LONGEST_FAULT];
+        let mut length = 0;
+        let (into, room) = (bytes.as_mut_ptr(), bytes.len());
+        // SAFETY: the array has so many bytes.
+        let status = unsafe { sys::failreg_fault(&mut self.handle, into, room, &mut length) };
+        let text = || String::from_utf8_lossy(&bytes[..length.min(room)]).into_owned();
+        (status == sys::FAILREG_OK).then(text)
     }
 
     // A reader of a name keeps no text: it refuses bad names, and where memory is wanted.
     fn read<T>(&mut self, status: u32, value: T) -> Result<T, Error> {
         match status {
-            sys::FAILREG_BAD_NAME => Err(Error::of_status(status, "N2 BadName")),
+            sys::FAILREG_E_BAD_NAME => Err(Error::of_status(status, "N2 BadName")),
             _ => self.answer(status, value),
         }
     }
@@ -163,9 +177,9 @@ impl Node {
             node: act.node,
         };
         Ok(match act.outcome {
-            sys::FAILREG_UNSET => Passed::Unset,
-            sys::FAILREG_NONE => Passed::NoTerm { stamp },
-            sys::FAILREG_ACT => Passed::Act {
+            sys::FAILREG_OUTCOME_UNSET => Passed::Unset,
+            sys::FAILREG_OUTCOME_NONE => Passed::NoTerm { stamp },
+            sys::FAILREG_OUTCOME_ACT => Passed::Act {
                 stamp,
                 term: act.term,
                 task: self.task_of(act)?,
@@ -178,14 +192,14 @@ impl Node {
         let text = act.has_text.then(|| self.fetch_text());
         let time = Duration::from_millis(act.millis);
         Ok(match act.task {
-            sys::FAILREG_OFF => Task::Off,
-            sys::FAILREG_RETURN => Task::Return(text),
-            sys::FAILREG_SLEEP => Task::Sleep(time),
-            sys::FAILREG_PANIC => Task::Panic(text),
-            sys::FAILREG_PRINT => Task::Print(text),
-            sys::FAILREG_PAUSE => Task::Pause,
-            sys::FAILREG_YIELD => Task::Yield,
-            sys::FAILREG_DELAY => Task::Delay(time),
+            sys::FAILREG_TASK_OFF => Task::Off,
+            sys::FAILREG_TASK_RETURN => Task::Return(text),
+            sys::FAILREG_TASK_SLEEP => Task::Sleep(time),
+            sys::FAILREG_TASK_PANIC => Task::Panic(text),
+            sys::FAILREG_TASK_PRINT => Task::Print(text),
+            sys::FAILREG_TASK_PAUSE => Task::Pause,
+            sys::FAILREG_TASK_YIELD => Task::Yield,
+            sys::FAILREG_TASK_DELAY => Task::Delay(time),
             other => return Err(unknown("task", other)),
         })
     }
@@ -297,7 +311,7 @@ impl Node {
 
     pub fn version(&mut self) -> Result<u64, Error> {
         let mut version = 0;
-        let status = sys::failreg_version(&mut self.handle, &mut version);
+        let status = sys::failreg_state_version(&mut self.handle, &mut version);
         self.answer(status, version)
     }
 

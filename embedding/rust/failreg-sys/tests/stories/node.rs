@@ -2,7 +2,6 @@
 
 use failreg_sys::*;
 use std::fmt::Display;
-use std::mem::replace;
 
 /// Which node of how many it is, and how many calls it accepts.
 #[derive(Clone, Copy)]
@@ -51,7 +50,7 @@ pub struct Node(failreg);
 
 impl Drop for Node {
     fn drop(&mut self) {
-        failreg_close(replace(&mut self.0, failreg::CLOSED));
+        failreg_close(&mut self.0);
     }
 }
 
@@ -171,8 +170,12 @@ impl Node {
     }
 
     fn fault(&mut self) -> String {
-        match failreg_fault(&mut self.0) {
-            FAILREG_OK => self.fetch_text(),
+        let mut bytes = [0; 200];
+        let mut length = 0;
+        let (into, room) = (bytes.as_mut_ptr(), bytes.len());
+        // SAFETY: the array has so many bytes.
+        match unsafe { failreg_fault(&mut self.0, into, room, &mut length) } {
+            FAILREG_OK => String::from_utf8_lossy(&bytes[..length]).into_owned(),
             status => format!("no fault: {status}"),
         }
     }
@@ -182,8 +185,8 @@ impl Node {
             clock, node, term, ..
         } = act;
         match act.outcome {
-            FAILREG_UNSET => "unset".to_string(),
-            FAILREG_NONE => format!("none {clock}.{node}"),
+            FAILREG_OUTCOME_UNSET => "unset".to_string(),
+            FAILREG_OUTCOME_NONE => format!("none {clock}.{node}"),
             _ => format!("act {clock}.{node} {term} {}", self.task_text(act)),
         }
     }
@@ -195,14 +198,14 @@ impl Node {
             format!("{task} with a text of another length")
         } else if act.has_text {
             format!("{task}({text})")
-        } else if matches!(act.task, FAILREG_SLEEP | FAILREG_DELAY) {
+        } else if matches!(act.task, FAILREG_TASK_SLEEP | FAILREG_TASK_DELAY) {
             format!("{task}({})", act.millis)
         } else {
             task.to_string()
         }
     }
 
-    /// What the last pass, emit, list or fault left.
+    /// What the last pass, emit or list left.
     fn fetch(&mut self) -> Vec<u8> {
         let mut bytes = Vec::new();
         // SAFETY: there is no room, so that nothing is written.
@@ -278,7 +281,7 @@ impl Node {
 
     pub fn version(&mut self) -> String {
         let mut version = 0;
-        let status = failreg_version(&mut self.0, &mut version);
+        let status = failreg_state_version(&mut self.0, &mut version);
         seen(status, version)
     }
 
