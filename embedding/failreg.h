@@ -23,7 +23,7 @@
  * Then the node and its generator are as they were, and what the call would have told is 0 or
  * false. A call that takes the node as const leaves it as it was in any case. An accepted call that
  * changes the node, marked below by [entry], is an entry of the node's trace: it takes memory until
- * the node is closed, and counts against the cap. */
+ * failreg_forget or failreg_close, and counts against the cap. */
 #ifndef FAILREG_H
 #define FAILREG_H
 
@@ -232,6 +232,14 @@ uint32_t failreg_acked(const failreg *node, uint8_t to, uint64_t *acked);
 
 /* How many calls the node has accepted. */
 uint32_t failreg_calls(const failreg *node, uint64_t *calls);
+
+/* How many of them it keeps, each of which takes memory: those since failreg_forget. */
+uint32_t failreg_kept(const failreg *node, uint64_t *calls);
+
+/* Frees the calls that the node keeps. It stays what it is, and goes on counting them; the text of a
+ * task that wasn't fetched can't be any more. A program that calls it every so many passes takes no
+ * memory for them for good. */
+uint32_t failreg_forget(failreg *node);
 
 /* Answers a request of HTTP as a node does that is served (docs/serving.md has the requests), and
  * tells the status of the reply: fetch its body. It is 0, whatever the status, unless the method or

@@ -322,6 +322,65 @@ static void readers_take_no_entry(void)
     failreg_close(&other);
 }
 
+static uint64_t kept(const failreg *node)
+{
+    uint64_t calls;
+    CHECK(failreg_kept(node, &calls) == FAILREG_OK);
+    return calls;
+}
+
+/* Whether two nodes would tell node 1 the same. */
+static bool tell_the_same(failreg *node, failreg *other)
+{
+    size_t length, same;
+    CHECK(failreg_emit(node, 1) == FAILREG_OK && failreg_emit(other, 1) == FAILREG_OK);
+    char *message = fetched(node, &length), *again = fetched(other, &same);
+    bool is = length == same && memcmp(message, again, length) == 0;
+    free(message);
+    free(again);
+    return is;
+}
+
+/* A node that forgets its calls, however often, goes on as one that keeps them. */
+static void calls_are_forgotten(void)
+{
+    failreg node = opened(0), other = opened(0);
+    uint64_t calls, same, kept_before;
+    set(&node, "50%3*print(one)->20%panic(two)->off");
+    set(&other, "50%3*print(one)->20%panic(two)->off");
+    for (int i = 0; i < 300; i++) {
+        failreg_act act = pass(&node), again = pass(&other);
+        CHECK(act.outcome == again.outcome && act.term == again.term && act.text_len == again.text_len);
+        CHECK(said(&node, act.term == 0 ? "one" : act.term == 1 ? "two" : ""));
+        if (i % 7 == 0) {
+            CHECK(failreg_forget(&node) == FAILREG_OK && kept(&node) == 0 && said(&node, ""));
+        }
+        kept_before = (uint64_t)(i % 7);
+        CHECK(kept(&node) == kept_before && kept(&other) == (uint64_t)i + 2);
+        CHECK(failreg_calls(&node, &calls) == FAILREG_OK && failreg_calls(&other, &same) == FAILREG_OK);
+        CHECK(calls == same && calls == (uint64_t)i + 2);
+    }
+    CHECK(tell_the_same(&node, &other));
+    failreg_close(&node);
+    failreg_close(&other);
+    CHECK(failreg_forget(&node) == FAILREG_E_CLOSED);
+    CHECK(failreg_kept(&node, &calls) == FAILREG_E_CLOSED && calls == 0);
+}
+
+/* A cap is one of the whole life, also where the calls are forgotten. */
+static void a_cap_is_of_a_life(void)
+{
+    failreg node = FAILREG_CLOSED_NODE;
+    failreg_act act;
+    CHECK(failreg_open(&node, 0, 1, 3, SEED) == FAILREG_OK);
+    for (int i = 0; i < 3; i++) {
+        pass(&node);
+        CHECK(failreg_forget(&node) == FAILREG_OK);
+    }
+    CHECK(failreg_pass(&node, TEXT("p"), &act) == FAILREG_E_TRACE_FULL);
+    failreg_close(&node);
+}
+
 /* What is refused leaves the node, and says why. */
 static void refusals_are_told(void)
 {
@@ -402,6 +461,8 @@ int main(void)
     words_are_drawn();
     points_have_numbers();
     readers_take_no_entry();
+    calls_are_forgotten();
+    a_cap_is_of_a_life();
     refusals_are_told();
     faults_leave_what_is_to_be_fetched();
     words_and_versions();

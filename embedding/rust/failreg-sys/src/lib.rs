@@ -328,6 +328,13 @@ unsafe extern "C" {
     /// How many calls the node has accepted.
     pub safe fn failreg_calls(node: &mut failreg, calls: &mut u64) -> u32;
 
+    /// How many of them it keeps, each of which takes memory: those since `failreg_forget`.
+    pub safe fn failreg_kept(node: &mut failreg, calls: &mut u64) -> u32;
+
+    /// Frees the calls that the node keeps. It stays what it is, and goes on counting them; the
+    /// text of a task that wasn't fetched can't be any more.
+    pub safe fn failreg_forget(node: &mut failreg) -> u32;
+
     /// Answers a request of HTTP as a served node does, and tells the status of the reply, whose
     /// body is to be fetched. `[entry]` where the call is that the request asks for.
     ///

@@ -133,6 +133,8 @@ impl Node {
         self.tell(0)
     }
 
+    pub fn forget(&mut self) {}
+
     pub fn calls(&mut self) -> Result<u64, Error> {
         self.tell(0)
     }

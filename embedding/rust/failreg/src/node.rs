@@ -327,6 +327,11 @@ impl Node {
         self.answer(status, acked)
     }
 
+    /// Frees the calls that the node keeps. A closed node has none.
+    pub fn forget(&mut self) {
+        sys::failreg_forget(&mut self.handle);
+    }
+
     pub fn calls(&mut self) -> Result<u64, Error> {
         let mut calls = 0;
         let status = sys::failreg_calls(&mut self.handle, &mut calls);

@@ -45,9 +45,15 @@ pub(crate) struct State {
     /// What a pass of a point calls while it is set under the stamp.
     callbacks: HashMap<String, (Stamp, Callback)>,
     receipts: Option<Receipts>,
+    /// How often the lock was taken since the node forgot its calls: at least as often as it was
+    /// called.
+    turns: u32,
     /// Whether no setting changes any more.
     pub(crate) is_over: bool,
 }
+
+/// How many calls a node keeps at most, so that its memory doesn't grow with its passes.
+const MOST_KEPT: u32 = 1024;
 
 fn id_of_a_node() -> u64 {
     /// How many nodes the program has opened. It orders nothing: each is another number.
@@ -63,6 +69,7 @@ impl State {
             names: Some(HashSet::new()),
             callbacks: HashMap::new(),
             receipts: made.is_recording.then(|| Receipts::of(made.number)),
+            turns: 0,
             is_over: false,
         })
     }
@@ -91,6 +98,16 @@ impl State {
                 words: Vec::new(),
                 reply,
             });
+        }
+    }
+
+    /// Lets the node forget its calls every so many of them: nothing here reads them again, since
+    /// receipts have all that a drill needs.
+    fn forget_if_many(&mut self) {
+        self.turns += 1;
+        if self.turns >= MOST_KEPT {
+            self.node.forget();
+            self.turns = 0;
         }
     }
 
@@ -160,6 +177,12 @@ impl Registry {
 
     // A lock that a panic poisoned is as good as another: no call is left half done by one.
     pub(crate) fn lock(&self) -> MutexGuard<'_, State> {
+        let mut state = self.wait_for_lock();
+        state.forget_if_many();
+        state
+    }
+
+    fn wait_for_lock(&self) -> MutexGuard<'_, State> {
         for pauses in PAUSES {
             match self.state.try_lock() {
                 Ok(state) => return state,
