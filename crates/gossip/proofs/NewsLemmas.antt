@@ -1,12 +1,12 @@
 -- Peers that are looked at, one after the other.
-use Rattle.std.proofs.Common.{◌≡◌, ◌≤◌, ◌<◌, ℕ, ◌+◌, zero, suc, true, false, inl, inr, List, [], ◌∷◌, ◌++◌, length, map, take, drop, set, get_or, append_assoc, length-append, subst, ap, sym, ◌∙◌, refl, arith}
+use Rattle.std.proofs.Common.{◌≡◌, ◌≤◌, ◌<◌, ℕ, ◌+◌, zero, suc, Bool, true, false, inl, inr, List, [], ◌∷◌, ◌++◌, length, map, take, drop, set, get_or, append_assoc, length-append, subst, ap, sym, ◌∙◌, refl, arith}
 use Rattle.std.proofs.lemmas.List.{map-append, append-nil}
 use Rattle.node_core.specs.declared.config.Config.{Config}
 use Rattle.node_calls.specs.Asks.{bare_emit}
 use Rattle.gossip.specs.declared.news.News.{News}
 use Rattle.gossip.specs.declared.news.Pace.{Pace}
 use Rattle.gossip.specs.declared.report.GossipReport.{GossipReport}
-use Rattle.gossip.specs.News.{AreLooked, IsSeen, is_due, missed_pace, rested, told_pace, nobody, left_alone, told_it, missed_it}
+use Rattle.gossip.specs.News.{AreLooked, IsSeen, is_due, missed_pace, rested, told_pace, nobody, left_alone, not_reached, told_it, missed_it}
 use Rattle.gossip.specs.NewsRounds.{Breaks, IsEmpty, IsNewsBroken, IsNewsRound, Looks}
 use Rattle.gossip.specs.Reports.{IsTold, calls_of, tried_of}
 use Rattle.gossip.specs.Steps.{Adds, Moves, Stops}
@@ -14,18 +14,21 @@ use Rattle.gossip.specs.Traffic.{Traffic}
 use Rattle.gossip.proofs.CarryLemmas.{carries_of, moves_as, moves_nothing, moves_then, stops_as, stops_then}
 use Rattle.gossip.proofs.StepLemmas.{adds_as, adds_none, adds_then, part_of_all, told_of}
 
-looked_then : {config : Config} {seed : List ℕ} {ps qs ps' qs' : List Pace} {tos missed tos' missed' : List ℕ} →
-    AreLooked config seed ps qs tos missed → AreLooked config seed ps' qs' tos' missed' →
-    AreLooked config seed (ps ++ ps') (qs ++ qs') (tos ++ tos') (missed ++ missed')
+looked_then : {config : Config} {seed : List ℕ} {says : ℕ → Bool → Type 0} {ps qs ps' qs' : List Pace}
+    {tos missed tos' missed' : List ℕ} →
+    AreLooked config seed says ps qs tos missed → AreLooked config seed says ps' qs' tos' missed' →
+    AreLooked config seed says (ps ++ ps') (qs ++ qs') (tos ++ tos') (missed ++ missed')
 looked_then nobody more = more
 looked_then (left_alone seen due rest) more = left_alone seen due (looked_then rest more)
-looked_then (told_it seen due rest) more = told_it seen due (looked_then rest more)
-looked_then (missed_it seen due rest) more = missed_it seen due (looked_then rest more)
+looked_then (not_reached seen due away rest) more = not_reached seen due away (looked_then rest more)
+looked_then (told_it seen due near rest) more = told_it seen due near (looked_then rest more)
+looked_then (missed_it seen due near rest) more = missed_it seen due near (looked_then rest more)
 
 -- nobody was looked at
-pub looks_nobody : (config : Config) (seed : List ℕ) (seat : ℕ) (now : Traffic) (report : GossipReport) →
-    Looks config seed seat seat now now report report [] []
-looks_nobody config seed seat now report = record {
+pub looks_nobody : (config : Config) (seed : List ℕ) (says : ℕ → Bool → Type 0) (seat : ℕ) (now : Traffic)
+    (report : GossipReport) →
+    Looks config seed says seat seat now now report report [] []
+looks_nobody config seed says seat now report = record {
   tos = [];
   missed = [];
   looked = nobody;
@@ -37,13 +40,14 @@ looks_nobody config seed seat now report = record {
 }
 
 -- a peer is left alone, told, or missed
-pub looks_away : {config : Config} {seed : List ℕ} {seat : ℕ} {now : Traffic} {report : GossipReport} (p after : Pace)
+pub looks_away : {config : Config} {seed : List ℕ} {says : ℕ → Bool → Type 0} {seat : ℕ} {now : Traffic}
+    {report : GossipReport} (p after : Pace)
     (n : News) → IsSeen config seed p.node n → is_due p n ≡ false → after ≡ rested p →
-    Looks config seed seat seat now now report report (p ∷ []) (after ∷ [])
-looks_away {config = config} {seed = seed} p after n seen due is = record {
+    Looks config seed says seat seat now now report report (p ∷ []) (after ∷ [])
+looks_away {config = config} {seed = seed} {says = says} p after n seen due is = record {
   tos = [];
   missed = [];
-  looked = subst (λ q. AreLooked config seed (p ∷ []) (q ∷ []) [] []) (sym is) (left_alone seen due nobody);
+  looked = subst (λ q. AreLooked config seed says (p ∷ []) (q ∷ []) [] []) (sym is) (left_alone seen due nobody);
   adds = adds_none _ _ _ _ _ _ _ refl refl refl refl refl;
   moves = moves_nothing refl refl refl refl;
   tried = omega arith;
@@ -51,47 +55,93 @@ looks_away {config = config} {seed = seed} p after n seen due is = record {
   counted = omega arith;
 }
 
-pub looks_told : {config : Config} {seed : List ℕ} {seat_was seat_now : ℕ} {was now : Traffic} {old new : GossipReport}
-    (p after : Pace) (n : News) → IsSeen config seed p.node n → is_due p n ≡ true → after ≡ told_pace p n →
-    Adds config seed seat_was seat_now old new (bare_emit p.node ∷ []) → Moves config seed was now old new (p.node ∷ []) [] →
+pub looks_unreached : {config : Config} {seed : List ℕ} {says : ℕ → Bool → Type 0} {seat : ℕ} {was now : Traffic}
+    {report : GossipReport}
+    (p after : Pace) (n : News) → IsSeen config seed p.node n → is_due p n ≡ true → says p.node false → now ≡ was →
+    after ≡ missed_pace p →
+    Looks config seed says seat seat was now report report (p ∷ []) (after ∷ [])
+looks_unreached {config = config} {seed = seed} {says = says} p after n seen due away same is = record {
+  tos = [];
+  missed = [];
+  looked = subst (λ q. AreLooked config seed says (p ∷ []) (q ∷ []) [] []) (sym is) (not_reached seen due away nobody);
+  adds = adds_none _ _ _ _ _ _ _ refl refl refl refl refl;
+  moves = moves_nothing same refl refl refl;
+  tried = omega arith;
+  few = omega arith;
+  counted = omega arith;
+}
+
+-- from traffic that is the same
+pub looks_from : {config : Config} {seed : List ℕ} {says : ℕ → Bool → Type 0} {seat_was seat_now : ℕ}
+    {was amid now : Traffic}
+    {old new : GossipReport} {ps qs : List Pace} → amid ≡ was →
+    Looks config seed says seat_was seat_now amid now old new ps qs →
+    Looks config seed says seat_was seat_now was now old new ps qs
+looks_from {config = config} {seed = seed} {says = says} {seat_was = seat_was} {seat_now = seat_now} {now = now}
+    {old = old} {new = new}
+    {ps = ps} {qs = qs} same p = subst (λ t. Looks config seed says seat_was seat_now t now old new ps qs) same p
+
+pub breaks_from : {config : Config} {seed : List ℕ} {says : ℕ → Bool → Type 0} {seat_was seat_now : ℕ}
+    {was amid now : Traffic}
+    {old new : GossipReport} {ps qs : List Pace} → amid ≡ was →
+    Breaks config seed says seat_was seat_now amid now old new ps qs →
+    Breaks config seed says seat_was seat_now was now old new ps qs
+breaks_from {config = config} {seed = seed} {says = says} {seat_was = seat_was} {seat_now = seat_now} {now = now}
+    {old = old} {new = new}
+    {ps = ps} {qs = qs} same p = subst (λ t. Breaks config seed says seat_was seat_now t now old new ps qs) same p
+
+pub looks_told : {config : Config} {seed : List ℕ} {says : ℕ → Bool → Type 0} {seat_was seat_now : ℕ}
+    {was now : Traffic} {old new : GossipReport}
+    (p after : Pace) (n : News) → IsSeen config seed p.node n → is_due p n ≡ true → says p.node true →
+    after ≡ told_pace p n →
+    Adds config seed seat_was seat_now old new (bare_emit p.node ∷ []) →
+    Moves config seed was now old new (p.node ∷ []) [] →
     tried_of old + 1 ≤ tried_of new → calls_of new ≤ calls_of old + 1 →
     new.lost + new.refused ≡ old.lost + old.refused →
-    Looks config seed seat_was seat_now was now old new (p ∷ []) (after ∷ [])
-looks_told {config = config} {seed = seed} p after n seen due is adds moves tried few counted = record {
-  tos = p.node ∷ [];
-  missed = [];
-  looked = subst (λ q. AreLooked config seed (p ∷ []) (q ∷ []) (p.node ∷ []) []) (sym is) (told_it seen due nobody);
-  adds = adds;
-  moves = moves;
-  tried = tried;
-  few = few;
-  counted = omega (arith, counted);
-}
+    Looks config seed says seat_was seat_now was now old new (p ∷ []) (after ∷ [])
+looks_told {config = config} {seed = seed}
+    {says = says} p after n seen due near is adds moves tried few counted = record {
+      tos = p.node ∷ [];
+      missed = [];
+      looked = subst (λ q. AreLooked config seed says (p ∷ []) (q ∷ []) (p.node ∷ []) []) (sym is)
+          (told_it seen due near nobody);
+      adds = adds;
+      moves = moves;
+      tried = tried;
+      few = few;
+      counted = omega (arith, counted);
+    }
 
-pub looks_missed : {config : Config} {seed : List ℕ} {seat_was seat_now : ℕ} {was now : Traffic} {old new : GossipReport}
-    (p after : Pace) (n : News) → IsSeen config seed p.node n → is_due p n ≡ true → after ≡ missed_pace p →
-    Adds config seed seat_was seat_now old new (bare_emit p.node ∷ []) → Moves config seed was now old new (p.node ∷ []) [] →
+pub looks_missed : {config : Config} {seed : List ℕ} {says : ℕ → Bool → Type 0} {seat_was seat_now : ℕ}
+    {was now : Traffic} {old new : GossipReport}
+    (p after : Pace) (n : News) → IsSeen config seed p.node n → is_due p n ≡ true → says p.node true →
+    after ≡ missed_pace p →
+    Adds config seed seat_was seat_now old new (bare_emit p.node ∷ []) →
+    Moves config seed was now old new (p.node ∷ []) [] →
     tried_of old + 1 ≤ tried_of new → calls_of new ≤ calls_of old + 1 →
     new.lost + new.refused ≡ old.lost + old.refused + 1 →
-    Looks config seed seat_was seat_now was now old new (p ∷ []) (after ∷ [])
-looks_missed {config = config} {seed = seed} p after n seen due is adds moves tried few counted = record {
-  tos = p.node ∷ [];
-  missed = p.node ∷ [];
-  looked = subst (λ q. AreLooked config seed (p ∷ []) (q ∷ []) (p.node ∷ []) (p.node ∷ [])) (sym is)
-      (missed_it seen due nobody);
-  adds = adds;
-  moves = moves;
-  tried = tried;
-  few = few;
-  counted = counted;
-}
+    Looks config seed says seat_was seat_now was now old new (p ∷ []) (after ∷ [])
+looks_missed {config = config} {seed = seed}
+    {says = says} p after n seen due near is adds moves tried few counted = record {
+      tos = p.node ∷ [];
+      missed = p.node ∷ [];
+      looked = subst (λ q. AreLooked config seed says (p ∷ []) (q ∷ []) (p.node ∷ []) (p.node ∷ [])) (sym is)
+          (missed_it seen due near nobody);
+      adds = adds;
+      moves = moves;
+      tried = tried;
+      few = few;
+      counted = counted;
+    }
 
 -- and memory is refused
-pub breaks_now : {config : Config} {seed : List ℕ} {seat_was seat_now : ℕ} {was now : Traffic} {old new : GossipReport}
-    (p : Pace) (n : News) → IsSeen config seed p.node n → is_due p n ≡ true →
-    Adds config seed seat_was seat_now old new (bare_emit p.node ∷ []) → Stops config seed was now old new (p.node ∷ []) →
-    Breaks config seed seat_was seat_now was now old new (p ∷ []) (p ∷ [])
-breaks_now p n seen due adds stops = record {
+pub breaks_now : {config : Config} {seed : List ℕ} {says : ℕ → Bool → Type 0} {seat_was seat_now : ℕ}
+    {was now : Traffic} {old new : GossipReport}
+    (p : Pace) (n : News) → IsSeen config seed p.node n → is_due p n ≡ true → says p.node true →
+    Adds config seed seat_was seat_now old new (bare_emit p.node ∷ []) →
+    Stops config seed was now old new (p.node ∷ []) →
+    Breaks config seed says seat_was seat_now was now old new (p ∷ []) (p ∷ [])
+breaks_now p n seen due near adds stops = record {
   first = [];
   after = [];
   next = p;
@@ -104,16 +154,18 @@ breaks_now p n seen due adds stops = record {
   looked = nobody;
   seen = seen;
   due = due;
+  reached = near;
   adds = adds;
   stops = stops;
 }
 
 -- one after the other
-pub looks_then : {config : Config} {seed : List ℕ} {seat_was between seat_now : ℕ} {was amid now : Traffic}
+pub looks_then : {config : Config} {seed : List ℕ} {says : ℕ → Bool → Type 0} {seat_was between seat_now : ℕ}
+    {was amid now : Traffic}
     {old middle new : GossipReport} {ps qs ps' qs' : List Pace} →
-    Looks config seed seat_was between was amid old middle ps qs →
-    Looks config seed between seat_now amid now middle new ps' qs' →
-    Looks config seed seat_was seat_now was now old new (ps ++ ps') (qs ++ qs')
+    Looks config seed says seat_was between was amid old middle ps qs →
+    Looks config seed says between seat_now amid now middle new ps' qs' →
+    Looks config seed says seat_was seat_now was now old new (ps ++ ps') (qs ++ qs')
 looks_then {ps = ps} {ps' = ps'} p q = record {
   tos = p.tos ++ q.tos;
   missed = p.missed ++ q.missed;
@@ -125,11 +177,12 @@ looks_then {ps = ps} {ps' = ps'} p q = record {
   counted = omega (arith, p.counted, q.counted, length-append p.missed q.missed);
 }
 
-pub breaks_then : {config : Config} {seed : List ℕ} {seat_was between seat_now : ℕ} {was amid now : Traffic}
+pub breaks_then : {config : Config} {seed : List ℕ} {says : ℕ → Bool → Type 0} {seat_was between seat_now : ℕ}
+    {was amid now : Traffic}
     {old middle new : GossipReport} {ps qs ps' qs' : List Pace} →
-    Looks config seed seat_was between was amid old middle ps qs →
-    Breaks config seed between seat_now amid now middle new ps' qs' →
-    Breaks config seed seat_was seat_now was now old new (ps ++ ps') (qs ++ qs')
+    Looks config seed says seat_was between was amid old middle ps qs →
+    Breaks config seed says between seat_now amid now middle new ps' qs' →
+    Breaks config seed says seat_was seat_now was now old new (ps ++ ps') (qs ++ qs')
 breaks_then {ps = ps} {qs = qs} p q = record {
   first = ps ++ q.first;
   after = qs ++ q.after;
@@ -143,15 +196,17 @@ breaks_then {ps = ps} {qs = qs} p q = record {
   looked = looked_then p.looked q.looked;
   seen = q.seen;
   due = q.due;
+  reached = q.reached;
   adds = adds_as (adds_then p.adds q.adds) (sym (map-append bare_emit p.tos (q.tos ++ q.next.node ∷ []))
       ∙ ap (map bare_emit) (sym (append_assoc p.tos q.tos (q.next.node ∷ []))));
   stops = stops_as (stops_then p.moves q.stops) (sym (append_assoc p.tos q.tos (q.next.node ∷ [])));
 }
 
 -- with more peers behind
-pub breaks_before : {config : Config} {seed : List ℕ} {seat_was seat_now : ℕ} {was now : Traffic} {old new : GossipReport}
-    {ps qs : List Pace} → Breaks config seed seat_was seat_now was now old new ps qs → (rest : List Pace) →
-    Breaks config seed seat_was seat_now was now old new (ps ++ rest) (qs ++ rest)
+pub breaks_before : {config : Config} {seed : List ℕ} {says : ℕ → Bool → Type 0} {seat_was seat_now : ℕ}
+    {was now : Traffic} {old new : GossipReport}
+    {ps qs : List Pace} → Breaks config seed says seat_was seat_now was now old new ps qs → (rest : List Pace) →
+    Breaks config seed says seat_was seat_now was now old new (ps ++ rest) (qs ++ rest)
 breaks_before p rest = record {
   first = p.first;
   after = p.after;
@@ -165,6 +220,7 @@ breaks_before p rest = record {
   looked = p.looked;
   seen = p.seen;
   due = p.due;
+  reached = p.reached;
   adds = p.adds;
   stops = p.stops;
 }
@@ -213,31 +269,38 @@ joined [] (suc i) = refl
 joined (x ∷ xs) zero = refl
 joined (x ∷ xs) (suc i) = ap (λ l. x ∷ l) (joined xs i)
 
-looks_as : {config : Config} {seed : List ℕ} {seat_was seat_now : ℕ} {was now : Traffic} {old new : GossipReport}
-    {ps qs ps' qs' : List Pace} → Looks config seed seat_was seat_now was now old new ps qs → ps ≡ ps' → qs ≡ qs' →
-    Looks config seed seat_was seat_now was now old new ps' qs'
-looks_as {config = config} {seed = seed} {seat_was = seat_was} {seat_now = seat_now} {was = was} {now = now}
+looks_as : {config : Config} {seed : List ℕ} {says : ℕ → Bool → Type 0} {seat_was seat_now : ℕ} {was now : Traffic}
+    {old new : GossipReport}
+    {ps qs ps' qs' : List Pace} → Looks config seed says seat_was seat_now was now old new ps qs → ps ≡ ps' → qs ≡ qs' →
+    Looks config seed says seat_was seat_now was now old new ps' qs'
+looks_as {config = config} {seed = seed} {says = says} {seat_was = seat_was} {seat_now = seat_now} {was = was}
+    {now = now}
     {old = old} {new = new} {qs = qs} {ps' = ps'} p before after =
-    subst (λ l. Looks config seed seat_was seat_now was now old new ps' l) after
-    (subst (λ l. Looks config seed seat_was seat_now was now old new l qs) before p)
+    subst (λ l. Looks config seed says seat_was seat_now was now old new ps' l) after
+    (subst (λ l. Looks config seed says seat_was seat_now was now old new l qs) before p)
 
-breaks_as : {config : Config} {seed : List ℕ} {seat_was seat_now : ℕ} {was now : Traffic} {old new : GossipReport}
-    {ps qs ps' qs' : List Pace} → Breaks config seed seat_was seat_now was now old new ps qs → ps ≡ ps' → qs ≡ qs' →
-    Breaks config seed seat_was seat_now was now old new ps' qs'
-breaks_as {config = config} {seed = seed} {seat_was = seat_was} {seat_now = seat_now} {was = was} {now = now}
+breaks_as : {config : Config} {seed : List ℕ} {says : ℕ → Bool → Type 0} {seat_was seat_now : ℕ} {was now : Traffic}
+    {old new : GossipReport}
+    {ps qs ps' qs' : List Pace} → Breaks config seed says seat_was seat_now was now old new ps qs → ps ≡ ps' →
+    qs ≡ qs' →
+    Breaks config seed says seat_was seat_now was now old new ps' qs'
+breaks_as {config = config} {seed = seed} {says = says} {seat_was = seat_was} {seat_now = seat_now} {was = was}
+    {now = now}
     {old = old} {new = new} {qs = qs} {ps' = ps'} p before after =
-    subst (λ l. Breaks config seed seat_was seat_now was now old new ps' l) after
-    (subst (λ l. Breaks config seed seat_was seat_now was now old new l qs) before p)
+    subst (λ l. Breaks config seed says seat_was seat_now was now old new ps' l) after
+    (subst (λ l. Breaks config seed says seat_was seat_now was now old new l qs) before p)
 
 next_is : (i : ℕ) → i + 1 ≡ suc i
 next_is i = omega arith
 
 -- one more of the peers is looked at, or memory is refused there
-pub looks_on : {config : Config} {seed : List ℕ} {seat_was between seat_now : ℕ} {was amid now : Traffic}
-    {old middle new : GossipReport} (ps qs : List Pace) (i : ℕ) (none after : Pace) → i < length qs → length qs ≡ length ps →
-    drop i qs ≡ drop i ps → Looks config seed seat_was between was amid old middle (take i ps) (take i qs) →
-    Looks config seed between seat_now amid now middle new (get_or qs i none ∷ []) (after ∷ []) →
-    Looks config seed seat_was seat_now was now old new (take (i + 1) ps) (take (i + 1) (set qs i after))
+pub looks_on : {config : Config} {seed : List ℕ} {says : ℕ → Bool → Type 0} {seat_was between seat_now : ℕ}
+    {was amid now : Traffic}
+    {old middle new : GossipReport} (ps qs : List Pace) (i : ℕ) (none after : Pace) → i < length qs →
+    length qs ≡ length ps →
+    drop i qs ≡ drop i ps → Looks config seed says seat_was between was amid old middle (take i ps) (take i qs) →
+    Looks config seed says between seat_now amid now middle new (get_or qs i none ∷ []) (after ∷ []) →
+    Looks config seed says seat_was seat_now was now old new (take (i + 1) ps) (take (i + 1) (set qs i after))
 looks_on ps qs i none after lt long same p q =
     let first : take i ps ++ get_or qs i none ∷ [] ≡ take (i + 1) ps =
     ap (λ x. take i ps ++ x ∷ []) (same_first qs ps i none same) ∙ sym (taken_next ps i none (omega (arith, lt, long)))
@@ -246,11 +309,12 @@ looks_on ps qs i none after lt long same p q =
     sym (taken_written qs i after lt) ∙ ap (λ k. take k (set qs i after)) (sym (next_is i)) in
     looks_as (looks_then p q) first then_after
 
-pub breaks_on : {config : Config} {seed : List ℕ} {seat_was between seat_now : ℕ} {was amid now : Traffic}
+pub breaks_on : {config : Config} {seed : List ℕ} {says : ℕ → Bool → Type 0} {seat_was between seat_now : ℕ}
+    {was amid now : Traffic}
     {old middle new : GossipReport} (ps qs : List Pace) (i : ℕ) (none : Pace) → i < length qs → length qs ≡ length ps →
-    drop i qs ≡ drop i ps → Looks config seed seat_was between was amid old middle (take i ps) (take i qs) →
-    Breaks config seed between seat_now amid now middle new (get_or qs i none ∷ []) (get_or qs i none ∷ []) →
-    Breaks config seed seat_was seat_now was now old new ps (set qs i (get_or qs i none))
+    drop i qs ≡ drop i ps → Looks config seed says seat_was between was amid old middle (take i ps) (take i qs) →
+    Breaks config seed says between seat_now amid now middle new (get_or qs i none ∷ []) (get_or qs i none ∷ []) →
+    Breaks config seed says seat_was seat_now was now old new ps (set qs i (get_or qs i none))
 breaks_on ps qs i none lt long same p q =
     let x : Pace = get_or qs i none in
     let before : (take i ps ++ x ∷ []) ++ drop (suc i) ps ≡ ps =
@@ -269,11 +333,13 @@ same_on ps qs i after same =
 -- ---- a report of all
 
 -- all peers were looked at, and what came was taken in
-pub news_round : {config : Config} {seed : List ℕ} {seat_was between seat_now : ℕ} {was amid now : Traffic}
+pub news_round : {config : Config} {seed : List ℕ} {says : ℕ → Bool → Type 0} {seat_was between seat_now : ℕ}
+    {was amid now : Traffic}
     {old middle new : GossipReport} {ps qs : List Pace} → IsEmpty old →
-    Looks config seed seat_was between was amid old middle ps qs → Adds config seed between seat_now middle new [] →
+    Looks config seed says seat_was between was amid old middle ps qs →
+    Adds config seed between seat_now middle new [] →
     tried_of middle ≤ tried_of new → Moves config seed amid now middle new [] [] →
-    IsNewsRound config seed was now ps qs new
+    IsNewsRound config seed says was now ps qs new
 news_round empty p adds tried moves = record {
   tos = p.tos;
   missed = p.missed;
@@ -284,16 +350,19 @@ news_round empty p adds tried moves = record {
   carries = carries_of (moves_as (moves_then p.moves moves) (append-nil p.tos)) empty.receipts empty.lost empty.refused;
 }
 
-pub told_by_looks : {config : Config} {seed : List ℕ} {seat_was between seat_now : ℕ} {was amid : Traffic}
+pub told_by_looks : {config : Config} {seed : List ℕ} {says : ℕ → Bool → Type 0} {seat_was between seat_now : ℕ}
+    {was amid : Traffic}
     {old middle new : GossipReport} {ps qs : List Pace} → IsEmpty old →
-    Looks config seed seat_was between was amid old middle ps qs → Adds config seed between seat_now middle new [] →
+    Looks config seed says seat_was between was amid old middle ps qs →
+    Adds config seed between seat_now middle new [] →
     IsTold config seed seat_was seat_now new
 told_by_looks empty p adds = told_of (adds_then p.adds adds) empty.receipts empty.emitted empty.delivered
 
 -- memory was refused at a peer
-pub news_broken : {config : Config} {seed : List ℕ} {seat_was seat_now : ℕ} {was now : Traffic} {old new : GossipReport}
-    {ps qs : List Pace} → IsEmpty old → Breaks config seed seat_was seat_now was now old new ps qs →
-    IsNewsBroken config seed was now ps qs new
+pub news_broken : {config : Config} {seed : List ℕ} {says : ℕ → Bool → Type 0} {seat_was seat_now : ℕ}
+    {was now : Traffic} {old new : GossipReport}
+    {ps qs : List Pace} → IsEmpty old → Breaks config seed says seat_was seat_now was now old new ps qs →
+    IsNewsBroken config seed says was now ps qs new
 news_broken empty p = record {
   first = p.first;
   after = p.after;
@@ -306,7 +375,7 @@ news_broken empty p = record {
   all = p.all;
   rest_stays = p.left;
   looked = p.looked;
-  next_due = inr (p.next, p.news, p.rest, refl, p.seen, p.due, refl);
+  next_due = inr (p.next, p.news, p.rest, refl, p.seen, p.due, p.reached, refl);
   asks = part_of_all p.adds empty.receipts;
   few_left = p.stops.3;
   begins = p.stops.2;
@@ -314,10 +383,12 @@ news_broken empty p = record {
 }
 
 -- or while what came was taken in
-pub news_unheard : {config : Config} {seed : List ℕ} {seat_was between seat_now : ℕ} {was amid now : Traffic}
+pub news_unheard : {config : Config} {seed : List ℕ} {says : ℕ → Bool → Type 0} {seat_was between seat_now : ℕ}
+    {was amid now : Traffic}
     {old middle new : GossipReport} {ps qs : List Pace} → IsEmpty old →
-    Looks config seed seat_was between was amid old middle ps qs → Adds config seed between seat_now middle new [] →
-    Stops config seed amid now middle new [] → IsNewsBroken config seed was now ps qs new
+    Looks config seed says seat_was between was amid old middle ps qs →
+    Adds config seed between seat_now middle new [] →
+    Stops config seed amid now middle new [] → IsNewsBroken config seed says was now ps qs new
 news_unheard {ps = ps} {qs = qs} empty p adds stops =
     let all = stops_then p.moves stops in
     record {

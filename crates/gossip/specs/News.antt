@@ -48,7 +48,7 @@ told_pace p n = record {
   waits = rest_told p n;
 }
 
--- after a message to it was lost, or refused
+-- after it wasn't reached, or a message to it was lost, or refused
 abbrev pub missed_pace : Pace → Pace
 missed_pace p = record p { has_missed = true; rest = doubled p.rest; waits = doubled p.rest }
 
@@ -56,18 +56,27 @@ missed_pace p = record p { has_missed = true; rest = doubled p.rest; waits = dou
 abbrev pub IsSeen : Config → List ℕ → ℕ → News → Type 0
 IsSeen config seed peer news = (c : Cell) × IsLawfulAt config seed c × (news ≡ news_of c.node peer)
 
--- Each of these peers was looked at: it was left alone where nothing was due, and else told, or missed. How the paces
--- stand then, the peers to which a message was to be made, and those of them that were missed
-pub data AreLooked (config : Config) (seed : List ℕ) : List Pace → List Pace → List ℕ → List ℕ → Type 0 where
-  nobody : AreLooked config seed [] [] [] []
+-- a wire said, in some state, whether it reaches the node
+abbrev pub Says : {X : Type 0} → (X → ℕ → Bool) → ℕ → Bool → Type 0
+Says {X = X} reached node is = (w : X) × (reached w node ≡ is)
+
+-- Each of these peers was looked at: it was left alone where nothing was due, and else told, or missed, or gone.
+-- How the paces stand then, the peers to which a message was to be made, and those of them that were missed
+pub data AreLooked (config : Config) (seed : List ℕ) (says : ℕ → Bool → Type 0) : List Pace → List Pace → List ℕ →
+    List ℕ → Type 0 where
+  nobody : AreLooked config seed says [] [] [] []
   left_alone : {p : Pace} {n : News} {ps qs : List Pace} {tos missed : List ℕ}
       → IsSeen config seed p.node n → is_due p n ≡ false
-      → AreLooked config seed ps qs tos missed → AreLooked config seed (p ∷ ps) (rested p ∷ qs) tos missed
+      → AreLooked config seed says ps qs tos missed → AreLooked config seed says (p ∷ ps) (rested p ∷ qs) tos missed
+  not_reached : {p : Pace} {n : News} {ps qs : List Pace} {tos missed : List ℕ}
+      → IsSeen config seed p.node n → is_due p n ≡ true → says p.node false
+      → AreLooked config seed says ps qs tos missed → AreLooked config seed says (p ∷ ps)
+      (missed_pace p ∷ qs) tos missed
   told_it : {p : Pace} {n : News} {ps qs : List Pace} {tos missed : List ℕ}
-      → IsSeen config seed p.node n → is_due p n ≡ true
-      → AreLooked config seed ps qs tos missed
-      → AreLooked config seed (p ∷ ps) (told_pace p n ∷ qs) (p.node ∷ tos) missed
+      → IsSeen config seed p.node n → is_due p n ≡ true → says p.node true
+      → AreLooked config seed says ps qs tos missed
+      → AreLooked config seed says (p ∷ ps) (told_pace p n ∷ qs) (p.node ∷ tos) missed
   missed_it : {p : Pace} {n : News} {ps qs : List Pace} {tos missed : List ℕ}
-      → IsSeen config seed p.node n → is_due p n ≡ true
-      → AreLooked config seed ps qs tos missed
-      → AreLooked config seed (p ∷ ps) (missed_pace p ∷ qs) (p.node ∷ tos) (p.node ∷ missed)
+      → IsSeen config seed p.node n → is_due p n ≡ true → says p.node true
+      → AreLooked config seed says ps qs tos missed
+      → AreLooked config seed says (p ∷ ps) (missed_pace p ∷ qs) (p.node ∷ tos) (p.node ∷ missed)

@@ -1,5 +1,5 @@
 -- What a round comes to that tells only news.
-use Rattle.std.specs.Prelude.{◌≡◌, ◌⊎◌, ◌≤◌, ℕ, ◌+◌, true, List, [], ◌∷◌, ◌++◌, length, map}
+use Rattle.std.specs.Prelude.{◌≡◌, ◌⊎◌, ◌≤◌, ℕ, ◌+◌, Bool, true, List, [], ◌∷◌, ◌++◌, length, map}
 use Rattle.node_core.specs.declared.config.Config.{Config}
 use Rattle.node_calls.specs.Asks.{bare_emit}
 use Rattle.gossip.specs.declared.news.News.{News}
@@ -21,11 +21,12 @@ pub record IsEmpty (r : GossipReport) : Type 0 where
   pub refused : r.refused ≡ 0
 
 -- these peers were looked at, and what was told them is in the report
-pub record Looks (config : Config) (seed : List ℕ) (seat_was seat_now : ℕ) (was now : Traffic) (old new : GossipReport)
+pub record Looks (config : Config) (seed : List ℕ) (says : ℕ → Bool → Type 0) (seat_was seat_now : ℕ)
+    (was now : Traffic) (old new : GossipReport)
     (ps qs : List Pace) : Type 0 where
   pub tos : List ℕ
   pub missed : List ℕ
-  pub looked : AreLooked config seed ps qs tos missed
+  pub looked : AreLooked config seed says ps qs tos missed
   pub adds : Adds config seed seat_was seat_now old new (map bare_emit tos)
   pub moves : Moves config seed was now old new tos []
   pub tried : tried_of old + length tos ≤ tried_of new
@@ -33,7 +34,8 @@ pub record Looks (config : Config) (seed : List ℕ) (seat_was seat_now : ℕ) (
   pub counted : new.lost + new.refused ≡ old.lost + old.refused + length missed
 
 -- the first of these peers were looked at, and at the next one, which was to be told, memory was refused
-pub record Breaks (config : Config) (seed : List ℕ) (seat_was seat_now : ℕ) (was now : Traffic) (old new : GossipReport)
+pub record Breaks (config : Config) (seed : List ℕ) (says : ℕ → Bool → Type 0) (seat_was seat_now : ℕ)
+    (was now : Traffic) (old new : GossipReport)
     (ps qs : List Pace) : Type 0 where
   pub first : List Pace
   pub after : List Pace
@@ -44,27 +46,31 @@ pub record Breaks (config : Config) (seed : List ℕ) (seat_was seat_now : ℕ) 
   pub missed : List ℕ
   pub all : ps ≡ first ++ next ∷ rest
   pub left : qs ≡ after ++ next ∷ rest
-  pub looked : AreLooked config seed first after tos missed
+  pub looked : AreLooked config seed says first after tos missed
   pub seen : IsSeen config seed next.node news
   pub due : is_due next news ≡ true
+  pub reached : says next.node true
   pub adds : Adds config seed seat_was seat_now old new (map bare_emit (tos ++ next.node ∷ []))
   pub stops : Stops config seed was now old new (tos ++ next.node ∷ [])
 
--- A round that this report tells of: each peer was looked at, and to each that was to be told a message was made, which
--- was sent, or is counted as lost, or the node refused to make it; to no other one was made
-pub record IsNewsRound (config : Config) (seed : List ℕ) (was now : Traffic) (ps qs : List Pace) (r : GossipReport) :
+-- A round that this report tells of: each peer was looked at, and to each that was to be told and was reached a message
+-- was made, which was sent, or is counted as lost, or the node refused to make it; to no other one was made
+pub record IsNewsRound (config : Config) (seed : List ℕ) (says : ℕ → Bool → Type 0) (was now : Traffic)
+    (ps qs : List Pace) (r : GossipReport) :
     Type 0 where
   pub tos : List ℕ
   pub missed : List ℕ
-  pub looked : AreLooked config seed ps qs tos missed
+  pub looked : AreLooked config seed says ps qs tos missed
   pub asks : IsPartOf (own_asks_in config r.receipts.items) (map bare_emit tos)
   pub tried : length tos ≤ tried_of r
   pub counted : length missed ≤ r.lost + r.refused
   pub carries : Carries config seed was now r.receipts.items r.lost r.refused tos []
 
--- one that memory ended: the same of the first peers, and perhaps of the next one, if it was to be told. One message may be
+-- one that memory ended: the same of the first peers, and perhaps of the next one, if it was to be told. One message
+-- may be
 -- left that was taken last
-pub record IsNewsBroken (config : Config) (seed : List ℕ) (was now : Traffic) (ps qs : List Pace) (r : GossipReport) :
+pub record IsNewsBroken (config : Config) (seed : List ℕ) (says : ℕ → Bool → Type 0) (was now : Traffic)
+    (ps qs : List Pace) (r : GossipReport) :
     Type 0 where
   pub first : List Pace
   pub after : List Pace
@@ -76,9 +82,9 @@ pub record IsNewsBroken (config : Config) (seed : List ℕ) (was now : Traffic) 
   pub left : List (List ℕ)
   pub all : ps ≡ first ++ rest
   pub rest_stays : qs ≡ after ++ rest
-  pub looked : AreLooked config seed first after tos missed
+  pub looked : AreLooked config seed says first after tos missed
   pub next_due : (next ≡ []) ⊎ ((p : Pace) × (n : News) × (others : List Pace) × (rest ≡ p ∷ others)
-      × IsSeen config seed p.node n × (is_due p n ≡ true) × (next ≡ p.node ∷ []))
+      × IsSeen config seed p.node n × (is_due p n ≡ true) × says p.node true × (next ≡ p.node ∷ []))
   pub asks : IsPartOf (own_asks_in config r.receipts.items) (map bare_emit (tos ++ next))
   pub few_left : length left ≤ 1
   pub begins : Begins made (tos ++ next)

@@ -19,4 +19,4 @@ pub use news_rounds::gossip_news;
 pub use report::{Ended, GossipReport};
 pub use rounds::{MOST_TAKEN, gossip_rounds};
 pub use spreading::spread;
-pub use wire::{Wire, WireError};
+pub use wire::{Reach, Wire, WireError};

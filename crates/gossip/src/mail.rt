@@ -1,12 +1,12 @@
 //! Mailboxes in one process.
 
-ghost use Rattle.std.specs.Prelude.{◌≡◌, ◌≤◌, ◌<◌, map, option_map, IfOk, OnErr, OnOk};
+ghost use Rattle.std.specs.Prelude.{◌≡◌, ◌≤◌, ◌<◌, map, nat_lt, option_map, IfOk, OnErr, OnOk};
 ghost use Rattle.std.specs.List.{range_with_len};
 ghost use Rattle.gossip.specs.Mailboxes.{finds, new_place, posts, traffic_of};
 ghost use Rattle.gossip.specs.Traffic.{sends, takes};
 
 use crate::mailbox::{Look, Mailbox, Posted};
-use crate::wire::{Wire, WireError};
+use crate::wire::{Reach, Wire, WireError};
 use history::Log;
 use std::alloc::{AllocError, Global};
 use std::marker::Model;
@@ -117,5 +117,19 @@ impl Wire for MailWire {
         let look = self.mailboxes[usize::from(self.node)].look(rt);
         self.looks.add(&look);
         Ok(look.into_found())
+    }
+}
+
+impl Reach for MailWire {
+    ghost use Rattle.std.specs.Prelude.{nat_lt};
+
+    ghost reached = { λ w to. nat_lt to w.nodes };
+
+    fn reaches<R: Wait>(&mut self, _rt: &R, _alloc: Global, to: u8) -> bool
+        ensures value { result ≡ nat_lt to self.new.nodes }
+        ensures stays { self.new ≡ self.old }
+        ensures same { traffic_of self.new ≡ traffic_of self.old }
+    {
+        usize::from(to) < self.mailboxes.len()
     }
 }

@@ -39,7 +39,7 @@ pub struct Pace {
     pub told_version: u64,
     /// The peer's version of that message.
     pub told_known: u64,
-    /// Whether the last message to it was lost, or refused.
+    /// Whether it wasn't reached the last time, or the message to it was lost, or refused.
     pub has_missed: bool,
     /// For how many rounds it was left alone the last time, unless there was news.
     pub rest: u32,
@@ -121,7 +121,7 @@ impl Pace {
         }
     }
 
-    /// After a message to the peer was lost, or refused.
+    /// After the peer wasn't reached, or a message to it was lost, or refused.
     pub fn missed(&self) -> Pace
         ensures { result ≡ missed_pace self.now }
     {

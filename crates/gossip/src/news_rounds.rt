@@ -1,7 +1,7 @@
 //! Rounds of gossip that tell only news.
 
 ghost use Rattle.std.specs.Prelude.{◌≡◌, ◌+◌, ◌<◌, ◌^◌, [], ◌∷◌, length, IfOk, OnErr, OnOk};
-ghost use Rattle.gossip.specs.News.{IsSeen};
+ghost use Rattle.gossip.specs.News.{IsSeen, Says};
 ghost use Rattle.gossip.specs.NewsRounds.{Breaks, IsEmpty, IsNewsBroken, IsNewsRound, Looks};
 ghost use Rattle.gossip.specs.Reports.{IsTold, calls_of};
 
@@ -9,17 +9,18 @@ use crate::caller::Caller;
 use crate::news::{News, Pace};
 use crate::report::{Ended, GossipReport};
 use crate::rounds::{hear, tell_one};
-use crate::wire::Wire;
+use crate::wire::Reach;
 use node_registry::{Label, Registry, Seat};
 use std::alloc::{AllocError, Global};
 use std::sync::Wait;
 
 /// Does a round of gossip that tells only news. Each of these peers is looked at, in their order: where
-/// the node has something to tell it, and its time has come, a message is made and sent, and its pace
-/// says when it is told again. Where nothing is due no message is made, and the node isn't called.
+/// the node has something to tell it, its time has come, and the wire reaches it, a message is made and
+/// sent. Its pace says when it is looked for again. Where nothing is due, and where the peer isn't
+/// reached, no message is made, and the node isn't called.
 /// Then the round takes in what the wire brings, at most 64 messages. A message that couldn't be sent
 /// is counted, and so is a call that the node refuses. Out of memory, also on the wire, ends the round.
-pub fn gossip_news<L: Label, W: Wire, R: Wait>(
+pub fn gossip_news<L: Label, W: Reach, R: Wait>(
     rt: &R,
     alloc: Global,
     registry: &Registry<L>,
@@ -30,9 +31,9 @@ pub fn gossip_news<L: Label, W: Wire, R: Wait>(
     requires { length paces.old < 2 ^ 32 }
     ensures told { IsTold L.config L.seed seat.old seat.new result }
     ensures round { result.ended ≡ Ended.Done → IsNewsRound L.config L.seed
-        (W.traffic wire.old) (W.traffic wire.new) paces.old paces.new result }
+        (Says W.reached) (W.traffic wire.old) (W.traffic wire.new) paces.old paces.new result }
     ensures broken { result.ended ≡ Ended.OutOfMemory → IsNewsBroken L.config L.seed
-        (W.traffic wire.old) (W.traffic wire.new) paces.old paces.new result }
+        (Says W.reached) (W.traffic wire.old) (W.traffic wire.new) paces.old paces.new result }
 {
     let caller = Caller {
         rt,
@@ -47,7 +48,7 @@ pub fn gossip_news<L: Label, W: Wire, R: Wait>(
 }
 
 // Looks at each peer, and takes in what comes.
-fn round<L: Label, W: Wire, R: Wait>(
+fn round<L: Label, W: Reach, R: Wait>(
     caller: &Caller<'_, L, R>,
     seat: &mut Seat<L>,
     wire: &mut W,
@@ -58,9 +59,9 @@ fn round<L: Label, W: Wire, R: Wait>(
     requires empty { IsEmpty report.old }
     ensures told { IsTold L.config L.seed seat.old seat.new report.new }
     ensures ended { report.new.ended ≡ report.old.ended }
-    ensures round { OnOk result (IsNewsRound L.config L.seed
+    ensures round { OnOk result (IsNewsRound L.config L.seed (Says W.reached)
         (W.traffic wire.old) (W.traffic wire.new) paces.old paces.new report.new) }
-    ensures broken { OnErr result (IsNewsBroken L.config L.seed
+    ensures broken { OnErr result (IsNewsBroken L.config L.seed (Says W.reached)
         (W.traffic wire.old) (W.traffic wire.new) paces.old paces.new report.new) }
 {
     look_at_all(caller, seat, wire, paces, report)?;
@@ -68,7 +69,7 @@ fn round<L: Label, W: Wire, R: Wait>(
 }
 
 // Looks at each peer.
-fn look_at_all<L: Label, W: Wire, R: Wait>(
+fn look_at_all<L: Label, W: Reach, R: Wait>(
     caller: &Caller<'_, L, R>,
     seat: &mut Seat<L>,
     wire: &mut W,
@@ -77,10 +78,12 @@ fn look_at_all<L: Label, W: Wire, R: Wait>(
 ) -> Result<(), AllocError>
     requires few { length paces.old < 2 ^ 32 }
     requires room { calls_of report.old < 2 ^ 32 }
-    ensures looks { OnOk result (Looks L.config L.seed seat.old seat.new (W.traffic wire.old)
-        (W.traffic wire.new) report.old report.new paces.old paces.new) }
-    ensures breaks { OnErr result (Breaks L.config L.seed seat.old seat.new (W.traffic wire.old)
-        (W.traffic wire.new) report.old report.new paces.old paces.new) }
+    ensures looks { OnOk result (Looks L.config L.seed (Says W.reached)
+        seat.old seat.new (W.traffic wire.old) (W.traffic wire.new) report.old report.new
+        paces.old paces.new) }
+    ensures breaks { OnErr result (Breaks L.config L.seed (Says W.reached)
+        seat.old seat.new (W.traffic wire.old) (W.traffic wire.new) report.old report.new
+        paces.old paces.new) }
 {
     for pace in paces.iter_mut() {
         *pace = look_at(caller, seat, wire, *pace, report)?;
@@ -88,8 +91,8 @@ fn look_at_all<L: Label, W: Wire, R: Wait>(
     Ok(())
 }
 
-// Looks at a peer, tells it if that is due, and answers its pace after that.
-fn look_at<L: Label, W: Wire, R: Wait>(
+// Looks at a peer, tells it if that is due and it is reached, and answers its pace after that.
+fn look_at<L: Label, W: Reach, R: Wait>(
     caller: &Caller<'_, L, R>,
     seat: &mut Seat<L>,
     wire: &mut W,
@@ -97,15 +100,19 @@ fn look_at<L: Label, W: Wire, R: Wait>(
     report: &mut GossipReport,
 ) -> Result<Pace, AllocError>
     requires { calls_of report.old < 2 ^ 63 }
-    ensures looks { IfOk result (λ after. Looks L.config L.seed seat.old seat.new
+    ensures looks { IfOk result (λ after. Looks L.config L.seed (Says W.reached) seat.old seat.new
         (W.traffic wire.old) (W.traffic wire.new) report.old report.new
         (pace ∷ []) (after ∷ [])) }
-    ensures breaks { OnErr result (Breaks L.config L.seed seat.old seat.new (W.traffic wire.old)
-        (W.traffic wire.new) report.old report.new (pace ∷ []) (pace ∷ [])) }
+    ensures breaks { OnErr result (Breaks L.config L.seed (Says W.reached)
+        seat.old seat.new (W.traffic wire.old) (W.traffic wire.new) report.old report.new
+        (pace ∷ []) (pace ∷ [])) }
 {
     let news = news_for(caller, pace.node);
     if !pace.is_due(news) {
         return Ok(pace.rested());
+    }
+    if !wire.reaches(caller.rt, caller.alloc, pace.node) {
+        return Ok(pace.missed());
     }
     if tell_one(caller, seat, wire, pace.node, report)? {
         Ok(pace.told(news))

@@ -87,3 +87,16 @@ pub trait Wire {
             traffic self.new ≡ takes (option_map (λ m. m.items) found) (traffic self.old)) }
         ensures err { OnErr result (traffic self.new ≡ traffic self.old) };
 }
+
+/// A wire that looks for a node before a message to it is made, so that none is made in vain. Contracts
+/// see which nodes it reached when it last looked.
+pub trait Reach: Wire {
+    ghost use Rattle.std.specs.Prelude.{ℕ, Bool};
+
+    ghost reached: { Self → ℕ → Bool };
+
+    /// Whether a node is reached now.
+    fn reaches<R: Wait>(&mut self, rt: &R, alloc: Global, to: u8) -> bool
+        ensures value { result ≡ reached self.new to }
+        ensures same { Self.traffic self.new ≡ Self.traffic self.old };
+}

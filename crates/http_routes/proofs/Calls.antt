@@ -8,7 +8,7 @@ use Rattle.node_calls.specs.Told.{AskTold, reply_told}
 use Rattle.node_calls.specs.Asks.{asked_first, asked_from, reply_value}
 use Rattle.node_core.specs.Traces.{Kept, Accepts, IsRefusalOf}
 use Rattle.http_routes.specs.Replies.{ReplyValue, IsReply, acceptance_value, refusal_value}
-use Rattle.http_routes.specs.Requests.{call}
+use Rattle.http_routes.specs.Requests.{WantedValue, IsWanted, call}
 use Rattle.http_routes.specs.Answers.{Comes}
 use Rattle.http_routes.specs.Memory.{AskNeedsMemory, IsOutOfMemory, NeedsMemory, holds_fault}
 
@@ -83,3 +83,9 @@ needed_by k ask given (Err f) refused needs told exact says = by_kind (holds_fau
         by_refusal : IsRefusalOf k (asked_first k.config.nodes ask) [] f → NeedsMemory k (call ask)
         by_refusal (inl is) = inl (needs (ap Err is))
         by_refusal (inr is) = inr (f, is, e)
+
+-- what holds of a call holds of what is wanted, where this is the call
+pub wanted_call : (ask : AskTold) (wanted : WantedValue) (P : WantedValue → Type 0) → IsWanted wanted (call ask) →
+    P (call ask) → P wanted
+wanted_call ask wanted P (inl is) holds = subst P is holds
+wanted_call ask wanted P (inr is) holds = absurd (let no : ⊥ = cc in no)

@@ -4,7 +4,7 @@ use Rattle.gossip.proofs.NewsLemmas.{breaks_on, looks_nobody, looks_on, same_on}
 use Rattle.gossip.proofs.news_rounds.look_at_all.Goals as goal
 
 pub loop-pace-init : goal.loop-pace-init
-loop-pace-init g c = record { looks = looks_nobody _ _ _ _ _; same = refl; long = refl }
+loop-pace-init g c = record { looks = looks_nobody _ _ _ _ _ _; same = refl; long = refl }
 
 pub look_at-requires : goal.look_at-requires
 look_at-requires g c =
@@ -14,16 +14,16 @@ look_at-requires g c =
 pub returns-in_err-pace-clause-breaks : goal.returns-in_err-pace-clause-breaks
 returns-in_err-pace-clause-breaks g c =
     let was = c.loop-pace.invariant in
-    on_err _ (breaks_on c.args.paces.now c.loop-pace.paces c.loop-pace.pace-index _ (omega (arith, c.loop-pace-test.true, was.long)) was.long was.same
-    was.looks c.in_err-pace.ensures.breaks)
+    on_err _ (breaks_on c.args.paces.now c.loop-pace.paces c.loop-pace.pace-index _
+    (omega (arith, c.loop-pace-test.true, was.long)) was.long was.same was.looks c.in_err-pace.ensures.breaks)
 
 pub loop-pace-preserved : goal.loop-pace-preserved
 loop-pace-preserved g c =
     let was = c.loop-pace.invariant in
     let next = c.in_ok-pace.field-0 in
     record {
-      looks = looks_on c.args.paces.now c.loop-pace.paces c.loop-pace.pace-index _ next (omega (arith, c.loop-pace-test.true, was.long)) was.long
-          was.same was.looks c.in_ok-pace.ensures.looks;
+      looks = looks_on c.args.paces.now c.loop-pace.paces c.loop-pace.pace-index _ next
+          (omega (arith, c.loop-pace-test.true, was.long)) was.long was.same was.looks c.in_ok-pace.ensures.looks;
       same = same_on c.args.paces.now c.loop-pace.paces c.loop-pace.pace-index next was.same;
       long = length-set c.loop-pace.paces c.loop-pace.pace-index next ∙ was.long;
     }
