@@ -1,5 +1,5 @@
 -- How the reading of a body goes on and ends, piece by piece, and what an exchange gives by that.
-use Rattle.std.proofs.Common.{◌≡◌, ℕ, List, [], ◌∷◌, ◌++◌, map, Option, Some, None, Result, Ok, Err, inl, inr, sym, ap, ◌∙◌, subst, IfSome, append_assoc, append-nil}
+use Rattle.std.proofs.Common.{◌≡◌, ℕ, List, [], ◌∷◌, ◌++◌, map, Option, Some, None, Result, Ok, Err, inl, inr, sym, ap, ◌∙◌, subst, IfSome, MatchOption, append_assoc, append-nil}
 use Rattle.std.proofs.lemmas.List.{map-append}
 use Rattle.std.proofs.lemmas.List.Concat.{flat_map-append}
 use Rattle.futures.specs.Runs.{Runs, After, Within}
@@ -8,12 +8,15 @@ use Rattle.http_body.specs.Frame.{bytes_in, joined_data}
 use Rattle.http_body_util.specs.declared.limited.LimitedError.TheVariants.{LengthLimit, Body}
 use Rattle.http.specs.declared.response.Response.{Response}
 use Rattle.http_body_util.specs.declared.full.Full.{Full}
-use Rattle.http_routes.specs.Replies.{ReplyValue}
+use Rattle.http_routes.specs.declared.reply.HttpReply.{HttpReply}
+use Rattle.http_routes.specs.Replies.{ReplyValue, IsReply, http_value}
 use Rattle.hyper.specs.declared.error.Error.{Error}
 use Rattle.http_serve.specs.declared.exchange.Exchange.{Exchange}
 use Rattle.http_serve.specs.declared.exchange.Reading.{Reading}
 use Rattle.http_serve.specs.declared.exchange.Reading.TheVariants as readings
-use Rattle.http_serve.specs.Exchanges.{Piece, TakesIn, GoesOn, EndsSo, ComesTo, Gives, asking_of, pieces_of}
+use Rattle.http_serve.specs.declared.heads.Refusal.{Refusal}
+use Rattle.http_serve.specs.Heads.{refusal_reply}
+use Rattle.http_serve.specs.Exchanges.{Piece, TakesIn, GoesOn, EndsSo, ComesTo, Gives, GivesRead, IsRefused, Responds, asking_of, pieces_of}
 
 joined : (had : List ℕ) (fs gs : List (Frame (List ℕ))) → (had ++ joined_data fs) ++ joined_data gs ≡ had ++
     joined_data (fs ++ gs)
@@ -95,11 +98,11 @@ module _ (source : Runs Piece) (had : List ℕ) where
 
 -- what an exchange gives later is what it gives
 module _ {I H R : Type 0} (answers : H → List ℕ → List ℕ → List ℕ → ReplyValue → Type 0) where
-  pub gives_later : (old new : Exchange I H R) (given : Result (Response (Full (List ℕ))) Error) →
+  read_later : (old new : Exchange I H R) (given : Result (Response (Full (List ℕ))) Error) →
       asking_of new ≡ asking_of old
-      → GoesOn (pieces_of old.body) old.read.items (pieces_of new.body) new.read.items → Gives answers new given →
-      Gives answers old given
-  gives_later old new given same on gives =
+      → GoesOn (pieces_of old.body) old.read.items (pieces_of new.body) new.read.items → GivesRead answers new given →
+      GivesRead answers old given
+  read_later old new given same on gives =
       record {
         reading = gives.reading;
         body = gives.body;
@@ -109,3 +112,19 @@ module _ {I H R : Type 0} (answers : H → List ℕ → List ℕ → List ℕ �
         comes = subst (λ a. ComesTo answers a gives.reading gives.body gives.reply) same gives.comes;
         responds = gives.responds;
       }
+
+  pub gives_later : (old new : Exchange I H R) (given : Result (Response (Full (List ℕ))) Error) →
+      old.refusal ≡ None → new.refusal ≡ old.refusal → asking_of new ≡ asking_of old
+      → GoesOn (pieces_of old.body) old.read.items (pieces_of new.body) new.read.items → Gives answers new given →
+      Gives answers old given
+  gives_later old new given none kept same on gives =
+      subst (λ o. MatchOption o (GivesRead answers old given) (λ refusal. IsRefused refusal given)) (sym none)
+      (read_later old new given same on
+      (subst (λ o. MatchOption o (GivesRead answers new given) (λ refusal. IsRefused refusal given)) (kept ∙ none) gives))
+
+  -- a head that is refused is answered so
+  pub refused_so : (e : Exchange I H R) (refusal : Refusal) (reply : HttpReply)
+      (given : Result (Response (Full (List ℕ))) Error) → e.refusal ≡ Some refusal
+      → IsReply (refusal_reply refusal) (http_value reply) → Responds (Ok reply) given → Gives answers e given
+  refused_so e refusal reply given is replies responds =
+      subst (λ o. MatchOption o (GivesRead answers e given) (λ r. IsRefused r given)) (sym is) (reply, replies, responds)

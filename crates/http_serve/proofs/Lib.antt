@@ -1,3 +1,4 @@
 mod Calls
 mod Crossing
 mod Exchanges
+mod Ports

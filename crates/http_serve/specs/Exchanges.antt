@@ -16,7 +16,7 @@ use Rattle.http_body_util.specs.declared.limited.LimitedError.{LimitedError}
 use Rattle.http_body_util.specs.declared.limited.LimitedError.TheVariants.{LengthLimit, Body}
 use Rattle.http_body_util.specs.Limited.{Limits}
 use Rattle.http_routes.specs.declared.reply.HttpReply.{HttpReply}
-use Rattle.http_routes.specs.Replies.{ReplyValue, http_value, no_memory}
+use Rattle.http_routes.specs.Replies.{ReplyValue, IsReply, http_value, no_memory}
 use Rattle.http.specs.Uri.{uri_path}
 use Rattle.hyper.specs.declared.body.incoming.Incoming.{Incoming}
 use Rattle.hyper.specs.declared.error.Error.{Error}
@@ -26,6 +26,8 @@ use Rattle.hyper.specs.Incoming.{IncomingYields}
 use Rattle.http_serve.specs.declared.exchange.ConnectionService.{ConnectionService}
 use Rattle.http_serve.specs.declared.exchange.Exchange.{Exchange}
 use Rattle.http_serve.specs.declared.exchange.Reading.{Reading}
+use Rattle.http_serve.specs.declared.heads.Refusal.{Refusal}
+use Rattle.http_serve.specs.Heads.{refusal_of, refusal_reply}
 use Rattle.http_serve.specs.declared.exchange.Reading.TheVariants as readings
 
 -- a frame of a body, or why there is none
@@ -96,6 +98,11 @@ Responds (Ok reply) (Ok response) = IsStatusCode reply.status → IsResponseTo (
 Responds (Ok reply) (Err error) = kind_of error ≡ kinds.OutOfMemory
 Responds (Err error) given = given ≡ Err error
 
+-- a head that is refused is answered so, unless memory was refused
+abbrev pub IsRefused : Refusal → Result (Response (Full (List ℕ))) Error → Type 0
+IsRefused refusal given =
+    (reply : HttpReply) × IsReply (refusal_reply refusal) (http_value reply) × Responds (Ok reply) given
+
 -- what a request asks of a handler
 abbrev pub asking_by : {I H : Type 0} → Request (Incoming I) → Option H → Asking H
 asking_by req handler =
@@ -105,20 +112,26 @@ module _ {I H R : Type 0} where
   abbrev pub asking_of : Exchange I H R → Asking H
   asking_of e = record { handler = option_map arc_value e.handler; method = e.method; path = uri_path e.uri }
 
-  -- the exchange of a request: it asks the service's handler, or nobody where memory was refused; the body is the
-  -- request's, up to the longest one, and nothing of it is read yet
+  -- the exchange of a request: it asks the service's handler, or nobody where the head or memory was refused; the body
+  -- is the request's, up to the longest one, and nothing of it is read yet
   pub record IsExchangeOf (service : ConnectionService H R) (req : Request (Incoming I)) (e : Exchange I H R) :
       Type 0 where
-    pub asks : (asking_of e ≡ asking_by req (option_map arc_value service.handler)) ⊎ (asking_of e ≡ asking_by req None)
+    pub refusal : e.refusal ≡ refusal_of service.port (request.head_of req).headers
+    pub asks : ((e.refusal ≡ None) × (asking_of e ≡ asking_by req (option_map arc_value service.handler)))
+        ⊎ (asking_of e ≡ asking_by req None)
     pub body : e.body ≡ record { remaining = max_message; inner = request.body_of req }
     pub read : e.read.items ≡ []
 
   module _ (answers : H → List ℕ → List ℕ → List ℕ → ReplyValue → Type 0) where
     -- the reading of what is left of the body ends so, the request comes to that reply, and it is what is given
-    pub record Gives (e : Exchange I H R) (given : Result (Response (Full (List ℕ))) Error) : Type 0 where
+    pub record GivesRead (e : Exchange I H R) (given : Result (Response (Full (List ℕ))) Error) : Type 0 where
       pub reading : Reading
       pub body : List ℕ
       pub ends : EndsSo (pieces_of e.body) e.read.items reading body
       pub reply : Result HttpReply Error
       pub comes : ComesTo answers (asking_of e) reading body reply
       pub responds : Responds reply given
+
+    -- The same; where the head was refused, nobody is asked and nothing of the body is read: what is given says why.
+    abbrev pub Gives : Exchange I H R → Result (Response (Full (List ℕ))) Error → Type 0
+    Gives e given = MatchOption e.refusal (GivesRead e given) (λ refusal. IsRefused refusal given)

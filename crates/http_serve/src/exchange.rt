@@ -16,6 +16,7 @@ ghost use Rattle.http_serve.specs.Exchanges.{asking_of, pieces_of, ComesTo, Ends
 ghost use Rattle.http_serve.specs.Exchanges.{IsExchangeOf, IsResponseTo, Responds, TakesIn};
 
 use crate::handler::Handler;
+use crate::heads::{Refusal, judge};
 use crate::permits::Permits;
 use bytes::Bytes;
 use futures::task::{Context, Poll};
@@ -45,6 +46,8 @@ pub struct ConnectionService<H, R> {
     pub handler: Option<Arc<H>>,
     /// The permits of long bodies.
     pub long: Option<Permits>,
+    /// The port of 127.0.0.1 at which the handler is served.
+    pub port: u16,
 }
 
 /// A request whose body is being read.
@@ -52,7 +55,9 @@ pub struct ConnectionService<H, R> {
 pub struct Exchange<I, H, R> {
     alloc: Global,
     rt: R,
-    // There is none where memory was refused.
+    // Why the head is answered without the handler, if it is.
+    refusal: Option<Refusal>,
+    // There is none where the head or memory was refused.
     handler: Option<Arc<H>>,
     method: Method,
     uri: Uri,
@@ -84,12 +89,13 @@ impl<I: Drop, H: Handler, R: Wait + Copy> Service<Request<Incoming<I>>>
 
     fn call(&self, req: Request<Incoming<I>>) -> Exchange<I, H, R> {
         let (head, body) = req.into_parts();
+        let refusal = judge(&head.headers, self.port);
         let is_short = match body.size_hint().upper() {
             Some(most) => most <= SHORT_BODY,
             None => false,
         };
         let long = if is_short { None } else { again(&self.long) };
-        let handler = if is_short || long.is_some() {
+        let handler = if refusal.is_none() && (is_short || long.is_some()) {
             shared(&self.handler)
         } else {
             None
@@ -97,6 +103,7 @@ impl<I: Drop, H: Handler, R: Wait + Copy> Service<Request<Incoming<I>>>
         Exchange {
             alloc: self.alloc,
             rt: self.rt,
+            refusal,
             handler,
             method: head.method,
             uri: head.uri,
@@ -130,6 +137,7 @@ impl<I: Drop, H: Handler, R: Wait + Copy> Exchange<I, H, R> {
     // Reads the body, a long one once there is a permit for it.
     fn poll_reading(&mut self, cx: &mut Context<'_>) -> Poll<Reading>
         requires { IfSome self.old.permits (λ permits. IfSome permits.waiting CanAcquire) }
+        ensures refusal { self.new.refusal ≡ self.old.refusal }
         ensures asking { asking_of self.new ≡ asking_of self.old }
         ensures ends { IfReady result (λ reading. EndsSo (pieces_of self.old.body)
             self.old.read.items reading self.new.read.items) }
@@ -163,6 +171,9 @@ impl<I: Drop, H: Handler, R: Wait + Copy> Future for Exchange<I, H, R> {
     ghost gives = { Gives H.answers };
 
     fn poll(&mut self, cx: &mut Context<'_>) -> Poll<hyper::Result<Response<Full<Bytes>>>> {
+        if let Some(refusal) = self.refusal {
+            return Poll::Ready(respond(self.alloc, Ok(refusal.reply(self.alloc))));
+        }
         let reading = ready!(self.poll_reading(cx));
         let reply = self.reply(reading);
         Poll::Ready(respond(self.alloc, reply))

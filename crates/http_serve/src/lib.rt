@@ -11,6 +11,7 @@ mod connection;
 mod exchange;
 mod fault;
 mod handler;
+mod heads;
 mod permits;
 mod serving;
 

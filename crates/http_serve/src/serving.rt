@@ -72,6 +72,7 @@ struct HttpConnections<H, R> {
     rt: R,
     handler: Arc<H>,
     long: Permits,
+    port: u16,
     http: Builder<TokioTimer<R>>,
     timers: Handle,
 }
@@ -86,12 +87,14 @@ where
         ensures options { result.served.conn.options ≡ self.now.http.options }
         ensures handler { IfSome result.served.conn.service.handler
             (λ h. arc_value h ≡ arc_value self.now.handler) }
+        ensures port { result.served.conn.service.port ≡ self.now.port }
     {
         let service = ConnectionService {
             alloc: self.alloc,
             rt: self.rt,
             handler: Arc::try_clone(&self.handler).ok(),
             long: self.long.again(),
+            port: self.port,
         };
         HttpConnection {
             served: self.http.serve_connection(socket, service),
@@ -161,16 +164,20 @@ where
     ensures { AreLetIn requests result }
 {
     let permits = Permits::new(alloc, AT_ONCE)?;
-    let factory = connections_to(rt, alloc, runtime, handler)?;
+    let Ok(address) = listener.local_addr() else {
+        return Err(ServeFault::AcceptFailed);
+    };
+    let factory = connections_to(rt, alloc, runtime, handler, address.port())?;
     admit(rt, runtime, listener, factory, permits, requests)
 }
 
-// Makes connections whose requests go to a handler.
+// Makes connections whose requests go to a handler, which is served at this port.
 fn connections_to<H, R>(
     rt: &R,
     alloc: Global,
     runtime: &Runtime,
     handler: Arc<H>,
+    port: u16,
 ) -> Result<HttpConnections<H, R>, ServeFault>
 where
     H: Handler,
@@ -180,6 +187,7 @@ where
         (λ head. as_nanos head ≡ HEAD_SECONDS * 1_000_000_000)) }
     ensures handler { IfOk result (λ f. arc_value f.handler ≡ arc_value handler) }
     ensures long { IfOk result (λ f. f.long.count ≡ LONG_AT_ONCE) }
+    ensures port { IfOk result (λ f. f.port ≡ port) }
     ensures err { IfErr result (λ f. (f ≡ AcceptFailed) ⊎ (f ≡ OutOfMemory)) }
 {
     let Ok(keys) = RandomState::new(rt) else {
@@ -194,6 +202,7 @@ where
         rt: *rt,
         handler,
         long: Permits::new(alloc, LONG_AT_ONCE)?,
+        port,
         http,
         timers: runtime.handle().time().clone()?,
     })
