@@ -2,4 +2,5 @@ pub mod Clients
 pub mod Exchanges
 pub mod FaultText
 pub mod Heads
+pub mod Labels
 pub mod Served

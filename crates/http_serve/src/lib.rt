@@ -12,6 +12,8 @@ mod exchange;
 mod fault;
 mod handler;
 mod heads;
+mod labels;
+pub mod laws;
 mod permits;
 mod serving;
 
