@@ -29,13 +29,16 @@ use std::time::{Clock, Duration};
 use tokio::net::{TcpListener, TcpStream};
 use tokio::runtime::Runtime;
 use tokio::sync::OwnedSemaphorePermit;
-use tokio::time::Handle;
+use tokio::time::{Handle, Sleep};
 
 /// How long the head of a request may take.
 const HEAD_SECONDS: u64 = 2;
 
 /// How long a connection may take in all.
 const WHOLE_SECONDS: u64 = 10;
+
+/// How long nothing is accepted where no connection could be, as for want of descriptors.
+const REST_MILLISECONDS: u64 = 100;
 
 /// How many connections are served at once. Each has a descriptor, of which a process mostly may
 /// have 1024 or more.
@@ -123,6 +126,15 @@ where
         let connection = self.connection(socket);
         let whole = Duration::from_secs(WHOLE_SECONDS);
         ConnectionTask::new(&self.rt, &self.timers, whole, connection, permit)
+    }
+
+    fn rest(&self) -> Option<Sleep>
+        ensures { IfSome result (λ sleep. (rest : _)
+            × (as_nanos rest ≡ REST_MILLISECONDS * 1_000_000)
+            × IsDelayedBy rest (sleep_deadline sleep)) }
+    {
+        let rest = Duration::from_millis(REST_MILLISECONDS);
+        self.timers.sleep(&self.rt, rest).ok()
     }
 }
 
@@ -226,14 +238,13 @@ where
     let Ok(tasks) = runtime.task_set(rt) else {
         return Err(ServeFault::OutOfMemory);
     };
-    let at_once = permits.count();
     let accepting = Accepting {
         tasks: &tasks,
         listener,
         factory,
         permits,
-        at_once,
         permit: None,
+        rest: None,
         wanted: requests,
         clients: Clients::none(),
     };
