@@ -42,6 +42,9 @@ const SHORT_BODY: u64 = 65_536;
 /// How many pieces of a body one poll takes in before it lets other tasks run.
 const BUDGET: u32 = 128;
 
+/// How many bytes of a body one poll takes in, but for the last piece, before it does the same.
+const BYTES_AT_ONCE: usize = 65_536;
+
 /// The service of one connection. It owns what it holds.
 #[derive(Drop)]
 pub struct ConnectionService<H, R> {
@@ -246,10 +249,14 @@ fn poll_body<I: Drop>(
     ensures armed { OnPending result (IsArmed cx.new) }
     ensures kept { Keeps cx.old cx.new }
 {
+    let before = read.len();
     for _ in 0..BUDGET {
         let piece = ready!(body.poll_frame(cx));
         if let Some(reading) = take_in(read, piece) {
             return Poll::Ready(reading);
+        }
+        if read.len().saturating_sub(before) >= BYTES_AT_ONCE {
+            return cx.yield_now();
         }
     }
     cx.yield_now()

@@ -44,6 +44,9 @@ const REST_MILLISECONDS: u64 = 100;
 /// have 1024 or more.
 const AT_ONCE: u32 = 64;
 
+/// How much of what a client sends is read at once, in bytes: as much as the longest head has.
+const READ_AT_ONCE: usize = 65_536;
+
 /// How many long bodies are taken in at once.
 const LONG_AT_ONCE: u32 = 4;
 
@@ -88,6 +91,7 @@ where
     fn connection(&self, socket: TcpStream) -> HttpConnection<H, R>
         ensures can_poll { ⟦<HttpConnection<H, R> as Future>⟧.can_poll result }
         ensures options { result.served.conn.options ≡ self.now.http.options }
+        ensures config { result.served.conn.link.core.config ≡ self.now.http.config }
         ensures handler { IfSome result.served.conn.service.handler
             (λ h. arc_value h ≡ arc_value self.now.handler) }
         ensures port { result.served.conn.service.port ≡ self.now.port }
@@ -200,6 +204,7 @@ where
     ensures handler { IfOk result (λ f. arc_value f.handler ≡ arc_value handler) }
     ensures long { IfOk result (λ f. f.long.count ≡ LONG_AT_ONCE) }
     ensures port { IfOk result (λ f. f.port ≡ port) }
+    ensures read { IfOk result (λ f. f.http.config.max_buf_size ≡ READ_AT_ONCE) }
     ensures err { IfErr result (λ f. (f ≡ AcceptFailed) ⊎ (f ≡ OutOfMemory)) }
 {
     let Ok(keys) = RandomState::new(rt) else {
@@ -208,7 +213,8 @@ where
     let timers = runtime.handle().time().clone()?;
     let mut http = Builder::new(alloc, keys).timer(TokioTimer::new(*rt, timers));
     http.keep_alive(false)
-        .header_read_timeout(Some(Duration::from_secs(HEAD_SECONDS)));
+        .header_read_timeout(Some(Duration::from_secs(HEAD_SECONDS)))
+        .max_buf_size(READ_AT_ONCE);
     Ok(HttpConnections {
         alloc,
         rt: *rt,
