@@ -124,12 +124,14 @@ module _ {I H R : Type 0} (answers : H → List ℕ → List ℕ → List ℕ �
   pub gives_later : (old new : Exchange I H R) (given : Result (Response (Full (List ℕ))) Error) →
       old.refusal ≡ None → new.refusal ≡ old.refusal → IsFalse old.is_too_long
       → new.is_too_long ≡ old.is_too_long → asking_of new ≡ asking_of old
-      → GoesOn (pieces_of old.body) old.read.items (pieces_of new.body) new.read.items → Gives answers labelled new given →
+      → GoesOn (pieces_of old.body) old.read.items (pieces_of new.body) new.read.items
+      → Gives answers labelled new given →
       Gives answers labelled old given
   gives_later old new given none kept isnt told same on gives =
       subst (λ o. MatchOption o (GivesRead answers labelled old given) (λ refusal. IsRefused refusal given)) (sym none)
       (read_later old new given isnt told same on
-      (subst (λ o. MatchOption o (GivesRead answers labelled new given) (λ refusal. IsRefused refusal given)) (kept ∙ none) gives))
+      (subst (λ o. MatchOption o (GivesRead answers labelled new given) (λ refusal. IsRefused refusal given))
+      (kept ∙ none) gives))
 
   -- a head that is refused is answered so
   pub refused_so : (e : Exchange I H R) (refusal : Refusal) (reply : HttpReply) (labels : Labels)

@@ -4,7 +4,8 @@ use Rattle.http_paths.specs.Paths.{TargetValue, points, point, load, shift, gran
 use Rattle.http_routes.specs.Requests.{is_allowed}
 use Rattle.http_serve.specs.Labels.{has_method, methods_of}
 
-pub allowed : (target : TargetValue) (method : List ℕ) → has_method (methods_of target) method ≡ is_allowed target method
+pub allowed : (target : TargetValue) (method : List ℕ)
+    → has_method (methods_of target) method ≡ is_allowed target method
 allowed points method = refl
 allowed (point name) method = refl
 allowed load method = refl

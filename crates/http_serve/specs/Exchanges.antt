@@ -119,7 +119,8 @@ labels_by labelled asking status = labels_asked (labelled asking.path) asking.ha
 -- a head that is refused is answered so, unless memory was refused
 abbrev pub IsRefused : Refusal → Result (Response (Full (List ℕ))) Error → Type 0
 IsRefused refusal given =
-    (reply : HttpReply) × IsReply (refusal_reply refusal) (http_value reply) × Responds (λ _. plain_labels) (Ok reply) given
+    (reply : HttpReply) × IsReply (refusal_reply refusal) (http_value reply)
+    × Responds (λ _. plain_labels) (Ok reply) given
 
 -- what a request asks of a handler
 abbrev pub asking_by : {I H : Type 0} → Request (Incoming I) → Option H → Asking H

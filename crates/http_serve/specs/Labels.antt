@@ -63,5 +63,5 @@ allow_fields (Some methods) = field (codes "allow") (methods_text methods) ∷ [
 -- the fields, in their order: no browser guesses another type than the one that is said
 abbrev pub label_fields : Labels → Entries FieldValue
 label_fields labels =
-    field (codes "content-type") (content_text labels.content) ∷ field (codes "x-content-type-options") (codes "nosniff")
-    ∷ allow_fields labels.methods
+    field (codes "content-type") (content_text labels.content)
+    ∷ field (codes "x-content-type-options") (codes "nosniff") ∷ allow_fields labels.methods

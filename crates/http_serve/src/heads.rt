@@ -5,7 +5,8 @@ ghost use Rattle.http_header.specs.HeaderMap.{get_all};
 ghost use Rattle.std.specs.List.{list_all};
 ghost use Rattle.http_routes.specs.Replies.{http_value, IsReply};
 ghost use Rattle.http_serve.specs.Heads.{all_pass, is_alike, is_at, is_chunked, is_served_address};
-ghost use Rattle.http_serve.specs.Heads.{is_port, is_this_machine, may_end_host, refusal_of, refusal_reply};
+ghost use Rattle.http_serve.specs.Heads.{is_port, is_this_machine, may_end_host};
+ghost use Rattle.http_serve.specs.Heads.{refusal_of, refusal_reply};
 
 use decimals::number;
 use http::header::{HOST, HeaderMap, ORIGIN, TRANSFER_ENCODING};

@@ -22,6 +22,7 @@ use hyper::server::conn::http1::{Builder, Connection};
 use node_registry::{Label, Registry, Seat};
 use std::alloc::{AllocGlobal, Global};
 use std::hash::RandomState;
+use std::io::ErrorKind;
 use std::random::RandomSource;
 use std::sync::{Arc, Wait};
 use std::thread::Threads;
@@ -144,7 +145,7 @@ where
 
 /// Serves so many connections beside each other, with one request each, and answers how many, once
 /// each has ended. A connection that breaks, or that is ended for its time, counts as served. Where
-/// one can't be accepted, those under way are still served. The seat doesn't come back.
+/// one can't be accepted, it is tried again after a rest. The seat doesn't come back.
 pub fn serve<L, R>(
     rt: &R,
     alloc: Global,
@@ -241,8 +242,13 @@ where
     requires { IfSome permits.waiting CanAcquire }
     ensures { AreLetIn requests result }
 {
-    let Ok(tasks) = runtime.task_set(rt) else {
-        return Err(ServeFault::OutOfMemory);
+    let tasks = match runtime.task_set(rt) {
+        Ok(tasks) => tasks,
+        Err(error) if error.kind() == ErrorKind::OutOfMemory => {
+            return Err(ServeFault::OutOfMemory);
+        }
+        // It takes a descriptor.
+        Err(_) => return Err(ServeFault::AcceptFailed),
     };
     let accepting = Accepting {
         tasks: &tasks,
