@@ -18,7 +18,7 @@ use Rattle.http_serve.specs.declared.heads.Refusal.{Refusal}
 use Rattle.http_serve.specs.declared.labels.Labels.{Labels}
 use Rattle.http_serve.specs.Labels.{plain_labels}
 use Rattle.http_serve.specs.Heads.{refusal_reply}
-use Rattle.http_serve.specs.Exchanges.{Piece, TakesIn, GoesOn, EndsSo, IsAnswered, ReadsSo, labels_by, Gives, GivesRead, IsRefused, Responds, asking_of, pieces_of}
+use Rattle.http_serve.specs.Exchanges.{Piece, TakesIn, GoesOn, EndsSo, IsAnswered, ReadsSo, Gives, GivesRead, IsRefused, Responds, asking_of, pieces_of}
 
 joined : (had : List ℕ) (fs gs : List (Frame (List ℕ))) → (had ++ joined_data fs) ++ joined_data gs ≡ had ++
     joined_data (fs ++ gs)

@@ -1,5 +1,5 @@
 -- Which heads are answered before anything is asked, and how.
-use Rattle.std.specs.Prelude.{◌≡◌, ◌==◌, ◌&&◌, ◌||◌, ◌++◌, ℕ, Bool, true, false, not, is_some, List, [], ◌∷◌, length, take, drop, map, codes, decimal, bytes_eq, if◌then◌else◌, Option, Some, None}
+use Rattle.std.specs.Prelude.{◌==◌, ◌&&◌, ◌||◌, ◌++◌, ℕ, Bool, true, not, is_some, List, [], ◌∷◌, length, take, drop, map, codes, decimal, bytes_eq, if◌then◌else◌, Option, Some, None}
 use Rattle.std.specs.List.{list_all}
 use Rattle.std.specs.Str.{is_utf8}
 use Rattle.std.specs.Char.{to_ascii_lowercase}

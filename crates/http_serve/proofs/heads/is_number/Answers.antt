@@ -1,6 +1,5 @@
-use Rattle.std.proofs.Common.{◌≡◌, ◌∙◌, ap, sym, ℕ, List, is_some}
+use Rattle.std.proofs.Common.{◌∙◌, ap, ℕ, List, is_some}
 use Rattle.decimals.specs.Decimals.{number_of}
-use Rattle.http_serve.specs.Heads.{is_port}
 use Rattle.http_serve.proofs.Ports.{is_port-text, is_port-other}
 use Rattle.http_serve.proofs.heads.is_number.Goals as goal
 
