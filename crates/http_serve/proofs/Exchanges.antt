@@ -1,5 +1,5 @@
 -- How the reading of a body goes on and ends, piece by piece, and what an exchange gives by that.
-use Rattle.std.proofs.Common.{◌≡◌, ℕ, List, [], ◌∷◌, ◌++◌, map, Option, Some, None, Result, Ok, Err, inl, inr, sym, ap, ◌∙◌, subst, IfSome, append_assoc, append-nil}
+use Rattle.std.proofs.Common.{◌≡◌, ℕ, List, [], ◌∷◌, ◌++◌, map, Option, Some, None, Result, Ok, Err, inl, inr, sym, ap, ◌∙◌, subst, IfSome, IsFalse, MatchOption, append_assoc, append-nil}
 use Rattle.std.proofs.lemmas.List.{map-append}
 use Rattle.std.proofs.lemmas.List.Concat.{flat_map-append}
 use Rattle.futures.specs.Runs.{Runs, After, Within}
@@ -8,12 +8,17 @@ use Rattle.http_body.specs.Frame.{bytes_in, joined_data}
 use Rattle.http_body_util.specs.declared.limited.LimitedError.TheVariants.{LengthLimit, Body}
 use Rattle.http.specs.declared.response.Response.{Response}
 use Rattle.http_body_util.specs.declared.full.Full.{Full}
-use Rattle.http_routes.specs.Replies.{ReplyValue}
+use Rattle.http_routes.specs.declared.reply.HttpReply.{HttpReply}
+use Rattle.http_routes.specs.Replies.{ReplyValue, IsReply, http_value}
 use Rattle.hyper.specs.declared.error.Error.{Error}
 use Rattle.http_serve.specs.declared.exchange.Exchange.{Exchange}
 use Rattle.http_serve.specs.declared.exchange.Reading.{Reading}
 use Rattle.http_serve.specs.declared.exchange.Reading.TheVariants as readings
-use Rattle.http_serve.specs.Exchanges.{Piece, TakesIn, GoesOn, EndsSo, ComesTo, Gives, asking_of, pieces_of}
+use Rattle.http_serve.specs.declared.heads.Refusal.{Refusal}
+use Rattle.http_serve.specs.declared.labels.Labels.{Labels}
+use Rattle.http_serve.specs.Labels.{plain_labels}
+use Rattle.http_serve.specs.Heads.{refusal_reply}
+use Rattle.http_serve.specs.Exchanges.{Piece, TakesIn, GoesOn, EndsSo, IsAnswered, ReadsSo, Gives, GivesRead, IsRefused, Responds, asking_of, pieces_of}
 
 joined : (had : List ℕ) (fs gs : List (Frame (List ℕ))) → (had ++ joined_data fs) ++ joined_data gs ≡ had ++
     joined_data (fs ++ gs)
@@ -94,18 +99,45 @@ module _ (source : Runs Piece) (had : List ℕ) where
   goes_by room (Some (Err (Body error))) has rest after is = absurd (cc)
 
 -- what an exchange gives later is what it gives
-module _ {I H R : Type 0} (answers : H → List ℕ → List ℕ → List ℕ → ReplyValue → Type 0) where
-  pub gives_later : (old new : Exchange I H R) (given : Result (Response (Full (List ℕ))) Error) →
-      asking_of new ≡ asking_of old
-      → GoesOn (pieces_of old.body) old.read.items (pieces_of new.body) new.read.items → Gives answers new given →
-      Gives answers old given
-  gives_later old new given same on gives =
+module _ {I H R : Type 0} (answers : H → List ℕ → List ℕ → List ℕ → ReplyValue → Type 0)
+    (labelled : List ℕ → ℕ → Labels) where
+  ends_then : (old new : Exchange I H R) (reading : Reading) (has : List ℕ) → IsFalse old.is_too_long
+      → new.is_too_long ≡ old.is_too_long
+      → GoesOn (pieces_of old.body) old.read.items (pieces_of new.body) new.read.items → ReadsSo new reading has →
+      ReadsSo old reading has
+  ends_then old new reading has isnt told on (inl (is, long)) = absurd (cc)
+  ends_then old new reading has isnt told on (inr (still, ends)) =
+      inr (isnt, ends_later (pieces_of old.body) old.read.items (pieces_of new.body) new.read.items on reading has ends)
+
+  read_later : (old new : Exchange I H R) (given : Result (Response (Full (List ℕ))) Error) →
+      IsFalse old.is_too_long → new.is_too_long ≡ old.is_too_long → asking_of new ≡ asking_of old
+      → GoesOn (pieces_of old.body) old.read.items (pieces_of new.body) new.read.items
+      → GivesRead answers labelled new given → GivesRead answers labelled old given
+  read_later old new given isnt told same on gives =
       record {
         reading = gives.reading;
         body = gives.body;
-        ends = ends_later (pieces_of old.body) old.read.items (pieces_of new.body) new.read.items on gives.reading
-            gives.body gives.ends;
-        reply = gives.reply;
-        comes = subst (λ a. ComesTo answers a gives.reading gives.body gives.reply) same gives.comes;
-        responds = gives.responds;
+        ends = ends_then old new gives.reading gives.body isnt told on gives.ends;
+        answered = subst (λ a. IsAnswered answers labelled a gives.reading gives.body given) same gives.answered;
       }
+
+  pub gives_later : (old new : Exchange I H R) (given : Result (Response (Full (List ℕ))) Error) →
+      old.refusal ≡ None → new.refusal ≡ old.refusal → IsFalse old.is_too_long
+      → new.is_too_long ≡ old.is_too_long → asking_of new ≡ asking_of old
+      → GoesOn (pieces_of old.body) old.read.items (pieces_of new.body) new.read.items
+      → Gives answers labelled new given →
+      Gives answers labelled old given
+  gives_later old new given none kept isnt told same on gives =
+      subst (λ o. MatchOption o (GivesRead answers labelled old given) (λ refusal. IsRefused refusal given)) (sym none)
+      (read_later old new given isnt told same on
+      (subst (λ o. MatchOption o (GivesRead answers labelled new given) (λ refusal. IsRefused refusal given))
+      (kept ∙ none) gives))
+
+  -- a head that is refused is answered so
+  pub refused_so : (e : Exchange I H R) (refusal : Refusal) (reply : HttpReply) (labels : Labels)
+      (given : Result (Response (Full (List ℕ))) Error) → e.refusal ≡ Some refusal
+      → IsReply (refusal_reply refusal) (http_value reply) → labels ≡ plain_labels
+      → Responds (λ _. labels) (Ok reply) given → Gives answers labelled e given
+  refused_so e refusal reply labels given is replies plain responds =
+      subst (λ o. MatchOption o (GivesRead answers labelled e given) (λ r. IsRefused r given)) (sym is)
+      (reply, replies, subst (λ (l : Labels). Responds (λ _. l) (Ok reply) given) plain responds)

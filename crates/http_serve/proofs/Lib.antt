@@ -1,3 +1,5 @@
 mod Calls
 mod Crossing
 mod Exchanges
+mod Methods
+mod Ports

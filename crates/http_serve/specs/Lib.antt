@@ -1,4 +1,6 @@
 pub mod Clients
 pub mod Exchanges
 pub mod FaultText
+pub mod Heads
+pub mod Labels
 pub mod Served

@@ -1,7 +1,6 @@
 //! Connections beside each other, each in a task of its own.
 
-ghost use Rattle.std.specs.Prelude.{◌≡◌, ◌-◌, ◌<◌, ◌≤◌, ◌↔◌, IsTrue, IfErr, IfSome, Err};
-ghost use Rattle.http_serve.specs.declared.fault.ServeFault.TheVariants.{AcceptFailed};
+ghost use Rattle.std.specs.Prelude.{◌≡◌, ◌<◌, ◌≤◌, ◌↔◌, IsTrue, IfSome};
 ghost use Rattle.tokio.specs.Timers.{IsDelayedBy, sleep_deadline, timeout_delay, timeout_future};
 ghost use Rattle.tokio.specs.Locks.{CanAcquire};
 ghost use Rattle.http_serve.specs.Clients.{AreLetIn, IsGone, LetsIn};
@@ -17,7 +16,7 @@ use std::net::SocketAddr;
 use std::time::{Clock, Duration};
 use tokio::net::{TcpListener, TcpStream};
 use tokio::sync::OwnedSemaphorePermit;
-use tokio::time::{Handle, Timeout};
+use tokio::time::{Handle, Sleep, Timeout};
 
 // Connections that one poll accepts before it lets tasks run.
 const BUDGET: u32 = 128;
@@ -29,6 +28,10 @@ pub trait ConnectionFactory: Drop {
     /// `None` where there is no memory.
     fn open(&self, socket: TcpStream, permit: OwnedSemaphorePermit) -> Option<Self::Task>
         ensures { IfSome result Self.Task.can_poll };
+
+    /// How long to wait where no connection could be accepted. `None` where there is no memory, or
+    /// the clock can't be read.
+    fn rest(&self) -> Option<Sleep>;
 }
 
 /// A connection under way, which has so long to end, whatever it ends with.
@@ -100,10 +103,10 @@ pub struct Accepting<'a, F: ConnectionFactory> {
     pub listener: TcpListener,
     pub factory: F,
     pub permits: Permits,
-    /// How many permits there are.
-    pub at_once: u32,
     /// The permit of the next connection.
     pub permit: Option<OwnedSemaphorePermit>,
+    /// The rest since the last one couldn't be accepted.
+    pub rest: Option<Sleep>,
     pub wanted: u32,
     pub clients: Clients,
 }
@@ -118,44 +121,27 @@ fn is_gone(error: &io::Error) -> bool
     )
 }
 
-// Where no connection can be accepted, as for want of descriptors: there is a permit fewer, so the
-// next is accepted once one under way has ended. The fault comes once no permit is left, and then
-// none is under way.
-fn give_up_permit(permit: Option<OwnedSemaphorePermit>, at_once: &mut u32) -> Result<(), ServeFault>
-    ensures fewer { at_once.new ≡ at_once.old - 1 }
-    ensures last { (result ≡ Err AcceptFailed) ↔ (at_once.new ≡ 0) }
-    ensures err { IfErr result (λ f. f ≡ AcceptFailed) }
-{
-    if let Some(permit) = permit {
-        permit.forget();
-    }
-    *at_once = at_once.saturating_sub(1);
-    if *at_once == 0 {
-        return Err(ServeFault::AcceptFailed);
-    }
-    Ok(())
+/// What comes of a connection that is to be accepted.
+#[derive(Drop)]
+enum Came {
+    Client(TcpStream),
+    Gone,
+    /// None can be accepted now, as for want of descriptors.
+    Later,
 }
 
 // What comes of a connection that was accepted, or that couldn't be.
-fn let_in(
-    came: io::Result<(TcpStream, SocketAddr)>,
-    clients: &mut Clients,
-    permit: &mut Option<OwnedSemaphorePermit>,
-    at_once: &mut u32,
-) -> Result<Option<TcpStream>, ServeFault>
+fn let_in(came: io::Result<(TcpStream, SocketAddr)>, clients: &mut Clients) -> Came
     requires { clients.old.let_in < u32.MAX }
-    ensures { LetsIn came clients.old.let_in clients.new.let_in at_once.old at_once.new result }
+    ensures { LetsIn came clients.old.let_in clients.new.let_in result }
 {
     match came {
         Ok((socket, _peer)) => {
             clients.let_in += 1;
-            Ok(Some(socket))
+            Came::Client(socket)
         }
-        Err(error) if is_gone(&error) => Ok(None),
-        Err(_) => {
-            give_up_permit(permit.take(), at_once)?;
-            Ok(None)
-        }
+        Err(error) if is_gone(&error) => Came::Gone,
+        Err(_) => Came::Later,
     }
 }
 
@@ -172,6 +158,10 @@ impl<F: ConnectionFactory> Future for Accepting<'_, F> {
             if self.clients.count() == self.wanted {
                 return Poll::Ready(Ok(self.clients));
             }
+            if let Some(rest) = &mut self.rest {
+                let _ = ready!(rest.poll(cx));
+                self.rest = None;
+            }
             if self.permit.is_none() {
                 let Some(permit) = ready!(self.permits.poll_next(cx)) else {
                     return Poll::Ready(Err(ServeFault::OutOfMemory));
@@ -179,15 +169,17 @@ impl<F: ConnectionFactory> Future for Accepting<'_, F> {
                 self.permit = Some(permit);
             }
             let came = ready!(self.listener.poll_accept(cx));
-            let socket = match let_in(
-                came,
-                &mut self.clients,
-                &mut self.permit,
-                &mut self.at_once,
-            ) {
-                Ok(Some(socket)) => socket,
-                Ok(None) => continue,
-                Err(fault) => return Poll::Ready(Err(fault)),
+            let socket = match let_in(came, &mut self.clients) {
+                Came::Client(socket) => socket,
+                Came::Gone => continue,
+                // The permit stays for the next that can be.
+                Came::Later => match self.factory.rest() {
+                    Some(rest) => {
+                        self.rest = Some(rest);
+                        continue;
+                    }
+                    None => return cx.yield_now(),
+                },
             };
             // Without memory for its task the connection is closed, and counts as served.
             if let Some(permit) = self.permit.take()

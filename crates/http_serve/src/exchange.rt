@@ -1,7 +1,7 @@
 //! One request and its reply.
 
-ghost use Rattle.std.specs.Prelude.{◌≡◌, ◌⊎◌, ◌<◌, ◌+◌, ◌++◌, length, vec_capacity};
-ghost use Rattle.std.specs.Prelude.{option_map, IfOk, IfErr, IfSome, IsOk};
+ghost use Rattle.std.specs.Prelude.{◌≡◌, ◌↔◌, ◌⊎◌, ◌<◌, ◌+◌, ◌++◌, length, vec_capacity};
+ghost use Rattle.std.specs.Prelude.{[], option_map, IfOk, IfErr, IfSome, IsOk, IsTrue};
 ghost use Rattle.std.specs.Arc.{arc_value};
 ghost use Rattle.futures.specs.Poll.{IfReady, OnPending};
 ghost use Rattle.futures.specs.Task.{IsArmed, Keeps};
@@ -14,12 +14,17 @@ ghost use Rattle.http.specs.StatusCode.{IsStatusCode};
 ghost use Rattle.http_routes.specs.Replies.{http_value};
 ghost use Rattle.http_serve.specs.Exchanges.{asking_of, pieces_of, ComesTo, EndsSo, Gives, GoesOn};
 ghost use Rattle.http_serve.specs.Exchanges.{IsExchangeOf, IsResponseTo, Responds, TakesIn};
+ghost use Rattle.http_serve.specs.Exchanges.{IsAnswered, TellsTooLong, labels_by};
+ghost use Rattle.http_serve.specs.Labels.{label_fields};
 
 use crate::handler::Handler;
+use crate::heads::{Refusal, judge};
+use crate::labels::Labels;
 use crate::permits::Permits;
 use bytes::Bytes;
 use futures::task::{Context, Poll};
 use futures::{Future, Stream, ready};
+use http::HeaderMap;
 use http_body::{Body, Frame};
 use http_body_util::{Full, Limited, LimitedError};
 use http_routes::{HttpReply, MAX_BODY};
@@ -37,6 +42,9 @@ const SHORT_BODY: u64 = 65_536;
 /// How many pieces of a body one poll takes in before it lets other tasks run.
 const BUDGET: u32 = 128;
 
+/// How many bytes of a body one poll takes in, but for the last piece, before it does the same.
+const BYTES_AT_ONCE: usize = 65_536;
+
 /// The service of one connection. It owns what it holds.
 #[derive(Drop)]
 pub struct ConnectionService<H, R> {
@@ -45,6 +53,8 @@ pub struct ConnectionService<H, R> {
     pub handler: Option<Arc<H>>,
     /// The permits of long bodies.
     pub long: Option<Permits>,
+    /// The port of 127.0.0.1 at which the handler is served.
+    pub port: u16,
 }
 
 /// A request whose body is being read.
@@ -52,10 +62,14 @@ pub struct ConnectionService<H, R> {
 pub struct Exchange<I, H, R> {
     alloc: Global,
     rt: R,
-    // There is none where memory was refused.
+    // Why the head is answered without the handler, if it is.
+    refusal: Option<Refusal>,
+    // There is none where the head or memory was refused.
     handler: Option<Arc<H>>,
     method: Method,
     uri: Uri,
+    // The head tells of a body that is longer than the longest: nothing of it is read.
+    is_too_long: bool,
     body: Limited<Incoming<I>>,
     read: Vec<u8>,
     // Where the body is long: the permits of such, and then the body's own.
@@ -84,12 +98,15 @@ impl<I: Drop, H: Handler, R: Wait + Copy> Service<Request<Incoming<I>>>
 
     fn call(&self, req: Request<Incoming<I>>) -> Exchange<I, H, R> {
         let (head, body) = req.into_parts();
-        let is_short = match body.size_hint().upper() {
-            Some(most) => most <= SHORT_BODY,
-            None => false,
+        let refusal = judge(&head.headers, self.port);
+        let is_too_long = tells_too_long(&body);
+        let needs_permit = refusal.is_none() && !is_too_long && !is_short(&body);
+        let long = if needs_permit {
+            again(&self.long)
+        } else {
+            None
         };
-        let long = if is_short { None } else { again(&self.long) };
-        let handler = if is_short || long.is_some() {
+        let handler = if refusal.is_none() && (long.is_some() || !needs_permit) {
             shared(&self.handler)
         } else {
             None
@@ -97,9 +114,11 @@ impl<I: Drop, H: Handler, R: Wait + Copy> Service<Request<Incoming<I>>>
         Exchange {
             alloc: self.alloc,
             rt: self.rt,
+            refusal,
             handler,
             method: head.method,
             uri: head.uri,
+            is_too_long,
             body: Limited::new(body, MAX_BODY),
             read: Vec::new(self.alloc),
             permits: long,
@@ -111,7 +130,8 @@ impl<I: Drop, H: Handler, R: Wait + Copy> Service<Request<Incoming<I>>>
 impl<I: Drop, H: Handler, R: Wait + Copy> Exchange<I, H, R> {
     // The reply, once the body was read so far.
     fn reply(&mut self, reading: Reading) -> hyper::Result<HttpReply>
-        ensures { ComesTo H.answers (asking_of self.old) reading self.old.read.items result }
+        ensures comes { ComesTo H.answers (asking_of self.old) reading self.old.read.items result }
+        ensures asking { asking_of self.new ≡ asking_of self.old }
     {
         let body = mem::replace(&mut self.read, Vec::new(self.alloc));
         let (method, path) = (self.method.as_str(), self.uri.path());
@@ -127,9 +147,32 @@ impl<I: Drop, H: Handler, R: Wait + Copy> Exchange<I, H, R> {
         }
     }
 
+    // What the reply is labelled as.
+    fn labels(&self, reply: &hyper::Result<HttpReply>) -> Labels
+        ensures { IfOk reply.now
+            (λ r. result ≡ labels_by H.labelled (asking_of self.now) r.status) }
+    {
+        match (&self.handler, reply) {
+            (Some(handler), Ok(reply)) => handler.labels(self.uri.path(), reply.status),
+            _ => Labels::plain(),
+        }
+    }
+
+    // What is given, once the body was read so far.
+    fn answer(&mut self, reading: Reading) -> hyper::Result<Response<Full<Bytes>>>
+        ensures { IsAnswered H.answers H.labelled (asking_of self.old) reading
+            self.old.read.items result }
+    {
+        let reply = self.reply(reading);
+        let labels = self.labels(&reply);
+        respond(self.alloc, reply, labels)
+    }
+
     // Reads the body, a long one once there is a permit for it.
     fn poll_reading(&mut self, cx: &mut Context<'_>) -> Poll<Reading>
         requires { IfSome self.old.permits (λ permits. IfSome permits.waiting CanAcquire) }
+        ensures refusal { self.new.refusal ≡ self.old.refusal }
+        ensures told { self.new.is_too_long ≡ self.old.is_too_long }
         ensures asking { asking_of self.new ≡ asking_of self.old }
         ensures ends { IfReady result (λ reading. EndsSo (pieces_of self.old.body)
             self.old.read.items reading self.new.read.items) }
@@ -160,12 +203,36 @@ impl<I: Drop, H: Handler, R: Wait + Copy> Future for Exchange<I, H, R> {
 
     ghost can_poll = { λ e. IfSome e.permits (λ permits. IfSome permits.waiting CanAcquire) };
 
-    ghost gives = { Gives H.answers };
+    ghost gives = { Gives H.answers H.labelled };
 
     fn poll(&mut self, cx: &mut Context<'_>) -> Poll<hyper::Result<Response<Full<Bytes>>>> {
+        if let Some(refusal) = self.refusal {
+            let reply = refusal.reply(self.alloc);
+            return Poll::Ready(respond(self.alloc, Ok(reply), Labels::plain()));
+        }
+        if self.is_too_long {
+            return Poll::Ready(self.answer(Reading::TooLong));
+        }
         let reading = ready!(self.poll_reading(cx));
-        let reply = self.reply(reading);
-        Poll::Ready(respond(self.alloc, reply))
+        Poll::Ready(self.answer(reading))
+    }
+}
+
+// Whether a body is taken in without a permit.
+fn is_short<I: Drop>(body: &Incoming<I>) -> bool {
+    match body.size_hint().upper() {
+        Some(most) => most <= SHORT_BODY,
+        None => false,
+    }
+}
+
+// Whether the head of a body tells that it is longer than the longest.
+fn tells_too_long<I: Drop>(body: &Incoming<I>) -> bool
+    ensures { IsTrue result ↔ TellsTooLong body.now }
+{
+    match body.size_hint().exact() {
+        Some(told) => told > MAX_BODY as u64,
+        None => false,
     }
 }
 
@@ -182,10 +249,14 @@ fn poll_body<I: Drop>(
     ensures armed { OnPending result (IsArmed cx.new) }
     ensures kept { Keeps cx.old cx.new }
 {
+    let before = read.len();
     for _ in 0..BUDGET {
         let piece = ready!(body.poll_frame(cx));
         if let Some(reading) = take_in(read, piece) {
             return Poll::Ready(reading);
+        }
+        if read.len().saturating_sub(before) >= BYTES_AT_ONCE {
+            return cx.yield_now();
         }
     }
     cx.yield_now()
@@ -242,25 +313,45 @@ fn again(long: &Option<Permits>) -> Option<Permits>
     long.as_ref()?.again()
 }
 
-// A reply as a response. An error goes on as it is.
-fn respond(alloc: Global, reply: hyper::Result<HttpReply>) -> hyper::Result<Response<Full<Bytes>>>
-    ensures { Responds reply result }
+// A reply as a response, with these labels. An error goes on as it is.
+fn respond(
+    alloc: Global,
+    reply: hyper::Result<HttpReply>,
+    labels: Labels,
+) -> hyper::Result<Response<Full<Bytes>>>
+    ensures { Responds (λ _. labels) reply result }
 {
-    response(alloc, reply?)
+    response(alloc, reply?, labels)
 }
 
 // The reply as a response. The only error is out of memory: then the connection ends without a
 // reply, since none but this one may be told of an accepted call.
-fn response(alloc: Global, reply: HttpReply) -> hyper::Result<Response<Full<Bytes>>>
-    ensures ok { IfOk result (λ r. IsStatusCode reply.status → IsResponseTo (http_value reply) r) }
+fn response(alloc: Global, reply: HttpReply, labels: Labels) -> hyper::Result<Response<Full<Bytes>>>
+    ensures ok { IfOk result
+        (λ r. IsStatusCode reply.status → IsResponseTo labels (http_value reply) r) }
     ensures err { IfErr result (λ e. kind_of e ≡ kinds.OutOfMemory) }
     ensures empty { length reply.body.items ≡ 0 → IsOk result }
 {
+    let fields = fields_of(alloc, labels, reply.body.is_empty())?;
     let body = shared_bytes(reply.body)?;
     let status = StatusCode::from_u16(reply.status).unwrap_or(StatusCode::SERVICE_UNAVAILABLE);
     let mut response = Response::new(alloc, Full::new(body));
     *response.status_mut() = status;
+    *response.headers_mut() = fields;
     Ok(response)
+}
+
+// The header fields of a response. One without a body is given without them where there is no
+// memory for them.
+fn fields_of(alloc: Global, labels: Labels, is_empty: bool) -> Result<HeaderMap, AllocError>
+    ensures fields { IfOk result (λ fields.
+        (fields ≡ label_fields labels) ⊎ (IsTrue is_empty × (fields ≡ []))) }
+    ensures empty { IsTrue is_empty → IsOk result }
+{
+    match labels.fields(alloc) {
+        Err(_) if is_empty => Ok(HeaderMap::new(alloc)),
+        fields => fields,
+    }
 }
 
 // Bytes that a response can hold.

@@ -13,7 +13,7 @@ use std::fmt;
 pub enum ServeFault {
     /// The address can't be listened on.
     BindFailed,
-    /// No connection could be accepted.
+    /// The system gave nothing to accept connections with, or no random keys.
     AcceptFailed,
     /// Memory was refused.
     OutOfMemory,

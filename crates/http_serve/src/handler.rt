@@ -6,8 +6,11 @@ ghost use Rattle.node_calls.specs.Told.{ask_told};
 ghost use Rattle.http_routes.specs.Replies.{ReplyValue, http_value};
 ghost use Rattle.http_routes.specs.Requests.{IsWanted, wanted};
 ghost use Rattle.http_routes.specs.Requests as requests;
+ghost use Rattle.http_paths.specs.Paths.{target_of};
+ghost use Rattle.http_serve.specs.Labels.{labels_of};
 ghost use Rattle.http_serve.specs.Served.{IsServed, IsServedFrom};
 
+use crate::labels::Labels;
 use http_paths::Routes;
 use http_routes::{HttpReply, ReplyRoom, Wanted, route_owned, too_long};
 use node_core::Ask;
@@ -36,6 +39,15 @@ pub trait Handler: Drop {
     fn reply_too_long(&self, alloc: Global, method: &str, path: &str) -> HttpReply
         ensures { (body : List ℕ) → max_message < length body
             → answers self.now method.now path.now body (http_value result) };
+
+    ghost use Rattle.http_serve.specs.declared.labels.Labels.{Labels};
+
+    /// What replies are labelled as, by the path and the status.
+    ghost labelled: { List ℕ → ℕ → Labels };
+
+    /// What a reply with this status to a request of this path is labelled as.
+    fn labels(&self, path: &str, status: u16) -> Labels
+        ensures { result ≡ Self.labelled path.now status };
 }
 
 /// A node with the seat from which requests call it, and the routes of their paths.
@@ -154,5 +166,11 @@ impl<L: Label> Handler for NodeHandler<L> {
 
     fn reply_too_long(&self, alloc: Global, method: &str, path: &str) -> HttpReply {
         self.answer_too_long(alloc, method, path)
+    }
+
+    ghost labelled = { λ path status. labels_of (target_of path) status };
+
+    fn labels(&self, path: &str, status: u16) -> Labels {
+        Labels::of(&self.routes.target(path), status)
     }
 }

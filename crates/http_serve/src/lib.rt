@@ -4,13 +4,20 @@
 //! ten in all, then it is ended; so a place is free again after ten seconds at most. At most 64 are
 //! served at once. Of bodies that are longer than 64 KiB, or that don't say how long they are, at
 //! most four are taken in at once, the others wait; so bodies hold at most four times the longest
-//! one and 64 times 64 KiB, twice over while a buffer grows.
+//! one and 64 times 64 KiB, twice over while a buffer grows. Of a body 64 KiB are taken in, and then
+//! others have their turn.
+//!
+//! No page of a browser is let in: a request whose `Host` is no name of this machine, or whose
+//! `Origin` isn't the address at which the node is served, is 403, and nothing is asked of the node.
 #![tactic(auto)]
 
 mod connection;
 mod exchange;
 mod fault;
 mod handler;
+mod heads;
+mod labels;
+pub mod laws;
 mod permits;
 mod serving;
 

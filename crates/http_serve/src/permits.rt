@@ -34,13 +34,6 @@ impl Permits {
         })
     }
 
-    /// How many permits there are, free or not.
-    pub fn count(&self) -> u32
-        ensures { result ≡ self.now.count }
-    {
-        self.count
-    }
-
     /// A share of these permits for another who waits. `None` where there is no memory.
     pub fn again(&self) -> Option<Permits>
         ensures none_waits { IfSome result (λ permits. permits.waiting ≡ None) }

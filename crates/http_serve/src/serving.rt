@@ -22,6 +22,7 @@ use hyper::server::conn::http1::{Builder, Connection};
 use node_registry::{Label, Registry, Seat};
 use std::alloc::{AllocGlobal, Global};
 use std::hash::RandomState;
+use std::io::ErrorKind;
 use std::random::RandomSource;
 use std::sync::{Arc, Wait};
 use std::thread::Threads;
@@ -29,7 +30,7 @@ use std::time::{Clock, Duration};
 use tokio::net::{TcpListener, TcpStream};
 use tokio::runtime::Runtime;
 use tokio::sync::OwnedSemaphorePermit;
-use tokio::time::Handle;
+use tokio::time::{Handle, Sleep};
 
 /// How long the head of a request may take.
 const HEAD_SECONDS: u64 = 2;
@@ -37,9 +38,15 @@ const HEAD_SECONDS: u64 = 2;
 /// How long a connection may take in all.
 const WHOLE_SECONDS: u64 = 10;
 
+/// How long nothing is accepted where no connection could be, as for want of descriptors.
+const REST_MILLISECONDS: u64 = 100;
+
 /// How many connections are served at once. Each has a descriptor, of which a process mostly may
 /// have 1024 or more.
 const AT_ONCE: u32 = 64;
+
+/// How much of what a client sends is read at once, in bytes: as much as the longest head has.
+const READ_AT_ONCE: usize = 65_536;
 
 /// How many long bodies are taken in at once.
 const LONG_AT_ONCE: u32 = 4;
@@ -72,6 +79,7 @@ struct HttpConnections<H, R> {
     rt: R,
     handler: Arc<H>,
     long: Permits,
+    port: u16,
     http: Builder<TokioTimer<R>>,
     timers: Handle,
 }
@@ -84,14 +92,17 @@ where
     fn connection(&self, socket: TcpStream) -> HttpConnection<H, R>
         ensures can_poll { ⟦<HttpConnection<H, R> as Future>⟧.can_poll result }
         ensures options { result.served.conn.options ≡ self.now.http.options }
+        ensures config { result.served.conn.link.core.config ≡ self.now.http.config }
         ensures handler { IfSome result.served.conn.service.handler
             (λ h. arc_value h ≡ arc_value self.now.handler) }
+        ensures port { result.served.conn.service.port ≡ self.now.port }
     {
         let service = ConnectionService {
             alloc: self.alloc,
             rt: self.rt,
             handler: Arc::try_clone(&self.handler).ok(),
             long: self.long.again(),
+            port: self.port,
         };
         HttpConnection {
             served: self.http.serve_connection(socket, service),
@@ -121,11 +132,20 @@ where
         let whole = Duration::from_secs(WHOLE_SECONDS);
         ConnectionTask::new(&self.rt, &self.timers, whole, connection, permit)
     }
+
+    fn rest(&self) -> Option<Sleep>
+        ensures { IfSome result (λ sleep. (rest : _)
+            × (as_nanos rest ≡ REST_MILLISECONDS * 1_000_000)
+            × IsDelayedBy rest (sleep_deadline sleep)) }
+    {
+        let rest = Duration::from_millis(REST_MILLISECONDS);
+        self.timers.sleep(&self.rt, rest).ok()
+    }
 }
 
 /// Serves so many connections beside each other, with one request each, and answers how many, once
 /// each has ended. A connection that breaks, or that is ended for its time, counts as served. Where
-/// one can't be accepted, those under way are still served. The seat doesn't come back.
+/// one can't be accepted, it is tried again after a rest. The seat doesn't come back.
 pub fn serve<L, R>(
     rt: &R,
     alloc: Global,
@@ -161,16 +181,20 @@ where
     ensures { AreLetIn requests result }
 {
     let permits = Permits::new(alloc, AT_ONCE)?;
-    let factory = connections_to(rt, alloc, runtime, handler)?;
+    let Ok(address) = listener.local_addr() else {
+        return Err(ServeFault::AcceptFailed);
+    };
+    let factory = connections_to(rt, alloc, runtime, handler, address.port())?;
     admit(rt, runtime, listener, factory, permits, requests)
 }
 
-// Makes connections whose requests go to a handler.
+// Makes connections whose requests go to a handler, which is served at this port.
 fn connections_to<H, R>(
     rt: &R,
     alloc: Global,
     runtime: &Runtime,
     handler: Arc<H>,
+    port: u16,
 ) -> Result<HttpConnections<H, R>, ServeFault>
 where
     H: Handler,
@@ -180,6 +204,8 @@ where
         (λ head. as_nanos head ≡ HEAD_SECONDS * 1_000_000_000)) }
     ensures handler { IfOk result (λ f. arc_value f.handler ≡ arc_value handler) }
     ensures long { IfOk result (λ f. f.long.count ≡ LONG_AT_ONCE) }
+    ensures port { IfOk result (λ f. f.port ≡ port) }
+    ensures read { IfOk result (λ f. f.http.config.max_buf_size ≡ READ_AT_ONCE) }
     ensures err { IfErr result (λ f. (f ≡ AcceptFailed) ⊎ (f ≡ OutOfMemory)) }
 {
     let Ok(keys) = RandomState::new(rt) else {
@@ -188,12 +214,14 @@ where
     let timers = runtime.handle().time().clone()?;
     let mut http = Builder::new(alloc, keys).timer(TokioTimer::new(*rt, timers));
     http.keep_alive(false)
-        .header_read_timeout(Some(Duration::from_secs(HEAD_SECONDS)));
+        .header_read_timeout(Some(Duration::from_secs(HEAD_SECONDS)))
+        .max_buf_size(READ_AT_ONCE);
     Ok(HttpConnections {
         alloc,
         rt: *rt,
         handler,
         long: Permits::new(alloc, LONG_AT_ONCE)?,
+        port,
         http,
         timers: runtime.handle().time().clone()?,
     })
@@ -214,17 +242,21 @@ where
     requires { IfSome permits.waiting CanAcquire }
     ensures { AreLetIn requests result }
 {
-    let Ok(tasks) = runtime.task_set(rt) else {
-        return Err(ServeFault::OutOfMemory);
+    let tasks = match runtime.task_set(rt) {
+        Ok(tasks) => tasks,
+        Err(error) if error.kind() == ErrorKind::OutOfMemory => {
+            return Err(ServeFault::OutOfMemory);
+        }
+        // It takes a descriptor.
+        Err(_) => return Err(ServeFault::AcceptFailed),
     };
-    let at_once = permits.count();
     let accepting = Accepting {
         tasks: &tasks,
         listener,
         factory,
         permits,
-        at_once,
         permit: None,
+        rest: None,
         wanted: requests,
         clients: Clients::none(),
     };

@@ -26,3 +26,11 @@ loop-preserved g c = (
       (search rules) c.in_default.ensures),
   search rules,
 )
+
+pub returns-then-saturating_sub-ge-BYTES_AT_ONCE-clause-goes_on :
+    goal.returns-then-saturating_sub-ge-BYTES_AT_ONCE-clause-goes_on
+returns-then-saturating_sub-ge-BYTES_AT_ONCE-clause-goes_on g c = rw c.yield_now.ensures.pending
+    (goes_on_more (pieces_of c.args.body.now) c.args.read.now.items (pieces_of c.loop.body) c.loop.read.items
+    c.loop.invariant.0 (pieces_of c.poll_frame.new.self) c.take_in.new.read.items
+    (goes_by (pieces_of c.loop.body) c.loop.read.items _ _ c.take_in.new.read.items (pieces_of c.poll_frame.new.self)
+    (search rules) c.in_default.ensures))
