@@ -3,3 +3,5 @@ pub mod Spaces
 pub mod Outputs
 pub mod Schedules
 pub mod LinesLeft
+pub mod Checks
+pub mod Counting

@@ -4,3 +4,8 @@ pub mod Questions
 pub mod Script
 pub mod Schedules
 pub mod Laws
+pub mod Faults
+pub mod Checks
+pub mod Checking
+pub mod Warnings
+pub mod Warned

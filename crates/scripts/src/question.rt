@@ -29,7 +29,8 @@ fn print_report(alloc: Global, node: &NodeCore, out: &mut String) -> Result<(), 
     out.push_str(&lines)
 }
 
-fn name_in(alloc: Global, text: &str) -> Result<Option<Name>, AllocError>
+/// The name that a text is, if it is one.
+pub(crate) fn name_in(alloc: Global, text: &str) -> Result<Option<Name>, AllocError>
     ensures name { IfOk result (λ name. name ≡ (if is_name text.now then Some text.now else None)) }
     // What is no name takes no memory.
     ensures no_name { is_name text.now ≡ false → IsOk result }

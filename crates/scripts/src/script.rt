@@ -1,13 +1,14 @@
 //! The text that a script prints.
 
-ghost use Rattle.std.specs.Prelude.{◌≡◌, ◌++◌, Some, None, Ok, IfOk, OnOk, option_map, string_bytes};
+ghost use Rattle.std.specs.Prelude.{◌≡◌, ◌++◌, Some, None, Ok, IfOk, IfSome, OnOk, option_map, string_bytes};
 ghost use Rattle.cluster_model.specs.Events.{event_value};
 ghost use Rattle.scripts.specs.Commands as commands;
 ghost use Rattle.scripts.specs.Commands.{command_value, nodes};
 ghost use Rattle.scripts.specs.Replies.{Prints, PrintsLine};
 ghost use Rattle.streams.specs.Lines.{text_in};
 ghost use Rattle.scripts.specs.Script.{command_in, event_text, after_event, command_output};
-ghost use Rattle.scripts.specs.Script.{after_command, line_output, after_line, script_text};
+ghost use Rattle.scripts.specs.Script.{after_command, after_read, line_output, after_line, script_text};
+ghost use Rattle.scripts.specs.Script.{read_output};
 ghost use Rattle.scripts.specs.Script.{echo_of, echoed_output, echoed_text};
 ghost use Rattle.scripts.specs.Schedules.{Begins, GoesOn, IsNext, LineGoesOn, RunsAsSchedule};
 
@@ -100,7 +101,8 @@ fn run_command(
     }
 }
 
-fn line_command(alloc: Global, line: &[u8]) -> Result<Option<Command<'_>>, AllocError>
+/// What a line asks for, where it is text and has one of the forms.
+pub(crate) fn line_command(alloc: Global, line: &[u8]) -> Result<Option<Command<'_>>, AllocError>
     ensures command { IfOk result (λ command.
         option_map command_value command ≡ command_in line.now) }
     // A line that is no text takes no memory.
@@ -110,6 +112,26 @@ fn line_command(alloc: Global, line: &[u8]) -> Result<Option<Command<'_>>, Alloc
         return Ok(None);
     };
     read_command(alloc, text)
+}
+
+/// Answers a line that isn't skipped, by what it asks for.
+pub(crate) fn run_read(
+    alloc: Global,
+    world: &mut Option<World>,
+    command: Option<Command<'_>>,
+    out: &mut String,
+) -> Result<(), AllocError>
+    ensures output { Prints result out.old out.new
+        (read_output world.old (option_map command_value command.entry)) }
+    ensures world { OnOk result (
+        world.new ≡ after_read world.old (option_map command_value command.entry)) }
+    ensures history { OnOk result (
+        IfSome (option_map command_value command.entry) (GoesOn world.old)) }
+{
+    match command {
+        Some(command) => run_command(alloc, world, command, out),
+        None => print_bad_line(out),
+    }
 }
 
 fn run_line(
@@ -125,10 +147,8 @@ fn run_line(
     if is_skipped(line) {
         return Ok(());
     }
-    match line_command(alloc, line)? {
-        Some(command) => run_command(alloc, world, command, out),
-        None => print_bad_line(out),
-    }
+    let command = line_command(alloc, line)?;
+    run_read(alloc, world, command, out)
 }
 
 /// The text that a script prints.
@@ -144,8 +164,8 @@ pub fn output_of(alloc: Global, script: &[u8]) -> Result<String, AllocError>
     Ok(out)
 }
 
-// Puts a line behind `> `, unless it is skipped.
-fn push_echo(out: &mut Vec<u8>, line: &[u8]) -> Result<(), AllocError>
+/// Puts a line behind `> `, unless it is skipped.
+pub(crate) fn push_echo(out: &mut Vec<u8>, line: &[u8]) -> Result<(), AllocError>
     ensures { OnOk result (out.new.items ≡ out.old.items ++ echo_of line.now) }
 {
     if is_skipped(line) {

@@ -1,0 +1,320 @@
+//! A script that is checked: what its lines print, and what is said of those that fail.
+
+ghost use Rattle.std.specs.Prelude.{◌≡◌, ◌++◌, ◌<◌, ◌≤◌, [], false, length, option_map, IfOk, OnOk};
+ghost use Rattle.std.specs.List.{position_or_len};
+ghost use Rattle.streams.specs.Lines.{is_skipped};
+ghost use Rattle.scripts.specs.Checks.{answered_text, asked_said, begins, checked_text};
+ghost use Rattle.scripts.specs.Checks.{expected_in, first_line, goes_on, is_alarm, is_left, is_line_end};
+ghost use Rattle.scripts.specs.Checks.{later_lines, line_checked, line_said, meets, missed};
+ghost use Rattle.scripts.specs.Checks.{checked_output, read_checked, read_said, settled, shown};
+ghost use Rattle.scripts.specs.Checks.{plain_output, skipping, taking, unchecked, waiting};
+ghost use Rattle.scripts.specs.Commands.{command_value};
+ghost use Rattle.scripts.specs.Checking.{checking_of};
+ghost use Rattle.scripts.specs.Schedules.{LineGoesOn, RunsAsSchedule};
+ghost use Rattle.scripts.specs.Script.{after_line, command_in, echo_of, line_output};
+
+use crate::command::Command;
+use crate::faults::{say_bad, say_missing, say_of, why_bad, why_missing};
+use crate::script::{line_command, push_echo, run_read};
+use cluster_model::World;
+use std::alloc::{AllocError, Global};
+use streams::{MOST_BYTES, is_skipped};
+
+/// A script that is read line by line: what its lines printed so far, and what was said of them.
+#[derive(Drop)]
+struct Check {
+    // The number of the line that comes next.
+    number: u32,
+    // That of the line that was answered last, what of its answer no line has expected yet, and
+    // whether one has expected some of it.
+    asked: u32,
+    rest: Vec<u8>,
+    met: bool,
+    said: Vec<u8>,
+}
+
+/// What a script prints, and what is said of its lines that fail.
+#[derive(Drop)]
+pub(crate) struct Checked {
+    pub(crate) printed: Vec<u8>,
+    pub(crate) said: Vec<u8>,
+}
+
+// The text that a line expects, if it expects one.
+fn expected_in(line: &[u8]) -> Option<&[u8]>
+    ensures { option_map (λ text. text.now) result ≡ expected_in line.now }
+{
+    if line == b"expect".as_slice() {
+        return Some(b"");
+    }
+    if line.starts_with(b"expect ") {
+        Some(&line[7..])
+    } else {
+        None
+    }
+}
+
+// Where the first line of a text ends.
+fn line_end(text: &[u8]) -> usize
+    ensures value { result ≡ position_or_len is_line_end text.now }
+    ensures bound { result ≤ length text.now }
+{
+    let mut end = 0;
+    while end < text.len() && text[end] != b'\n' {
+        end += 1;
+    }
+    end
+}
+
+fn first_line(text: &[u8]) -> &[u8]
+    ensures { result.now ≡ first_line text.now }
+{
+    &text[..line_end(text)]
+}
+
+fn later_lines(text: &[u8]) -> &[u8]
+    ensures { result.now ≡ later_lines text.now }
+{
+    let end = line_end(text);
+    if end < text.len() {
+        &text[end + 1..]
+    } else {
+        &[]
+    }
+}
+
+fn goes_on(front: &[u8], text: &[u8]) -> bool
+    ensures { result ≡ goes_on front.now text.now }
+{
+    front.len() < text.len() && text[front.len()] == b' ' && text.starts_with(front)
+}
+
+// An answer is just what was expected, or a refusal that begins so.
+fn meets(expected: &[u8], answer: &[u8]) -> bool
+    ensures { result ≡ meets expected.now answer.now }
+{
+    expected == answer || (answer.starts_with(b"refused ") && goes_on(expected, answer))
+}
+
+fn is_alarm(answer: &[u8]) -> bool
+    ensures { result ≡ is_alarm answer.now }
+{
+    answer.starts_with(b"refused ") || answer == b"unset".as_slice()
+}
+
+fn shown(text: &[u8]) -> &[u8]
+    ensures { result.now ≡ shown text.now }
+{
+    if text.is_empty() { b"nothing" } else { text }
+}
+
+// Says that a line expected another text, where it did.
+fn say_missed(
+    alloc: Global,
+    number: u32,
+    expected: &[u8],
+    answer: &[u8],
+    said: &mut Vec<u8>,
+) -> Result<(), AllocError>
+    ensures { OnOk result (said.new.items
+        ≡ said.old.items ++ missed number expected.now answer.now) }
+{
+    if meets(expected, answer) {
+        return Ok(());
+    }
+    let mut what = Vec::from_slice(alloc, b"expected ")?;
+    what.extend_from_slice(shown(expected))?;
+    what.extend_from_slice(b", got ")?;
+    what.extend_from_slice(shown(answer))?;
+    say_of(alloc, number, &what, said)
+}
+
+impl Check {
+    fn new(alloc: Global) -> Check
+        ensures state { checking_of result ≡ unchecked }
+        ensures said { result.said.items ≡ [] }
+    {
+        Check {
+            number: 1,
+            asked: 0,
+            rest: Vec::new(alloc),
+            met: false,
+            said: Vec::new(alloc),
+        }
+    }
+
+    // Whether an answer is left over that a line should have expected.
+    fn is_left(&self) -> bool
+        ensures { result ≡ is_left (checking_of self.now) }
+    {
+        !self.rest.is_empty() && (self.met || is_alarm(first_line(&self.rest)))
+    }
+
+    // Says so.
+    fn settle(&mut self, alloc: Global) -> Result<(), AllocError>
+        ensures state { OnOk result (checking_of self.new ≡ checking_of self.old) }
+        ensures said { OnOk result (self.new.said.items
+            ≡ self.old.said.items ++ settled (checking_of self.old)) }
+    {
+        if !self.is_left() {
+            return Ok(());
+        }
+        let mut what = Vec::from_slice(alloc, b"not expected: ")?;
+        what.extend_from_slice(first_line(&self.rest))?;
+        say_of(alloc, self.asked, &what, &mut self.said)
+    }
+
+    // A line that expects a text takes the next line of the answer.
+    fn take(&mut self, alloc: Global, expected: &[u8]) -> Result<(), AllocError>
+        requires { self.old.number < 4294967295 }
+        ensures state { OnOk result (checking_of self.new ≡ taking (checking_of self.old)) }
+        ensures said { OnOk result (self.new.said.items ≡ self.old.said.items
+            ++ missed self.old.number expected.now (first_line self.old.rest.items)) }
+    {
+        let answer = first_line(&self.rest);
+        say_missed(alloc, self.number, expected, answer, &mut self.said)?;
+        self.rest = Vec::from_slice(alloc, later_lines(&self.rest))?;
+        self.met = true;
+        self.number += 1;
+        Ok(())
+    }
+
+    // An answer waits to be expected.
+    fn wait(&mut self, alloc: Global, answer: &[u8]) -> Result<(), AllocError>
+        requires { self.old.number < 4294967295 }
+        ensures state { OnOk result (
+            checking_of self.new ≡ waiting (checking_of self.old) answer.now) }
+        ensures said { OnOk result (self.new.said.items ≡ self.old.said.items) }
+    {
+        self.rest = Vec::from_slice(alloc, answer)?;
+        self.asked = self.number;
+        self.met = false;
+        self.number += 1;
+        Ok(())
+    }
+
+    // Says what is wrong with the answer before a line that asks for something, and with the line.
+    fn say_asked(
+        &mut self,
+        alloc: Global,
+        world: &Option<World>,
+        line: &[u8],
+        command: &Option<Command<'_>>,
+    ) -> Result<(), AllocError>
+        requires { option_map command_value command.now ≡ command_in line.now }
+        ensures state { OnOk result (checking_of self.new ≡ checking_of self.old) }
+        ensures said { OnOk result (self.new.said.items
+            ≡ self.old.said.items ++ asked_said world.now (checking_of self.old) line.now) }
+    {
+        self.settle(alloc)?;
+        let bad = why_bad(world, line, command);
+        say_bad(alloc, self.number, bad, &mut self.said)?;
+        let missing = why_missing(alloc, world, command)?;
+        say_missing(alloc, self.number, missing, &mut self.said)
+    }
+}
+
+// A line that asks for something, and is neither skipped nor expects.
+fn ask_line(
+    alloc: Global,
+    world: &mut Option<World>,
+    check: &mut Check,
+    line: &[u8],
+    printed: &mut Vec<u8>,
+) -> Result<(), AllocError>
+    requires number { check.old.number < 4294967295 }
+    requires read { is_skipped line.now ≡ false }
+    ensures printed { OnOk result (
+        printed.new.items ≡ printed.old.items ++ line_output world.old line.now) }
+    ensures said { OnOk result (check.new.said.items
+        ≡ check.old.said.items ++ asked_said world.old (checking_of check.old) line.now) }
+    ensures state { OnOk result (checking_of check.new
+        ≡ waiting (checking_of check.old) (line_output world.old line.now)) }
+    ensures world { OnOk result (world.new ≡ after_line world.old line.now) }
+    ensures history { OnOk result (LineGoesOn world.old line.now) }
+{
+    let command = line_command(alloc, line)?;
+    check.say_asked(alloc, world, line, &command)?;
+    let mut text = String::new(alloc);
+    run_read(alloc, world, command, &mut text)?;
+    printed.extend_from_slice(text.as_bytes())?;
+    check.wait(alloc, text.as_bytes())
+}
+
+// Any line.
+fn check_line(
+    alloc: Global,
+    world: &mut Option<World>,
+    check: &mut Check,
+    line: &[u8],
+    printed: &mut Vec<u8>,
+) -> Result<(), AllocError>
+    requires { check.old.number < 4294967295 }
+    ensures printed { OnOk result (
+        printed.new.items ≡ printed.old.items ++ plain_output world.old line.now) }
+    ensures said { OnOk result (check.new.said.items
+        ≡ check.old.said.items ++ line_said world.old (checking_of check.old) line.now) }
+    ensures state { OnOk result (checking_of check.new
+        ≡ line_checked world.old (checking_of check.old) line.now) }
+    ensures world { OnOk result (world.new ≡ after_line world.old line.now) }
+    ensures history { OnOk result (LineGoesOn world.old line.now) }
+{
+    if is_skipped(line) {
+        check.number += 1;
+        return Ok(());
+    }
+    match expected_in(line) {
+        Some(expected) => check.take(alloc, expected),
+        None => ask_line(alloc, world, check, line, printed),
+    }
+}
+
+// The same, with the line before what it prints where that is asked for.
+fn check_echoing(
+    alloc: Global,
+    echo: bool,
+    world: &mut Option<World>,
+    check: &mut Check,
+    line: &[u8],
+    printed: &mut Vec<u8>,
+) -> Result<(), AllocError>
+    requires { check.old.number < 4294967295 }
+    ensures printed { OnOk result (
+        printed.new.items ≡ printed.old.items ++ checked_output echo world.old line.now) }
+    ensures said { OnOk result (check.new.said.items
+        ≡ check.old.said.items ++ line_said world.old (checking_of check.old) line.now) }
+    ensures state { OnOk result (checking_of check.new
+        ≡ line_checked world.old (checking_of check.old) line.now) }
+    ensures world { OnOk result (world.new ≡ after_line world.old line.now) }
+    ensures history { OnOk result (LineGoesOn world.old line.now) }
+{
+    if echo {
+        push_echo(printed, line)?;
+    }
+    check_line(alloc, world, check, line, printed)
+}
+
+/// What a script that is checked prints, perhaps with each line before it, and what is said of its
+/// lines that fail.
+pub(crate) fn checked_output_of(
+    alloc: Global,
+    script: &[u8],
+    echo: bool,
+) -> Result<Checked, AllocError>
+    requires { length script.now ≤ MOST_BYTES }
+    ensures printed { IfOk result (λ c. c.printed.items ≡ answered_text echo script.now) }
+    ensures said { IfOk result (λ c. c.said.items ≡ checked_text script.now) }
+    ensures schedule { OnOk result (RunsAsSchedule script.now) }
+{
+    let mut world = None;
+    let mut check = Check::new(alloc);
+    let mut printed = Vec::new(alloc);
+    for line in script.split(|byte| *byte == b'\n') {
+        check_echoing(alloc, echo, &mut world, &mut check, line, &mut printed)?;
+    }
+    check.settle(alloc)?;
+    Ok(Checked {
+        printed,
+        said: check.said,
+    })
+}

@@ -1,0 +1,235 @@
+//! What is wrong with a line, in words.
+
+ghost use Rattle.std.specs.Prelude.{◌≡◌, ◌++◌, codes, decimal, is_some, option_map, slice_get, string_bytes};
+ghost use Rattle.std.specs.Prelude.{IfOk, OnOk};
+ghost use Rattle.node_core.specs.Traces.{state_known};
+ghost use Rattle.operations.specs.Counts.{given_key};
+ghost use Rattle.operations.specs.Operations.{count_of};
+ghost use Rattle.stamp_register.specs.Keys.{key_value};
+ghost use Rattle.streams.specs.Fields.{output_line};
+ghost use Rattle.scripts.specs.Commands.{command_value, question_value};
+ghost use Rattle.scripts.specs.Faults.{bad_said, ends_with_return, first_word, form_of};
+ghost use Rattle.scripts.specs.Faults.{key_named, missing_at, missing_said, no_node, no_point};
+ghost use Rattle.scripts.specs.Faults.{no_term, question_form, said_of, wanted_in, why_bad};
+ghost use Rattle.scripts.specs.Faults.{why_missing};
+
+use crate::command::{Command, Question};
+use crate::question::name_in;
+use cluster_model::World;
+use node_core::NodeCore;
+use operations::count_of;
+use replica_state::Replica;
+use stamp_register::Key;
+use std::alloc::{AllocError, Global};
+use streams::{cut, text_of};
+
+/// Why something is wrong, in words; none where nothing is.
+type Why = Option<&'static str>;
+
+// What stands before the first space, or all.
+fn first_word(text: &str) -> &str
+    ensures { result.now ≡ first_word text.now }
+{
+    match cut(text) {
+        Some((word, _)) => word,
+        None => text,
+    }
+}
+
+// How a line of this question is written, or that no line begins so.
+fn question_form(word: &str) -> &'static str
+    ensures { result.now ≡ question_form word.now }
+{
+    match word {
+        "list" => "list <node>",
+        "report" => "report <node>",
+        "rights" => "rights <node> <name> <term> <of>",
+        "spent" => "spent <node> <name> <term>",
+        "hits" => "hits <node> <name>",
+        _ => "no line begins so",
+    }
+}
+
+// The same of any line.
+fn form_of(word: &str) -> &'static str
+    ensures { result.now ≡ form_of word.now }
+{
+    match word {
+        "nodes" => "nodes <n> <cap>",
+        "set" => "set <node> <name> <actions>",
+        "remove" => "remove <node> <name>",
+        "load" => "load <node> <entries>",
+        "pass" => "pass <node> <name>[ <draw>]...",
+        "shift" => "shift <node> <name> <term> <to> <amount>",
+        "grant" => "grant <node> <name> <term> <amount>",
+        "emit" => "emit <node> <to>",
+        "deliver" => "deliver <node> <message>",
+        _ => question_form(word),
+    }
+}
+
+fn ends_with_return(line: &[u8]) -> bool
+    ensures { result ≡ ends_with_return line.now }
+{
+    !line.is_empty() && line[line.len() - 1] == b'\r'
+}
+
+// What was wanted of a line that has none of the forms.
+fn wanted_in(line: &[u8]) -> &'static str
+    ensures { result.now ≡ wanted_in line.now }
+{
+    if ends_with_return(line) {
+        return "it ends with a carriage return";
+    }
+    match text_of(line) {
+        Some(text) => form_of(first_word(text)),
+        None => "it isn't UTF-8",
+    }
+}
+
+/// Why a line that asks for this prints `bad line`, if it does.
+pub(crate) fn why_bad(world: &Option<World>, line: &[u8], command: &Option<Command<'_>>) -> Why
+    ensures { option_map (λ why. why.now) result
+        ≡ why_bad world.now line.now (option_map command_value command.now) }
+{
+    match (world, command) {
+        (_, None) => Some(wanted_in(line)),
+        (None, Some(Command::Nodes { .. })) => None,
+        (None, Some(_)) => Some("nodes <n> <cap> comes first"),
+        (Some(_), Some(Command::Nodes { .. })) => Some("the nodes are made already"),
+        (Some(_), Some(_)) => None,
+    }
+}
+
+// What a node has of a point.
+fn key_named<'a>(
+    alloc: Global,
+    node: &'a NodeCore,
+    name: &str,
+) -> Result<Option<&'a Key>, AllocError>
+    ensures { IfOk result (λ key. given_key key ≡ key_named (state_known node.now) name.now) }
+{
+    match name_in(alloc, name)? {
+        Some(name) => Ok(node.state().key(&name)),
+        None => Ok(None),
+    }
+}
+
+fn no_point(key: Option<&Key>) -> Why
+    ensures { option_map (λ why. why.now) result ≡ no_point (given_key key.entry) }
+{
+    match key {
+        Some(_) => None,
+        None => Some("the node knows no point of this name"),
+    }
+}
+
+fn no_term(key: Option<&Key>, term: u8) -> Why
+    ensures { option_map (λ why. why.now) result ≡ no_term term (given_key key.entry) }
+{
+    let Some(key) = key else {
+        return no_point(key);
+    };
+    if count_of(key, term).is_some() {
+        None
+    } else {
+        Some("the point has no counted term of this number")
+    }
+}
+
+fn no_node(world: &World, node: u8) -> Why
+    ensures { option_map (λ why. why.now) result ≡ no_node node (slice_get world.now.nodes node) }
+{
+    match world.node(node) {
+        Some(_) => None,
+        None => Some("there is no node of this number"),
+    }
+}
+
+// Why a question to a node is about what isn't there, if it is.
+fn missing_at(
+    alloc: Global,
+    world: &World,
+    node: &NodeCore,
+    question: Question<'_>,
+) -> Result<Why, AllocError>
+    ensures { IfOk result (λ why. option_map (λ why. why.now) why
+        ≡ missing_at world.now node.now (question_value question.entry)) }
+{
+    Ok(match question {
+        Question::List | Question::Report => None,
+        Question::Rights { name, term, of } => {
+            no_term(key_named(alloc, node, name)?, term).or(no_node(world, of))
+        }
+        Question::Spent { name, term } => no_term(key_named(alloc, node, name)?, term),
+        Question::Hits { name } => no_point(key_named(alloc, node, name)?),
+    })
+}
+
+/// Why a line that asks for this is about what isn't there, if it is a question and the node that it
+/// asks is there.
+pub(crate) fn why_missing(
+    alloc: Global,
+    world: &Option<World>,
+    command: &Option<Command<'_>>,
+) -> Result<Why, AllocError>
+    ensures { IfOk result (λ why. option_map (λ why. why.now) why
+        ≡ why_missing world.now (option_map command_value command.now)) }
+{
+    let (Some(world), Some(Command::Question { node, question })) = (world, command) else {
+        return Ok(None);
+    };
+    match world.node(*node) {
+        Some(core) => missing_at(alloc, world, core, *question),
+        None => Ok(None),
+    }
+}
+
+/// Says something of a line, by its number.
+pub(crate) fn say_of(
+    alloc: Global,
+    number: u32,
+    what: &[u8],
+    out: &mut Vec<u8>,
+) -> Result<(), AllocError>
+    ensures { OnOk result (out.new.items ≡ out.old.items ++ said_of number what.now) }
+{
+    let front = format!(in alloc; "line {number}: ")?;
+    out.extend_from_slice(front.as_bytes())?;
+    out.extend_from_slice(what)?;
+    out.push(b'\n')?;
+    Ok(())
+}
+
+/// Says why a line is bad, if it is.
+pub(crate) fn say_bad(
+    alloc: Global,
+    number: u32,
+    why: Why,
+    out: &mut Vec<u8>,
+) -> Result<(), AllocError>
+    ensures { OnOk result (out.new.items
+        ≡ out.old.items ++ bad_said number (option_map (λ why. why.now) why.entry)) }
+{
+    let Some(why) = why else {
+        return Ok(());
+    };
+    let text = format!(in alloc; "bad line: {why}")?;
+    say_of(alloc, number, text.as_bytes(), out)
+}
+
+/// Says what of a line isn't there, if something isn't.
+pub(crate) fn say_missing(
+    alloc: Global,
+    number: u32,
+    why: Why,
+    out: &mut Vec<u8>,
+) -> Result<(), AllocError>
+    ensures { OnOk result (out.new.items
+        ≡ out.old.items ++ missing_said number (option_map (λ why. why.now) why.entry)) }
+{
+    match why {
+        Some(why) => say_of(alloc, number, why.as_bytes(), out),
+        None => Ok(()),
+    }
+}
