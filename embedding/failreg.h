@@ -236,9 +236,9 @@ uint32_t failreg_calls(const failreg *node, uint64_t *calls);
 /* How many of them it keeps, each of which takes memory: those since failreg_forget. */
 uint32_t failreg_kept(const failreg *node, uint64_t *calls);
 
-/* Frees the calls that the node keeps. It stays what it is, and goes on counting them; the text of a
- * task that wasn't fetched can't be any more. A program that calls it every so many passes takes no
- * memory for them for good. */
+/* Frees the calls that the node keeps. It stays what it is, and goes on counting them. What is to be
+ * fetched stays, but for the text of a task that a pass by a point's number came to. A program that
+ * calls it every so many passes takes no memory for them for good. */
 uint32_t failreg_forget(failreg *node);
 
 /* Answers a request of HTTP as a node does that is served (docs/serving.md has the requests), and

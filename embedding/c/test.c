@@ -345,22 +345,26 @@ static bool tell_the_same(failreg *node, failreg *other)
 static void calls_are_forgotten(void)
 {
     failreg node = opened(0), other = opened(0);
-    uint64_t calls, same, kept_before;
+    uint64_t calls, same;
+    uint32_t p;
+    CHECK(failreg_point(&node, TEXT("p"), &p) == FAILREG_OK);
     set(&node, "50%3*print(one)->20%panic(two)->off");
     set(&other, "50%3*print(one)->20%panic(two)->off");
     for (int i = 0; i < 300; i++) {
-        failreg_act act = pass(&node), again = pass(&other);
+        failreg_act act, again = pass(&other);
+        CHECK(failreg_pass_at(&node, p, &act) == FAILREG_OK);
         CHECK(act.outcome == again.outcome && act.term == again.term && act.text_len == again.text_len);
         CHECK(said(&node, act.term == 0 ? "one" : act.term == 1 ? "two" : ""));
         if (i % 7 == 0) {
             CHECK(failreg_forget(&node) == FAILREG_OK && kept(&node) == 0 && said(&node, ""));
         }
-        kept_before = (uint64_t)(i % 7);
-        CHECK(kept(&node) == kept_before && kept(&other) == (uint64_t)i + 2);
+        CHECK(kept(&node) == (uint64_t)(i % 7) && kept(&other) == (uint64_t)i + 2);
         CHECK(failreg_calls(&node, &calls) == FAILREG_OK && failreg_calls(&other, &same) == FAILREG_OK);
         CHECK(calls == same && calls == (uint64_t)i + 2);
     }
     CHECK(tell_the_same(&node, &other));
+    CHECK(failreg_list(&node) == FAILREG_OK && failreg_forget(&node) == FAILREG_OK);
+    CHECK(said(&node, "p=50%3*print(one)->20%panic(two)->off"));
     failreg_close(&node);
     failreg_close(&other);
     CHECK(failreg_forget(&node) == FAILREG_E_CLOSED);

@@ -30,7 +30,8 @@ pub extern "C" fn failreg_kept(alloc: Global, node: &mut Node, calls: &mut u64) 
 }
 
 /// Frees the accepted calls that the node keeps. What it holds and tells stays as it is, and its calls
-/// go on being counted; the text of a task that wasn't fetched can't be any more.
+/// go on being counted. What is to be fetched stays, but for the text of a task that a pass by a
+/// point's number came to.
 #[unsafe(no_mangle)]
 pub extern "C" fn failreg_forget(alloc: Global, node: &mut Node) -> u32
     ensures done { result ≡ 0 → Both node.old.handle.kept node.new.handle.kept (λ k l.

@@ -331,8 +331,8 @@ unsafe extern "C" {
     /// How many of them it keeps, each of which takes memory: those since `failreg_forget`.
     pub safe fn failreg_kept(node: &mut failreg, calls: &mut u64) -> u32;
 
-    /// Frees the calls that the node keeps. It stays what it is, and goes on counting them; the
-    /// text of a task that wasn't fetched can't be any more.
+    /// Frees the calls that the node keeps. It stays what it is, and goes on counting them. What is
+    /// to be fetched stays, but for the text of a task that a pass by a point's number came to.
     pub safe fn failreg_forget(node: &mut failreg) -> u32;
 
     /// Answers a request of HTTP as a served node does, and tells the status of the reply, whose
