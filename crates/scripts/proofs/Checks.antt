@@ -61,20 +61,23 @@ asks_nothing line expected e = at_word (bytes_eq line (codes "expect")) refl e
     at_front false is e = absurd (none_is_some e)
 
     at_word : (b : Bool) → bytes_eq line (codes "expect") ≡ b →
-        ◌≡◌ {A = Option (List ℕ)} (if b then Some [] else (if begins (codes "expect ") line then Some (drop 7 line) else None))
+        ◌≡◌ {A = Option (List ℕ)} (if b then Some [] else
+        (if begins (codes "expect ") line then Some (drop 7 line) else None))
         (Some expected) → command_in line ≡ None
     at_word true is e = word_is line is
     at_word false is e = at_front (begins (codes "expect ") line) refl e
 
 -- so it leaves the cluster as it was
-pub expects_leaves : (w : Option WorldValue) (line expected : List ℕ) → expected_in line ≡ Some expected → after_line w line ≡ w
+pub expects_leaves : (w : Option WorldValue) (line expected : List ℕ) → expected_in line ≡ Some expected →
+    after_line w line ≡ w
 expects_leaves w line expected e = at (is_skipped line)
   where
     at : (b : Bool) → (if b then w else after_read w (command_in line)) ≡ w
     at true = refl
     at false = ap (after_read w) (asks_nothing line expected e)
 
-pub expects_goes_on : (w : Option WorldValue) (line expected : List ℕ) → expected_in line ≡ Some expected → LineGoesOn w line
+pub expects_goes_on : (w : Option WorldValue) (line expected : List ℕ) → expected_in line ≡ Some expected →
+    LineGoesOn w line
 expects_goes_on w line expected e = at (is_skipped line)
   where
     at : (b : Bool) → IfSome (if b then None else command_in line) (GoesOn w)

@@ -28,7 +28,8 @@ later_lines text = after_first is_line_end text
 
 -- a refusal goes on behind a text with a space
 abbrev pub goes_on : List ℕ → List ℕ → Bool
-goes_on front text = nat_lt (length front) (length text) && ((slice_index text (length front) == space) && begins front text)
+goes_on front text =
+    nat_lt (length front) (length text) && ((slice_index text (length front) == space) && begins front text)
 
 -- an answer is just what was expected, or a refusal that begins so
 abbrev pub meets : List ℕ → List ℕ → Bool

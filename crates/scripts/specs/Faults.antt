@@ -123,4 +123,5 @@ missing_said number (Some why) = said_of number why
 abbrev pub said_by : {S : Type 0} → (Option WorldValue → S → List ℕ → List ℕ) → (Option WorldValue → S → List ℕ → S) →
     (S → List ℕ) → Option WorldValue → S → List (List ℕ) → List ℕ
 said_by said next left w s [] = left s
-said_by said next left w s (line ∷ lines) = said w s line ++ said_by said next left (after_line w line) (next w s line) lines
+said_by said next left w s (line ∷ lines) =
+    said w s line ++ said_by said next left (after_line w line) (next w s line) lines

@@ -19,15 +19,18 @@ loop-line-preserved c =
     let stepped : checking_of c.check_echoing.new.check ≡ line_checked c.loop-line.world (checking_of c.loop-line.check)
     c.in-Some.line.now = search rules in
     record {
-      counted = ap (λ s. s.number) stepped ∙ numbered c.loop-line.world (checking_of c.loop-line.check) c.in-Some.line.now
+      counted = ap (λ s. s.number) stepped
+          ∙ numbered c.loop-line.world (checking_of c.loop-line.check) c.in-Some.line.now
           ∙ ap (λ n. n + 1) c.loop-line.invariant.counted ∙ sym (ap (λ n. n + 1) longer);
       printed = one_more (checked_output c.args.echo) (lines_of c.args.script.now) (length c.loop-line.yielded)
           c.loop-line.world
           c.check_echoing.new.world _ c.in-Some.line.now
           c.loop-line.printed.items c.check_echoing.new.printed.items _ turn.0 turn.1 longer
           c.loop-line.invariant.printed (search rules) (search rules);
-      said = one_said line_said line_checked settled (lines_of c.args.script.now) (length c.loop-line.yielded) c.loop-line.world
-          c.check_echoing.new.world (checking_of c.loop-line.check) (checking_of c.check_echoing.new.check) _
+      said = one_said line_said line_checked settled
+          (lines_of c.args.script.now) (length c.loop-line.yielded)
+          c.loop-line.world c.check_echoing.new.world (checking_of c.loop-line.check)
+          (checking_of c.check_echoing.new.check) _
           c.in-Some.line.now c.loop-line.check.said.items c.check_echoing.new.check.said.items _ turn.0 turn.1 longer
           c.loop-line.invariant.said (search rules) (search rules) (search rules);
       goes = rest_goes_on (lines_of c.args.script.now) (length c.loop-line.yielded) _ c.loop-line.world

@@ -20,7 +20,8 @@ loop-line-preserved c =
     let stepped : warned_of c.warn_echoing.new.warning ≡ after_warned c.loop-line.world (warned_of c.loop-line.warning)
     c.in-Some.line.now = search rules in
     record {
-      counted = ap (λ s. s.number) stepped ∙ ap (λ n. n + 1) c.loop-line.invariant.counted ∙ sym (ap (λ n. n + 1) longer);
+      counted = ap (λ s. s.number) stepped ∙ ap (λ n. n + 1) c.loop-line.invariant.counted
+          ∙ sym (ap (λ n. n + 1) longer);
       few_bad = fewer _ c.loop-line.warning.bad c.loop-line.warning.number _ _ c.loop-line.invariant.few_bad
           (ap (λ s. s.bad) stepped) (ap (λ s. s.number) stepped);
       few_unset = fewer _ c.loop-line.warning.unset c.loop-line.warning.number _ _ c.loop-line.invariant.few_unset
@@ -30,8 +31,10 @@ loop-line-preserved c =
           c.warn_echoing.new.world _ c.in-Some.line.now
           c.loop-line.printed.items c.warn_echoing.new.printed.items _ turn.0 turn.1 longer
           c.loop-line.invariant.printed (search rules) (search rules);
-      said = one_said line_warned after_warned warned_sums (lines_of c.args.script.now) (length c.loop-line.yielded) c.loop-line.world
-          c.warn_echoing.new.world (warned_of c.loop-line.warning) (warned_of c.warn_echoing.new.warning) _
+      said = one_said line_warned after_warned warned_sums
+          (lines_of c.args.script.now) (length c.loop-line.yielded)
+          c.loop-line.world c.warn_echoing.new.world (warned_of c.loop-line.warning)
+          (warned_of c.warn_echoing.new.warning) _
           c.in-Some.line.now c.loop-line.warning.said.items c.warn_echoing.new.warning.said.items _ turn.0 turn.1 longer
           c.loop-line.invariant.said (search rules) (search rules) (search rules);
       goes = rest_goes_on (lines_of c.args.script.now) (length c.loop-line.yielded) _ c.loop-line.world
