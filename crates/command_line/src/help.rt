@@ -118,6 +118,19 @@ can't be answered, and the reason stands on standard error.
 With --echo each line but the skipped ones stands behind `> ` before what it
 prints: a transcript that reads by itself. No answer begins with `>`.
 
+On standard error it says of each bad line what was wanted, 20 of them at most,
+and how many passes met a point that isn't set. --quiet ends that.
+
+With --check a line
+  expect <text>                       prints nothing: the answer before it has
+                                      to be just this; of a report each line is
+                                      expected by its own. `expect refused N6`
+                                      takes the beginning of a refusal
+may stand behind any other. What fails is said on standard error with its line,
+all lines run, and the status is 3: another answer than expected; a bad line; a
+refusal or an `unset` that no line expects, or a part of an answer; a question
+about a point, a counted term or a node that isn't there.
+
 Example:
   $ printf 'nodes 1 9\\nset 0 a 1*panic->off\\npass 0 a\\npass 0 a\\nhits 0 a\\n' | failreg sim
   set 1.0

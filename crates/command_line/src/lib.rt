@@ -8,8 +8,12 @@
 
 mod help;
 mod peers;
+mod quoting;
 mod reading;
 mod subcommands;
 
 pub use peers::{NamedPeer, PeerFault, PeersFault, read_peer, read_peers};
-pub use reading::{GossipOptions, Invocation, ServeOptions, read_command_line};
+pub use quoting::quoted;
+pub use reading::{
+    GossipOptions, Invocation, ServeOptions, SimOptions, ThreadOptions, read_command_line,
+};

@@ -16,14 +16,34 @@ const VERSION: &str = "0.1.0";
 pub enum Invocation<'a> {
     /// To print the canonical spelling of an action text.
     Parse(&'a str),
-    /// To run the script on standard input, and perhaps to echo its lines.
-    Sim { echo: bool },
-    /// To run the script of threads on standard input, and perhaps to keep its drill in a file.
-    Threads { record: Option<&'a str> },
+    /// To run the script on standard input.
+    Sim(SimOptions),
+    /// To run the script of threads on standard input.
+    Threads(ThreadOptions<'a>),
     /// To audit the drill in a file.
     Audit(&'a str),
     /// To serve a node over HTTP.
     Serve(ServeOptions<'a>),
+}
+
+/// How a script is run.
+#[derive(Clone, Copy, Debug, Drop)]
+pub struct SimOptions {
+    /// Whether each line is written before what it prints.
+    pub echo: bool,
+    /// Whether lines expect answers, and what fails is told and counts.
+    pub check: bool,
+    /// Whether nothing is said of lines that go wrong, where they aren't checked.
+    pub quiet: bool,
+}
+
+/// How a script of threads is run.
+#[derive(Clone, Copy, Debug, Drop)]
+pub struct ThreadOptions<'a> {
+    /// The file that its drill is kept in, if it is kept.
+    pub record: Option<&'a str>,
+    /// Whether a file that is there is written over.
+    pub force: bool,
 }
 
 /// Whom a served node tells what it knows, and how often.
@@ -114,16 +134,19 @@ fn asked<'a, 'm>(matches: &'m ArgMatches<'a>) -> Option<(Subcommand, &'m ArgMatc
 fn read_matches<'a>(alloc: Global, matches: &ArgMatches<'a>) -> Result<Invocation<'a>, Error> {
     // No words match without a subcommand, and each that is offered is found by its name.
     let Some((subcommand, matches)) = asked(matches) else {
-        return Ok(Invocation::Sim { echo: false });
+        return Ok(Invocation::Parse(""));
     };
     Ok(match subcommand {
         Subcommand::Parse => Invocation::Parse(matches.get_str("text").unwrap_or("")),
-        Subcommand::Sim => Invocation::Sim {
+        Subcommand::Sim => Invocation::Sim(SimOptions {
             echo: matches.get_flag("echo"),
-        },
-        Subcommand::Threads => Invocation::Threads {
+            check: matches.get_flag("check"),
+            quiet: matches.get_flag("quiet"),
+        }),
+        Subcommand::Threads => Invocation::Threads(ThreadOptions {
             record: matches.get_str("record"),
-        },
+            force: matches.get_flag("force"),
+        }),
         Subcommand::Audit => Invocation::Audit(matches.get_str("file").unwrap_or("")),
         Subcommand::Serve => Invocation::Serve(serve_options(alloc, matches)?),
     })

@@ -59,35 +59,72 @@ const PARSE: &[Argument] = &[Argument {
     takes_hyphens: true,
 }];
 
-const SIM: &[Argument] = &[Argument {
-    name: "echo",
-    by_name: true,
-    value: "echo",
-    help: "Writes each line of the script before what it prints",
-    required: false,
-    default: &[],
-    values: (0, 0),
-    most: None,
-    takes_hyphens: false,
-}];
+const SIM: &[Argument] = &[
+    Argument {
+        name: "echo",
+        by_name: true,
+        value: "echo",
+        help: "Writes each line of the script before what it prints",
+        required: false,
+        default: &[],
+        values: (0, 0),
+        most: None,
+        takes_hyphens: false,
+    },
+    Argument {
+        name: "check",
+        by_name: true,
+        value: "check",
+        help: "Reads `expect` lines, and ends with 3 where a line fails",
+        required: false,
+        default: &[],
+        values: (0, 0),
+        most: None,
+        takes_hyphens: false,
+    },
+    Argument {
+        name: "quiet",
+        by_name: true,
+        value: "quiet",
+        help: "Says nothing of lines that go wrong",
+        required: false,
+        default: &[],
+        values: (0, 0),
+        most: None,
+        takes_hyphens: false,
+    },
+];
 
-const THREADS: &[Argument] = &[Argument {
-    name: "record",
-    by_name: true,
-    value: "file",
-    help: "Keeps the drill in this file, for `failreg audit`",
-    required: false,
-    default: &[],
-    values: (1, 1),
-    most: None,
-    takes_hyphens: false,
-}];
+const THREADS: &[Argument] = &[
+    Argument {
+        name: "record",
+        by_name: true,
+        value: "file",
+        help: "Keeps the drill in this file, for `failreg audit`",
+        required: false,
+        default: &[],
+        values: (1, 1),
+        most: None,
+        takes_hyphens: false,
+    },
+    Argument {
+        name: "force",
+        by_name: true,
+        value: "force",
+        help: "Lets --record write over a file that is there",
+        required: false,
+        default: &[],
+        values: (0, 0),
+        most: None,
+        takes_hyphens: false,
+    },
+];
 
 const AUDIT: &[Argument] = &[Argument {
     name: "file",
     by_name: false,
     value: "file",
-    help: "A drill that `failreg threads --record` kept",
+    help: "A drill that `failreg threads --record` kept, or `-` for standard input",
     required: true,
     default: &[],
     values: (1, 1),

@@ -9,6 +9,7 @@ ghost use Rattle.drills.specs.Drills.{drill_in};
 ghost use Rattle.drills.specs.Taken.{IfBytes, bytes_left};
 ghost use Rattle.failreg.specs.Recordings.{SaysVerdict};
 
+use crate::short_lines::ShortLines;
 use audit::{AuditFault, AuditYes, audit, verdict_text};
 use drills::{Drill, DrillFault, read_drill};
 use scripts::{Watched, write_text};
@@ -67,8 +68,29 @@ fn audit_drill<I: Read, O: Write>(
     }
 }
 
-/// Audits the drill in a file, and writes what the audit says. Answers whether it is a yes.
-pub fn audit_file<R: Files, O: Write>(
+// Audits the drill in what is read, and writes what the audit says.
+fn audit_input<I: Read + Drop, O: Write>(
+    alloc: Global,
+    input: I,
+    writer: &mut Watched<O>,
+) -> Result<bool, DrillFault>
+    requires { has_failed writer.old ≡ false }
+    // It is an audit of some drill, and nothing else is written.
+    ensures ok { IfOk result (λ yes. SaysVerdict None yes O.contents writer.old writer.new) }
+    ensures flushed { IfOk result (λ yes. has_unflushed writer.new ≡ false) }
+    ensures write_failed { (result ≡ Err WriteFailed) ↔ (has_failed writer.new ≡ true) }
+    ensures unwritten { IfErr result (λ fault. fault ≢ WriteFailed → writer.new ≡ writer.old) }
+{
+    let input = ShortLines::new(input);
+    let Ok(mut reader) = BufReader::new(alloc, Watched::new(input)) else {
+        return Err(DrillFault::OutOfMemory);
+    };
+    audit_drill(alloc, &mut reader, writer)
+}
+
+/// Audits the drill in a file, or on standard input where the path is `-`, and writes what the audit
+/// says. Answers whether it is a yes.
+pub fn audit_file<R: Files + Input, O: Write>(
     rt: &R,
     alloc: Global,
     path: &str,
@@ -81,11 +103,11 @@ pub fn audit_file<R: Files, O: Write>(
     ensures write_failed { (result ≡ Err WriteFailed) ↔ (has_failed writer.new ≡ true) }
     ensures unwritten { IfErr result (λ fault. fault ≢ WriteFailed → writer.new ≡ writer.old) }
 {
-    let Ok(file) = fs::open(rt, path) else {
-        return Err(DrillFault::ReadFailed);
-    };
-    let Ok(mut reader) = BufReader::new(alloc, Watched::new(file)) else {
-        return Err(DrillFault::OutOfMemory);
-    };
-    audit_drill(alloc, &mut reader, writer)
+    if path == "-" {
+        return audit_input(alloc, rt.reader(), writer);
+    }
+    match fs::open(rt, path) {
+        Ok(file) => audit_input(alloc, file, writer),
+        Err(_) => Err(DrillFault::ReadFailed),
+    }
 }

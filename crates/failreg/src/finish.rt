@@ -1,6 +1,6 @@
 //! How the program ends: what it says last, and its exit status.
 
-ghost use Rattle.std.specs.Prelude.{◌≡◌, ◌↔◌, ◌⊎◌, true, IfOk, IsOk, IsErr, Ok};
+ghost use Rattle.std.specs.Prelude.{◌≡◌, ◌↔◌, ◌⊎◌, true, false, IfOk, IsOk, IsErr, Ok};
 ghost use Rattle.std.specs.Process.{exit_status};
 ghost use Rattle.clap.specs.Values.{kind_of};
 ghost use Rattle.failreg.specs.Statuses.{HasStatus, unread_status};
@@ -10,13 +10,23 @@ use drills::DrillFault;
 use node_service::ServiceFault;
 use scripts::ScriptFault;
 use std::fmt::Display;
+use std::io;
+use std::io::ErrorKind;
 use std::process::ExitCode;
 
-/// Says why something was refused.
-pub fn refuse<R: Eprint, E: Display + Drop>(rt: &R, fault: E) -> anyhow::Result<ExitCode>
+/// Says why something was refused and, where it is known, in a second line what was met and what to
+/// do.
+pub fn refuse<R: Eprint, E: Display + Drop>(
+    rt: &R,
+    fault: E,
+    advice: &str,
+) -> anyhow::Result<ExitCode>
     ensures { HasStatus result 1 }
 {
     eprintln!(rt; "refused {fault}")?;
+    if !advice.is_empty() {
+        eprintln!(rt; "{advice}")?;
+    }
     Ok(ExitCode::FAILURE)
 }
 
@@ -24,6 +34,7 @@ pub fn refuse<R: Eprint, E: Display + Drop>(rt: &R, fault: E) -> anyhow::Result<
 pub fn finish_parse<R: Print + Eprint>(
     rt: &R,
     actions: Result<Actions, ActionFault>,
+    advice: &str,
 ) -> anyhow::Result<ExitCode>
     ensures done { IfOk result (λ code. exit_status code ≡ 0 ↔ IsOk actions) }
     ensures refused { IfOk result (λ code. exit_status code ≡ 1 ↔ IsErr actions) }
@@ -33,18 +44,37 @@ pub fn finish_parse<R: Print + Eprint>(
             println!(rt; "{}", actions.text())?;
             Ok(ExitCode::SUCCESS)
         }
-        Err(fault) => refuse(rt, fault),
+        Err(fault) => refuse(rt, fault, advice),
     }
 }
 
 /// After a script was run: prints why it was refused, if it was.
-pub fn finish_script<R: Eprint>(rt: &R, run: Result<(), ScriptFault>) -> anyhow::Result<ExitCode>
+pub fn finish_script<R: Eprint>(
+    rt: &R,
+    run: Result<(), ScriptFault>,
+    advice: &str,
+) -> anyhow::Result<ExitCode>
     ensures done { IfOk result (λ code. exit_status code ≡ 0 ↔ IsOk run) }
     ensures refused { IfOk result (λ code. exit_status code ≡ 1 ↔ IsErr run) }
 {
     match run {
         Ok(()) => Ok(ExitCode::SUCCESS),
-        Err(fault) => refuse(rt, fault),
+        Err(fault) => refuse(rt, fault, advice),
+    }
+}
+
+/// After a script was checked: ends with 3 where a line failed, or says why it wasn't run.
+pub fn finish_checked<R: Eprint>(rt: &R, run: Result<bool, ScriptFault>) -> anyhow::Result<ExitCode>
+    ensures good { IfOk result (λ code. exit_status code ≡ 0 ↔ (run ≡ Ok true)) }
+    ensures bad { IfOk result (λ code. exit_status code ≡ 3 ↔ (run ≡ Ok false)) }
+    ensures refused { IfOk result (λ code. exit_status code ≡ 1 ↔ IsErr run) }
+    ensures only { IfOk result (λ code.
+        (exit_status code ≡ 0) ⊎ (exit_status code ≡ 1) ⊎ (exit_status code ≡ 3)) }
+{
+    match run {
+        Ok(true) => Ok(ExitCode::SUCCESS),
+        Ok(false) => Ok(ExitCode::from(3)),
+        Err(fault) => refuse(rt, fault, ""),
     }
 }
 
@@ -52,6 +82,7 @@ pub fn finish_script<R: Eprint>(rt: &R, run: Result<(), ScriptFault>) -> anyhow:
 pub fn finish_audit<R: Eprint>(
     rt: &R,
     audited: Result<bool, DrillFault>,
+    advice: &str,
 ) -> anyhow::Result<ExitCode>
     ensures done { IfOk result (λ code. exit_status code ≡ 0 ↔ (audited ≡ Ok true)) }
     ensures status { IfOk result (λ code. (exit_status code ≡ 0) ⊎ (exit_status code ≡ 1)) }
@@ -59,7 +90,7 @@ pub fn finish_audit<R: Eprint>(
     match audited {
         Ok(true) => Ok(ExitCode::SUCCESS),
         Ok(false) => Ok(ExitCode::FAILURE),
-        Err(fault) => refuse(rt, fault),
+        Err(fault) => refuse(rt, fault, advice),
     }
 }
 
@@ -68,6 +99,7 @@ pub fn finish_audit<R: Eprint>(
 pub fn finish_serve<R: Print + Eprint>(
     rt: &R,
     served: Result<u32, ServiceFault>,
+    advice: &str,
 ) -> anyhow::Result<ExitCode>
     ensures done { IfOk result (λ code. exit_status code ≡ 0 ↔ IsOk served) }
     ensures refused { IfOk result (λ code. exit_status code ≡ 1 ↔ IsErr served) }
@@ -75,10 +107,22 @@ pub fn finish_serve<R: Print + Eprint>(
     let served = match served {
         Ok(served) => served,
         Err(ServiceFault::Output(error)) => return Err(error.into()),
-        Err(fault) => return refuse(rt, fault),
+        Err(fault) => return refuse(rt, fault, advice),
     };
     println!(rt; "served {served}")?;
     Ok(ExitCode::SUCCESS)
+}
+
+/// Where the words of the command line can't be read: one isn't UTF-8, which is a mistake in it, or
+/// memory is refused, which is the program's own error.
+pub fn finish_unreadable<R: Eprint>(rt: &R, error: io::Error) -> anyhow::Result<ExitCode>
+    ensures { HasStatus result 2 }
+{
+    if error.kind() != ErrorKind::InvalidData {
+        return Err(error.into());
+    }
+    eprintln!(rt; "error: a word of the command line isn't UTF-8")?;
+    Ok(ExitCode::from(2))
 }
 
 /// Where a command line asks for no run: prints the help that it asks for, or what is wrong with

@@ -1,28 +1,45 @@
 //! Action texts, and scripts that drive a cluster of failpoint registries.
 #![tactic(auto)]
 
-ghost use Rattle.std.specs.Prelude.{◌≡◌, ◌<◌, ◌⊎◌, true, false, length, if◌then◌else◌, IsOk, IfOk, IsTrue};
+ghost use Rattle.std.specs.Prelude.{◌≡◌, ◌≢◌, ◌<◌, ◌⊎◌, true, false, length, if◌then◌else◌};
+ghost use Rattle.std.specs.Prelude.{None, IsOk, IfOk, IsTrue};
 ghost use Rattle.std.specs.Process.{exit_status};
 ghost use Rattle.actions.specs.Reading.{reading};
 ghost use Rattle.node_core.specs.Refusals.{is_bad_config};
+ghost use Rattle.scripts.specs.Checks.{answered_text, checked_status, checked_text};
 ghost use Rattle.scripts.specs.Script.{echoed_text, script_text};
+ghost use Rattle.scripts.specs.Warnings.{warned_text};
 ghost use Rattle.streams.specs.Streams.{IfInput, Writes};
 ghost use Rattle.streams.specs.Watched.{has_failed, has_unflushed};
 ghost use Rattle.thread_scripts.specs.Outputs.{PlaysTo};
+ghost use Rattle.failreg.specs.Recordings.{SaysVerdict};
 ghost use Rattle.failreg.specs.Statuses.{HasStatus, OnStatus};
 
 mod auditing;
 mod finish;
+mod met;
 mod recording;
+mod short_lines;
+mod standard;
 
 use actions::parse_actions;
 use auditing::audit_file;
-use command_line::{Invocation, ServeOptions, read_command_line};
-use finish::{finish_audit, finish_parse, finish_script, finish_serve, finish_unread};
+use command_line::{Invocation, ServeOptions, SimOptions, quoted, read_command_line};
+use drills::DrillFault;
+use finish::{
+    finish_audit, finish_checked, finish_parse, finish_script, finish_serve, finish_unread,
+    finish_unreadable, refuse,
+};
+use met::{is_missing, met_by_parse, met_by_service};
 use node_service::serve_node;
-use recording::run_recorded;
-use scripts::{MOST_BYTES, Watched, run_script, run_script_echoing};
+use recording::{is_kept, run_recorded};
+use scripts::{
+    MOST_BYTES, ScriptFault, Watched, run_script, run_script_checked, run_script_echoing,
+    run_script_warning,
+};
+use standard::hold_standard;
 use std::alloc::AllocGlobal;
+use std::fs::Files;
 use std::io::{Read, Write};
 use std::net::Net;
 use std::process::ExitCode;
@@ -34,32 +51,28 @@ use std::{io, net};
 use thread_scripts::run_threads;
 
 fn main(rt: HostRuntime) -> anyhow::Result<ExitCode> {
+    // They are held to the end.
+    let _held = [hold_standard(&rt), hold_standard(&rt), hold_standard(&rt)];
     let alloc = rt.alloc();
-    let words: Vec<String> = std::env::args(&rt)?.collect(alloc)?;
+    let words = match std::env::args(&rt) {
+        Ok(words) => words,
+        Err(error) => return finish_unreadable(&rt, error),
+    };
+    let words: Vec<String> = words.collect(alloc)?;
+    let mut reader = Watched::new(rt.reader());
+    let mut writer = Watched::new(io::writer(&rt));
+    let mut errors = Watched::new(rt.stderr());
     match read_command_line(alloc, words.as_slice()) {
         Ok(Invocation::Parse(text)) => parse(&rt, text),
-        Ok(Invocation::Sim { echo }) => {
-            let mut reader = Watched::new(rt.reader());
-            let mut writer = Watched::new(io::writer(&rt));
-            sim(&rt, echo, &mut reader, &mut writer)
+        Ok(Invocation::Sim(options)) if options.check => {
+            check(&rt, options.echo, &mut reader, &mut writer, &mut errors)
         }
-        Ok(Invocation::Threads { record: None }) => {
-            let mut reader = Watched::new(rt.reader());
-            let mut writer = Watched::new(io::writer(&rt));
-            threads(&rt, &mut reader, &mut writer)
-        }
-        Ok(Invocation::Threads { record: Some(path) }) => {
-            let mut reader = Watched::new(rt.reader());
-            let mut writer = Watched::new(io::writer(&rt));
-            finish_script(
-                &rt,
-                run_recorded(&rt, alloc, path, &mut reader, &mut writer),
-            )
-        }
-        Ok(Invocation::Audit(path)) => {
-            let mut writer = Watched::new(io::writer(&rt));
-            finish_audit(&rt, audit_file(&rt, alloc, path, &mut writer))
-        }
+        Ok(Invocation::Sim(options)) => { sim(&rt, options, &mut reader, &mut writer, &mut errors) }
+        Ok(Invocation::Threads(options)) => match options.record {
+            Some(path) => record(&rt, path, options.force, &mut reader, &mut writer),
+            None => threads(&rt, &mut reader, &mut writer),
+        },
+        Ok(Invocation::Audit(path)) => audit(&rt, path, &mut writer),
         Ok(Invocation::Serve(options)) => serve(&rt, options),
         Err(error) => finish_unread(&rt, &error),
     }
@@ -72,23 +85,31 @@ fn parse<R: Print + Eprint + AllocGlobal>(rt: &R, text: &str) -> anyhow::Result<
     ensures status { IfOk result (λ code. (exit_status code ≡ 0) ⊎ (exit_status code ≡ 1)) }
 {
     let actions = parse_actions(rt.alloc(), text);
-    finish_parse(rt, actions)
+    let met = met_by_parse(rt.alloc(), text, &actions);
+    finish_parse(rt, actions, &met)
 }
 
-// Runs the script that a reader gives, and may echo its lines.
-fn sim<R: Eprint + AllocGlobal, I: Read, O: Write>(
+// Runs the script that a reader gives, and may echo its lines and say which go wrong.
+fn sim<R: Eprint + AllocGlobal, I: Read, O: Write, E: Write>(
     rt: &R,
-    echo: bool,
+    options: SimOptions,
     reader: &mut Watched<I>,
     writer: &mut Watched<O>,
+    errors: &mut Watched<E>,
 ) -> anyhow::Result<ExitCode>
     requires reader { has_failed reader.old ≡ false }
     requires writer { has_failed writer.old ≡ false }
+    requires errors { has_failed errors.old ≡ false }
     // With status 0 the whole text of what was read is written and flushed.
     ensures done { OnStatus result 0 (IfInput I.remaining reader.old (λ input.
         Writes O.contents writer.old writer.new
-        (if echo then echoed_text input else script_text input))) }
+        (if options.echo then echoed_text input else script_text input))) }
     ensures flushed { OnStatus result 0 (has_unflushed writer.new ≡ false) }
+    // And what goes wrong in it is said, unless that isn't wanted.
+    ensures said { options.quiet ≡ false → OnStatus result 0 (
+        has_failed errors.new ≡ false → IfInput I.remaining reader.old (λ input.
+        Writes E.contents errors.old errors.new (warned_text input))) }
+    ensures quiet { options.quiet ≡ true → errors.new ≡ errors.old }
     // A script that is too long, or that can't be read or answered, has status 1.
     ensures read_failed { has_failed reader.new ≡ true → HasStatus result 1 }
     ensures write_failed { has_failed writer.new ≡ true → HasStatus result 1 }
@@ -96,12 +117,52 @@ fn sim<R: Eprint + AllocGlobal, I: Read, O: Write>(
         MOST_BYTES < length input → HasStatus result 1) }
     ensures status { IfOk result (λ code. (exit_status code ≡ 0) ⊎ (exit_status code ≡ 1)) }
 {
-    let run = if echo {
+    let SimOptions { echo, quiet, .. } = options;
+    let run = if !quiet {
+        run_script_warning(rt.alloc(), echo, reader, writer, errors)
+    } else if echo {
         run_script_echoing(rt.alloc(), reader, writer)
     } else {
         run_script(rt.alloc(), reader, writer)
     };
-    finish_script(rt, run)
+    finish_script(rt, run, "")
+}
+
+// Runs the script that a reader gives as one that is checked, and may echo its lines.
+fn check<R: Eprint + AllocGlobal, I: Read, O: Write, E: Write>(
+    rt: &R,
+    echo: bool,
+    reader: &mut Watched<I>,
+    writer: &mut Watched<O>,
+    errors: &mut Watched<E>,
+) -> anyhow::Result<ExitCode>
+    requires reader { has_failed reader.old ≡ false }
+    requires writer { has_failed writer.old ≡ false }
+    requires errors { has_failed errors.old ≡ false }
+    // The status is 1, or that of the script: 0 where nothing is said of its lines, and else 3.
+    ensures status { IfOk result (λ code. exit_status code ≢ 1 →
+        IfInput I.remaining reader.old (λ input. exit_status code ≡ checked_status input)) }
+    ensures only { IfOk result (λ code.
+        (exit_status code ≡ 0) ⊎ (exit_status code ≡ 1) ⊎ (exit_status code ≡ 3)) }
+    // Then what its lines print is written and flushed, and what is said of them.
+    ensures printed { IfOk result (λ code. exit_status code ≢ 1 →
+        IfInput I.remaining reader.old (λ input.
+        Writes O.contents writer.old writer.new (answered_text echo input))) }
+    ensures flushed { IfOk result (λ code. exit_status code ≢ 1 →
+        has_unflushed writer.new ≡ false) }
+    ensures said { IfOk result (λ code. exit_status code ≢ 1 → has_failed errors.new ≡ false →
+        IfInput I.remaining reader.old (λ input.
+        Writes E.contents errors.old errors.new (checked_text input))) }
+    // A script that is too long, or that can't be read or answered, has status 1.
+    ensures read_failed { has_failed reader.new ≡ true → HasStatus result 1 }
+    ensures write_failed { has_failed writer.new ≡ true → HasStatus result 1 }
+    ensures long { IfInput I.remaining reader.old (λ input.
+        MOST_BYTES < length input → HasStatus result 1) }
+{
+    finish_checked(
+        rt,
+        run_script_checked(rt.alloc(), echo, reader, writer, errors),
+    )
 }
 
 // Runs the script of threads that a reader gives.
@@ -124,7 +185,49 @@ fn threads<R: Threads + Wait + Sync + Eprint + AllocGlobal, I: Read, O: Write>(
         MOST_BYTES < length input → HasStatus result 1) }
     ensures status { IfOk result (λ code. (exit_status code ≡ 0) ⊎ (exit_status code ≡ 1)) }
 {
-    finish_script(rt, run_threads(rt, rt.alloc(), reader, writer))
+    finish_script(rt, run_threads(rt, rt.alloc(), reader, writer), "")
+}
+
+// The same, and keeps its drill in a file: in one that is there only where that is wanted.
+fn record<R: Threads + Wait + Sync + Eprint + AllocGlobal + Files, I: Read, O: Write>(
+    rt: &R,
+    path: &str,
+    force: bool,
+    reader: &mut Watched<I>,
+    writer: &mut Watched<O>,
+) -> anyhow::Result<ExitCode>
+    requires reader { has_failed reader.old ≡ false }
+    requires writer { has_failed writer.old ≡ false }
+    ensures done { OnStatus result 0 (IfInput I.remaining reader.old (λ input.
+        PlaysTo input (Writes O.contents writer.old writer.new))) }
+    ensures flushed { OnStatus result 0 (has_unflushed writer.new ≡ false) }
+    ensures read_failed { has_failed reader.new ≡ true → HasStatus result 1 }
+    ensures status { IfOk result (λ code. (exit_status code ≡ 0) ⊎ (exit_status code ≡ 1)) }
+{
+    if !force && is_kept(rt, path) {
+        let shown = quoted(rt.alloc(), path)?;
+        let advice = format!(in rt.alloc(); "{shown} is there: another file, or --force")?;
+        return refuse(rt, ScriptFault::WriteFailed, &advice);
+    }
+    finish_script(rt, run_recorded(rt, rt.alloc(), path, reader, writer), "")
+}
+
+// Audits the drill in a file, or on standard input where the path is `-`.
+fn audit<R: Eprint + AllocGlobal + Files + Input, O: Write>(
+    rt: &R,
+    path: &str,
+    writer: &mut Watched<O>,
+) -> anyhow::Result<ExitCode>
+    requires { has_failed writer.old ≡ false }
+    ensures done { OnStatus result 0 (SaysVerdict None true O.contents writer.old writer.new) }
+    ensures status { IfOk result (λ code. (exit_status code ≡ 0) ⊎ (exit_status code ≡ 1)) }
+{
+    if path != "-" && is_missing(rt, path) {
+        let shown = quoted(rt.alloc(), path)?;
+        let advice = format!(in rt.alloc(); "{shown}: no such file")?;
+        return refuse(rt, DrillFault::ReadFailed, &advice);
+    }
+    finish_audit(rt, audit_file(rt, rt.alloc(), path, writer), "")
 }
 
 // Serves the node that a command line names.
@@ -149,5 +252,11 @@ where
       trace_cap = options.entry.cap;
     })) → HasStatus result 1 }
 {
-    finish_serve(rt, serve_node(rt, options))
+    if options.telling.rounds > 0 && options.telling.peers.is_empty() {
+        eprintln!(rt; "warning: --rounds without a peer tells nobody")?;
+    }
+    let (node, nodes, port) = (options.node, options.nodes, options.port);
+    let served = serve_node(rt, options);
+    let met = met_by_service(rt.alloc(), node, nodes, port, &served);
+    finish_serve(rt, served, &met)
 }

@@ -61,6 +61,14 @@ fn play_recorded<R: Threads + Wait + Sync, D: Write, O: Write>(
     write_text(writer, text.as_bytes())
 }
 
+/// Whether a file is there that holds what is written, unlike a pipe or a device.
+pub fn is_kept<R: Files>(rt: &R, path: &str) -> bool {
+    match fs::metadata(rt, path) {
+        Ok(there) => there.is_file(),
+        Err(_) => false,
+    }
+}
+
 /// Runs the script of threads that a reader gives, keeps its drill in a file, and writes what it
 /// prints. A script that can't be read leaves the file as it was.
 pub fn run_recorded<R: Threads + Wait + Sync + Files, I: Read, O: Write>(

@@ -1,5 +1,5 @@
 use Rattle.failreg.proofs.Recorded.{says_of_some}
-use Rattle.failreg.proofs.auditing.audit_file.Goals as goal
+use Rattle.failreg.proofs.auditing.audit_input.Goals as goal
 
 pub returns-clause-ok : goal.returns-clause-ok
 returns-clause-ok g c =
