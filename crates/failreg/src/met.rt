@@ -2,6 +2,7 @@
 
 use actions::{ActionFault, Actions};
 use command_line::quoted;
+use http_serve::ServeFault;
 use node_core::NodeFault;
 use node_service::ServiceFault;
 use std::alloc::{AllocError, Global};
@@ -79,8 +80,13 @@ pub fn met_by_service(
         Err(ServiceFault::Node(NodeFault::BadConfig)) => {
             format!(in alloc; "node {node} of {nodes}: nodes count from 0, and there are 1 to 32")
         }
-        Err(ServiceFault::Serve(_)) => {
-            format!(in alloc; "port {port}: another --port, or 0 for any; or more descriptors")
+        Err(ServiceFault::Serve(ServeFault::BindFailed)) => {
+            format!(in alloc;
+                "port {port} is in use, or not for this user: another --port, or 0 for any"
+            )
+        }
+        Err(ServiceFault::Serve(ServeFault::AcceptFailed)) => {
+            format!(in alloc; "port {port}: let the process open more descriptors (ulimit -n)")
         }
         Err(_) | Ok(_) => return String::new(alloc),
     };
