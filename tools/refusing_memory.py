@@ -70,9 +70,9 @@ ALL = 2**40
 
 
 def growths_of(errors):
-    """How many growths were refused, and how many there were, by the last of these lines."""
-    last = re.fullmatch(r"(\d+) growths refused of (\d+)", errors[-1] if errors else "")
-    return tuple(map(int, last.groups())) if last else (0, 0)
+    """How many growths were refused, and how many there were, by the last of these lines that says so."""
+    told = [told for line in errors if (told := re.fullmatch(r"(\d+) growths refused of (\d+)", line))]
+    return tuple(map(int, told[-1].groups())) if told else (0, 0)
 
 
 class CountedMemory:
