@@ -155,9 +155,13 @@ typedef struct failreg_act {
     bool has_text;     /* return() has a text of no bytes, return has none */
 } failreg_act;
 
+/* The most calls that a node may be made to accept in its life: 2^56 - 1. */
+#define FAILREG_NO_CAP UINT64_C(72057594037927935)
+
 /* Opens a closed node: node `number` of a cluster of `nodes`, which accepts `trace_cap` calls in
- * its life. Its passes draw at random by ChaCha8 of the seed, on the stream of its number. */
-uint32_t failreg_open(failreg *node, uint8_t number, uint8_t nodes, uint32_t trace_cap,
+ * its life, FAILREG_NO_CAP at most. Its passes draw at random by ChaCha8 of the seed, on the
+ * stream of its number. */
+uint32_t failreg_open(failreg *node, uint8_t number, uint8_t nodes, uint64_t trace_cap,
                       const uint8_t seed[32]);
 
 /* Closes a node, if it is open: its memory is given back. */

@@ -146,7 +146,7 @@ static void set(const char *name, const char *actions)
 static void start(const char *actions)
 {
     const uint8_t seed[32] = { 1 };
-    if (failreg_open(&node, 0, 2, UINT32_MAX, seed) != FAILREG_OK)
+    if (failreg_open(&node, 0, 2, FAILREG_NO_CAP, seed) != FAILREG_OK)
         stop("no node");
     set("other.point", "off");
     if (actions)

@@ -397,6 +397,7 @@ static void refusals_are_told(void)
     CHECK(failreg_fetch(&node, "", 0) == 0);
     CHECK(failreg_is_set(&node, TEXT("p"), &is_set) == FAILREG_E_CLOSED && !is_set);
     CHECK(failreg_open(&node, 2, NODES, 9, SEED) == FAILREG_E_BAD_CONFIG && !node.is_open);
+    CHECK(failreg_open(&node, 0, NODES, FAILREG_NO_CAP + 1, SEED) == FAILREG_E_BAD_CONFIG);
     CHECK(failreg_open(&node, 0, NODES, 2, SEED) == FAILREG_OK);
     CHECK(failreg_open(&node, 0, NODES, 2, SEED) == FAILREG_E_ALREADY_OPEN);
     CHECK(failreg_set(&node, "\xff", 1, TEXT("off"), &stamp) == FAILREG_E_NOT_UTF8);

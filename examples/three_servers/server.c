@@ -271,7 +271,7 @@ static unsigned open_node(void)
         if (to != number)
             peers[to] = (peer){ .port = (uint16_t)at, .rest = TICK };
     }
-    must(failreg_open(&node, (uint8_t)number, (uint8_t)nodes, UINT32_MAX, seed));
+    must(failreg_open(&node, (uint8_t)number, (uint8_t)nodes, FAILREG_NO_CAP, seed));
     return port;
 }
 

@@ -192,7 +192,7 @@ fn first_late(receipts: &[Receipt]) -> Option<usize>
     let mut next = [0u64; 256];
     for (place, receipt) in receipts.iter().enumerate() {
         let node = receipt.node as usize;
-        let index = receipt.index as u64;
+        let index = receipt.index;
         if index < next[node] {
             return Some(place);
         }

@@ -125,7 +125,7 @@ fn gives(alloc: Global, core: &mut NodeCore, seen: Seen<'_>) -> Result<bool, Nod
 }
 
 // The index of the first entry of a trace that a node doesn't give, if there is one; the tally notes
-// those that it gives. A node accepts fewer than 2^32 calls.
+// those that it gives. The traces of a drill have fewer than 2^32 calls.
 fn first_wrong(
     alloc: Global,
     config: Config,
@@ -180,7 +180,7 @@ pub(crate) fn least_wrong(
         let config = Config {
             node,
             nodes,
-            trace_cap: u32::MAX,
+            trace_cap: u64::from(u32::MAX),
         };
         if let Some(index) = first_wrong(alloc, config, &traces[node as usize], tally)? {
             return Ok(Some((node, index)));

@@ -202,7 +202,7 @@ pub(crate) fn same_call(seen: Seen<'_>, entry: &Entry) -> bool
 }
 
 // The call at an index of a trace.
-pub(crate) fn call_at(trace: &Trace, index: u32) -> Option<Seen<'_>>
+pub(crate) fn call_at(trace: &Trace, index: u64) -> Option<Seen<'_>>
     ensures { option_map seen_told result ≡ slice_get trace.now.calls index }
 {
     trace.at(index as usize)

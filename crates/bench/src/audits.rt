@@ -33,7 +33,7 @@ fn config_of(node: u8) -> Config {
     Config {
         node,
         nodes: NODES,
-        trace_cap: u32::MAX,
+        trace_cap: u64::from(u32::MAX),
     }
 }
 
@@ -176,7 +176,11 @@ fn run_registry<L: Label, R: Wait>(
 {
     let (registry, mut seats) = Registry::<L>::start(rt, alloc, blank, config, [7; 32], 1)?;
     let receipts = call_all(rt, alloc, &registry, &mut seats, asks);
-    let Closed { trace, calls: _ } = registry.close(seats);
+    let Closed {
+        from: _,
+        trace,
+        calls: _,
+    } = registry.close(seats);
     Ok((trace, receipts?))
 }
 

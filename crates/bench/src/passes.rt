@@ -98,7 +98,7 @@ fn config_of(node: u8) -> Config {
     Config {
         node,
         nodes: 4,
-        trace_cap: u32::MAX,
+        trace_cap: u64::from(u32::MAX),
     }
 }
 

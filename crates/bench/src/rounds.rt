@@ -71,7 +71,7 @@ fn members(alloc: Global, load: Load) -> Result<Vec<Member>, AllocError> {
         let config = Config {
             node,
             nodes: load.nodes,
-            trace_cap: u32::MAX,
+            trace_cap: u64::from(u32::MAX),
         };
         let member = Member {
             config,

@@ -95,7 +95,7 @@ impl World {
                 Config {
                     node,
                     nodes,
-                    trace_cap,
+                    trace_cap: u64::from(trace_cap),
                 },
             )?;
             if cores.push(core).is_err() {

@@ -62,8 +62,8 @@ pub struct ServeOptions<'a> {
     pub nodes: u8,
     /// The port, or 0 for one that the system picks.
     pub port: u16,
-    /// How many calls the node accepts.
-    pub cap: u32,
+    /// How many calls the node accepts; where it isn't said, as many as a node may be made to accept.
+    pub cap: Option<u32>,
     /// How many connections are served.
     pub requests: u32,
     /// The points that are set before the first request.
@@ -98,7 +98,11 @@ fn serve_options<'a>(alloc: Global, matches: &ArgMatches<'a>) -> Result<ServeOpt
         node: matches.get_one::<u8>("node").unwrap_or(0),
         nodes,
         port: matches.get_one::<u16>("port").unwrap_or(0),
-        cap: matches.get_one::<u32>("cap").unwrap_or(0),
+        cap: if matches.get_flag("no-cap") {
+            None
+        } else {
+            matches.get_one::<u32>("cap")
+        },
         requests: matches.get_one::<u32>("requests").unwrap_or(0),
         failpoints: matches.get_str("failpoints"),
         telling: GossipOptions {

@@ -178,6 +178,17 @@ const SERVE: &[Argument] = &[
         takes_hyphens: false,
     },
     Argument {
+        name: "no-cap",
+        by_name: true,
+        value: "no-cap",
+        help: "Accepts calls for as long as it is served, whatever --cap says",
+        required: false,
+        default: &[],
+        values: (0, 0),
+        most: None,
+        takes_hyphens: false,
+    },
+    Argument {
         name: "requests",
         by_name: true,
         value: "r",

@@ -100,7 +100,11 @@ fn receipt_in(alloc: Global, value: &Value) -> Result<Option<Receipt>, AllocErro
     let Some(entry) = told_in(alloc, value)? else {
         return Ok(None);
     };
-    Ok(Some(Receipt { node, index, entry }))
+    Ok(Some(Receipt {
+        node,
+        index: u64::from(index),
+        entry,
+    }))
 }
 
 fn text_member<'a>(value: &'a Value, name: &str) -> Option<&'a str>

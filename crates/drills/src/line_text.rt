@@ -17,6 +17,9 @@ use packed_trace::Seen;
 use serde_json::{Map, Value, json};
 use std::alloc::{AllocError, Global};
 
+// The greatest index that a line may have.
+const MAX_INDEX: u64 = 4_294_967_295;
+
 fn head_value(alloc: Global) -> Result<Value, AllocError>
     ensures { IfOk result (λ value. view value ≡ line_data head_line) }
 {
@@ -93,6 +96,10 @@ fn receipt_value(alloc: Global, receipt: &Receipt) -> Result<Value, AllocError>
     ensures fits { OnOk result (LineFits (receipt_line (receipt_told receipt.now))) }
 {
     let Receipt { node, index, entry } = receipt;
+    // No line has a greater number.
+    if *index > MAX_INDEX {
+        return Err(AllocError);
+    }
     let mut members = Map::new(alloc);
     put_told(alloc, &mut members, Seen::Entry(entry))?;
     put(alloc, &mut members, "index", Value::from(*index))?;

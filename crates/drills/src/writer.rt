@@ -111,7 +111,8 @@ fn write_lists<W: Write>(
 /// Writes a drill: the traces of the nodes, in their order, and of each caller the receipts of its
 /// calls, in their order. What is written reads back as the same traces and lists.
 ///
-/// It is written line by line. After a fault a part of it may be written, which no clause tells.
+/// It is written line by line. After a fault a part of it may be written, which no clause tells. A
+/// receipt with an index of 2^32 or more, which no line has, is refused as out of memory.
 pub fn write_drill<W: Write>(
     alloc: Global,
     traces: &[Trace],

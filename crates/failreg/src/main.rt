@@ -6,6 +6,7 @@ ghost use Rattle.std.specs.Prelude.{None, IsOk, IfOk, IsTrue};
 ghost use Rattle.std.specs.Process.{exit_status};
 ghost use Rattle.actions.specs.Reading.{reading};
 ghost use Rattle.node_core.specs.Refusals.{is_bad_config};
+ghost use Rattle.node_service.specs.Caps.{cap_of};
 ghost use Rattle.scripts.specs.Checks.{answered_text, checked_status, checked_text};
 ghost use Rattle.scripts.specs.Script.{echoed_text, script_text};
 ghost use Rattle.scripts.specs.Warnings.{warned_text};
@@ -249,7 +250,7 @@ where
     ensures bad { IsTrue (is_bad_config (record {
       node = options.entry.node;
       nodes = options.entry.nodes;
-      trace_cap = options.entry.cap;
+      trace_cap = cap_of options.entry.cap;
     })) → HasStatus result 1 }
 {
     if options.telling.rounds > 0 && options.telling.peers.is_empty() {

@@ -34,7 +34,7 @@ pub extern "C" fn failreg_open(
     node: &mut Node,
     number: u8,
     nodes: u8,
-    trace_cap: u32,
+    trace_cap: u64,
     seed: &[u8; 32],
 ) -> u32
     ensures ok { result ≡ 0 → MatchOption node.new.handle.kept ⊥ (IsOpened

@@ -14,21 +14,72 @@ use Rattle.gossip.specs.Traffic.{Traffic}
 use Rattle.gossip.proofs.CarryLemmas.{carries_of, moves_as, moves_nothing, moves_then, stops_as, stops_then}
 use Rattle.gossip.proofs.StepLemmas.{adds_as, adds_none, adds_then, part_of_all, told_of}
 
-looked_then : {config : Config} {seed : List ℕ} {says : ℕ → Bool → Type 0} {ps qs ps' qs' : List Pace}
+looked_then : {config : Config} {seed : List ℕ} {since : ℕ} {says : ℕ → Bool → Type 0} {ps qs ps' qs' : List Pace}
     {tos missed tos' missed' : List ℕ} →
-    AreLooked config seed says ps qs tos missed → AreLooked config seed says ps' qs' tos' missed' →
-    AreLooked config seed says (ps ++ ps') (qs ++ qs') (tos ++ tos') (missed ++ missed')
+    AreLooked config seed since says ps qs tos missed → AreLooked config seed since says ps' qs' tos' missed' →
+    AreLooked config seed since says (ps ++ ps') (qs ++ qs') (tos ++ tos') (missed ++ missed')
 looked_then nobody more = more
 looked_then (left_alone seen due rest) more = left_alone seen due (looked_then rest more)
 looked_then (not_reached seen due away rest) more = not_reached seen due away (looked_then rest more)
 looked_then (told_it seen due near rest) more = told_it seen due near (looked_then rest more)
 looked_then (missed_it seen due near rest) more = missed_it seen due near (looked_then rest more)
 
+-- what was seen behind so many calls was seen behind fewer
+seen_since : {config : Config} {seed : List ℕ} {since later : ℕ} {peer : ℕ} {n : News} → since ≤ later →
+    IsSeen config seed later peer n → IsSeen config seed since peer n
+seen_since le seen = (seen.0, seen.1, (let long = seen.2 in omega (arith, le, long)), seen.3)
+
+looked_since : {config : Config} {seed : List ℕ} {since later : ℕ} {says : ℕ → Bool → Type 0} {ps qs : List Pace}
+    {tos missed : List ℕ} → since ≤ later → AreLooked config seed later says ps qs tos missed →
+    AreLooked config seed since says ps qs tos missed
+looked_since le nobody = nobody
+looked_since le (left_alone seen due rest) = left_alone (seen_since le seen) due (looked_since le rest)
+looked_since le (not_reached seen due away rest) = not_reached (seen_since le seen) due away (looked_since le rest)
+looked_since le (told_it seen due near rest) = told_it (seen_since le seen) due near (looked_since le rest)
+looked_since le (missed_it seen due near rest) = missed_it (seen_since le seen) due near (looked_since le rest)
+
+pub looks_since : {config : Config} {seed : List ℕ} {since later : ℕ} {says : ℕ → Bool → Type 0} {seat_was seat_now : ℕ}
+    {was now : Traffic} {old new : GossipReport} {ps qs : List Pace} → since ≤ later →
+    Looks config seed later says seat_was seat_now was now old new ps qs →
+    Looks config seed since says seat_was seat_now was now old new ps qs
+looks_since le p = record {
+  tos = p.tos;
+  missed = p.missed;
+  looked = looked_since le p.looked;
+  adds = p.adds;
+  moves = p.moves;
+  tried = p.tried;
+  few = p.few;
+  counted = p.counted;
+}
+
+pub breaks_since : {config : Config} {seed : List ℕ} {since later : ℕ} {says : ℕ → Bool → Type 0}
+    {seat_was seat_now : ℕ} {was now : Traffic} {old new : GossipReport} {ps qs : List Pace} → since ≤ later →
+    Breaks config seed later says seat_was seat_now was now old new ps qs →
+    Breaks config seed since says seat_was seat_now was now old new ps qs
+breaks_since le p = record {
+  first = p.first;
+  after = p.after;
+  next = p.next;
+  rest = p.rest;
+  news = p.news;
+  tos = p.tos;
+  missed = p.missed;
+  all = p.all;
+  left = p.left;
+  looked = looked_since le p.looked;
+  seen = seen_since le p.seen;
+  due = p.due;
+  reached = p.reached;
+  adds = p.adds;
+  stops = p.stops;
+}
+
 -- nobody was looked at
-pub looks_nobody : (config : Config) (seed : List ℕ) (says : ℕ → Bool → Type 0) (seat : ℕ) (now : Traffic)
+pub looks_nobody : (config : Config) (seed : List ℕ) (since : ℕ) (says : ℕ → Bool → Type 0) (seat : ℕ) (now : Traffic)
     (report : GossipReport) →
-    Looks config seed says seat seat now now report report [] []
-looks_nobody config seed says seat now report = record {
+    Looks config seed since says seat seat now now report report [] []
+looks_nobody config seed since says seat now report = record {
   tos = [];
   missed = [];
   looked = nobody;
@@ -40,14 +91,14 @@ looks_nobody config seed says seat now report = record {
 }
 
 -- a peer is left alone, told, or missed
-pub looks_away : {config : Config} {seed : List ℕ} {says : ℕ → Bool → Type 0} {seat : ℕ} {now : Traffic}
+pub looks_away : {config : Config} {seed : List ℕ} {since : ℕ} {says : ℕ → Bool → Type 0} {seat : ℕ} {now : Traffic}
     {report : GossipReport} (p after : Pace)
-    (n : News) → IsSeen config seed p.node n → is_due p n ≡ false → after ≡ rested p →
-    Looks config seed says seat seat now now report report (p ∷ []) (after ∷ [])
-looks_away {config = config} {seed = seed} {says = says} p after n seen due is = record {
+    (n : News) → IsSeen config seed since p.node n → is_due p n ≡ false → after ≡ rested p →
+    Looks config seed since says seat seat now now report report (p ∷ []) (after ∷ [])
+looks_away {config = config} {seed = seed} {since = since} {says = says} p after n seen due is = record {
   tos = [];
   missed = [];
-  looked = subst (λ q. AreLooked config seed says (p ∷ []) (q ∷ []) [] []) (sym is) (left_alone seen due nobody);
+  looked = subst (λ q. AreLooked config seed since says (p ∷ []) (q ∷ []) [] []) (sym is) (left_alone seen due nobody);
   adds = adds_none _ _ _ _ _ _ _ refl refl refl refl refl;
   moves = moves_nothing refl refl refl refl;
   tried = omega arith;
@@ -55,15 +106,15 @@ looks_away {config = config} {seed = seed} {says = says} p after n seen due is =
   counted = omega arith;
 }
 
-pub looks_unreached : {config : Config} {seed : List ℕ} {says : ℕ → Bool → Type 0} {seat : ℕ} {was now : Traffic}
+pub looks_unreached : {config : Config} {seed : List ℕ} {since : ℕ} {says : ℕ → Bool → Type 0} {seat : ℕ} {was now : Traffic}
     {report : GossipReport}
-    (p after : Pace) (n : News) → IsSeen config seed p.node n → is_due p n ≡ true → says p.node false → now ≡ was →
+    (p after : Pace) (n : News) → IsSeen config seed since p.node n → is_due p n ≡ true → says p.node false → now ≡ was →
     after ≡ missed_pace p →
-    Looks config seed says seat seat was now report report (p ∷ []) (after ∷ [])
-looks_unreached {config = config} {seed = seed} {says = says} p after n seen due away same is = record {
+    Looks config seed since says seat seat was now report report (p ∷ []) (after ∷ [])
+looks_unreached {config = config} {seed = seed} {since = since} {says = says} p after n seen due away same is = record {
   tos = [];
   missed = [];
-  looked = subst (λ q. AreLooked config seed says (p ∷ []) (q ∷ []) [] []) (sym is) (not_reached seen due away nobody);
+  looked = subst (λ q. AreLooked config seed since says (p ∷ []) (q ∷ []) [] []) (sym is) (not_reached seen due away nobody);
   adds = adds_none _ _ _ _ _ _ _ refl refl refl refl refl;
   moves = moves_nothing same refl refl refl;
   tried = omega arith;
@@ -72,38 +123,38 @@ looks_unreached {config = config} {seed = seed} {says = says} p after n seen due
 }
 
 -- from traffic that is the same
-pub looks_from : {config : Config} {seed : List ℕ} {says : ℕ → Bool → Type 0} {seat_was seat_now : ℕ}
+pub looks_from : {config : Config} {seed : List ℕ} {since : ℕ} {says : ℕ → Bool → Type 0} {seat_was seat_now : ℕ}
     {was amid now : Traffic}
     {old new : GossipReport} {ps qs : List Pace} → amid ≡ was →
-    Looks config seed says seat_was seat_now amid now old new ps qs →
-    Looks config seed says seat_was seat_now was now old new ps qs
-looks_from {config = config} {seed = seed} {says = says} {seat_was = seat_was} {seat_now = seat_now} {now = now}
+    Looks config seed since says seat_was seat_now amid now old new ps qs →
+    Looks config seed since says seat_was seat_now was now old new ps qs
+looks_from {config = config} {seed = seed} {since = since} {says = says} {seat_was = seat_was} {seat_now = seat_now} {now = now}
     {old = old} {new = new}
-    {ps = ps} {qs = qs} same p = subst (λ t. Looks config seed says seat_was seat_now t now old new ps qs) same p
+    {ps = ps} {qs = qs} same p = subst (λ t. Looks config seed since says seat_was seat_now t now old new ps qs) same p
 
-pub breaks_from : {config : Config} {seed : List ℕ} {says : ℕ → Bool → Type 0} {seat_was seat_now : ℕ}
+pub breaks_from : {config : Config} {seed : List ℕ} {since : ℕ} {says : ℕ → Bool → Type 0} {seat_was seat_now : ℕ}
     {was amid now : Traffic}
     {old new : GossipReport} {ps qs : List Pace} → amid ≡ was →
-    Breaks config seed says seat_was seat_now amid now old new ps qs →
-    Breaks config seed says seat_was seat_now was now old new ps qs
-breaks_from {config = config} {seed = seed} {says = says} {seat_was = seat_was} {seat_now = seat_now} {now = now}
+    Breaks config seed since says seat_was seat_now amid now old new ps qs →
+    Breaks config seed since says seat_was seat_now was now old new ps qs
+breaks_from {config = config} {seed = seed} {since = since} {says = says} {seat_was = seat_was} {seat_now = seat_now} {now = now}
     {old = old} {new = new}
-    {ps = ps} {qs = qs} same p = subst (λ t. Breaks config seed says seat_was seat_now t now old new ps qs) same p
+    {ps = ps} {qs = qs} same p = subst (λ t. Breaks config seed since says seat_was seat_now t now old new ps qs) same p
 
-pub looks_told : {config : Config} {seed : List ℕ} {says : ℕ → Bool → Type 0} {seat_was seat_now : ℕ}
+pub looks_told : {config : Config} {seed : List ℕ} {since : ℕ} {says : ℕ → Bool → Type 0} {seat_was seat_now : ℕ}
     {was now : Traffic} {old new : GossipReport}
-    (p after : Pace) (n : News) → IsSeen config seed p.node n → is_due p n ≡ true → says p.node true →
+    (p after : Pace) (n : News) → IsSeen config seed since p.node n → is_due p n ≡ true → says p.node true →
     after ≡ told_pace p n →
     Adds config seed seat_was seat_now old new (bare_emit p.node ∷ []) →
     Moves config seed was now old new (p.node ∷ []) [] →
     tried_of old + 1 ≤ tried_of new → calls_of new ≤ calls_of old + 1 →
     new.lost + new.refused ≡ old.lost + old.refused →
-    Looks config seed says seat_was seat_now was now old new (p ∷ []) (after ∷ [])
-looks_told {config = config} {seed = seed}
+    Looks config seed since says seat_was seat_now was now old new (p ∷ []) (after ∷ [])
+looks_told {config = config} {seed = seed} {since = since}
     {says = says} p after n seen due near is adds moves tried few counted = record {
       tos = p.node ∷ [];
       missed = [];
-      looked = subst (λ q. AreLooked config seed says (p ∷ []) (q ∷ []) (p.node ∷ []) []) (sym is)
+      looked = subst (λ q. AreLooked config seed since says (p ∷ []) (q ∷ []) (p.node ∷ []) []) (sym is)
           (told_it seen due near nobody);
       adds = adds;
       moves = moves;
@@ -112,20 +163,20 @@ looks_told {config = config} {seed = seed}
       counted = omega (arith, counted);
     }
 
-pub looks_missed : {config : Config} {seed : List ℕ} {says : ℕ → Bool → Type 0} {seat_was seat_now : ℕ}
+pub looks_missed : {config : Config} {seed : List ℕ} {since : ℕ} {says : ℕ → Bool → Type 0} {seat_was seat_now : ℕ}
     {was now : Traffic} {old new : GossipReport}
-    (p after : Pace) (n : News) → IsSeen config seed p.node n → is_due p n ≡ true → says p.node true →
+    (p after : Pace) (n : News) → IsSeen config seed since p.node n → is_due p n ≡ true → says p.node true →
     after ≡ missed_pace p →
     Adds config seed seat_was seat_now old new (bare_emit p.node ∷ []) →
     Moves config seed was now old new (p.node ∷ []) [] →
     tried_of old + 1 ≤ tried_of new → calls_of new ≤ calls_of old + 1 →
     new.lost + new.refused ≡ old.lost + old.refused + 1 →
-    Looks config seed says seat_was seat_now was now old new (p ∷ []) (after ∷ [])
-looks_missed {config = config} {seed = seed}
+    Looks config seed since says seat_was seat_now was now old new (p ∷ []) (after ∷ [])
+looks_missed {config = config} {seed = seed} {since = since}
     {says = says} p after n seen due near is adds moves tried few counted = record {
       tos = p.node ∷ [];
       missed = p.node ∷ [];
-      looked = subst (λ q. AreLooked config seed says (p ∷ []) (q ∷ []) (p.node ∷ []) (p.node ∷ [])) (sym is)
+      looked = subst (λ q. AreLooked config seed since says (p ∷ []) (q ∷ []) (p.node ∷ []) (p.node ∷ [])) (sym is)
           (missed_it seen due near nobody);
       adds = adds;
       moves = moves;
@@ -135,12 +186,12 @@ looks_missed {config = config} {seed = seed}
     }
 
 -- and memory is refused
-pub breaks_now : {config : Config} {seed : List ℕ} {says : ℕ → Bool → Type 0} {seat_was seat_now : ℕ}
+pub breaks_now : {config : Config} {seed : List ℕ} {since : ℕ} {says : ℕ → Bool → Type 0} {seat_was seat_now : ℕ}
     {was now : Traffic} {old new : GossipReport}
-    (p : Pace) (n : News) → IsSeen config seed p.node n → is_due p n ≡ true → says p.node true →
+    (p : Pace) (n : News) → IsSeen config seed since p.node n → is_due p n ≡ true → says p.node true →
     Adds config seed seat_was seat_now old new (bare_emit p.node ∷ []) →
     Stops config seed was now old new (p.node ∷ []) →
-    Breaks config seed says seat_was seat_now was now old new (p ∷ []) (p ∷ [])
+    Breaks config seed since says seat_was seat_now was now old new (p ∷ []) (p ∷ [])
 breaks_now p n seen due near adds stops = record {
   first = [];
   after = [];
@@ -160,12 +211,12 @@ breaks_now p n seen due near adds stops = record {
 }
 
 -- one after the other
-pub looks_then : {config : Config} {seed : List ℕ} {says : ℕ → Bool → Type 0} {seat_was between seat_now : ℕ}
+pub looks_then : {config : Config} {seed : List ℕ} {since : ℕ} {says : ℕ → Bool → Type 0} {seat_was between seat_now : ℕ}
     {was amid now : Traffic}
     {old middle new : GossipReport} {ps qs ps' qs' : List Pace} →
-    Looks config seed says seat_was between was amid old middle ps qs →
-    Looks config seed says between seat_now amid now middle new ps' qs' →
-    Looks config seed says seat_was seat_now was now old new (ps ++ ps') (qs ++ qs')
+    Looks config seed since says seat_was between was amid old middle ps qs →
+    Looks config seed since says between seat_now amid now middle new ps' qs' →
+    Looks config seed since says seat_was seat_now was now old new (ps ++ ps') (qs ++ qs')
 looks_then {ps = ps} {ps' = ps'} p q = record {
   tos = p.tos ++ q.tos;
   missed = p.missed ++ q.missed;
@@ -177,12 +228,12 @@ looks_then {ps = ps} {ps' = ps'} p q = record {
   counted = omega (arith, p.counted, q.counted, length-append p.missed q.missed);
 }
 
-pub breaks_then : {config : Config} {seed : List ℕ} {says : ℕ → Bool → Type 0} {seat_was between seat_now : ℕ}
+pub breaks_then : {config : Config} {seed : List ℕ} {since : ℕ} {says : ℕ → Bool → Type 0} {seat_was between seat_now : ℕ}
     {was amid now : Traffic}
     {old middle new : GossipReport} {ps qs ps' qs' : List Pace} →
-    Looks config seed says seat_was between was amid old middle ps qs →
-    Breaks config seed says between seat_now amid now middle new ps' qs' →
-    Breaks config seed says seat_was seat_now was now old new (ps ++ ps') (qs ++ qs')
+    Looks config seed since says seat_was between was amid old middle ps qs →
+    Breaks config seed since says between seat_now amid now middle new ps' qs' →
+    Breaks config seed since says seat_was seat_now was now old new (ps ++ ps') (qs ++ qs')
 breaks_then {ps = ps} {qs = qs} p q = record {
   first = ps ++ q.first;
   after = qs ++ q.after;
@@ -203,10 +254,10 @@ breaks_then {ps = ps} {qs = qs} p q = record {
 }
 
 -- with more peers behind
-pub breaks_before : {config : Config} {seed : List ℕ} {says : ℕ → Bool → Type 0} {seat_was seat_now : ℕ}
+pub breaks_before : {config : Config} {seed : List ℕ} {since : ℕ} {says : ℕ → Bool → Type 0} {seat_was seat_now : ℕ}
     {was now : Traffic} {old new : GossipReport}
-    {ps qs : List Pace} → Breaks config seed says seat_was seat_now was now old new ps qs → (rest : List Pace) →
-    Breaks config seed says seat_was seat_now was now old new (ps ++ rest) (qs ++ rest)
+    {ps qs : List Pace} → Breaks config seed since says seat_was seat_now was now old new ps qs → (rest : List Pace) →
+    Breaks config seed since says seat_was seat_now was now old new (ps ++ rest) (qs ++ rest)
 breaks_before p rest = record {
   first = p.first;
   after = p.after;
@@ -269,38 +320,38 @@ joined [] (suc i) = refl
 joined (x ∷ xs) zero = refl
 joined (x ∷ xs) (suc i) = ap (λ l. x ∷ l) (joined xs i)
 
-looks_as : {config : Config} {seed : List ℕ} {says : ℕ → Bool → Type 0} {seat_was seat_now : ℕ} {was now : Traffic}
+looks_as : {config : Config} {seed : List ℕ} {since : ℕ} {says : ℕ → Bool → Type 0} {seat_was seat_now : ℕ} {was now : Traffic}
     {old new : GossipReport}
-    {ps qs ps' qs' : List Pace} → Looks config seed says seat_was seat_now was now old new ps qs → ps ≡ ps' → qs ≡ qs' →
-    Looks config seed says seat_was seat_now was now old new ps' qs'
-looks_as {config = config} {seed = seed} {says = says} {seat_was = seat_was} {seat_now = seat_now} {was = was}
+    {ps qs ps' qs' : List Pace} → Looks config seed since says seat_was seat_now was now old new ps qs → ps ≡ ps' → qs ≡ qs' →
+    Looks config seed since says seat_was seat_now was now old new ps' qs'
+looks_as {config = config} {seed = seed} {since = since} {says = says} {seat_was = seat_was} {seat_now = seat_now} {was = was}
     {now = now}
     {old = old} {new = new} {qs = qs} {ps' = ps'} p before after =
-    subst (λ l. Looks config seed says seat_was seat_now was now old new ps' l) after
-    (subst (λ l. Looks config seed says seat_was seat_now was now old new l qs) before p)
+    subst (λ l. Looks config seed since says seat_was seat_now was now old new ps' l) after
+    (subst (λ l. Looks config seed since says seat_was seat_now was now old new l qs) before p)
 
-breaks_as : {config : Config} {seed : List ℕ} {says : ℕ → Bool → Type 0} {seat_was seat_now : ℕ} {was now : Traffic}
+breaks_as : {config : Config} {seed : List ℕ} {since : ℕ} {says : ℕ → Bool → Type 0} {seat_was seat_now : ℕ} {was now : Traffic}
     {old new : GossipReport}
-    {ps qs ps' qs' : List Pace} → Breaks config seed says seat_was seat_now was now old new ps qs → ps ≡ ps' →
+    {ps qs ps' qs' : List Pace} → Breaks config seed since says seat_was seat_now was now old new ps qs → ps ≡ ps' →
     qs ≡ qs' →
-    Breaks config seed says seat_was seat_now was now old new ps' qs'
-breaks_as {config = config} {seed = seed} {says = says} {seat_was = seat_was} {seat_now = seat_now} {was = was}
+    Breaks config seed since says seat_was seat_now was now old new ps' qs'
+breaks_as {config = config} {seed = seed} {since = since} {says = says} {seat_was = seat_was} {seat_now = seat_now} {was = was}
     {now = now}
     {old = old} {new = new} {qs = qs} {ps' = ps'} p before after =
-    subst (λ l. Breaks config seed says seat_was seat_now was now old new ps' l) after
-    (subst (λ l. Breaks config seed says seat_was seat_now was now old new l qs) before p)
+    subst (λ l. Breaks config seed since says seat_was seat_now was now old new ps' l) after
+    (subst (λ l. Breaks config seed since says seat_was seat_now was now old new l qs) before p)
 
 next_is : (i : ℕ) → i + 1 ≡ suc i
 next_is i = omega arith
 
 -- one more of the peers is looked at, or memory is refused there
-pub looks_on : {config : Config} {seed : List ℕ} {says : ℕ → Bool → Type 0} {seat_was between seat_now : ℕ}
+pub looks_on : {config : Config} {seed : List ℕ} {since : ℕ} {says : ℕ → Bool → Type 0} {seat_was between seat_now : ℕ}
     {was amid now : Traffic}
     {old middle new : GossipReport} (ps qs : List Pace) (i : ℕ) (none after : Pace) → i < length qs →
     length qs ≡ length ps →
-    drop i qs ≡ drop i ps → Looks config seed says seat_was between was amid old middle (take i ps) (take i qs) →
-    Looks config seed says between seat_now amid now middle new (get_or qs i none ∷ []) (after ∷ []) →
-    Looks config seed says seat_was seat_now was now old new (take (i + 1) ps) (take (i + 1) (set qs i after))
+    drop i qs ≡ drop i ps → Looks config seed since says seat_was between was amid old middle (take i ps) (take i qs) →
+    Looks config seed since says between seat_now amid now middle new (get_or qs i none ∷ []) (after ∷ []) →
+    Looks config seed since says seat_was seat_now was now old new (take (i + 1) ps) (take (i + 1) (set qs i after))
 looks_on ps qs i none after lt long same p q =
     let first : take i ps ++ get_or qs i none ∷ [] ≡ take (i + 1) ps =
     ap (λ x. take i ps ++ x ∷ []) (same_first qs ps i none same) ∙ sym (taken_next ps i none (omega (arith, lt, long)))
@@ -309,12 +360,12 @@ looks_on ps qs i none after lt long same p q =
     sym (taken_written qs i after lt) ∙ ap (λ k. take k (set qs i after)) (sym (next_is i)) in
     looks_as (looks_then p q) first then_after
 
-pub breaks_on : {config : Config} {seed : List ℕ} {says : ℕ → Bool → Type 0} {seat_was between seat_now : ℕ}
+pub breaks_on : {config : Config} {seed : List ℕ} {since : ℕ} {says : ℕ → Bool → Type 0} {seat_was between seat_now : ℕ}
     {was amid now : Traffic}
     {old middle new : GossipReport} (ps qs : List Pace) (i : ℕ) (none : Pace) → i < length qs → length qs ≡ length ps →
-    drop i qs ≡ drop i ps → Looks config seed says seat_was between was amid old middle (take i ps) (take i qs) →
-    Breaks config seed says between seat_now amid now middle new (get_or qs i none ∷ []) (get_or qs i none ∷ []) →
-    Breaks config seed says seat_was seat_now was now old new ps (set qs i (get_or qs i none))
+    drop i qs ≡ drop i ps → Looks config seed since says seat_was between was amid old middle (take i ps) (take i qs) →
+    Breaks config seed since says between seat_now amid now middle new (get_or qs i none ∷ []) (get_or qs i none ∷ []) →
+    Breaks config seed since says seat_was seat_now was now old new ps (set qs i (get_or qs i none))
 breaks_on ps qs i none lt long same p q =
     let x : Pace = get_or qs i none in
     let before : (take i ps ++ x ∷ []) ++ drop (suc i) ps ≡ ps =
@@ -333,13 +384,13 @@ same_on ps qs i after same =
 -- ---- a report of all
 
 -- all peers were looked at, and what came was taken in
-pub news_round : {config : Config} {seed : List ℕ} {says : ℕ → Bool → Type 0} {seat_was between seat_now : ℕ}
+pub news_round : {config : Config} {seed : List ℕ} {since : ℕ} {says : ℕ → Bool → Type 0} {seat_was between seat_now : ℕ}
     {was amid now : Traffic}
     {old middle new : GossipReport} {ps qs : List Pace} → IsEmpty old →
-    Looks config seed says seat_was between was amid old middle ps qs →
+    Looks config seed since says seat_was between was amid old middle ps qs →
     Adds config seed between seat_now middle new [] →
     tried_of middle ≤ tried_of new → Moves config seed amid now middle new [] [] →
-    IsNewsRound config seed says was now ps qs new
+    IsNewsRound config seed since says was now ps qs new
 news_round empty p adds tried moves = record {
   tos = p.tos;
   missed = p.missed;
@@ -350,19 +401,19 @@ news_round empty p adds tried moves = record {
   carries = carries_of (moves_as (moves_then p.moves moves) (append-nil p.tos)) empty.receipts empty.lost empty.refused;
 }
 
-pub told_by_looks : {config : Config} {seed : List ℕ} {says : ℕ → Bool → Type 0} {seat_was between seat_now : ℕ}
+pub told_by_looks : {config : Config} {seed : List ℕ} {since : ℕ} {says : ℕ → Bool → Type 0} {seat_was between seat_now : ℕ}
     {was amid : Traffic}
     {old middle new : GossipReport} {ps qs : List Pace} → IsEmpty old →
-    Looks config seed says seat_was between was amid old middle ps qs →
+    Looks config seed since says seat_was between was amid old middle ps qs →
     Adds config seed between seat_now middle new [] →
     IsTold config seed seat_was seat_now new
 told_by_looks empty p adds = told_of (adds_then p.adds adds) empty.receipts empty.emitted empty.delivered
 
 -- memory was refused at a peer
-pub news_broken : {config : Config} {seed : List ℕ} {says : ℕ → Bool → Type 0} {seat_was seat_now : ℕ}
+pub news_broken : {config : Config} {seed : List ℕ} {since : ℕ} {says : ℕ → Bool → Type 0} {seat_was seat_now : ℕ}
     {was now : Traffic} {old new : GossipReport}
-    {ps qs : List Pace} → IsEmpty old → Breaks config seed says seat_was seat_now was now old new ps qs →
-    IsNewsBroken config seed says was now ps qs new
+    {ps qs : List Pace} → IsEmpty old → Breaks config seed since says seat_was seat_now was now old new ps qs →
+    IsNewsBroken config seed since says was now ps qs new
 news_broken empty p = record {
   first = p.first;
   after = p.after;
@@ -383,12 +434,12 @@ news_broken empty p = record {
 }
 
 -- or while what came was taken in
-pub news_unheard : {config : Config} {seed : List ℕ} {says : ℕ → Bool → Type 0} {seat_was between seat_now : ℕ}
+pub news_unheard : {config : Config} {seed : List ℕ} {since : ℕ} {says : ℕ → Bool → Type 0} {seat_was between seat_now : ℕ}
     {was amid now : Traffic}
     {old middle new : GossipReport} {ps qs : List Pace} → IsEmpty old →
-    Looks config seed says seat_was between was amid old middle ps qs →
+    Looks config seed since says seat_was between was amid old middle ps qs →
     Adds config seed between seat_now middle new [] →
-    Stops config seed amid now middle new [] → IsNewsBroken config seed says was now ps qs new
+    Stops config seed amid now middle new [] → IsNewsBroken config seed since says was now ps qs new
 news_unheard {ps = ps} {qs = qs} empty p adds stops =
     let all = stops_then p.moves stops in
     record {

@@ -1,5 +1,5 @@
 -- What a node has to tell a peer, and when it tells it.
-use Rattle.std.specs.Prelude.{◌≡◌, ◌==◌, ◌&&◌, ◌||◌, ◌-◌, ◌*◌, ℕ, Bool, true, false, not, nat_lt, if◌then◌else◌, List, [], ◌∷◌}
+use Rattle.std.specs.Prelude.{◌≡◌, ◌≤◌, ◌==◌, ◌&&◌, ◌||◌, ◌-◌, ◌*◌, ℕ, Bool, true, false, not, nat_lt, if◌then◌else◌, List, [], ◌∷◌, length}
 use Rattle.node_core.specs.declared.config.Config.{Config}
 use Rattle.node_core.specs.Traces.{Kept, node_of}
 use Rattle.node_registry.specs.Cells.{Cell, IsLawfulAt}
@@ -52,9 +52,10 @@ told_pace p n = record {
 abbrev pub missed_pace : Pace → Pace
 missed_pace p = record p { has_missed = true; rest = doubled p.rest; waits = doubled p.rest }
 
--- a lawful state of the node had this to tell the peer
-abbrev pub IsSeen : Config → List ℕ → ℕ → News → Type 0
-IsSeen config seed peer news = (c : Cell) × IsLawfulAt config seed c × (news ≡ news_of c.node peer)
+-- a lawful state of the node, behind so many calls at least, had this to tell the peer
+abbrev pub IsSeen : Config → List ℕ → ℕ → ℕ → News → Type 0
+IsSeen config seed since peer news =
+    (c : Cell) × IsLawfulAt config seed c × (since ≤ length c.node.trace) × (news ≡ news_of c.node peer)
 
 -- a wire said, in some state, whether it reaches the node
 abbrev pub Says : {X : Type 0} → (X → ℕ → Bool) → ℕ → Bool → Type 0
@@ -62,21 +63,21 @@ Says {X = X} reached node is = (w : X) × (reached w node ≡ is)
 
 -- Each of these peers was looked at: it was left alone where nothing was due, and else told, or missed, or gone.
 -- How the paces stand then, the peers to which a message was to be made, and those of them that were missed
-pub data AreLooked (config : Config) (seed : List ℕ) (says : ℕ → Bool → Type 0) : List Pace → List Pace → List ℕ →
+pub data AreLooked (config : Config) (seed : List ℕ) (since : ℕ) (says : ℕ → Bool → Type 0) : List Pace → List Pace → List ℕ →
     List ℕ → Type 0 where
-  nobody : AreLooked config seed says [] [] [] []
+  nobody : AreLooked config seed since says [] [] [] []
   left_alone : {p : Pace} {n : News} {ps qs : List Pace} {tos missed : List ℕ}
-      → IsSeen config seed p.node n → is_due p n ≡ false
-      → AreLooked config seed says ps qs tos missed → AreLooked config seed says (p ∷ ps) (rested p ∷ qs) tos missed
+      → IsSeen config seed since p.node n → is_due p n ≡ false
+      → AreLooked config seed since says ps qs tos missed → AreLooked config seed since says (p ∷ ps) (rested p ∷ qs) tos missed
   not_reached : {p : Pace} {n : News} {ps qs : List Pace} {tos missed : List ℕ}
-      → IsSeen config seed p.node n → is_due p n ≡ true → says p.node false
-      → AreLooked config seed says ps qs tos missed → AreLooked config seed says (p ∷ ps)
+      → IsSeen config seed since p.node n → is_due p n ≡ true → says p.node false
+      → AreLooked config seed since says ps qs tos missed → AreLooked config seed since says (p ∷ ps)
       (missed_pace p ∷ qs) tos missed
   told_it : {p : Pace} {n : News} {ps qs : List Pace} {tos missed : List ℕ}
-      → IsSeen config seed p.node n → is_due p n ≡ true → says p.node true
-      → AreLooked config seed says ps qs tos missed
-      → AreLooked config seed says (p ∷ ps) (told_pace p n ∷ qs) (p.node ∷ tos) missed
+      → IsSeen config seed since p.node n → is_due p n ≡ true → says p.node true
+      → AreLooked config seed since says ps qs tos missed
+      → AreLooked config seed since says (p ∷ ps) (told_pace p n ∷ qs) (p.node ∷ tos) missed
   missed_it : {p : Pace} {n : News} {ps qs : List Pace} {tos missed : List ℕ}
-      → IsSeen config seed p.node n → is_due p n ≡ true → says p.node true
-      → AreLooked config seed says ps qs tos missed
-      → AreLooked config seed says (p ∷ ps) (missed_pace p ∷ qs) (p.node ∷ tos) (p.node ∷ missed)
+      → IsSeen config seed since p.node n → is_due p n ≡ true → says p.node true
+      → AreLooked config seed since says ps qs tos missed
+      → AreLooked config seed since says (p ∷ ps) (missed_pace p ∷ qs) (p.node ∷ tos) (p.node ∷ missed)

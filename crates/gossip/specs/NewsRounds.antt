@@ -21,12 +21,12 @@ pub record IsEmpty (r : GossipReport) : Type 0 where
   pub refused : r.refused ≡ 0
 
 -- these peers were looked at, and what was told them is in the report
-pub record Looks (config : Config) (seed : List ℕ) (says : ℕ → Bool → Type 0) (seat_was seat_now : ℕ)
+pub record Looks (config : Config) (seed : List ℕ) (since : ℕ) (says : ℕ → Bool → Type 0) (seat_was seat_now : ℕ)
     (was now : Traffic) (old new : GossipReport)
     (ps qs : List Pace) : Type 0 where
   pub tos : List ℕ
   pub missed : List ℕ
-  pub looked : AreLooked config seed says ps qs tos missed
+  pub looked : AreLooked config seed since says ps qs tos missed
   pub adds : Adds config seed seat_was seat_now old new (map bare_emit tos)
   pub moves : Moves config seed was now old new tos []
   pub tried : tried_of old + length tos ≤ tried_of new
@@ -34,7 +34,7 @@ pub record Looks (config : Config) (seed : List ℕ) (says : ℕ → Bool → Ty
   pub counted : new.lost + new.refused ≡ old.lost + old.refused + length missed
 
 -- the first of these peers were looked at, and at the next one, which was to be told, memory was refused
-pub record Breaks (config : Config) (seed : List ℕ) (says : ℕ → Bool → Type 0) (seat_was seat_now : ℕ)
+pub record Breaks (config : Config) (seed : List ℕ) (since : ℕ) (says : ℕ → Bool → Type 0) (seat_was seat_now : ℕ)
     (was now : Traffic) (old new : GossipReport)
     (ps qs : List Pace) : Type 0 where
   pub first : List Pace
@@ -46,8 +46,8 @@ pub record Breaks (config : Config) (seed : List ℕ) (says : ℕ → Bool → T
   pub missed : List ℕ
   pub all : ps ≡ first ++ next ∷ rest
   pub left : qs ≡ after ++ next ∷ rest
-  pub looked : AreLooked config seed says first after tos missed
-  pub seen : IsSeen config seed next.node news
+  pub looked : AreLooked config seed since says first after tos missed
+  pub seen : IsSeen config seed since next.node news
   pub due : is_due next news ≡ true
   pub reached : says next.node true
   pub adds : Adds config seed seat_was seat_now old new (map bare_emit (tos ++ next.node ∷ []))
@@ -55,12 +55,12 @@ pub record Breaks (config : Config) (seed : List ℕ) (says : ℕ → Bool → T
 
 -- A round that this report tells of: each peer was looked at, and to each that was to be told and was reached a message
 -- was made, which was sent, or is counted as lost, or the node refused to make it; to no other one was made
-pub record IsNewsRound (config : Config) (seed : List ℕ) (says : ℕ → Bool → Type 0) (was now : Traffic)
+pub record IsNewsRound (config : Config) (seed : List ℕ) (since : ℕ) (says : ℕ → Bool → Type 0) (was now : Traffic)
     (ps qs : List Pace) (r : GossipReport) :
     Type 0 where
   pub tos : List ℕ
   pub missed : List ℕ
-  pub looked : AreLooked config seed says ps qs tos missed
+  pub looked : AreLooked config seed since says ps qs tos missed
   pub asks : IsPartOf (own_asks_in config r.receipts.items) (map bare_emit tos)
   pub tried : length tos ≤ tried_of r
   pub counted : length missed ≤ r.lost + r.refused
@@ -69,7 +69,7 @@ pub record IsNewsRound (config : Config) (seed : List ℕ) (says : ℕ → Bool 
 -- one that memory ended: the same of the first peers, and perhaps of the next one, if it was to be told. One message
 -- may be
 -- left that was taken last
-pub record IsNewsBroken (config : Config) (seed : List ℕ) (says : ℕ → Bool → Type 0) (was now : Traffic)
+pub record IsNewsBroken (config : Config) (seed : List ℕ) (since : ℕ) (says : ℕ → Bool → Type 0) (was now : Traffic)
     (ps qs : List Pace) (r : GossipReport) :
     Type 0 where
   pub first : List Pace
@@ -82,9 +82,9 @@ pub record IsNewsBroken (config : Config) (seed : List ℕ) (says : ℕ → Bool
   pub left : List (List ℕ)
   pub all : ps ≡ first ++ rest
   pub rest_stays : qs ≡ after ++ rest
-  pub looked : AreLooked config seed says first after tos missed
+  pub looked : AreLooked config seed since says first after tos missed
   pub next_due : (next ≡ []) ⊎ ((p : Pace) × (n : News) × (others : List Pace) × (rest ≡ p ∷ others)
-      × IsSeen config seed p.node n × (is_due p n ≡ true) × says p.node true × (next ≡ p.node ∷ []))
+      × IsSeen config seed since p.node n × (is_due p n ≡ true) × says p.node true × (next ≡ p.node ∷ []))
   pub asks : IsPartOf (own_asks_in config r.receipts.items) (map bare_emit (tos ++ next))
   pub few_left : length left ≤ 1
   pub begins : Begins made (tos ++ next)

@@ -1,6 +1,6 @@
 //! Rounds of gossip that tell only news.
 
-ghost use Rattle.std.specs.Prelude.{◌≡◌, ◌+◌, ◌<◌, ◌^◌, [], ◌∷◌, length, IfOk, OnErr, OnOk};
+ghost use Rattle.std.specs.Prelude.{◌≡◌, ◌≤◌, ◌+◌, ◌<◌, ◌^◌, [], ◌∷◌, length, IfOk, OnErr, OnOk};
 ghost use Rattle.gossip.specs.News.{IsSeen, Says};
 ghost use Rattle.gossip.specs.NewsRounds.{Breaks, IsEmpty, IsNewsBroken, IsNewsRound, Looks};
 ghost use Rattle.gossip.specs.Reports.{IsTold, calls_of};
@@ -30,9 +30,10 @@ pub fn gossip_news<L: Label, W: Reach, R: Wait>(
 ) -> GossipReport
     requires { length paces.old < 2 ^ 32 }
     ensures told { IsTold L.config L.seed seat.old seat.new result }
-    ensures round { result.ended ≡ Ended.Done → IsNewsRound L.config L.seed
+    ensures few { calls_of result ≤ length paces.old + MOST_TAKEN }
+    ensures round { result.ended ≡ Ended.Done → IsNewsRound L.config L.seed seat.old
         (Says W.reached) (W.traffic wire.old) (W.traffic wire.new) paces.old paces.new result }
-    ensures broken { result.ended ≡ Ended.OutOfMemory → IsNewsBroken L.config L.seed
+    ensures broken { result.ended ≡ Ended.OutOfMemory → IsNewsBroken L.config L.seed seat.old
         (Says W.reached) (W.traffic wire.old) (W.traffic wire.new) paces.old paces.new result }
 {
     let caller = Caller {
@@ -58,10 +59,11 @@ fn round<L: Label, W: Reach, R: Wait>(
     requires few { length paces.old < 2 ^ 32 }
     requires empty { IsEmpty report.old }
     ensures told { IsTold L.config L.seed seat.old seat.new report.new }
+    ensures few { calls_of report.new ≤ length paces.old + MOST_TAKEN }
     ensures ended { report.new.ended ≡ report.old.ended }
-    ensures round { OnOk result (IsNewsRound L.config L.seed (Says W.reached)
+    ensures round { OnOk result (IsNewsRound L.config L.seed seat.old (Says W.reached)
         (W.traffic wire.old) (W.traffic wire.new) paces.old paces.new report.new) }
-    ensures broken { OnErr result (IsNewsBroken L.config L.seed (Says W.reached)
+    ensures broken { OnErr result (IsNewsBroken L.config L.seed seat.old (Says W.reached)
         (W.traffic wire.old) (W.traffic wire.new) paces.old paces.new report.new) }
 {
     look_at_all(caller, seat, wire, paces, report)?;
@@ -78,10 +80,11 @@ fn look_at_all<L: Label, W: Reach, R: Wait>(
 ) -> Result<(), AllocError>
     requires few { length paces.old < 2 ^ 32 }
     requires room { calls_of report.old < 2 ^ 32 }
-    ensures looks { OnOk result (Looks L.config L.seed (Says W.reached)
+    ensures few { calls_of report.new ≤ calls_of report.old + length paces.old }
+    ensures looks { OnOk result (Looks L.config L.seed seat.old (Says W.reached)
         seat.old seat.new (W.traffic wire.old) (W.traffic wire.new) report.old report.new
         paces.old paces.new) }
-    ensures breaks { OnErr result (Breaks L.config L.seed (Says W.reached)
+    ensures breaks { OnErr result (Breaks L.config L.seed seat.old (Says W.reached)
         seat.old seat.new (W.traffic wire.old) (W.traffic wire.new) report.old report.new
         paces.old paces.new) }
 {
@@ -100,14 +103,15 @@ fn look_at<L: Label, W: Reach, R: Wait>(
     report: &mut GossipReport,
 ) -> Result<Pace, AllocError>
     requires { calls_of report.old < 2 ^ 63 }
-    ensures looks { IfOk result (λ after. Looks L.config L.seed (Says W.reached) seat.old seat.new
-        (W.traffic wire.old) (W.traffic wire.new) report.old report.new
+    ensures few { calls_of report.new ≤ calls_of report.old + 1 }
+    ensures looks { IfOk result (λ after. Looks L.config L.seed seat.old (Says W.reached)
+        seat.old seat.new (W.traffic wire.old) (W.traffic wire.new) report.old report.new
         (pace ∷ []) (after ∷ [])) }
-    ensures breaks { OnErr result (Breaks L.config L.seed (Says W.reached)
+    ensures breaks { OnErr result (Breaks L.config L.seed seat.old (Says W.reached)
         seat.old seat.new (W.traffic wire.old) (W.traffic wire.new) report.old report.new
         (pace ∷ []) (pace ∷ [])) }
 {
-    let news = news_for(caller, pace.node);
+    let news = news_for(caller, seat, pace.node);
     if !pace.is_due(news) {
         return Ok(pace.rested());
     }
@@ -122,8 +126,11 @@ fn look_at<L: Label, W: Reach, R: Wait>(
 }
 
 // What there is to tell a peer.
-fn news_for<L: Label, R: Wait>(caller: &Caller<'_, L, R>, peer: u8) -> News
-    ensures { IsSeen L.config L.seed peer result }
+fn news_for<L: Label, R: Wait>(caller: &Caller<'_, L, R>, seat: &mut Seat<L>, peer: u8) -> News
+    ensures seen { IsSeen L.config L.seed seat.old peer result }
+    ensures same { seat.new ≡ seat.old }
 {
-    caller.registry.with(caller.rt, |core| News::of(core, peer))
+    caller
+        .registry
+        .with_seat(caller.rt, seat, |core| News::of(core, peer))
 }

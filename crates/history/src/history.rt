@@ -36,7 +36,7 @@ impl Model for History {
     } };
 
     ghost invariant = { λ h. (h.from ≡ length (told_in h.past.items))
-        × (length (told_in h.past.items ++ h.kept.calls) ≤ 2 ^ 32) };
+        × (length (told_in h.past.items ++ h.kept.calls) ≤ 2 ^ 56) };
 }
 
 impl History {
@@ -60,7 +60,8 @@ impl History {
 
     /// How many of the first calls are no longer kept.
     pub fn from(&self) -> u64
-        ensures { result ≡ self.now.calls.from }
+        ensures from { result ≡ self.now.calls.from }
+        ensures within { result ≤ length self.now.calls.all }
     {
         self.from
     }
@@ -118,7 +119,7 @@ impl History {
     /// A pass more, for which there is room. It takes no memory.
     #[inline(always)]
     pub fn push(&mut self, pass: Prepared)
-        requires few { length self.old.calls.all < 2 ^ 32 }
+        requires few { length self.old.calls.all < 2 ^ 56 }
         requires room { IsPrepared self.old.kept pass }
         ensures calls { self.new.calls
             ≡ grown self.old.calls (prepared_told self.old.kept.rows pass) }
@@ -139,7 +140,7 @@ impl History {
 
     /// Any call more, as an entry, where there is room for it. It takes no memory.
     pub fn push_entry(&mut self, entry: Entry)
-        requires few { length self.old.calls.all < 2 ^ 32 }
+        requires few { length self.old.calls.all < 2 ^ 56 }
         requires room { (0 < self.old.kept.pass_room) × (0 < self.old.kept.entry_room) }
         ensures calls { self.new.calls ≡ grown self.old.calls (told entry) }
         ensures rows { self.new.kept.rows ≡ self.old.kept.rows }

@@ -1,6 +1,6 @@
 //! Who answers the requests of all connections.
 
-ghost use Rattle.std.specs.Prelude.{◌≡◌, ◌<◌, ℕ, List, length};
+ghost use Rattle.std.specs.Prelude.{◌≡◌, ◌<◌, ℕ, List, length, true, false};
 ghost use Rattle.message_format.specs.Spelling.{max_message};
 ghost use Rattle.node_calls.specs.Told.{ask_told};
 ghost use Rattle.http_routes.specs.Replies.{ReplyValue, http_value};
@@ -56,19 +56,46 @@ pub struct NodeHandler<L: Label> {
     routes: Routes,
     registry: Arc<Registry<L>>,
     seat: Mutex<Seat<L>>,
+    // Whether the node forgets its calls as it goes: no request asks for them.
+    forgets: bool,
+    ghost may: { forgets ≡ true → L.keeps ≡ false },
 }
 
 impl<L: Label> NodeHandler<L> {
-    /// The only error is out of memory.
+    /// The node keeps its calls. The only error is out of memory.
     pub fn new(
         alloc: Global,
         registry: &Arc<Registry<L>>,
         seat: Seat<L>,
     ) -> Result<Arc<NodeHandler<L>>, AllocError> {
+        NodeHandler::with(alloc, registry, seat, false)
+    }
+
+    /// The node forgets its calls with each reply, so that it may be served for as long as it likes. The
+    /// only error is out of memory.
+    pub fn forgetting(
+        alloc: Global,
+        registry: &Arc<Registry<L>>,
+        seat: Seat<L>,
+    ) -> Result<Arc<NodeHandler<L>>, AllocError>
+        requires { L.keeps ≡ false }
+    {
+        NodeHandler::with(alloc, registry, seat, true)
+    }
+
+    fn with(
+        alloc: Global,
+        registry: &Arc<Registry<L>>,
+        seat: Seat<L>,
+        forgets: bool,
+    ) -> Result<Arc<NodeHandler<L>>, AllocError>
+        requires { forgets ≡ true → L.keeps ≡ false }
+    {
         let handler = NodeHandler {
             routes: Routes::new(alloc)?,
             registry: Arc::try_clone(registry)?,
             seat: Mutex::new(seat),
+            forgets,
         };
         Ok(Arc::new(alloc, handler)?)
     }
@@ -86,7 +113,11 @@ impl<L: Label> NodeHandler<L> {
             (http_value result) }
     {
         let mut seat = self.seat.lock(rt);
-        self.answer_from(rt, alloc, &mut seat, method, path, body)
+        let reply = self.answer_from(rt, alloc, &mut seat, method, path, body);
+        if self.forgets {
+            drop(self.registry.give(rt, alloc, &mut seat));
+        }
+        reply
     }
 
     /// The reply to a request whose body came whole, from a seat, which counts the calls that were

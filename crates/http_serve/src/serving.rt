@@ -1,6 +1,6 @@
 //! Many connections at once.
 
-ghost use Rattle.std.specs.Prelude.{◌≡◌, ◌⊎◌, ◌*◌, IfOk, IfErr, IfSome, IsFalse, IsSomeAnd};
+ghost use Rattle.std.specs.Prelude.{◌≡◌, ◌⊎◌, ◌*◌, IfOk, IfErr, IfSome, IsFalse, IsSomeAnd, false};
 ghost use Rattle.std.specs.Arc.{arc_value};
 ghost use Rattle.std.specs.Duration.{as_nanos};
 ghost use Rattle.http_serve.specs.declared.fault.ServeFault.TheVariants.{AcceptFailed, OutOfMemory};
@@ -164,6 +164,28 @@ where
     let handler = NodeHandler::new(alloc, registry, seat)?;
     let clients = serve_handler(rt, alloc, runtime, handler, listener, requests)?;
     Ok(clients.count())
+}
+
+/// Serves connections as `serve` does, and has the node forget its calls with each reply.
+pub fn serve_forgetting<L, R>(
+    rt: &R,
+    alloc: Global,
+    runtime: &mut Runtime,
+    registry: &Arc<Registry<L>>,
+    seat: Seat<L>,
+    listener: TcpListener,
+    requests: u32,
+) -> Result<u32, ServeFault>
+where
+    L: Label + Send + Sync,
+    R: Wait + Threads + Clock + RandomSource + AllocGlobal + Send + Sync + Copy,
+    requires { L.keeps ≡ false }
+    ensures ok { IfOk result (λ served. served ≡ requests) }
+    ensures err { IfErr result (λ f. (f ≡ AcceptFailed) ⊎ (f ≡ OutOfMemory)) }
+{
+    let handler = NodeHandler::forgetting(alloc, registry, seat)?;
+    let served = serve_handler(rt, alloc, runtime, handler, listener, requests)?;
+    Ok(served.count())
 }
 
 // Serves clients whose requests go to a handler.

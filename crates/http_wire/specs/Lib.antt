@@ -1,4 +1,5 @@
 pub mod Failures
 pub mod Peers
 pub mod Posts
+pub mod Reached
 pub mod Sent

@@ -1,6 +1,6 @@
 //! One message to a server.
 
-ghost use Rattle.std.specs.Prelude.{◌≡◌, ◌↔◌, IfErr, IfOk, IsOk};
+ghost use Rattle.std.specs.Prelude.{◌≡◌, ◌↔◌, IfErr, IfOk, IsOk, IsTrue};
 ghost use Rattle.http_wire.specs.Failures.{IsFailure};
 ghost use Rattle.http_wire.specs.Posts.{IsLoopback, Posts};
 ghost use Rattle.std.specs.IoError.{error_kind};
@@ -85,11 +85,21 @@ fn loopback(port: u16) -> SocketAddr
     SocketAddr::from(([127, 0, 0, 1], port))
 }
 
-// A connection to the port of a peer.
+/// A connection to the port of a peer, and until when what is posted over it is to be answered.
 #[derive(Drop)]
-struct Connection {
+pub struct Connection {
     peer: Peer,
     stream: TcpStream,
+    deadline: Instant,
+}
+
+impl Connection {
+    /// Whether it leads to this peer.
+    pub(crate) fn is_to(&self, peer: Peer) -> bool
+        ensures { IsTrue result ↔ (self.now.peer ≡ peer) }
+    {
+        self.peer == peer
+    }
 }
 
 /// A request that was handed to a connection to the port of a peer, and answered.
@@ -99,21 +109,29 @@ pub struct Posted {
     request: Snapshot<Request<Full<Bytes>>>,
 }
 
-// A connection to the port of a peer.
-fn connected<R>(
+/// Connects to the port of a peer, within `POST_SECONDS`, in which a message over it is to be answered
+/// too.
+pub(crate) fn connect<R>(
     rt: &R,
     runtime: &mut LocalRuntime,
     peer: Peer,
-    deadline: Instant,
 ) -> Result<Connection, WireError>
 where
     R: Wait + Clock + Net + RandomSource + AllocGlobal,
     ensures ok { IfOk result (λ connection. connection.peer ≡ peer) }
     ensures err { IfErr result IsFailure }
 {
+    let now = Instant::now(rt).map_err(failed)?;
+    let Some(deadline) = now.checked_add(Duration::from_secs(POST_SECONDS)) else {
+        return Err(WireError::Failed);
+    };
     let connecting = TcpStream::connect(rt, loopback(peer.port), runtime.handle().reactor());
     let stream = output_of(rt, runtime, connecting, deadline)?.map_err(failed)?;
-    Ok(Connection { peer, stream })
+    Ok(Connection {
+        peer,
+        stream,
+        deadline,
+    })
 }
 
 // Hands a request to a connection, and waits for the reply's status.
@@ -123,7 +141,6 @@ fn answered<R>(
     runtime: &mut LocalRuntime,
     connection: Connection,
     request: Request<Full<Bytes>>,
-    deadline: Instant,
 ) -> Result<(StatusCode, Posted), WireError>
 where
     R: Wait + Clock + Net + RandomSource + AllocGlobal,
@@ -131,7 +148,11 @@ where
     ensures request { IfOk result (λ r. r.1.request.value ≡ request) }
     ensures err { IfErr result IsFailure }
 {
-    let Connection { peer, stream } = connection;
+    let Connection {
+        peer,
+        stream,
+        deadline,
+    } = connection;
     let keys = RandomState::new(rt).map_err(failed)?;
     let Ok((mut sender, connection)) = handshake(alloc, keys, stream) else {
         return Err(WireError::Failed);
@@ -168,28 +189,23 @@ fn taken_in(status: StatusCode) -> Result<(), WireError>
     }
 }
 
-/// Posts a message to the server of a peer, over a connection of its own, and answers what was
-/// posted. Any reply but 200, and none within `POST_SECONDS`, is a failure.
+/// Posts a message to the server of a peer over a connection to it, and answers what was posted. Any
+/// reply but 200, and none within the connection's time, is a failure.
 pub(crate) fn post<R>(
     rt: &R,
     alloc: Global,
     runtime: &mut LocalRuntime,
-    peer: Peer,
+    connection: Connection,
     message: &[u8],
 ) -> Result<Posted, WireError>
 where
     R: Wait + Clock + Net + RandomSource + AllocGlobal,
-    ensures to { IfOk result (λ posted. posted.peer ≡ peer) }
+    ensures to { IfOk result (λ posted. posted.peer ≡ connection.peer) }
     ensures posts { IfOk result (λ posted. Posts message.now posted.request.value) }
     ensures err { IfErr result IsFailure }
 {
-    let now = Instant::now(rt).map_err(failed)?;
-    let Some(deadline) = now.checked_add(Duration::from_secs(POST_SECONDS)) else {
-        return Err(WireError::Failed);
-    };
     let request = request(alloc, message)?;
-    let connection = connected(rt, runtime, peer, deadline)?;
-    let (status, posted) = answered(rt, alloc, runtime, connection, request, deadline)?;
+    let (status, posted) = answered(rt, alloc, runtime, connection, request)?;
     taken_in(status)?;
     Ok(posted)
 }

@@ -1,13 +1,15 @@
 //! A wire over HTTP.
 
-ghost use Rattle.std.specs.Prelude.{◌≡◌, ◌↔◌, ◌⊎◌, [], false, option_map, IfErr, IfOk, OnErr, OnOk};
+ghost use Rattle.std.specs.Prelude.{◌≡◌, ◌↔◌, ◌⊎◌, [], true, false, option_map, IfErr, IfOk, OnErr};
+ghost use Rattle.std.specs.Prelude.{OnOk, OnTrue};
 ghost use Rattle.gossip.specs.Traffic.{sends, takes};
 ghost use Rattle.http_wire.specs.Failures.{IsFailure};
 ghost use Rattle.http_wire.specs.Peers.{has_peer, port_of};
+ghost use Rattle.http_wire.specs.Reached.{is_ready_for};
 ghost use Rattle.http_wire.specs.Sent.{IsSentTo, traffic_of};
 
-use crate::posting::{Posted, failed, post};
-use gossip::{Log, Wire, WireError};
+use crate::posting::{Connection, Posted, connect, failed, post};
+use gossip::{Log, Reach, Wire, WireError};
 use std::alloc::{AllocGlobal, Global};
 use std::net::Net;
 use std::random::RandomSource;
@@ -23,7 +25,9 @@ pub struct Peer {
 }
 
 /// Sends each message as `POST /gossip` to the server of its node on 127.0.0.1, over a connection of
-/// its own, in at most `POST_SECONDS`. It brings none: a node's messages come to its own server.
+/// its own, in at most `POST_SECONDS`. It brings none: a node's messages come to its own server. A node
+/// is reached where its server lets it connect, and the message that is sent to it next takes that
+/// connection.
 ///
 /// Its traffic has the messages that were handed to such a connection, each byte of them, and that
 /// were answered with 200. That the server read the same bytes isn't said. A message that failed
@@ -33,6 +37,8 @@ pub struct HttpWire<R> {
     rt: R,
     runtime: LocalRuntime,
     peers: Vec<Peer>,
+    // To the node that was reached last, if nothing was sent to it yet.
+    ready: Option<Connection>,
     sent: Log<Posted>,
 }
 
@@ -50,6 +56,7 @@ impl<R: Wait + Clock + Net + RandomSource + AllocGlobal + Drop> HttpWire<R> {
     /// A wire to these nodes. Where one is named twice, its first port counts.
     pub fn new(rt: R, peers: Vec<Peer>) -> Result<HttpWire<R>, WireError>
         ensures ok { IfOk result (λ wire. wire.peers ≡ peers) }
+        ensures ready { IfOk result (λ wire. wire.ready ≡ None) }
         ensures sent { IfOk result (λ wire. wire.sent.items ≡ []) }
         ensures err { IfErr result IsFailure }
     {
@@ -59,8 +66,23 @@ impl<R: Wait + Clock + Net + RandomSource + AllocGlobal + Drop> HttpWire<R> {
             rt,
             runtime,
             peers,
+            ready: None,
             sent,
         })
+    }
+
+    // A connection to a peer: the one that is ready, where it leads there, else a new one.
+    fn connection_to(&mut self, peer: Peer) -> Result<Connection, WireError>
+        ensures ok { IfOk result (λ connection. connection.peer ≡ peer) }
+        ensures err { IfErr result IsFailure }
+        ensures stays { (self.new.peers ≡ self.old.peers) × (self.new.sent ≡ self.old.sent) }
+    {
+        if let Some(connection) = self.ready.take() {
+            if connection.is_to(peer) {
+                return Ok(connection);
+            }
+        }
+        connect(&self.rt, &mut self.runtime, peer)
     }
 }
 
@@ -92,7 +114,8 @@ impl<R: Wait + Clock + Net + RandomSource + AllocGlobal + Drop> Wire for HttpWir
             return Err(WireError::NoPeer);
         };
         let peer = Peer { node: to, port };
-        let posted = post(&self.rt, alloc, &mut self.runtime, peer, message)?;
+        let connection = self.connection_to(peer)?;
+        let posted = post(&self.rt, alloc, &mut self.runtime, connection, message)?;
         self.sent.add(&posted);
         Ok(())
     }
@@ -107,5 +130,31 @@ impl<R: Wait + Clock + Net + RandomSource + AllocGlobal + Drop> Wire for HttpWir
             (traffic_of self.new.sent.items ≡ traffic_of self.old.sent.items) }
     {
         Ok(None)
+    }
+}
+
+impl<R: Wait + Clock + Net + RandomSource + AllocGlobal + Drop> Reach for HttpWire<R> {
+    ghost use Rattle.http_wire.specs.Reached.{is_ready_for};
+
+    ghost reached = { λ w node. is_ready_for w.ready node };
+
+    fn reaches<S: Wait>(&mut self, _rt: &S, _alloc: Global, to: u8) -> bool
+        ensures value { result ≡ is_ready_for self.new.ready to }
+        ensures port { OnTrue result (has_peer self.old.peers.items to ≡ true) }
+        ensures same { traffic_of self.new.sent.items ≡ traffic_of self.old.sent.items }
+        ensures stays { (self.new.peers ≡ self.old.peers)
+            × (self.new.sent.items ≡ self.old.sent.items) }
+    {
+        self.ready = None;
+        let Some(port) = self.port_of(to) else {
+            return false;
+        };
+        match connect(&self.rt, &mut self.runtime, Peer { node: to, port }) {
+            Ok(connection) => {
+                self.ready = Some(connection);
+                true
+            }
+            Err(_) => false,
+        }
     }
 }

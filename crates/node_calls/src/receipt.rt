@@ -7,6 +7,6 @@ use crate::trace::Entry;
 #[derive(Debug, Drop)]
 pub struct Receipt {
     pub node: u8,
-    pub index: u32,
+    pub index: u64,
     pub entry: Entry,
 }

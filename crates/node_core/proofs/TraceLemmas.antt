@@ -1,5 +1,5 @@
 -- What a node holds after one more call.
-use Rattle.std.proofs.Common.{◌≡◌, ℕ, ◌+◌, ◌<◌, ◌≤◌, ◌^◌, Bool, true, false, cond, ◌&&◌, eqb, List, [], ◌∷◌, ◌++◌, length, subst, length-append, Option, Some, None, refl, sym, ◌∙◌, ap, arith}
+use Rattle.std.proofs.Common.{◌≡◌, ℕ, ◌+◌, ◌<◌, ◌≤◌, Bool, true, false, cond, ◌&&◌, eqb, List, [], ◌∷◌, ◌++◌, length, subst, length-append, Option, Some, None, refl, sym, ◌∙◌, ap, arith}
 use Rattle.std.specs.Str.{bytes_eq}
 use Rattle.std.specs.Option.{IsSome}
 use Rattle.std.specs.Prelude.{pos, ◌≤ℤ◌}
@@ -11,7 +11,7 @@ use Rattle.replica_state.proofs.FoldSteps.{fold_hits, fold_execs, max_zero, is_l
 use Rattle.message_format.specs.Limits.{max_nodes}
 use Rattle.node_core.specs.declared.config.Config.{Config}
 use Rattle.node_calls.specs.Asks.{Call, Pass}
-use Rattle.node_core.specs.Nodes.{Node, start, state_shown, setting_of}
+use Rattle.node_core.specs.Nodes.{Node, max_trace_cap, start, state_shown, setting_of}
 use Rattle.node_core.specs.Passes.{next_hit, ops_of_pass}
 use Rattle.node_core.specs.Outcomes.{HasKey, execs_done, ops_done, state_done, IsHeld}
 use Rattle.node_core.specs.Steps.{after}
@@ -35,7 +35,7 @@ fold_no_execs name k i = refl
 
 -- a new node
 pub holds_new : (config : Config) (state : State) → config.node < config.nodes → config.nodes ≤ max_nodes →
-    config.trace_cap < 2 ^ 32 → state ≡ fold [] → Holds config 0 state 0 (replay config.node [])
+    config.trace_cap ≤ max_trace_cap → state ≡ fold [] → Holds config 0 state 0 (replay config.node [])
 unfolding replay_from
 holds_new config state own few small e = record {
   own = own;

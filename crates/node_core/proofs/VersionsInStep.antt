@@ -84,7 +84,7 @@ may_pass k clock value is room name is_set spent key right set =
 -- a trace that takes one more call has fewer than its numbers can count
 pub few_calls : (config : Config) (clock : ℕ) (value : VersionedValue) (calls now : Calls) →
     IsInStepWith (kept_of config calls) clock value → HasRoom (kept_of config calls) → now ≡ calls →
-    length now.all < 2 ^ 32
+    length now.all < 2 ^ 56
 few_calls config clock value calls now is room same =
     let small = is.0.0.small in
     let long = length-map calls.all (call_from config.nodes) in

@@ -1,11 +1,11 @@
 -- What the fields of a node are to what its trace comes to.
-use Rattle.std.specs.Prelude.{◌≡◌, ℕ, ◌<◌, ◌≤◌, ◌^◌, List, length, pos, ◌≤ℤ◌}
+use Rattle.std.specs.Prelude.{◌≡◌, ℕ, ◌<◌, ◌≤◌, List, length, pos, ◌≤ℤ◌}
 use Rattle.replica_state.specs.States.{State, rights_of}
 use Rattle.replica_state.specs.Folds.{clock_of}
 use Rattle.node_core.specs.declared.config.Config.{Config}
 use Rattle.message_format.specs.Limits.{max_nodes, max_names}
 use Rattle.delta_exchange.specs.Wholes.{AreLawful}
-use Rattle.node_core.specs.Nodes.{Node, state_shown}
+use Rattle.node_core.specs.Nodes.{Node, max_trace_cap, state_shown}
 use Rattle.node_core.specs.Traces.{Kept, node_of}
 
 -- the clock and the state are those of the node that the trace comes to; no cell that the node writes
@@ -13,7 +13,7 @@ use Rattle.node_core.specs.Traces.{Kept, node_of}
 pub record Holds (config : Config) (clock : ℕ) (state : State) (entries : ℕ) (n : Node) : Type 0 where
   pub own : config.node < config.nodes
   pub few : config.nodes ≤ max_nodes
-  pub small : config.trace_cap < 2 ^ 32
+  pub small : config.trace_cap ≤ max_trace_cap
   pub capped : entries ≤ config.trace_cap
   pub clock_is : n.marks.clock ≡ clock
   pub state_is : state_shown n ≡ state

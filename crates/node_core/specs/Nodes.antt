@@ -1,10 +1,14 @@
 -- One node: the set of operations that it knows, and its marks.
-use Rattle.std.specs.Prelude.{ℕ, List, [], Option, Some, None, option_map}
+use Rattle.std.specs.Prelude.{ℕ, ◌-◌, ◌^◌, List, [], Option, Some, None, option_map}
 use Rattle.actions.specs.Value.{TermValue}
 use Rattle.stamp_register.specs.Keys.{KeyValue, terms_set}
 use Rattle.operations.specs.Operations.{Operation}
 use Rattle.replica_state.specs.States.{State}
 use Rattle.replica_state.specs.Folds.{fold}
+
+-- the most calls that a node may be made to accept in its life
+abbrev pub max_trace_cap : ℕ
+max_trace_cap = 2 ^ 56 - 1
 
 -- the clock; the version, which counts the accepted calls that changed the state; the version of
 -- each other node that this one knows, and the version of this node that each other is known to know

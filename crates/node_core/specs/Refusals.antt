@@ -29,7 +29,7 @@ use Rattle.message_format.specs.declared.fault.WireFault.{WireFault}
 use Rattle.message_format.specs.declared.fault.WireFault.TheVariants as wires
 use Rattle.node_calls.specs.Asks.{Asked, Message}
 use Rattle.node_calls.specs.Asks as asks
-use Rattle.node_core.specs.Nodes.{Node, state_shown, setting_of, terms_in}
+use Rattle.node_core.specs.Nodes.{Node, max_trace_cap, state_shown, setting_of, terms_in}
 use Rattle.node_core.specs.Passes.{has_rights_of, words_for}
 use Rattle.node_core.specs.Steps.{points_in, message_in}
 
@@ -227,6 +227,8 @@ faults_of config entries n (asks.Deliver read) words =
 abbrev pub refusal_at : Config → ℕ → Node → Asked → List ℕ → Option NodeFault
 refusal_at config entries n ask words = first_fault (faults_of config entries n ask words)
 
--- a cluster has at least 1 node and at most so many, and this is one of them
+-- a cluster has at least 1 node and at most so many, this is one of them, and it accepts at most so many
+-- calls in its life
 abbrev pub is_bad_config : Config → Bool
 is_bad_config config = config.nodes == 0 || nat_lt max_nodes config.nodes || nat_le config.nodes config.node
+    || nat_lt max_trace_cap config.trace_cap

@@ -34,7 +34,7 @@ impl Model for Generator {
 }
 
 // 2^67, half of a stream. Each pass takes 16 random draws at most and a node accepts fewer than
-// 2^32 calls, so none comes so far.
+// 2^56 calls, so none comes so far.
 const LAST_PLACE: u128 = 147_573_952_589_676_412_928;
 
 impl Generator {

@@ -11,7 +11,7 @@ mod node;
 mod setting;
 mod words;
 
-pub use config::Config;
+pub use config::{Config, MAX_TRACE_CAP};
 pub use generator::Generator;
 pub use node::NodeCore;
 pub use node_calls::{

@@ -1,7 +1,7 @@
 //! A node: what it holds, and what it tells of it. Each call stands in a module of its own.
 
 ghost use Rattle.std.specs.Prelude.{◌≡◌, drop, length, ◌≤◌, ◌⊎◌, ◌↔◌, pos, ◌≤ℤ◌, map, IfOk, IfErr};
-ghost use Rattle.std.specs.Prelude.{OnOk, IsErrOf, IsTrue, string_bytes, true, false};
+ghost use Rattle.std.specs.Prelude.{OnOk, IsErrOf, IsTrue, option_map, string_bytes, true, false};
 ghost use Rattle.actions.specs.Names.{is_name};
 ghost use Rattle.node_core.specs.Replicas.{state_in};
 ghost use Rattle.replica_state.specs.States.{rights_of, spent_of, total_hits};
@@ -12,7 +12,8 @@ ghost use Rattle.node_core.specs.Refusals.{is_bad_config};
 ghost use Rattle.node_core.specs.Room.{HasRoom};
 ghost use Rattle.node_core.specs.Stamps.{HasStamp};
 ghost use Rattle.node_core.specs.Texts.{list_text};
-ghost use Rattle.node_core.specs.Traces.{new_kept, node_of, state_known, without_kept};
+ghost use Rattle.node_core.specs.Traces.{call_kept, new_kept, node_of, state_known, without_kept};
+ghost use Rattle.packed_trace.specs.Packed.{seen_told};
 
 mod apply;
 mod deliver;
@@ -24,14 +25,14 @@ mod set;
 mod shift;
 
 use crate::State;
-use crate::config::Config;
+use crate::config::{Config, MAX_TRACE_CAP};
 use crate::list::list_of;
 use crate::setting::words_needed;
 use actions::{Name, NameFault};
 use delta_exchange::{MAX_NODES, Versioned};
 use history::History;
 use node_calls::NodeFault;
-use packed_trace::Trace;
+use packed_trace::{Seen, Trace};
 use replica_state::Replica;
 use stamp_register::Stamp;
 use std::alloc::{AllocError, Global};
@@ -66,7 +67,11 @@ impl NodeCore {
         ensures good { OnOk result (is_bad_config config ≡ false) }
         ensures err { IfErr result (λ f. (f ≡ NodeFault.BadConfig) × IsTrue (is_bad_config config)) }
     {
-        if config.nodes == 0 || config.nodes > MAX_NODES || config.node >= config.nodes {
+        if config.nodes == 0
+            || config.nodes > MAX_NODES
+            || config.node >= config.nodes
+            || config.trace_cap > MAX_TRACE_CAP
+        {
             return Err(NodeFault::BadConfig);
         }
         Ok(NodeCore {
@@ -170,9 +175,18 @@ impl NodeCore {
 
     /// How many of the first calls are no longer kept.
     pub fn from(&self) -> u64
-        ensures { result ≡ self.now.from }
+        ensures from { result ≡ self.now.from }
+        ensures within { result ≤ length self.now.trace }
     {
         self.history.from()
+    }
+
+    /// An accepted call by its number, counted from 0; none where it isn't kept, or there are fewer.
+    pub fn at(&self, index: u64) -> Option<Seen<'_>>
+        ensures { option_map (λ call. call_from self.now.config.nodes (seen_told call)) result
+            ≡ call_kept self.now index }
+    {
+        self.history.at(index)
     }
 
     /// The accepted calls that are kept: all of them, where none were given or forgotten.
@@ -227,7 +241,7 @@ impl NodeCore {
         ensures full { IfErr result (λ f. (f ≡ NodeFault.TraceFull)
             × (self.now.config.trace_cap ≤ length self.now.trace)) }
     {
-        if self.history.len() >= u64::from(self.config.trace_cap) {
+        if self.history.len() >= self.config.trace_cap {
             return Err(NodeFault::TraceFull);
         }
         Ok(())

@@ -1,6 +1,7 @@
 -- From a call of a node and of its generator to a call of the cell.
-use Rattle.std.proofs.Common.{◌≡◌, ℕ, ◌+◌, ◌<◌, ◌^◌, false, List, [], Option, None, Some, refl, sym, ap, ◌∙◌, subst, arith}
-use Rattle.std.specs.Prelude.{option_and_then, option_map}
+use Rattle.std.proofs.Common.{◌≡◌, ℕ, ◌+◌, ◌≤◌, ◌<◌, ◌^◌, Bool, true, false, ◌||◌, List, [], Option, None, Some, refl, sym, ap, ◌∙◌, subst, arith}
+use Rattle.std.specs.Prelude.{nat_lt, option_and_then, option_map}
+use Rattle.std.proofs.lemmas.Bool.Decides.{nat_tests}
 use Rattle.std.proofs.lemmas.Option.{none-some, same_Some}
 use Rattle.rand_chacha.specs.ChaCha.{ChaCha, key_of}
 use Rattle.node_calls.specs.declared.ask.Ask.{Ask}
@@ -14,7 +15,9 @@ use Rattle.node_core.specs.Applied.{TellsIfEmit}
 use Rattle.node_calls.specs.Asks.{Asked, Call, IsPassed, Pass, ask_value, ask_value_first, reply_value}
 use Rattle.node_calls.specs.Told.{Passed, ask_told, is_pass}
 use Rattle.node_core.specs.Lasts.{passed_in}
-use Rattle.node_core.specs.Traces.{Kept, Accepts, IsRefusalOf, Records, after_call, call_of, refusal, reply_to}
+use Rattle.node_core.specs.Nodes.{max_trace_cap}
+use Rattle.node_core.specs.Refusals.{is_bad_config}
+use Rattle.node_core.specs.Traces.{Kept, Accepts, IsRefusalOf, Records, after_call, call_of, refusal, reply_to, without_kept}
 use Rattle.node_core.specs.Words.{words_from, words_next, place_after}
 use Rattle.node_registry.specs.Words.{words_taken}
 use Rattle.node_registry.specs.Cells.{Cell, cell_of, next_words, Enters, Passes, IsRefusedBy, IsLawful, IsWithinBounds}
@@ -96,6 +99,16 @@ stays k new g after e h d =
       stays_within (cell_of k g) (cell_of new after) e h.2 few enters,
     )
 
+-- a cell stays one where its node no longer keeps its calls
+pub given_stays : (k new : Kept) (g : ChaCha) → new ≡ without_kept k → IsKept k g → IsKept new g
+given_stays k new g is h =
+    let within = h.2 in
+    subst (λ n. IsKept n g) (sym is) (
+      h.0,
+      record { legal = h.1.legal; drawn = h.1.drawn },
+      record { few_words = within.few_words; few_calls = within.few_calls; small_cap = within.small_cap },
+    )
+
 -- there are words enough
 pub has_words : (c : Cell) → IsWithinBounds c → c.place + 2 ^ 8 < 2 ^ 68
 has_words c h = let few = h.few_words in let calls = h.few_calls in let cap = h.small_cap in omega arith
@@ -106,8 +119,18 @@ pub refused_cell : (k : Kept) (g : ChaCha) (ask : Asked) (f : NodeFault) → g.s
 refused_cell k g ask f stream h = subst (λ s. IsRefusalOf k ask (words_from g.key s g.word_pos (words_taken k ask)) f)
     stream h
 
+-- a configuration that is good has a cap that is small enough
+last_false : (a b : Bool) → (a || b) ≡ false → b ≡ false
+last_false false b h = h
+last_false true b h = absurd (let no : ⊥ = cc in no)
+
+pub has_small_cap : (config : Config) → is_bad_config config ≡ false → config.trace_cap ≤ max_trace_cap
+has_small_cap config good =
+    let last = last_false _ (nat_lt max_trace_cap config.trace_cap) good in
+    grind (arith, nat_tests)
+
 -- a new cell
-pub new_kept : (config : Config) (seed : List ℕ) (k : Kept) (h : ChaCha) (stream : ℕ) → config.trace_cap < 2 ^ 32 →
+pub new_kept : (config : Config) (seed : List ℕ) (k : Kept) (h : ChaCha) (stream : ℕ) → config.trace_cap ≤ max_trace_cap →
     k ≡ record { config = config; trace = []; from = 0 } → stream ≡ config.node →
     h ≡ record { key = key_of seed; stream = stream; word_pos = 0 } → IsKept k h
 new_kept config seed k h stream small new here made =

@@ -33,7 +33,7 @@ words_of-push (x ∷ cs) c = ap (λ ws. x.words ++ ws) (words_of-push cs c) ∙
     sym (append_assoc x.words (words_of cs) c.words)
 
 pub new_lawful : (config : Config) (seed : List ℕ) → IsLawful (new_cell config seed)
-new_lawful config seed = record { legal = nothing_legal config; drawn = refl; whole = refl }
+new_lawful config seed = record { legal = nothing_legal config; drawn = refl }
 
 entered_is : (c d : Cell) (e : Entry) → Enters c d e → d ≡ cell_after c (call_of c.node e).ask
 entered_is c d e h = λ i. record { node = h.records.2 i; key = h.key i; place = h.place i }
@@ -51,7 +51,6 @@ lawful_after c ask h accepted sends =
           ∙ sym (words_from-add c.key c.node.config.node 0 c.place (words_taken c.node ask)
           ∙ ap (λ p. words_from c.key c.node.config.node 0 c.place ++
           words_from c.key c.node.config.node p (words_taken c.node ask)) place_0);
-      whole = h.whole;
     }
 
 -- an accepted call finds room: the first refusal of each ask is for a full trace

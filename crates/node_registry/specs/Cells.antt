@@ -1,5 +1,5 @@
 -- A node with its generator, as callers see it.
-use Rattle.std.specs.Prelude.{◌≡◌, ℕ, ◌+◌, ◌*◌, ◌≤◌, ◌<◌, ◌^◌, List, length, None}
+use Rattle.std.specs.Prelude.{◌≡◌, ℕ, ◌+◌, ◌*◌, ◌≤◌, ◌^◌, Bool, true, List, length, None}
 use Rattle.rand_chacha.specs.ChaCha.{ChaCha, key_of}
 use Rattle.node_core.specs.declared.config.Config.{Config}
 use Rattle.node_calls.specs.declared.fault.NodeFault.{NodeFault}
@@ -9,8 +9,9 @@ use Rattle.node_calls.specs.declared.trace.Entry.{Entry}
 use Rattle.node_core.specs.Applied.{TellsIfEmit}
 use Rattle.node_calls.specs.Asks.{Asked, Call, Pass}
 use Rattle.node_calls.specs.Told.{Passed, ask_told}
+use Rattle.node_core.specs.Nodes.{max_trace_cap}
 use Rattle.node_core.specs.Passes.{pass_reply}
-use Rattle.node_core.specs.Traces.{Kept, IsLegal, IsRefusalOf, Records, after_call, call_of, new_kept, refusal, state_known}
+use Rattle.node_core.specs.Traces.{Kept, IsLegal, IsRefusalOf, Records, after_call, call_of, new_kept, refusal, state_known, without_kept}
 use Rattle.node_core.specs.Words.{words_from}
 use Rattle.node_registry.specs.Words.{words_of, words_taken}
 
@@ -37,6 +38,10 @@ abbrev pub cell_after : Cell → Asked → Cell
 cell_after c ask =
     record { node = after_call c.node ask (next_words c ask); key = c.key; place = c.place + words_taken c.node ask }
 
+-- the cell where its node no longer keeps the calls that it kept
+abbrev pub cell_without_kept : Cell → Cell
+cell_without_kept c = record { node = without_kept c.node; key = c.key; place = c.place }
+
 -- the call of this entry is accepted with the next words, and the cell is then the second one
 pub record Enters (c d : Cell) (e : Entry) : Type 0 where
   pub records : Records c.node d.node (call_of c.node e) (next_words c (call_of c.node e).ask)
@@ -60,16 +65,22 @@ next_passed c name = pass_reply c.node.config.node (state_known c.node) name (ne
 abbrev pub IsRefusedBy : Cell → Asked → NodeFault → Type 0
 IsRefusedBy c ask = IsRefusalOf c.node ask (next_words c ask)
 
--- the trace is legal, its words are those of the stream from its start on, as many as the place says, and all of it
--- is kept
+-- the trace is legal, and its words are those of the stream from its start on, as many as the place says
 pub record IsLawful (c : Cell) : Type 0 where
   pub legal : IsLegal c.node.config c.node.trace
   pub drawn : words_of c.node.trace ≡ words_from c.key c.node.config.node 0 c.place
-  pub whole : c.node.from ≡ 0
 
 -- a lawful cell of a node of this configuration, whose key is that of this seed
 abbrev pub IsLawfulAt : Config → List ℕ → Cell → Type 0
 IsLawfulAt config seed c = IsLawful c × (c.node.config ≡ config) × (c.key ≡ key_of seed)
+
+-- a lawful cell of the node that has the calls of a seat, and no others where that is the only one of so many, and
+-- that keeps all its calls where its registry does
+pub record IsCellSince (config : Config) (seed : List ℕ) (keeps : Bool) (seats calls : ℕ) (c : Cell) : Type 0 where
+  pub lawful : IsLawfulAt config seed c
+  pub since : calls ≤ length c.node.trace
+  pub alone : seats ≡ 1 → calls ≡ length c.node.trace
+  pub kept : keeps ≡ true → c.node.from ≡ 0
 
 -- the random draws of a trace are the first ones of this seed, on the stream of the node's number
 abbrev pub IsDrawnBy : Config → List ℕ → List Call → Type 0
@@ -79,4 +90,4 @@ IsDrawnBy config seed trace = (n : ℕ) × (words_of trace ≡ words_from (key_o
 pub record IsWithinBounds (c : Cell) : Type 0 where
   pub few_words : c.place ≤ 2 ^ 8 * length c.node.trace
   pub few_calls : length c.node.trace ≤ c.node.config.trace_cap
-  pub small_cap : c.node.config.trace_cap < 2 ^ 32
+  pub small_cap : c.node.config.trace_cap ≤ max_trace_cap

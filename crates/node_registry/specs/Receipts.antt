@@ -1,5 +1,5 @@
 -- What a caller is told.
-use Rattle.std.specs.Prelude.{◌≡◌, ◌≤◌, ℕ, ◌+◌, List, [], ◌∷◌, length, slice_get, Some}
+use Rattle.std.specs.Prelude.{◌≡◌, ◌≤◌, ◌<◌, ◌⊎◌, ℕ, ◌+◌, List, [], ◌∷◌, length, Some}
 use Rattle.node_calls.specs.declared.ask.Ask.{Ask}
 use Rattle.node_core.specs.declared.config.Config.{Config}
 use Rattle.node_calls.specs.declared.fault.NodeFault.{NodeFault}
@@ -8,6 +8,7 @@ use Rattle.node_calls.specs.declared.reply.Reply.{Reply}
 use Rattle.node_calls.specs.declared.trace.Entry.{Entry}
 use Rattle.node_calls.specs.Asks.{Asked, ask_value, call_from}
 use Rattle.node_calls.specs.Told.{Passed, Unset, NoTerm, Act, ask_told, bytes_of, told}
+use Rattle.node_core.specs.Traces.{call_kept}
 use Rattle.node_registry.specs.declared.pass_receipt.PassOutcome.{PassOutcome}
 use Rattle.node_registry.specs.declared.pass_receipt.PassOutcome.TheVariants as outcomes
 use Rattle.node_registry.specs.declared.pass_receipt.PassReceipt.{PassReceipt}
@@ -50,10 +51,14 @@ abbrev pub IsPassReceipt : Config → List ℕ → List ℕ → PassReceipt → 
 IsPassReceipt config seed name r =
     (c : Cell) × (d : Cell) × IsLawfulAt config seed c × Passes c d name × (r ≡ pass_receipt_of c name)
 
--- a receipt tells the call that the trace has at this place
+-- a receipt tells the call that the node keeps at this place
 abbrev pub IsReceiptAt : Cell → ℕ → Receipt → Type 0
 IsReceiptAt c index r = (r.node ≡ c.node.config.node) × (r.index ≡ index)
-    × (slice_get c.node.trace index ≡ Some (call_from c.node.config.nodes (told r.entry)))
+    × (call_kept c.node index ≡ Some (call_from c.node.config.nodes (told r.entry)))
+
+-- where it keeps none there: the call is no longer kept, or there are fewer
+abbrev pub IsNoneAt : Cell → ℕ → Type 0
+IsNoneAt c index = (index < c.node.from) ⊎ (length c.node.trace ≤ index)
 
 -- so is an ask answered: some receipt of it may be given that has this reply
 abbrev pub IsAnswered : Config → List ℕ → Ask → Reply → Type 0

@@ -1,11 +1,11 @@
 //! A node with the generator of its random draws.
 
-ghost use Rattle.std.specs.Prelude.{◌≡◌, map, IfOk, IfErr, OnErr, OnOk, IsTrue, false};
+ghost use Rattle.std.specs.Prelude.{◌≡◌, drop, map, IfOk, IfErr, OnErr, OnOk, IsTrue, false};
 ghost use Rattle.node_calls.specs.Asks as asks;
 ghost use Rattle.node_calls.specs.Asks.{ask_value_first, call_from};
 ghost use Rattle.node_core.specs.Refusals.{is_bad_config};
 ghost use Rattle.node_registry.specs.Cells.{Cell, Enters, IsLawful, IsRefusedBy, IsWithinBounds, Passes, Submits};
-ghost use Rattle.node_registry.specs.Cells.{cell_of, new_cell, next_passed};
+ghost use Rattle.node_registry.specs.Cells.{cell_of, cell_without_kept, new_cell, next_passed};
 ghost use Rattle.node_registry.specs.Receipts.{IsEntryFor, outcome_of};
 
 use crate::drawing::{call_with_words, submit_with_words};
@@ -54,13 +54,6 @@ impl NodeCell {
         ensures bounds { IsWithinBounds self.now }
     {
         &self.core
-    }
-
-    // The accepted calls, of which a cell keeps all.
-    pub(crate) fn trace(&self) -> &Trace
-        ensures { map (call_from self.now.node.config.nodes) result.now.calls ≡ self.now.node.trace }
-    {
-        self.core.trace()
     }
 
     /// The place of the next random draw.
@@ -126,9 +119,19 @@ impl NodeCell {
         }
     }
 
-    /// The trace.
+    /// Hands out the accepted calls that are kept, and keeps none (`NodeCore::give`).
+    pub fn give(&mut self, alloc: Global) -> Trace
+        ensures cell { self.new ≡ cell_without_kept self.old }
+        ensures those { map (call_from self.old.node.config.nodes) result.calls
+            ≡ drop self.old.node.from self.old.node.trace }
+    {
+        self.core.give(alloc)
+    }
+
+    /// The accepted calls that are kept.
     pub(crate) fn into_trace(self) -> Trace
-        ensures trace { map (call_from self.node.config.nodes) result.calls ≡ self.node.trace }
+        ensures trace { map (call_from self.node.config.nodes) result.calls
+            ≡ drop self.node.from self.node.trace }
         ensures lawful { IsLawful self }
     {
         let NodeCell { core, generator: _ } = self;

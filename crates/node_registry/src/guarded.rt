@@ -1,15 +1,15 @@
 //! What lies under a registry's lock, and the seats from which it is called.
 
-ghost use Rattle.std.specs.Prelude.{◌≡◌, ℕ, ◌+◌, ◌≤◌, ◌<◌, ◌⊎◌, length, map, sum, vec_len, All};
-ghost use Rattle.std.specs.Prelude.{IfOk, IfErr, OnErr, OnOk, MatchOption, IsTrue, false};
+ghost use Rattle.std.specs.Prelude.{◌≡◌, ℕ, ◌+◌, ◌≤◌, ◌<◌, ◌⊎◌, drop, length, map, sum, vec_len, All};
+ghost use Rattle.std.specs.Prelude.{IfOk, IfErr, OnErr, OnOk, MatchOption, IsTrue, true, false};
 ghost use Rattle.rand_chacha.specs.ChaCha.{key_of};
 ghost use Rattle.node_calls.specs.Asks as asks;
 ghost use Rattle.node_calls.specs.Asks.{ask_value_first, call_from};
 ghost use Rattle.node_core.specs.Refusals.{is_bad_config};
-ghost use Rattle.node_core.specs.Traces.{IsLegal};
-ghost use Rattle.node_registry.specs.Cells.{Cell, Enters, IsDrawnBy, IsLawfulAt, IsRefusedBy};
-ghost use Rattle.node_registry.specs.Cells.{Passes, Submits, new_cell};
-ghost use Rattle.node_registry.specs.Receipts.{IsEntryFor, IsReceiptAt, pass_receipt_of};
+ghost use Rattle.node_registry.specs.Cells.{Cell, Enters, IsCellSince, IsLawfulAt, IsRefusedBy};
+ghost use Rattle.node_registry.specs.Cells.{Passes, Submits, cell_without_kept, new_cell};
+ghost use Rattle.node_registry.specs.Pieces.{IsAllLeft, IsLeft, IsPieceOf};
+ghost use Rattle.node_registry.specs.Receipts.{IsEntryFor, IsNoneAt, IsReceiptAt, pass_receipt_of};
 ghost use Rattle.node_registry.specs.Receipts.{receipt_of};
 
 use crate::cell::NodeCell;
@@ -60,13 +60,23 @@ impl<L: Label> Model for Guarded<L> {
     ghost view = { λ g. g.cell };
 
     ghost invariant = { λ g. (g.book.total ≡ length g.cell.node.trace)
-        × (g.cell.node.config ≡ L.config) × (g.cell.key ≡ key_of L.seed) };
+        × (g.cell.node.config ≡ L.config) × (g.cell.key ≡ key_of L.seed)
+        × (L.keeps ≡ true → g.cell.node.from ≡ 0) };
 }
 
-/// What is left of a registry: the trace of its node, and how many calls were accepted from its
-/// seats.
+/// A piece of a node's trace: the number of its first call, counted from 0, and the calls from there
+/// on.
+#[derive(Drop)]
+pub struct Piece {
+    pub from: u64,
+    pub trace: Trace,
+}
+
+/// What is left of a registry: the calls that its node kept, the number of the first of them, counted
+/// from 0, and how many calls were accepted from its seats.
 #[derive(Drop)]
 pub struct Closed {
+    pub from: u64,
     pub trace: Trace,
     pub calls: u64,
 }
@@ -147,7 +157,7 @@ impl<L: Label> Guarded<L> {
         book.audit(share);
         let core = cell.core();
         let node = core.config().node;
-        let index = core.calls() as u32;
+        let index = core.calls();
         let entry = cell.enter_owned(alloc, ask)?;
         book.add(share, 1);
         *calls += 1;
@@ -200,7 +210,7 @@ impl<L: Label> Guarded<L> {
         tally.audit(share);
         let core = cell.core();
         let node = core.config().node;
-        let place = core.calls() as u32;
+        let place = core.calls();
         let outcome = cell.pass_point(alloc, point)?;
         tally.add(share, 1);
         *calls += 1;
@@ -211,19 +221,33 @@ impl<L: Label> Guarded<L> {
         })
     }
 
-    /// The receipt of an accepted call by its place in the trace; none where there are fewer calls.
-    /// There are at least the seat's, and no others if it is the only seat.
+    /// The receipt of an accepted call by its place in the trace of the node's whole life; none where
+    /// the call is no longer kept, or there are fewer. There are at least the seat's, and no others if it
+    /// is the only seat.
     pub fn receipt(
         &mut self,
         alloc: Global,
         seat: &mut Seat<L>,
-        index: u32,
+        index: u64,
     ) -> Result<Option<Receipt>, AllocError>
         ensures found { IfOk result (λ found.
-            MatchOption found (length self.old.node.trace ≤ index) (IsReceiptAt self.old index)) }
-        ensures since { seat.old ≤ length self.old.node.trace }
-        ensures alone { L.parts ≡ 1 → seat.old ≡ length self.old.node.trace }
-        ensures lawful { IsLawfulAt L.config L.seed self.old }
+            MatchOption found (IsNoneAt self.old index) (IsReceiptAt self.old index)) }
+        ensures since { IsCellSince L.config L.seed L.keeps L.parts seat.old self.old }
+        ensures same { (self.new ≡ self.old) × (seat.new ≡ seat.old) }
+    {
+        self.audit(seat);
+        let core = self.cell.core();
+        let node = core.config().node;
+        let Some(call) = core.at(index) else {
+            return Ok(None);
+        };
+        let entry = call.to_entry(alloc)?;
+        Ok(Some(Receipt { node, index, entry }))
+    }
+
+    /// Changes nothing, and says that the node has the seat's calls.
+    pub fn audit(&mut self, seat: &mut Seat<L>)
+        ensures since { IsCellSince L.config L.seed L.keeps L.parts seat.old self.old }
         ensures same { (self.new ≡ self.old) × (seat.new ≡ seat.old) }
     {
         let Guarded {
@@ -232,31 +256,45 @@ impl<L: Label> Guarded<L> {
         } = self;
         let Seat { calls: _, share } = seat;
         account.audit(share);
-        let node = cell.core().config().node;
-        let Some(call) = cell.trace().at(index as usize) else {
-            return Ok(None);
-        };
-        let entry = call.to_entry(alloc)?;
-        Ok(Some(Receipt { node, index, entry }))
+        // The call says that the cell is lawful, and nothing else is wanted of it.
+        let _ = cell.core();
     }
 
-    /// Takes all seats back. The trace is legal, has as many entries as the seats made calls, and its
-    /// random draws are the first ones of the seed.
+    /// Hands out the calls that the node keeps, and keeps none. Numbers of calls stay what they are.
+    pub fn give(&mut self, alloc: Global, seat: &mut Seat<L>) -> Piece
+        requires { L.keeps ≡ false }
+        ensures cell { self.new ≡ cell_without_kept self.old }
+        ensures piece { IsPieceOf self.old result }
+        ensures since { IsCellSince L.config L.seed L.keeps L.parts seat.old self.old }
+        ensures same { seat.new ≡ seat.old }
+    {
+        self.audit(seat);
+        let from = self.cell.core().from();
+        let trace = self.cell.give(alloc);
+        Piece { from, trace }
+    }
+
+    /// Takes all seats back. What is left is the end of a legal trace, which has as many entries as the
+    /// seats made calls, and whose random draws are the first ones of the seed: all of it, where the
+    /// registry keeps each call.
     pub fn close(self, seats: Vec<Seat<L>>) -> Closed
         requires all { vec_len seats ≡ L.parts }
         requires some { 0 < L.parts }
-        ensures trace { map (call_from L.config.nodes) result.trace.calls ≡ self.node.trace }
-        ensures legal { IsLegal L.config (map (call_from L.config.nodes) result.trace.calls) }
-        ensures drawn { IsDrawnBy L.config L.seed (map (call_from L.config.nodes) result.trace.calls) }
-        ensures entries { length result.trace.calls ≡ result.calls }
+        ensures trace { map (call_from L.config.nodes) result.trace.calls
+            ≡ drop self.node.from self.node.trace }
+        ensures from { result.from ≡ self.node.from }
+        ensures left { IsLeft L.config L.seed result }
+        ensures all { L.keeps ≡ true → IsAllLeft L.config L.seed result }
         ensures calls { result.calls ≡ sum seats.items }
     {
         let Guarded { cell, mut book } = self;
         let mut all = gathered(seats);
         book.audit(&mut all);
+        let core = cell.core();
+        let from = core.from();
+        let calls = core.calls();
         let trace = cell.into_trace();
-        let calls = trace.len() as u64;
-        Closed { trace, calls }
+        Closed { from, trace, calls }
     }
 }
 

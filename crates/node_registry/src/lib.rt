@@ -10,7 +10,7 @@ mod registry;
 mod workers;
 
 pub use cell::NodeCell;
-pub use guarded::{Closed, Guarded, Seat};
+pub use guarded::{Closed, Guarded, Piece, Seat};
 pub use label::Label;
 pub use pass_receipt::{PassOutcome, PassReceipt};
 pub use registry::Registry;

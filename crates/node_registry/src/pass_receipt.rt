@@ -24,7 +24,7 @@ pub enum PassOutcome {
 #[derive(Clone, Copy, Debug, PartialEq, Eq)]
 pub struct PassReceipt {
     pub node: u8,
-    pub index: u32,
+    pub index: u64,
     pub outcome: PassOutcome,
 }
 

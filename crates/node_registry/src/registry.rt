@@ -1,19 +1,19 @@
 //! One node behind one lock.
 
-ghost use Rattle.std.specs.Prelude.{◌≡◌, ℕ, ◌+◌, ◌≤◌, ◌<◌, ◌⊎◌, length, map, sum, vec_len, All};
-ghost use Rattle.std.specs.Prelude.{IfOk, IfErr, OnErr, OnOk, IsTrue, MatchOption, false};
+ghost use Rattle.std.specs.Prelude.{◌≡◌, ℕ, ◌+◌, ◌≤◌, ◌<◌, ◌⊎◌, sum, vec_len, All};
+ghost use Rattle.std.specs.Prelude.{IfOk, IfErr, OnErr, OnOk, IsTrue, MatchOption, true, false};
 ghost use Rattle.std.specs.Fn.{FnOnceReturnsAt};
 ghost use Rattle.node_calls.specs.Asks as asks;
-ghost use Rattle.node_calls.specs.Asks.{ask_value_first, bare_emit, call_from};
+ghost use Rattle.node_calls.specs.Asks.{ask_value_first, bare_emit};
 ghost use Rattle.node_calls.specs.Told.{ask_told, bytes_of};
 ghost use Rattle.node_calls.specs.Asks.{emit_asked, message_read};
 ghost use Rattle.node_core.specs.Refusals.{is_bad_config};
-ghost use Rattle.node_core.specs.Traces.{IsLegal};
-ghost use Rattle.node_registry.specs.Cells.{Cell, IsDrawnBy, IsLawfulAt};
+ghost use Rattle.node_registry.specs.Cells.{Cell, IsCellSince, IsLawfulAt};
+ghost use Rattle.node_registry.specs.Pieces.{IsAllLeft, IsLeft, IsPieceOf};
 ghost use Rattle.node_registry.specs.Receipts.{IsAnswered, IsEntryFor, IsGiven, IsReceiptOf};
-ghost use Rattle.node_registry.specs.Receipts.{IsPassReceipt, IsReceiptAt, IsRefused};
+ghost use Rattle.node_registry.specs.Receipts.{IsNoneAt, IsPassReceipt, IsReceiptAt, IsRefused};
 
-use crate::guarded::{Closed, Guarded, Seat};
+use crate::guarded::{Closed, Guarded, Piece, Seat};
 use crate::label::Label;
 use crate::pass_receipt::PassReceipt;
 use actions::Name;
@@ -332,20 +332,20 @@ impl<L: Label> Registry<L> {
         guarded.pass_point(alloc, seat, point)
     }
 
-    /// The receipt of an accepted call by its place in the node's trace, counted from 0; none where
-    /// there are fewer calls. There are at least the seat's, and no others if it is the only seat.
-    /// What the call was asked and answered is copied under the lock: `with` lends it. The only error
-    /// is out of memory.
+    /// The receipt of an accepted call by its place in the trace of the node's whole life, counted from
+    /// 0; none where the call is no longer kept, or there are fewer. There are at least the seat's, and
+    /// no others if it is the only seat. What the call was asked and answered is copied under the lock:
+    /// `with` lends it. The only error is out of memory.
     pub fn receipt<R: Wait>(
         &self,
         rt: &R,
         alloc: Global,
         seat: &mut Seat<L>,
-        index: u32,
+        index: u64,
     ) -> Result<Option<Receipt>, AllocError>
-        ensures found { IfOk result (λ found. (c : Cell) × IsLawfulAt L.config L.seed c
-            × (seat.old ≤ length c.node.trace) × (L.parts ≡ 1 → seat.old ≡ length c.node.trace)
-            × MatchOption found (length c.node.trace ≤ index) (IsReceiptAt c index)) }
+        ensures found { IfOk result (λ found. (c : Cell)
+            × IsCellSince L.config L.seed L.keeps L.parts seat.old c
+            × MatchOption found (IsNoneAt c index) (IsReceiptAt c index)) }
         ensures same { seat.new ≡ seat.old }
     {
         let mut guarded = self.held(rt);
@@ -363,14 +363,43 @@ impl<L: Label> Registry<L> {
         f(guarded.core())
     }
 
-    /// Takes all seats back. The trace is legal, has as many entries as the seats made calls, and its
-    /// random draws are the first ones of the seed.
+    /// Lends the node under the lock, as `with` does, to a seat: the node has the seat's calls.
+    pub fn with_seat<R: Wait, T, F: FnOnce(&NodeCore) -> T>(
+        &self,
+        rt: &R,
+        seat: &mut Seat<L>,
+        f: F,
+    ) -> T
+        requires { F.IsAlwaysCallable f }
+        ensures seen { (c : Cell) × IsCellSince L.config L.seed L.keeps L.parts seat.old c
+            × FnOnceReturnsAt F.FnOnce f c.node result }
+        ensures same { seat.new ≡ seat.old }
+    {
+        let mut guarded = self.held(rt);
+        guarded.audit(seat);
+        f(guarded.core())
+    }
+
+    /// Hands out the calls that the node keeps, and keeps none: to be written or looked at once the lock
+    /// is let go. Receipts' numbers stay what they are. It takes no memory.
+    pub fn give<R: Wait>(&self, rt: &R, alloc: Global, seat: &mut Seat<L>) -> Piece
+        requires { L.keeps ≡ false }
+        ensures piece { (c : Cell) × IsCellSince L.config L.seed L.keeps L.parts seat.old c
+            × IsPieceOf c result }
+        ensures same { seat.new ≡ seat.old }
+    {
+        let mut guarded = self.held(rt);
+        guarded.give(alloc, seat)
+    }
+
+    /// Takes all seats back. What is left is the end of a legal trace, which has as many entries as the
+    /// seats made calls, and whose random draws are the first ones of the seed: all of it, where the
+    /// registry keeps each call.
     pub fn close(self, seats: Vec<Seat<L>>) -> Closed
         requires all { vec_len seats ≡ L.parts }
         requires some { 0 < L.parts }
-        ensures legal { IsLegal L.config (map (call_from L.config.nodes) result.trace.calls) }
-        ensures drawn { IsDrawnBy L.config L.seed (map (call_from L.config.nodes) result.trace.calls) }
-        ensures entries { length result.trace.calls ≡ result.calls }
+        ensures left { IsLeft L.config L.seed result }
+        ensures all { L.keeps ≡ true → IsAllLeft L.config L.seed result }
         ensures calls { result.calls ≡ sum seats.items }
     {
         let Registry { lock } = self;

@@ -3,6 +3,7 @@
 ghost use Rattle.std.specs.Prelude.{◌≡◌, ◌⊎◌, IfOk, IfErr, IsErrAnd, IsTrue, OnOk, true, false, replicate};
 ghost use Rattle.node_core.specs.Refusals.{is_bad_config};
 ghost use Rattle.http_wire.specs.Posts.{IsLoopback};
+ghost use Rattle.node_service.specs.Caps.{cap_of};
 ghost use Rattle.node_service.specs.declared.fault.ServiceFault.TheVariants.{Node};
 
 use crate::fault::ServiceFault;
@@ -10,7 +11,7 @@ use crate::host::Host;
 use crate::telling::{Serving, serve_and_tell};
 use command_line::ServeOptions;
 use http_serve::ServeFault;
-use node_core::{Config, NodeFault};
+use node_core::{Config, MAX_TRACE_CAP, NodeFault};
 use node_registry::{Label, Registry, Seat};
 use std::alloc::{AllocGlobal, Global};
 use std::io::Write;
@@ -45,13 +46,13 @@ where
     ensures bad { IsTrue (is_bad_config (record {
       node = options.entry.node;
       nodes = options.entry.nodes;
-      trace_cap = options.entry.cap;
+      trace_cap = cap_of options.entry.cap;
     })) → IsErrAnd result (λ f. (f ≡ Node NodeFault.OutOfMemory) ⊎ (f ≡ Node NodeFault.BadConfig)) }
 {
     let config = Config {
         node: options.node,
         nodes: options.nodes,
-        trace_cap: options.cap,
+        trace_cap: options.cap.map_or(MAX_TRACE_CAP, u64::from),
     };
     serve_registry::<Brand, R>(rt, Blank::new(2), config, options)
 }
@@ -70,6 +71,7 @@ where
     requires parts { (blank.parts ≡ L.parts) × (L.parts ≡ 2) }
     requires config { config ≡ L.config }
     requires seed { replicate 32 0 ≡ L.seed }
+    requires forgets { L.keeps ≡ false }
     ensures ok { IfOk result (λ served. served ≡ options.entry.requests) }
     ensures bad { IsTrue (is_bad_config config)
         → IsErrAnd result (λ f. (f ≡ Node NodeFault.OutOfMemory) ⊎ (f ≡ Node NodeFault.BadConfig)) }
@@ -89,6 +91,7 @@ fn serve_opened<L, R>(
 where
     L: Label + Send + Sync,
     R: Host + Print,
+    requires { L.keeps ≡ false }
     ensures { IfOk result (λ served. served ≡ options.entry.requests) }
 {
     let (mut runtime, listener) = begun(rt, registry, &mut seat, options.port, options.failpoints)?;

@@ -1,14 +1,15 @@
 //! A node that is served, and its gossip beside it.
 
-ghost use Rattle.std.specs.Prelude.{◌≡◌, ◌≤◌, ◌+◌, ◌*◌, ◌⊎◌, map, IfOk, IfErr};
+ghost use Rattle.std.specs.Prelude.{◌≡◌, ◌≤◌, ◌+◌, ◌*◌, ◌⊎◌, false, length, map, IfOk, IfErr};
 ghost use Rattle.http_serve.specs.declared.fault.ServeFault.TheVariants.{AcceptFailed, OutOfMemory};
-ghost use Rattle.node_service.specs.Rounds.{most_calls, peer_of};
+ghost use Rattle.node_service.specs.Rounds.{first_pace, most_calls, most_peers, peer_of, told_below};
 
 use crate::host::Host;
 use command_line::{GossipOptions, NamedPeer};
-use gossip::{Wire, WireError, gossip_rounds};
-use http_serve::{ServeFault, serve};
+use gossip::{Pace, Reach, WireError, gossip_news};
+use http_serve::{ServeFault, serve_forgetting};
 use http_wire::{HttpWire, Peer};
+use node_core::Config;
 use node_registry::{Label, Registry, Seat};
 use std::alloc::{AllocError, AllocGlobal, Global};
 use std::sync::atomic::{AtomicBool, Ordering};
@@ -81,20 +82,41 @@ fn wire_to<R: Host>(rt: &R, named: &[NamedPeer]) -> Result<HttpWire<R>, WireErro
     HttpWire::new(*rt, peers)
 }
 
+// When each node is told that has a peer, of those with numbers below `nodes`. The node itself isn't
+// told, though a peer may have its number.
+fn paces_of(
+    alloc: Global,
+    node: u8,
+    nodes: u8,
+    named: &[NamedPeer],
+) -> Result<Vec<Pace>, AllocError>
+    ensures { IfOk result (λ paces. paces.items ≡ map first_pace (told_below node nodes named.now)) }
+{
+    let mut paces = Vec::new(alloc);
+    for other in 0..nodes {
+        if other != node && named.iter().any(|peer| peer.node == other) {
+            paces.push(Pace::new(other))?;
+        }
+    }
+    Ok(paces)
+}
+
 // Does one round after the other over a wire, with a rest between two, until all are done or the
-// service has ended.
+// service has ended. A round tells only news, and only who is reached.
 fn keep_telling<L, R, W>(
     rt: &R,
     registry: &Registry<L>,
     seat: &mut Seat<L>,
     wire: &mut W,
+    paces: &mut [Pace],
     telling: &GossipOptions,
     service: &Service,
 )
 where
     L: Label,
     R: Wait + AllocGlobal,
-    W: Wire,
+    W: Reach,
+    requires { length paces.old ≤ most_peers L.config }
     ensures { seat.new ≤ seat.old + telling.now.rounds * most_calls L.config }
 {
     for round in 0..telling.rounds {
@@ -104,7 +126,7 @@ where
         if service.has_ended() {
             return;
         }
-        gossip_rounds(rt, rt.alloc(), registry, seat, wire, 1);
+        gossip_news(rt, rt.alloc(), registry, seat, wire, paces);
     }
 }
 
@@ -121,8 +143,10 @@ where
     R: Host,
     ensures { seat.new ≤ seat.old + telling.now.rounds * most_calls L.config }
 {
-    if let Ok(mut wire) = wire_to(rt, &telling.peers) {
-        keep_telling(rt, registry, seat, &mut wire, telling, service);
+    let Config { node, nodes, .. } = registry.with(rt, |core| core.config());
+    let paces = paces_of(rt.alloc(), node, nodes, &telling.peers);
+    if let (Ok(mut wire), Ok(mut paces)) = (wire_to(rt, &telling.peers), paces) {
+        keep_telling(rt, registry, seat, &mut wire, &mut paces, telling, service);
     }
 }
 
@@ -131,6 +155,7 @@ fn serve_alone<L, R>(rt: &R, serving: Serving<'_, L>) -> Result<u32, ServeFault>
 where
     L: Label + Send + Sync,
     R: Host,
+    requires { L.keeps ≡ false }
     ensures ok { IfOk result (λ served. served ≡ serving.entry.requests) }
     ensures err { IfErr result (λ f. (f ≡ AcceptFailed) ⊎ (f ≡ OutOfMemory)) }
 {
@@ -141,7 +166,7 @@ where
         listener,
         requests,
     } = serving;
-    serve(rt, rt.alloc(), runtime, registry, seat, listener, requests)
+    serve_forgetting(rt, rt.alloc(), runtime, registry, seat, listener, requests)
 }
 
 // Serves a node, with its gossip in a thread of the scope.
@@ -156,6 +181,7 @@ fn serve_in<'s, E, L, R>(
 where
     L: Label + Send + Sync + 's,
     R: Host,
+    requires { L.keeps ≡ false }
     ensures ok { IfOk result (λ served. served ≡ serving.entry.requests) }
     ensures err { IfErr result (λ f. (f ≡ AcceptFailed) ⊎ (f ≡ OutOfMemory)) }
 {
@@ -169,8 +195,8 @@ where
     served
 }
 
-/// Serves a node as `serve` does, and meanwhile tells its peers what it knows, from a seat of its own
-/// in a second thread. Without peers, or where that thread can't be started, it is served without
+/// Serves a node as `serve_forgetting` does, and meanwhile tells its peers what they don't know, from a
+/// seat of its own in a second thread. Without peers, or where that thread can't be started, it is served without
 /// gossip.
 pub fn serve_and_tell<L, R>(
     rt: &R,
@@ -181,6 +207,7 @@ pub fn serve_and_tell<L, R>(
 where
     L: Label + Send + Sync,
     R: Host,
+    requires { L.keeps ≡ false }
     ensures ok { IfOk result (λ served. served ≡ serving.entry.requests) }
     ensures err { IfErr result (λ f. (f ≡ AcceptFailed) ⊎ (f ≡ OutOfMemory)) }
 {

@@ -121,13 +121,3 @@ one_more calls entries e n at so_far next =
   where
     plus_one : (k : ℕ) → k + 1 ≡ suc k
     plus_one k = omega arith
-
--- what stands before one of so many is less than all
-pub fewer : (before : List Told) (e : Entry) (rest all : List Entry) →
-    before ++ map told (e ∷ rest) ≡ map told all → length before < length all
-fewer before e rest all is =
-    let counted = ap length is in
-    let parts = length-append before (map told (e ∷ rest)) in
-    let more = length-map rest told in
-    let whole = length-map all told in
-    omega (arith, counted, parts, more, whole)

@@ -1,5 +1,5 @@
 -- What a packed trace stands for: the list of what its calls tell.
-use Rattle.std.specs.Prelude.{ℕ, ◌<◌, false, List, [], ◌∷◌, length, slice_get, Option, Some, None, option_map, All}
+use Rattle.std.specs.Prelude.{ℕ, ◌<◌, ◌^◌, false, List, [], ◌∷◌, length, slice_get, Option, Some, None, option_map, All}
 use Rattle.actions.specs.Value.{TermValue}
 use Rattle.stamp_register.specs.declared.key.Stamp.{Stamp}
 use Rattle.node_calls.specs.Told.{Told, Passed, ReplyTold, Unset, NoTerm, Act, passes, emits, was_passed, was_delivered, told}
@@ -16,6 +16,9 @@ use Rattle.packed_trace.specs.declared.trace.Slot.TheVariants as slots
 
 abbrev pub max_rows : ℕ
 max_rows = 65536
+
+abbrev pub max_entries : ℕ
+max_entries = 2 ^ 32
 
 -- the stamp of a setting, and its terms
 abbrev pub SettingTold : Type 0

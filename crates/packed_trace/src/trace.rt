@@ -22,6 +22,9 @@ use std::marker::Model;
 /// The most rows of a trace.
 pub const MAX_ROWS: usize = 65_536;
 
+/// The most calls of a trace that are kept as entries.
+pub const MAX_ENTRIES: usize = 4_294_967_296;
+
 // A call as it is kept, in eight bytes: a pass by its row, with the term that was triggered and its
 // random draw, where it has them; another call by its place among those.
 #[derive(Clone, Copy, Debug)]
@@ -45,10 +48,10 @@ pub struct Trace {
 }
 
 impl Model for Trace {
-    ghost use Rattle.std.specs.Prelude.{◌≤◌, ◌-◌, length, map, vec_len, vec_capacity};
+    ghost use Rattle.std.specs.Prelude.{◌-◌, length, map, min, vec_len, vec_capacity};
     ghost use Rattle.node_calls.specs.Told.{told};
     ghost use Rattle.packed_trace.specs.Heads.{AreHeads};
-    ghost use Rattle.packed_trace.specs.Packed.{Packed, AreKept, row_told, told_by};
+    ghost use Rattle.packed_trace.specs.Packed.{Packed, AreKept, max_entries, row_told, told_by};
 
     ghost Value = { Packed };
 
@@ -56,11 +59,10 @@ impl Model for Trace {
       rows = map row_told t.rows.items;
       calls = map (told_by (map row_told t.rows.items) (map told t.entries.items)) t.slots.items;
       pass_room = vec_capacity t.slots - vec_len t.slots;
-      entry_room = vec_capacity t.entries - vec_len t.entries;
+      entry_room = min (vec_capacity t.entries) max_entries - vec_len t.entries;
     } };
 
     ghost invariant = { λ t. AreKept (length t.rows.items) (length t.entries.items) t.slots.items
-        × (length t.entries.items ≤ length t.slots.items)
         × AreHeads t.heads (map row_told t.rows.items) };
 }
 
@@ -233,7 +235,6 @@ impl Trace {
     /// A pass more, for which there is room. It takes no memory.
     #[inline(always)]
     pub fn push(&mut self, pass: Prepared)
-        requires few { length self.old.calls < 2 ^ 32 }
         requires room { IsPrepared self.old pass }
         ensures calls { self.new.calls ≡ self.old.calls ++ prepared_told self.old.rows pass ∷ [] }
         ensures rows { self.new.rows ≡ self.old.rows }
@@ -293,20 +294,23 @@ impl Trace {
         });
     }
 
-    /// Makes room for an entry. No call changes.
+    /// Makes room for an entry. No call changes. Where there are as many entries as there may be, it is
+    /// refused as out of memory.
     pub fn reserve_entry(&mut self) -> Result<(), AllocError>
         ensures ok { OnOk result ((0 < self.new.pass_room) × (0 < self.new.entry_room)) }
         ensures calls { self.new.calls ≡ self.old.calls }
         ensures rows { self.new.rows ≡ self.old.rows }
         ensures succeeds { 0 < self.old.pass_room → 0 < self.old.entry_room → IsOk result }
     {
+        if self.entries.len() >= MAX_ENTRIES {
+            return Err(AllocError);
+        }
         self.slots.reserve(1)?;
         self.entries.reserve(1)
     }
 
     /// Any call more, as an entry, where there is room for it. It takes no memory.
     pub fn push_entry(&mut self, entry: Entry)
-        requires few { length self.old.calls < 2 ^ 32 }
         requires room { (0 < self.old.pass_room) × (0 < self.old.entry_room) }
         ensures calls { self.new.calls ≡ self.old.calls ++ told entry ∷ [] }
         ensures rows { self.new.rows ≡ self.old.rows }
@@ -316,9 +320,9 @@ impl Trace {
         self.slots.push_reserved(Slot::Entry { index });
     }
 
-    /// A trace of these entries. The only error is out of memory.
+    /// A trace of these entries. The only error is out of memory, as which more than `MAX_ENTRIES` are
+    /// refused too.
     pub fn of_entries(alloc: Global, entries: Vec<Entry>) -> Result<Trace, AllocError>
-        requires { length entries.items ≤ 2 ^ 32 }
         ensures { IfOk result (λ trace. trace.calls ≡ map told entries.items) }
     {
         let mut trace = Trace::new(alloc);

@@ -9,6 +9,7 @@ mod failing;
 mod failing_streams;
 mod kept_drills;
 mod mail;
+mod news;
 mod rounds;
 mod stage;
 mod transfers;
@@ -18,7 +19,9 @@ mod workers;
 use cluster_model::{Event, RunReport, World};
 use failing::{Failing, Fails};
 use gossip::WireError::{Failed, Full, NoPeer, OutOfMemory};
-use gossip::{Ended, GossipReport, MailWire, Wire, WireError, gossip_rounds};
+use gossip::{
+    Ended, GossipReport, MailWire, Pace, Reach, Wire, WireError, gossip_news, gossip_rounds,
+};
 use node_core::{AskRef, Config, Receipt, Reply};
 use node_registry::{Label, Registry, Seat};
 use stage::{EMPTY, FIRST_OF_THREE, FIRST_OF_TWO, SECOND_OF_TWO, list, opened};

@@ -1,6 +1,6 @@
 //! The nodes of a run: each makes its own calls, and hears of others by gossip alone.
 
-ghost use Rattle.std.specs.Prelude.{◌≡◌, ◌+◌, ◌<◌, ◌^◌, ◌==◌, cond, false, count_by, length, vec_len};
+ghost use Rattle.std.specs.Prelude.{◌≡◌, ◌+◌, ◌<◌, ◌^◌, ◌==◌, cond, true, false, count_by, length, vec_len};
 ghost use Rattle.std.specs.Prelude.{option_map, All, IfOk};
 ghost use Rattle.std.specs.List.{sum_by};
 ghost use Rattle.std.specs.Option.{is_some};
@@ -118,6 +118,7 @@ fn run_registry<L: Label + Send + Sync, R: Threads + Wait + Sync>(
         + cond (is_some job.gossip) 1 0 }
     requires config { job.config ≡ L.config }
     requires seed { plan.now.seed ≡ L.seed }
+    requires keeps { L.keeps ≡ true }
     ensures trace { IfOk result (λ played. IsTraceOf job.config plan.now.seed played.trace) }
     ensures lists { IfOk result (λ played. AreOfNode job.config plan.now.seed
         (plan_value plan.now) (option_map (λ g. (g.wire, g.rounds)) job.gossip)
@@ -131,7 +132,11 @@ fn run_registry<L: Label + Send + Sync, R: Threads + Wait + Sync>(
     };
     let finished = make_calls(rt, alloc, &registry, seats, plan, config.node, gossip)?;
     let Finished { seats, lists } = finished;
-    let Closed { trace, calls: _ } = registry.close(seats);
+    let Closed {
+        from: _,
+        trace,
+        calls: _,
+    } = registry.close(seats);
     Ok(NodePlayed { trace, lists })
 }
 

@@ -1,6 +1,6 @@
 //! A caller of `node_registry`.
 
-ghost use Rattle.std.specs.Prelude.{◌≡◌, ◌+◌, length, map, vec_len, IfOk, OnOk, replicate};
+ghost use Rattle.std.specs.Prelude.{◌≡◌, ◌+◌, length, map, vec_len, IfOk, OnOk, replicate, true};
 ghost use Rattle.node_calls.specs.Asks.{call_from};
 ghost use Rattle.node_core.specs.Traces.{IsLegal};
 
@@ -55,6 +55,7 @@ fn asked_by<L: Label, R: Wait>(
     requires parts { (blank.parts ≡ L.parts) × (L.parts ≡ 1) }
     requires config { config ≡ L.config }
     requires seed { replicate 32 0 ≡ L.seed }
+    requires keeps { L.keeps ≡ true }
     ensures legal { IfOk result (λ c. IsLegal config (map (call_from config.nodes) c.trace.calls)) }
     ensures entries { IfOk result (λ c. length c.trace.calls ≡ c.calls) }
 {

@@ -53,8 +53,8 @@ fn in_turn<L: Label, M: Label, R: Wait>(
     lengths
 }
 
-// The wires of two nodes.
-fn two_wires(alloc: Global) -> Result<(MailWire, MailWire), Fail> {
+/// The wires of two nodes.
+pub(super) fn two_wires(alloc: Global) -> Result<(MailWire, MailWire), Fail> {
     let mut wires = MailWire::all(alloc, 2)?;
     let second = wires.pop().ok_or("the second")?;
     let first = wires.pop().ok_or("the first")?;

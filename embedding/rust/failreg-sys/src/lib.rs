@@ -145,7 +145,7 @@ unsafe extern "C" {
         node: &mut failreg,
         number: u8,
         nodes: u8,
-        trace_cap: u32,
+        trace_cap: u64,
         seed: &[u8; 32],
     ) -> u32;
 

@@ -7,7 +7,7 @@
 //! is 1 where it grew by a megabyte or more, where a pass was refused, or where the counted point
 //! ran more often than its count.
 
-use failreg::{Passed, Registry};
+use failreg::{Builder, Passed, Registry};
 use std::error::Error;
 use std::process::ExitCode;
 use std::time::Instant;
@@ -46,7 +46,7 @@ fn pass(node: &Registry, passes: u64) -> Result<u64, failreg::Error> {
 }
 
 fn run(passes: u64) -> Result<bool, Box<dyn Error>> {
-    let node = Registry::open(0, 1, u32::MAX)?;
+    let node = Registry::open(0, 1, Builder::MOST_CALLS)?;
     node.load(&format!("counted={COUNT}*off;free=off"))?;
     let first = passes.div_ceil(10).min(1_000_000);
     let begun = Instant::now();

@@ -8,7 +8,7 @@
 //! places. It prints the least and the median of the rounds, in nanoseconds a pass, and their ratios
 //! to those alone.
 
-use failreg::{Error, Gossip, Peer, Registry, Serving, fail_point, gossip, serve};
+use failreg::{Builder, Error, Gossip, Peer, Registry, Serving, fail_point, gossip, serve};
 use std::hint::black_box;
 use std::net::Ipv4Addr;
 use std::sync::Arc;
@@ -33,7 +33,7 @@ fn time(node: &Registry) -> f64 {
 }
 
 fn open(number: u8) -> Result<Arc<Registry>, Error> {
-    let node = Registry::open(number, 2, u32::MAX)?;
+    let node = Registry::open(number, 2, Builder::MOST_CALLS)?;
     Ok(Arc::new(node))
 }
 

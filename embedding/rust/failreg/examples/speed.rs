@@ -4,7 +4,7 @@
 //!
 //! prints nanoseconds a pass, over all threads, and the bytes that a pass takes more of memory.
 
-use failreg::{Registry, fail_point};
+use failreg::{Builder, Registry, fail_point};
 use std::hint::black_box;
 use std::time::Instant;
 
@@ -44,7 +44,7 @@ fn main() {
     let threads: u64 = threads.parse().expect("threads are a number");
     let each = passes.parse::<u64>().expect("passes are a number") / threads;
     let (_, settings) = KINDS.iter().find(|it| it.0 == kind).expect("no such kind");
-    let node = Registry::open(0, 2, u32::MAX).expect("a node");
+    let node = Registry::open(0, 2, Builder::MOST_CALLS).expect("a node");
     for setting in *settings {
         node.load(setting).expect("a setting");
     }

@@ -59,7 +59,7 @@ impl fmt::Debug for OnRefusal {
 pub struct Builder {
     pub(crate) number: u8,
     pub(crate) nodes: u8,
-    pub(crate) cap: u32,
+    pub(crate) cap: u64,
     pub(crate) seed: Option<[u8; 32]>,
     pub(crate) is_recording: bool,
     pub(crate) on_refusal: OnRefusal,
@@ -70,7 +70,7 @@ impl Default for Builder {
         Builder {
             number: 0,
             nodes: 1,
-            cap: u32::MAX,
+            cap: Builder::MOST_CALLS,
             seed: None,
             is_recording: false,
             on_refusal: OnRefusal::default(),
@@ -90,8 +90,12 @@ impl Builder {
         Builder { nodes, ..self }
     }
 
-    /// How many calls the node accepts in its life; else as many as a `u32` says.
-    pub fn cap(self, cap: u32) -> Builder {
+    /// The most calls that a node may be made to accept in its life: 2^56 - 1, which at a million a
+    /// second are reached after 2,283 years.
+    pub const MOST_CALLS: u64 = (1 << 56) - 1;
+
+    /// How many calls the node accepts in its life; else [`MOST_CALLS`](Builder::MOST_CALLS).
+    pub fn cap(self, cap: u64) -> Builder {
         Builder { cap, ..self }
     }
 

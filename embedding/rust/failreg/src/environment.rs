@@ -1,5 +1,6 @@
 //! The program's registry, as its environment asks for it.
 
+use crate::builder::Builder;
 use crate::error::{Error, ErrorKind};
 use crate::fail_rs::has_failpoints;
 use crate::gossip::{Gossip, Peer, gossip, others};
@@ -37,7 +38,7 @@ const EVERY: Duration = Duration::from_millis(100);
 /// | Variable | Is | Else |
 /// |---|---|---|
 /// | `FAILREG_NODE` | the node's number and how many nodes the cluster has, as `1/3` | `0/1` |
-/// | `FAILREG_CAP` | how many calls the node accepts in its life | 4294967295 |
+/// | `FAILREG_CAP` | how many calls the node accepts in its life | 72057594037927935 |
 /// | `FAILPOINTS` | the points to begin with, as `name=actions;name=actions` | none |
 /// | `FAILREG_RECORD` | the path for a drill, written when the value is dropped; there is no file yet. It takes a cluster of one node | no drill |
 /// | `FAILREG_LISTEN` | the address at which the node is served, as [`serve`](crate::serve) does, as `127.0.0.1:7071` | it isn't served |
@@ -146,7 +147,7 @@ impl Drop for Program {
 struct Wanted {
     number: u8,
     nodes: u8,
-    cap: u32,
+    cap: u64,
     record: Option<OsString>,
     listen: Option<SocketAddr>,
     peers: Vec<Peer>,
@@ -159,7 +160,7 @@ fn bad(kind: ErrorKind, name: &str, value: &OsStr, fault: &'static str) -> Error
 impl Wanted {
     fn of(var: &dyn Fn(&str) -> Option<OsString>) -> Result<Wanted, Error> {
         let node = read(var, NODE, NODE_WANTED, node_of)?;
-        let cap = read(var, CAP, CAP_WANTED, |text| text.parse().ok())?;
+        let cap = read(var, CAP, CAP_WANTED, cap_of)?;
         let (number, nodes) = node.unwrap_or((0, 1));
         for name in [RECORD, LISTEN, PEERS] {
             if let Some(value) = var(name).filter(|_| !has_failpoints()) {
@@ -176,7 +177,7 @@ impl Wanted {
         Ok(Wanted {
             number,
             nodes,
-            cap: cap.unwrap_or(u32::MAX),
+            cap: cap.unwrap_or(Builder::MOST_CALLS),
             record,
             listen: read(var, LISTEN, LISTEN_WANTED, listen_of)?,
             peers: others(&peers, number, nodes).map_err(|error| error.of_variable(PEERS))?,
@@ -186,7 +187,11 @@ impl Wanted {
 
 const NODE_WANTED: &str = "wanted is the number of the node, and behind a `/` how many nodes the \
                            cluster has, 1 to 32, as 0/3, 1/3 or 2/3";
-const CAP_WANTED: &str = "wanted is a number of calls, 0 to 4294967295";
+const CAP_WANTED: &str = "wanted is a number of calls, 0 to 72057594037927935";
+
+fn cap_of(text: &str) -> Option<u64> {
+    text.parse().ok().filter(|cap| *cap <= Builder::MOST_CALLS)
+}
 
 const LISTEN_WANTED: &str = "wanted is an address of this machine alone and a port, as \
                              127.0.0.1:7071 or [::1]:7071";
@@ -266,7 +271,7 @@ mod tests {
     #[test]
     fn variables_that_are_not_set_have_values() {
         let all = wanted(&[]).unwrap();
-        assert_eq!((all.number, all.nodes, all.cap), (0, 1, u32::MAX));
+        assert_eq!((all.number, all.nodes, all.cap), (0, 1, Builder::MOST_CALLS));
         assert_eq!(all.record, None);
     }
 
@@ -278,7 +283,7 @@ mod tests {
         };
         assert_eq!(read("1/3", "500"), (1, 3, 500));
         assert_eq!(read("31/32", "0"), (31, 32, 0));
-        assert_eq!(read("0/1", "4294967295"), (0, 1, u32::MAX));
+        assert_eq!(read("0/1", "72057594037927935"), (0, 1, Builder::MOST_CALLS));
     }
 
     #[test]
@@ -286,7 +291,7 @@ mod tests {
         let nodes = [
             "", "1", "1/", "/3", "3/3", "0/0", "0/33", "-1/3", "1/3/3", "1 / 3", "a/b",
         ];
-        let caps = ["", "-1", "4294967296", "1e6", "1_000", "many"];
+        let caps = ["", "-1", "72057594037927936", "1e6", "1_000", "many"];
         let nodes = nodes.map(|value| (NODE, value, NODE_WANTED));
         let caps = caps.map(|value| (CAP, value, CAP_WANTED));
         for (name, value, fault) in nodes.into_iter().chain(caps) {

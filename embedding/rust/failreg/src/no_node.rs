@@ -16,7 +16,7 @@ fn disabled<T>() -> Result<T, Error> {
 }
 
 impl Node {
-    pub fn open(number: u8, nodes: u8, _cap: u32, _seed: &[u8; 32]) -> Result<Node, Error> {
+    pub fn open(number: u8, nodes: u8, _cap: u64, _seed: &[u8; 32]) -> Result<Node, Error> {
         if number < nodes && nodes <= MOST_NODES {
             Ok(Node { is_closed: false })
         } else {

@@ -37,7 +37,7 @@ fn whole(wide: sys::failreg_wide) -> u128 {
 }
 
 impl Node {
-    pub fn open(number: u8, nodes: u8, cap: u32, seed: &[u8; 32]) -> Result<Node, Error> {
+    pub fn open(number: u8, nodes: u8, cap: u64, seed: &[u8; 32]) -> Result<Node, Error> {
         let mut node = Node {
             handle: sys::failreg::CLOSED,
         };

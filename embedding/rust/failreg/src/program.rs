@@ -28,7 +28,7 @@ pub fn program() -> Option<&'static Registry> {
 /// Makes the program's registry where there is none, as node `number` of a cluster of `nodes`, and
 /// loads FAILPOINTS into it. A second call answers the registry that is there, whatever its cap; it
 /// is refused where that is another node. A FAILPOINTS that is refused makes no registry.
-pub fn setup(number: u8, nodes: u8, cap: u32) -> Result<&'static Registry, Error> {
+pub fn setup(number: u8, nodes: u8, cap: u64) -> Result<&'static Registry, Error> {
     let mut is_set_up = making();
     let registry = match PROGRAM.get() {
         Some(registry) if registry.is_node(number, nodes) => registry,

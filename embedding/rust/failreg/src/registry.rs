@@ -154,7 +154,7 @@ impl Registry {
     }
 
     /// Node `number` of a cluster of `nodes` (1 to 32), which accepts `cap` calls in its life.
-    pub fn open(number: u8, nodes: u8, cap: u32) -> Result<Registry, Error> {
+    pub fn open(number: u8, nodes: u8, cap: u64) -> Result<Registry, Error> {
         Registry::builder()
             .node(number)
             .nodes(nodes)

@@ -8,7 +8,7 @@ use std::fmt::Display;
 pub struct Config {
     pub node: u8,
     pub nodes: u8,
-    pub trace_cap: u32,
+    pub trace_cap: u64,
 }
 
 pub const ALONE: Config = Config {

@@ -26,6 +26,5 @@ invariant_of-self-2 c =
     let named = rw c.in_ok-copied.ensures at c.in_ok-put.ensures.ok in (
       rw grown (kept_more (length rows) (length (rows ++ c.args.row ∷ [])) (length c.self.inside.entries.items)
           c.self.inside.slots.items longer c.self.invariant.0),
-      c.self.invariant.1,
-      rw grown (heads_more c.self.inside.heads c.put.new.self rows c.args.row c.len-at.result at c.self.invariant.2 named),
+      rw grown (heads_more c.self.inside.heads c.put.new.self rows c.args.row c.len-at.result at c.self.invariant.1 named),
     )

@@ -6,10 +6,8 @@ use Rattle.packed_trace.proofs.trace.Trace.new.Goals as goal
 
 pub invariant_of-result : goal.invariant_of-result
 invariant_of-result c =
-    let slots = ap length c.new.ensures.items in
-    let entries = ap length c.new-3.ensures.items in (
+    let slots = ap length c.new.ensures.items in (
       λ k d low. absurd (omega (arith, slots, low)),
-      omega (arith, entries),
       λ row at is. absurd (none-some row
           (ap (λ rows. slice_get (map row_told rows) at) (sym c.new-2.ensures.items) ∙ is.there)),
     )

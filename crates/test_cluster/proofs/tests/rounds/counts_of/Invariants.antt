@@ -1,8 +1,8 @@
-use Rattle.std.specs.Prelude.{replicate}
+use Rattle.std.specs.Prelude.{replicate, true}
 use Rattle.test_cluster.proofs.tests.rounds.counts_of.Given as goal
 
 abbrev pub ghosts-counts_at-L-Ledger : goal.ghosts-counts_at-L-Ledger
 ghosts-counts_at-L-Ledger g a = record { name = a.blank.name; parts = 1 }
 
 abbrev pub ghosts-counts_at-L-Label : goal.ghosts-counts_at-L-Label
-ghosts-counts_at-L-Label g a = record { config = record { node = 0; nodes = 3; trace_cap = 100 }; seed = replicate 32 0 }
+ghosts-counts_at-L-Label g a = record { config = record { node = 0; nodes = 3; trace_cap = 100 }; seed = replicate 32 0; keeps = true }
