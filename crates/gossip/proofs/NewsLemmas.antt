@@ -25,18 +25,22 @@ looked_then (told_it seen due near rest) more = told_it seen due near (looked_th
 looked_then (missed_it seen due near rest) more = missed_it seen due near (looked_then rest more)
 
 -- what was seen behind so many calls was seen behind fewer
-seen_since : {config : Config} {seed : List ℕ} {since later : ℕ} {peer : ℕ} {n : News} → since ≤ later →
+seen_since : (config : Config) (seed : List ℕ) (since later peer : ℕ) (n : News) → since ≤ later →
     IsSeen config seed later peer n → IsSeen config seed since peer n
-seen_since le seen = (seen.0, seen.1, (let long = seen.2 in omega (arith, le, long)), seen.3)
+seen_since config seed since later peer n le seen = (seen.0, seen.1, (let long = seen.2 in omega (arith, le, long)), seen.3)
 
 looked_since : {config : Config} {seed : List ℕ} {since later : ℕ} {says : ℕ → Bool → Type 0} {ps qs : List Pace}
     {tos missed : List ℕ} → since ≤ later → AreLooked config seed later says ps qs tos missed →
     AreLooked config seed since says ps qs tos missed
 looked_since le nobody = nobody
-looked_since le (left_alone seen due rest) = left_alone (seen_since le seen) due (looked_since le rest)
-looked_since le (not_reached seen due away rest) = not_reached (seen_since le seen) due away (looked_since le rest)
-looked_since le (told_it seen due near rest) = told_it (seen_since le seen) due near (looked_since le rest)
-looked_since le (missed_it seen due near rest) = missed_it (seen_since le seen) due near (looked_since le rest)
+looked_since le (left_alone seen due rest) =
+    left_alone (seen_since _ _ _ _ _ _ le seen) due (looked_since le rest)
+looked_since le (not_reached seen due away rest) =
+    not_reached (seen_since _ _ _ _ _ _ le seen) due away (looked_since le rest)
+looked_since le (told_it seen due near rest) =
+    told_it (seen_since _ _ _ _ _ _ le seen) due near (looked_since le rest)
+looked_since le (missed_it seen due near rest) =
+    missed_it (seen_since _ _ _ _ _ _ le seen) due near (looked_since le rest)
 
 pub looks_since : {config : Config} {seed : List ℕ} {since later : ℕ} {says : ℕ → Bool → Type 0} {seat_was seat_now : ℕ}
     {was now : Traffic} {old new : GossipReport} {ps qs : List Pace} → since ≤ later →
@@ -68,7 +72,7 @@ breaks_since le p = record {
   all = p.all;
   left = p.left;
   looked = looked_since le p.looked;
-  seen = seen_since le p.seen;
+  seen = seen_since _ _ _ _ _ _ le p.seen;
   due = p.due;
   reached = p.reached;
   adds = p.adds;

@@ -1,6 +1,7 @@
 //! Rounds of gossip that tell only news.
 
 ghost use Rattle.std.specs.Prelude.{◌≡◌, ◌≤◌, ◌+◌, ◌<◌, ◌^◌, [], ◌∷◌, length, IfOk, OnErr, OnOk};
+ghost use Rattle.gossip.specs.declared.rounds.TheConstants.{MOST_TAKEN};
 ghost use Rattle.gossip.specs.News.{IsSeen, Says};
 ghost use Rattle.gossip.specs.NewsRounds.{Breaks, IsEmpty, IsNewsBroken, IsNewsRound, Looks};
 ghost use Rattle.gossip.specs.Reports.{IsTold, calls_of};

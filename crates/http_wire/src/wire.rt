@@ -1,7 +1,8 @@
 //! A wire over HTTP.
 
 ghost use Rattle.std.specs.Prelude.{◌≡◌, ◌↔◌, ◌⊎◌, [], true, false, option_map, IfErr, IfOk, OnErr};
-ghost use Rattle.std.specs.Prelude.{OnOk, OnTrue};
+ghost use Rattle.std.specs.Prelude.{OnOk};
+ghost use Rattle.std.specs.Bool.{OnTrue};
 ghost use Rattle.gossip.specs.Traffic.{sends, takes};
 ghost use Rattle.http_wire.specs.Failures.{IsFailure};
 ghost use Rattle.http_wire.specs.Peers.{has_peer, port_of};
