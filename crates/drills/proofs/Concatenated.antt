@@ -97,7 +97,8 @@ lists_told pieces d (of_list number from receipts) next e k =
 all_traces : (pieces : Bool) (parts : List Part) (d next : DrillTold) → made pieces d parts ≡ Some next → (k : ℕ) →
     of k next.traces ≡ of k d.traces ++ flat_map (entries_of k) parts
 all_traces pieces [] d next e k =
-    ap (of k) (let same : d ≡ next = cc in sym (ap (λ (d : DrillTold). d.traces) same)) ∙ sym (append-nil (of k d.traces))
+    ap (of k) (let same : d ≡ next = cc in sym (ap (λ (d : DrillTold). d.traces) same))
+    ∙ sym (append-nil (of k d.traces))
 all_traces pieces (part ∷ parts) d next e k =
     let step = followed (λ mid. made pieces mid parts) (with_part pieces d part) next e in
     all_traces pieces parts step.0 next step.2 k

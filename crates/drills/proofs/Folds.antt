@@ -71,7 +71,8 @@ part_comes pieces d (of_trace node from entries) next e = λ place.
     let rest : SoFarTold → Option SoFarTold = (λ after. comes (Some after) (map entry entries)) in
     let start : List (List Told) → SoFarTold = (λ ts. at pieces ts d.lists (InTrace node)) in (
       InTrace node,
-      ap (λ b. option_and_then rest (if b then option_map start (started pieces node from d.traces) else None)) put.takes
+      ap (λ b. option_and_then rest (if b then option_map start (started pieces node from d.traces) else None))
+          put.takes
           ∙ ap (λ o. option_and_then rest (option_map start o)) put.starts
           ∙ entries_come pieces d.lists node entries put.start next.traces put.traces
           ∙ ap (λ ls. Some (at pieces next.traces ls (InTrace node))) (sym put.lists),

@@ -20,7 +20,8 @@ use Rattle.drills.proofs.Parts.{behind_both, drill, followed, list_put, list_put
 abbrev IsLast : Place → List Part → Type 0
 IsLast Nowhere parts = Unit {0}
 IsLast (InTrace node) parts =
-    (before : List Part) × (from : Option ℕ) × (entries : List Told) × (parts ≡ before ++ of_trace node from entries ∷ [])
+    (before : List Part) × (from : Option ℕ) × (entries : List Told) ×
+    (parts ≡ before ++ of_trace node from entries ∷ [])
 IsLast (InList number) parts =
     (before : List Part) × (from : Option ℕ) × (receipts : List ReceiptTold) ×
     (parts ≡ before ++ of_list number from receipts ∷ [])
@@ -128,7 +129,8 @@ entry_grown : (pieces : Bool) (traces : List (List Told)) (lists : List (List Re
 entry_grown pieces traces lists Nowhere e next lines is x = absurd cc
 entry_grown pieces traces lists (InList number) e next lines is x = absurd cc
 entry_grown pieces traces lists (InTrace node) e next lines is x =
-    let found = mapped (λ (ts : List (List Told)). at pieces ts lists (InTrace node)) (behind node (e ∷ []) traces) next is in
+    let found = mapped (λ (ts : List (List Told)). at pieces ts lists (InTrace node))
+    (behind node (e ∷ []) traces) next is in
     let before = x.last.0 in
     let from = x.last.1 in
     let entries = x.last.2 in

@@ -70,13 +70,14 @@ are_whole (of_trace node from entries ∷ parts) d next e =
       spelled = ap (λ ls. part_lines (of_trace node from entries) ++ ls) rest.spelled
           ∙ ap (λ n. part_lines (of_trace node from entries) ++ (numbered trace_lines n rest.more ++
           numbered list_lines (length step.0.lists) rest.others)) counted
-          ∙ ap (λ ls. part_lines (of_trace node from entries) ++ (numbered trace_lines (length d.traces + 1) rest.more ++
-          numbered list_lines (length ls) rest.others)) put.lists
+          ∙ ap (λ ls. part_lines (of_trace node from entries) ++ (numbered trace_lines (length d.traces + 1) rest.more
+          ++ numbered list_lines (length ls) rest.others)) put.lists
           ∙ ap (λ o. part_lines (of_trace node o entries) ++ (numbered trace_lines (length d.traces + 1) rest.more ++
           numbered list_lines (length d.lists) rest.others)) new.none
           ∙ ap (λ n. trace_lines n entries ++ (numbered trace_lines (length d.traces + 1) rest.more ++
           numbered list_lines (length d.lists) rest.others)) new.number
-          ∙ sym (append_assoc (trace_lines (length d.traces) entries) (numbered trace_lines (length d.traces + 1) rest.more)
+          ∙ sym (append_assoc (trace_lines (length d.traces) entries)
+          (numbered trace_lines (length d.traces + 1) rest.more)
           (numbered list_lines (length d.lists) rest.others));
       ended = λ none. absurd (let takes = put.takes in cc);
     }

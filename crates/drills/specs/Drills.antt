@@ -106,7 +106,7 @@ drill_so_far s = record { traces = s.traces; lists = s.lists }
 
 abbrev pub so_far_of : SoFar → SoFarTold
 so_far_of s =
-    record { pieces = s.pieces; traces = traces_told s.drill.traces.items; lists = lists_told s.drill.lists.items; place = s.place }
+    let d = drill_of s.drill in record { pieces = s.pieces; traces = d.traces; lists = d.lists; place = s.place }
 
 -- the traces come before the lists, where none comes in pieces
 abbrev pub takes_trace : Bool → List (List ReceiptTold) → Bool

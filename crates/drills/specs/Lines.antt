@@ -17,8 +17,8 @@ pub record ReceiptTold : Type 0 where
 abbrev pub receipt_told : Receipt → ReceiptTold
 receipt_told r = record { node = r.node; index = r.index; entry = told r.entry }
 
--- the first line, and whether traces and lists may come in pieces; a piece of the trace of a node begins, and behind how
--- many of its entries, if that is told; its next entry; a piece of a list begins, in the same way; or its next receipt
+-- the first line, and whether traces and lists may come in pieces; the trace of a node begins, or a piece of it that
+-- says behind how many of its entries; its next entry; so a list begins, or a piece of it; or its next receipt
 pub data LineTold : Type 0 where
   head : (pieces : Bool) → LineTold
   trace : (node : ℕ) → (from : Option ℕ) → LineTold

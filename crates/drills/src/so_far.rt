@@ -116,8 +116,8 @@ fn start_list(
     }
 }
 
-// Puts an entry behind the trace of a node, where there is one. A trace holds 2^32 calls at most, and one more
-// is out of memory.
+// Puts an entry behind the trace of a node, where there is one. A trace holds 2^32 calls at most, and
+// one more is out of memory.
 fn push_entry(traces: &mut Vec<Trace>, node: u64, entry: Entry) -> Result<bool, AllocError>
     ensures { IfOk result (λ put. IsPut put
         (behind node (told entry ∷ []) (traces_told traces.old.items))
