@@ -97,8 +97,11 @@ receipt_back r h =
     ) refl
 
 pub line_back : (line : LineTold) → LineFits line → line_of (line_data line) ≡ Some line
-line_back head h = refl
-line_back (trace node) h = refl
+line_back (head false) h = refl
+line_back (head true) h = refl
+line_back (trace node None) h = refl
+line_back (trace node (Some from)) h = refl
 line_back (entry e) h = ap (option_map entry) (entry_back e h)
-line_back (list number) h = refl
+line_back (list number None) h = refl
+line_back (list number (Some from)) h = refl
 line_back (receipt r) h = ap (option_map receipt) (receipt_back r h)

@@ -1,183 +1,304 @@
 -- What is read of bytes is the drill that they are.
-use Rattle.std.proofs.Common.{◌≡◌, ◌⊎◌, inl, inr, ℕ, zero, suc, ◌+◌, ◌<◌, ◌≤◌, ◌==◌, Bool, true, false, List, [], ◌∷◌, ◌++◌, length, take, map, Option, Some, None, Result, Ok, Err, refl, sym, ap, ◌∙◌, subst, arith, append_assoc, append-nil}
-use Rattle.std.specs.Prelude.{if◌then◌else◌, option_map, option_and_then}
-use Rattle.std.proofs.lemmas.Bool.{cases_lt, eqb-true}
-use Rattle.std.proofs.lemmas.List.{map-append, nil_from_length}
+use Rattle.std.proofs.Common.{◌≡◌, ◌⊎◌, inl, inr, ℕ, zero, suc, ◌+◌, ◌<◌, ◌≤◌, Bool, List, [], ◌∷◌, ◌++◌, take, map, flat_map, Option, Some, None, Result, Ok, Err, refl, sym, ap, ◌∙◌, subst, arith, append_assoc, append-nil}
+use Rattle.std.specs.Prelude.{option_map, option_and_then}
+use Rattle.std.proofs.lemmas.Bool.{cases_lt}
+use Rattle.std.proofs.lemmas.Grind.{flat_map-append}
+use Rattle.std.proofs.lemmas.List.{map-append}
 use Rattle.node_calls.specs.Told.{Told}
+use Rattle.drills.specs.declared.so_far.Place.{Place}
+use Rattle.drills.specs.declared.so_far.Place.TheVariants.{InList, InTrace, Nowhere}
 use Rattle.drills.specs.Lines.{LineTold, head, trace, entry, list, receipt, ReceiptTold}
 use Rattle.drills.specs.Reading.{line_in}
-use Rattle.drills.specs.Drills.{DrillTold, after_line, after_text, begun, drill_from, drill_in, drill_lines, in_last, lines_in, list_lines, numbered, or_line, trace_lines, with_lists, with_traces, ◌>>=◌}
-use Rattle.drills.specs.Grammar.{AreDrill, AreSomeDrill, IsDrill, IsFirstBad}
-use Rattle.drills.proofs.Folds.{comes, drill_comes}
-use Rattle.drills.proofs.Growing.{numbered-push}
+use Rattle.drills.specs.Drills.{DrillTold, SoFarTold, after_entry, after_line, after_receipt, after_text, behind, drill_from, drill_in, drill_so_far, lines_in, or_line, started, takes_trace, ◌>>=◌}
+use Rattle.drills.specs.Grammar.{AreDrill, AreSomeDrill, IsDrill, IsFirstBad, Part, made, no_drill, of_list, of_trace, part_lines, with_part}
+use Rattle.drills.proofs.Folds.{all_come, at, comes}
+use Rattle.drills.proofs.Parts.{behind_both, drill, followed, list_put, list_puts, mapped, passed, started_there, trace_put, trace_puts}
 
 -- ---- one line more
 
--- the lines of what was read so far
-abbrev lines_of : Option DrillTold → List LineTold
-lines_of None = []
-lines_of (Some d) = drill_lines d
+-- the part that goes on is the last
+abbrev IsLast : Place → List Part → Type 0
+IsLast Nowhere parts = Unit {0}
+IsLast (InTrace node) parts =
+    (before : List Part) × (from : Option ℕ) × (entries : List Told) ×
+    (parts ≡ before ++ of_trace node from entries ∷ [])
+IsLast (InList number) parts =
+    (before : List Part) × (from : Option ℕ) × (receipts : List ReceiptTold) ×
+    (parts ≡ before ++ of_list number from receipts ∷ [])
 
-mapped : {A B : Type 0} (f : A → B) (o : Option A) (y : B) → option_map f o ≡ Some y →
-    (x : A) × (o ≡ Some x) × (f x ≡ y)
-mapped f None y e = absurd cc
-mapped f (Some x) y e = (x, refl, cc)
+-- parts that lines say, and that come to what is read so far
+record Explained (s : SoFarTold) (lines : List LineTold) : Type 0 where
+  pub parts : List Part
+  pub spelled : lines ≡ head s.pieces ∷ flat_map part_lines parts
+  pub come : made s.pieces no_drill parts ≡ Some (drill_so_far s)
+  pub last : IsLast s.place parts
 
-passed : {A : Type 0} (b : Bool) (o : Option A) (y : A) → (if b then o else None) ≡ Some y → (b ≡ true) × (o ≡ Some y)
-passed true o y e = (refl, e)
-passed false o y e = absurd cc
+abbrev Explains : Option SoFarTold → List LineTold → Type 0
+Explains None lines = lines ≡ []
+Explains (Some s) lines = Explained s lines
 
-module _ {A : Type 0} (lines : ℕ → List A → List LineTold) (line : A → LineTold)
-    (pushed : (n : ℕ) (xs : List A) (x : A) → lines n (xs ++ x ∷ []) ≡ lines n xs ++ line x ∷ []) where
-  -- one more behind the last part
-  last_grown : (n : ℕ) (x : A) (parts next : List (List A)) → in_last x parts ≡ Some next →
-      numbered lines n next ≡ numbered lines n parts ++ line x ∷ []
-  last_grown n x [] next e = absurd cc
-  last_grown n x (part ∷ []) next e =
-      let same : (part ++ x ∷ []) ∷ [] ≡ next = cc in
-      ap (numbered lines n) (sym same) ∙ append-nil (lines n (part ++ x ∷ [])) ∙ pushed n part x ∙
-      ap (λ ls. ls ++ line x ∷ []) (sym (append-nil (lines n part)))
-  last_grown n x (part ∷ other ∷ parts) next e =
-      let found = mapped (λ (rest : List (List A)). part ∷ rest) (in_last x (other ∷ parts)) next e in
-      ap (numbered lines n) (sym found.2)
-      ∙ ap (λ ls. lines n part ++ ls) (last_grown (n + 1) x (other ∷ parts) found.0 found.1)
-      ∙ sym (append_assoc (lines n part) (numbered lines (n + 1) (other ∷ parts)) (line x ∷ []))
+pub made_after : (pieces : Bool) (d : DrillTold) (xs ys : List Part) →
+    made pieces d (xs ++ ys) ≡ option_and_then (λ next. made pieces next ys) (made pieces d xs)
+made_after pieces d [] ys = refl
+made_after pieces d (x ∷ xs) ys = further (with_part pieces d x) (λ next. made pieces next (xs ++ ys))
+    (λ next. made pieces next xs) (λ next. made pieces next ys) (λ next. made_after pieces next xs ys)
+  where
+    further : (o : Option DrillTold) (all first rest : DrillTold → Option DrillTold) →
+        ((next : DrillTold) → all next ≡ option_and_then rest (first next)) →
+        option_and_then all o ≡ option_and_then rest (option_and_then first o)
+    further None all first rest each = refl
+    further (Some next) all first rest each = each next
 
 -- a part more
-begun_grown : {A : Type 0} (lines : ℕ → List A → List LineTold) (number : ℕ) (parts next : List (List A)) →
-    begun number parts ≡ Some next
-    → numbered lines 0 next ≡ numbered lines 0 parts ++ lines number []
-begun_grown lines number parts next e =
-    let found = passed (number == length parts) (Some (parts ++ [] ∷ [])) next e in
-    let same : parts ++ [] ∷ [] ≡ next = (let there = found.1 in cc) in
-    let place : 0 + length parts ≡ number = (let at = eqb-true number (length parts) found.0 in omega (arith, at)) in
-    ap (numbered lines 0) (sym same) ∙ numbered-push lines 0 parts [] ∙
-    ap (λ n. numbered lines 0 parts ++ lines n []) place
+made_next : (pieces : Bool) (parts : List Part) (part : Part) (d next : DrillTold) → made pieces no_drill parts ≡ Some d
+    → with_part pieces d part ≡ Some next → made pieces no_drill (parts ++ part ∷ []) ≡ Some next
+made_next pieces parts part d next e f =
+    made_after pieces no_drill parts (part ∷ [])
+    ∙ ap (option_and_then (λ mid. made pieces mid (part ∷ []))) e
+    ∙ ap (option_and_then (λ mid. Some mid)) f
 
--- the lines of a drill with other traces, where it has no lists, and with other lists
-traces_grown : (d next : DrillTold) (o : Option (List (List Told))) (line : LineTold) → with_traces d o ≡ Some next
-    → ((ts : List (List Told)) → o ≡ Some ts → numbered trace_lines 0 ts ≡ numbered trace_lines 0 d.traces ++ line ∷
-    []) → drill_lines next ≡ drill_lines d ++ line ∷ []
-traces_grown d next o line e grown =
-    let put = passed (length d.lists == 0) (option_map (λ traces. record d { traces = traces }) o) next e in
-    let found = mapped (λ (traces : List (List Told)). record d { traces = traces }) o next put.1 in
-    let none : d.lists ≡ [] = nil_from_length d.lists (eqb-true (length d.lists) 0 put.0) in
-    let before : List LineTold = numbered trace_lines 0 d.traces in
-    ap drill_lines (sym found.2)
-    ∙ ap (λ ls. head ∷ (ls ++ numbered list_lines 0 d.lists)) (grown found.0 found.1)
-    ∙ ap (λ lists. head ∷ ((numbered trace_lines 0 d.traces ++ line ∷ []) ++ numbered list_lines 0 lists)) none
-    ∙ ap (λ ls. head ∷ ls) (append-nil (numbered trace_lines 0 d.traces ++ line ∷ []))
-    ∙ ap (λ ls. head ∷ (ls ++ line ∷ [])) (sym (append-nil (numbered trace_lines 0 d.traces)))
-    ∙ ap (λ lists. head ∷ ((numbered trace_lines 0 d.traces ++ numbered list_lines 0 lists) ++ line ∷ [])) (sym none)
+-- and what it was put behind
+made_before : (pieces : Bool) (parts : List Part) (part : Part) (next : DrillTold) →
+    made pieces no_drill (parts ++ part ∷ []) ≡ Some next
+    → (d : DrillTold) × (made pieces no_drill parts ≡ Some d) × (with_part pieces d part ≡ Some next)
+made_before pieces parts part next e =
+    let step = followed (λ mid. made pieces mid (part ∷ [])) (made pieces no_drill parts) next
+    (sym (made_after pieces no_drill parts (part ∷ [])) ∙ e) in
+    let put = followed (λ mid. made pieces mid []) (with_part pieces step.0 part) next step.2 in
+    (step.0, step.1, put.1 ∙ put.2)
 
-lists_grown : (d next : DrillTold) (o : Option (List (List ReceiptTold))) (line : LineTold) → with_lists d o ≡ Some next
-    → ((ls : List (List ReceiptTold)) → o ≡ Some ls → numbered list_lines 0 ls ≡ numbered list_lines 0 d.lists ++ line ∷
-    []) → drill_lines next ≡ drill_lines d ++ line ∷ []
-lists_grown d next o line e grown =
-    let found = mapped (λ (lists : List (List ReceiptTold)). record d { lists = lists }) o next e in
-    ap drill_lines (sym found.2)
-    ∙ ap (λ ls. head ∷ (numbered trace_lines 0 d.traces ++ ls)) (grown found.0 found.1)
-    ∙ ap (λ ls. head ∷ ls) (sym (append_assoc (numbered trace_lines 0 d.traces) (numbered list_lines 0 d.lists)
-    (line ∷ [])))
+-- the lines of a part more, and of one that is longer
+lines_next : (pieces : Bool) (lines : List LineTold) (parts : List Part) (part : Part) (line : LineTold) →
+    lines ≡ head pieces ∷ flat_map part_lines parts → part_lines part ≡ line ∷ []
+    → lines ++ line ∷ [] ≡ head pieces ∷ flat_map part_lines (parts ++ part ∷ [])
+lines_next pieces lines parts part line e one =
+    ap (λ ls. ls ++ line ∷ []) e
+    ∙ ap (λ ls. head pieces ∷ (flat_map part_lines parts ++ ls)) (sym (append-nil (part_lines part) ∙ one))
+    ∙ ap (λ ls. head pieces ∷ ls) (sym (flat_map-append part_lines parts (part ∷ [])))
 
-entry_pushed : (n : ℕ) (xs : List Told) (x : Told) → trace_lines n (xs ++ x ∷ []) ≡ trace_lines n xs ++ entry x ∷ []
-entry_pushed n xs x = ap (λ ls. trace n ∷ ls) (map-append entry xs (x ∷ []))
+lines_longer : (pieces : Bool) (lines : List LineTold) (parts before : List Part) (part longer : Part)
+    (line : LineTold) → lines ≡ head pieces ∷ flat_map part_lines parts → parts ≡ before ++ part ∷ []
+    → part_lines longer ≡ part_lines part ++ line ∷ []
+    → lines ++ line ∷ [] ≡ head pieces ∷ flat_map part_lines (before ++ longer ∷ [])
+lines_longer pieces lines parts before part longer line e is more =
+    ap (λ ls. ls ++ line ∷ []) (e ∙ ap (λ ps. head pieces ∷ flat_map part_lines ps) is
+    ∙ ap (λ ls. head pieces ∷ ls) (flat_map-append part_lines before (part ∷ [])))
+    ∙ ap (λ ls. head pieces ∷ ((flat_map part_lines before ++ ls) ++ line ∷ [])) (append-nil (part_lines part))
+    ∙ ap (λ ls. head pieces ∷ ls) (append_assoc (flat_map part_lines before) (part_lines part) (line ∷ []))
+    ∙ ap (λ ls. head pieces ∷ (flat_map part_lines before ++ ls)) (sym more ∙ sym (append-nil (part_lines longer)))
+    ∙ ap (λ ls. head pieces ∷ ls) (sym (flat_map-append part_lines before (longer ∷ [])))
 
-receipt_pushed : (n : ℕ) (xs : List ReceiptTold) (x : ReceiptTold) →
-    list_lines n (xs ++ x ∷ []) ≡ list_lines n xs ++ receipt x ∷ []
-receipt_pushed n xs x = ap (λ ls. list n ∷ ls) (map-append receipt xs (x ∷ []))
+trace_grown : (s : SoFarTold) (node : ℕ) (from : Option ℕ) (next : SoFarTold) (lines : List LineTold) →
+    after_line (Some s) (trace node from) ≡ Some next → Explained s lines
+    → Explained next (lines ++ trace node from ∷ [])
+trace_grown s node from next lines e x =
+    let start : List (List Told) → SoFarTold = (λ ts. record s { traces = ts; place = InTrace node }) in
+    let put = passed (takes_trace s.pieces s.lists) (option_map start (started s.pieces node from s.traces)) next e in
+    let found = mapped start (started s.pieces node from s.traces) next put.1 in
+    let more : made s.pieces no_drill (x.parts ++ of_trace node from [] ∷ []) ≡ Some (drill found.0 s.lists) =
+    made_next s.pieces x.parts (of_trace node from []) (drill_so_far s) (drill found.0 s.lists) x.come
+    (trace_puts s.pieces (drill_so_far s) node from [] found.0 found.0 put.0 found.1
+    (started_there s.pieces node from s.traces found.0 found.1)) in
+    subst (λ (n : SoFarTold). Explained n (lines ++ trace node from ∷ [])) found.2 (record {
+      parts = x.parts ++ of_trace node from [] ∷ [];
+      spelled = lines_next s.pieces lines x.parts (of_trace node from []) (trace node from) x.spelled refl;
+      come = more;
+      last = (x.parts, from, [], refl);
+    })
 
-grown : (o : Option DrillTold) (line : LineTold) (next : DrillTold) → after_line o line ≡ Some next →
-    drill_lines next ≡ lines_of o ++ line ∷ []
-grown None head next e = let same : record { traces = []; lists = [] } ≡ next = cc in ap drill_lines (sym same)
-grown None (trace node) next e = absurd cc
-grown None (entry x) next e = absurd cc
-grown None (list number) next e = absurd cc
-grown None (receipt x) next e = absurd cc
-grown (Some d) head next e = absurd cc
-grown (Some d) (trace node) next e = traces_grown d next (begun node d.traces) (trace node) e
-    (begun_grown trace_lines node d.traces)
-grown (Some d) (entry x) next e = traces_grown d next (in_last x d.traces) (entry x) e
-    (last_grown trace_lines entry entry_pushed 0 x d.traces)
-grown (Some d) (list number) next e = lists_grown d next (begun number d.lists) (list number) e
-    (begun_grown list_lines number d.lists)
-grown (Some d) (receipt x) next e = lists_grown d next (in_last x d.lists) (receipt x) e
-    (last_grown list_lines receipt receipt_pushed 0 x d.lists)
+list_grown : (s : SoFarTold) (number : ℕ) (from : Option ℕ) (next : SoFarTold) (lines : List LineTold) →
+    after_line (Some s) (list number from) ≡ Some next → Explained s lines
+    → Explained next (lines ++ list number from ∷ [])
+list_grown s number from next lines e x =
+    let start : List (List ReceiptTold) → SoFarTold = (λ ls. record s { lists = ls; place = InList number }) in
+    let found = mapped start (started s.pieces number from s.lists) next e in
+    let more : made s.pieces no_drill (x.parts ++ of_list number from [] ∷ []) ≡ Some (drill s.traces found.0) =
+    made_next s.pieces x.parts (of_list number from []) (drill_so_far s) (drill s.traces found.0) x.come
+    (list_puts s.pieces (drill_so_far s) number from [] found.0 found.0 found.1
+    (started_there s.pieces number from s.lists found.0 found.1)) in
+    subst (λ (n : SoFarTold). Explained n (lines ++ list number from ∷ [])) found.2 (record {
+      parts = x.parts ++ of_list number from [] ∷ [];
+      spelled = lines_next s.pieces lines x.parts (of_list number from []) (list number from) x.spelled refl;
+      come = more;
+      last = (x.parts, from, [], refl);
+    })
+
+entry_grown : (pieces : Bool) (traces : List (List Told)) (lists : List (List ReceiptTold)) (place : Place) (e : Told)
+    (next : SoFarTold) (lines : List LineTold) → after_entry (at pieces traces lists place) e place ≡ Some next
+    → Explained (at pieces traces lists place) lines → Explained next (lines ++ entry e ∷ [])
+entry_grown pieces traces lists Nowhere e next lines is x = absurd cc
+entry_grown pieces traces lists (InList number) e next lines is x = absurd cc
+entry_grown pieces traces lists (InTrace node) e next lines is x =
+    let found = mapped (λ (ts : List (List Told)). at pieces ts lists (InTrace node))
+    (behind node (e ∷ []) traces) next is in
+    let before = x.last.0 in
+    let from = x.last.1 in
+    let entries = x.last.2 in
+    let made_so = made_before pieces before (of_trace node from entries) (drill traces lists)
+    (ap (made pieces no_drill) (sym x.last.3) ∙ x.come) in
+    let put = trace_put pieces made_so.0 node from entries (drill traces lists) made_so.2 in
+    let more = behind_both node entries (e ∷ []) put.start traces found.0 put.traces found.1 in
+    let puts : with_part pieces made_so.0 (of_trace node from (entries ++ e ∷ [])) ≡ Some (drill found.0 lists) =
+    trace_puts pieces made_so.0 node from (entries ++ e ∷ []) put.start found.0 put.takes put.starts more
+    ∙ ap (λ ls. Some (drill found.0 ls)) (sym put.lists) in
+    subst (λ (n : SoFarTold). Explained n (lines ++ entry e ∷ [])) found.2 (record {
+      parts = before ++ of_trace node from (entries ++ e ∷ []) ∷ [];
+      spelled = lines_longer pieces lines x.parts before (of_trace node from entries)
+          (of_trace node from (entries ++ e ∷ [])) (entry e) x.spelled x.last.3
+          (ap (λ ls. trace node from ∷ ls) (map-append entry entries (e ∷ [])));
+      come = made_next pieces before (of_trace node from (entries ++ e ∷ [])) made_so.0 (drill found.0 lists)
+          made_so.1 puts;
+      last = (before, from, entries ++ e ∷ [], refl);
+    })
+
+receipt_grown : (pieces : Bool) (traces : List (List Told)) (lists : List (List ReceiptTold)) (place : Place)
+    (r : ReceiptTold) (next : SoFarTold) (lines : List LineTold) →
+    after_receipt (at pieces traces lists place) r place ≡ Some next
+    → Explained (at pieces traces lists place) lines → Explained next (lines ++ receipt r ∷ [])
+receipt_grown pieces traces lists Nowhere r next lines is x = absurd cc
+receipt_grown pieces traces lists (InTrace node) r next lines is x = absurd cc
+receipt_grown pieces traces lists (InList number) r next lines is x =
+    let found = mapped (λ (ls : List (List ReceiptTold)). at pieces traces ls (InList number))
+    (behind number (r ∷ []) lists) next is in
+    let before = x.last.0 in
+    let from = x.last.1 in
+    let receipts = x.last.2 in
+    let made_so = made_before pieces before (of_list number from receipts) (drill traces lists)
+    (ap (made pieces no_drill) (sym x.last.3) ∙ x.come) in
+    let put = list_put pieces made_so.0 number from receipts (drill traces lists) made_so.2 in
+    let more = behind_both number receipts (r ∷ []) put.start lists found.0 put.lists found.1 in
+    let puts : with_part pieces made_so.0 (of_list number from (receipts ++ r ∷ [])) ≡ Some (drill traces found.0) =
+    list_puts pieces made_so.0 number from (receipts ++ r ∷ []) put.start found.0 put.starts more
+    ∙ ap (λ ts. Some (drill ts found.0)) (sym put.traces) in
+    subst (λ (n : SoFarTold). Explained n (lines ++ receipt r ∷ [])) found.2 (record {
+      parts = before ++ of_list number from (receipts ++ r ∷ []) ∷ [];
+      spelled = lines_longer pieces lines x.parts before (of_list number from receipts)
+          (of_list number from (receipts ++ r ∷ [])) (receipt r) x.spelled x.last.3
+          (ap (λ ls. list number from ∷ ls) (map-append receipt receipts (r ∷ [])));
+      come = made_next pieces before (of_list number from (receipts ++ r ∷ [])) made_so.0 (drill traces found.0)
+          made_so.1 puts;
+      last = (before, from, receipts ++ r ∷ [], refl);
+    })
+
+grown : (o : Option SoFarTold) (line : LineTold) (next : SoFarTold) (lines : List LineTold) →
+    after_line o line ≡ Some next → Explains o lines → Explained next (lines ++ line ∷ [])
+grown None (head pieces) next lines e x =
+    let same : at pieces [] [] Nowhere ≡ next = cc in
+    subst (λ (n : SoFarTold). Explained n (lines ++ head pieces ∷ [])) same (record {
+      parts = [];
+      spelled = ap (λ ls. ls ++ head pieces ∷ []) x;
+      come = refl;
+      last = tt;
+    })
+grown None (trace node from) next lines e x = absurd cc
+grown None (entry t) next lines e x = absurd cc
+grown None (list number from) next lines e x = absurd cc
+grown None (receipt r) next lines e x = absurd cc
+grown (Some s) (head pieces) next lines e x = absurd cc
+grown (Some s) (trace node from) next lines e x = trace_grown s node from next lines e x
+grown (Some s) (entry t) next lines e x = entry_grown s.pieces s.traces s.lists s.place t next lines e x
+grown (Some s) (list number from) next lines e x = list_grown s number from next lines e x
+grown (Some s) (receipt r) next lines e x = receipt_grown s.pieces s.traces s.lists s.place r next lines e x
+
+explained : (values : List LineTold) (o : Option SoFarTold) (before : List LineTold) (s : SoFarTold) →
+    Explains o before → comes o values ≡ Some s → Explained s (before ++ values)
+explained [] None before s x e = absurd cc
+explained [] (Some c) before s x e =
+    let same : c ≡ s = cc in
+    subst (λ (ls : List LineTold). Explained s ls) (sym (append-nil before))
+    (subst (λ (n : SoFarTold). Explained n before) same x)
+explained (value ∷ values) o before s x e =
+    let step = followed (λ next. comes (Some next) values) (after_line o value) s e in
+    subst (λ (ls : List LineTold). Explained s ls) (append_assoc before (value ∷ []) values)
+    (explained values (Some step.0) (before ++ value ∷ []) s (grown o value step.0 before step.1 x) step.2)
 
 -- ---- all lines
 
--- they say so much, and these are the lines of what they come to
-pub record AreSaid (o : Option DrillTold) (lines : List (List ℕ)) (d : DrillTold) : Type 0 where
+-- they say so much, and this is what they come to
+pub record AreSaid (o : Option SoFarTold) (lines : List (List ℕ)) (d : DrillTold) : Type 0 where
   pub values : List LineTold
+  pub so_far : SoFarTold
   pub said : map line_in lines ≡ map (λ line. Some line) values
-  pub spelled : drill_lines d ≡ lines_of o ++ values
+  pub come : comes o values ≡ Some so_far
+  pub is : drill_so_far so_far ≡ d
 
 -- what comes of a line, and the lines behind it
-abbrev goes_on : ℕ → List (List ℕ) → Option DrillTold → Result DrillTold ℕ
+abbrev goes_on : ℕ → List (List ℕ) → Option SoFarTold → Result DrillTold ℕ
 goes_on number lines o = or_line number o >>= (λ next. drill_from (Some next) (number + 1) lines)
 
-said_at : (line : List ℕ) (lines : List (List ℕ)) (o : Option DrillTold) (number : ℕ) (d : DrillTold)
-    → ((next : DrillTold) → drill_from (Some next) (number + 1) lines ≡ Ok d → AreSaid (Some next) lines d)
-    → (told : LineTold) → line_in line ≡ Some told → (x : Option DrillTold) → after_line o told ≡ x →
+said_at : (line : List ℕ) (lines : List (List ℕ)) (o : Option SoFarTold) (number : ℕ) (d : DrillTold)
+    → ((next : SoFarTold) → drill_from (Some next) (number + 1) lines ≡ Ok d → AreSaid (Some next) lines d)
+    → (told : LineTold) → line_in line ≡ Some told → (x : Option SoFarTold) → after_line o told ≡ x →
     goes_on number lines x ≡ Ok d → AreSaid o (line ∷ lines) d
 said_at line lines o number d rest told is None goes e = absurd cc
 said_at line lines o number d rest told is (Some next) goes e =
     let behind = rest next e in
     record {
       values = told ∷ behind.values;
+      so_far = behind.so_far;
       said = ap (λ x. x ∷ map line_in lines) is ∙ ap (λ xs. Some told ∷ xs) behind.said;
-      spelled = behind.spelled ∙ ap (λ ls. ls ++ behind.values) (grown o told next goes) ∙
-          append_assoc (lines_of o) (told ∷ []) behind.values;
+      come = ap (option_and_then (λ after. comes (Some after) behind.values)) goes ∙ behind.come;
+      is = behind.is;
     }
 
-said_by : (line : List ℕ) (lines : List (List ℕ)) (o : Option DrillTold) (number : ℕ) (d : DrillTold)
-    → ((next : DrillTold) → drill_from (Some next) (number + 1) lines ≡ Ok d → AreSaid (Some next) lines d)
+said_by : (line : List ℕ) (lines : List (List ℕ)) (o : Option SoFarTold) (number : ℕ) (d : DrillTold)
+    → ((next : SoFarTold) → drill_from (Some next) (number + 1) lines ≡ Ok d → AreSaid (Some next) lines d)
     → (x : Option LineTold) → line_in line ≡ x → goes_on number lines (option_and_then (after_line o) x) ≡ Ok d →
     AreSaid o (line ∷ lines) d
 said_by line lines o number d rest None is e = absurd cc
 said_by line lines o number d rest (Some told) is e = said_at line lines o number d rest told is (after_line o told)
     refl e
 
-are_said : (lines : List (List ℕ)) (o : Option DrillTold) (number : ℕ) (d : DrillTold) →
+are_said : (lines : List (List ℕ)) (o : Option SoFarTold) (number : ℕ) (d : DrillTold) →
     drill_from o number lines ≡ Ok d → AreSaid o lines d
 are_said [] None number d e = absurd cc
 are_said [] (Some c) number d e =
-    let same : c ≡ d = cc in
-    record { values = []; said = refl; spelled = ap drill_lines (sym same) ∙ sym (append-nil (drill_lines c)) }
+    let same : drill_so_far c ≡ d = cc in
+    record { values = []; so_far = c; said = refl; come = refl; is = same }
 are_said (line ∷ lines) o number d e = said_by line lines o number d
     (λ next e. are_said lines (Some next) (number + 1) d e) (line_in line) refl e
 
 -- lines that say this
-come_at : (lines : List (List ℕ)) (values : List LineTold) (number : ℕ) (d : DrillTold)
-    → ((next : DrillTold) → comes (Some next) values ≡ Some d → drill_from (Some next) (number + 1) lines ≡ Ok d)
-    → (x : Option DrillTold) → option_and_then (λ next. comes (Some next) values) x ≡ Some d →
-    goes_on number lines x ≡ Ok d
-come_at lines values number d rest None e = absurd cc
-come_at lines values number d rest (Some next) e = rest next e
+come_at : (lines : List (List ℕ)) (values : List LineTold) (number : ℕ) (s : SoFarTold)
+    → ((next : SoFarTold) → comes (Some next) values ≡ Some s →
+    drill_from (Some next) (number + 1) lines ≡ Ok (drill_so_far s))
+    → (x : Option SoFarTold) → option_and_then (λ next. comes (Some next) values) x ≡ Some s →
+    goes_on number lines x ≡ Ok (drill_so_far s)
+come_at lines values number s rest None e = absurd cc
+come_at lines values number s rest (Some next) e = rest next e
 
-said_come : (lines : List (List ℕ)) (values : List LineTold) (o : Option DrillTold) (number : ℕ) (d : DrillTold) →
+said_come : (lines : List (List ℕ)) (values : List LineTold) (o : Option SoFarTold) (number : ℕ) (s : SoFarTold) →
     map line_in lines ≡ map (λ line. Some line) values
-    → comes o values ≡ Some d → drill_from o number lines ≡ Ok d
-said_come [] [] None number d said e = absurd cc
-said_come [] [] (Some c) number d said e = let same : c ≡ d = cc in ap Ok same
-said_come [] (told ∷ values) o number d said e = absurd cc
-said_come (line ∷ lines) [] o number d said e = absurd cc
-said_come (line ∷ lines) (told ∷ values) o number d said e =
+    → comes o values ≡ Some s → drill_from o number lines ≡ Ok (drill_so_far s)
+said_come [] [] None number s said e = absurd cc
+said_come [] [] (Some c) number s said e = let same : c ≡ s = cc in ap (λ n. Ok (drill_so_far n)) same
+said_come [] (told ∷ values) o number s said e = absurd cc
+said_come (line ∷ lines) [] o number s said e = absurd cc
+said_come (line ∷ lines) (told ∷ values) o number s said e =
     let first : line_in line ≡ Some told = cc in
     let behind : map line_in lines ≡ map (λ line. Some line) values = cc in
     ap (λ x. goes_on number lines (option_and_then (after_line o) x)) first
-    ∙ come_at lines values number d (λ next e. said_come lines values (Some next) (number + 1) d behind e)
+    ∙ come_at lines values number s (λ next e. said_come lines values (Some next) (number + 1) s behind e)
     (after_line o told) e
 
 drill_read_from : (lines : List (List ℕ)) (number : ℕ) (d : DrillTold) → drill_from None number lines ≡ Ok d →
     AreDrill lines d
 drill_read_from lines number d e =
     let so = are_said lines None number d e in
-    so.said ∙ ap (map (λ line. Some line)) (sym so.spelled)
+    let x = explained so.values None [] so.so_far refl so.come in
+    record {
+      pieces = so.so_far.pieces;
+      parts = x.parts;
+      said = so.said ∙ ap (map (λ line. Some line)) x.spelled;
+      come = x.come ∙ ap (λ d. Some d) so.is;
+    }
 
 read_drill_from : (lines : List (List ℕ)) (number : ℕ) (d : DrillTold) → AreDrill lines d →
     drill_from None number lines ≡ Ok d
-read_drill_from lines number d are = said_come lines (drill_lines d) None number d are (drill_comes d)
+read_drill_from lines number d are =
+    let all = all_come are.pieces are.parts d are.come in
+    said_come lines (head are.pieces ∷ flat_map part_lines are.parts) None number
+    (at are.pieces d.traces d.lists all.0) are.said all.1
 
 pub drill_read : (bytes : List ℕ) (d : DrillTold) → drill_in bytes ≡ Ok d → IsDrill bytes d
 unfolding drill_in
@@ -194,36 +315,36 @@ one_drill bytes d e is also =
 
 -- ---- the first bad line
 
-abbrev Reads : Option DrillTold → ℕ → List (List ℕ) → Type 0
+abbrev Reads : Option SoFarTold → ℕ → List (List ℕ) → Type 0
 Reads o number lines = (d : DrillTold) × (drill_from o number lines ≡ Ok d)
 
 -- so many lines behind the first are read
-record StopsAt (o : Option DrillTold) (number : ℕ) (lines : List (List ℕ)) (n : ℕ) : Type 0 where
+record StopsAt (o : Option SoFarTold) (number : ℕ) (lines : List (List ℕ)) (n : ℕ) : Type 0 where
   pub before : (k : ℕ) → k < n → Reads o number (take (suc k) lines)
   pub stops : Reads o number (take (suc n) lines) → ⊥
 
-abbrev Stops : Option DrillTold → ℕ → List (List ℕ) → ℕ → Type 0
+abbrev Stops : Option SoFarTold → ℕ → List (List ℕ) → ℕ → Type 0
 Stops o number lines bad = (n : ℕ) × (bad ≡ number + n) × StopsAt o number lines n
 
 -- with no line that could be read
-none_read : (number : ℕ) (lines : List (List ℕ)) (o : Option DrillTold) → o ≡ None →
+none_read : (number : ℕ) (lines : List (List ℕ)) (o : Option SoFarTold) → o ≡ None →
     ((d : DrillTold) × (goes_on number lines o ≡ Ok d)) → ⊥
 none_read number lines None is h = let read = h.1 in cc
-none_read number lines (Some d) is h = cc
+none_read number lines (Some s) is h = cc
 
-earlier : (line : List ℕ) (lines : List (List ℕ)) (o : Option DrillTold) (number : ℕ) (next : DrillTold) (n : ℕ) →
+earlier : (line : List ℕ) (lines : List (List ℕ)) (o : Option SoFarTold) (number : ℕ) (next : SoFarTold) (n : ℕ) →
     after_text o line ≡ Some next
     → ((k : ℕ) → k < n → Reads (Some next) (number + 1) (take (suc k) lines)) → (k : ℕ) → k < suc n →
     Reads o number (take (suc k) (line ∷ lines))
-earlier line lines o number next n is before zero low = (next, ap (goes_on number (take 0 lines)) is)
+earlier line lines o number next n is before zero low = (drill_so_far next, ap (goes_on number (take 0 lines)) is)
 earlier line lines o number next n is before (suc k) low =
     let so = before k (omega (arith, low)) in
     (so.0, ap (goes_on number (take (suc k) lines)) is ∙ so.1)
 
-stops_at : (line : List ℕ) (lines : List (List ℕ)) (o : Option DrillTold) (number bad : ℕ)
-    → ((next : DrillTold) → drill_from (Some next) (number + 1) lines ≡ Err bad →
+stops_at : (line : List ℕ) (lines : List (List ℕ)) (o : Option SoFarTold) (number bad : ℕ)
+    → ((next : SoFarTold) → drill_from (Some next) (number + 1) lines ≡ Err bad →
     Stops (Some next) (number + 1) lines bad)
-    → (x : Option DrillTold) → after_text o line ≡ x → goes_on number lines x ≡ Err bad →
+    → (x : Option SoFarTold) → after_text o line ≡ x → goes_on number lines x ≡ Err bad →
     Stops o number (line ∷ lines) bad
 stops_at line lines o number bad rest None is e =
     let same : number ≡ bad = cc in (
@@ -246,9 +367,10 @@ stops_at line lines o number bad rest (Some next) is e =
       },
     )
 
-stops_from : (lines : List (List ℕ)) (o : Option DrillTold) (number bad : ℕ) → drill_from o number lines ≡ Err bad →
+stops_from : (lines : List (List ℕ)) (o : Option SoFarTold) (number bad : ℕ) → drill_from o number lines ≡ Err bad →
     Stops o number lines bad
-stops_from [] (Some d) number bad e = absurd (let impossible : ◌≡◌ {A = Result DrillTold ℕ} (Ok d) (Err bad) = e in cc)
+stops_from [] (Some s) number bad e =
+    absurd (let impossible : ◌≡◌ {A = Result DrillTold ℕ} (Ok (drill_so_far s)) (Err bad) = e in cc)
 stops_from [] None number bad e =
     let same : number ≡ bad = cc in (
       0,
@@ -263,22 +385,22 @@ stops_from (line ∷ lines) o number bad e = stops_at line lines o number bad
     (λ next e. stops_from lines (Some next) (number + 1) bad e) (after_text o line) refl e
 
 -- lines that are read are read up to each of them
-shorter : (lines : List (List ℕ)) (number : ℕ) (next : DrillTold) →
+shorter : (lines : List (List ℕ)) (number : ℕ) (next : SoFarTold) →
     ((n : ℕ) → Reads (Some next) number (take (suc n) lines)) → (n : ℕ) → Reads (Some next) number (take n lines)
-shorter lines number next rest zero = (next, refl)
+shorter lines number next rest zero = (drill_so_far next, refl)
 shorter lines number next rest (suc n) = rest n
 
-less_at : (line : List ℕ) (lines : List (List ℕ)) (o : Option DrillTold) (number : ℕ)
-    → ((next : DrillTold) → Reads (Some next) (number + 1) lines → (n : ℕ) →
+less_at : (line : List ℕ) (lines : List (List ℕ)) (o : Option SoFarTold) (number : ℕ)
+    → ((next : SoFarTold) → Reads (Some next) (number + 1) lines → (n : ℕ) →
     Reads (Some next) (number + 1) (take (suc n) lines))
-    → (x : Option DrillTold) → after_text o line ≡ x → ((d : DrillTold) × (goes_on number lines x ≡ Ok d)) → (n : ℕ) →
+    → (x : Option SoFarTold) → after_text o line ≡ x → ((d : DrillTold) × (goes_on number lines x ≡ Ok d)) → (n : ℕ) →
     Reads o number (line ∷ take n lines)
 less_at line lines o number rest None is h n = absurd (none_read number lines None refl h)
 less_at line lines o number rest (Some next) is h n =
     let so = shorter lines (number + 1) next (rest next h) n in
     (so.0, ap (goes_on number (take n lines)) is ∙ so.1)
 
-reads_less : (lines : List (List ℕ)) (o : Option DrillTold) (number : ℕ) → Reads o number lines → (n : ℕ) →
+reads_less : (lines : List (List ℕ)) (o : Option SoFarTold) (number : ℕ) → Reads o number lines → (n : ℕ) →
     Reads o number (take (suc n) lines)
 reads_less [] o number h n = h
 reads_less (line ∷ lines) o number h n =

@@ -105,10 +105,10 @@ flushed (Some xs) (Some ys) (Some zs) lines h k = (k ∙ h.0, h.1)
 
 -- a drill is its first line, its traces and its lists
 pub whole : (start first mid last new : Option (List ℕ)) (text : List ℕ) (traces lists : List LineTold) →
-    SaysLine text head → Appends start first (text ++ newline ∷ [])
-    → Holds first mid traces → Holds mid last lists → Keeps last new → Holds start new (head ∷ (traces ++ lists))
+    SaysLine text (head false) → Appends start first (text ++ newline ∷ [])
+    → Holds first mid traces → Holds mid last lists → Keeps last new → Holds start new (head false ∷ (traces ++ lists))
 whole start first mid last new text traces lists says written behind rest kept =
-    let begun = both start first mid (head ∷ []) traces (head ∷ traces) (one_line start first text head says written)
+    let begun = both start first mid (head false ∷ []) traces (head false ∷ traces) (one_line start first text (head false) says written)
     behind refl in
-    flushed start last new (head ∷ (traces ++ lists)) (both start mid last (head ∷ traces) lists
-    (head ∷ (traces ++ lists)) begun rest refl) kept
+    flushed start last new (head false ∷ (traces ++ lists)) (both start mid last (head false ∷ traces) lists
+    (head false ∷ (traces ++ lists)) begun rest refl) kept

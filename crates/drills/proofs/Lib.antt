@@ -4,8 +4,10 @@ pub mod Plain
 pub mod Backs
 pub mod Folds
 pub mod Said
-pub mod Puts
+pub mod Parts
 pub mod WordsRead
 pub mod Taken
 pub mod Growing
 pub mod Grammars
+pub mod Concatenated
+pub mod Whole

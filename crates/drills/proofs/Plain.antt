@@ -103,15 +103,17 @@ abbrev pub IsPlainLine : LineTold → Type 0
 IsPlainLine line = (has_float (line_data line) ≡ false) × (depth (line_data line) ≤ max_depth)
 
 pub line_plain : (line : LineTold) → IsPlainLine line
-line_plain head = (refl, omega arith)
-line_plain (trace node) = (refl, omega arith)
+line_plain (head pieces) = (refl, omega arith)
+line_plain (trace node None) = (refl, omega arith)
+line_plain (trace node (Some from)) = (refl, omega arith)
 line_plain (entry e) =
     let plain = entry_plain e in
     let ask = plain.ask in
     let reply = plain.reply in
     let words = plain.words in
     (plain.floatless, omega (arith, ask, reply, words))
-line_plain (list number) = (refl, omega arith)
+line_plain (list number None) = (refl, omega arith)
+line_plain (list number (Some from)) = (refl, omega arith)
 line_plain (receipt r) =
     let plain = entry_plain r.entry in
     let ask = plain.ask in

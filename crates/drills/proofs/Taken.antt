@@ -2,7 +2,8 @@
 use Rattle.std.proofs.Common.{◌≡◌, ℕ, ◌+◌, ◌<◌, Bool, true, false, List, [], ◌∷◌, length, Option, Some, None, Result, Ok, Err, refl, sym, ap, ◌∙◌, subst, arith}
 use Rattle.std.specs.Prelude.{IfOk, IfSome, ok_or, option_map, ◌↔◌}
 use Rattle.std.specs.Io.BufRead.{drop_through, strip_last, take_through}
-use Rattle.drills.specs.Drills.{DrillTold, after_text, drill_from, drill_in, drill_of, lines_in, or_line, ◌>>=◌}
+use Rattle.drills.specs.Drills.{DrillTold, SoFarTold, after_text, drill_from, drill_in, drill_of, drill_so_far, lines_in, or_line, so_far_of, ◌>>=◌}
+use Rattle.drills.specs.declared.so_far.SoFar.{SoFar}
 use Rattle.drills.specs.declared.fault.DrillFault.{DrillFault}
 use Rattle.drills.specs.declared.fault.DrillFault.TheVariants.{BadLine, ReadFailed}
 use Rattle.drills.specs.declared.drill.Drill.{Drill}
@@ -27,11 +28,11 @@ taken (Some (x ∷ xs)) new bytes line b r some l = (
 )
 
 -- what is left goes on from what was read so far, and comes to what all bytes are
-abbrev pub GoesOn : Option DrillTold → ℕ → List ℕ → Option (List ℕ) → Type 0
+abbrev pub GoesOn : Option SoFarTold → ℕ → List ℕ → Option (List ℕ) → Type 0
 GoesOn d number bytes left = (rest : List ℕ) × (left ≡ Some rest) ×
     (drill_from d number (lines_in rest) ≡ drill_in bytes)
 
-abbrev pub IfGoesOn : Option DrillTold → ℕ → Option (List ℕ) → Option (List ℕ) → Type 0
+abbrev pub IfGoesOn : Option SoFarTold → ℕ → Option (List ℕ) → Option (List ℕ) → Type 0
 IfGoesOn d number old left = IfSome old (λ bytes. GoesOn d number bytes left)
 
 pub at_first : (old : Option (List ℕ)) → IfGoesOn None 1 old old
@@ -40,7 +41,7 @@ at_first None = tt
 at_first (Some bytes) = (bytes, refl, refl)
 
 -- a line that stands in its place
-pub one_more : (d : Option DrillTold) (next : DrillTold) (number : ℕ) (old mid new : Option (List ℕ)) (line : List ℕ) →
+pub one_more : (d : Option SoFarTold) (next : SoFarTold) (number : ℕ) (old mid new : Option (List ℕ)) (line : List ℕ) →
     IfGoesOn d number old mid
     → IfSome mid (λ xs. IsFirst true line xs new) → after_text d line ≡ Some next →
     IfGoesOn (Some next) (number + 1) old new
@@ -54,7 +55,7 @@ one_more d next number (Some bytes) mid new line h first e =
     )
 
 -- a line that doesn't, or can't be read
-pub bad_line : (d : Option DrillTold) (number : ℕ) (old mid new : Option (List ℕ)) (line : List ℕ) →
+pub bad_line : (d : Option SoFarTold) (number : ℕ) (old mid new : Option (List ℕ)) (line : List ℕ) →
     IfGoesOn d number old mid
     → IfSome mid (λ xs. IsFirst true line xs new) → after_text d line ≡ None →
     IfSome old (λ bytes. drill_in bytes ≡ Err number)
@@ -65,9 +66,10 @@ bad_line d number (Some bytes) mid new line h first e =
     (λ after. drill_from (Some after) (number + 1) (lines_in found.0))) e
 
 -- no line is left
-pub at_end : (d : Option DrillTold) (number : ℕ) (old mid new : Option (List ℕ)) (line : List ℕ) →
+pub at_end : (d : Option SoFarTold) (number : ℕ) (old mid new : Option (List ℕ)) (line : List ℕ) →
     IfGoesOn d number old mid
-    → IfSome mid (λ xs. IsFirst false line xs new) → IfSome old (λ bytes. drill_in bytes ≡ or_line number d)
+    → IfSome mid (λ xs. IsFirst false line xs new)
+    → IfSome old (λ bytes. drill_in bytes ≡ or_line number (option_map drill_so_far d))
 at_end d number None mid new line h last = tt
 at_end d number (Some bytes) mid new line h last =
     let none : h.0 ≡ [] = rw h.1 at last in
@@ -99,6 +101,13 @@ is_first_bad None number h = tt
 is_first_bad (Some bytes) number h = line_bad bytes number h
 
 -- of the end of the lines: what was read so far, or the line behind it
+pub as_drill : (old : Option (List ℕ)) (s : Option SoFar) (drill : Option Drill) (number : ℕ) →
+    drill ≡ option_map (λ (s : SoFar). s.drill) s
+    → IfSome old (λ bytes. drill_in bytes ≡ or_line number (option_map drill_so_far (option_map so_far_of s)))
+    → IfSome old (λ bytes. drill_in bytes ≡ or_line number (option_map drill_of drill))
+as_drill old None drill number e h = rw e h
+as_drill old (Some s) drill number e h = rw e h
+
 pub ends_drill : (old : Option (List ℕ)) (drill : Option Drill) (number : ℕ) (r : Result Drill DrillFault) →
     r ≡ ok_or drill (BadLine number)
     → IfSome old (λ bytes. drill_in bytes ≡ or_line number (option_map drill_of drill)) →

@@ -1,10 +1,13 @@
 -- Recorded drills: the traces of the nodes and the lists of receipts, as lines and as bytes.
-use Rattle.std.specs.Prelude.{◌≡◌, ℕ, ◌+◌, Bool, ◌==◌, List, [], ◌∷◌, ◌++◌, length, map, flat_map, if◌then◌else◌, Option, Some, None, option_map, option_and_then, Result, Ok, Err, Vec}
+use Rattle.std.specs.Prelude.{◌≡◌, ℕ, zero, suc, ◌+◌, Bool, false, ◌==◌, ◌||◌, List, [], ◌∷◌, ◌++◌, length, map, flat_map, slice_get, if◌then◌else◌, Option, Some, None, option_map, option_and_then, Result, Ok, Err, Vec}
 use Rattle.std.specs.declared.alloc.Global.{Global}
 use Rattle.node_calls.specs.declared.receipt.Receipt.{Receipt}
 use Rattle.node_calls.specs.Told.{Told}
 use Rattle.packed_trace.specs.Packed.{Packed}
 use Rattle.drills.specs.declared.drill.Drill.{Drill}
+use Rattle.drills.specs.declared.so_far.Place.{Place}
+use Rattle.drills.specs.declared.so_far.Place.TheVariants.{InList, InTrace, Nowhere}
+use Rattle.drills.specs.declared.so_far.SoFar.{SoFar}
 use Rattle.drills.specs.Lines.{LineTold, head, trace, entry, list, receipt, ReceiptTold, receipt_told, line_text}
 use Rattle.drills.specs.Reading.{line_in}
 
@@ -26,13 +29,13 @@ drill_told traces lists = record { traces = traces_told traces; lists = lists_to
 abbrev pub drill_of : Drill → DrillTold
 drill_of d = drill_told d.traces.items d.lists.items
 
--- ---- written
+-- ---- written: each part whole
 
 abbrev pub trace_lines : ℕ → List Told → List LineTold
-trace_lines node entries = trace node ∷ map entry entries
+trace_lines node entries = trace node None ∷ map entry entries
 
 abbrev pub list_lines : ℕ → List ReceiptTold → List LineTold
-list_lines number receipts = list number ∷ map receipt receipts
+list_lines number receipts = list number None ∷ map receipt receipts
 
 -- one part after the other, each with its number
 abbrev pub numbered : {A : Type 0} → (ℕ → A → List LineTold) → ℕ → List A → List LineTold
@@ -40,7 +43,7 @@ numbered lines n [] = []
 numbered lines n (part ∷ parts) = lines n part ++ numbered lines (n + 1) parts
 
 abbrev pub drill_lines : DrillTold → List LineTold
-drill_lines d = head ∷ (numbered trace_lines 0 d.traces ++ numbered list_lines 0 d.lists)
+drill_lines d = head false ∷ (numbered trace_lines 0 d.traces ++ numbered list_lines 0 d.lists)
 
 abbrev pub newline : ℕ
 newline = 10
@@ -62,48 +65,94 @@ abbrev pub lines_in : List ℕ → List (List ℕ)
 lines_in [] = []
 lines_in (byte ∷ bytes) = if byte == newline then [] ∷ lines_in bytes else in_first byte (lines_in bytes)
 
--- behind the last part, where there is one
-abbrev pub in_last : {A : Type 0} → A → List (List A) → Option (List (List A))
-in_last x [] = None
-in_last x (part ∷ []) = Some ((part ++ x ∷ []) ∷ [])
-in_last x (part ∷ next ∷ parts) = option_map (λ rest. part ∷ rest) (in_last x (next ∷ parts))
-
 -- a new part, where this is its number
 abbrev pub begun : {A : Type 0} → ℕ → List (List A) → Option (List (List A))
 begun number parts = if number == length parts then Some (parts ++ [] ∷ []) else None
+
+-- a part, if it is there, has so much so far
+abbrev pub ends_at : {A : Type 0} → ℕ → Option (List A) → Bool
+ends_at told None = false
+ends_at told (Some part) = told == length part
+
+-- the part of this number goes on behind all that is told of it so far; nothing is told yet of one that begins
+abbrev pub gone_on : {A : Type 0} → ℕ → ℕ → List (List A) → Option (List (List A))
+gone_on number from parts =
+    if ends_at from (slice_get parts number) then Some parts else (if from == 0 then begun number parts else None)
+
+-- a part begins; or goes on from where the line says, if parts may come in pieces
+abbrev pub started : {A : Type 0} → Bool → ℕ → Option ℕ → List (List A) → Option (List (List A))
+started pieces number None parts = begun number parts
+started pieces number (Some from) parts = if pieces then gone_on number from parts else None
+
+-- more behind the part of this number, where there is one
+abbrev pub behind : {A : Type 0} → ℕ → List A → List (List A) → Option (List (List A))
+behind n more [] = None
+behind zero more (part ∷ parts) = Some ((part ++ more) ∷ parts)
+behind (suc n) more (part ∷ parts) = option_map (λ rest. part ∷ rest) (behind n more parts)
 
 -- whether something was put: it comes to this then, and else to nothing
 abbrev pub IsPut : {A : Type 0} → Bool → Option A → A → Type 0
 IsPut put next new = next ≡ (if put then Some new else None)
 
--- the traces come before the lists
-abbrev pub with_traces : DrillTold → Option (List (List Told)) → Option DrillTold
-with_traces d traces = if length d.lists == 0 then option_map (λ traces. record d { traces = traces }) traces else None
+-- what is read so far: whether parts may come in pieces, the traces and the lists, and which of them goes on
+pub record SoFarTold : Type 0 where
+  pub pieces : Bool
+  pub traces : List (List Told)
+  pub lists : List (List ReceiptTold)
+  pub place : Place
 
-abbrev pub with_lists : DrillTold → Option (List (List ReceiptTold)) → Option DrillTold
-with_lists d lists = option_map (λ lists. record d { lists = lists }) lists
+abbrev pub drill_so_far : SoFarTold → DrillTold
+drill_so_far s = record { traces = s.traces; lists = s.lists }
 
-abbrev pub after_head : DrillTold → LineTold → Option DrillTold
-after_head d head = None
-after_head d (trace node) = with_traces d (begun node d.traces)
-after_head d (entry e) = with_traces d (in_last e d.traces)
-after_head d (list number) = with_lists d (begun number d.lists)
-after_head d (receipt r) = with_lists d (in_last r d.lists)
+abbrev pub so_far_of : SoFar → SoFarTold
+so_far_of s =
+    let d = drill_of s.drill in record { pieces = s.pieces; traces = d.traces; lists = d.lists; place = s.place }
+
+-- the traces come before the lists, where none comes in pieces
+abbrev pub takes_trace : Bool → List (List ReceiptTold) → Bool
+takes_trace pieces lists = pieces || (length lists == 0)
+
+abbrev pub after_trace : SoFarTold → ℕ → Option ℕ → Option SoFarTold
+after_trace s node from =
+    if takes_trace s.pieces s.lists
+    then option_map (λ traces. record s { traces = traces; place = InTrace node }) (started s.pieces node from s.traces)
+    else None
+
+abbrev pub after_list : SoFarTold → ℕ → Option ℕ → Option SoFarTold
+after_list s number from =
+    option_map (λ lists. record s { lists = lists; place = InList number }) (started s.pieces number from s.lists)
+
+abbrev pub after_entry : SoFarTold → Told → Place → Option SoFarTold
+after_entry s e Nowhere = None
+after_entry s e (InTrace node) = option_map (λ traces. record s { traces = traces }) (behind node (e ∷ []) s.traces)
+after_entry s e (InList number) = None
+
+abbrev pub after_receipt : SoFarTold → ReceiptTold → Place → Option SoFarTold
+after_receipt s r Nowhere = None
+after_receipt s r (InTrace node) = None
+after_receipt s r (InList number) = option_map (λ lists. record s { lists = lists }) (behind number (r ∷ []) s.lists)
+
+abbrev pub after_head : SoFarTold → LineTold → Option SoFarTold
+after_head s (head pieces) = None
+after_head s (trace node from) = after_trace s node from
+after_head s (entry e) = after_entry s e s.place
+after_head s (list number from) = after_list s number from
+after_head s (receipt r) = after_receipt s r s.place
 
 -- a drill has no part yet behind its first line, before which there is none
-abbrev pub at_start : LineTold → Option DrillTold
-at_start head = Some (record { traces = []; lists = [] })
-at_start (trace node) = None
+abbrev pub at_start : LineTold → Option SoFarTold
+at_start (head pieces) = Some (record { pieces = pieces; traces = []; lists = []; place = Nowhere })
+at_start (trace node from) = None
 at_start (entry e) = None
-at_start (list number) = None
+at_start (list number from) = None
 at_start (receipt r) = None
 
-abbrev pub after_line : Option DrillTold → LineTold → Option DrillTold
+abbrev pub after_line : Option SoFarTold → LineTold → Option SoFarTold
 after_line None line = at_start line
-after_line (Some d) line = after_head d line
+after_line (Some s) line = after_head s line
 
-abbrev pub after_text : Option DrillTold → List ℕ → Option DrillTold
-after_text drill bytes = option_and_then (after_line drill) (line_in bytes)
+abbrev pub after_text : Option SoFarTold → List ℕ → Option SoFarTold
+after_text so_far bytes = option_and_then (after_line so_far) (line_in bytes)
 
 -- or the number of the line, where it can't be read or stands out of its place
 abbrev pub or_line : {A : Type 0} → ℕ → Option A → Result A ℕ
@@ -116,10 +165,10 @@ abbrev pub ◌>>=◌ : {A B : Type 0} → Result A ℕ → (A → Result B ℕ) 
 (Err line) >>= f = Err line
 
 -- what lines come to, of which the first has this number
-abbrev pub drill_from : Option DrillTold → ℕ → List (List ℕ) → Result DrillTold ℕ
-drill_from drill number [] = or_line number drill
-drill_from drill number (line ∷ lines) = do
-  next ← or_line number (after_text drill line)
+abbrev pub drill_from : Option SoFarTold → ℕ → List (List ℕ) → Result DrillTold ℕ
+drill_from so_far number [] = or_line number (option_map drill_so_far so_far)
+drill_from so_far number (line ∷ lines) = do
+  next ← or_line number (after_text so_far line)
   drill_from (Some next) (number + 1) lines
 
 -- the drill that bytes are, or the number of the first line that is bad, counted from 1

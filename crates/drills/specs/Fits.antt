@@ -1,5 +1,5 @@
 -- What holds of all that the code's values tell: their numbers fit their types.
-use Rattle.std.specs.Prelude.{ℕ, ◌<◌, ◌^◌, List, All}
+use Rattle.std.specs.Prelude.{ℕ, ◌<◌, ◌^◌, List, All, IfSome}
 use Rattle.hex.specs.Hex.{IsBytes}
 use Rattle.stamp_register.specs.declared.key.Stamp.{Stamp}
 use Rattle.node_calls.specs.Told.{AskTold, sets, removes, loads, passes, shifts, grants, emits, delivers, ReplyTold, was_set, was_removed, was_loaded, was_passed, was_shifted, was_granted, was_emitted, was_delivered, Told, Passed, Unset, NoTerm, Act}
@@ -42,8 +42,8 @@ pub record ToldFits (e : Told) : Type 0 where
   pub reply : ReplyFits e.reply
 
 abbrev pub LineFits : LineTold → Type 0
-LineFits head = Unit {0}
-LineFits (trace node) = node < 2 ^ 64
+LineFits (head pieces) = Unit {0}
+LineFits (trace node from) = (node < 2 ^ 64) × IfSome from (λ told. told < 2 ^ 64)
 LineFits (entry e) = ToldFits e
-LineFits (list number) = number < 2 ^ 64
+LineFits (list number from) = (number < 2 ^ 64) × IfSome from (λ told. told < 2 ^ 64)
 LineFits (receipt r) = (r.node < 2 ^ 8) × (r.index < 2 ^ 32) × ToldFits r.entry

@@ -1,7 +1,10 @@
--- What is read of bytes is the drill that they are.
-use Rattle.std.specs.Prelude.{◌≡◌, ◌↔◌, ℕ, List, Ok, Err}
-use Rattle.drills.specs.Drills.{DrillTold, drill_in, lines_in}
-use Rattle.drills.specs.Grammar.{IsDrill, IsFirstBad}
+-- What is read of bytes is the drill that they are, and what parts come to.
+use Rattle.std.specs.Prelude.{◌≡◌, ◌↔◌, ℕ, Bool, false, List, [], ◌∷◌, map, take, Some, Ok, Err}
+use Rattle.drills.specs.Lines.{head}
+use Rattle.drills.specs.Reading.{line_in}
+use Rattle.drills.specs.Drills.{DrillTold, drill_in, drill_lines, lines_in}
+use Rattle.drills.specs.Grammar.{IsDrill, IsFirstBad, Part, made, no_drill}
+use Rattle.drills.specs.Pieces.{AreConcatenated, BeginsBehind}
 
 -- they are one drill at most
 abbrev pub BytesAreOneDrill : Type 0
@@ -12,3 +15,16 @@ DrillIsRead = (bytes : List ℕ) (d : DrillTold) → (drill_in bytes ≡ Ok d) �
 
 abbrev pub LineIsBad : Type 0
 LineIsBad = (bytes : List ℕ) (number : ℕ) → (drill_in bytes ≡ Err number) ↔ IsFirstBad (lines_in bytes) number
+
+-- what parts come to is, of each trace and each list, what they have of it, one behind the other
+abbrev pub PartsAreConcatenated : Type 0
+PartsAreConcatenated = (pieces : Bool) (parts : List Part) (d : DrillTold) → made pieces no_drill parts ≡ Some d →
+    AreConcatenated parts d
+
+abbrev pub PiecesBeginBehind : Type 0
+PiecesBeginBehind = (pieces : Bool) (before after : List Part) (d : DrillTold) → BeginsBehind before after d pieces
+
+-- a text of the first version is a drill just where its lines are the drill's, each part whole
+abbrev pub WholePartsStay : Type 0
+WholePartsStay = (bytes : List ℕ) (d : DrillTold) → take 1 (map line_in (lines_in bytes)) ≡ Some (head false) ∷ []
+    → IsDrill bytes d ↔ (map line_in (lines_in bytes) ≡ map (λ line. Some line) (drill_lines d))

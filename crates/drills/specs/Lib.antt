@@ -4,6 +4,7 @@ pub mod Fits
 pub mod Reading
 pub mod Drills
 pub mod Grammar
+pub mod Pieces
 pub mod Laws
 pub mod Taken
 pub mod Written

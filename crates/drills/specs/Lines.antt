@@ -1,5 +1,5 @@
 -- The lines of a recorded drill.
-use Rattle.std.specs.Prelude.{ℕ, List, codes}
+use Rattle.std.specs.Prelude.{ℕ, Bool, true, false, List, codes, Option, Some, None}
 use Rattle.serde_json.specs.Data.{Data, string, object, Members, member, no_members, put}
 use Rattle.serde_json.specs.Written.{compact_text}
 use Rattle.node_calls.specs.declared.receipt.Receipt.{Receipt}
@@ -17,20 +17,21 @@ pub record ReceiptTold : Type 0 where
 abbrev pub receipt_told : Receipt → ReceiptTold
 receipt_told r = record { node = r.node; index = r.index; entry = told r.entry }
 
--- the first line; the trace of a node begins; its next entry; a list begins; or its next receipt
+-- the first line, and whether traces and lists may come in pieces; the trace of a node begins, or a piece of it that
+-- says behind how many of its entries; its next entry; so a list begins, or a piece of it; or its next receipt
 pub data LineTold : Type 0 where
-  head : LineTold
-  trace : (node : ℕ) → LineTold
+  head : (pieces : Bool) → LineTold
+  trace : (node : ℕ) → (from : Option ℕ) → LineTold
   entry : (told : Told) → LineTold
-  list : (number : ℕ) → LineTold
+  list : (number : ℕ) → (from : Option ℕ) → LineTold
   receipt : (told : ReceiptTold) → LineTold
 
 -- a line of the code, without where its texts lie in memory
 abbrev pub line_told : Line → LineTold
-line_told lines.Head = head
-line_told (lines.Trace node) = trace node
+line_told (lines.Head pieces) = head pieces
+line_told (lines.Trace node from) = trace node from
 line_told (lines.Entry e) = entry (told e)
-line_told (lines.List number) = list number
+line_told (lines.List number from) = list number from
 line_told (lines.Receipt r) = receipt (receipt_told r)
 
 -- what an entry tells, put into an object
@@ -39,16 +40,28 @@ with_told e ms =
     put (codes "words") (words_data e.words)
     (put (codes "reply") (reply_data e.reply) (put (codes "ask") (ask_data e.ask) ms))
 
+-- the version of a drill, in which traces and lists may come in pieces or not
+abbrev pub version_of : Bool → ℕ
+version_of false = 1
+version_of true = 2
+
+-- where a part begins
+abbrev pub part_data : List ℕ → ℕ → Option ℕ → Data
+part_data name number None = object (member name (count_data number) no_members)
+part_data name number (Some from) =
+    object (member (codes "from") (count_data from) (member name (count_data number) no_members))
+
 -- as JSON: one object a line
 abbrev pub line_data : LineTold → Data
-line_data head =
-    object (member (codes "failreg") (string (codes "drill")) (member (codes "version") (count_data 1) no_members))
-line_data (trace node) = object (member (codes "trace") (count_data node) no_members)
+line_data (head pieces) =
+    object (member (codes "failreg") (string (codes "drill"))
+    (member (codes "version") (count_data (version_of pieces)) no_members))
+line_data (trace node from) = part_data (codes "trace") node from
 line_data (entry e) =
     object (member (codes "ask") (ask_data e.ask)
     (member (codes "reply") (reply_data e.reply)
     (member (codes "words") (words_data e.words) no_members)))
-line_data (list number) = object (member (codes "list") (count_data number) no_members)
+line_data (list number from) = part_data (codes "list") number from
 line_data (receipt r) =
     object (member (codes "ask") (ask_data r.entry.ask)
     (member (codes "index") (count_data r.index)

@@ -220,26 +220,36 @@ receipt_in d = do
 abbrev pub is_head : Data → Bool
 is_head d = is_word (codes "drill") (text_member (codes "failreg") d)
 
-abbrev pub version_one : ℕ → Option LineTold
-version_one version = if version == 1 then Some head else None
+-- in the second version traces and lists may come in pieces
+abbrev pub version_in : ℕ → Option LineTold
+version_in version =
+    if version == 1 then Some (head false) else (if version == 2 then Some (head true) else None)
 
 abbrev pub head_in : Data → Option LineTold
-head_in d = if is_head d then number_member (codes "version") d >>= version_one else None
+head_in d = if is_head d then number_member (codes "version") d >>= version_in else None
 
-abbrev pub or_list : Option ℕ → Option ℕ → Option LineTold
-or_list (Some node) other = Some (trace node)
-or_list None other = option_map list other
+abbrev pub or_list : Option ℕ → Option ℕ → Option ℕ → Option LineTold
+or_list from (Some node) other = Some (trace node from)
+or_list from None other = option_map (λ number. list number from) other
 
-abbrev pub begin_in : Data → Option LineTold
-begin_in d = or_list (number_member (codes "trace") d) (number_member (codes "list") d)
+abbrev pub begin_in : Option ℕ → Data → Option LineTold
+begin_in from d = or_list from (number_member (codes "trace") d) (number_member (codes "list") d)
+
+-- a piece that says where it begins, and else the first line
+abbrev pub piece_or_head : Option ℕ → Data → Option LineTold
+piece_or_head None d = head_in d
+piece_or_head (Some from) d = begin_in (Some from) d
+
+abbrev pub pair_in : Data → Option LineTold
+pair_in d = piece_or_head (number_member (codes "from") d) d
 
 -- by how many members it has
 abbrev pub line_of : Data → Option LineTold
 line_of d =
     if members_in d == 5 then option_map receipt (receipt_in d) else
     (if members_in d == 3 then option_map entry (told_in d) else
-    (if members_in d == 1 then begin_in d else
-    (if members_in d == 2 then head_in d else None)))
+    (if members_in d == 1 then begin_in None d else
+    (if members_in d == 2 then pair_in d else None)))
 
 -- the same of bytes, which have to be text
 abbrev pub line_in : List ℕ → Option LineTold

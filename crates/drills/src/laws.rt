@@ -1,6 +1,7 @@
 //! What holds of every text of a drill.
 
 ghost use Rattle.drills.specs.Laws.{BytesAreOneDrill, DrillIsRead, LineIsBad};
+ghost use Rattle.drills.specs.Laws.{PartsAreConcatenated, PiecesBeginBehind, WholePartsStay};
 
 /// Bytes are one drill at most, and that is what is read of them (`drill_in`); what is refused is
 /// the first line with which the lines so far are no drill.
@@ -8,4 +9,13 @@ pub fn drills_are_read()
     ensures one { BytesAreOneDrill }
     ensures drill { DrillIsRead }
     ensures bad { LineIsBad }
+{}
+
+/// What parts come to is what they have of each trace and of each list, one behind the other, and a
+/// piece begins behind all that is told of its trace or its list before. A text of the first version
+/// is a drill just where its lines tell each part whole.
+pub fn pieces_are_concatenated()
+    ensures parts { PartsAreConcatenated }
+    ensures pieces { PiecesBeginBehind }
+    ensures whole { WholePartsStay }
 {}

@@ -10,6 +10,7 @@ mod line;
 mod line_text;
 mod reader;
 mod rows;
+mod so_far;
 mod writer;
 
 pub use drill::Drill;

@@ -6,8 +6,8 @@ ghost use Rattle.serde_json.specs.View.{view};
 ghost use Rattle.node_calls.specs.Told.{ask_told, reply_told, told};
 ghost use Rattle.drills.specs.Lines.{line_told, receipt_told};
 ghost use Rattle.drills.specs.Reading.{ask_member, begin_in, head_in, line_in, line_of, members_in};
-ghost use Rattle.drills.specs.Reading.{number_member, receipt_in, reply_member, text_member};
-ghost use Rattle.drills.specs.Reading.{told_in, told_of, words_member};
+ghost use Rattle.drills.specs.Reading.{number_member, pair_in, receipt_in, reply_member};
+ghost use Rattle.drills.specs.Reading.{text_member, told_in, told_of, version_in, words_member};
 
 use crate::rows::{ask_in, byte_in, reply_in, word_in, words_in};
 use node_calls::{Ask, Entry, Receipt, Reply};
@@ -18,14 +18,14 @@ use streams::text_of;
 /// A line of a recorded drill.
 #[derive(Drop)]
 pub enum Line {
-    /// The first line, which names the format and its version.
-    Head,
-    /// The trace of this node begins.
-    Trace(u64),
+    /// The first line, which names the format and its version: whether parts may come in pieces.
+    Head { pieces: bool },
+    /// A piece of the trace of this node begins, behind so many calls of it, if that is told.
+    Trace { node: u64, from: Option<u64> },
     /// The next entry of the trace.
     Entry(Entry),
-    /// The list of this number begins.
-    List(u64),
+    /// A piece of the list of this number begins, behind so many receipts of it, if that is told.
+    List { number: u64, from: Option<u64> },
     /// The next receipt of the list.
     Receipt(Receipt),
 }
@@ -119,20 +119,46 @@ fn number_member(value: &Value, name: &str) -> Option<u64>
     value.get(name)?.as_u64()
 }
 
+// The first line of a drill of this version.
+fn version_in(version: u64) -> Option<Line>
+    ensures { option_map line_told result ≡ version_in version }
+{
+    match version {
+        1 => Some(Line::Head { pieces: false }),
+        2 => Some(Line::Head { pieces: true }),
+        _ => None,
+    }
+}
+
 fn head_in(value: &Value) -> Option<Line>
     ensures { option_map line_told result ≡ head_in (view value.now) }
 {
     let name = text_member(value, "failreg")?;
     let version = number_member(value, "version")?;
-    (name == "drill" && version == 1).then_some(Line::Head)
+    if name == "drill" {
+        version_in(version)
+    } else {
+        None
+    }
 }
 
-fn begin_in(value: &Value) -> Option<Line>
-    ensures { option_map line_told result ≡ begin_in (view value.now) }
+// The line with which a part begins, or a piece of it.
+fn begin_in(value: &Value, from: Option<u64>) -> Option<Line>
+    ensures { option_map line_told result ≡ begin_in from (view value.now) }
 {
     match number_member(value, "trace") {
-        Some(node) => Some(Line::Trace(node)),
-        None => number_member(value, "list").map(Line::List),
+        Some(node) => Some(Line::Trace { node, from }),
+        None => number_member(value, "list").map(|number| Line::List { number, from }),
+    }
+}
+
+// A line of two members: a piece that says where it begins, and else the first line.
+fn pair_in(value: &Value) -> Option<Line>
+    ensures { option_map line_told result ≡ pair_in (view value.now) }
+{
+    match number_member(value, "from") {
+        Some(from) => begin_in(value, Some(from)),
+        None => head_in(value),
     }
 }
 
@@ -142,8 +168,8 @@ fn line_of(alloc: Global, value: &Value) -> Result<Option<Line>, AllocError>
     match members_in(value) {
         5 => Ok(receipt_in(alloc, value)?.map(Line::Receipt)),
         3 => Ok(told_in(alloc, value)?.map(Line::Entry)),
-        1 => Ok(begin_in(value)),
-        2 => Ok(head_in(value)),
+        1 => Ok(begin_in(value, None)),
+        2 => Ok(pair_in(value)),
         _ => Ok(None),
     }
 }

@@ -1,6 +1,6 @@
 //! The lines of a recorded drill, written.
 
-ghost use Rattle.std.specs.Prelude.{◌≡◌, IfOk, OnOk, string_bytes};
+ghost use Rattle.std.specs.Prelude.{◌≡◌, false, IfOk, None, OnOk, string_bytes};
 ghost use Rattle.serde_json.specs.Data.{put};
 ghost use Rattle.serde_json.specs.View.{members_view, view};
 ghost use Rattle.packed_trace.specs.Packed.{seen_told};
@@ -21,19 +21,19 @@ use std::alloc::{AllocError, Global};
 const MAX_INDEX: u64 = 4_294_967_295;
 
 fn head_value(alloc: Global) -> Result<Value, AllocError>
-    ensures { IfOk result (λ value. view value ≡ line_data head_line) }
+    ensures { IfOk result (λ value. view value ≡ line_data (head_line false)) }
 {
     json!(in alloc; {"failreg": "drill", "version": 1u64})
 }
 
 fn trace_value(alloc: Global, node: u64) -> Result<Value, AllocError>
-    ensures { IfOk result (λ value. view value ≡ line_data (trace_line node)) }
+    ensures { IfOk result (λ value. view value ≡ line_data (trace_line node None)) }
 {
     json!(in alloc; {"trace": node})
 }
 
 fn list_value(alloc: Global, number: u64) -> Result<Value, AllocError>
-    ensures { IfOk result (λ value. view value ≡ line_data (list_line number)) }
+    ensures { IfOk result (λ value. view value ≡ line_data (list_line number None)) }
 {
     json!(in alloc; {"list": number})
 }
@@ -114,9 +114,9 @@ fn printed(alloc: Global, value: &Value) -> Result<String, AllocError>
     Ok(text)
 }
 
-/// The first line.
+/// The first line of a drill whose traces and lists come whole.
 pub(crate) fn head_text(alloc: Global) -> Result<String, AllocError>
-    ensures { IfOk result (λ text. SaysLine (string_bytes text) head_line) }
+    ensures { IfOk result (λ text. SaysLine (string_bytes text) (head_line false)) }
 {
     let value = head_value(alloc)?;
     printed(alloc, &value)
@@ -124,7 +124,7 @@ pub(crate) fn head_text(alloc: Global) -> Result<String, AllocError>
 
 /// The line with which a node's trace begins.
 pub(crate) fn trace_text(alloc: Global, node: u64) -> Result<String, AllocError>
-    ensures { IfOk result (λ text. SaysLine (string_bytes text) (trace_line node)) }
+    ensures { IfOk result (λ text. SaysLine (string_bytes text) (trace_line node None)) }
 {
     let value = trace_value(alloc, node)?;
     printed(alloc, &value)
@@ -141,7 +141,7 @@ pub(crate) fn call_text(alloc: Global, call: Seen<'_>) -> Result<String, AllocEr
 
 /// The line with which a list of receipts begins.
 pub(crate) fn list_text(alloc: Global, number: u64) -> Result<String, AllocError>
-    ensures { IfOk result (λ text. SaysLine (string_bytes text) (list_line number)) }
+    ensures { IfOk result (λ text. SaysLine (string_bytes text) (list_line number None)) }
 {
     let value = list_value(alloc, number)?;
     printed(alloc, &value)

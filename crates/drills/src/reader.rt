@@ -1,7 +1,7 @@
 //! A recorded drill from a reader.
 
 ghost use Rattle.std.specs.Prelude.{◌≡◌, ◌≢◌, ◌↔◌, ℕ, ◌∷◌, [], true, false, cond};
-ghost use Rattle.std.specs.Prelude.{Some, IfOk, IfSome, Ok, Err};
+ghost use Rattle.std.specs.Prelude.{Some, IfOk, IfSome, Ok, Err, option_map};
 ghost use Rattle.std.specs.Io.BufRead.{strip_last};
 ghost use Rattle.std.specs.Io.Buffered.{reader_inner};
 ghost use Rattle.streams.specs.Watched.{has_failed, inner_of};
@@ -11,8 +11,9 @@ ghost use Rattle.drills.specs.Drills.{drill_in, drill_of, lines_in};
 ghost use Rattle.drills.specs.Grammar.{IsDrill, IsFirstBad};
 ghost use Rattle.drills.specs.Taken.{TakesLine, IfBytes};
 
-use crate::drill::{Drill, after_text};
+use crate::drill::Drill;
 use crate::fault::DrillFault;
+use crate::so_far::{SoFar, after_text};
 use std::alloc::Global;
 use std::io::{BufRead, BufReader, Read};
 use streams::Watched;
@@ -54,6 +55,13 @@ fn next_line<I: Read>(
     }
 }
 
+// The drill, where its first line was read.
+fn whole(so_far: Option<SoFar>) -> Option<Drill>
+    ensures { result ≡ option_map (λ so_far. so_far.drill) so_far }
+{
+    Some(so_far?.drill)
+}
+
 /// Reads a drill to its end, line by line: it may have any number of lines, each of any length. A
 /// trace of more than 2^32 calls is out of memory.
 pub fn read_drill<I: Read>(
@@ -77,13 +85,13 @@ pub fn read_drill<I: Read>(
     ensures no_write { result ≢ Err WriteFailed }
 {
     let mut line = Vec::new(alloc);
-    let mut drill = None;
+    let mut so_far = None;
     for number in 1..u64::MAX {
         if !next_line(reader, &mut line)? {
-            return drill.ok_or(DrillFault::BadLine { line: number });
+            return whole(so_far).ok_or(DrillFault::BadLine { line: number });
         }
-        match after_text(alloc, drill, &line)? {
-            Some(next) => drill = Some(next),
+        match after_text(alloc, so_far, &line)? {
+            Some(next) => so_far = Some(next),
             None => return Err(DrillFault::BadLine { line: number }),
         }
     }

@@ -48,6 +48,35 @@ const ONE_ENTRY: &str = r#"{"failreg":"drill","version":1}
 {"ask":["emit",1],"reply":["message","ff"],"words":[]}
 "#;
 
+// A drill of the second version, in pieces, and the same whole.
+const IN_PIECES: &str = r#"{"failreg":"drill","version":2}
+{"trace":0}
+{"from":0,"list":0}
+{"from":0,"trace":1}
+{"ask":["emit",0],"reply":["message","ff"],"words":[]}
+{"trace":0,"from":0}
+{"ask":["emit",1],"reply":["message","fe"],"words":[]}
+{"list":0,"from":0}
+{"ask":["emit",0],"index":0,"node":1,"reply":["message","ff"],"words":[]}
+{"from":1,"trace":1}
+{"ask":["emit",0],"reply":["message","fd"],"words":[]}
+{"list":1}
+{"from":1,"list":0}
+{"ask":["emit",1],"index":0,"node":0,"reply":["message","fe"],"words":[]}
+"#;
+
+const WHOLE: &str = r#"{"failreg":"drill","version":1}
+{"trace":0}
+{"ask":["emit",1],"reply":["message","fe"],"words":[]}
+{"trace":1}
+{"ask":["emit",0],"reply":["message","ff"],"words":[]}
+{"ask":["emit",0],"reply":["message","fd"],"words":[]}
+{"list":0}
+{"ask":["emit",0],"index":0,"node":1,"reply":["message","ff"],"words":[]}
+{"ask":["emit",1],"index":0,"node":0,"reply":["message","fe"],"words":[]}
+{"list":1}
+"#;
+
 // Texts behind a good first line, a trace's and an entry's, and the line of the whole that is bad.
 const BAD: &[(&str, u64)] = &[
     ("\n", 4),
@@ -60,6 +89,8 @@ const BAD: &[(&str, u64)] = &[
     ("{\"trace\":-1}", 4),
     ("{\"trace\":1.0}", 4),
     ("{\"list\":1}", 4),
+    ("{\"from\":1,\"trace\":0}", 4),
+    ("{\"from\":0,\"list\":0}", 4),
     ("{\"list\":\"0\"}", 4),
     ("{\"list\":0}\n{\"trace\":1}", 5),
     (
@@ -117,7 +148,7 @@ const BAD_FROM_THE_START: &[&str] = &[
     "",
     "\n",
     "{\"trace\":0}",
-    "{\"failreg\":\"drill\",\"version\":2}",
+    "{\"failreg\":\"drill\",\"version\":3}",
     "{\"failreg\":\"drills\",\"version\":1}",
     "{\"failreg\":\"drill\",\"version\":\"1\"}",
 ];
@@ -150,7 +181,11 @@ fn fault_of(alloc: Global, text: &str) -> Option<DrillFault> {
 }
 
 // Texts, and how each is written again.
-const FORMS: &[(&str, &str)] = &[(EVERY_FORM, EVERY_FORM), (TOLD_OTHERWISE, ONE_ENTRY)];
+const FORMS: &[(&str, &str)] = &[
+    (EVERY_FORM, EVERY_FORM),
+    (TOLD_OTHERWISE, ONE_ENTRY),
+    (IN_PIECES, WHOLE),
+];
 
 #[test]
 fn each_form_reads_back(rt: HostRuntime) -> Result<(), Fail> {

@@ -37,16 +37,22 @@ impl Registry {
     /// bytes, else the reply is 413.
     ///
     /// # Errors
-    /// [`Closed`](crate::ErrorKind::Closed) or [`Disabled`](crate::ErrorKind::Disabled). A request
-    /// that the node refuses is a [`Reply`], as 409 and `N6 NotSet`.
+    /// [`Closed`](crate::ErrorKind::Closed) or [`Disabled`](crate::ErrorKind::Disabled); with a
+    /// [`Recorder`](crate::Recorder) [`NotRecorded`](crate::ErrorKind::NotRecorded) or
+    /// [`RecordingFailed`](crate::ErrorKind::RecordingFailed). A request that the node refuses is a
+    /// [`Reply`], as 409 and `N6 NotSet`.
     pub fn answer(&self, method: &str, path: &str, body: &[u8]) -> Result<Reply, Error> {
         let mut state = self.lock();
+        if method != "GET" {
+            self.may_be_called(&mut state)?;
+        }
         let before = state.node.calls()?;
         let (status, told) = state.node.reply_to(method, path, body)?;
         let mut over = Vec::new();
         if state.node.calls()? > before {
-            state
-                .keep(|| receipts::of_request(method, path, body, &String::from_utf8_lossy(&told)));
+            self.keep(&mut state, |_| {
+                receipts::of_request(method, path, body, &String::from_utf8_lossy(&told))
+            })?;
             if changes_settings(path, &told) {
                 over = self.settings_changed(&mut state);
             }

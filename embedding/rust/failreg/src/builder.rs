@@ -1,13 +1,14 @@
 //! How a registry is made.
 
 use crate::error::{Error, ErrorKind};
+use crate::recorder::Recorder;
 use crate::registry::Registry;
 use std::fmt;
 use std::hash::{BuildHasher, Hasher, RandomState};
 use std::sync::Arc;
 
 /// What is done about a pass that `eval` or `fail_point!` made and that was refused: each time, but
-/// of a cap that is reached once. The point does nothing then.
+/// once where a cap is reached or a drill can't be written. The point does nothing then.
 #[derive(Clone, Default)]
 #[non_exhaustive]
 pub enum OnRefusal {
@@ -30,7 +31,9 @@ impl OnRefusal {
 
     pub(crate) fn meet(&self, error: &Error) {
         let rest = match error.kind() {
-            ErrorKind::CapReached => "; its failpoints do nothing from now on",
+            ErrorKind::CapReached | ErrorKind::NotRecorded | ErrorKind::RecordingFailed => {
+                "; its failpoints do nothing from now on"
+            }
             _ => "",
         };
         match self {
@@ -53,6 +56,17 @@ impl fmt::Debug for OnRefusal {
     }
 }
 
+/// What becomes of the calls that are accepted.
+#[derive(Clone, Debug)]
+pub(crate) enum Recording {
+    /// The node alone knows of them.
+    Off,
+    /// Their receipts are kept.
+    Kept,
+    /// They are written.
+    To(Recorder),
+}
+
 /// Makes a [`Registry`]: [`Registry::builder`] begins one.
 #[derive(Clone, Debug)]
 #[must_use = "a builder makes nothing before `build`"]
@@ -61,7 +75,7 @@ pub struct Builder {
     pub(crate) nodes: u8,
     pub(crate) cap: u64,
     pub(crate) seed: Option<[u8; 32]>,
-    pub(crate) is_recording: bool,
+    pub(crate) recording: Recording,
     pub(crate) on_refusal: OnRefusal,
 }
 
@@ -72,7 +86,7 @@ impl Default for Builder {
             nodes: 1,
             cap: Builder::MOST_CALLS,
             seed: None,
-            is_recording: false,
+            recording: Recording::Off,
             on_refusal: OnRefusal::default(),
         }
     }
@@ -109,10 +123,22 @@ impl Builder {
     }
 
     /// Whether to keep a receipt of each call that is accepted, for
-    /// [`write_drill`](crate::write_drill); else not.
+    /// [`write_drill`](crate::write_drill); else not. A program that runs for long has
+    /// [`recording_to`](Builder::recording_to), which keeps none.
     pub fn recording(self, is_recording: bool) -> Builder {
+        let recording = if is_recording {
+            Recording::Kept
+        } else {
+            Recording::Off
+        };
+        Builder { recording, ..self }
+    }
+
+    /// Writes each call that is accepted to a recorder's drill at once, and keeps none, in place of
+    /// what [`recording`](Builder::recording) says. All nodes of the cluster take the same recorder.
+    pub fn recording_to(self, recorder: &Recorder) -> Builder {
         Builder {
-            is_recording,
+            recording: Recording::To(recorder.clone()),
             ..self
         }
     }

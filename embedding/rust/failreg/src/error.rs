@@ -51,6 +51,13 @@ pub enum ErrorKind {
     BadPeer,
     /// A thread can't be started.
     NoThread,
+    /// The call was made, and its lines couldn't be written to the drill of its
+    /// [`Recorder`](crate::Recorder). No call is made there any more.
+    NotRecorded,
+    /// An earlier call couldn't be written to the drill, or its first lines couldn't.
+    RecordingFailed,
+    /// The drill of a recorder is of another cluster, or has the node already.
+    BadRecorder,
     /// The program was built without the feature `failpoints`.
     Disabled,
     /// The library answered what this crate doesn't know.
@@ -93,13 +100,20 @@ impl ErrorKind {
             ErrorKind::CantListen => "give one where nobody listens, or port 0 for a free one",
             ErrorKind::BadPeer => "name each other node of the cluster once, by its number",
             ErrorKind::NoThread => "let the process have more threads, or more memory",
+            ErrorKind::NotRecorded | ErrorKind::RecordingFailed => {
+                "see to where the drill goes, and open another cluster with a new recorder"
+            }
+            ErrorKind::BadRecorder => {
+                "give each cluster a recorder of its own, and each of its nodes once"
+            }
             ErrorKind::Disabled => "build it with the feature `failpoints` of the crate failreg",
             ErrorKind::Mismatch => "build the library and the crate from one tree",
         }
     }
 }
 
-/// Why a call is refused. Nothing has changed then.
+/// Why a call is refused. Nothing has changed then, unless it is
+/// [`NotRecorded`](ErrorKind::NotRecorded).
 #[derive(Clone, Debug, PartialEq, Eq)]
 pub struct Error {
     kind: ErrorKind,

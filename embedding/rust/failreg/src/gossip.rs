@@ -217,7 +217,13 @@ fn tell(registry: &Registry, peer: Peer, pace: &mut Pace) -> Result<Outcome, Err
 
 // Whether a node that answers so makes no message any more.
 fn is_end(error: &Error) -> bool {
-    matches!(error.kind(), ErrorKind::CapReached | ErrorKind::Closed)
+    matches!(
+        error.kind(),
+        ErrorKind::CapReached
+            | ErrorKind::Closed
+            | ErrorKind::NotRecorded
+            | ErrorKind::RecordingFailed
+    )
 }
 
 // Looks at each peer, and answers whether to go on.

@@ -48,6 +48,7 @@ mod passing;
 mod points;
 mod program;
 mod receipts;
+mod recorder;
 mod registry;
 mod serving;
 mod told;
@@ -63,6 +64,7 @@ pub use gossip::{Failure, Gossip, Peer, PeerNews, gossip};
 #[doc(hidden)]
 pub use points::Site;
 pub use program::{program, setup};
+pub use recorder::Recorder;
 pub use registry::{Registry, write_drill};
 pub use serving::{Serving, serve};
 pub use told::{Passed, Stamp, Task};

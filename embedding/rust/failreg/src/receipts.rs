@@ -7,11 +7,46 @@ use std::io::{self, Write};
 use std::thread::ThreadId;
 
 /// An accepted call as its caller was told of it. The ask and the reply are rows of JSON.
-pub struct Receipt {
-    pub caller: ThreadId,
+pub struct Call {
     pub ask: String,
+    /// What a pass drew.
     pub words: Vec<u32>,
     pub reply: String,
+}
+
+impl Call {
+    /// A call that draws nothing.
+    pub fn of(ask: String, reply: String) -> Call {
+        Call {
+            ask,
+            words: Vec::new(),
+            reply,
+        }
+    }
+
+    /// Its line in the trace of its node.
+    pub fn write_entry(&self, out: &mut impl Write) -> io::Result<()> {
+        let Call { ask, reply, .. } = self;
+        let words = row(&self.words);
+        writeln!(out, "{{\"ask\":{ask},\"reply\":{reply},\"words\":{words}}}")
+    }
+
+    /// Its line in a list of receipts: the node, and the place of its entry in that node's trace.
+    pub fn write_receipt(&self, node: u8, index: u64, out: &mut impl Write) -> io::Result<()> {
+        let Call { ask, reply, .. } = self;
+        let place = format!("\"index\":{index},\"node\":{node}");
+        let words = row(&self.words);
+        writeln!(
+            out,
+            "{{\"ask\":{ask},{place},\"reply\":{reply},\"words\":{words}}}"
+        )
+    }
+}
+
+/// A call, and who made it.
+pub struct Receipt {
+    pub caller: ThreadId,
+    pub call: Call,
 }
 
 /// The receipts of a node: the place in the list is the place of the call's entry in the trace.
@@ -26,6 +61,12 @@ impl Receipts {
             node,
             all: Vec::new(),
         }
+    }
+
+    /// Keeps the receipt of a call that this thread made.
+    pub fn keep(&mut self, call: Call) {
+        let caller = std::thread::current().id();
+        self.all.push(Receipt { caller, call });
     }
 
     /// The places of each caller's receipts; the caller whose call came first stands first.
@@ -167,7 +208,12 @@ pub mod reply {
 }
 
 /// What was asked by a request of HTTP that the node accepted as a call, and what it was told.
-pub fn of_request(method: &str, path: &str, body: &[u8], told: &str) -> (String, String) {
+pub fn of_request(method: &str, path: &str, body: &[u8], told: &str) -> Call {
+    let (ask, reply) = rows_of_request(method, path, body, told);
+    Call::of(ask, reply)
+}
+
+fn rows_of_request(method: &str, path: &str, body: &[u8], told: &str) -> (String, String) {
     let parts: Vec<&str> = path.split('/').skip(1).collect();
     let asked = String::from_utf8_lossy(body);
     match (method, parts.as_slice()) {
@@ -216,12 +262,10 @@ fn task(task: &Task) -> String {
 
 fn write_entries(receipts: &Receipts, out: &mut impl Write) -> io::Result<()> {
     writeln!(out, "{{\"trace\":{}}}", receipts.node)?;
-    for receipt in &receipts.all {
-        let Receipt { ask, reply, .. } = receipt;
-        let words = row(&receipt.words);
-        writeln!(out, "{{\"ask\":{ask},\"reply\":{reply},\"words\":{words}}}")?;
-    }
-    Ok(())
+    receipts
+        .all
+        .iter()
+        .try_for_each(|receipt| receipt.call.write_entry(out))
 }
 
 fn write_lists(receipts: &Receipts, next: &mut usize, out: &mut impl Write) -> io::Result<()> {
@@ -229,13 +273,8 @@ fn write_lists(receipts: &Receipts, next: &mut usize, out: &mut impl Write) -> i
         writeln!(out, "{{\"list\":{next}}}")?;
         *next += 1;
         for index in list {
-            let Receipt { ask, reply, .. } = &receipts.all[index];
-            let place = format!("\"index\":{index},\"node\":{}", receipts.node);
-            let words = row(&receipts.all[index].words);
-            writeln!(
-                out,
-                "{{\"ask\":{ask},{place},\"reply\":{reply},\"words\":{words}}}"
-            )?;
+            let call = &receipts.all[index].call;
+            call.write_receipt(receipts.node, index as u64, out)?;
         }
     }
     Ok(())

@@ -1,10 +1,11 @@
 //! A node that threads share.
 
-use crate::builder::Builder;
+use crate::builder::{Builder, Recording};
 use crate::error::{Error, ErrorKind};
 use crate::node::Node;
 use crate::points::{Shown, names_in};
-use crate::receipts::{self, Receipt, Receipts, ask, reply};
+use crate::receipts::{self, Call, Receipts, ask, reply};
+use crate::recorder::Recorder;
 use crate::told::{Passed, Stamp};
 use std::collections::{HashMap, HashSet};
 use std::fmt;
@@ -37,6 +38,8 @@ pub(crate) type Callback = Arc<dyn Fn() + Send + Sync>;
 /// What the lock of a registry guards.
 pub(crate) struct State {
     pub(crate) node: Node,
+    /// Its number in its cluster.
+    number: u8,
     /// No other node of the program has it.
     pub(crate) id: u64,
     /// The points that are set; nothing where memory for the list was refused, and the node is
@@ -44,12 +47,32 @@ pub(crate) struct State {
     names: Option<HashSet<String>>,
     /// What a pass of a point calls while it is set under the stamp.
     callbacks: HashMap<String, (Stamp, Callback)>,
-    receipts: Option<Receipts>,
+    kept: Kept,
     /// How often the lock was taken since the node forgot its calls: at least as often as it was
     /// called.
     turns: u32,
     /// Whether no setting changes any more.
     pub(crate) is_over: bool,
+}
+
+/// Where the calls go that the node accepts.
+enum Kept {
+    Nowhere,
+    Here(Receipts),
+    There(Recorder),
+}
+
+impl Kept {
+    fn of(made: &Builder) -> Result<Kept, Error> {
+        Ok(match &made.recording {
+            Recording::Off => Kept::Nowhere,
+            Recording::Kept => Kept::Here(Receipts::of(made.number)),
+            Recording::To(recorder) => {
+                recorder.open(made.number, made.nodes)?;
+                Kept::There(recorder.clone())
+            }
+        })
+    }
 }
 
 /// How many calls a node keeps at most, so that its memory doesn't grow with its passes.
@@ -65,10 +88,11 @@ impl State {
     fn of(made: &Builder) -> Result<State, Error> {
         Ok(State {
             node: Node::open(made.number, made.nodes, made.cap, &made.seed_of_this_run())?,
+            number: made.number,
             id: id_of_a_node(),
             names: Some(HashSet::new()),
             callbacks: HashMap::new(),
-            receipts: made.is_recording.then(|| Receipts::of(made.number)),
+            kept: Kept::of(made)?,
             turns: 0,
             is_over: false,
         })
@@ -87,22 +111,27 @@ impl State {
         (*since == stamp).then(|| run.clone())
     }
 
-    /// Keeps the receipt of a call that was accepted, what was asked and what was answered, where
-    /// receipts are kept.
-    pub(crate) fn keep(&mut self, receipt: impl FnOnce() -> (String, String)) {
-        if let Some(receipts) = &mut self.receipts {
-            let (ask, reply) = receipt();
-            receipts.all.push(Receipt {
-                caller: std::thread::current().id(),
-                ask,
-                words: Vec::new(),
-                reply,
-            });
+    // Keeps or writes a call that was accepted, where that is asked for.
+    fn keep(&mut self, call: impl FnOnce(&mut Node) -> Call) -> Result<(), Error> {
+        let State { node, kept, .. } = self;
+        match kept {
+            Kept::Nowhere => {}
+            Kept::Here(receipts) => receipts.keep(call(node)),
+            Kept::There(recorder) => recorder.write(self.number, &call(node))?,
+        }
+        Ok(())
+    }
+
+    // The receipts, where they are kept.
+    fn receipts(&self) -> Option<&Receipts> {
+        match &self.kept {
+            Kept::Here(receipts) => Some(receipts),
+            Kept::Nowhere | Kept::There(_) => None,
         }
     }
 
     /// Lets the node forget its calls every so many of them: nothing here reads them again, since
-    /// receipts have all that a drill needs.
+    /// what is recorded of them has all that a drill needs.
     fn forget_if_many(&mut self) {
         self.turns += 1;
         if self.turns >= MOST_KEPT {
@@ -196,7 +225,24 @@ impl Registry {
             .unwrap_or_else(|poisoned| poisoned.into_inner())
     }
 
-    // Makes a call that changes the node, and keeps its receipt.
+    // Makes a call that changes the node, and keeps or writes it as it is told.
+    fn make<T>(
+        &self,
+        state: &mut State,
+        make: impl FnOnce(&mut Node) -> Result<T, Error>,
+        told: impl FnOnce(&mut Node, &T) -> Call,
+    ) -> Result<T, Error> {
+        self.may_be_called(state)?;
+        let answer = make(&mut state.node);
+        match &answer {
+            Ok(value) => self.keep(state, |node| told(node, value))?,
+            Err(error) if error.kind() == ErrorKind::CapReached => self.end(state),
+            Err(_) => {}
+        }
+        answer
+    }
+
+    // The same of a call that draws nothing.
     fn call<T>(
         &self,
         state: &mut State,
@@ -204,13 +250,33 @@ impl Registry {
         make: impl FnOnce(&mut Node) -> Result<T, Error>,
         replied: impl FnOnce(&T) -> String,
     ) -> Result<T, Error> {
-        let answer = make(&mut state.node);
-        match &answer {
-            Ok(value) => state.keep(|| (asked(), replied(value))),
-            Err(error) if error.kind() == ErrorKind::CapReached => self.end(state),
-            Err(_) => {}
+        self.make(state, make, |_, value| Call::of(asked(), replied(value)))
+    }
+
+    /// Whether the node may be called: no call is made any more once one couldn't be written.
+    pub(crate) fn may_be_called(&self, state: &mut State) -> Result<(), Error> {
+        let goes_on = match &state.kept {
+            Kept::There(recorder) => recorder.goes_on(),
+            Kept::Nowhere | Kept::Here(_) => Ok(()),
+        };
+        if goes_on.is_err() {
+            self.end(state);
         }
-        answer
+        goes_on
+    }
+
+    /// Keeps or writes a call that was accepted, where that is asked for. Where it can't be written
+    /// no call is made any more.
+    pub(crate) fn keep(
+        &self,
+        state: &mut State,
+        call: impl FnOnce(&mut Node) -> Call,
+    ) -> Result<(), Error> {
+        let kept = state.keep(call);
+        if kept.is_err() {
+            self.end(state);
+        }
+        kept
     }
 
     // Makes a call that changes which points are set, and shows that.
@@ -324,7 +390,8 @@ impl Registry {
         if state.node.is_closed() {
             return Ok(());
         }
-        if self.made.nodes > 1 || self.made.is_recording {
+        let is_recording = !matches!(self.made.recording, Recording::Off);
+        if self.made.nodes > 1 || is_recording {
             let (removed, over) = self.remove_all(&mut state);
             drop(state);
             drop(over);
@@ -368,15 +435,11 @@ impl Registry {
         name: &str,
         make: impl FnOnce(&mut Node) -> Result<Passed, Error>,
     ) -> Result<Passed, Error> {
-        let passed = self.call(state, || ask::pass(name), make, reply::pass)?;
-        let State { node, receipts, .. } = state;
-        if let Some(receipt) = receipts
-            .as_mut()
-            .and_then(|receipts| receipts.all.last_mut())
-        {
-            receipt.words = node.words();
-        }
-        Ok(passed)
+        self.make(state, make, |node, passed| Call {
+            ask: ask::pass(name),
+            words: node.words(),
+            reply: reply::pass(passed),
+        })
     }
 
     /// Whether a point is set. That is no pass.
@@ -512,8 +575,8 @@ impl fmt::Debug for Registry {
 }
 
 /// Writes what the nodes of a cluster did and told their callers as a drill, which `failreg audit`
-/// reads: all nodes, in the order of their numbers, each of them recording since it was opened. The
-/// trace of a node is put together from its receipts.
+/// reads: all nodes, in the order of their numbers, each of them recording since it was opened
+/// ([`Builder::recording`]). The trace of a node is put together from its receipts.
 pub fn write_drill(registries: &[&Registry], out: &mut impl Write) -> io::Result<()> {
     let nodes = registries.len();
     let in_order =
@@ -524,7 +587,7 @@ pub fn write_drill(registries: &[&Registry], out: &mut impl Write) -> io::Result
         ));
     }
     let states: Vec<_> = registries.iter().map(|registry| registry.lock()).collect();
-    let recorded: Option<Vec<_>> = states.iter().map(|state| state.receipts.as_ref()).collect();
+    let recorded: Option<Vec<_>> = states.iter().map(|state| state.receipts()).collect();
     match recorded {
         Some(recorded) => receipts::write(&recorded, out),
         None => Err(not_a_cluster("a drill takes nodes that are recording")),

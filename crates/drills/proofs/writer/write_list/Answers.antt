@@ -1,4 +1,4 @@
-use Rattle.std.proofs.Common.{[], ◌∷◌, map, sym, ap, ◌∙◌}
+use Rattle.std.proofs.Common.{[], ◌∷◌, map, None, sym, ap, ◌∙◌}
 use Rattle.std.specs.String.{string_bytes}
 use Rattle.std.proofs.lemmas.List.{take_all}
 use Rattle.streams.specs.Watched.{has_failed, inner_of}
@@ -39,8 +39,8 @@ returns-clause-ok g c =
     let new = contents (inner_of c.loop-receipt.writer) in
     let all = take_all c.loop-receipt.receipt-index c.deref-receipt-items.result.now c.loop-receipt-test.false ∙
     c.deref-receipt-items.ensures.value in
-    both old mid new (list c.args.number ∷ []) _ (list c.args.number ∷
+    both old mid new (list c.args.number None ∷ []) _ (list c.args.number None ∷
     map receipt (map receipt_told c.args.list.now.items))
-    (one_line old mid (string_bytes c.in_ok-list_text.field-0) (list c.args.number) c.in_ok-list_text.ensures
+    (one_line old mid (string_bytes c.in_ok-list_text.field-0) (list c.args.number None) c.in_ok-list_text.ensures
     c.in_ok-write_line.ensures.ok)
-    c.loop-receipt.invariant.holds (ap (λ xs. list c.args.number ∷ map receipt (map receipt_told xs)) (sym all))
+    c.loop-receipt.invariant.holds (ap (λ xs. list c.args.number None ∷ map receipt (map receipt_told xs)) (sym all))

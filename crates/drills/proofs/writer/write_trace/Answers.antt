@@ -1,4 +1,4 @@
-use Rattle.std.proofs.Common.{[], ◌∷◌, map, sym, ap, ◌∙◌, option_map}
+use Rattle.std.proofs.Common.{[], ◌∷◌, map, None, sym, ap, ◌∙◌, option_map}
 use Rattle.std.specs.String.{string_bytes}
 use Rattle.std.proofs.lemmas.List.{take_all}
 use Rattle.streams.specs.Watched.{has_failed, inner_of}
@@ -47,7 +47,7 @@ returns-clause-ok g c =
     let mid = contents (inner_of c.write_line.new.writer) in
     let new = contents (inner_of c.loop-index.writer) in
     let all = take_all c.loop-index.index calls (rw c.len-index-end.ensures at c.loop-index-test.false) in
-    both old mid new (trace c.args.node ∷ []) _ (trace c.args.node ∷ map entry calls)
-    (one_line old mid (string_bytes c.in_ok-trace_text.field-0) (trace c.args.node) c.in_ok-trace_text.ensures
+    both old mid new (trace c.args.node None ∷ []) _ (trace c.args.node None ∷ map entry calls)
+    (one_line old mid (string_bytes c.in_ok-trace_text.field-0) (trace c.args.node None) c.in_ok-trace_text.ensures
     c.in_ok-write_line.ensures.ok)
-    c.loop-index.invariant.holds (ap (λ xs. trace c.args.node ∷ map entry xs) (sym all))
+    c.loop-index.invariant.holds (ap (λ xs. trace c.args.node None ∷ map entry xs) (sym all))
