@@ -1,14 +1,22 @@
--- How many calls a round of gossip makes.
-use Rattle.std.proofs.Common.{◌≡◌, ◌≤◌, ℕ, suc, ◌+◌, ◌*◌, Bool, true, false, cond, not, List, [], ◌∷◌, length, map, refl, ap, subst, add-mul, arith}
-use Rattle.std.specs.List.{count_by, filter}
-use Rattle.std.proofs.lemmas.List.{append-nil, length-map}
+-- How many calls a round of gossip makes, and whom it tells.
+use Rattle.std.proofs.Common.{◌≡◌, ◌≤◌, ℕ, suc, ◌+◌, ◌*◌, ◌==◌, Bool, true, false, cond, not, ◌&&◌, List, [], ◌∷◌, ◌++◌, length, map, refl, ap, ◌∙◌, add-mul, arith}
+use Rattle.std.specs.List.{count_by, filter, list_any, range_with_len}
+use Rattle.std.proofs.lemmas.List.{append-nil, length-map, map-append}
+use Rattle.std.proofs.lemmas.List.Elements.{filter-append}
 use Rattle.std.proofs.lemmas.List.Sums.{sum_by-cons}
 use Rattle.node_core.specs.declared.config.Config.{Config}
 use Rattle.node_calls.specs.Asks.{Asked, bare_emit}
+use Rattle.command_line.specs.declared.peers.NamedPeer.{NamedPeer}
+use Rattle.gossip.specs.declared.news.Pace.{Pace}
+use Rattle.gossip.specs.declared.report.Ended.{Ended}
+use Rattle.gossip.specs.declared.report.Ended.TheVariants.{Done, OutOfMemory}
 use Rattle.gossip.specs.declared.report.GossipReport.{GossipReport}
+use Rattle.gossip.specs.NewsRounds.{IsNewsBroken, IsNewsRound}
 use Rattle.gossip.specs.Parts.{IsPartOf, none, kept, left_out}
-use Rattle.gossip.specs.Reports.{IsTold, asked_in, asks_in, calls_of, emits_below, emits_of_rounds, is_delivery, is_emit, others_below, own_asks_in}
-use Rattle.node_service.specs.Rounds.{most_calls}
+use Rattle.gossip.specs.Reports.{IsTold, asked_in, asks_in, calls_of, is_delivery, is_emit, own_asks_in}
+use Rattle.gossip.specs.Traffic.{Traffic}
+use Rattle.gossip.proofs.RangeLemmas.{but, length_but, range_split}
+use Rattle.node_service.specs.Rounds.{first_pace, is_told, most_peers, told_below}
 
 are_emits : List Asked → Type 0
 are_emits [] = Unit {0}
@@ -41,23 +49,78 @@ made_or_taken (a ∷ rest) h =
     (one_more a (is_delivery a) (filter (λ x. not (is_delivery x)) rest) (length rest) (count_by is_emit rest)
     (count_by is_delivery rest) h (made_or_taken rest))
 
-of_one_round : (config : Config) → emits_of_rounds config 1 ≡ emits_below config config.nodes
-of_one_round config = append-nil (emits_below config config.nodes)
-
--- the calls of one round, of a seat that had made so many
-pub calls_of_a_round : (config : Config) (seed : List ℕ) (was now : ℕ) (r : GossipReport) →
-    IsTold config seed was now r →
-    IsPartOf (own_asks_in config r.receipts.items) (emits_of_rounds config 1) →
-    calls_of r ≤ length (emits_of_rounds config 1) + 1 * 64 → now ≤ was + most_calls config
-calls_of_a_round config seed was now r told part few =
-    let own = some_emits (subst (λ l. IsPartOf (own_asks_in config r.receipts.items) l) (of_one_round config) part)
-    (all_emits (others_below config config.nodes)) in
-    let all = made_or_taken (asks_in config r.receipts.items) own in
+-- the calls of a round that made messages to these nodes at most, of a seat that had made so many
+of_emits : (config : Config) (seed : List ℕ) (was now most : ℕ) (r : GossipReport) → IsTold config seed was now r →
+    (tos : List ℕ) → IsPartOf (own_asks_in config r.receipts.items) (map bare_emit tos) → calls_of r ≤ most →
+    now ≤ was + most
+of_emits config seed was now most r told tos part few =
+    let all = made_or_taken (asks_in config r.receipts.items) (some_emits part (all_emits tos)) in
     let long = length-map r.receipts.items (asked_in config) in
-    let round = ap length (of_one_round config) in
-    omega (arith, told.counted, told.emitted, told.delivered, all, long, round, few)
+    omega (arith, told.counted, told.emitted, told.delivered, all, long, few)
+
+-- those of a round of news
+pub calls_of_a_round : (config : Config) (seed : List ℕ) (says : ℕ → Bool → Type 0) (since was now most : ℕ)
+    (before after : Traffic) (ps qs : List Pace) (r : GossipReport) → IsTold config seed was now r →
+    (r.ended ≡ Done → IsNewsRound config seed since says before after ps qs r) →
+    (r.ended ≡ OutOfMemory → IsNewsBroken config seed since says before after ps qs r) →
+    calls_of r ≤ length ps + 64 → length ps ≤ most → now ≤ was + (most + 64)
+calls_of_a_round config seed says since was now most before after ps qs r told round broken few peers =
+    let made = by_end r.ended refl in
+    of_emits config seed was now (most + 64) r told made.0 made.1 (omega (arith, few, peers))
+  where
+    by_end : (ended : Ended) → r.ended ≡ ended →
+        (tos : List ℕ) × IsPartOf (own_asks_in config r.receipts.items) (map bare_emit tos)
+    by_end Done is = let p = round is in (p.tos, p.asks)
+    by_end OutOfMemory is = let p = broken is in (p.tos ++ p.next, p.asks)
 
 -- rounds of so many calls at most, and one more
 pub after_a_round : (start was now round most : ℕ) → was ≤ start + round * most → now ≤ was + most →
     now ≤ start + (round + 1) * most
 after_a_round start was now round most before more = omega (arith, before, more, add-mul round 1 most)
+
+-- ---- who is told
+
+told_more : (node n : ℕ) (named : List NamedPeer) →
+    told_below node (n + 1) named ≡ told_below node n named ++ cond (is_told node named n) (n ∷ []) []
+told_more node n named =
+    let p = is_told node named in
+    let b : 0 + n ≡ n = omega arith in
+    ap (filter p) (range_split 0 n 1) ∙ filter-append p (range_with_len 0 n) (range_with_len (0 + n) 1)
+    ∙ ap (λ k. filter p (range_with_len 0 n) ++ cond (p k) (k ∷ []) []) b
+
+-- one more, which is told, or isn't
+pub one_more_told : (node n : ℕ) (named : List NamedPeer) → is_told node named n ≡ true →
+    map first_pace (told_below node (n + 1) named) ≡ map first_pace (told_below node n named) ++ first_pace n ∷ []
+one_more_told node n named is =
+    ap (map first_pace) (told_more node n named ∙ ap (λ b. told_below node n named ++ cond b (n ∷ []) []) is)
+    ∙ map-append first_pace (told_below node n named) (n ∷ [])
+
+pub no_more_told : (node n : ℕ) (named : List NamedPeer) → is_told node named n ≡ false →
+    map first_pace (told_below node (n + 1) named) ≡ map first_pace (told_below node n named)
+no_more_told node n named is =
+    ap (map first_pace) (told_more node n named ∙ ap (λ b. told_below node n named ++ cond b (n ∷ []) []) is
+    ∙ append-nil (told_below node n named))
+
+fewer : (p q : ℕ → Bool) (xs : List ℕ) → length (filter (λ k. p k && q k) xs) ≤ length (filter p xs)
+fewer p q [] = omega arith
+fewer p q (x ∷ xs) = step (p x) (q x) (fewer p q xs)
+  where
+    step : (a b : Bool) → length (filter (λ k. p k && q k) xs) ≤ length (filter p xs) →
+        length (cond (a && b) (x ∷ filter (λ k. p k && q k) xs) (filter (λ k. p k && q k) xs)) ≤
+        length (cond a (x ∷ filter p xs) (filter p xs))
+    step true true h = omega (arith, h)
+    step true false h = omega (arith, h)
+    step false b h = h
+
+-- they are at most all other nodes, and at most all nodes
+pub few_told : (config : Config) (named : List NamedPeer) →
+    (length (map first_pace (told_below config.node config.nodes named)) ≤ most_peers config)
+    × (length (map first_pace (told_below config.node config.nodes named)) ≤ config.nodes)
+few_told config named =
+    let told = told_below config.node config.nodes named in
+    let some = fewer (λ k. not (k == config.node)) (λ k. list_any (λ peer. peer.node == k) named)
+    (range_with_len 0 config.nodes) in
+    let long = length-map told first_pace in
+    let others = length_but (λ k. k) config.node config.nodes in
+    let same = length-map (but config.node config.nodes) (λ k. k) in
+    (omega (arith, some, long), omega (arith, some, long, others, same))

@@ -1,8 +1,9 @@
 //! A node that is served, and its gossip beside it.
 
-ghost use Rattle.std.specs.Prelude.{◌≡◌, ◌≤◌, ◌+◌, ◌*◌, ◌⊎◌, false, length, map, IfOk, IfErr};
+ghost use Rattle.std.specs.Prelude.{◌≡◌, ◌≤◌, ◌<◌, ◌^◌, ◌+◌, ◌*◌, ◌⊎◌, false, length, map, IfOk, IfErr};
 ghost use Rattle.http_serve.specs.declared.fault.ServeFault.TheVariants.{AcceptFailed, OutOfMemory};
-ghost use Rattle.node_service.specs.Rounds.{first_pace, most_calls, most_peers, peer_of, told_below};
+ghost use Rattle.node_service.specs.Rounds.{first_pace, is_told, most_calls, most_peers, peer_of};
+ghost use Rattle.node_service.specs.Rounds.{told_below};
 
 use crate::host::Host;
 use command_line::{GossipOptions, NamedPeer};
@@ -82,8 +83,14 @@ fn wire_to<R: Host>(rt: &R, named: &[NamedPeer]) -> Result<HttpWire<R>, WireErro
     HttpWire::new(*rt, peers)
 }
 
-// When each node is told that has a peer, of those with numbers below `nodes`. The node itself isn't
-// told, though a peer may have its number.
+// Whether another node is told: it has a peer, and isn't the node itself.
+fn is_told(node: u8, named: &[NamedPeer], other: u8) -> bool
+    ensures { result ≡ is_told node named.now other }
+{
+    other != node && named.iter().any(|peer| peer.node == other)
+}
+
+// When each of the nodes with numbers below `nodes` is told that is told at all.
 fn paces_of(
     alloc: Global,
     node: u8,
@@ -94,7 +101,7 @@ fn paces_of(
 {
     let mut paces = Vec::new(alloc);
     for other in 0..nodes {
-        if other != node && named.iter().any(|peer| peer.node == other) {
+        if is_told(node, named, other) {
             paces.push(Pace::new(other))?;
         }
     }
@@ -116,7 +123,8 @@ where
     L: Label,
     R: Wait + AllocGlobal,
     W: Reach,
-    requires { length paces.old ≤ most_peers L.config }
+    requires peers { length paces.old ≤ most_peers L.config }
+    requires few { length paces.old < 2 ^ 8 }
     ensures { seat.new ≤ seat.old + telling.now.rounds * most_calls L.config }
 {
     for round in 0..telling.rounds {

@@ -5,8 +5,8 @@ use Rattle.thread_scripts.proofs.nodes.run_registry.Goals as goal
 
 pub returns-clause-trace : goal.returns-clause-trace
 returns-clause-trace g c =
-    let closed = c.close-trace.ensures in
-    rw (c.requires.config, c.requires.seed) record { legal = closed.legal; drawn = closed.drawn }
+    let all = c.close-trace.ensures.all c.requires.keeps in
+    rw (c.requires.config, c.requires.seed) record { legal = all.legal; drawn = all.drawn }
 
 pub returns-clause-lists : goal.returns-clause-lists
 returns-clause-lists g c =
