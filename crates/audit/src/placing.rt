@@ -46,7 +46,7 @@ fn next_ready<'a>(board: &Board<'a>, traces: &'a [Trace], node: usize) -> Option
 {
     let trace = &traces[node];
     let index = board.positions[node];
-    let Some(entry) = call_at(trace, u64::from(index)) else {
+    let Some(entry) = call_at(trace, index as u64) else {
         return None;
     };
     if let Some(bytes) = delivered(entry) {

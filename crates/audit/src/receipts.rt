@@ -189,10 +189,10 @@ fn first_late(receipts: &[Receipt]) -> Option<usize>
     ensures least { IfSome result (λ p. (k : ℕ) → k < p → IsLate receipts.now k → ⊥) }
     ensures none { IfNone result (Ascends receipts.now) }
 {
-    let mut next = [0u64; 256];
+    let mut next = [0u128; 256];
     for (place, receipt) in receipts.iter().enumerate() {
         let node = receipt.node as usize;
-        let index = receipt.index;
+        let index = receipt.index as u128;
         if index < next[node] {
             return Some(place);
         }

@@ -124,6 +124,9 @@ fn gives(alloc: Global, core: &mut NodeCore, seen: Seen<'_>) -> Result<bool, Nod
     }
 }
 
+// The greatest cap that a script says, which a drill's node may have had.
+const MOST_CALLS: u64 = 4_294_967_295;
+
 // The index of the first entry of a trace that a node doesn't give, if there is one; the tally notes
 // those that it gives. The traces of a drill have fewer than 2^32 calls.
 fn first_wrong(
@@ -180,7 +183,7 @@ pub(crate) fn least_wrong(
         let config = Config {
             node,
             nodes,
-            trace_cap: u64::from(u32::MAX),
+            trace_cap: MOST_CALLS,
         };
         if let Some(index) = first_wrong(alloc, config, &traces[node as usize], tally)? {
             return Ok(Some((node, index)));

@@ -96,7 +96,7 @@ fn jobs_of(alloc: Global, plan: &ThreadPlan<'_>) -> Result<Vec<NodeJob>, AllocEr
         let config = Config {
             node: jobs.len() as u8,
             nodes,
-            trace_cap: u64::from(plan.size.trace_cap),
+            trace_cap: plan.size.trace_cap as u64,
         };
         let gossip = gossip_over(wire, plan.gossip);
         jobs.push_reserved(NodeJob { config, gossip });
