@@ -16,6 +16,7 @@ ghost use Rattle.failreg.specs.Recordings.{SaysVerdict};
 ghost use Rattle.failreg.specs.Statuses.{HasStatus, OnStatus};
 
 mod auditing;
+mod explaining;
 mod finish;
 mod met;
 mod recording;
@@ -26,6 +27,7 @@ use actions::parse_actions;
 use auditing::audit_file;
 use command_line::{Invocation, ServeOptions, SimOptions, quoted, read_command_line};
 use drills::DrillFault;
+use explaining::explain_codes;
 use finish::{
     finish_audit, finish_checked, finish_parse, finish_script, finish_serve, finish_unread,
     finish_unreadable, refuse,
@@ -74,6 +76,7 @@ fn main(rt: HostRuntime) -> anyhow::Result<ExitCode> {
         },
         Ok(Invocation::Audit(path)) => audit(&rt, path, &mut writer),
         Ok(Invocation::Serve(options)) => serve(&rt, options),
+        Ok(Invocation::Explain(text)) => explain_codes(&rt, &text, &mut writer, &mut errors),
         Err(error) => finish_unread(&rt, &error),
     }
 }
