@@ -1,1 +1,2 @@
 mod PeerLemmas
+mod WordLemmas

@@ -1,3 +1,4 @@
 pub mod Peers
 pub mod Help
 pub mod Quoted
+pub mod Words

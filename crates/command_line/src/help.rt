@@ -289,3 +289,25 @@ Example:
   $ failreg serve --node 0 --nodes 2 --port 17070 --requests 0
   listening 17070
   served 0";
+
+/// Behind the short help of `explain`.
+pub const EXPLAIN_SHORT: &str =
+    "`failreg explain --help` has an example; `failreg explain` lists all codes.";
+
+/// Behind the help of `explain`.
+pub const EXPLAIN: &str = "\
+Of each word of the text that is a code it says what is refused, why, and what
+to do; so a whole refusal may be given, in quotes or not. Without a text all
+codes are listed, a line each. docs/refusals.md has the same in tables, and says
+in which order a call is tested.
+
+The status is 0. It is 2 where no word of the text is a code: standard error
+then says which codes there are. It is 1 where the output can't be written.
+
+Example:
+  $ failreg explain refused N6 NotSet
+  N6 NotSet
+    Of a node
+    Refused are: `shift`, `grant`
+    Because: the point isn't set at this node
+    What to do: set it here, or deliver a message of a node that knows it";

@@ -11,6 +11,7 @@ mod peers;
 mod quoting;
 mod reading;
 mod subcommands;
+mod words;
 
 pub use peers::{NamedPeer, PeerFault, PeersFault, read_peer, read_peers};
 pub use quoting::quoted;

@@ -4,6 +4,7 @@ use crate::help;
 use crate::help::{Extent, extent_of};
 use crate::peers::{NamedPeer, PeersFault, read_peers};
 use crate::subcommands::{SUBCOMMANDS, Subcommand};
+use crate::words::text_of;
 use clap::error::ErrorKind;
 use clap::{ArgMatches, Command, Error};
 use std::alloc::{AllocError, Global};
@@ -24,6 +25,8 @@ pub enum Invocation<'a> {
     Audit(&'a str),
     /// To serve a node over HTTP.
     Serve(ServeOptions<'a>),
+    /// To say what the codes in a text mean, or, without one, to list all codes.
+    Explain(Option<String>),
 }
 
 /// How a script is run.
@@ -153,6 +156,9 @@ fn read_matches<'a>(alloc: Global, matches: &ArgMatches<'a>) -> Result<Invocatio
         }),
         Subcommand::Audit => Invocation::Audit(matches.get_str("file").unwrap_or("")),
         Subcommand::Serve => Invocation::Serve(serve_options(alloc, matches)?),
+        Subcommand::Explain => {
+            Invocation::Explain(text_of(alloc, matches.get_strs("text").unwrap_or(&[]))?)
+        }
     })
 }
 

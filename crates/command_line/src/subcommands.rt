@@ -245,6 +245,18 @@ const SERVE: &[Argument] = &[
     },
 ];
 
+const EXPLAIN: &[Argument] = &[Argument {
+    name: "text",
+    by_name: false,
+    value: "text",
+    help: "A code, as `N7`, or a text with codes, as `refused N6 NotSet`",
+    required: false,
+    default: &[],
+    values: (0, usize::MAX),
+    most: None,
+    takes_hyphens: false,
+}];
+
 /// A subcommand of the program.
 #[derive(Clone, Copy, Drop)]
 pub enum Subcommand {
@@ -253,15 +265,17 @@ pub enum Subcommand {
     Threads,
     Audit,
     Serve,
+    Explain,
 }
 
 /// In the order in which the help has them.
-pub const SUBCOMMANDS: [Subcommand; 5] = [
+pub const SUBCOMMANDS: [Subcommand; 6] = [
     Subcommand::Parse,
     Subcommand::Sim,
     Subcommand::Threads,
     Subcommand::Audit,
     Subcommand::Serve,
+    Subcommand::Explain,
 ];
 
 impl Subcommand {
@@ -279,6 +293,7 @@ impl Subcommand {
             Subcommand::Threads => "threads",
             Subcommand::Audit => "audit",
             Subcommand::Serve => "serve",
+            Subcommand::Explain => "explain",
         }
     }
 
@@ -291,6 +306,7 @@ impl Subcommand {
                 "Runs the script on standard input with workers in threads, and counts their calls",
             Subcommand::Audit => "Audits a drill that `threads --record` kept",
             Subcommand::Serve => "Serves a node over HTTP on 127.0.0.1",
+            Subcommand::Explain => "Says what codes of refusals mean, and what to do",
         }
     }
 
@@ -302,6 +318,7 @@ impl Subcommand {
             Subcommand::Threads => extent.pick(help::THREADS_SHORT, help::THREADS),
             Subcommand::Audit => extent.pick(help::AUDIT_SHORT, help::AUDIT),
             Subcommand::Serve => extent.pick(help::SERVE_SHORT, help::SERVE),
+            Subcommand::Explain => extent.pick(help::EXPLAIN_SHORT, help::EXPLAIN),
         }
     }
 
@@ -313,6 +330,7 @@ impl Subcommand {
             Subcommand::Threads => THREADS,
             Subcommand::Audit => AUDIT,
             Subcommand::Serve => SERVE,
+            Subcommand::Explain => EXPLAIN,
         }
     }
 

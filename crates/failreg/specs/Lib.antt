@@ -1,3 +1,4 @@
 pub mod Statuses
 pub mod Recordings
 pub mod ShortLines
+pub mod Explaining

@@ -16,22 +16,24 @@ ghost use Rattle.thread_scripts.specs.Outputs.{PlaysTo};
 ghost use Rattle.failreg.specs.Recordings.{SaysVerdict};
 ghost use Rattle.failreg.specs.Statuses.{HasStatus, OnStatus};
 
+mod advice;
 mod auditing;
+mod explaining;
 mod finish;
-mod met;
 mod recording;
 mod short_lines;
 mod standard;
 
 use actions::parse_actions;
+use advice::{advice_on_parse, advice_on_service, is_missing};
 use auditing::audit_file;
 use command_line::{Invocation, ServeOptions, SimOptions, quoted, read_command_line};
 use drills::DrillFault;
+use explaining::explain_codes;
 use finish::{
     finish_audit, finish_checked, finish_parse, finish_script, finish_serve, finish_unread,
     finish_unreadable, refuse,
 };
-use met::{is_missing, met_by_parse, met_by_service};
 use node_service::serve_node;
 use recording::{is_kept, run_recorded};
 use scripts::{
@@ -75,6 +77,7 @@ fn main(rt: HostRuntime) -> anyhow::Result<ExitCode> {
         },
         Ok(Invocation::Audit(path)) => audit(&rt, path, &mut writer),
         Ok(Invocation::Serve(options)) => serve(&rt, options),
+        Ok(Invocation::Explain(text)) => explain_codes(&rt, &text, &mut writer, &mut errors),
         Err(error) => finish_unread(&rt, &error),
     }
 }
@@ -86,8 +89,8 @@ fn parse<R: Print + Eprint + AllocGlobal>(rt: &R, text: &str) -> anyhow::Result<
     ensures status { IfOk result (λ code. (exit_status code ≡ 0) ⊎ (exit_status code ≡ 1)) }
 {
     let actions = parse_actions(rt.alloc(), text);
-    let met = met_by_parse(rt.alloc(), text, &actions);
-    finish_parse(rt, actions, &met)
+    let advice = advice_on_parse(rt.alloc(), text, &actions);
+    finish_parse(rt, actions, &advice)
 }
 
 // Runs the script that a reader gives, and may echo its lines and say which go wrong.
@@ -258,6 +261,6 @@ where
     }
     let (node, nodes, port) = (options.node, options.nodes, options.port);
     let served = serve_node(rt, options);
-    let met = met_by_service(rt.alloc(), node, nodes, port, &served);
-    finish_serve(rt, served, &met)
+    let advice = advice_on_service(rt.alloc(), node, nodes, port, &served);
+    finish_serve(rt, served, &advice)
 }

@@ -1,4 +1,4 @@
-//! What a refusal met, in words, for its second line.
+//! What a refusal met and what to do, in words, for its second line.
 
 use actions::{ActionFault, Actions};
 use command_line::quoted;
@@ -52,7 +52,7 @@ fn refused_part(text: &str, fault: ActionFault) -> &str {
     }
 }
 
-fn met_in_text(alloc: Global, text: &str, fault: ActionFault) -> Result<String, AllocError> {
+fn advice_on_fault(alloc: Global, text: &str, fault: ActionFault) -> Result<String, AllocError> {
     let part = quoted(alloc, refused_part(text, fault))?;
     let wrong = wrong_with(fault);
     format!(in alloc; "{part} {wrong}")
@@ -60,23 +60,23 @@ fn met_in_text(alloc: Global, text: &str, fault: ActionFault) -> Result<String, 
 
 /// What of an action text is refused, and what to write, if it is. Without memory for it there is
 /// none.
-pub fn met_by_parse(alloc: Global, text: &str, read: &Result<Actions, ActionFault>) -> String {
+pub fn advice_on_parse(alloc: Global, text: &str, read: &Result<Actions, ActionFault>) -> String {
     let Err(fault) = read else {
         return String::new(alloc);
     };
-    met_in_text(alloc, text, *fault).unwrap_or(String::new(alloc))
+    advice_on_fault(alloc, text, *fault).unwrap_or(String::new(alloc))
 }
 
 /// Which node or port a service was refused for, and what to do, if it was. Without memory for it
 /// there is none.
-pub fn met_by_service(
+pub fn advice_on_service(
     alloc: Global,
     node: u8,
     nodes: u8,
     port: u16,
     served: &Result<u32, ServiceFault>,
 ) -> String {
-    let met = match served {
+    let advice = match served {
         Err(ServiceFault::Node(NodeFault::BadConfig)) => {
             format!(in alloc; "node {node} of {nodes}: nodes count from 0, and there are 1 to 32")
         }
@@ -90,7 +90,7 @@ pub fn met_by_service(
         }
         Err(_) | Ok(_) => return String::new(alloc),
     };
-    met.unwrap_or(String::new(alloc))
+    advice.unwrap_or(String::new(alloc))
 }
 
 /// Whether no file has this path.
