@@ -38,7 +38,9 @@ fn pass(node: &Registry, passes: u64) -> Result<u64, failreg::Error> {
         Ok(ran)
     };
     std::thread::scope(|scope| {
-        let all: Vec<_> = (0..THREADS).map(|n| scope.spawn(move || worker(n))).collect();
+        let all: Vec<_> = (0..THREADS)
+            .map(|n| scope.spawn(move || worker(n)))
+            .collect();
         all.into_iter()
             .map(|one| one.join().expect("a worker panicked"))
             .sum()

@@ -271,7 +271,10 @@ mod tests {
     #[test]
     fn variables_that_are_not_set_have_values() {
         let all = wanted(&[]).unwrap();
-        assert_eq!((all.number, all.nodes, all.cap), (0, 1, Builder::MOST_CALLS));
+        assert_eq!(
+            (all.number, all.nodes, all.cap),
+            (0, 1, Builder::MOST_CALLS)
+        );
         assert_eq!(all.record, None);
     }
 
@@ -283,7 +286,10 @@ mod tests {
         };
         assert_eq!(read("1/3", "500"), (1, 3, 500));
         assert_eq!(read("31/32", "0"), (31, 32, 0));
-        assert_eq!(read("0/1", "72057594037927935"), (0, 1, Builder::MOST_CALLS));
+        assert_eq!(
+            read("0/1", "72057594037927935"),
+            (0, 1, Builder::MOST_CALLS)
+        );
     }
 
     #[test]
