@@ -1,13 +1,17 @@
-use Rattle.std.proofs.Common.{Some, ap, sym, ◌∙◌}
+use Rattle.std.proofs.Common.{Some, List, [], ◌∷◌, ◌++◌, ap, sym, ◌∙◌}
+use Rattle.http_wire.specs.declared.posting.Posted.{Posted}
 use Rattle.http_wire.proofs.wire.HttpWireWire.send.Goals as goal
 
 pub returns-clause-posted : goal.returns-clause-posted
 returns-clause-posted g c =
     let posted = c.in_ok-posted.ensures in
+    let to = posted.to ∙ c.in_ok-connection.ensures.ok in
     record {
       last = c.in_ok-posted.posted;
-      more = c.add.ensures;
-      node = ap (λ p. p.node) posted.to;
-      port = sym c.port_of.ensures ∙ c.in-Some.is ∙ ap (λ p. Some p.port) (sym posted.to);
+      more = c.add.ensures
+          ∙ ap (λ (items : List Posted). items ++ c.in_ok-posted.posted ∷ [])
+          (ap (λ sent. sent.items) c.connection_to.ensures.stays.1);
+      node = ap (λ p. p.node) to;
+      port = sym c.port_of.ensures ∙ c.in-Some.is ∙ ap (λ p. Some p.port) (sym to);
       posts = posted.posts;
     }
