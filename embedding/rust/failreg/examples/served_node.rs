@@ -26,7 +26,10 @@ struct Wanted {
 
 fn peer(word: &str) -> Result<Peer, Box<dyn Error>> {
     let (node, port) = word.split_once(':').ok_or("a peer is N:PORT")?;
-    Ok(Peer::new(node.parse()?, (Ipv4Addr::LOCALHOST, port.parse()?)))
+    Ok(Peer::new(
+        node.parse()?,
+        (Ipv4Addr::LOCALHOST, port.parse()?),
+    ))
 }
 
 fn wanted(mut words: impl Iterator<Item = String>) -> Result<Wanted, Box<dyn Error>> {

@@ -5,11 +5,12 @@ use crate::error::{Error, ErrorKind};
 use crate::fail_rs::has_failpoints;
 use crate::gossip::{Gossip, Peer, gossip, others};
 use crate::program::first;
-use crate::registry::{Registry, write_drill};
+use crate::recorder::Recorder;
+use crate::registry::Registry;
 use crate::serving::{Serving, listen, serve_at};
 use std::ffi::{OsStr, OsString};
 use std::fs::File;
-use std::io::{self, BufWriter};
+use std::io;
 use std::net::{Ipv4Addr, SocketAddr};
 use std::ops::Deref;
 use std::path::Path;
@@ -40,7 +41,7 @@ const EVERY: Duration = Duration::from_millis(100);
 /// | `FAILREG_NODE` | the node's number and how many nodes the cluster has, as `1/3` | `0/1` |
 /// | `FAILREG_CAP` | how many calls the node accepts in its life | 72057594037927935 |
 /// | `FAILPOINTS` | the points to begin with, as `name=actions;name=actions` | none |
-/// | `FAILREG_RECORD` | the path for a drill, written when the value is dropped; there is no file yet. It takes a cluster of one node | no drill |
+/// | `FAILREG_RECORD` | the path of a new file, to which a [`Recorder`] writes the drill call by call. It takes a cluster of one node | no drill |
 /// | `FAILREG_LISTEN` | the address at which the node is served, as [`serve`](crate::serve) does, as `127.0.0.1:7071` | it isn't served |
 /// | `FAILREG_PEERS` | where other nodes are served that are told, as [`gossip`] does, every 100 ms: each as a node and a port of 127.0.0.1, `0:7070,2:7072`, or with an address, `0@[::1]:7070` | nobody is told |
 ///
@@ -50,25 +51,27 @@ const EVERY: Duration = Duration::from_millis(100);
 /// of a thread ([`NoThread`](ErrorKind::NoThread)).
 pub fn from_env() -> Result<Program, Error> {
     let wanted = Wanted::of(&|name| std::env::var_os(name))?;
-    let (mut record, mut listener) = (None, None);
+    let (mut recorder, mut listener) = (None, None);
     let registry = first(|| {
-        let builder = Registry::builder()
-            .node(wanted.number)
-            .nodes(wanted.nodes)
-            .cap(wanted.cap)
-            .recording(wanted.record.is_some());
-        let registry = builder.build()?;
-        registry.load_env()?;
         listener = match wanted.listen {
             Some(addr) => Some(listen(addr).map_err(|error| error.of_variable(LISTEN))?),
             None => None,
         };
-        record = wanted.record.as_deref().map(new_file).transpose()?;
-        Ok(registry)
+        let Some(path) = wanted.record.as_deref() else {
+            return wanted.open(Registry::builder());
+        };
+        let drill = Recorder::new(new_file(path)?);
+        let opened = wanted.open(Registry::builder().recording_to(&drill));
+        match &opened {
+            Ok(_) => recorder = Some(drill),
+            // A drill of nothing is left to nobody.
+            Err(_) => drop(std::fs::remove_file(path)),
+        }
+        opened
     })?;
     let mut program = Program {
         registry,
-        record,
+        recorder,
         serving: None,
         gossip: None,
     };
@@ -81,14 +84,14 @@ pub fn from_env() -> Result<Program, Error> {
     Ok(program)
 }
 
-/// The program's registry, which is served and tells its peers until this is dropped, and the drill
-/// that is written of it then: let it live as long as `main`. What `std::process::exit` and an abort
-/// end writes none.
+/// The program's registry, which is served and tells its peers until this is dropped: let it live as
+/// long as `main`. The drill of `FAILREG_RECORD` is written call by call, so that it is there however
+/// the program ends.
 #[derive(Debug)]
-#[must_use = "a drop ends the service and writes the drill: keep it as long as the program runs"]
+#[must_use = "a drop ends the service: keep it as long as the program runs"]
 pub struct Program {
     registry: &'static Registry,
-    record: Option<File>,
+    recorder: Option<Recorder>,
     serving: Option<Serving>,
     gossip: Option<Gossip>,
 }
@@ -109,18 +112,18 @@ impl Program {
         self.gossip.as_ref()
     }
 
-    /// Ends the service, writes the drill, if one is asked for, and says whether that went well. A
-    /// drop does it as well, and says on standard error where the drill can't be written.
+    /// Ends the service, and says whether the drill, if one is asked for, has each call that was made.
+    /// A drop ends the service as well, and says on standard error where the drill lacks one.
     pub fn finish(mut self) -> io::Result<()> {
-        self.write()
+        self.end()
     }
 
-    fn write(&mut self) -> io::Result<()> {
+    fn end(&mut self) -> io::Result<()> {
         // First, so that the drill has all that was answered.
         self.serving = None;
         self.gossip = None;
-        match self.record.take() {
-            Some(file) => write_drill(&[self.registry], &mut BufWriter::new(file)),
+        match self.recorder.take() {
+            Some(recorder) => recorder.goes_on().map_err(io::Error::other),
             None => Ok(()),
         }
     }
@@ -136,8 +139,8 @@ impl Deref for Program {
 
 impl Drop for Program {
     fn drop(&mut self) {
-        if let Err(error) = self.write() {
-            eprintln!("failreg: the drill of {RECORD} wasn't written: {error}");
+        if let Err(error) = self.end() {
+            eprintln!("failreg: the drill of {RECORD} lacks a call: {error}");
         }
     }
 }
@@ -158,6 +161,14 @@ fn bad(kind: ErrorKind, name: &str, value: &OsStr, fault: &'static str) -> Error
 }
 
 impl Wanted {
+    // The registry, with the points of FAILPOINTS.
+    fn open(&self, builder: Builder) -> Result<Registry, Error> {
+        let builder = builder.node(self.number).nodes(self.nodes).cap(self.cap);
+        let registry = builder.build()?;
+        registry.load_env()?;
+        Ok(registry)
+    }
+
     fn of(var: &dyn Fn(&str) -> Option<OsString>) -> Result<Wanted, Error> {
         let node = read(var, NODE, NODE_WANTED, node_of)?;
         let cap = read(var, CAP, CAP_WANTED, cap_of)?;

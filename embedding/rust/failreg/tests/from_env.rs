@@ -236,13 +236,13 @@ fn who_is_being_served_at_the_end_is_in_the_drill() {
 }
 
 #[test]
-fn a_drill_is_written_at_the_end() {
+fn a_drill_is_written_call_by_call() {
     let path = file("of_the_environment");
     let points = ("FAILPOINTS", "order=2*return->off");
     let record = ("FAILREG_RECORD", path.to_str().unwrap());
     assert!(told(&[points, record]).contains("lost 2, "));
     let finished = std::fs::read_to_string(&path).unwrap();
-    let head = "{\"failreg\":\"drill\",\"version\":1}\n{\"trace\":0}\n";
+    let head = "{\"failreg\":\"drill\",\"version\":2}\n{\"trace\":0}\n{\"list\":0}\n";
     assert!(finished.starts_with(head), "{finished}");
     assert_eq!(finished.matches("\"reply\":[\"act\",").count(), 8);
     // What is there isn't written over.
@@ -252,7 +252,7 @@ fn a_drill_is_written_at_the_end() {
         "{again}"
     );
     std::fs::remove_file(&path).unwrap();
-    // A drop writes the same.
+    // A drop leaves the same.
     assert!(told(&[points, record, ("FAILREG_CAP", "500")]).contains("lost 2, "));
     assert_eq!(std::fs::read_to_string(&path).unwrap(), finished);
 }
