@@ -11,20 +11,43 @@ use Rattle.node_registry.specs.contracts.guarded.Seat as Seat
 use Rattle.node_registry.proofs.registry.Registry.TheSendSync as registry
 use Rattle.node_registry.proofs.guarded.Seat.TheSendSync as seat
 use Rattle.http_paths.proofs.Crossing.{routes_send, routes_sync}
+use Rattle.http_serve.specs.contracts.handler.ForgettingHandler as ForgettingHandler
 use Rattle.http_serve.specs.contracts.handler.NodeHandler as NodeHandler
+
+handler_fields_send : (L : RattleType) (g : label.Ghosts L.Denot) (g' : ledger.Ghosts L.Denot) →
+    IsSend (NodeHandler.the_field L g g').row
+handler_fields_send L g g' =
+    let shared = Arc-send (Registry.the_row L g g') (registry.the_send L g g') (registry.the_sync L g g') in
+    let behind = mutex.the_send (Seat.the_row L g g') (seat.the_send L g g') in
+    struct_send (shape (NodeHandler.the_type L g g')) (routes_send, (shared, (behind, tt)))
+
+handler_fields_sync : (L : RattleType) (g : label.Ghosts L.Denot) (g' : ledger.Ghosts L.Denot) →
+    IsSync (NodeHandler.the_field L g g').row
+handler_fields_sync L g g' =
+    let shared = Arc-sync (Registry.the_row L g g') (registry.the_send L g g') (registry.the_sync L g g') in
+    let behind = mutex.the_sync (Seat.the_row L g g') (seat.the_send L g g') in
+    struct_sync (shape (NodeHandler.the_type L g g')) (routes_sync, (shared, (behind, tt)))
 
 pub handler_send : (L : RattleType) (g : label.Ghosts L.Denot) (g' : ledger.Ghosts L.Denot) →
     IsSend (NodeHandler.the_row L g g')
 handler_send L g g' =
-    let shared = Arc-send (Registry.the_row L g g') (registry.the_send L g g') (registry.the_sync L g g') in
-    let behind = mutex.the_send (Seat.the_row L g g') (seat.the_send L g g') in
     recorded_send (NodeHandler.the_field L g g').row _ _ (NodeHandler.the_type L g g').to_one
-    (struct_send (shape (NodeHandler.the_type L g g')) (routes_send, (shared, (behind, tt))))
+    (handler_fields_send L g g')
 
 pub handler_sync : (L : RattleType) (g : label.Ghosts L.Denot) (g' : ledger.Ghosts L.Denot) →
     IsSync (NodeHandler.the_row L g g')
 handler_sync L g g' =
-    let shared = Arc-sync (Registry.the_row L g g') (registry.the_send L g g') (registry.the_sync L g g') in
-    let behind = mutex.the_sync (Seat.the_row L g g') (seat.the_send L g g') in
     recorded_sync (NodeHandler.the_field L g g').row _ _ (NodeHandler.the_type L g g').to_one
-    (struct_sync (shape (NodeHandler.the_type L g g')) (routes_sync, (shared, (behind, tt))))
+    (handler_fields_sync L g g')
+
+pub forgetting_send : (L : RattleType) (g : label.Ghosts L.Denot) (g' : ledger.Ghosts L.Denot) →
+    IsSend (ForgettingHandler.the_row L g g')
+forgetting_send L g g' =
+    recorded_send (ForgettingHandler.the_field L g g').row _ _ (ForgettingHandler.the_type L g g').to_one
+    (struct_send (shape (ForgettingHandler.the_type L g g')) (handler_fields_send L g g', tt))
+
+pub forgetting_sync : (L : RattleType) (g : label.Ghosts L.Denot) (g' : ledger.Ghosts L.Denot) →
+    IsSync (ForgettingHandler.the_row L g g')
+forgetting_sync L g g' =
+    recorded_sync (ForgettingHandler.the_field L g g').row _ _ (ForgettingHandler.the_type L g g').to_one
+    (struct_sync (shape (ForgettingHandler.the_type L g g')) (handler_fields_sync L g g', tt))

@@ -1,6 +1,6 @@
 //! Who answers the requests of all connections.
 
-ghost use Rattle.std.specs.Prelude.{◌≡◌, ◌<◌, ℕ, List, length, true, false};
+ghost use Rattle.std.specs.Prelude.{◌≡◌, ◌<◌, ℕ, List, false, length};
 ghost use Rattle.message_format.specs.Spelling.{max_message};
 ghost use Rattle.node_calls.specs.Told.{ask_told};
 ghost use Rattle.http_routes.specs.Replies.{ReplyValue, http_value};
@@ -56,46 +56,19 @@ pub struct NodeHandler<L: Label> {
     routes: Routes,
     registry: Arc<Registry<L>>,
     seat: Mutex<Seat<L>>,
-    // Whether the node forgets its calls as it goes: no request asks for them.
-    forgets: bool,
-    ghost may: { forgets ≡ true → L.keeps ≡ false },
 }
 
 impl<L: Label> NodeHandler<L> {
-    /// The node keeps its calls. The only error is out of memory.
+    /// The only error is out of memory.
     pub fn new(
         alloc: Global,
         registry: &Arc<Registry<L>>,
         seat: Seat<L>,
     ) -> Result<Arc<NodeHandler<L>>, AllocError> {
-        NodeHandler::with(alloc, registry, seat, false)
-    }
-
-    /// The node forgets its calls with each reply, so that it may be served for as long as it likes. The
-    /// only error is out of memory.
-    pub fn forgetting(
-        alloc: Global,
-        registry: &Arc<Registry<L>>,
-        seat: Seat<L>,
-    ) -> Result<Arc<NodeHandler<L>>, AllocError>
-        requires { L.keeps ≡ false }
-    {
-        NodeHandler::with(alloc, registry, seat, true)
-    }
-
-    fn with(
-        alloc: Global,
-        registry: &Arc<Registry<L>>,
-        seat: Seat<L>,
-        forgets: bool,
-    ) -> Result<Arc<NodeHandler<L>>, AllocError>
-        requires { forgets ≡ true → L.keeps ≡ false }
-    {
         let handler = NodeHandler {
             routes: Routes::new(alloc)?,
             registry: Arc::try_clone(registry)?,
             seat: Mutex::new(seat),
-            forgets,
         };
         Ok(Arc::new(alloc, handler)?)
     }
@@ -113,11 +86,7 @@ impl<L: Label> NodeHandler<L> {
             (http_value result) }
     {
         let mut seat = self.seat.lock(rt);
-        let reply = self.answer_from(rt, alloc, &mut seat, method, path, body);
-        if self.forgets {
-            drop(self.registry.give(rt, alloc, &mut seat));
-        }
-        reply
+        self.answer_from(rt, alloc, &mut seat, method, path, body)
     }
 
     /// The reply to a request whose body came whole, from a seat, which counts the calls that were
@@ -203,5 +172,62 @@ impl<L: Label> Handler for NodeHandler<L> {
 
     fn labels(&self, path: &str, status: u16) -> Labels {
         Labels::of(&self.routes.target(path), status)
+    }
+}
+
+/// A node whose calls are forgotten with each reply, so that it may be served for as long as it likes:
+/// no request asks for them.
+#[derive(Drop)]
+pub struct ForgettingHandler<L: Label> {
+    handler: NodeHandler<L>,
+    ghost forgets: { L.keeps ≡ false },
+}
+
+impl<L: Label> ForgettingHandler<L> {
+    /// The only error is out of memory.
+    pub fn new(
+        alloc: Global,
+        registry: &Arc<Registry<L>>,
+        seat: Seat<L>,
+    ) -> Result<Arc<ForgettingHandler<L>>, AllocError>
+        requires { L.keeps ≡ false }
+    {
+        let handler = NodeHandler {
+            routes: Routes::new(alloc)?,
+            registry: Arc::try_clone(registry)?,
+            seat: Mutex::new(seat),
+        };
+        Ok(Arc::new(alloc, ForgettingHandler { handler })?)
+    }
+}
+
+impl<L: Label> Handler for ForgettingHandler<L> {
+    ghost answers = { λ _ method path body. IsServed L.config L.seed (wanted method path body) };
+
+    fn reply<R: Wait>(
+        &self,
+        rt: &R,
+        alloc: Global,
+        method: &str,
+        path: &str,
+        body: Vec<u8>,
+    ) -> HttpReply {
+        let NodeHandler { registry, seat, .. } = &self.handler;
+        let mut seat = seat.lock(rt);
+        let reply = self
+            .handler
+            .answer_from(rt, alloc, &mut seat, method, path, body);
+        drop(registry.give(rt, alloc, &mut seat));
+        reply
+    }
+
+    fn reply_too_long(&self, alloc: Global, method: &str, path: &str) -> HttpReply {
+        self.handler.answer_too_long(alloc, method, path)
+    }
+
+    ghost labelled = { λ path status. labels_of (target_of path) status };
+
+    fn labels(&self, path: &str, status: u16) -> Labels {
+        self.handler.labels(path, status)
     }
 }

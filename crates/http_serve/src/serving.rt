@@ -11,7 +11,7 @@ ghost use Rattle.tokio.specs.Timers.{IsDelayedBy, sleep_deadline, timeout_delay}
 use crate::connection::{Accepting, Clients, ConnectionFactory, ConnectionTask};
 use crate::exchange::ConnectionService;
 use crate::fault::ServeFault;
-use crate::handler::{Handler, NodeHandler};
+use crate::handler::{ForgettingHandler, Handler, NodeHandler};
 use crate::permits::Permits;
 use bytes::Bytes;
 use futures::Future;
@@ -183,7 +183,7 @@ where
     ensures ok { IfOk result (λ served. served ≡ requests) }
     ensures err { IfErr result (λ f. (f ≡ AcceptFailed) ⊎ (f ≡ OutOfMemory)) }
 {
-    let handler = NodeHandler::forgetting(alloc, registry, seat)?;
+    let handler = ForgettingHandler::new(alloc, registry, seat)?;
     let served = serve_handler(rt, alloc, runtime, handler, listener, requests)?;
     Ok(served.count())
 }
