@@ -1,12 +1,14 @@
 //! As much of HTTP/1.1 as a served node takes: one request a connection, with a body whose length
-//! its head tells.
+//! its head tells, or that comes in chunks.
 
+use crate::chunks::{ChunkFault, Chunks};
 use std::io::{self, ErrorKind, Read, Write};
 use std::net::{Ipv4Addr, Ipv6Addr, Shutdown, SocketAddr, TcpStream};
 use std::time::{Duration, Instant};
 
-/// The longest head, in bytes.
+/// The longest head, in bytes, and the most fields in it.
 const MAX_HEAD: usize = 8_192;
+const MAX_FIELDS: usize = 100;
 
 /// The longest body, in bytes: that of the longest message.
 const MAX_BODY: usize = 67_108_864;
@@ -40,7 +42,6 @@ const BAD_FIELD: Fault = Fault::Reply(400, "bad field: send each as Name: value,
 const BAD_LENGTH: Fault = Fault::Reply(400, "bad Content-Length: send one, of digits alone");
 const BAD_HOST: Fault = Fault::Reply(400, "bad Host: send one");
 const BARE_NEWLINE: Fault = Fault::Reply(400, "bad newline: end each line by CR LF");
-const MORE_BODY: Fault = Fault::Reply(400, "more body than Content-Length says: tell all of it");
 const FOREIGN_HOST: Fault = Fault::Reply(
     403,
     "another machine's Host: ask for localhost, 127.0.0.1 or [::1]",
@@ -49,10 +50,25 @@ const FOREIGN_ORIGIN: Fault = Fault::Reply(
     403,
     "a page of another Origin: no browser may ask for it, send no Origin",
 );
-const CHUNKS: Fault = Fault::Reply(411, "no length: send Content-Length, and no chunks");
-const LONG_BODY: Fault = Fault::Reply(413, "too long");
+const BAD_CODING: Fault = Fault::Reply(
+    400,
+    "bad Transfer-Encoding: send Content-Length, or chunks alone",
+);
+const LONG_TARGET: Fault = Fault::Reply(414, "too long a path: a head has 8192 bytes at most");
+const OTHER_CODING: Fault =
+    Fault::Reply(501, "unknown coding: send Content-Length, or chunks alone");
+const MANY_FIELDS: Fault = Fault::Reply(431, "too many fields: send at most 100");
 const NO_EXPECTATION: Fault = Fault::Reply(417, "unknown Expect: send 100-continue, or none");
 const LONG_HEAD: Fault = Fault::Reply(431, "too long a head: send at most 8192 bytes");
+
+/// How a body comes.
+#[derive(Clone, Copy, Debug, PartialEq, Eq)]
+pub enum Length {
+    /// With so many bytes.
+    Told(u64),
+    /// In chunks.
+    Chunks,
+}
 
 /// The head of a request.
 #[derive(Debug, PartialEq, Eq)]
@@ -60,9 +76,45 @@ pub struct Head {
     pub method: String,
     /// The path, without a `?` and what follows it.
     pub path: String,
-    /// How many bytes the body has.
-    pub length: usize,
+    pub length: Length,
     is_expecting: bool,
+    /// Whether it is one of HTTP/1.0.
+    is_old: bool,
+}
+
+impl Head {
+    /// Whether its body may have more bytes than these.
+    pub fn may_exceed(&self, bytes: usize) -> bool {
+        match self.length {
+            Length::Told(told) => told > bytes as u64,
+            Length::Chunks => true,
+        }
+    }
+
+    // The reply where the body is longer than the longest, which is that of any such body.
+    fn too_long(&self) -> Fault {
+        match methods_at(&self.path) {
+            None => Fault::Reply(404, "not found"),
+            Some(methods) if methods.split(", ").any(|it| it == self.method) => {
+                Fault::Reply(413, "too long")
+            }
+            Some(_) => Fault::Reply(405, "bad method"),
+        }
+    }
+}
+
+// The methods of a path, if there is one.
+fn methods_at(path: &str) -> Option<&'static str> {
+    let parts: Vec<&str> = path.strip_prefix('/')?.split('/').collect();
+    if parts.contains(&"") {
+        return None;
+    }
+    match parts[..] {
+        ["fail"] | ["report"] => Some("GET"),
+        ["fail", _] => Some("PUT, DELETE"),
+        ["load"] | ["gossip"] | ["grant", _, _, _] | ["shift", _, _, _, _] => Some("POST"),
+        _ => None,
+    }
 }
 
 fn is_token(bytes: &[u8]) -> bool {
@@ -74,7 +126,9 @@ fn is_token(bytes: &[u8]) -> bool {
 fn request_line(line: &[u8]) -> Option<(&str, &str, &str)> {
     let (method, rest) = std::str::from_utf8(line).ok()?.split_once(' ')?;
     let (target, version) = rest.split_once(' ')?;
-    let is_target = target.starts_with('/') && target.bytes().all(|b| b.is_ascii_graphic());
+    // A proxy is asked to connect to a name, which is no path here.
+    let is_path = target.starts_with('/') || method == "CONNECT";
+    let is_target = is_path && target.bytes().all(|b| b.is_ascii_graphic());
     let is_version = version == "HTTP/1.1" || version == "HTTP/1.0";
     let path = target.split('?').next()?;
     (is_token(method.as_bytes()) && is_target && is_version).then_some((method, path, version))
@@ -88,11 +142,11 @@ fn field(line: &[u8]) -> Option<(String, &[u8])> {
         .then(|| (String::from_utf8_lossy(name).to_ascii_lowercase(), value))
 }
 
-// A length that has more digits than a number here is too long, and not bad.
-fn length_of(value: &[u8]) -> Option<usize> {
+// A length of 64 bits.
+fn length_of(value: &[u8]) -> Option<u64> {
     let is_number = !value.is_empty() && value.iter().all(u8::is_ascii_digit);
     let digits = std::str::from_utf8(value).ok().filter(|_| is_number)?;
-    Some(digits.parse().unwrap_or(usize::MAX))
+    digits.parse().ok()
 }
 
 // Whether a `Host` is this machine, with or without a port: a page that has a name of its own for
@@ -127,7 +181,9 @@ fn is_served(origin: &[u8], addr: SocketAddr) -> bool {
 /// What the fields of a head say.
 #[derive(Default)]
 struct Fields {
-    length: Option<usize>,
+    length: Option<u64>,
+    /// The codings of the body, in the order in which they were done.
+    codings: Vec<String>,
     has_host: bool,
     is_expecting: bool,
 }
@@ -141,7 +197,11 @@ impl Fields {
                     return Err(BAD_LENGTH);
                 }
             }
-            "transfer-encoding" => return Err(CHUNKS),
+            "transfer-encoding" => {
+                let value = std::str::from_utf8(value).map_err(|_| BAD_CODING)?;
+                let codings = value.split(',').map(|it| it.trim().to_ascii_lowercase());
+                self.codings.extend(codings);
+            }
             "origin" if !is_served(value, addr) => return Err(FOREIGN_ORIGIN),
             "host" if !is_this_machine(value) => return Err(FOREIGN_HOST),
             "host" if std::mem::replace(&mut self.has_host, true) => return Err(BAD_HOST),
@@ -150,6 +210,18 @@ impl Fields {
             _ => {}
         }
         Ok(())
+    }
+
+    // How the body comes. What is coded otherwise than in chunks isn't understood; and without them
+    // at last nobody knows where it ends.
+    fn length(&self) -> Result<Length, Fault> {
+        match (&self.codings[..], self.length) {
+            ([], told) => Ok(Length::Told(told.unwrap_or(0))),
+            (_, Some(_)) => Err(BAD_CODING),
+            ([coding], None) if coding == "chunked" => Ok(Length::Chunks),
+            ([.., last], None) if last == "chunked" => Err(OTHER_CODING),
+            (_, None) => Err(BAD_CODING),
+        }
     }
 }
 
@@ -163,7 +235,10 @@ fn head_of(bytes: &[u8], addr: SocketAddr) -> Result<Head, Fault> {
     let first = first.strip_suffix(b"\r").unwrap_or(first);
     let (method, path, version) = request_line(first).ok_or(BAD_LINE)?;
     let mut fields = Fields::default();
-    for line in lines {
+    for (number, line) in lines.enumerate() {
+        if number == MAX_FIELDS {
+            return Err(MANY_FIELDS);
+        }
         let line = line.strip_suffix(b"\r").unwrap_or(line);
         let (name, value) = field(line).ok_or(BAD_FIELD)?;
         fields.take(&name, value, addr)?;
@@ -171,16 +246,22 @@ fn head_of(bytes: &[u8], addr: SocketAddr) -> Result<Head, Fault> {
     if version == "HTTP/1.1" && !fields.has_host {
         return Err(BAD_HOST);
     }
-    let length = fields.length.unwrap_or(0);
-    if length > MAX_BODY {
-        return Err(LONG_BODY);
-    }
-    Ok(Head {
+    let head = Head {
         method: method.to_string(),
         path: path.to_string(),
-        length,
+        length: fields.length()?,
         is_expecting: fields.is_expecting,
-    })
+        is_old: version == "HTTP/1.0",
+    };
+    match head.length {
+        Length::Told(told) if told > MAX_BODY as u64 => Err(head.too_long()),
+        Length::Told(_) | Length::Chunks => Ok(head),
+    }
+}
+
+// What bytes are no head of, though its end didn't come: another protocol, say.
+fn is_no_head(bytes: &[u8]) -> bool {
+    bytes.first().is_some_and(|first| !is_token(&[*first]))
 }
 
 // Where the head ends that these bytes begin with, if all of it is there. None of its newlines
@@ -205,6 +286,8 @@ pub struct Connection<'a> {
     begun: Instant,
     /// What was read behind the head.
     rest: Vec<u8>,
+    /// Whether more was sent than the request.
+    has_more: bool,
 }
 
 impl<'a> Connection<'a> {
@@ -214,6 +297,7 @@ impl<'a> Connection<'a> {
             stream,
             begun: Instant::now(),
             rest: Vec::new(),
+            has_more: false,
         }
     }
 
@@ -235,9 +319,13 @@ impl<'a> Connection<'a> {
         let end = loop {
             let read = self.read_by(&mut piece, self.begun + HEAD_TIME)?;
             bytes.extend_from_slice(&piece[..read]);
+            if is_no_head(&bytes) {
+                return Err(BAD_LINE);
+            }
             match end_of_head(&bytes, looked)? {
                 Some(end) if end <= MAX_HEAD => break end,
                 None if bytes.len() < MAX_HEAD => looked = bytes.len(),
+                _ if !bytes[..MAX_HEAD].contains(&b'\n') => return Err(LONG_TARGET),
                 _ => return Err(LONG_HEAD),
             }
         };
@@ -245,39 +333,73 @@ impl<'a> Connection<'a> {
         head_of(&bytes[..end - 2], addr)
     }
 
-    /// Reads the body that a head tells of. Memory grows as the body comes.
+    /// Reads the body that a head tells of. Memory grows as the body comes. What stands behind it is
+    /// no request of this connection.
     pub fn read_body(&mut self, head: &Head) -> Result<Vec<u8>, Fault> {
-        let mut body = std::mem::take(&mut self.rest);
-        if head.is_expecting && body.len() < head.length {
-            let end = self.end();
-            write_by(self.stream, b"HTTP/1.1 100 Continue\r\n\r\n", end)?;
+        match head.length {
+            Length::Told(told) => self.read_told(told as usize, head.is_expecting),
+            Length::Chunks => self.read_chunks(head),
         }
+    }
+
+    fn go_on(&self, is_expecting: bool) -> io::Result<()> {
+        match is_expecting {
+            true => write_by(self.stream, b"HTTP/1.1 100 Continue\r\n\r\n", self.end()),
+            false => Ok(()),
+        }
+    }
+
+    fn read_told(&mut self, length: usize, is_expecting: bool) -> Result<Vec<u8>, Fault> {
+        let mut body = std::mem::take(&mut self.rest);
+        self.go_on(is_expecting && body.len() < length)?;
         let mut piece = Vec::new();
-        while body.len() < head.length {
+        while body.len() < length {
             // One byte more, so that it is seen where more comes than was told.
-            let left = head.length - body.len() + 1;
+            let left = length - body.len() + 1;
             piece.resize(left.min(PIECE), 0);
             let read = self.read_by(&mut piece, self.end())?;
             body.extend_from_slice(&piece[..read]);
         }
-        match body.len() == head.length {
-            true => Ok(body),
-            false => Err(MORE_BODY),
+        self.has_more = body.len() > length;
+        body.truncate(length);
+        Ok(body)
+    }
+
+    fn read_chunks(&mut self, head: &Head) -> Result<Vec<u8>, Fault> {
+        let mut chunks = Chunks::new(MAX_BODY);
+        let mut came = std::mem::take(&mut self.rest);
+        self.go_on(head.is_expecting && came.is_empty())?;
+        let mut piece = vec![0; PIECE];
+        loop {
+            match chunks.take(&came) {
+                Ok(Some(behind)) => {
+                    self.has_more = behind > 0;
+                    return Ok(chunks.into_body());
+                }
+                Ok(None) => {}
+                Err(ChunkFault::Bad) => return Err(Fault::Gone),
+                Err(ChunkFault::TooLong) => return Err(head.too_long()),
+            }
+            let read = self.read_by(&mut piece, self.end())?;
+            came.clear();
+            came.extend_from_slice(&piece[..read]);
         }
     }
 
-    /// Writes the reply, the last of the connection. `HEAD` is answered without the body.
-    pub fn write(&mut self, method: &str, status: u16, body: &[u8]) -> io::Result<()> {
-        let (reason, length) = (reason(status), body.len());
-        let head = format!(
-            "HTTP/1.1 {status} {reason}\r\ncontent-length: {length}\r\nconnection: close\r\n\r\n"
-        );
-        let mut reply = head.into_bytes();
-        if method != "HEAD" {
+    /// Writes the reply, the last of the connection, to a request of this head, if there was one.
+    /// `HEAD` is answered without the body.
+    pub fn write(&mut self, head: Option<&Head>, status: u16, body: &[u8]) -> io::Result<()> {
+        let mut reply = reply_head(head, status, body.len()).into_bytes();
+        if head.is_none_or(|head| head.method != "HEAD") {
             reply.extend_from_slice(body);
         }
         write_by(self.stream, &reply, self.end())?;
         self.stream.shutdown(Shutdown::Write)
+    }
+
+    /// Whether the client sends more than its request.
+    pub fn has_more(&self) -> bool {
+        self.has_more
     }
 
     /// Takes what a client goes on sending whose request isn't read to its end, for a while: bytes
@@ -287,6 +409,30 @@ impl<'a> Connection<'a> {
         let mut piece = vec![0; PIECE];
         while let Ok(1..) = read_by(self.stream, &mut piece, end) {}
     }
+}
+
+// The head of a reply. It says what the body is, so that no browser guesses, and where another method
+// was sent, which the path has.
+fn reply_head(head: Option<&Head>, status: u16, length: usize) -> String {
+    let version = match head.is_some_and(|head| head.is_old) {
+        true => "HTTP/1.0",
+        false => "HTTP/1.1",
+    };
+    let path = head.map_or("", |head| &head.path);
+    let content = match status == 200 && path == "/report" {
+        true => "application/json",
+        false => "text/plain; charset=utf-8",
+    };
+    let allow = match methods_at(path) {
+        Some(methods) if status == 405 => format!("allow: {methods}\r\n"),
+        Some(_) | None => String::new(),
+    };
+    let reason = reason(status);
+    format!(
+        "{version} {status} {reason}\r\ncontent-type: {content}\r\n\
+         x-content-type-options: nosniff\r\n{allow}content-length: {length}\r\n\
+         connection: close\r\n\r\n"
+    )
 }
 
 fn left_until(deadline: Instant) -> io::Result<Duration> {
@@ -330,10 +476,11 @@ fn reason(status: u16) -> &'static str {
         404 => "Not Found",
         405 => "Method Not Allowed",
         409 => "Conflict",
-        411 => "Length Required",
-        413 => "Content Too Large",
+        413 => "Payload Too Large",
+        414 => "URI Too Long",
         417 => "Expectation Failed",
         431 => "Request Header Fields Too Large",
+        501 => "Not Implemented",
         _ => "Service Unavailable",
     }
 }
@@ -390,15 +537,19 @@ mod tests {
         let wanted = Head {
             method: "PUT".into(),
             path: "/fail/a".into(),
-            length: 12,
+            length: Length::Told(12),
             is_expecting: true,
+            is_old: false,
         };
         assert_eq!(head, Ok(wanted));
         // HTTP/1.0 knows no Host, and no length is none.
-        assert_eq!(read("GET / HTTP/1.0\r\n").map(|head| head.length), Ok(0));
+        let old = read("GET / HTTP/1.0\r\n").map(|head| (head.length, head.is_old));
+        assert_eq!(old, Ok((Length::Told(0), true)));
         let longest = format!("Content-Length: {MAX_BODY}\r\n");
         let length = read_line("POST /load HTTP/1.1", &longest).map(|head| head.length);
-        assert_eq!(length, Ok(MAX_BODY));
+        assert_eq!(length, Ok(Length::Told(MAX_BODY as u64)));
+        let chunks = read_line("POST /load HTTP/1.1", "transfer-encoding: Chunked\r\n");
+        assert_eq!(chunks.map(|head| head.length), Ok(Length::Chunks));
     }
 
     #[test]
@@ -445,10 +596,17 @@ mod tests {
     #[test]
     fn what_is_not_taken_has_its_status() {
         for (fields, status) in [
-            ("Transfer-Encoding: chunked\r\n", 411),
-            ("Transfer-Encoding: identity\r\nContent-Length: 1\r\n", 411),
+            ("Transfer-Encoding: gzip, chunked\r\n", 501),
+            (
+                "Transfer-Encoding: gzip\r\nTransfer-Encoding: chunked\r\n",
+                501,
+            ),
+            ("Transfer-Encoding: gzip\r\n", 400),
+            ("Transfer-Encoding: \r\n", 400),
+            ("Transfer-Encoding: chunked\r\nContent-Length: 1\r\n", 400),
             ("Content-Length: 67108865\r\n", 413),
-            ("Content-Length: 99999999999999999999999\r\n", 413),
+            ("Content-Length: 18446744073709551615\r\n", 413),
+            ("Content-Length: 18446744073709551616\r\n", 400),
             ("Expect: a miracle\r\n", 417),
             ("Origin: http://example.org\r\n", 403),
             ("Origin: null\r\n", 403),
@@ -460,6 +618,32 @@ mod tests {
             assert_eq!(answered, Err(status), "{fields:?}");
         }
         assert!(read_line("GET /report HTTP/1.1", "Origin: http://127.0.0.1:7070\r\n").is_ok());
+    }
+
+    #[test]
+    fn a_path_has_methods() {
+        let long = "Content-Length: 67108865\r\n";
+        for (line, status) in [
+            ("GET /fail", 413),
+            ("POST /fail", 405),
+            ("PUT /fail/a", 413),
+            ("DELETE /fail/a", 413),
+            ("GET /fail/a", 405),
+            ("POST /shift/a/0/1/1", 413),
+            ("POST /grant/a/0/1", 413),
+            ("POST /grant/a/0", 404),
+            ("POST /gossip", 413),
+            ("GET /report", 413),
+            ("PUT /fail/", 404),
+            ("GET /", 404),
+            ("PUT /fail/a/b", 404),
+        ] {
+            let answered = read_line(&format!("{line} HTTP/1.1"), long);
+            assert_eq!(answered, Err(status), "{line:?}");
+        }
+        let head = read_line("DELETE /fail HTTP/1.1", "").unwrap();
+        assert!(reply_head(Some(&head), 405, 0).contains("\r\nallow: GET\r\n"));
+        assert!(!reply_head(Some(&head), 409, 0).contains("allow"));
     }
 
     #[test]

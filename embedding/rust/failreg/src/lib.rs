@@ -34,6 +34,7 @@
 
 mod answers;
 mod builder;
+mod chunks;
 mod environment;
 mod error;
 mod fail_rs;

@@ -3,7 +3,7 @@
 use crate::answers::Reply;
 use crate::error::{Error, ErrorKind};
 use crate::fail_rs::has_failpoints;
-use crate::http::{Connection, Fault};
+use crate::http::{Connection, Fault, Head};
 use crate::registry::Registry;
 use std::collections::HashMap;
 use std::fmt;
@@ -136,9 +136,15 @@ impl<'a> Client<'a> {
     fn serve(&self, registry: &Registry) -> io::Result<()> {
         let mut connection = Connection::new(&self.stream);
         match self.read(&mut connection, registry) {
-            Ok((method, reply)) => connection.write(&method, reply.status, &reply.body),
+            Ok((head, reply)) => {
+                connection.write(Some(&head), reply.status, &reply.body)?;
+                if connection.has_more() {
+                    connection.drain();
+                }
+                Ok(())
+            }
             Err(Fault::Reply(status, text)) => {
-                connection.write("", status, text.as_bytes())?;
+                connection.write(None, status, text.as_bytes())?;
                 connection.drain();
                 Ok(())
             }
@@ -146,14 +152,14 @@ impl<'a> Client<'a> {
         }
     }
 
-    // Reads the request and asks for it: the method and the reply.
+    // Reads the request and asks for it: its head and the reply.
     fn read(
         &self,
         connection: &mut Connection<'_>,
         registry: &Registry,
-    ) -> Result<(String, Reply), Fault> {
+    ) -> Result<(Head, Reply), Fault> {
         let head = connection.read_head(self.service.addr)?;
-        let _place = match head.length > LONG {
+        let _place = match head.may_exceed(LONG) {
             true => Some(self.long_body(connection.end()).ok_or(Fault::Gone)?),
             false => None,
         };
@@ -163,7 +169,7 @@ impl<'a> Client<'a> {
             status: 503,
             body: error.fault().as_bytes().to_vec(),
         });
-        Ok((head.method, reply))
+        Ok((head, reply))
     }
 
     // Waits for a place for a long body.

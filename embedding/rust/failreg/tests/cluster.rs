@@ -426,7 +426,7 @@ fn what_is_public_can_be_shown() {
     );
     let policy = OnRefusal::call(|_| ());
     let builder = Registry::builder().on_refusal(policy).recording(true);
-    assert!(format!("{builder:?}").contains("is_recording: true, on_refusal: Call"));
+    assert!(format!("{builder:?}").contains("recording: Kept, on_refusal: Call"));
 }
 
 #[test]

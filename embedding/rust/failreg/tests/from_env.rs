@@ -77,7 +77,7 @@ fn file(name: &str) -> PathBuf {
 #[test]
 fn variables_make_the_registry() {
     let alone = told(&[]);
-    assert!(alone.contains("lost 0, Registry { node: 0, nodes: 1, cap: 4294967295, .. }"));
+    assert!(alone.contains("lost 0, Registry { node: 0, nodes: 1, cap: 72057594037927935, .. }"));
     let second = told(&[
         ("FAILREG_NODE", "1/3"),
         ("FAILREG_CAP", "500"),
