@@ -1,6 +1,6 @@
 -- How many calls a round of gossip makes, and whom it tells.
 use Rattle.std.proofs.Common.{◌≡◌, ◌≤◌, ℕ, suc, ◌+◌, ◌*◌, ◌==◌, Bool, true, false, cond, not, ◌&&◌, List, [], ◌∷◌, ◌++◌, length, map, refl, ap, ◌∙◌, add-mul, arith}
-use Rattle.std.specs.List.{count_by, filter, list_any, range_with_len}
+use Rattle.std.specs.List.{count_by, filter, range_with_len}
 use Rattle.std.proofs.lemmas.List.{append-nil, length-map, map-append}
 use Rattle.std.proofs.lemmas.List.Elements.{filter-append}
 use Rattle.std.proofs.lemmas.List.Sums.{sum_by-cons}
@@ -16,7 +16,7 @@ use Rattle.gossip.specs.Parts.{IsPartOf, none, kept, left_out}
 use Rattle.gossip.specs.Reports.{IsTold, asked_in, asks_in, calls_of, is_delivery, is_emit, own_asks_in}
 use Rattle.gossip.specs.Traffic.{Traffic}
 use Rattle.gossip.proofs.RangeLemmas.{but, length_but, range_split}
-use Rattle.node_service.specs.Rounds.{first_pace, is_told, most_peers, told_below}
+use Rattle.node_service.specs.Rounds.{first_pace, is_named, is_told, most_peers, told_below}
 
 are_emits : List Asked → Type 0
 are_emits [] = Unit {0}
@@ -112,15 +112,20 @@ fewer p q (x ∷ xs) = step (p x) (q x) (fewer p q xs)
     step true false h = omega (arith, h)
     step false b h = h
 
--- they are at most all other nodes, and at most all nodes
+-- they are at most all of these nodes
+pub few_below : (node n : ℕ) (named : List NamedPeer) → length (map first_pace (told_below node n named)) ≤ n
+few_below node n named =
+    let some = fewer (λ k. not (k == node)) (is_named named) (range_with_len 0 n) in
+    let long = length-map (told_below node n named) first_pace in
+    let others = length_but (λ k. k) node n in
+    let same = length-map (but node n) (λ k. k) in
+    omega (arith, some, long, others, same)
+
+-- and at most all others
 pub few_told : (config : Config) (named : List NamedPeer) →
-    (length (map first_pace (told_below config.node config.nodes named)) ≤ most_peers config)
-    × (length (map first_pace (told_below config.node config.nodes named)) ≤ config.nodes)
+    length (map first_pace (told_below config.node config.nodes named)) ≤ most_peers config
 few_told config named =
     let told = told_below config.node config.nodes named in
-    let some = fewer (λ k. not (k == config.node)) (λ k. list_any (λ peer. peer.node == k) named)
-    (range_with_len 0 config.nodes) in
+    let some = fewer (λ k. not (k == config.node)) (is_named named) (range_with_len 0 config.nodes) in
     let long = length-map told first_pace in
-    let others = length_but (λ k. k) config.node config.nodes in
-    let same = length-map (but config.node config.nodes) (λ k. k) in
-    (omega (arith, some, long), omega (arith, some, long, others, same))
+    omega (arith, some, long)

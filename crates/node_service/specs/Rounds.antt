@@ -20,8 +20,11 @@ abbrev pub peer_of : NamedPeer → Peer
 peer_of named = record { node = named.node; port = named.port }
 
 -- the nodes that are told, of those with numbers below some: each but the node itself that a peer has the number of
+abbrev pub is_named : List NamedPeer → ℕ → Bool
+is_named named node = list_any (λ peer. peer.node == node) named
+
 abbrev pub is_told : ℕ → List NamedPeer → ℕ → Bool
-is_told node named other = not (other == node) && list_any (λ peer. peer.node == other) named
+is_told node named other = not (other == node) && is_named named other
 
 abbrev pub told_below : ℕ → ℕ → List NamedPeer → List ℕ
 told_below node n named = filter (is_told node named) (range_with_len 0 n)

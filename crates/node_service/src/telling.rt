@@ -2,7 +2,8 @@
 
 ghost use Rattle.std.specs.Prelude.{◌≡◌, ◌≤◌, ◌<◌, ◌^◌, ◌+◌, ◌*◌, ◌⊎◌, false, length, map, IfOk, IfErr};
 ghost use Rattle.http_serve.specs.declared.fault.ServeFault.TheVariants.{AcceptFailed, OutOfMemory};
-ghost use Rattle.node_service.specs.Rounds.{first_pace, is_told, most_calls, most_peers, peer_of};
+ghost use Rattle.node_service.specs.Rounds.{first_pace, is_named, is_told, most_calls, most_peers};
+ghost use Rattle.node_service.specs.Rounds.{peer_of};
 ghost use Rattle.node_service.specs.Rounds.{told_below};
 
 use crate::host::Host;
@@ -21,7 +22,7 @@ use std::time::Duration;
 use tokio::net::TcpListener;
 use tokio::runtime::Runtime;
 
-/// A node whose port is listened on, and how many clients are let in.
+/// A node whose port is listened on, and that needn't keep its calls, and how many clients are let in.
 #[derive(Drop)]
 pub struct Serving<'a, L: Label> {
     pub runtime: &'a mut Runtime,
@@ -29,6 +30,7 @@ pub struct Serving<'a, L: Label> {
     pub seat: Seat<L>,
     pub listener: TcpListener,
     pub requests: u32,
+    ghost forgets: { L.keeps ≡ false },
 }
 
 /// Whether a service has ended. Its end also ends a rest.
@@ -83,11 +85,18 @@ fn wire_to<R: Host>(rt: &R, named: &[NamedPeer]) -> Result<HttpWire<R>, WireErro
     HttpWire::new(*rt, peers)
 }
 
+// Whether a peer has the number of a node.
+fn is_named(named: &[NamedPeer], node: u8) -> bool
+    ensures { result ≡ is_named named.now node }
+{
+    named.iter().any(|peer| peer.node == node)
+}
+
 // Whether another node is told: it has a peer, and isn't the node itself.
 fn is_told(node: u8, named: &[NamedPeer], other: u8) -> bool
     ensures { result ≡ is_told node named.now other }
 {
-    other != node && named.iter().any(|peer| peer.node == other)
+    other != node && is_named(named, other)
 }
 
 // When each of the nodes with numbers below `nodes` is told that is told at all.
@@ -97,7 +106,9 @@ fn paces_of(
     nodes: u8,
     named: &[NamedPeer],
 ) -> Result<Vec<Pace>, AllocError>
-    ensures { IfOk result (λ paces. paces.items ≡ map first_pace (told_below node nodes named.now)) }
+    ensures paces { IfOk result (λ paces.
+        paces.items ≡ map first_pace (told_below node nodes named.now)) }
+    ensures few { IfOk result (λ paces. length paces.items ≤ nodes) }
 {
     let mut paces = Vec::new(alloc);
     for other in 0..nodes {
@@ -106,6 +117,20 @@ fn paces_of(
         }
     }
     Ok(paces)
+}
+
+// When each node is told that a registry's node tells.
+fn first_paces<L: Label, R: Wait + AllocGlobal>(
+    rt: &R,
+    registry: &Registry<L>,
+    named: &[NamedPeer],
+) -> Result<Vec<Pace>, AllocError>
+    ensures paces { IfOk result (λ paces. paces.items
+        ≡ map first_pace (told_below L.config.node L.config.nodes named.now)) }
+    ensures few { IfOk result (λ paces. length paces.items < 2 ^ 8) }
+{
+    let Config { node, nodes, .. } = registry.with(rt, |core| core.config());
+    paces_of(rt.alloc(), node, nodes, named)
 }
 
 // Does one round after the other over a wire, with a rest between two, until all are done or the
@@ -151,8 +176,7 @@ where
     R: Host,
     ensures { seat.new ≤ seat.old + telling.now.rounds * most_calls L.config }
 {
-    let Config { node, nodes, .. } = registry.with(rt, |core| core.config());
-    let paces = paces_of(rt.alloc(), node, nodes, &telling.peers);
+    let paces = first_paces(rt, registry, &telling.peers);
     if let (Ok(mut wire), Ok(mut paces)) = (wire_to(rt, &telling.peers), paces) {
         keep_telling(rt, registry, seat, &mut wire, &mut paces, telling, service);
     }
@@ -163,7 +187,6 @@ fn serve_alone<L, R>(rt: &R, serving: Serving<'_, L>) -> Result<u32, ServeFault>
 where
     L: Label + Send + Sync,
     R: Host,
-    requires { L.keeps ≡ false }
     ensures ok { IfOk result (λ served. served ≡ serving.entry.requests) }
     ensures err { IfErr result (λ f. (f ≡ AcceptFailed) ⊎ (f ≡ OutOfMemory)) }
 {
@@ -189,7 +212,6 @@ fn serve_in<'s, E, L, R>(
 where
     L: Label + Send + Sync + 's,
     R: Host,
-    requires { L.keeps ≡ false }
     ensures ok { IfOk result (λ served. served ≡ serving.entry.requests) }
     ensures err { IfErr result (λ f. (f ≡ AcceptFailed) ⊎ (f ≡ OutOfMemory)) }
 {
@@ -215,7 +237,6 @@ pub fn serve_and_tell<L, R>(
 where
     L: Label + Send + Sync,
     R: Host,
-    requires { L.keeps ≡ false }
     ensures ok { IfOk result (λ served. served ≡ serving.entry.requests) }
     ensures err { IfErr result (λ f. (f ≡ AcceptFailed) ⊎ (f ≡ OutOfMemory)) }
 {

@@ -1,4 +1,4 @@
-use Rattle.std.proofs.Common.{arith}
+use Rattle.std.proofs.Common.{◌∙◌, arith}
 use Rattle.gossip.specs.News.{Says}
 use Rattle.node_service.specs.Rounds.{most_calls, most_peers}
 use Rattle.node_service.proofs.RoundLemmas.{after_a_round, calls_of_a_round}
@@ -16,5 +16,5 @@ loop-round-preserved g c =
     record {
       calls = after_a_round c.args.seat.now c.loop-round.seat news.new.seat c.loop-round.round (most_calls config)
           was.calls more;
-      long = ?;
+      long = news.auto.paces ∙ was.long;
     }
