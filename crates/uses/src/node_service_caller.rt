@@ -32,7 +32,7 @@ where
         node: 0,
         nodes: 1,
         port: 0,
-        cap: 1_000_000,
+        cap: Some(1_000_000),
         requests: clients,
         failpoints: None,
         telling: GossipOptions {
