@@ -38,6 +38,8 @@ use std::sync::{Arc, Mutex, MutexGuard};
 /// each node, in the order in which it accepted the calls.
 #[derive(Clone)]
 pub struct Recorder {
+    /// Guards the drill and its writer, so that the lines of a call stand together. It is taken behind
+    /// the lock of a registry, and never the other way round.
     shared: Arc<Mutex<Drill>>,
 }
 
