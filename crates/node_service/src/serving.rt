@@ -49,12 +49,19 @@ where
       trace_cap = cap_of options.entry.cap;
     })) → IsErrAnd result (λ f. (f ≡ Node NodeFault.OutOfMemory) ⊎ (f ≡ Node NodeFault.BadConfig)) }
 {
-    let config = Config {
-        node: options.node,
-        nodes: options.nodes,
-        trace_cap: options.cap.map_or(MAX_TRACE_CAP, u64::from),
-    };
+    let config = config_of(options.node, options.nodes, options.cap);
     serve_registry::<Brand, R>(rt, Blank::new(2), config, options)
+}
+
+// The configuration of a node that is served.
+fn config_of(node: u8, nodes: u8, cap: Option<u32>) -> Config
+    ensures { result ≡ record { node = node; nodes = nodes; trace_cap = cap_of cap } }
+{
+    Config {
+        node,
+        nodes,
+        trace_cap: cap.map_or(MAX_TRACE_CAP, u64::from),
+    }
 }
 
 // Serves the node of the registry that `L` names: what that is, the call above picks.
