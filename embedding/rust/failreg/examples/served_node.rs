@@ -11,7 +11,7 @@
 //! time, by three threads and by `main`, and obeys: `panic` in `main` ends it, and where the point says
 //! `return`, it prints `ran` and the reason. `tools/restart_programs` starts it again each time.
 
-use failreg::{Builder, Peer, Registry, fail_point, gossip, serve};
+use failreg::{Builder, Peer, Registry, gossip, serve};
 use std::error::Error;
 use std::io::{self, Write};
 use std::net::Ipv4Addr;
@@ -21,13 +21,10 @@ use std::time::Duration;
 
 /// What the words say.
 struct Wanted {
-    node: u8,
-    nodes: u8,
+    builder: Builder,
     port: u16,
-    cap: u64,
     every: Duration,
     peers: Vec<Peer>,
-    builder: Builder,
     passed: Option<String>,
 }
 
@@ -41,13 +38,10 @@ fn peer(word: &str) -> Result<Peer, Box<dyn Error>> {
 
 fn wanted(mut words: impl Iterator<Item = String>) -> Result<Wanted, Box<dyn Error>> {
     let mut wanted = Wanted {
-        node: 0,
-        nodes: 1,
+        builder: Registry::builder(),
         port: 0,
-        cap: failreg::Builder::MOST_CALLS,
         every: Duration::from_millis(100),
         peers: Vec::new(),
-        builder: Registry::builder(),
         passed: None,
     };
     while let Some(word) = words.next() {
@@ -57,10 +51,10 @@ fn wanted(mut words: impl Iterator<Item = String>) -> Result<Wanted, Box<dyn Err
         }
         let value = words.next().ok_or("an option has a value")?;
         match word.as_str() {
-            "--node" => wanted.node = value.parse()?,
-            "--nodes" => wanted.nodes = value.parse()?,
+            "--node" => wanted.builder = wanted.builder.node(value.parse()?),
+            "--nodes" => wanted.builder = wanted.builder.nodes(value.parse()?),
+            "--cap" => wanted.builder = wanted.builder.cap(value.parse()?),
             "--port" => wanted.port = value.parse()?,
-            "--cap" => wanted.cap = value.parse()?,
             "--every" => wanted.every = Duration::from_millis(value.parse()?),
             "--record" => wanted.builder = wanted.builder.recording(value),
             "--run" => wanted.builder = wanted.builder.run(value),
@@ -73,25 +67,20 @@ fn wanted(mut words: impl Iterator<Item = String>) -> Result<Wanted, Box<dyn Err
     Ok(wanted)
 }
 
-fn pass(node: &Registry, point: &str) {
-    fail_point!(in node, point, |reason: Option<String>| {
-        // In one write, so that it is whole wherever the process ends.
-        let line = format!("ran {}\n", reason.unwrap_or_default());
-        drop(io::stdout().write_all(line.as_bytes()));
-    });
-}
-
 fn pass_often(node: &Registry, point: &str) -> ! {
     loop {
-        pass(node, point);
-        thread::sleep(Duration::from_micros(200));
+        if let Some(reason) = node.eval(point) {
+            // In one write, so that it is whole wherever the process ends.
+            let line = format!("ran {}\n", reason.unwrap_or_default());
+            drop(io::stdout().write_all(line.as_bytes()));
+        }
+        thread::sleep(Duration::from_millis(1));
     }
 }
 
 fn main() -> Result<(), Box<dyn Error>> {
     let wanted = wanted(std::env::args().skip(2))?;
-    let builder = wanted.builder.node(wanted.node).nodes(wanted.nodes);
-    let node = Arc::new(builder.cap(wanted.cap).build()?);
+    let node = Arc::new(wanted.builder.build()?);
     let serving = serve(node.clone(), (Ipv4Addr::LOCALHOST, wanted.port))?;
     let _telling = gossip(node.clone(), &wanted.peers, wanted.every)?;
     println!("listening {}", serving.addr().port());
