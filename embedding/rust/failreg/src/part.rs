@@ -22,6 +22,11 @@ const MOST_OF_LINE: usize = 268_435_456;
 /// How much of a first line is read, to say of what it is.
 const MOST_OF_HEAD: usize = 4_096;
 
+/// How often a lock is tried, and the rest between. A process that is gone may have been starting
+/// another one, which has its files for a moment.
+const TRIES: u32 = 20;
+const REST: Duration = Duration::from_millis(10);
+
 /// How long lines wait at most, and how many bytes of them.
 const LONGEST_WAIT: Duration = Duration::from_millis(50);
 const MOST_WAITING: usize = 65_536;
@@ -237,14 +242,17 @@ fn locked(path: &Path) -> Result<File, Error> {
     if !file.metadata().map_err(unread)?.is_file() {
         return Err(bad("it is no file".into()));
     }
-    match file.try_lock() {
-        Ok(()) => Ok(file),
-        Err(TryLockError::WouldBlock) => {
-            let fault = "it is open already, in this process or another";
-            Err(Error::new(ErrorKind::PartInUse, fault))
+    for _ in 0..TRIES {
+        match file.try_lock() {
+            Ok(()) => return Ok(file),
+            Err(TryLockError::WouldBlock) => thread::sleep(REST),
+            Err(TryLockError::Error(error)) => {
+                return Err(bad(format!("it can't be locked ({error})")));
+            }
         }
-        Err(TryLockError::Error(error)) => Err(bad(format!("it can't be locked ({error})"))),
     }
+    let fault = "it is open already, in this process or another";
+    Err(Error::new(ErrorKind::PartInUse, fault))
 }
 
 fn begin(mut file: &File, path: &Path, head: &str, is_synced: bool) -> io::Result<()> {
@@ -284,7 +292,7 @@ fn resume(file: &File, head: &str, node: &mut Node) -> Result<u64, Error> {
             None => return Err(bad(format!("line {number} is longer than that of a call"))),
         }
         whole += line.len() as u64;
-        if number % u64::from(MOST_KEPT) == 0 {
+        if number.is_multiple_of(u64::from(MOST_KEPT)) {
             node.forget();
         }
     }

@@ -205,7 +205,7 @@ fn fill(node: &Arc<Registry>) {
         node.grant("p", 0, 1).map(drop),
         node.shift("p", 0, 2, 1).map(drop),
         node.emit(0).map(drop),
-        node.deliver(&message("off")).map(drop),
+        node.deliver(&message("5*off")).map(drop),
         node.answer("PUT", "/fail/q", b"off").map(drop),
     ]
     .map(|refused| refused.unwrap_err().kind());
@@ -229,11 +229,12 @@ fn a_full_disk_tells_no_call_that_is_not_in_the_part() {
         let words = format!("trap '' XFSZ; ulimit -f {blocks}; exec \"$@\"");
         let front = ["sh", "-c", &words, "sh"];
         let told = process(&front, &path, "fills").output().unwrap();
+        let errors = String::from_utf8(told.stderr).unwrap();
         let told = String::from_utf8(told.stdout).unwrap();
         let ran = told.lines().filter(|line| *line == "ran").count() as u64;
-        assert!(told.contains("filled\n") && ran > 0, "{told}");
+        assert!(told.contains("filled\n") && ran > 0, "{told}{errors}");
         let left = fs::read(&path).unwrap();
-        assert!(left.len() % 512 == 0 && left.last() != Some(&b'\n'));
+        assert!(left.len().is_multiple_of(512) && left.last() != Some(&b'\n'));
         let node = open(&path);
         assert_eq!(node.calls().unwrap(), ran + 1);
         assert_eq!(node.spent("p", 0).unwrap(), u128::from(ran));

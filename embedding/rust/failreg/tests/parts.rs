@@ -191,13 +191,7 @@ fn another_file_is_refused_and_stays() {
     let none = "it is no part of a node: ";
     let drill = b"{\"failreg\":\"drill\",\"version\":1}\n{\"trace\":0}\n{\"list\":0}\n";
     is_bad(builder(), drill, none);
-    for bytes in [
-        "\n",
-        "{}",
-        "{\"cap\":10",
-        "a letter\nof two lines\n",
-        "\u{feff}",
-    ] {
+    for bytes in ["\n", "{}", "a letter\nof two lines\n", "\u{feff}"] {
         is_bad(builder(), bytes.as_bytes(), none);
     }
     is_bad(builder(), &[0xff; 100_000], none);
