@@ -111,7 +111,8 @@ fn a_part_has_the_entries_of_a_drill() {
 fn a_line_without_an_end_is_cut_off() {
     let path = new_file("cut");
     let node = open(&path);
-    steps().iter().take(20).for_each(|step| step(&node));
+    steps().iter().take(6).for_each(|step| step(&node));
+    assert!(node.pass("q").is_ok());
     drop(node);
     let whole = text_of(&path).into_bytes();
     let head = whole.iter().position(|b| *b == b'\n').unwrap() + 1;
