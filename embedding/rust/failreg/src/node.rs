@@ -10,6 +10,9 @@ use std::time::Duration;
 /// More bytes than the text of any refusal has.
 const LONGEST_FAULT: usize = 256;
 
+/// As many bytes as what is fetched seldom has more of, so that it is mostly fetched at once.
+const MOST_FETCHED: usize = 256;
+
 pub struct Node {
     handle: sys::failreg,
 }
@@ -104,16 +107,21 @@ impl Node {
     }
 
     fn fetch(&mut self) -> Vec<u8> {
-        // SAFETY: with room 0 nothing is written.
-        let length = unsafe { sys::failreg_fetch(&mut self.handle, [0u8].as_mut_ptr(), 0) };
-        let mut bytes = vec![0; length];
-        // SAFETY: the vector has so many bytes.
-        unsafe { sys::failreg_fetch(&mut self.handle, bytes.as_mut_ptr(), length) };
-        bytes
+        let mut bytes = vec![0; MOST_FETCHED];
+        loop {
+            let (into, room) = (bytes.as_mut_ptr(), bytes.len());
+            // SAFETY: the vector has so many bytes.
+            let length = unsafe { sys::failreg_fetch(&mut self.handle, into, room) };
+            bytes.resize(length, 0);
+            if length <= room {
+                return bytes;
+            }
+        }
     }
 
     fn fetch_text(&mut self) -> String {
-        String::from_utf8_lossy(&self.fetch()).into_owned()
+        String::from_utf8(self.fetch())
+            .unwrap_or_else(|other| String::from_utf8_lossy(other.as_bytes()).into_owned())
     }
 
     /// The first line of the node's part, without a newline.
