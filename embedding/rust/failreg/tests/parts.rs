@@ -438,11 +438,13 @@ fn lines_of_passes_that_took_no_right_may_wait() {
     node.answer("GET", "/report", b"").unwrap();
     assert_eq!(lines(), 16);
     // Another setting of the same name counts.
-    node.set("free", "3*off").unwrap();
+    node.set("free", "3*off->off").unwrap();
+    for lines_by_now in 18..21 {
+        node.pass("free").unwrap();
+        assert_eq!(lines(), lines_by_now);
+    }
     node.pass("free").unwrap();
-    assert_eq!(lines(), 18);
-    node.pass("p").unwrap();
     drop(node);
-    assert_eq!(lines(), 19);
-    assert_eq!(open(&path).spent("free", 0).unwrap(), 1);
+    assert_eq!(lines(), 21);
+    assert_eq!(open(&path).spent("free", 0).unwrap(), 3);
 }
