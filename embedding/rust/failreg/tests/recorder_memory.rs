@@ -1,5 +1,5 @@
-//! What a registry that writes its drill keeps of its calls: nothing. The memory of this program is
-//! counted, so that no other test runs in it.
+//! What a registry that writes its drill, or its part, keeps of its calls: nothing. The memory of this
+//! program is counted, so that no other test runs in it.
 
 use failreg::{Recorder, Registry};
 use std::alloc::{GlobalAlloc, Layout, System};
@@ -38,15 +38,29 @@ fn in_use_after(node: &Registry, passes: u32) -> usize {
     IN_USE.load(Ordering::Relaxed)
 }
 
-#[test]
-fn a_registry_that_writes_keeps_no_call() {
-    let recorder = Recorder::new(io::sink());
-    let node = Registry::builder().recording_to(&recorder).build().unwrap();
+fn keeps_nothing(node: &Registry) {
     node.set("p", "50%10*return(x)->1%sleep(1)->off").unwrap();
-    let early = in_use_after(&node, 4_000);
-    let late = in_use_after(&node, 100_000);
+    let early = in_use_after(node, 4_000);
+    let late = in_use_after(node, 100_000);
     assert!(
         late < early + 4096,
         "{early} bytes after 4,000 passes, then {late}"
     );
+}
+
+#[test]
+fn a_registry_that_writes_keeps_no_call() {
+    let recorder = Recorder::new(io::sink());
+    keeps_nothing(&Registry::builder().recording_to(&recorder).build().unwrap());
+    let path = concat!(env!("CARGO_TARGET_TMPDIR"), "/part_of_much");
+    _ = std::fs::remove_file(path);
+    let open = || Registry::builder().recording(path).build().unwrap();
+    let before = IN_USE.load(Ordering::Relaxed);
+    keeps_nothing(&open());
+    // Nor does one that goes on from its part.
+    let node = open();
+    let after = IN_USE.load(Ordering::Relaxed);
+    assert!(after < before + 16_384, "{before} bytes, then {after}");
+    assert_eq!(node.calls().unwrap(), 104_001);
+    keeps_nothing(&node);
 }
