@@ -16,12 +16,12 @@ use Rattle.audit.specs.declared.tally.Tally.{Tally}
 use Rattle.audit.specs.Sums.{sum_of}
 use Rattle.audit.specs.Counts.{count_kept, AreCountsOf, AddsKeys}
 use Rattle.audit.specs.Tallies.{keys_from, granted_by, executed_in, calls_of, Notes, IsTallied}
-use Rattle.audit.specs.Traces.{Traces, trace_of, audited, IsLegalAlone}
+use Rattle.audit.specs.Traces.{Traces, trace_of, audited}
+use Rattle.node_core.specs.Resumed.{IsLegalAlone}
 use Rattle.audit.proofs.CountsKept.{adds_behind, adds_none}
 use Rattle.std.proofs.lemmas.Option.{slice_get_within}
 use Rattle.audit.proofs.LegalCalls.{legal_short}
-use Rattle.audit.proofs.Replayed.{alone}
-use Rattle.audit.proofs.Steps.{take_one_more}
+use Rattle.node_core.proofs.Repeated.{alone, take_one_more}
 use Rattle.audit.proofs.Tallied.{keys_more, granted_more, executed_more}
 
 nothing_kept : {K X : Type 0} (test : K → Bool) (es : List (K × X)) (v : X) → es ≡ [] → lookup test es ≡ Some v → ⊥

@@ -9,12 +9,6 @@ use Rattle.audit.specs.Schedules.{Step, entries_at, WasEmitted, AreFed}
 use Rattle.audit.specs.Places.{count_at, emitted_at, IsSent, IsReady, IsRun, step_with, steps_at}
 use Rattle.audit.proofs.Runs.{count_cases}
 
-pub take_one_more : (es : List Told) (k : ℕ) (e : Told) → slice_get es k ≡ Some e →
-    take (suc k) es ≡ take k es ++ e ∷ []
-take_one_more [] k e is = absurd (cc is)
-take_one_more (f ∷ es) zero e is = let same : f ≡ e = cc is in ap (λ x. x ∷ []) same
-take_one_more (f ∷ es) (suc k) e is = ap (λ xs. f ∷ xs) (take_one_more es k e is)
-
 pub take_whole : (es : List Told) → take (length es) es ≡ es
 take_whole [] = refl
 take_whole (e ∷ es) = ap (λ xs. e ∷ xs) (take_whole es)

@@ -7,10 +7,11 @@ use Rattle.node_calls.specs.Asks.{call_from}
 use Rattle.node_core.proofs.LegalTraces.{nothing_legal}
 use Rattle.node_core.specs.Nodes.{start}
 use Rattle.packed_trace.specs.Packed.{seen_told}
-use Rattle.audit.specs.Replays.{IsLegalKept}
+use Rattle.node_core.specs.Resumed.{IsLegalKept}
 use Rattle.node_core.specs.Traces.{with_call}
 use Rattle.audit.specs.Tallies.{Notes}
-use Rattle.audit.proofs.Replayed.{first_wrong_at, index_small, replayed_more, whole_legal}
+use Rattle.audit.proofs.Replayed.{index_small}
+use Rattle.node_core.proofs.Repeated.{first_wrong_at, replayed_more, whole_legal}
 use Rattle.audit.proofs.NotedAll.{notes_none, entry_noted, calls_taken, take_past}
 use Rattle.audit.proofs.replay.first_wrong.Goals as goal
 
