@@ -120,6 +120,13 @@ N1 TraceFull
   Refused are: each call that takes memory
   Because: memory was refused
   What to do: make the call again
+|N23 Differs index=
+  Of a node
+  Refused are: making a node of recorded calls
+  Because: the node of the calls before refuses the call of this number, which
+    counts from 0, or answers it otherwise than is recorded
+  What to do: give the record of this very node, as it was written: a call that
+    was altered or left out can't be made good
 |NoNode
   Of a cluster
   Refused are: each call; in a script each question too
