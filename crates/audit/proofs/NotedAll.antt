@@ -139,11 +139,7 @@ node_tallied old new nodes traces i short t n = subst (λ j. IsTallied new nodes
     many = length-map (trace_of traces i) (call_from nodes)
 
 -- all are taken where none comes next
-pub take_past : (es : List Told) (j : ℕ) → slice_get es j ≡ None → take j es ≡ es
-take_past [] zero h = refl
-take_past [] (suc j) h = refl
-take_past (e ∷ es) zero h = absurd (cc h)
-take_past (e ∷ es) (suc j) h = ap (λ xs. e ∷ xs) (take_past es j h)
+
 
 pub calls_taken : (config : Config) (es : List Told) (j : ℕ) (e : Told) → slice_get es j ≡ Some e →
     length (map (call_from config.nodes) (take j es)) ≡ j

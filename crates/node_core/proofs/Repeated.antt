@@ -345,3 +345,10 @@ pub whole_legal : (config : Config) (es : List Told) (k : ℕ) (core : Kept) →
     take k es ≡ es → IsLegalKept core → IsLegalAlone config es
 whole_legal config es k core so_far whole legal = subst (λ xs. IsLegalKept (alone config xs)) whole
     (subst IsLegalKept so_far legal)
+
+-- past its end a list is taken whole
+pub take_past : (es : List Told) (j : ℕ) → slice_get es j ≡ None → take j es ≡ es
+take_past [] zero h = refl
+take_past [] (suc j) h = refl
+take_past (e ∷ es) zero h = absurd (cc h)
+take_past (e ∷ es) (suc j) h = ap (λ xs. e ∷ xs) (take_past es j h)

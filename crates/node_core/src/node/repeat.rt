@@ -112,7 +112,7 @@ impl NodeCore {
         ensures only { IfErr result (λ fault. fault ≡ NodeFault.OutOfMemory) }
         ensures err { OnErr result (self.new ≡ self.old) }
     {
-        reply_tells(self.config.nodes, &entry.reply);
+        reply_tells(self.config().nodes, &entry.reply);
         match self.answer(alloc, &entry.ask, &entry.words) {
             Ok(made) => Ok(made.as_ref().is_same(entry.reply.as_ref())),
             Err(fault) => refused(fault),
