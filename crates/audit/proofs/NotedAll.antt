@@ -138,9 +138,6 @@ node_tallied old new nodes traces i short t n = subst (λ j. IsTallied new nodes
     many : length (calls_of nodes traces i) ≡ length (trace_of traces i)
     many = length-map (trace_of traces i) (call_from nodes)
 
--- all are taken where none comes next
-
-
 pub calls_taken : (config : Config) (es : List Told) (j : ℕ) (e : Told) → slice_get es j ≡ Some e →
     length (map (call_from config.nodes) (take j es)) ≡ j
 calls_taken config es j e is =
