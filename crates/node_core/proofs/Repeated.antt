@@ -1,7 +1,8 @@
 -- What a node answers to a call that is made again, against what is told of it.
-use Rattle.std.proofs.Common.{◌≡◌, inl, inr, ℕ, zero, suc, ◌+◌, ◌≤◌, ◌^◌, ◌++◌, Bool, true, false, List, [], ◌∷◌, length, map, take, Option, Some, None, Result, Ok, Err, refl, sym, ◌∙◌, ap, subst, arith, slice_get, add-one}
+use Rattle.std.proofs.Common.{◌≡◌, inl, inr, ℕ, zero, suc, ◌+◌, ◌<◌, ◌≤◌, ◌^◌, ◌++◌, Bool, true, false, List, [], ◌∷◌, length, map, take, Option, Some, None, Result, Ok, Err, refl, sym, ◌∙◌, ap, subst, arith, slice_get, add-one}
 use Rattle.std.specs.Prelude.{option_map}
-use Rattle.std.proofs.lemmas.List.{map-append}
+use Rattle.std.proofs.lemmas.List.{length-map, length-take-le, map-append}
+use Rattle.std.proofs.lemmas.Option.{slice_get_within}
 use Rattle.refusals.specs.Refusals.{first_fault}
 use Rattle.replica_state.specs.Deltas.{IsDelta}
 use Rattle.message_format.specs.declared.fault.WireFault.{WireFault}
@@ -352,3 +353,10 @@ take_past [] zero h = refl
 take_past [] (suc j) h = refl
 take_past (e ∷ es) zero h = absurd (cc h)
 take_past (e ∷ es) (suc j) h = ap (λ xs. e ∷ xs) (take_past es j h)
+
+-- and up to the place of one it has as many as the place says, and one more
+pub taken_length : (config : Config) (es : List Told) (k : ℕ) (e : Told) → slice_get es k ≡ Some e →
+    length (map (call_from config.nodes) (take (k + 1) es)) ≡ k + 1
+taken_length config es k e is =
+    let below : k < length es = slice_get_within es k e is in
+    length-map (take (k + 1) es) (call_from config.nodes) ∙ length-take-le (k + 1) es (omega (arith, below))
