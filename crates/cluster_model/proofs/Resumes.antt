@@ -1,10 +1,10 @@
 -- Nodes that go on from all that they did.
-use Rattle.std.proofs.Common.{◌≡◌, inl, inr, ℕ, ◌+◌, Bool, List, [], ◌∷◌, map, take, refl, sym, ◌∙◌, ap, subst}
+use Rattle.std.proofs.Common.{◌≡◌, inl, inr, ℕ, ◌+◌, List, [], ◌∷◌, map, refl, sym, ◌∙◌, ap, subst}
 use Rattle.std.specs.Prelude.{◌==◌, if◌then◌else◌}
 use Rattle.std.proofs.lemmas.Bool.Decides.{eqb_tells}
-use Rattle.node_calls.specs.Asks.{Call, call_from}
+use Rattle.node_calls.specs.Asks.{call_from}
 use Rattle.node_calls.specs.Told.{Told}
-use Rattle.node_core.specs.Nodes.{Node, start}
+use Rattle.node_core.specs.Nodes.{start}
 use Rattle.node_core.specs.Resumed.{IsFirstWrong}
 use Rattle.node_core.specs.Traces.{IsLegal, replay}
 use Rattle.node_core.proofs.LegalTraces.{legal_prefix}
