@@ -1,5 +1,5 @@
 -- Legal traces, call by call, and how many calls they have.
-use Rattle.std.proofs.Common.{◌≡◌, ℕ, zero, suc, ◌+◌, ◌<◌, ◌≤◌, Bool, true, false, List, [], ◌∷◌, ◌++◌, length, take, Option, Some, None, refl, sym, subst, arith, slice_get}
+use Rattle.std.proofs.Common.{◌≡◌, ℕ, zero, suc, ◌+◌, ◌<◌, ◌≤◌, Bool, true, false, List, [], ◌∷◌, length, take, Option, Some, None, refl, subst, arith, slice_get}
 use Rattle.std.specs.Prelude.{nat_le}
 use Rattle.std.specs.Bool.{then_some}
 use Rattle.std.proofs.lemmas.Bool.Decides.{nat_tests}
@@ -10,10 +10,10 @@ use Rattle.node_calls.specs.declared.fault.NodeFault.TheVariants as faults
 use Rattle.node_calls.specs.Asks.{Asked, Call}
 use Rattle.node_calls.specs.Asks as asks
 use Rattle.node_core.specs.Nodes.{Node}
-use Rattle.node_core.specs.Steps.{after, reply}
+use Rattle.node_core.specs.Steps.{after}
 use Rattle.node_core.specs.Refusals.{refusal_at, is_full}
 use Rattle.node_core.specs.Resumed.{IsLegalCall}
-use Rattle.node_core.specs.Traces.{SendsDelta, IsLegalFrom, replay_from}
+use Rattle.node_core.specs.Traces.{IsLegalFrom, replay_from}
 use Rattle.cluster_model.specs.Worlds.{cluster_of, config_of}
 
 -- the call at an index of a legal trace

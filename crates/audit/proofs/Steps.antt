@@ -3,6 +3,7 @@ use Rattle.std.proofs.Common.{◌≡◌, ◌≢◌, ◌⊎◌, inl, inr, ℕ, ze
 use Rattle.std.specs.Prelude.{option_and_then}
 use Rattle.std.proofs.lemmas.Bool.Decides.{eqb_tells}
 use Rattle.node_calls.specs.Told.{Told}
+use Rattle.node_core.proofs.Repeated.{take_one_more}
 use Rattle.audit.specs.Messages.{bytes_emitted}
 use Rattle.audit.specs.Traces.{Traces, trace_of, entry_at}
 use Rattle.audit.specs.Schedules.{Step, entries_at, WasEmitted, AreFed}

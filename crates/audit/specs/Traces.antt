@@ -1,9 +1,7 @@
 -- The traces of a cluster, and which of them are legal.
-use Rattle.std.specs.Prelude.{◌≡◌, ℕ, zero, suc, ◌+◌, ◌-◌, ◌^◌, ◌<◌, ◌≤◌, List, [], ◌∷◌, length, map, take, slice_get, Option, Some}
+use Rattle.std.specs.Prelude.{◌≡◌, ℕ, zero, suc, ◌-◌, ◌^◌, ◌<◌, ◌≤◌, List, [], ◌∷◌, length, slice_get, Option}
 use Rattle.message_format.specs.Limits.{max_nodes}
-use Rattle.node_core.specs.declared.config.Config.{Config}
 use Rattle.node_calls.specs.Told.{Told}
-use Rattle.node_calls.specs.Asks.{call_from}
 use Rattle.node_core.specs.Resumed.{IsFirstWrong, IsLegalAlone}
 use Rattle.packed_trace.specs.Packed.{Packed}
 use Rattle.cluster_model.specs.Worlds.{Cluster, config_of, cluster_of}

@@ -57,6 +57,19 @@ loop-seen-preserved c =
           c.loop-seen.core c.repeat.new.self c.loop-seen.invariant.core is made;
     }
 
+pub note-requires-clause-after : goal.note-requires-clause-after
+note-requires-clause-after c =
+    let call = call_from c.loop-seen.core.config.nodes (seen_told c.in-Some.seen) in
+    let made = subst (λ b. OnTrue b (c.repeat.new.self ≡ with_call c.loop-seen.core call)) c.if-not-branch.false
+    c.in_ok-repeat.ensures.made in
+    let next = c.in_ok-repeat.ensures.given.0 c.if-not-branch.false in (
+      c.loop-seen.core,
+      record {
+        made = made;
+        legal = subst IsLegalKept (sym made) (legal_next c.loop-seen.core call c.loop-seen.invariant.legal next);
+      },
+    )
+
 pub note-requires-clause-granted : goal.note-requires-clause-granted
 note-requires-clause-granted c = λ stamp term.
     let is = sym c.at.ensures ∙ ap (option_map seen_told) c.in-Some.is in
