@@ -126,9 +126,6 @@ fn push_entry(traces: &mut Vec<Trace>, node: u64, entry: Entry) -> Result<bool, 
     let Some(trace) = traces.get_mut(node as usize) else {
         return Ok(false);
     };
-    if trace.len() > u32::MAX as usize {
-        return Err(AllocError);
-    }
     trace.reserve_entry()?;
     trace.push_entry(entry);
     Ok(true)
@@ -213,7 +210,7 @@ fn put_line(alloc: Global, so_far: &mut SoFar, line: Line) -> Result<bool, Alloc
         (after_head (so_far_of so_far.old) (line_told line)) (so_far_of so_far.new)) }
 {
     match line {
-        Line::Head { .. } => Ok(false),
+        Line::Head { .. } | Line::Part(_) => Ok(false),
         Line::Trace { node, from } => put_trace(alloc, so_far, node, from),
         Line::Entry(entry) => put_entry(so_far, entry),
         Line::List { number, from } => put_list(alloc, so_far, number, from),
@@ -245,7 +242,11 @@ fn at_start(alloc: Global, line: Line) -> Option<SoFar>
             },
             place: Place::Nowhere,
         }),
-        Line::Trace { .. } | Line::Entry(_) | Line::List { .. } | Line::Receipt(_) => None,
+        Line::Trace { .. }
+        | Line::Entry(_)
+        | Line::List { .. }
+        | Line::Receipt(_)
+        | Line::Part(_) => None,
     }
 }
 
