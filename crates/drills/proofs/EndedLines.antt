@@ -1,9 +1,10 @@
 -- Bytes as lines that newlines end, and what stands behind the last of them.
-use Rattle.std.proofs.Common.{◌≡◌, ℕ, ◌<◌, ◌==◌, Bool, true, false, not, List, [], ◌∷◌, ◌++◌, length, map, flat_map, Option, Some, None, refl, sym, ap, ◌∙◌, arith, append_assoc, inl, inr}
+use Rattle.std.proofs.Common.{◌≡◌, ℕ, ◌<◌, ◌==◌, Bool, true, false, not, List, [], ◌∷◌, ◌++◌, length, map, flat_map, cond, Option, Some, None, refl, sym, ap, ◌∙◌, subst, arith, append_assoc, inl, inr}
 use Rattle.std.specs.Prelude.{All, IfSome}
 use Rattle.std.specs.Io.BufRead.{drop_through, ends_with_byte, first_piece, strip_last, take_through}
 use Rattle.std.proofs.lemmas.Bool.{cases_Bool, cond_both, cond-false, cond-true, eqb-true, or_from, or_parts}
 use Rattle.std.proofs.lemmas.List.Elements.{All-head, All-tail}
+use Rattle.drills.specs.declared.part_reader.Next.{Next}
 use Rattle.drills.specs.declared.part_reader.Next.TheVariants.{Line, End}
 use Rattle.drills.specs.Drills.{ended, newline}
 use Rattle.drills.specs.Lines.{LineTold, line_text}
@@ -171,3 +172,17 @@ next_none (Some (x ∷ xs)) new bytes line b none = absurd (some_through x xs (s
     some_through : (x : ℕ) (xs : List ℕ) → length (take_through 10 (x ∷ xs)) ≡ 0 → ⊥
     some_through x xs = cond_both (x == 10) (x ∷ []) (x ∷ take_through 10 xs) (λ l. length l ≡ 0 → ⊥)
         (λ _ e. omega (arith, e)) (λ _ e. omega (arith, e))
+
+-- what was taken, as its last byte says
+pub next_taken : (old new : Option (List ℕ)) (bytes line : List ℕ) (next : Next) →
+    IfSome old (λ xs. bytes ≡ take_through 10 xs) → IfSome old (λ xs. new ≡ Some (drop_through 10 xs))
+    → 0 < length bytes → next ≡ cond (ends_with_byte 10 bytes) Line (End true) → line ≡ strip_last 10 bytes →
+    IfSome old (λ xs. IsNext next line xs new)
+next_taken old new bytes line next taken rest some is l = so (ends_with_byte 10 bytes) refl is
+  where
+    so : (b : Bool) → ends_with_byte 10 bytes ≡ b → next ≡ cond b Line (End true) →
+        IfSome old (λ xs. IsNext next line xs new)
+    so true ends e = subst (λ (n : Next). IfSome old (λ xs. IsNext n line xs new)) (sym e)
+        (next_line old new bytes line taken rest some ends l)
+    so false ends e = subst (λ (n : Next). IfSome old (λ xs. IsNext n line xs new)) (sym e)
+        (next_cut old new bytes line taken some ends)

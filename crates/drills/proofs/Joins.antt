@@ -1,14 +1,17 @@
 -- Parts that join to a drill.
-use Rattle.std.proofs.Common.{◌≡◌, ◌≢◌, ℕ, zero, suc, ◌+◌, ◌-◌, ◌<◌, ◌≤◌, ◌==◌, Bool, true, false, List, [], ◌∷◌, ◌++◌, length, get_or, map, take, drop, Option, Some, None, Result, Ok, Err, refl, sym, ap, ◌∙◌, subst, arith, append-nil}
-use Rattle.std.specs.Prelude.{if◌then◌else◌, option_map, option_and_then, slice_get}
+use Rattle.std.proofs.Common.{◌≡◌, ◌≢◌, ℕ, zero, suc, ◌+◌, ◌-◌, ◌<◌, ◌≤◌, ◌==◌, Bool, true, false, List, [], ◌∷◌, ◌++◌, length, get_or, map, take, drop, Option, Some, None, Result, Ok, Err, refl, sym, ap, ◌∙◌, subst, arith, length-append}
+use Rattle.std.specs.Prelude.{if◌then◌else◌, option_map, slice_get, Vec}
 use Rattle.std.proofs.lemmas.Bool.{cond-false, cond-true, eqb-true, ne_eqb}
 use Rattle.std.proofs.lemmas.List.{at_drop_all, at_drop_more, length-take-le, map-append}
-use Rattle.node_calls.specs.Told.{Told}
+use Rattle.std.specs.declared.alloc.Global.{Global}
+use Rattle.node_calls.specs.declared.receipt.Receipt.{Receipt}
+use Rattle.node_calls.specs.Told.{Told, told}
+use Rattle.packed_trace.specs.Packed.{Packed}
 use Rattle.packed_trace.proofs.Stays.{taken_one}
 use Rattle.drills.specs.declared.part.Part.{Part}
 use Rattle.drills.specs.declared.join_fault.JoinFault.{JoinFault}
-use Rattle.drills.specs.Lines.{HeadTold, head_told, ReceiptTold}
-use Rattle.drills.specs.Drills.{DrillTold}
+use Rattle.drills.specs.Lines.{HeadTold, head_told, receipt_told}
+use Rattle.drills.specs.Drills.{DrillTold, lists_told, traces_told}
 use Rattle.drills.specs.Parts.{PartTold, part_of}
 use Rattle.drills.specs.Joined.{ListsAreTraces, at, drill_of_traces, first_of, first_other, is_beside, joined_by, joined_of, least, lists_from, nodes_of, parts_of, receipt_at, receipts_from, trace_of, traces_below}
 use Rattle.drills.specs.Places.{place_from}
@@ -87,11 +90,11 @@ count_none node parts i past = at_drop_all (λ (ps : List Part). parts_of node (
 -- ---- the least number
 
 pub least_none : (test : ℕ → Bool) (n : ℕ) → least test n ≡ None → test n ≡ false → least test (n + 1) ≡ None
-least_none test n e no =
+least_none test n e fails =
     let next : n + 1 ≡ suc n = omega arith in
     ap (least test) next
     ∙ ap (λ o. first_of o (if test n then Some n else None)) e
-    ∙ cond-false (test n) (Some n) None no
+    ∙ cond-false (test n) (Some n) None fails
 
 least_stays : (test : ℕ → Bool) (n x more : ℕ) → least test n ≡ Some x → least test (n + more) ≡ Some x
 least_stays test n x zero e = let same : n + 0 ≡ n = omega arith in ap (least test) same ∙ e
@@ -101,10 +104,10 @@ least_stays test n x (suc more) e =
     ∙ ap (λ o. first_of o (if test (n + more) then Some (n + more) else None)) (least_stays test n x more e)
 
 pub least_found : (test : ℕ → Bool) (i n : ℕ) → least test i ≡ None → test i ≡ true → i < n → least test n ≡ Some i
-least_found test i n e yes low =
+least_found test i n e holds low =
     let split : suc i + (n - suc i) ≡ n = omega (arith, low) in
     let here : least test (suc i) ≡ Some i =
-    ap (λ o. first_of o (if test i then Some i else None)) e ∙ cond-true (test i) (Some i) None yes in
+    ap (λ o. first_of o (if test i then Some i else None)) e ∙ cond-true (test i) (Some i) None holds in
     ap (least test) (sym split) ∙ least_stays test (suc i) i (n - suc i) here
 
 -- ---- the part of a node, taken out
@@ -117,49 +120,54 @@ record IsFirstOf (node place : ℕ) (parts : List Part) (found : ℕ) : Type 0 w
   pub is : (p : Part) → p ≡ get_or parts index p → p.head.node ≡ node
   pub calls : (p : Part) → p ≡ get_or parts index p → p.trace.calls ≡ trace_of node (map part_of parts)
 
+first_at : (node place : ℕ) (q : Part) (parts : List Part) (found : ℕ)
+    → (place_from node (place + 1) (map part_of parts) ≡ Some found → IsFirstOf node (place + 1) parts found)
+    → (b : Bool) → (q.head.node == node) ≡ b
+    → (if b then Some place else place_from node (place + 1) (map part_of parts)) ≡ Some found →
+    IsFirstOf node place (q ∷ parts) found
+first_at node place q parts found rest true same e =
+    let here : place ≡ found = cc in
+    record {
+      index = 0;
+      there = omega (arith, here);
+      low = omega arith;
+      is = λ p is. ap (λ (x : Part). x.head.node) is ∙ eqb-true q.head.node node same;
+      calls = λ p is. ap (λ (x : Part). x.trace.calls) is
+          ∙ sym (cond-true (q.head.node == node) q.trace.calls (trace_of node (map part_of parts)) same);
+    }
+first_at node place q parts found rest false other e =
+    let so = rest e in
+    let there = so.there in
+    let low = so.low in
+    record {
+      index = suc so.index;
+      there = omega (arith, there);
+      low = omega (arith, low);
+      is = so.is;
+      calls = λ p is. so.calls p is
+          ∙ sym (cond-false (q.head.node == node) q.trace.calls (trace_of node (map part_of parts)) other);
+    }
+
 is_first : (node place : ℕ) (parts : List Part) (found : ℕ) → place_from node place (map part_of parts) ≡ Some found →
     IsFirstOf node place parts found
 is_first node place [] found e = absurd cc
-is_first node place (q ∷ parts) found e = by (q.head.node == node) refl e
-  where
-    by : (b : Bool) → (q.head.node == node) ≡ b
-        → (if b then Some place else place_from node (place + 1) (map part_of parts)) ≡ Some found →
-        IsFirstOf node place (q ∷ parts) found
-    by true same e =
-        let here : place ≡ found = cc in
-        record {
-          index = 0;
-          there = omega (arith, here);
-          low = omega arith;
-          is = λ p is. ap (λ (x : Part). x.head.node) is ∙ eqb-true q.head.node node same;
-          calls = λ p is. ap (λ (x : Part). x.trace.calls) is
-              ∙ sym (cond-true (q.head.node == node) q.trace.calls (trace_of node (map part_of parts)) same);
-        }
-    by false other e =
-        let so = is_first node (place + 1) parts found e in
-        let there = so.there in
-        let low = so.low in
-        record {
-          index = suc so.index;
-          there = omega (arith, there);
-          low = omega (arith, low);
-          is = so.is;
-          calls = λ p is. so.calls p is
-              ∙ sym (cond-false (q.head.node == node) q.trace.calls (trace_of node (map part_of parts)) other);
-        }
+is_first node place (q ∷ parts) found e =
+    first_at node place q parts found (is_first node (place + 1) parts found) (q.head.node == node) refl e
+
+none_at : (node place : ℕ) (q : Part) (parts : List Part)
+    → (place_from node (place + 1) (map part_of parts) ≡ None → [] ≡ trace_of node (map part_of parts))
+    → (b : Bool) → (q.head.node == node) ≡ b
+    → (if b then Some place else place_from node (place + 1) (map part_of parts)) ≡ None →
+    [] ≡ trace_of node (map part_of (q ∷ parts))
+none_at node place q parts rest true same e = absurd cc
+none_at node place q parts rest false other e =
+    rest e ∙ sym (cond-false (q.head.node == node) q.trace.calls (trace_of node (map part_of parts)) other)
 
 pub none_of : (node place : ℕ) (parts : List Part) → place_from node place (map part_of parts) ≡ None →
     [] ≡ trace_of node (map part_of parts)
 none_of node place [] e = refl
-none_of node place (q ∷ parts) e = by (q.head.node == node) refl e
-  where
-    by : (b : Bool) → (q.head.node == node) ≡ b
-        → (if b then Some place else place_from node (place + 1) (map part_of parts)) ≡ None →
-        [] ≡ trace_of node (map part_of (q ∷ parts))
-    by true same e = absurd cc
-    by false other e =
-        none_of node (place + 1) parts e
-        ∙ sym (cond-false (q.head.node == node) q.trace.calls (trace_of node (map part_of parts)) other)
+none_of node place (q ∷ parts) e =
+    none_at node place q parts (none_of node (place + 1) parts) (q.head.node == node) refl e
 
 pub found_low : (node : ℕ) (parts : List Part) (i : ℕ) → place_from node 0 (map part_of parts) ≡ Some i →
     i < length parts
@@ -261,6 +269,45 @@ lists_more n parts =
     let place : 0 + length (traces_below n parts) ≡ n = omega (arith, long) in
     ap (lists_from 0) (traces_more n parts) ∙ lists_push 0 (traces_below n parts) (trace_of n parts)
     ∙ ap (λ k. lists_from 0 (traces_below n parts) ++ receipts_from k 0 (trace_of n parts) ∷ []) place
+
+-- the same of the code's values
+pub one_receipt : (node : ℕ) (calls : List Told) (i : ℕ) (list longer : List Receipt) (r : Receipt) →
+    map receipt_told list ≡ receipts_from node 0 (take i calls) → longer ≡ list ++ r ∷ []
+    → r.node ≡ node → r.index ≡ i → slice_get calls i ≡ Some (told r.entry) →
+    map receipt_told longer ≡ receipts_from node 0 (take (i + 1) calls)
+one_receipt node calls i list longer r so_far grown of place is =
+    ap (map receipt_told) grown ∙ map-append receipt_told list (r ∷ [])
+    ∙ ap (λ rs. rs ++ receipt_told r ∷ []) so_far
+    ∙ ap (λ n. receipts_from node 0 (take i calls) ++ receipt_at n r.index (told r.entry) ∷ []) of
+    ∙ ap (λ k. receipts_from node 0 (take i calls) ++ receipt_at node k (told r.entry) ∷ []) place
+    ∙ sym (receipt_more node calls i (told r.entry) is)
+
+pub one_trace : (n : ℕ) (parts : List PartTold) (traces longer : List Packed) (t : Packed) →
+    traces_told traces ≡ traces_below n parts → longer ≡ traces ++ t ∷ [] → t.calls ≡ trace_of n parts
+    → traces_told longer ≡ traces_below (n + 1) parts
+one_trace n parts traces longer t so_far grown is =
+    ap traces_told grown ∙ map-append (λ (t : Packed). t.calls) traces (t ∷ [])
+    ∙ ap (λ ts. ts ++ t.calls ∷ []) so_far ∙ ap (λ calls. traces_below n parts ++ calls ∷ []) is
+    ∙ sym (traces_more n parts)
+
+pub one_list : (n : ℕ) (parts : List PartTold) (lists longer : List (Vec Receipt Global)) (l : Vec Receipt Global) →
+    lists_told lists ≡ lists_from 0 (traces_below n parts) → longer ≡ lists ++ l ∷ []
+    → map receipt_told l.items ≡ receipts_from n 0 (trace_of n parts)
+    → lists_told longer ≡ lists_from 0 (traces_below (n + 1) parts)
+one_list n parts lists longer l so_far grown is =
+    ap lists_told grown ∙ map-append (λ (l : Vec Receipt Global). map receipt_told l.items) lists (l ∷ [])
+    ∙ ap (λ ls. ls ++ map receipt_told l.items ∷ []) so_far
+    ∙ ap (λ rs. lists_from 0 (traces_below n parts) ++ rs ∷ []) is
+    ∙ sym (lists_more n parts)
+
+pub joined_ok : (parts : List PartTold) (nodes : ℕ) (d : DrillTold) → nodes_of parts ≡ Ok nodes →
+    d ≡ drill_of_traces (traces_below nodes parts) → joined_of parts ≡ Ok d
+unfolding joined_of
+joined_ok parts nodes d e is = ap (joined_by parts) e ∙ ap (λ d. Ok d) (sym is)
+
+pub joined_err : (parts : List PartTold) (fault : JoinFault) → nodes_of parts ≡ Err fault → joined_of parts ≡ Err fault
+unfolding joined_of
+joined_err parts fault e = ap (joined_by parts) e
 
 -- ---- the lists of a joined drill
 

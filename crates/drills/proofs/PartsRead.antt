@@ -1,6 +1,6 @@
 -- What is read of bytes is the part that they are.
-use Rattle.std.proofs.Common.{◌≡◌, ℕ, suc, ◌+◌, ◌<◌, ◌≤◌, Bool, true, false, List, [], ◌∷◌, ◌++◌, length, map, flat_map, Option, Some, None, Result, Ok, Err, refl, sym, ap, ◌∙◌, subst, arith, append_assoc, append-nil, length-append}
-use Rattle.std.specs.Prelude.{All, IfOk, IfSome, nat_lt, ok_or, option_map, option_and_then}
+use Rattle.std.proofs.Common.{◌≡◌, ℕ, suc, ◌+◌, ◌<◌, ◌≤◌, Bool, true, false, List, [], ◌∷◌, ◌++◌, length, map, Option, Some, None, Result, Ok, Err, refl, sym, ap, ◌∙◌, subst, arith, append_assoc, append-nil, length-append}
+use Rattle.std.specs.Prelude.{All, IfOk, IfSome, if◌then◌else◌, nat_lt, ok_or, option_map, option_and_then}
 use Rattle.std.proofs.lemmas.Bool.{cond-true, lt-ltb, ltb-true}
 use Rattle.std.proofs.lemmas.List.Elements.{All-head, All-tail}
 use Rattle.node_calls.specs.Told.{Told}
@@ -10,12 +10,11 @@ use Rattle.drills.specs.declared.part.Part.{Part}
 use Rattle.drills.specs.declared.part_reader.Next.TheVariants.{Line, End}
 use Rattle.drills.specs.Drills.{or_line, ◌>>=◌}
 use Rattle.drills.specs.Lines.{LineTold, head, trace, entry, list, receipt, part_head, HeadTold, line_text}
-use Rattle.drills.specs.Parts.{CanBeRead, IsPart, PartTold, ended_in, is_cut, is_numbered, part_after, part_begun, part_from, part_grown, part_in, part_lines, part_of, part_text, part_with, whole_part, with_cut, with_entry}
+use Rattle.drills.specs.Parts.{CanBeRead, IsPart, PartTold, ended_in, is_cut, is_numbered, part_after, part_from, part_in, part_lines, part_of, part_text, part_with, whole_part, with_cut}
 use Rattle.drills.specs.Reading.{line_in}
 use Rattle.drills.specs.TakenEnded.{IsNext}
 use Rattle.drills.specs.Written.{ReadsBack}
 use Rattle.drills.proofs.EndedLines.{all_ended, none_cut}
-use Rattle.drills.proofs.Parts.{passed}
 
 -- ---- line by line
 
@@ -78,6 +77,12 @@ at_end p number (Some bytes) mid new line cut h last =
     let found : IsNext (End cut) line h.0 new = rw h.1 at last in
     sym h.2 ∙ ap (part_from (is_cut h.0) p number) found.0
     ∙ ap (λ c. or_line number (option_map (with_cut c) p)) (sym found.1)
+
+pub at_last : (p : Option PartTold) (part : Option Part) (number : ℕ) (old mid new : Option (List ℕ)) (line : List ℕ)
+    (cut : Bool) → option_map part_of part ≡ option_map (with_cut cut) p → IfPartGoesOn p number old mid
+    → IfSome mid (λ xs. IsNext (End cut) line xs new)
+    → IfSome old (λ bytes. part_in bytes ≡ or_line number (option_map part_of part))
+at_last p part number old mid new line cut is h last = rw is (at_end p number old mid new line cut h last)
 
 -- of the end of the lines: what was read so far, or the line behind it
 pub ends_part : (old : Option (List ℕ)) (part : Option Part) (number : ℕ) (r : Result Part DrillFault) →
@@ -206,7 +211,7 @@ are_entries h cut before (line ∷ lines) xs number p few e =
 record AreRead (cut : Bool) (lines : List (List ℕ)) (p : PartTold) : Type 0 where
   pub said : map line_in lines ≡ map (λ line. Some line) (part_lines p.head p.entries)
   pub allowed : CanBeRead p.head p.entries
-  pub cut : p.cut ≡ cut
+  pub ends : p.cut ≡ cut
 
 head_told : (cut : Bool) (line : List ℕ) (lines : List (List ℕ)) (p : PartTold) (o : Option LineTold) → line_in line ≡ o
     → goes_on cut 1 lines (option_and_then (part_with None) o) ≡ Ok p → AreRead cut (line ∷ lines) p
@@ -226,7 +231,7 @@ head_told cut line lines p (Some (part_head h)) is e = begun (is_numbered h) ref
         subst (λ (q : PartTold). AreRead cut (line ∷ lines) q) so.is (record {
           said = ap (λ x. x ∷ map line_in lines) is ∙ ap (λ ls. Some (part_head h) ∷ ls) so.said;
           allowed = record { numbered = numbered; capped = so.few };
-          cut = refl;
+          ends = refl;
         })
 
 are_read : (cut : Bool) (lines : List (List ℕ)) (p : PartTold) → part_from cut None 1 lines ≡ Ok p → AreRead cut lines p
@@ -237,7 +242,7 @@ pub part_read : (bytes : List ℕ) (p : PartTold) → part_in bytes ≡ Ok p →
 unfolding part_in
 part_read bytes p e =
     let so = are_read (is_cut bytes) (ended_in bytes) p e in
-    record { said = so.said; allowed = so.allowed; cut = so.cut }
+    record { said = so.said; allowed = so.allowed; cut = so.ends }
 
 pub is_part : {E : Type 0} (old : Option (List ℕ)) (r : Result Part E) →
     IfOk r (λ p. IfSome old (λ bytes. part_in bytes ≡ Ok (part_of p)))

@@ -1,5 +1,5 @@
 -- The drill that parts join to.
-use Rattle.std.specs.Prelude.{◌≡◌, ℕ, zero, suc, ◌+◌, Bool, true, false, ◌&&◌, ◌==◌, List, [], ◌∷◌, ◌++◌, nat_lt, slice_get, if◌then◌else◌, bytes_eq, Option, Some, None, option_map, option_and_then, Result, Ok, Err}
+use Rattle.std.specs.Prelude.{◌≡◌, ℕ, zero, suc, ◌+◌, Bool, ◌&&◌, ◌==◌, List, [], ◌∷◌, ◌++◌, nat_lt, slice_get, if◌then◌else◌, bytes_eq, Option, Some, None, option_map, option_and_then, Result, Ok, Err}
 use Rattle.node_calls.specs.Told.{Told}
 use Rattle.drills.specs.declared.join_fault.JoinFault.{JoinFault}
 use Rattle.drills.specs.declared.join_fault.JoinFault.TheVariants.{NoPart, OtherDrill, SamePart}

@@ -1,5 +1,5 @@
 -- Parts, of which each is the record of one node, as lines and as bytes.
-use Rattle.std.specs.Prelude.{◌≡◌, ℕ, ◌+◌, ◌≤◌, Bool, true, false, ◌&&◌, ◌==◌, not, List, [], ◌∷◌, ◌++◌, length, map, flat_map, nat_le, nat_lt, if◌then◌else◌, Option, Some, None, option_map, option_and_then, Result, Ok, Err}
+use Rattle.std.specs.Prelude.{◌≡◌, ℕ, ◌+◌, ◌≤◌, Bool, true, false, ◌&&◌, ◌==◌, not, List, [], ◌∷◌, ◌++◌, length, map, flat_map, nat_le, nat_lt, if◌then◌else◌, Option, Some, None, option_map, option_and_then, Result}
 use Rattle.node_calls.specs.Told.{Told}
 use Rattle.drills.specs.declared.part.Part.{Part}
 use Rattle.drills.specs.Lines.{LineTold, head, trace, entry, list, receipt, part_head, HeadTold, head_told}

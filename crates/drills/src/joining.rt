@@ -174,6 +174,9 @@ pub fn joined(alloc: Global, parts: Vec<Part>) -> Result<Drill, JoinFault>
     ensures err { IfErr result (λ fault. fault ≢ OutOfMemory
         → joined_of (map part_of parts.items) ≡ Err fault) }
 {
-    let nodes = nodes_of(&parts)?;
+    let nodes = match nodes_of(&parts) {
+        Ok(nodes) => nodes,
+        Err(fault) => return Err(fault),
+    };
     Ok(drill_in_order(alloc, parts, nodes)?)
 }
