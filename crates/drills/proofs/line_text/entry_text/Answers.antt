@@ -3,7 +3,7 @@ use Rattle.std.specs.String.{string_bytes}
 use Rattle.packed_trace.specs.Packed.{seen_told}
 use Rattle.drills.specs.Lines.{entry}
 use Rattle.drills.proofs.Said.{said}
-use Rattle.drills.proofs.line_text.call_text.Goals as goal
+use Rattle.drills.proofs.line_text.entry_text.Goals as goal
 
 pub returns : goal.returns
 returns c = IfOk-weaker c.printed.result _ _ (λ text is. said (entry (seen_told c.args.call)) (string_bytes text) _
