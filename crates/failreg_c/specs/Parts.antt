@@ -1,12 +1,12 @@
 -- The lines of a node's part, and calls that are made again.
-use Rattle.std.specs.Prelude.{◌≡◌, ◌⊎◌, ℕ, ◌+◌, ◌^◌, ◌%◌, List, length, IsUtf8, None, Some}
+use Rattle.std.specs.Prelude.{◌≡◌, ◌⊎◌, ℕ, ◌+◌, ◌^◌, ◌%◌, List, length, IsUtf8, Some}
 use Rattle.node_calls.specs.Asks.{call_from}
 use Rattle.node_calls.specs.Told.{Told}
 use Rattle.node_core.specs.Resumed.{IsNext}
 use Rattle.node_core.specs.Traces.{Kept, call_kept, with_call}
 use Rattle.drills.specs.Lines.{HeadTold, entry, line_text, part_head}
 use Rattle.drills.specs.Reading.{entry_in}
-use Rattle.failreg_c.specs.Numbers.{differs, no_memory, not_text}
+use Rattle.failreg_c.specs.Numbers.{no_memory, not_text}
 use Rattle.failreg_c.specs.Calls.{IsSaid}
 use Rattle.failreg_c.specs.declared.registry.Registry.{Registry}
 

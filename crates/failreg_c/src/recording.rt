@@ -1,11 +1,12 @@
 //! The lines of a node's part, and calls that are made again from there.
 
-ghost use Rattle.std.specs.Prelude.{◌≡◌, ◌≢◌, ◌⊎◌, MatchOption, None};
+ghost use Rattle.std.specs.Prelude.{◌≡◌, ◌≢◌, ◌⊎◌, string_bytes, IfOk, MatchOption, None};
 ghost use Rattle.node_core.specs.Traces.{call_kept};
+ghost use Rattle.drills.specs.Lines.{line_text, part_head};
 ghost use Rattle.drills.specs.Reading.{entry_in as entry_read};
 ghost use Rattle.failreg_c.specs.Numbers.{closed, differs, no_entry, no_line, no_memory};
 ghost use Rattle.failreg_c.specs.Calls.{Both};
-ghost use Rattle.failreg_c.specs.Parts.{IsEntrySaid, IsHeadSaid, IsNoHead, IsOtherwise, IsRepeated};
+ghost use Rattle.failreg_c.specs.Parts.{IsEntrySaid, IsHeadSaid, IsNoHead, IsOtherwise, IsRepeated, head_of};
 
 use crate::calls::CLOSED;
 use crate::handle::Node;
@@ -25,7 +26,10 @@ const NO_LINE: u32 = 35;
 
 impl Registry {
     // The first line of the part of a run.
-    fn head_text(&self, alloc: Global, run: &str) -> Result<String, AllocError> {
+    fn head_text(&self, alloc: Global, run: &str) -> Result<String, AllocError>
+        ensures { IfOk result (λ text.
+            string_bytes text ≡ line_text (part_head (head_of self.now.core run.now))) }
+    {
         let config = self.core.config();
         let head = PartHead {
             node: config.node,
