@@ -6,3 +6,6 @@ pub mod Made
 pub mod NodeLists
 pub mod Seats
 pub mod StartLines
+pub mod Unfits
+pub mod Shorts
+pub mod ShortStarts

@@ -1,7 +1,7 @@
 -- What a run writes, where its reader tells its bytes.
-use Rattle.std.proofs.Common.{◌≡◌, List, ℕ, Option, Some, None, Result, Ok, Err}
+use Rattle.std.proofs.Common.{◌≡◌, List, ℕ, Option, Some, None, Result, Ok, Err, subst}
 use Rattle.std.specs.Prelude.{IfSome, OnOk}
-use Rattle.thread_scripts.specs.Outputs.{IsOutput, PlaysTo}
+use Rattle.thread_scripts.specs.Outputs.{ComesToSaying, IsOutput, PlaysSaying, PlaysTo}
 use Rattle.thread_plans.specs.Plans.{PlanValue, plan_in}
 
 module _ (written : List ℕ → Type 0) (script text : List ℕ) (plan : PlanValue) where
@@ -18,3 +18,16 @@ module _ (written : List ℕ → Type 0) (script text : List ℕ) (plan : PlanVa
       OnOk result (written text) → OnOk result (IfSome input (λ bytes. PlaysTo bytes written))
   reported_on_ok (Err fault) input same planned is h = tt
   reported_on_ok (Ok done) input same planned is h = reported input same planned is h
+
+-- the same, and what it is warned of was written
+pub warned : (written warnings : List ℕ → Type 0) (script text said : List ℕ) (input : Option (List ℕ)) →
+    IfSome input (λ bytes. script ≡ bytes) → ComesToSaying script text said → written text → warnings said →
+    IfSome input (λ bytes. PlaysSaying bytes written warnings)
+warned written warnings script text said None same comes h s = tt
+warned written warnings script text said (Some bytes) same comes h s = (
+  text,
+  said,
+  subst (λ b. ComesToSaying b text said) same comes,
+  h,
+  s,
+)
