@@ -6,3 +6,4 @@ pub mod Wanted
 pub mod BadLines
 pub mod Named
 pub mod WorkerLines
+pub mod LineCalls

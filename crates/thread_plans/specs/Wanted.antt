@@ -65,11 +65,7 @@ no_node = codes "there is no node of this number"
 -- before the nodes are known
 abbrev pub wanted_first : LineValue → List ℕ
 wanted_first (nodes_line count cap) = codes "there are 1 to 32 nodes"
-wanted_first (seed_line bytes) = codes "nodes <n> <cap> comes first"
-wanted_first (start_line node start) = codes "nodes <n> <cap> comes first"
-wanted_first (gossip_line rounds) = codes "nodes <n> <cap> comes first"
-wanted_first (worker_line node) = codes "nodes <n> <cap> comes first"
-wanted_first (calls_line call times) = codes "nodes <n> <cap> comes first"
+wanted_first _ = codes "nodes <n> <cap> comes first"
 
 -- of a worker, behind the seed
 abbrev pub wanted_of_worker : ℕ → ℕ → List ℕ

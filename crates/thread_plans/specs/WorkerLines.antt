@@ -1,21 +1,15 @@
 -- Where the workers of a script of threads begin.
-use Rattle.std.specs.Prelude.{ℕ, ◌+◌, Bool, true, false, List, [], ◌∷◌, ◌++◌, if◌then◌else◌, Option, Some, None}
+use Rattle.std.specs.Prelude.{ℕ, ◌+◌, Bool, true, false, List, [], ◌∷◌, ◌++◌, if◌then◌else◌, Option, Some}
 use Rattle.streams.specs.Fields.{lines_of}
-use Rattle.streams.specs.Lines.{is_skipped}
-use Rattle.thread_plans.specs.Lines.{LineValue, nodes_line, seed_line, start_line, gossip_line, worker_line, calls_line, line_in}
+use Rattle.thread_plans.specs.Lines.{LineValue, worker_line, line_in}
 
 abbrev pub is_worker : Option LineValue → Bool
-is_worker None = false
-is_worker (Some (nodes_line count cap)) = false
-is_worker (Some (seed_line bytes)) = false
-is_worker (Some (start_line node start)) = false
-is_worker (Some (gossip_line rounds)) = false
 is_worker (Some (worker_line node)) = true
-is_worker (Some (calls_line call times)) = false
+is_worker _ = false
 
--- whether a worker begins with a line
+-- whether a worker begins with a line; one that is skipped has none of the forms
 abbrev pub begins_worker : List ℕ → Bool
-begins_worker line = if is_skipped line then false else is_worker (line_in line)
+begins_worker line = is_worker (line_in line)
 
 abbrev pub number_if : Bool → ℕ → List ℕ
 number_if begins number = if begins then number ∷ [] else []

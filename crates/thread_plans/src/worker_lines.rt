@@ -6,7 +6,7 @@ ghost use Rattle.thread_plans.specs.WorkerLines.{begins_worker, is_worker, numbe
 
 use crate::line::{Line, read_line};
 use std::alloc::{AllocError, Global};
-use streams::{MOST_BYTES, is_skipped};
+use streams::MOST_BYTES;
 
 fn is_worker(line: &Option<Line<'_>>) -> bool
     ensures { result ≡ is_worker (option_map line_value line.now) }
@@ -17,7 +17,7 @@ fn is_worker(line: &Option<Line<'_>>) -> bool
 fn begins_worker(line: &[u8]) -> bool
     ensures { result ≡ begins_worker line.now }
 {
-    !is_skipped(line) && is_worker(&read_line(line))
+    is_worker(&read_line(line))
 }
 
 // Keeps the number of a line, if a worker begins with it.
