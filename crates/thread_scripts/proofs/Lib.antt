@@ -7,5 +7,6 @@ pub mod NodeLists
 pub mod Seats
 pub mod StartLines
 pub mod Unfits
+pub mod UnfitCalls
 pub mod Shorts
 pub mod ShortStarts

@@ -4,9 +4,9 @@ use Rattle.std.specs.Prelude.{nat_lt, slice_index_or, is_ok, if◌then◌else◌
 use Rattle.std.proofs.lemmas.List.{at_drop_more, at_drop_all, get_or-map, length-map}
 use Rattle.audit.specs.Receipts.{Lists}
 use Rattle.thread_plans.specs.declared.plan.Block.{Block}
+use Rattle.thread_plans.specs.BadLines.{count_one}
 use Rattle.thread_plans.specs.Plans.{BlockValue, PlanValue, block_value}
 use Rattle.thread_scripts.specs.Short.{number_at, short_of, short_said, short_sum, shorts_from}
-use Rattle.thread_scripts.specs.Unfit.{count_one}
 
 pub no_more : (b : Bool) (n m k next : ℕ) → n ≤ m → k ≡ n + count_one b → next ≡ m + 1 → k ≤ next
 no_more true n m k next h e f = omega arith

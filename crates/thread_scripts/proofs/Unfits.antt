@@ -1,7 +1,8 @@
 -- What is said of lines, one after the other.
 use Rattle.std.proofs.Common.{◌≡◌, ℕ, ◌+◌, ◌<◌, Bool, true, false, List, ◌++◌, length, get_or, drop, sym, ap, ◌∙◌, append_assoc, arith}
 use Rattle.std.proofs.lemmas.List.{at_drop_more, at_drop_all}
-use Rattle.thread_scripts.specs.Unfit.{Unfit, count_one, line_counted, line_said, said_from, unfit_sum}
+use Rattle.thread_plans.specs.BadLines.{count_one}
+use Rattle.thread_scripts.specs.Unfit.{Unfit, line_counted, line_said, said_from, unfit_sum}
 
 pub fewer : (b : Bool) (n m k next : ℕ) → n < m → k ≡ n + count_one b → next ≡ m + 1 → k < next
 fewer true n m k next h e f = omega arith

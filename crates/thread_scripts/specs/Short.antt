@@ -3,8 +3,8 @@ use Rattle.std.specs.Prelude.{ℕ, ◌+◌, ◌-◌, ◌*◌, ◌==◌, Bool, �
 use Rattle.std.specs.Option.{is_some, option_map_or}
 use Rattle.audit.specs.Receipts.{Lists}
 use Rattle.streams.specs.Fields.{output_line}
+use Rattle.thread_plans.specs.BadLines.{count_one, most_named}
 use Rattle.thread_plans.specs.Plans.{BlockValue, PlanValue, calls_in}
-use Rattle.thread_scripts.specs.Unfit.{count_one, most_named}
 
 -- ---- where the receipts of a worker stand
 

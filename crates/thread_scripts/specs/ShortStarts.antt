@@ -3,7 +3,7 @@ use Rattle.std.specs.Prelude.{ℕ, ◌-◌, ◌==◌, Bool, true, false, ◌&&�
 use Rattle.std.specs.List.{flat_map, range_with_len}
 use Rattle.std.specs.Option.{option_map_or}
 use Rattle.audit.specs.Receipts.{Lists}
-use Rattle.node_calls.specs.Told.{AskTold, ask_told, sets, removes, loads, passes, shifts, grants, emits, delivers}
+use Rattle.node_calls.specs.Told.{AskTold, ask_told, shifts}
 use Rattle.node_calls.specs.declared.receipt.Receipt.{Receipt}
 use Rattle.streams.specs.Fields.{output_line}
 use Rattle.thread_plans.specs.Lines.{StartValue, makes, spreads}
@@ -19,14 +19,8 @@ abbrev pub spreads_at : PlanValue → ℕ → Bool
 spreads_at plan node = nat_lt 0 (count_by (λ s. s.0 == node && is_spread s.1) plan.starts)
 
 abbrev pub is_shift : AskTold → Bool
-is_shift (sets name text) = false
-is_shift (removes name) = false
-is_shift (loads text) = false
-is_shift (passes name) = false
 is_shift (shifts name term to amount) = true
-is_shift (grants name term amount) = false
-is_shift (emits to) = false
-is_shift (delivers bytes) = false
+is_shift _ = false
 
 -- whether a call counts: where a node spreads, shifts don't, since a spread makes some
 abbrev pub is_counted : Bool → AskTold → Bool

@@ -1,11 +1,9 @@
 -- Lines whose calls every node refuses, and passes that met a point that isn't set.
 use Rattle.std.specs.Prelude.{ℕ, ◌+◌, ◌==◌, Bool, true, false, List, [], ◌∷◌, ◌++◌, count_by, is_some, nat_lt, if◌then◌else◌, Option, Some, None, codes, decimal}
 use Rattle.std.specs.List.{sum_by}
-use Rattle.std.specs.Str.{bytes_eq}
 use Rattle.actions.specs.Reading.{reading}
 use Rattle.actions.specs.SettingReading.{setting_reading}
 use Rattle.audit.specs.Receipts.{Lists}
-use Rattle.call_lines.specs.Calls.{call_after}
 use Rattle.node_calls.specs.FaultText.{node_fault_text}
 use Rattle.node_calls.specs.Told.{AskTold, sets, removes, loads, passes, shifts, grants, emits, delivers}
 use Rattle.node_calls.specs.declared.fault.NodeFault.{NodeFault}
@@ -16,29 +14,12 @@ use Rattle.node_calls.specs.declared.reply.Reply.{Reply}
 use Rattle.node_calls.specs.declared.reply.Reply.TheVariants as replies
 use Rattle.node_core.specs.Refusals.{bad_actions, bad_setting, no_name}
 use Rattle.refusals.specs.Refusals.{first_fault}
-use Rattle.streams.specs.Fields.{byte_cut_of, cut_of, lines_of, output_line}
-use Rattle.streams.specs.Lines.{◌>>=◌, is_skipped, text_in}
+use Rattle.streams.specs.Fields.{lines_of, output_line}
+use Rattle.streams.specs.Lines.{◌>>=◌}
+use Rattle.thread_plans.specs.BadLines.{count_one, most_named}
+use Rattle.thread_plans.specs.LineCalls.{call_in}
 
 -- ---- calls that every node refuses
-
--- `<word> <node> <rest>`, behind `start `
-abbrev pub start_call : List ℕ → Option AskTold
-start_call rest = do
-  parts ← cut_of rest
-  node ← byte_cut_of (parts.1)
-  call_after (parts.0) (node.1)
-
-abbrev pub call_behind : List ℕ → List ℕ → Option AskTold
-call_behind word rest = if bytes_eq word (codes "start") then start_call rest else call_after word rest
-
--- the call of a line, before the workers or of one, if it has one that isn't a pass
-abbrev pub call_of : List ℕ → Option AskTold
-call_of text = do
-  parts ← cut_of text
-  call_behind (parts.0) (parts.1)
-
-abbrev pub call_in_line : List ℕ → Option AskTold
-call_in_line line = text_in line >>= call_of
 
 -- why a node refuses a call, whatever it knows
 abbrev pub why_refused : AskTold → Option NodeFault
@@ -51,13 +32,11 @@ why_refused (grants name term amount) = no_name name
 why_refused (emits to) = None
 why_refused (delivers bytes) = None
 
+-- the same of the call of a line, if it has one
 abbrev pub why_unfit : List ℕ → Option NodeFault
-why_unfit line = if is_skipped line then None else call_in_line line >>= why_refused
+why_unfit line = call_in line >>= why_refused
 
 -- ---- what is said
-
-abbrev pub most_named : ℕ
-most_named = 20
 
 abbrev pub unfit_said : ℕ → Option NodeFault → List ℕ
 unfit_said number None = []
@@ -71,9 +50,6 @@ pub record Unfit : Type 0 where
 
 abbrev pub line_said : Unfit → List ℕ → List ℕ
 line_said u line = if nat_lt u.unfit most_named then unfit_said u.number (why_unfit line) else []
-
-abbrev pub count_one : Bool → ℕ
-count_one b = if b then 1 else 0
 
 abbrev pub line_counted : Unfit → List ℕ → Unfit
 line_counted u line = record { number = u.number + 1; unfit = u.unfit + count_one (is_some (why_unfit line)) }

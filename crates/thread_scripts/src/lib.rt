@@ -20,4 +20,4 @@ pub use output::{judged_output_of, output_of};
 pub use played::{Played, play};
 pub use run::{run_threads, run_threads_warning};
 pub use thread_plans::{Block, CallLine, Size, Start, StartLine, ThreadPlan, read_plan};
-pub use warnings::{say_bad_lines, warnings_of};
+pub use warnings::{read_plan_saying, warnings_of};

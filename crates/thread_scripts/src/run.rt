@@ -1,7 +1,7 @@
 //! A script of threads from a reader, and what it prints to a writer.
 
 ghost use Rattle.std.specs.Prelude.{◌≡◌, ◌≢◌, ℕ, ◌+◌, ◌<◌, ◌≤◌, ◌↔◌, ◌⊎◌, true, false, length};
-ghost use Rattle.std.specs.Prelude.{IfErr, IfOk, OnOk, string_bytes};
+ghost use Rattle.std.specs.Prelude.{IfErr, IfOk, OnErr, OnOk, string_bytes};
 ghost use Rattle.streams.specs.declared.fault.ScriptFault.TheVariants.{BadLine, OutOfMemory};
 ghost use Rattle.streams.specs.declared.fault.ScriptFault.TheVariants.{ReadFailed, TooLong};
 ghost use Rattle.streams.specs.declared.fault.ScriptFault.TheVariants.{WriteFailed};
@@ -13,7 +13,7 @@ ghost use Rattle.thread_plans.specs.Plans.{plan_in};
 
 use crate::output::{judged_output_of, output_of};
 use crate::played::play;
-use crate::warnings::{say_bad_lines, warnings_of};
+use crate::warnings::{read_plan_saying, warnings_of};
 use std::alloc::Global;
 use std::io::{Read, Write};
 use std::sync::Wait;
@@ -82,24 +82,51 @@ pub fn run_threads<R: Threads + Wait + Sync, I: Read, O: Write>(
     write_text(writer, text.as_bytes())
 }
 
-// What a script comes to, and what it is warned of; or its first bad line.
+// What a script comes to, and what it is warned of. Where it has no plan, what is said becomes what was
+// wanted of its bad lines.
 fn played_texts<R: Threads + Wait + Sync>(
     rt: &R,
     alloc: Global,
     script: &[u8],
+    said: &mut Vec<u8>,
 ) -> Result<(String, Vec<u8>), ScriptFault>
     requires { length script.now ≤ MOST_BYTES }
     ensures ok { IfOk result (λ both.
         ComesToSaying script.now (string_bytes both.0) both.1.items) }
     ensures bad { (line : ℕ) → result ≡ Err (BadLine line) → plan_in script.now ≡ Err line }
+    ensures bad_said { (line : ℕ) → result ≡ Err (BadLine line) →
+        said.new.items ≡ bad_text script.now }
+    ensures unsaid { IfErr result (λ fault.
+        ((line : ℕ) → fault ≢ BadLine line) → said.new ≡ said.old) }
+    ensures kept { OnOk result (said.new ≡ said.old) }
     ensures only { IfErr result (λ fault.
         (fault ≡ OutOfMemory) ⊎ ((line : ℕ) × (fault ≡ BadLine line))) }
 {
-    let plan = read_plan(alloc, script)?;
+    let plan = read_plan_saying(alloc, script, said)?;
     let played = play(rt, alloc, &plan)?;
     let (text, yes) = judged_output_of(alloc, &plan, &played)?;
-    let said = warnings_of(alloc, script, &plan, &played, yes)?;
-    Ok((text, said))
+    let warned = warnings_of(alloc, script, &plan, &played, yes)?;
+    Ok((text, warned))
+}
+
+// Writes what a script comes to, and then sets what is said.
+fn write_warned<O: Write>(
+    writer: &mut Watched<O>,
+    text: &[u8],
+    warned: Vec<u8>,
+    said: &mut Vec<u8>,
+) -> Result<(), ScriptFault>
+    requires { has_failed writer.old ≡ false }
+    ensures printed { OnOk result (Writes O.contents writer.old writer.new text.now) }
+    ensures flushed { OnOk result (has_unflushed writer.new ≡ false) }
+    ensures said { OnOk result (said.new.items ≡ warned.entry.items) }
+    ensures unsaid { OnErr result (said.new ≡ said.old) }
+    ensures only { IfErr result (λ fault. fault ≡ WriteFailed) }
+    ensures failed { (result ≡ Err WriteFailed) ↔ (has_failed writer.new ≡ true) }
+{
+    write_text(writer, text)?;
+    *said = warned;
+    Ok(())
 }
 
 /// Runs the script of threads that a reader gives as `run_threads` does, and sets what is said to what
@@ -115,8 +142,8 @@ pub fn run_threads_warning<R: Threads + Wait + Sync, I: Read, O: Write>(
     requires reader { has_failed reader.old ≡ false }
     requires writer { has_failed writer.old ≡ false }
 
-    // The script has a plan, its whole output is written, of some traces and receipts, and what is said
-    // is what it is warned of, of just these.
+    // The script has a plan, its whole output is written, of some traces and receipts, and what is
+    // said is what it is warned of, of just these.
     ensures ok { OnOk result (IfInput I.remaining reader.old (λ input. PlaysSaying input
         (Writes O.contents writer.old writer.new) (λ warned. said.new.items ≡ warned))) }
     ensures flushed { OnOk result (has_unflushed writer.new ≡ false) }
@@ -137,12 +164,6 @@ pub fn run_threads_warning<R: Threads + Wait + Sync, I: Read, O: Write>(
         IfInput I.remaining reader.old (λ input. MOST_BYTES < length input) }
 {
     let script = read_script(alloc, reader)?;
-    match played_texts(rt, alloc, script.as_slice()) {
-        Ok((text, warned)) => {
-            write_text(writer, text.as_bytes())?;
-            *said = warned;
-            Ok(())
-        }
-        Err(fault) => Err(say_bad_lines(alloc, script.as_slice(), fault, said)),
-    }
+    let (text, warned) = played_texts(rt, alloc, script.as_slice(), said)?;
+    write_warned(writer, text.as_bytes(), warned, said)
 }

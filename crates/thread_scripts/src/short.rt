@@ -65,12 +65,7 @@ fn receipts_at(lists: &[Vec<Receipt>], place: u64) -> u64
 }
 
 // How many calls of a worker weren't accepted.
-fn short_of(
-    plan: &ThreadPlan<'_>,
-    lists: &[Vec<Receipt>],
-    before: usize,
-    block: &Block<'_>,
-) -> u64
+fn short_of(plan: &ThreadPlan<'_>, lists: &[Vec<Receipt>], before: usize, block: &Block<'_>) -> u64
     requires { before ≤ length plan.now.blocks.items }
     ensures { result ≡ short_of (plan_value plan.now) lists.now before (block_value block.now) }
 {
@@ -94,12 +89,7 @@ fn is_named(named: usize, short: u64) -> bool
     short > 0 && named < MOST_NAMED
 }
 
-fn say_line(
-    alloc: Global,
-    number: u32,
-    short: u64,
-    said: &mut Vec<u8>,
-) -> Result<(), AllocError>
+fn say_line(alloc: Global, number: u32, short: u64, said: &mut Vec<u8>) -> Result<(), AllocError>
     ensures { OnOk result (said.new.items ≡ said.old.items ++ line_short number short) }
 {
     let text = format!(in alloc; "line {number}: calls not accepted: {short}\n")?;

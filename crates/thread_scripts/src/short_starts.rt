@@ -101,12 +101,7 @@ fn start_receipts(plan: &ThreadPlan<'_>, lists: &[Vec<Receipt>], node: u8) -> u6
     }
 }
 
-fn say_node(
-    alloc: Global,
-    node: u8,
-    short: u64,
-    said: &mut Vec<u8>,
-) -> Result<(), AllocError>
+fn say_node(alloc: Global, node: u8, short: u64, said: &mut Vec<u8>) -> Result<(), AllocError>
     ensures { OnOk result (said.new.items ≡ said.old.items ++ node_short node short) }
 {
     let text = format!(in alloc; "node {node}: start calls not accepted: {short}\n")?;

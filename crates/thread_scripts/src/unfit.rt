@@ -1,56 +1,29 @@
 //! Lines whose calls every node refuses, and passes that met a point that isn't set.
 
-ghost use Rattle.std.specs.Prelude.{◌≡◌, ◌+◌, ◌++◌, ◌<◌, ◌≤◌, ◌∷◌, [], count_by, length, option_map, vec_len};
+ghost use Rattle.std.specs.Prelude.{◌≡◌, ◌+◌, ◌++◌, ◌<◌, ◌≤◌, ◌∷◌, [], count_by, length, vec_len};
 ghost use Rattle.std.specs.Prelude.{IfOk, OnOk};
 ghost use Rattle.actions.specs.Reading.{reading};
 ghost use Rattle.actions.specs.SettingReading.{setting_reading};
 ghost use Rattle.node_calls.specs.Told.{ask_ref_told};
 ghost use Rattle.node_core.specs.Refusals.{bad_actions, bad_setting, no_name};
 ghost use Rattle.refusals.specs.Refusals.{first_fault};
-ghost use Rattle.thread_scripts.specs.Unfit.{call_behind, call_in_line, is_unset, line_counted};
-ghost use Rattle.thread_scripts.specs.Unfit.{line_said, none_unfit, start_call, unfit_said};
-ghost use Rattle.thread_scripts.specs.Unfit.{unfit_sum, unfit_text, unset_in, unset_sum};
+ghost use Rattle.thread_scripts.specs.Unfit.{is_unset, line_counted, line_said, none_unfit};
+ghost use Rattle.thread_scripts.specs.Unfit.{unfit_said, unfit_sum, unfit_text, unset_in, unset_sum};
 ghost use Rattle.thread_scripts.specs.Unfit.{why_refused, why_unfit};
 ghost use Rattle.thread_scripts.specs.Unfits.{unfit_of};
 
 use actions::{ActionFault, Name, NameFault, SettingFault, parse_actions, parse_setting};
-use call_lines::call_after;
 use node_calls::{AskRef, TextFault};
 use node_core::{NodeFault, PassReply, Receipt, Reply};
 use std::alloc::{AllocError, Global};
-use streams::{MOST_BYTES, cut, cut_byte, is_skipped, text_of};
+use streams::MOST_BYTES;
+use thread_plans::call_in_line;
 
 /// The most lines that are named.
 const MOST_NAMED: u32 = 20;
 
 /// Why a call is refused, if it is, or memory is.
 type Why = Result<Option<NodeFault>, AllocError>;
-
-// `<word> <node> <rest>`, behind `start `.
-fn start_call(rest: &str) -> Option<AskRef<'_>>
-    ensures { option_map ask_ref_told result ≡ start_call rest.now }
-{
-    let (word, rest) = cut(rest)?;
-    let (_, rest) = cut_byte(rest)?;
-    call_after(word, rest)
-}
-
-fn call_behind<'a>(word: &str, rest: &'a str) -> Option<AskRef<'a>>
-    ensures { option_map ask_ref_told result ≡ call_behind word.now rest.now }
-{
-    if word == "start" {
-        start_call(rest)
-    } else {
-        call_after(word, rest)
-    }
-}
-
-fn call_in_line(line: &[u8]) -> Option<AskRef<'_>>
-    ensures { option_map ask_ref_told result ≡ call_in_line line.now }
-{
-    let (word, rest) = cut(text_of(line)?)?;
-    call_behind(word, rest)
-}
 
 fn why_name(alloc: Global, name: &str) -> Why
     ensures { IfOk result (λ why. why ≡ no_name name.now) }
@@ -111,9 +84,6 @@ fn why_refused(alloc: Global, call: AskRef<'_>) -> Why
 fn why_unfit(alloc: Global, line: &[u8]) -> Why
     ensures { IfOk result (λ why. why ≡ why_unfit line.now) }
 {
-    if is_skipped(line) {
-        return Ok(None);
-    }
     match call_in_line(line) {
         Some(call) => why_refused(alloc, call),
         None => Ok(None),

@@ -1,9 +1,9 @@
 //! What a run is warned of.
 
-ghost use Rattle.std.specs.Prelude.{◌≡◌, ◌⊎◌, ◌++◌, ◌≢◌, ◌≤◌, ℕ, length, IfOk, OnOk, OnErr};
+ghost use Rattle.std.specs.Prelude.{◌≡◌, ◌⊎◌, ◌++◌, ◌≢◌, ◌≤◌, ℕ, length, IfErr, IfOk, OnOk, Err, Ok};
 ghost use Rattle.streams.specs.declared.fault.ScriptFault.TheVariants.{BadLine, OutOfMemory};
 ghost use Rattle.thread_plans.specs.BadLines.{bad_text};
-ghost use Rattle.thread_plans.specs.Plans.{plan_value};
+ghost use Rattle.thread_plans.specs.Plans.{plan_in, plan_value};
 ghost use Rattle.thread_scripts.specs.Warnings.{audit_said, warned_text};
 
 use crate::played::Played;
@@ -12,7 +12,7 @@ use crate::short_starts::say_starts;
 use crate::unfit::{say_unset, unfit_text, unset_in};
 use std::alloc::{AllocError, Global};
 use streams::{MOST_BYTES, ScriptFault};
-use thread_plans::{ThreadPlan, bad_lines_of, worker_lines_of};
+use thread_plans::{ThreadPlan, bad_lines_of, read_plan, worker_lines_of};
 
 // Says that an audit says no, if it does.
 fn say_audit(yes: bool, said: &mut Vec<u8>) -> Result<(), AllocError>
@@ -26,8 +26,8 @@ fn say_audit(yes: bool, said: &mut Vec<u8>) -> Result<(), AllocError>
 
 /// What a run of a script is warned of that has this plan and came to these receipts, of which the
 /// audit says yes or no: lines whose calls every node refuses, with the reason; nodes and workers
-/// whose calls weren't all accepted; how many passes met a point that isn't set; and a no. Nothing, where none of
-/// these is so.
+/// whose calls weren't all accepted; how many passes met a point that isn't set; and a no. Nothing,
+/// where none of these is so.
 pub fn warnings_of(
     alloc: Global,
     script: &[u8],
@@ -48,9 +48,9 @@ pub fn warnings_of(
     Ok(said)
 }
 
-/// Sets what is said to what was wanted of the bad lines of a script, where it is refused for one.
-/// Where memory is refused, that is the fault, and what is said is as it was.
-pub fn say_bad_lines(
+// Sets what is said to what was wanted of the bad lines of a script, where it is refused for one. Where
+// memory is refused, that is the fault, and what is said is as it was.
+fn say_bad_lines(
     alloc: Global,
     script: &[u8],
     fault: ScriptFault,
@@ -70,5 +70,29 @@ pub fn say_bad_lines(
             fault
         }
         Err(AllocError) => ScriptFault::OutOfMemory,
+    }
+}
+
+/// Reads the plan of a script as `read_plan` does, and where it has none, sets what is said to what was
+/// wanted of its bad lines. Otherwise what is said is as it was.
+pub fn read_plan_saying<'a>(
+    alloc: Global,
+    script: &'a [u8],
+    said: &mut Vec<u8>,
+) -> Result<ThreadPlan<'a>, ScriptFault>
+    requires { length script.now ≤ MOST_BYTES }
+    ensures ok { IfOk result (λ plan. plan_in script.now ≡ Ok (plan_value plan)) }
+    ensures bad { (line : ℕ) → result ≡ Err (BadLine line) → plan_in script.now ≡ Err line }
+    ensures only { IfErr result (λ fault.
+        (fault ≡ OutOfMemory) ⊎ ((line : ℕ) × (fault ≡ BadLine line))) }
+    ensures bad_said { (line : ℕ) → result ≡ Err (BadLine line) →
+        said.new.items ≡ bad_text script.now }
+    ensures unsaid { IfErr result (λ fault.
+        ((line : ℕ) → fault ≢ BadLine line) → said.new ≡ said.old) }
+    ensures kept { OnOk result (said.new ≡ said.old) }
+{
+    match read_plan(alloc, script) {
+        Ok(plan) => Ok(plan),
+        Err(fault) => Err(say_bad_lines(alloc, script, fault, said)),
     }
 }

@@ -12,5 +12,5 @@ returns-clause-ok g c =
       c.in_ok-played.ensures.traces,
       c.in_ok-played.ensures.lists,
       c.in_ok-yes.ensures,
-      c.in_ok-said.ensures,
+      c.in_ok-warned.ensures,
     )

@@ -1,8 +1,8 @@
 use Rattle.std.proofs.Common.{◌≡◌, ◌+◌, ◌<◌, ◌≤◌, ◌++◌, length, nat_lt, slice_index_or, refl, rules, arith}
 use Rattle.std.proofs.lemmas.Result.{on_ok_weaker}
+use Rattle.thread_plans.specs.BadLines.{count_one}
 use Rattle.thread_plans.specs.Plans.{block_value, plan_value}
 use Rattle.thread_scripts.specs.Short.{number_at, short_of, short_said, shorts_text}
-use Rattle.thread_scripts.specs.Unfit.{count_one}
 use Rattle.thread_scripts.proofs.Shorts.{all_short, no_more, one_short}
 use Rattle.thread_scripts.proofs.short.say_shorts.Goals as goal
 
