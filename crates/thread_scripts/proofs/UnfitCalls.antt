@@ -1,5 +1,5 @@
 -- A call that is refused whatever a node knows is refused by each that has room for an entry.
-use Rattle.std.proofs.Common.{◌≡◌, ℕ, Bool, false, List, [], ◌∷◌, map, length, Option, Some, None, ap}
+use Rattle.std.proofs.Common.{◌≡◌, ℕ, false, List, [], ◌∷◌, map, length, Option, Some, None, ap}
 use Rattle.std.specs.Bool.{then_some}
 use Rattle.actions.specs.Reading.{reading}
 use Rattle.actions.specs.SettingReading.{setting_reading}
@@ -21,17 +21,17 @@ module _ (fault : NodeFault) where
   -- behind a refusal that doesn't apply, the next one does
   first_of : (a b : Option NodeFault) (rest : List (Option NodeFault)) → a ≡ None → b ≡ Some fault →
       first_fault (a ∷ b ∷ rest) ≡ Some fault
-  first_of (Some x) b rest no is = absurd cc
-  first_of None (Some x) rest no is = is
-  first_of None None rest no is = absurd cc
+  first_of (Some x) b rest none is = absurd cc
+  first_of None (Some x) rest none is = is
+  first_of None None rest none is = absurd cc
 
   -- or one of the next two
   second_of : (a b c : Option NodeFault) (rest : List (Option NodeFault)) → a ≡ None →
       first_fault (b ∷ c ∷ []) ≡ Some fault → first_fault (a ∷ b ∷ c ∷ rest) ≡ Some fault
-  second_of (Some x) b c rest no is = absurd cc
-  second_of None (Some x) c rest no is = is
-  second_of None None (Some x) rest no is = is
-  second_of None None None rest no is = absurd cc
+  second_of (Some x) b c rest none is = absurd cc
+  second_of None (Some x) c rest none is = is
+  second_of None None (Some x) rest none is = is
+  second_of None None None rest none is = absurd cc
 
 module _ (config : Config) (entries : ℕ) (n : Node) (words : List ℕ) (fault : NodeFault)
     (room : is_full config entries ≡ false) where

@@ -8,7 +8,6 @@ use Rattle.node_calls.specs.FaultText.{node_fault_text}
 use Rattle.node_calls.specs.Told.{AskTold, sets, removes, loads, passes, shifts, grants, emits, delivers}
 use Rattle.node_calls.specs.declared.fault.NodeFault.{NodeFault}
 use Rattle.node_calls.specs.declared.receipt.Receipt.{Receipt}
-use Rattle.node_calls.specs.declared.reply.PassReply.{PassReply}
 use Rattle.node_calls.specs.declared.reply.PassReply.TheVariants as replied
 use Rattle.node_calls.specs.declared.reply.Reply.{Reply}
 use Rattle.node_calls.specs.declared.reply.Reply.TheVariants as replies

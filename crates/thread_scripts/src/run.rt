@@ -119,7 +119,7 @@ fn write_warned<O: Write>(
     requires { has_failed writer.old ≡ false }
     ensures printed { OnOk result (Writes O.contents writer.old writer.new text.now) }
     ensures flushed { OnOk result (has_unflushed writer.new ≡ false) }
-    ensures said { OnOk result (said.new.items ≡ warned.entry.items) }
+    ensures said { OnOk result (said.new.items ≡ warned.items) }
     ensures unsaid { OnErr result (said.new ≡ said.old) }
     ensures only { IfErr result (λ fault. fault ≡ WriteFailed) }
     ensures failed { (result ≡ Err WriteFailed) ↔ (has_failed writer.new ≡ true) }

@@ -7,10 +7,10 @@ returns-clause-ok g c =
       plan_value c.in_ok-plan.plan,
       played.traces.items,
       played.lists.items,
-      c.in_ok-yes.yes,
+      c.in_ok-text.yes,
       c.in_ok-plan.ensures.ok,
       c.in_ok-played.ensures.traces,
       c.in_ok-played.ensures.lists,
-      c.in_ok-yes.ensures,
+      c.in_ok-text.ensures,
       c.in_ok-warned.ensures,
     )
