@@ -1,6 +1,7 @@
 -- What a run of a script of threads comes to and says, by how the program ends.
-use Rattle.std.proofs.Common.{◌≡◌, ℕ, Bool, true, false, List, [], Option, Some, None, Result, Ok, Err, refl, subst, ◌∙◌, inl, inr}
-use Rattle.std.specs.Prelude.{◌≢◌, ◌↔◌, IfErr, IfOk, IfSome, IsErr, IsOk, OnOk}
+use Rattle.std.proofs.Common.{◌≡◌, ℕ, Bool, true, false, List, [], Option, Some, None, Result, Ok, Err, refl, subst, ap, ◌∙◌, inl, inr}
+use Rattle.std.specs.Prelude.{◌≢◌, ◌↔◌, IfErr, IfOk, IfSome, IsErr, IsOk, OnOk, Vec}
+use Rattle.std.specs.declared.alloc.Global.{Global}
 use Rattle.std.specs.Process.{exit_status}
 use Rattle.std.specs.declared.process.ExitCode.{ExitCode}
 use Rattle.streams.specs.declared.fault.ScriptFault.{ScriptFault}
@@ -44,22 +45,25 @@ pub on_refused_saying : {T E F : Type 0} (result : Result ExitCode E) (run : Res
 on_refused_saying (Err e) run said fact h s k = tt
 on_refused_saying (Ok code) run said fact h s k = λ z. k (h.0 z) s
 
+items_of : (said was : Vec ℕ Global) → said ≡ was → was.items ≡ [] → said.items ≡ []
+items_of said was same none = ap (λ (v : Vec ℕ Global). v.items) same ∙ none
+
 -- what is said of a script that is refused: what was wanted of its bad lines, or nothing
-pub said_where_refused : {T : Type 0} (run : Result T ScriptFault) (warnings : List ℕ → Type 0) (said was : List ℕ)
-    (input : Option (List ℕ)) → was ≡ [] →
-    ((line : ℕ) → run ≡ Err (faults.BadLine line) → IfSome input (λ bytes. said ≡ bad_text bytes)) →
-    IfErr run (λ fault. ((line : ℕ) → fault ≢ faults.BadLine line) → said ≡ was) → IsErr run → warnings said →
+pub said_where_refused : {T : Type 0} (run : Result T ScriptFault) (warnings : List ℕ → Type 0)
+    (said was : Vec ℕ Global) (input : Option (List ℕ)) → was.items ≡ [] →
+    ((line : ℕ) → run ≡ Err (faults.BadLine line) → IfSome input (λ bytes. said.items ≡ bad_text bytes)) →
+    IfErr run (λ fault. ((line : ℕ) → fault ≢ faults.BadLine line) → said ≡ was) → IsErr run → warnings said.items →
     IfSome input (λ bytes. SaysOrNothing warnings (bad_text bytes))
 said_where_refused run warnings said was None none bad other refused s = tt
 said_where_refused (Ok done) warnings said was (Some bytes) none bad other refused s =
-    let refused : false ≡ true = refused in absurd cc
+    let never : false ≡ true = refused in absurd cc
 said_where_refused (Err (faults.BadLine line)) warnings said was (Some bytes) none bad other refused s =
     inl (subst warnings (bad line refl) s)
 said_where_refused (Err faults.TooLong) warnings said was (Some bytes) none bad other refused s =
-    inr (subst warnings (other (λ line e. cc) ∙ none) s)
+    inr (subst warnings (items_of said was (other (λ line e. cc)) none) s)
 said_where_refused (Err faults.ReadFailed) warnings said was (Some bytes) none bad other refused s =
-    inr (subst warnings (other (λ line e. cc) ∙ none) s)
+    inr (subst warnings (items_of said was (other (λ line e. cc)) none) s)
 said_where_refused (Err faults.WriteFailed) warnings said was (Some bytes) none bad other refused s =
-    inr (subst warnings (other (λ line e. cc) ∙ none) s)
+    inr (subst warnings (items_of said was (other (λ line e. cc)) none) s)
 said_where_refused (Err faults.OutOfMemory) warnings said was (Some bytes) none bad other refused s =
-    inr (subst warnings (other (λ line e. cc) ∙ none) s)
+    inr (subst warnings (items_of said was (other (λ line e. cc)) none) s)

@@ -227,11 +227,11 @@ fn record<R: Threads + Wait + Sync + Eprint + AllocGlobal + Files, I: Read, O: W
     ensures done { OnStatus result 0 (IfInput I.remaining reader.old (λ input.
         PlaysTo input (Writes O.contents writer.old writer.new))) }
     ensures flushed { OnStatus result 0 (has_unflushed writer.new ≡ false) }
-    ensures said { options.quiet ≡ false → OnStatus result 0 (
+    ensures said { options.entry.quiet ≡ false → OnStatus result 0 (
         has_failed errors.new ≡ false → IfInput I.remaining reader.old (λ input.
         PlaysSaying input (Writes O.contents writer.old writer.new)
         (Writes E.contents errors.old errors.new))) }
-    ensures quiet { options.quiet ≡ true → errors.new ≡ errors.old }
+    ensures quiet { options.entry.quiet ≡ true → errors.new ≡ errors.old }
     ensures read_failed { has_failed reader.new ≡ true → HasStatus result 1 }
     ensures status { IfOk result (λ code. (exit_status code ≡ 0) ⊎ (exit_status code ≡ 1)) }
 {

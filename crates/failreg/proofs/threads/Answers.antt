@@ -1,7 +1,7 @@
-use Rattle.std.proofs.Common.{◌≡◌, false, List, ℕ, ap, rules}
-use Rattle.std.proofs.lemmas.Result.{on_ok_weaker, IfErr-weaker}
+use Rattle.std.proofs.Common.{rules}
+use Rattle.std.proofs.lemmas.Result.{on_ok_weaker}
 use Rattle.streams.specs.Streams.{Writes}
-use Rattle.streams.specs.Watched.{has_failed, inner_of}
+use Rattle.streams.specs.Watched.{inner_of}
 use Rattle.failreg.proofs.Warned.{on_done, on_done_saying, on_refused_saying, plays, said_where_refused, saying}
 use Rattle.failreg.proofs.threads.Goals as goal
 
@@ -27,13 +27,11 @@ pub returns-clause-bad_said : goal.returns-clause-bad_said
 returns-clause-bad_said g c wanted =
     let input = g.I.Read.remaining (inner_of c.args.reader.now) in
     let said = rw c.deref.ensures.value at (c.finish_threads.ensures.said wanted) in
-    let unsaid = IfErr-weaker c.run_threads_warning-run.result _ _
-    (λ fault h other. ap (λ v. v.items) (h other)) c.run_threads_warning-run.ensures.unsaid in
     on_refused_saying c.finish_threads.result c.run_threads_warning-run.result _ _ c.finish_threads.ensures.refused said
     (λ refused s unfailed. said_where_refused c.run_threads_warning-run.result
     (Writes g.E.Write.contents c.args.errors.now c.finish_threads.new.errors)
-    c.run_threads_warning-run.new.said.items c.new-said.result.items input c.new-said.ensures
-    c.run_threads_warning-run.ensures.bad_said unsaid refused (s unfailed))
+    c.run_threads_warning-run.new.said c.new-said.result input c.new-said.ensures.items
+    c.run_threads_warning-run.ensures.bad_said c.run_threads_warning-run.ensures.unsaid refused (s unfailed))
 
 pub returns-clause-flushed : goal.returns-clause-flushed
 returns-clause-flushed g c = search rules
