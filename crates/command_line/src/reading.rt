@@ -47,6 +47,8 @@ pub struct ThreadOptions<'a> {
     pub record: Option<&'a str>,
     /// Whether a file that is there is written over.
     pub force: bool,
+    /// Whether nothing is said of what goes wrong.
+    pub quiet: bool,
 }
 
 /// Whom a served node tells what it knows, and how often.
@@ -153,6 +155,7 @@ fn read_matches<'a>(alloc: Global, matches: &ArgMatches<'a>) -> Result<Invocatio
         Subcommand::Threads => Invocation::Threads(ThreadOptions {
             record: matches.get_str("record"),
             force: matches.get_flag("force"),
+            quiet: matches.get_flag("quiet"),
         }),
         Subcommand::Audit => Invocation::Audit(matches.get_str("file").unwrap_or("")),
         Subcommand::Serve => Invocation::Serve(serve_options(alloc, matches)?),

@@ -118,6 +118,17 @@ const THREADS: &[Argument] = &[
         most: None,
         takes_hyphens: false,
     },
+    Argument {
+        name: "quiet",
+        by_name: true,
+        value: "quiet",
+        help: "Says nothing of what goes wrong",
+        required: false,
+        default: &[],
+        values: (0, 0),
+        most: None,
+        takes_hyphens: false,
+    },
 ];
 
 const AUDIT: &[Argument] = &[Argument {

@@ -1,23 +1,25 @@
 -- What a recorded run writes, where its reader tells its bytes.
-use Rattle.std.proofs.Common.{◌≡◌, List, ℕ, Bool, Option, Some, None, Result, Ok, Err}
+use Rattle.std.proofs.Common.{◌≡◌, List, ℕ, Bool, Option, Some, None, Result, Ok, Err, refl, subst}
 use Rattle.std.specs.Prelude.{IfOk, IfSome, OnOk}
 use Rattle.streams.specs.Streams.{Writes}
 use Rattle.streams.specs.declared.watched.Watched.{Watched}
 use Rattle.failreg.specs.Recordings.{IsRecorded, SaysVerdict}
-use Rattle.thread_scripts.specs.Outputs.{PlaysTo}
+use Rattle.thread_scripts.specs.Outputs.{ComesToSaying, PlaysSaying}
 use Rattle.thread_plans.specs.Plans.{PlanValue, plan_in}
 
--- the script that was read is the input, and what it prints was written
+-- the script that was read is the input, what it prints was written, and what it is warned of is said
 pub played : {D O T E : Type 0} (kept : D → Option (List ℕ)) (old_kept new_kept : Watched D)
     (contents : O → Option (List ℕ)) (old new : Watched O)
-    (script : List ℕ) (plan : PlanValue) (result : Result T E) (input : Option (List ℕ))
+    (script : List ℕ) (plan : PlanValue) (said : List ℕ) (result : Result T E) (input : Option (List ℕ))
     → IfSome input (λ bytes. script ≡ bytes) → plan_in script ≡ Ok plan →
-    OnOk result (IsRecorded plan kept old_kept new_kept contents old new)
-    → OnOk result (IfSome input (λ bytes. PlaysTo bytes (Writes contents old new)))
-played kept old_kept new_kept contents old new script plan (Err fault) input same planned h = tt
-played kept old_kept new_kept contents old new script plan (Ok done) None same planned h = tt
-played kept old_kept new_kept contents old new script plan (Ok done) (Some bytes) same planned h =
-    (plan, h.text, rw same at planned, (h.traces, h.lists, h.legal, h.given, h.output), h.printed)
+    OnOk result (IsRecorded script plan said kept old_kept new_kept contents old new)
+    → OnOk result (IfSome input (λ bytes. PlaysSaying bytes (Writes contents old new) (λ warned. said ≡ warned)))
+played kept old_kept new_kept contents old new script plan said (Err fault) input same planned h = tt
+played kept old_kept new_kept contents old new script plan said (Ok done) None same planned h = tt
+played kept old_kept new_kept contents old new script plan said (Ok done) (Some bytes) same planned h =
+    let comes : ComesToSaying script h.text said =
+    (plan, h.traces, h.lists, h.explained, planned, h.legal, h.given, h.judged, h.warned) in
+    (h.text, said, subst (λ b. ComesToSaying b h.text said) same comes, h.printed, refl)
 
 -- an audit of the drill that was read is one of some drill
 pub says_of_some : {O E : Type 0} (left : Option (List ℕ)) (contents : O → Option (List ℕ)) (old new : Watched O)

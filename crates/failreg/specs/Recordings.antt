@@ -8,21 +8,25 @@ use Rattle.audit.specs.Receipts.{Lists}
 use Rattle.audit.specs.Traces.{Traces}
 use Rattle.audit.specs.VerdictText.{verdict_text}
 use Rattle.drills.specs.Drills.{drill_in, drill_text, drill_told}
-use Rattle.thread_scripts.specs.Outputs.{IsOutputOf}
+use Rattle.thread_scripts.specs.Outputs.{IsJudged}
 use Rattle.thread_scripts.specs.Plays.{AreListsOf, AreTracesOf}
+use Rattle.thread_scripts.specs.Warnings.{warned_text}
 use Rattle.thread_plans.specs.Plans.{PlanValue}
 use Rattle.streams.specs.Streams.{Writes}
 use Rattle.streams.specs.declared.watched.Watched.{Watched}
 
--- A drill was written that reads back as the same, and what a plan prints that came to its traces and receipts.
-pub record IsRecorded {D O : Type 0} (plan : PlanValue) (kept : D → Option (List ℕ)) (old_kept new_kept : Watched D)
-    (contents : O → Option (List ℕ)) (old new : Watched O) : Type 0 where
+-- A drill was written that reads back as the same, and what a plan prints that came to its traces and receipts; and
+-- this is what the plan's script is warned of, of these.
+pub record IsRecorded {D O : Type 0} (script : List ℕ) (plan : PlanValue) (said : List ℕ) (kept : D → Option (List ℕ))
+    (old_kept new_kept : Watched D) (contents : O → Option (List ℕ)) (old new : Watched O) : Type 0 where
   pub traces : Traces
   pub lists : Lists
   pub text : List ℕ
+  pub explained : Bool
   pub legal : AreTracesOf plan traces
   pub given : AreListsOf plan lists
-  pub output : IsOutputOf plan traces lists text
+  pub judged : IsJudged plan traces lists text explained
+  pub warned : said ≡ warned_text script plan lists explained
   pub drill : Writes kept old_kept new_kept (drill_text (drill_told traces lists))
   pub reads_back : drill_in (drill_text (drill_told traces lists)) ≡ Ok (drill_told traces lists)
   pub printed : Writes contents old new text
