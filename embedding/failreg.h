@@ -20,8 +20,8 @@
  * Texts have a length and no closing zero. Whether they are UTF-8 is looked at by the calls.
  *
  * Every call that answers a uint32_t, but failreg_version, answers FAILREG_OK or why it is refused.
- * Then the node and its generator are as they were, and what the call would have told is 0 or
- * false. A call that takes the node as const leaves it as it was in any case. An accepted call that
+ * Then the node and its generator are as they were, unless it is FAILREG_E_DIFFERS, and what the call
+ * would have told is 0 or false. A call that takes the node as const leaves it as it was in any case. An accepted call that
  * changes the node, marked below by [entry], is an entry of the node's trace: it takes memory until
  * failreg_forget or failreg_close, and counts against the cap. */
 #ifndef FAILREG_H
@@ -75,10 +75,13 @@ enum failreg_status {
     FAILREG_E_OVERSPENT = 20,
     FAILREG_E_BAD_CONFIG = 21,    /* a cluster has 1 to 32 nodes, and this is one of them */
     FAILREG_E_NO_MEMORY = 22,
+    FAILREG_E_DIFFERS = 23,       /* the node doesn't answer as the line says, and is closed */
     FAILREG_E_NOT_UTF8 = 30,      /* a name or a text isn't UTF-8 */
     FAILREG_E_CLOSED = 31,        /* the node is closed */
     FAILREG_E_ALREADY_OPEN = 32,  /* failreg_open of a node that is open */
-    FAILREG_E_NO_POINT = 33       /* failreg_point of this node told no such number */
+    FAILREG_E_NO_POINT = 33,      /* failreg_point of this node told no such number */
+    FAILREG_E_NO_ENTRY = 34,      /* the node keeps no call of this number */
+    FAILREG_E_NO_LINE = 35        /* the text isn't the line of a call */
 };
 
 /* What a status says, in words. failreg_fault has the text of a refusal, which says more. */
@@ -106,10 +109,13 @@ static inline const char *failreg_strerror(uint32_t status)
     case FAILREG_E_OVERSPENT: return "with the message a term would run too often";
     case FAILREG_E_BAD_CONFIG: return "a cluster has 1 to 32 nodes, and this is one of them";
     case FAILREG_E_NO_MEMORY: return "out of memory";
+    case FAILREG_E_DIFFERS: return "the node doesn't answer as the line says, and is closed";
     case FAILREG_E_NOT_UTF8: return "a name or a text isn't UTF-8";
     case FAILREG_E_CLOSED: return "the node is closed";
     case FAILREG_E_ALREADY_OPEN: return "the node is open already";
     case FAILREG_E_NO_POINT: return "no point of the node has the number";
+    case FAILREG_E_NO_ENTRY: return "the node keeps no call of this number";
+    case FAILREG_E_NO_LINE: return "the text isn't the line of a call";
     default: return "no status of this library";
     }
 }
@@ -259,13 +265,33 @@ uint32_t failreg_answer(failreg *node, const char *method, size_t method_len, co
 /* Lists the points that are set, as a text for failreg_load: fetch it. */
 uint32_t failreg_list(failreg *node);
 
+/* The record of a node is its part of a drill (docs/drills.md): a text of a first line, and of one for
+ * each accepted call, each ended by a newline. A program that has a line in a file before it answers
+ * or obeys its call goes on from there when it starts again: it opens the node anew, with the same
+ * number, and repeats the lines. embedding/c/part.c does so. */
+
+/* The first line of the node's part, without a newline: fetch it. `run` is any text that the parts
+ * of one drill share, perhaps empty. */
+uint32_t failreg_part_head(failreg *node, const char *run, size_t run_len);
+
+/* The line of an accepted call by its number, counted from 0 (the newest is failreg_calls - 1),
+ * without a newline: fetch it. FAILREG_E_NO_ENTRY: it isn't kept, or there are fewer calls. */
+uint32_t failreg_entry(failreg *node, uint64_t index);
+
+/* [entry] Makes the call of a line again, as the node made it before: it accepts it and answers what
+ * the line says, and its generator goes over the line's draws. FAILREG_E_DIFFERS: the node refuses
+ * the call or answers otherwise; the node is closed then. FAILREG_E_NO_LINE: it is no line of a
+ * call. */
+uint32_t failreg_repeat(failreg *node, const char *line, size_t line_len);
+
 /* Copies the text of the last call marked [entry] that was refused, as "N11 TooFewRights have=2", as
  * much as `room` is, and tells how long it is. It has no bytes after FAILREG_E_NOT_UTF8. What is to
  * be fetched stays. */
 uint32_t failreg_fault(const failreg *node, char *into, size_t room, size_t *length);
 
-/* Copies what the last pass (its text), emit, answer or list left to be fetched, as much as `room`
- * is, and answers how long it is: with room 0 only that. It stays until the next of those calls. */
+/* Copies what the last pass (its text), emit, answer, list, part_head or entry left to be fetched, as
+ * much as `room` is, and answers how long it is: with room 0 only that. It stays until the next of
+ * those calls. */
 size_t failreg_fetch(const failreg *node, void *into, size_t room);
 
 /* Copies the random draws of the last failreg_pass or failreg_pass_at, as much as `room` is, and

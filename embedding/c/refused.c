@@ -224,6 +224,43 @@ static void fault(failreg *n, told *t)
     t->status = failreg_fault(n, t->bytes, sizeof t->bytes, &t->length);
 }
 
+static void part_head(failreg *n, told *t)
+{
+    t->status = failreg_part_head(n, TEXT("night 7"));
+    if (t->status == FAILREG_OK)
+        fetch(n, t);
+}
+
+/* The last call that was accepted. */
+static void entry(failreg *n, told *t)
+{
+    t->status = failreg_entry(n, 3);
+    if (t->status == FAILREG_OK)
+        fetch(n, t);
+}
+
+static void no_entry(failreg *n, told *t)
+{
+    t->status = failreg_entry(n, 4);
+}
+
+static void repeat(failreg *n, told *t)
+{
+    t->status = failreg_repeat(n, TEXT("{\"ask\":[\"set\",\"a\",\"2*print(hi)->off\"],"
+                                       "\"reply\":[\"set\",3,1],\"words\":[]}"));
+}
+
+static void repeat_a_pass(failreg *n, told *t)
+{
+    t->status = failreg_repeat(n, TEXT("{\"ask\":[\"pass\",\"p\"],\"reply\":[\"act\",1,1,1,"
+                                       "[\"panic\",null]],\"words\":[4294967295]}"));
+}
+
+static void repeat_no_line(failreg *n, told *t)
+{
+    t->status = failreg_repeat(n, TEXT("{\"ask\":[\"pass\",\"p\"]}"));
+}
+
 static const struct {
     const char *name;
     void (*call)(failreg *, told *);
@@ -249,6 +286,12 @@ static const struct {
     { "a message cut short", deliver_a_part },
     { "list", list },
     { "fault", fault },
+    { "part head", part_head },
+    { "entry", entry },
+    { "an entry that there isn't", no_entry },
+    { "repeat", repeat },
+    { "repeat a pass", repeat_a_pass },
+    { "repeat no line", repeat_no_line },
 };
 
 static failreg opened(uint8_t number)

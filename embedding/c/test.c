@@ -445,6 +445,104 @@ static void faults_leave_what_is_to_be_fetched(void)
     CHECK(failreg_fault(&node, text, 3, &length) == FAILREG_E_CLOSED && length == 0);
 }
 
+/* Whether the line of a call is this. */
+static bool has_line(failreg *node, uint64_t index, const char *wanted)
+{
+    return failreg_entry(node, index) == FAILREG_OK && said(node, wanted);
+}
+
+/* The lines of a node's part: its head, and one for each call that is kept. */
+static void a_part_has_lines(void)
+{
+    failreg node = opened(1);
+    uint64_t total;
+    CHECK(failreg_part_head(&node, TEXT("night \"7\"")) == FAILREG_OK);
+    CHECK(said(&node, "{\"cap\":100000,\"failreg\":\"part\",\"node\":1,\"nodes\":2,"
+                      "\"run\":\"night \\\"7\\\"\",\"version\":1}"));
+    CHECK(failreg_part_head(&node, "\xff", 1) == FAILREG_E_NOT_UTF8);
+    CHECK(failreg_entry(&node, 0) == FAILREG_E_NO_ENTRY);
+    set(&node, "2*print(\"\xc3\xa9\")->off");
+    pass(&node);
+    CHECK(failreg_grant(&node, TEXT("p"), 0, 3, &total) == FAILREG_OK);
+    CHECK(has_line(&node, 0, "{\"ask\":[\"set\",\"p\",\"2*print(\\\"\xc3\xa9\\\")->off\"],"
+                             "\"reply\":[\"set\",1,1],\"words\":[]}"));
+    CHECK(has_line(&node, 1, "{\"ask\":[\"pass\",\"p\"],\"reply\":[\"act\",1,1,0,[\"print\","
+                             "\"\\\"\xc3\xa9\\\"\"]],\"words\":[]}"));
+    CHECK(has_line(&node, 2, "{\"ask\":[\"grant\",\"p\",0,3],\"reply\":[\"granted\",3],\"words\":[]}"));
+    CHECK(failreg_entry(&node, 3) == FAILREG_E_NO_ENTRY);
+    CHECK(failreg_entry(&node, UINT64_MAX) == FAILREG_E_NO_ENTRY);
+    CHECK(failreg_forget(&node) == FAILREG_OK && failreg_entry(&node, 2) == FAILREG_E_NO_ENTRY);
+    pass(&node);
+    CHECK(failreg_entry(&node, 2) == FAILREG_E_NO_ENTRY && failreg_entry(&node, 3) == FAILREG_OK);
+    failreg_close(&node);
+    CHECK(failreg_part_head(&node, "", 0) == FAILREG_E_CLOSED);
+    CHECK(failreg_entry(&node, 0) == FAILREG_E_CLOSED);
+}
+
+/* Makes the newest call of a node again at another one. */
+static uint32_t repeat_newest(failreg *from, failreg *at)
+{
+    uint64_t calls;
+    size_t length;
+    CHECK(failreg_calls(from, &calls) == FAILREG_OK);
+    CHECK(failreg_entry(from, calls - 1) == FAILREG_OK);
+    char *line = fetched(from, &length);
+    uint32_t status = failreg_repeat(at, line, length);
+    free(line);
+    return status;
+}
+
+/* A node that makes the calls of another one again goes on as that does, with its draws. */
+static void calls_are_repeated(void)
+{
+    failreg node = opened(0), other = opened(0);
+    failreg_stamp stamp;
+    set(&node, "50%3*print(one)->20%panic(two)->off");
+    CHECK(repeat_newest(&node, &other) == FAILREG_OK);
+    for (int i = 0; i < 40; i++) {
+        pass(&node);
+        CHECK(repeat_newest(&node, &other) == FAILREG_OK);
+    }
+    CHECK(failreg_remove(&node, TEXT("q"), &stamp) == FAILREG_OK);
+    CHECK(repeat_newest(&node, &other) == FAILREG_OK);
+    CHECK(tell_the_same(&node, &other));
+    for (int i = 0; i < 40; i++) {
+        uint32_t words[2], same[2];
+        CHECK(pass(&node).outcome == pass(&other).outcome);
+        CHECK(failreg_words(&node, words, 2) == 2 && failreg_words(&other, same, 2) == 2);
+        CHECK(words[0] == same[0] && words[1] == same[1]);
+    }
+    failreg_close(&node);
+    failreg_close(&other);
+}
+
+/* What is no line leaves a node as it was. Where it answers otherwise than a line says it is closed. */
+static void a_line_that_differs_closes_a_node(void)
+{
+    static const char *const none[] = { "", "{}", "\xff", "null", "[]", "pass p",
+        "{\"cap\":100000,\"failreg\":\"part\",\"node\":0,\"nodes\":2,\"run\":\"\",\"version\":1}",
+        "{\"ask\":[\"pass\",\"p\"],\"reply\":[\"unset\"]}",
+        "{\"ask\":[\"fly\",\"p\"],\"reply\":[\"unset\"],\"words\":[]}" };
+    static const char *const others[] = {
+        "{\"ask\":[\"pass\",\"p\"],\"reply\":[\"unset\"],\"words\":[]}",
+        "{\"ask\":[\"pass\",\"p\"],\"reply\":[\"act\",1,0,0,[\"off\"]],\"words\":[7]}",
+        "{\"ask\":[\"set\",\"p\",\"offf\"],\"reply\":[\"set\",2,0],\"words\":[]}",
+        "{\"ask\":[\"grant\",\"p\",0,1],\"reply\":[\"granted\",1],\"words\":[]}",
+        "{\"ask\":[\"emit\",0],\"reply\":[\"message\",\"\"],\"words\":[]}",
+    };
+    uint64_t calls;
+    for (size_t i = 0; i < sizeof others / sizeof others[0]; i++) {
+        failreg node = opened(0);
+        set(&node, "off");
+        for (size_t n = 0; n < sizeof none / sizeof none[0]; n++)
+            CHECK(failreg_repeat(&node, none[n], strlen(none[n])) == FAILREG_E_NO_LINE);
+        CHECK(failreg_calls(&node, &calls) == FAILREG_OK && calls == 1);
+        CHECK(failreg_repeat(&node, others[i], strlen(others[i])) == FAILREG_E_DIFFERS);
+        CHECK(!node.is_open && failreg_calls(&node, &calls) == FAILREG_E_CLOSED);
+        CHECK(failreg_repeat(&node, others[i], strlen(others[i])) == FAILREG_E_CLOSED);
+    }
+}
+
 /* Words for each status, and the version of the library is that of its header. */
 static void words_and_versions(void)
 {
@@ -470,6 +568,9 @@ int main(void)
     a_cap_is_of_a_life();
     refusals_are_told();
     faults_leave_what_is_to_be_fetched();
+    a_part_has_lines();
+    calls_are_repeated();
+    a_line_that_differs_closes_a_node();
     words_and_versions();
     puts("the C test passed");
     return 0;

@@ -103,10 +103,14 @@ numbers! { STATUSES: u32;
     "With the message a term would have run more often than it may." FAILREG_E_OVERSPENT = 20,
     "A cluster has 1 to 32 nodes, and this is one of them." FAILREG_E_BAD_CONFIG = 21,
     "Memory was refused." FAILREG_E_NO_MEMORY = 22,
+    "`failreg_repeat`: the node refuses the call or answers otherwise, and is closed."
+        FAILREG_E_DIFFERS = 23,
     "A name or a text isn't UTF-8." FAILREG_E_NOT_UTF8 = 30,
     "The node is closed." FAILREG_E_CLOSED = 31,
     "`failreg_open` of a node that is open." FAILREG_E_ALREADY_OPEN = 32,
     "`failreg_point` of this node told no such number." FAILREG_E_NO_POINT = 33,
+    "The node keeps no call of this number." FAILREG_E_NO_ENTRY = 34,
+    "The text isn't the line of a call." FAILREG_E_NO_LINE = 35,
 }
 
 numbers! { OUTCOMES: u8;
@@ -353,6 +357,23 @@ unsafe extern "C" {
 
     /// Lists the points that are set, to be fetched.
     pub safe fn failreg_list(node: &mut failreg) -> u32;
+
+    /// The first line of the node's part of a drill, without a newline, to be fetched.
+    ///
+    /// # Safety
+    /// `run` leads to `run_len` bytes.
+    pub fn failreg_part_head(node: &mut failreg, run: Bytes, run_len: usize) -> u32;
+
+    /// The line of an accepted call that is kept, by its number from 0, without a newline, to be
+    /// fetched.
+    pub safe fn failreg_entry(node: &mut failreg, index: u64) -> u32;
+
+    /// `[entry]` Makes the call of a line again, as the node made it before. Where the node answers
+    /// otherwise, it is closed.
+    ///
+    /// # Safety
+    /// `line` leads to `line_len` bytes.
+    pub fn failreg_repeat(node: &mut failreg, line: Bytes, line_len: usize) -> u32;
 
     /// Copies the text of the last refusal of a call marked `[entry]`, as much as `room` is, and
     /// tells how long it is. What is to be fetched stays.

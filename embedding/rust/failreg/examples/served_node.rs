@@ -2,11 +2,16 @@
 //! that misbehave at either.
 //!
 //!     served_node serve --node N --nodes M --port P [--requests R] [--cap C] [--every MS] [PEER..]
+//!         [--record PART] [--run TEXT] [--buffered 1] [--pass POINT]
 //!
 //! A peer is `N:PORT`, a node at a port of this machine. It prints `listening` and the port, and is
 //! served until it is ended: how many requests are wanted is read, and not counted.
+//!
+//! With `--record` it writes its part, and goes on from it. With `--pass` it passes the point all the
+//! time, by three threads and by `main`, and obeys: `panic` in `main` ends it, and where the point says
+//! `return`, it prints `ran` and the reason. `tools/restart_programs` starts it again each time.
 
-use failreg::{Peer, Registry, gossip, serve};
+use failreg::{Builder, Peer, Registry, gossip, serve};
 use std::error::Error;
 use std::io::{self, Write};
 use std::net::Ipv4Addr;
@@ -16,12 +21,11 @@ use std::time::Duration;
 
 /// What the words say.
 struct Wanted {
-    node: u8,
-    nodes: u8,
+    builder: Builder,
     port: u16,
-    cap: u64,
     every: Duration,
     peers: Vec<Peer>,
+    passed: Option<String>,
 }
 
 fn peer(word: &str) -> Result<Peer, Box<dyn Error>> {
@@ -34,12 +38,11 @@ fn peer(word: &str) -> Result<Peer, Box<dyn Error>> {
 
 fn wanted(mut words: impl Iterator<Item = String>) -> Result<Wanted, Box<dyn Error>> {
     let mut wanted = Wanted {
-        node: 0,
-        nodes: 1,
+        builder: Registry::builder(),
         port: 0,
-        cap: failreg::Builder::MOST_CALLS,
         every: Duration::from_millis(100),
         peers: Vec::new(),
+        passed: None,
     };
     while let Some(word) = words.next() {
         if !word.starts_with("--") {
@@ -48,11 +51,15 @@ fn wanted(mut words: impl Iterator<Item = String>) -> Result<Wanted, Box<dyn Err
         }
         let value = words.next().ok_or("an option has a value")?;
         match word.as_str() {
-            "--node" => wanted.node = value.parse()?,
-            "--nodes" => wanted.nodes = value.parse()?,
+            "--node" => wanted.builder = wanted.builder.node(value.parse()?),
+            "--nodes" => wanted.builder = wanted.builder.nodes(value.parse()?),
+            "--cap" => wanted.builder = wanted.builder.cap(value.parse()?),
             "--port" => wanted.port = value.parse()?,
-            "--cap" => wanted.cap = value.parse()?,
             "--every" => wanted.every = Duration::from_millis(value.parse()?),
+            "--record" => wanted.builder = wanted.builder.recording(value),
+            "--run" => wanted.builder = wanted.builder.run(value),
+            "--buffered" => wanted.builder = wanted.builder.buffered(value == "1"),
+            "--pass" => wanted.passed = Some(value),
             "--requests" | "--rounds" => {}
             _ => return Err(format!("{word} isn't known").into()),
         }
@@ -60,15 +67,32 @@ fn wanted(mut words: impl Iterator<Item = String>) -> Result<Wanted, Box<dyn Err
     Ok(wanted)
 }
 
+fn pass_often(node: &Registry, point: &str) -> ! {
+    loop {
+        if let Some(reason) = node.eval(point) {
+            // In one write, so that it is whole wherever the process ends.
+            let line = format!("ran {}\n", reason.unwrap_or_default());
+            drop(io::stdout().write_all(line.as_bytes()));
+        }
+        thread::sleep(Duration::from_millis(1));
+    }
+}
+
 fn main() -> Result<(), Box<dyn Error>> {
     let wanted = wanted(std::env::args().skip(2))?;
-    let builder = Registry::builder().node(wanted.node).nodes(wanted.nodes);
-    let node = Arc::new(builder.cap(wanted.cap).build()?);
+    let node = Arc::new(wanted.builder.build()?);
     let serving = serve(node.clone(), (Ipv4Addr::LOCALHOST, wanted.port))?;
-    let _telling = gossip(node, &wanted.peers, wanted.every)?;
+    let _telling = gossip(node.clone(), &wanted.peers, wanted.every)?;
     println!("listening {}", serving.addr().port());
     io::stdout().flush()?;
-    loop {
-        thread::park();
+    let Some(point) = wanted.passed else {
+        loop {
+            thread::park();
+        }
+    };
+    for _ in 0..3 {
+        let (node, point) = (node.clone(), point.clone());
+        thread::spawn(move || pass_often(&node, &point));
     }
+    pass_often(&node, &point)
 }

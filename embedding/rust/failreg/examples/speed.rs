@@ -1,18 +1,23 @@
 //! Times `fail_point!` from Rust, by the clock: see bench/README.md.
 //!
-//!     speed KIND THREADS PASSES
+//!     speed KIND THREADS PASSES [PART [HOW..]]
 //!
-//! prints nanoseconds a pass, over all threads, and the bytes that a pass takes more of memory.
+//! prints nanoseconds a pass, over all threads, and the bytes that a pass takes more of memory. With
+//! PART the node writes its part to this new file, `buffered` or `synced` where HOW says so.
 
-use failreg::{Builder, Registry, fail_point};
+use failreg::{Registry, fail_point};
 use std::hint::black_box;
 use std::time::Instant;
 
-const KINDS: [(&str, &[&str]); 5] = [
+const KINDS: [(&str, &[&str]); 6] = [
     ("nothing-set", &[]),
     ("unset", &["other.point=off"]),
     ("uncounted", &["other.point=off", "some.point=off"]),
     ("counted", &["other.point=off", "some.point=1000000000*off"]),
+    (
+        "spent",
+        &["other.point=off", "some.point=0*off->return(spent)"],
+    ),
     ("chance", &["other.point=off", "some.point=50%off"]),
 ];
 
@@ -38,13 +43,19 @@ fn bytes_resident() -> f64 {
 
 fn main() {
     let words: Vec<String> = std::env::args().collect();
-    let [_, kind, threads, passes] = &words[..] else {
-        panic!("speed KIND THREADS PASSES")
+    let [_, kind, threads, passes, part @ ..] = &words[..] else {
+        panic!("speed KIND THREADS PASSES [PART [HOW..]]")
     };
     let threads: u64 = threads.parse().expect("threads are a number");
     let each = passes.parse::<u64>().expect("passes are a number") / threads;
     let (_, settings) = KINDS.iter().find(|it| it.0 == kind).expect("no such kind");
-    let node = Registry::open(0, 2, Builder::MOST_CALLS).expect("a node");
+    let mut builder = Registry::builder().nodes(2);
+    if let [path, how @ ..] = part {
+        let has = |word: &str| how.iter().any(|it| it == word);
+        builder = builder.recording(path.as_str());
+        builder = builder.buffered(has("buffered")).synced(has("synced"));
+    }
+    let node = builder.build().expect("a node");
     for setting in *settings {
         node.load(setting).expect("a setting");
     }

@@ -1,7 +1,7 @@
 //! Requests of HTTP at a registry, whoever received them.
 
 use crate::error::Error;
-use crate::receipts;
+use crate::kept::Kept;
 use crate::registry::Registry;
 
 /// The reply to a request of HTTP.
@@ -33,26 +33,26 @@ impl Registry {
     /// | `POST /gossip` | a message of another node | `changed` or `same` |
     ///
     /// What is done is as by the calls of the registry: threads see new settings, pauses end, and
-    /// where the registry records, an accepted call has its receipt. A body has at most 67,108,864
-    /// bytes, else the reply is 413.
+    /// where the registry records, an accepted call is recorded before the reply is there. A body has
+    /// at most 67,108,864 bytes, else the reply is 413.
     ///
     /// # Errors
-    /// [`Closed`](crate::ErrorKind::Closed) or [`Disabled`](crate::ErrorKind::Disabled); with a
-    /// [`Recorder`](crate::Recorder) [`NotRecorded`](crate::ErrorKind::NotRecorded) or
+    /// [`Closed`](crate::ErrorKind::Closed) or [`Disabled`](crate::ErrorKind::Disabled); where the
+    /// registry records, [`NotRecorded`](crate::ErrorKind::NotRecorded) or, but for a `GET`,
     /// [`RecordingFailed`](crate::ErrorKind::RecordingFailed). A request that the node refuses is a
     /// [`Reply`], as 409 and `N6 NotSet`.
     pub fn answer(&self, method: &str, path: &str, body: &[u8]) -> Result<Reply, Error> {
         let mut state = self.lock();
+        // What waits to be written is before what the reply says of it.
+        let goes_on = self.flush(&mut state);
         if method != "GET" {
-            self.may_be_called(&mut state)?;
+            goes_on?;
         }
         let before = state.node.calls()?;
         let (status, told) = state.node.reply_to(method, path, body)?;
         let mut over = Vec::new();
         if state.node.calls()? > before {
-            self.keep(&mut state, |_| {
-                receipts::of_request(method, path, body, &String::from_utf8_lossy(&told))
-            })?;
+            self.keep(&mut state, Kept::keep)?;
             if changes_settings(path, &told) {
                 over = self.settings_changed(&mut state);
             }

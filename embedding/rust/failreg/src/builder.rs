@@ -5,6 +5,7 @@ use crate::recorder::Recorder;
 use crate::registry::Registry;
 use std::fmt;
 use std::hash::{BuildHasher, Hasher, RandomState};
+use std::path::{Path, PathBuf};
 use std::sync::Arc;
 
 /// What is done about a pass that `eval` or `fail_point!` made and that was refused: each time, but
@@ -56,16 +57,40 @@ impl fmt::Debug for OnRefusal {
     }
 }
 
-/// What becomes of the calls that are accepted.
+/// What becomes of the calls that are accepted: `true` keeps a receipt of each, and a path is that of
+/// the node's part, to which each is written ([`Builder::recording`]).
 #[derive(Clone, Debug)]
-pub(crate) enum Recording {
+pub struct Recording(pub(crate) How);
+
+#[derive(Clone, Debug)]
+pub(crate) enum How {
     /// The node alone knows of them.
     Off,
     /// Their receipts are kept.
     Kept,
-    /// They are written.
+    /// They are written to a drill.
     To(Recorder),
+    /// They are written to the node's part, from which it goes on.
+    Part(PathBuf),
 }
+
+impl From<bool> for Recording {
+    fn from(is_recording: bool) -> Recording {
+        Recording(if is_recording { How::Kept } else { How::Off })
+    }
+}
+
+macro_rules! from_paths {
+    ($($path:ty),+) => {$(
+        impl From<$path> for Recording {
+            fn from(path: $path) -> Recording {
+                Recording(How::Part(path.into()))
+            }
+        }
+    )+};
+}
+
+from_paths!(&str, &Path, &PathBuf, String, PathBuf);
 
 /// Makes a [`Registry`]: [`Registry::builder`] begins one.
 #[derive(Clone, Debug)]
@@ -76,6 +101,9 @@ pub struct Builder {
     pub(crate) cap: u64,
     pub(crate) seed: Option<[u8; 32]>,
     pub(crate) recording: Recording,
+    pub(crate) run: String,
+    pub(crate) is_synced: bool,
+    pub(crate) is_buffered: bool,
     pub(crate) on_refusal: OnRefusal,
 }
 
@@ -86,7 +114,10 @@ impl Default for Builder {
             nodes: 1,
             cap: Builder::MOST_CALLS,
             seed: None,
-            recording: Recording::Off,
+            recording: false.into(),
+            run: String::new(),
+            is_synced: false,
+            is_buffered: false,
             on_refusal: OnRefusal::default(),
         }
     }
@@ -122,23 +153,76 @@ impl Builder {
         }
     }
 
-    /// Whether to keep a receipt of each call that is accepted, for
-    /// [`write_drill`](crate::write_drill); else not. A program that runs for long has
-    /// [`recording_to`](Builder::recording_to), which keeps none.
-    pub fn recording(self, is_recording: bool) -> Builder {
-        let recording = if is_recording {
-            Recording::Kept
-        } else {
-            Recording::Off
-        };
+    /// What becomes of the calls that are accepted; else the node alone knows of them.
+    ///
+    /// `true` keeps a receipt of each, for [`write_drill`](crate::write_drill). A program that runs
+    /// for long has [`recording_to`](Builder::recording_to), which keeps none.
+    ///
+    /// A path is that of **the node's part**: a file with a line for each call, from which the node
+    /// goes on when its process starts again, however it ended. The lines that are there are calls of
+    /// this node, made again before `build` returns: it has the points, the rights and the totals that
+    /// it had, and the calls count against its cap; with the same [`seed`](Builder::seed) its draws go
+    /// on too. (A callback is a closure of its process, and isn't there: the point is set to `off`.)
+    /// Each further call is with the system, in one write, before its caller is told or a task is
+    /// carried out. Where there is no file, or an empty one, the part is begun. The file is locked as
+    /// long as the registry is open.
+    ///
+    /// ```
+    /// use failreg::Registry;
+    ///
+    /// # if !failreg::has_failpoints() { return Ok(()); }
+    /// # let path = std::env::temp_dir().join(format!("a_part_of_{}", std::process::id()));
+    /// let open = || Registry::builder().recording(&path).build();
+    /// let node = open()?;
+    /// if node.calls()? == 0 {
+    ///     node.set("save", "2*off")?;
+    /// }
+    /// node.pass("save")?;
+    /// // However this ends, the next one has one of the two left.
+    /// drop(node);
+    /// assert_eq!(open()?.spent("save", 0)?, 1);
+    /// # std::fs::remove_file(&path)?;
+    /// # Ok::<(), Box<dyn std::error::Error>>(())
+    /// ```
+    ///
+    /// A call that can't be written says so ([`NotRecorded`](ErrorKind::NotRecorded)), its task isn't
+    /// carried out, and no call is made from then on
+    /// ([`RecordingFailed`](ErrorKind::RecordingFailed)). `build` refuses a file that isn't this node's
+    /// part ([`BadPart`](ErrorKind::BadPart)), or that is open already
+    /// ([`PartInUse`](ErrorKind::PartInUse)), and leaves it as it was.
+    pub fn recording(self, recording: impl Into<Recording>) -> Builder {
+        let recording = recording.into();
         Builder { recording, ..self }
     }
 
     /// Writes each call that is accepted to a recorder's drill at once, and keeps none, in place of
     /// what [`recording`](Builder::recording) says. All nodes of the cluster take the same recorder.
     pub fn recording_to(self, recorder: &Recorder) -> Builder {
+        let recording = Recording(How::To(recorder.clone()));
+        Builder { recording, ..self }
+    }
+
+    /// A text that the parts of one drill share, as the night in which it is played; else an empty
+    /// one. A part of another run isn't taken.
+    pub fn run(self, run: impl Into<String>) -> Builder {
+        let run = run.into();
+        Builder { run, ..self }
+    }
+
+    /// Whether each write of the part is with the disk before its call is told, for machines that lose
+    /// their power; else not: the system has it, whatever becomes of the process.
+    pub fn synced(self, is_synced: bool) -> Builder {
+        Builder { is_synced, ..self }
+    }
+
+    /// Whether lines of the part may share a write where they are those of passes that took no right:
+    /// the point wasn't set, or came to no term, or to one that has no count. They are written before
+    /// any other line, before a message or the reply to a request leaves, and after 100 ms at most.
+    /// What is lost of them with the process no other node and no operator was told of: its hits are
+    /// fewer when it goes on, and their draws are drawn again. Else each line is written at once.
+    pub fn buffered(self, is_buffered: bool) -> Builder {
         Builder {
-            recording: Recording::To(recorder.clone()),
+            is_buffered,
             ..self
         }
     }

@@ -5,21 +5,22 @@ use crate::error::{Error, ErrorKind};
 use crate::fail_rs::has_failpoints;
 use crate::gossip::{Gossip, Peer, gossip, others};
 use crate::program::first;
-use crate::recorder::Recorder;
 use crate::registry::Registry;
 use crate::serving::{Serving, listen, serve_at};
 use std::ffi::{OsStr, OsString};
-use std::fs::File;
 use std::io;
 use std::net::{Ipv4Addr, SocketAddr};
 use std::ops::Deref;
-use std::path::Path;
+use std::path::PathBuf;
 use std::str::FromStr;
 use std::time::Duration;
 
 const NODE: &str = "FAILREG_NODE";
 const CAP: &str = "FAILREG_CAP";
 const RECORD: &str = "FAILREG_RECORD";
+const RUN: &str = "FAILREG_RUN";
+const SYNC: &str = "FAILREG_SYNC";
+const BUFFER: &str = "FAILREG_BUFFER";
 const LISTEN: &str = "FAILREG_LISTEN";
 const PEERS: &str = "FAILREG_PEERS";
 
@@ -40,8 +41,11 @@ const EVERY: Duration = Duration::from_millis(100);
 /// |---|---|---|
 /// | `FAILREG_NODE` | the node's number and how many nodes the cluster has, as `1/3` | `0/1` |
 /// | `FAILREG_CAP` | how many calls the node accepts in its life | 72057594037927935 |
-/// | `FAILPOINTS` | the points to begin with, as `name=actions;name=actions` | none |
-/// | `FAILREG_RECORD` | the path of a new file, to which a [`Recorder`] writes the drill call by call. It takes a cluster of one node | no drill |
+/// | `FAILPOINTS` | the points to begin with, as `name=actions;name=actions`. A node that goes on from its part has those that it had | none |
+/// | `FAILREG_RECORD` | the path of the node's part, to which each call is written and from which the node goes on ([`Builder::recording`]) | no part |
+/// | `FAILREG_RUN` | a text that the parts of one drill share ([`Builder::run`]) | an empty one |
+/// | `FAILREG_SYNC` | 1 where each write is to be with the disk ([`Builder::synced`]) | 0 |
+/// | `FAILREG_BUFFER` | 1 where lines of passes that took no right may share a write ([`Builder::buffered`]) | 0 |
 /// | `FAILREG_LISTEN` | the address at which the node is served, as [`serve`](crate::serve) does, as `127.0.0.1:7071` | it isn't served |
 /// | `FAILREG_PEERS` | where other nodes are served that are told, as [`gossip`] does, every 100 ms: each as a node and a port of 127.0.0.1, `0:7070,2:7072`, or with an address, `0@[::1]:7070` | nobody is told |
 ///
@@ -51,27 +55,17 @@ const EVERY: Duration = Duration::from_millis(100);
 /// of a thread ([`NoThread`](ErrorKind::NoThread)).
 pub fn from_env() -> Result<Program, Error> {
     let wanted = Wanted::of(&|name| std::env::var_os(name))?;
-    let (mut recorder, mut listener) = (None, None);
+    let mut listener = None;
     let registry = first(|| {
         listener = match wanted.listen {
             Some(addr) => Some(listen(addr).map_err(|error| error.of_variable(LISTEN))?),
             None => None,
         };
-        let Some(path) = wanted.record.as_deref() else {
-            return wanted.open(Registry::builder());
-        };
-        let drill = Recorder::new(new_file(path)?);
-        let opened = wanted.open(Registry::builder().recording_to(&drill));
-        match &opened {
-            Ok(_) => recorder = Some(drill),
-            // A drill of nothing is left to nobody.
-            Err(_) => drop(std::fs::remove_file(path)),
-        }
-        opened
+        wanted.open()
     })?;
     let mut program = Program {
         registry,
-        recorder,
+        is_over: false,
         serving: None,
         gossip: None,
     };
@@ -85,13 +79,14 @@ pub fn from_env() -> Result<Program, Error> {
 }
 
 /// The program's registry, which is served and tells its peers until this is dropped: let it live as
-/// long as `main`. The drill of `FAILREG_RECORD` is written call by call, so that it is there however
+/// long as `main`. The part of `FAILREG_RECORD` is written call by call, so that it is there however
 /// the program ends.
 #[derive(Debug)]
 #[must_use = "a drop ends the service: keep it as long as the program runs"]
 pub struct Program {
     registry: &'static Registry,
-    recorder: Option<Recorder>,
+    /// Whether the end has been told.
+    is_over: bool,
     serving: Option<Serving>,
     gossip: Option<Gossip>,
 }
@@ -112,19 +107,19 @@ impl Program {
         self.gossip.as_ref()
     }
 
-    /// Ends the service, and says whether the drill, if one is asked for, has each call that was made.
-    /// A drop ends the service as well, and says on standard error where the drill lacks one.
+    /// Ends the service, and says whether the part, if one is asked for, has each call that was made.
+    /// A drop ends the service as well, and says on standard error where the part lacks one.
     pub fn finish(mut self) -> io::Result<()> {
         self.end()
     }
 
     fn end(&mut self) -> io::Result<()> {
-        // First, so that the drill has all that was answered.
+        // First, so that the part has all that was answered.
         self.serving = None;
         self.gossip = None;
-        match self.recorder.take() {
-            Some(recorder) => recorder.goes_on().map_err(io::Error::other),
-            None => Ok(()),
+        match std::mem::replace(&mut self.is_over, true) {
+            true => Ok(()),
+            false => self.registry.recorded().map_err(io::Error::other),
         }
     }
 }
@@ -140,7 +135,7 @@ impl Deref for Program {
 impl Drop for Program {
     fn drop(&mut self) {
         if let Err(error) = self.end() {
-            eprintln!("failreg: the drill of {RECORD} lacks a call: {error}");
+            eprintln!("failreg: the part of {RECORD} lacks a call: {error}");
         }
     }
 }
@@ -151,7 +146,10 @@ struct Wanted {
     number: u8,
     nodes: u8,
     cap: u64,
-    record: Option<OsString>,
+    record: Option<PathBuf>,
+    run: String,
+    is_synced: bool,
+    is_buffered: bool,
     listen: Option<SocketAddr>,
     peers: Vec<Peer>,
 }
@@ -161,11 +159,20 @@ fn bad(kind: ErrorKind, name: &str, value: &OsStr, fault: &'static str) -> Error
 }
 
 impl Wanted {
-    // The registry, with the points of FAILPOINTS.
-    fn open(&self, builder: Builder) -> Result<Registry, Error> {
-        let builder = builder.node(self.number).nodes(self.nodes).cap(self.cap);
-        let registry = builder.build()?;
-        registry.load_env()?;
+    // The registry, with the points of FAILPOINTS where it begins.
+    fn open(&self) -> Result<Registry, Error> {
+        let builder = Registry::builder().node(self.number).nodes(self.nodes);
+        let builder = builder.cap(self.cap).run(self.run.as_str());
+        let builder = builder.synced(self.is_synced).buffered(self.is_buffered);
+        let registry = match &self.record {
+            Some(path) => builder.recording(path).build(),
+            None => builder.build(),
+        };
+        let registry = registry.map_err(|error| match error.has_place() {
+            true => error.of_variable(RECORD),
+            false => error,
+        })?;
+        registry.begin_with_env()?;
         Ok(registry)
     }
 
@@ -179,17 +186,15 @@ impl Wanted {
                 return Err(bad(ErrorKind::Disabled, name, &value, fault));
             }
         }
-        let record = var(RECORD);
-        if let Some(value) = record.as_ref().filter(|_| nodes != 1) {
-            let fault = "a drill takes all nodes of its cluster, and so one node alone";
-            return Err(bad(ErrorKind::Unsupported, RECORD, value, fault));
-        }
         let peers = read(var, PEERS, PEERS_WANTED, peers_of)?.unwrap_or_default();
         Ok(Wanted {
             number,
             nodes,
             cap: cap.unwrap_or(Builder::MOST_CALLS),
-            record,
+            record: var(RECORD).map(PathBuf::from),
+            run: read(var, RUN, RUN_WANTED, |text| Some(text.to_string()))?.unwrap_or_default(),
+            is_synced: read(var, SYNC, SWITCH_WANTED, switch_of)?.unwrap_or(false),
+            is_buffered: read(var, BUFFER, SWITCH_WANTED, switch_of)?.unwrap_or(false),
             listen: read(var, LISTEN, LISTEN_WANTED, listen_of)?,
             peers: others(&peers, number, nodes).map_err(|error| error.of_variable(PEERS))?,
         })
@@ -202,6 +207,17 @@ const CAP_WANTED: &str = "wanted is a number of calls, 0 to 72057594037927935";
 
 fn cap_of(text: &str) -> Option<u64> {
     text.parse().ok().filter(|cap| *cap <= Builder::MOST_CALLS)
+}
+
+const RUN_WANTED: &str = "wanted is a text of UTF-8";
+const SWITCH_WANTED: &str = "wanted is 0 or 1";
+
+fn switch_of(text: &str) -> Option<bool> {
+    match text {
+        "0" => Some(false),
+        "1" => Some(true),
+        _ => None,
+    }
 }
 
 const LISTEN_WANTED: &str = "wanted is an address of this machine alone and a port, as \
@@ -261,13 +277,6 @@ fn read<T>(
     }
 }
 
-fn new_file(path: &OsStr) -> Result<File, Error> {
-    File::create_new(Path::new(path)).map_err(|error| {
-        let fault = format!("wanted is the path of a new file: {error}");
-        Error::new(ErrorKind::BadVariable, fault).at_variable(RECORD, path)
-    })
-}
-
 #[cfg(test)]
 mod tests {
     use super::*;
@@ -311,7 +320,9 @@ mod tests {
         let caps = ["", "-1", "72057594037927936", "1e6", "1_000", "many"];
         let nodes = nodes.map(|value| (NODE, value, NODE_WANTED));
         let caps = caps.map(|value| (CAP, value, CAP_WANTED));
-        for (name, value, fault) in nodes.into_iter().chain(caps) {
+        let switches = ["", "2", "yes", "01"].map(|value| (SYNC, value, SWITCH_WANTED));
+        let all = nodes.into_iter().chain(caps).chain(switches);
+        for (name, value, fault) in all.chain([(BUFFER, "true", SWITCH_WANTED)]) {
             let error = wanted(&[(name, value)]).unwrap_err();
             assert_eq!(error.kind(), ErrorKind::BadVariable, "{name}={value}");
             let text = format!("{name}={value:?}: {fault}: give it such a value, or unset it");
@@ -320,10 +331,17 @@ mod tests {
     }
 
     #[test]
-    fn a_drill_takes_all_nodes() {
-        let error = wanted(&[(RECORD, "drill"), (NODE, "0/2")]).unwrap_err();
-        let kinds = [ErrorKind::Disabled, ErrorKind::Unsupported];
-        assert_eq!(error.kind(), kinds[usize::from(has_failpoints())]);
+    fn a_part_and_how_it_is_written_are_read() {
+        let set = [(RUN, "night 7"), (SYNC, "1"), (BUFFER, "0"), (NODE, "1/2")];
+        let all = wanted(&set).unwrap();
+        assert_eq!((all.run.as_str(), all.is_synced), ("night 7", true));
+        assert!(!all.is_buffered && all.record.is_none());
+        assert!(wanted(&[(BUFFER, "1")]).unwrap().is_buffered);
+        let with_part = wanted(&[(RECORD, "part1"), (NODE, "1/2")]);
+        match has_failpoints() {
+            true => assert_eq!(with_part.unwrap().record, Some(PathBuf::from("part1"))),
+            false => assert_eq!(with_part.unwrap_err().kind(), ErrorKind::Disabled),
+        }
     }
 
     #[cfg(not(feature = "failpoints"))]

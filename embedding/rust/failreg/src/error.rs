@@ -2,6 +2,7 @@
 
 use std::borrow::Cow;
 use std::fmt;
+use std::path::Path;
 
 /// What kind of reason a call is refused for: what a caller would tell apart.
 #[derive(Clone, Copy, Debug, PartialEq, Eq, Hash)]
@@ -41,8 +42,6 @@ pub enum ErrorKind {
     AlreadyOpen,
     /// A variable of the environment has a value that isn't one of its own.
     BadVariable,
-    /// A variable of the environment asks for what there isn't yet.
-    Unsupported,
     /// The address isn't one of this machine alone.
     NotLocal,
     /// Nobody can be served at the address.
@@ -51,11 +50,16 @@ pub enum ErrorKind {
     BadPeer,
     /// A thread can't be started.
     NoThread,
-    /// The call was made, and its lines couldn't be written to the drill of its
+    /// The call was made, and couldn't be written to the node's part or to the drill of its
     /// [`Recorder`](crate::Recorder). No call is made there any more.
     NotRecorded,
-    /// An earlier call couldn't be written to the drill, or its first lines couldn't.
+    /// An earlier call couldn't be written, or the first lines couldn't.
     RecordingFailed,
+    /// The file isn't the part of this node, has lines that this node didn't write, or can't be
+    /// read. It is as it was.
+    BadPart,
+    /// Another process, or another registry of this one, has the part open.
+    PartInUse,
     /// The drill of a recorder is of another cluster, or has the node already.
     BadRecorder,
     /// The program was built without the feature `failpoints`.
@@ -95,13 +99,20 @@ impl ErrorKind {
             ErrorKind::Closed => "open another",
             ErrorKind::AlreadyOpen => "set it up before anything else uses the program's points",
             ErrorKind::BadVariable => "give it such a value, or unset it",
-            ErrorKind::Unsupported => "unset it",
             ErrorKind::NotLocal => "give one of this machine alone, as 127.0.0.1:7070",
             ErrorKind::CantListen => "give one where nobody listens, or port 0 for a free one",
             ErrorKind::BadPeer => "name each other node of the cluster once, by its number",
             ErrorKind::NoThread => "let the process have more threads, or more memory",
             ErrorKind::NotRecorded | ErrorKind::RecordingFailed => {
-                "see to where the drill goes, and open another cluster with a new recorder"
+                "see to where it is written; then a node goes on from its part, and a drill takes \
+                 another cluster with a new recorder"
+            }
+            ErrorKind::BadPart => {
+                "give the node its own part as it was written, or a new file where nothing ran \
+                 under its number yet"
+            }
+            ErrorKind::PartInUse => {
+                "end what has it open, and give each node of the cluster a part of its own"
             }
             ErrorKind::BadRecorder => {
                 "give each cluster a recorder of its own, and each of its nodes once"
@@ -119,7 +130,7 @@ pub struct Error {
     kind: ErrorKind,
     code: Option<u32>,
     fault: Cow<'static, str>,
-    // What it was met at: a point, a variable, or an address.
+    // What it was met at: a point, a variable, an address, or a part.
     at: Option<String>,
 }
 
@@ -153,6 +164,18 @@ impl Error {
             at: Some(format!("address {addr:?}")),
             ..self
         }
+    }
+
+    pub(crate) fn at_part(self, path: &Path) -> Error {
+        Error {
+            at: Some(format!("part {path:?}")),
+            ..self
+        }
+    }
+
+    /// Whether it says at what it was met.
+    pub(crate) fn has_place(&self) -> bool {
+        self.at.is_some()
     }
 
     /// The same of what a variable names.
@@ -205,7 +228,9 @@ fn kind_of(status: u32) -> Option<ErrorKind> {
         | failreg_sys::FAILREG_E_BAD_NODE
         | failreg_sys::FAILREG_E_ZERO_AMOUNT
         | failreg_sys::FAILREG_E_BAD_WORDS
-        | failreg_sys::FAILREG_E_NO_POINT => ErrorKind::BadArgument,
+        | failreg_sys::FAILREG_E_NO_POINT
+        | failreg_sys::FAILREG_E_NO_ENTRY => ErrorKind::BadArgument,
+        failreg_sys::FAILREG_E_DIFFERS | failreg_sys::FAILREG_E_NO_LINE => ErrorKind::BadPart,
         failreg_sys::FAILREG_E_TOO_FEW_RIGHTS => ErrorKind::TooFewRights,
         failreg_sys::FAILREG_E_CLOCK_FULL | failreg_sys::FAILREG_E_CELL_FULL => {
             ErrorKind::NumberFull

@@ -40,11 +40,13 @@ mod error;
 mod fail_rs;
 mod gossip;
 mod http;
+mod kept;
 #[cfg(feature = "failpoints")]
 mod node;
 #[cfg(not(feature = "failpoints"))]
 #[path = "no_node.rs"]
 mod node;
+mod part;
 mod passing;
 mod points;
 mod program;
@@ -55,7 +57,7 @@ mod serving;
 mod told;
 
 pub use answers::Reply;
-pub use builder::{Builder, OnRefusal};
+pub use builder::{Builder, OnRefusal, Recording};
 pub use environment::{Program, from_env};
 pub use error::{Error, ErrorKind};
 #[doc(hidden)]

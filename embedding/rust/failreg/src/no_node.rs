@@ -32,8 +32,16 @@ impl Node {
         self.is_closed
     }
 
-    pub fn words(&mut self) -> Vec<u32> {
-        Vec::new()
+    pub fn part_head(&mut self, _run: &str) -> Result<String, Error> {
+        disabled()
+    }
+
+    pub fn last_entry(&mut self) -> Result<String, Error> {
+        disabled()
+    }
+
+    pub fn repeat(&mut self, _line: &[u8]) -> Result<(), Error> {
+        disabled()
     }
 
     fn tell<T>(&self, nothing: T) -> Result<T, Error> {

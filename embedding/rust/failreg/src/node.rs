@@ -74,6 +74,9 @@ impl Node {
             sys::FAILREG_E_NOT_UTF8 => "the text is not UTF-8".into(),
             sys::FAILREG_E_CLOSED => "the registry is closed".into(),
             sys::FAILREG_E_NO_POINT => "no point has the number".into(),
+            sys::FAILREG_E_NO_ENTRY => "the node keeps no call of the number".into(),
+            sys::FAILREG_E_NO_LINE => "it is no line of a call".into(),
+            sys::FAILREG_E_DIFFERS => "the node does not answer as it says".into(),
             _ => match self.last_fault() {
                 Some(fault) => fault.into(),
                 None => format!("N{status}").into(),
@@ -113,13 +116,30 @@ impl Node {
         String::from_utf8_lossy(&self.fetch()).into_owned()
     }
 
-    /// The words that the last pass drew.
-    pub fn words(&mut self) -> Vec<u32> {
-        let mut words = [0; 16];
-        let (into, room) = (words.as_mut_ptr(), words.len());
-        // SAFETY: the array has so many words.
-        let length = unsafe { sys::failreg_words(&mut self.handle, into, room) };
-        words[..length.min(room)].to_vec()
+    /// The first line of the node's part, without a newline.
+    pub fn part_head(&mut self, run: &str) -> Result<String, Error> {
+        let h = &mut self.handle;
+        // SAFETY: a text and its length.
+        let status = unsafe { sys::failreg_part_head(h, run.as_ptr(), run.len()) };
+        self.answer(status, ())?;
+        Ok(self.fetch_text())
+    }
+
+    /// The line of the newest call, without a newline.
+    pub fn last_entry(&mut self) -> Result<String, Error> {
+        let calls = self.calls()?;
+        // Where there is no call, no call has this number.
+        let status = sys::failreg_entry(&mut self.handle, calls.wrapping_sub(1));
+        self.answer(status, ())?;
+        Ok(self.fetch_text())
+    }
+
+    /// Makes the call of a line again.
+    pub fn repeat(&mut self, line: &[u8]) -> Result<(), Error> {
+        let (at, len) = (line.as_ptr(), line.len());
+        // SAFETY: bytes and how many they are.
+        let status = unsafe { sys::failreg_repeat(&mut self.handle, at, len) };
+        self.answer(status, ())
     }
 
     pub fn set(&mut self, name: &str, actions: &str) -> Result<Stamp, Error> {

@@ -26,7 +26,7 @@ pub fn program() -> Option<&'static Registry> {
 }
 
 /// Makes the program's registry where there is none, as node `number` of a cluster of `nodes`, and
-/// loads FAILPOINTS into it. A second call answers the registry that is there, whatever its cap; it
+/// loads FAILPOINTS into it, unless it goes on from its part. A second call answers the registry that is there, whatever its cap; it
 /// is refused where that is another node. A FAILPOINTS that is refused makes no registry.
 pub fn setup(number: u8, nodes: u8, cap: u64) -> Result<&'static Registry, Error> {
     let mut is_set_up = making();
@@ -35,13 +35,13 @@ pub fn setup(number: u8, nodes: u8, cap: u64) -> Result<&'static Registry, Error
         Some(_) => return Err(already_open()),
         None => {
             let registry = Registry::open(number, nodes, cap)?;
-            registry.load_env()?;
+            registry.begin_with_env()?;
             *is_set_up = true;
             PROGRAM.get_or_init(|| registry)
         }
     };
     if !*is_set_up {
-        registry.load_env()?;
+        registry.begin_with_env()?;
         *is_set_up = true;
     }
     Ok(registry)

@@ -1,58 +1,28 @@
 //! What callers were told of accepted calls, and drills of it, which `failreg audit` reads.
 
-use crate::told::{Passed, Stamp, Task};
 use std::collections::HashMap;
-use std::fmt::Write as _;
 use std::io::{self, Write};
 use std::thread::ThreadId;
 
-/// An accepted call as its caller was told of it. The ask and the reply are rows of JSON.
-pub struct Call {
-    pub ask: String,
-    /// What a pass drew.
-    pub words: Vec<u32>,
-    pub reply: String,
+/// The line of a receipt: that of the call's entry, with the node, and the place of the entry in that
+/// node's trace. Members stand in the order of their names.
+pub fn receipt_of(entry: &str, node: u8, index: u64) -> String {
+    // No text has it, since quotes are escaped there.
+    let reply = entry.find(",\"reply\":[").unwrap_or(entry.len());
+    let (asked, told) = entry.split_at(reply);
+    format!("{asked},\"index\":{index},\"node\":{node}{told}")
 }
 
-impl Call {
-    /// A call that draws nothing.
-    pub fn of(ask: String, reply: String) -> Call {
-        Call {
-            ask,
-            words: Vec::new(),
-            reply,
-        }
-    }
-
-    /// Its line in the trace of its node.
-    pub fn write_entry(&self, out: &mut impl Write) -> io::Result<()> {
-        let Call { ask, reply, .. } = self;
-        let words = row(&self.words);
-        writeln!(out, "{{\"ask\":{ask},\"reply\":{reply},\"words\":{words}}}")
-    }
-
-    /// Its line in a list of receipts: the node, and the place of its entry in that node's trace.
-    pub fn write_receipt(&self, node: u8, index: u64, out: &mut impl Write) -> io::Result<()> {
-        let Call { ask, reply, .. } = self;
-        let place = format!("\"index\":{index},\"node\":{node}");
-        let words = row(&self.words);
-        writeln!(
-            out,
-            "{{\"ask\":{ask},{place},\"reply\":{reply},\"words\":{words}}}"
-        )
-    }
-}
-
-/// A call, and who made it.
-pub struct Receipt {
-    pub caller: ThreadId,
-    pub call: Call,
+/// The line of a call's entry, and who made the call.
+struct Receipt {
+    caller: ThreadId,
+    entry: String,
 }
 
 /// The receipts of a node: the place in the list is the place of the call's entry in the trace.
 pub struct Receipts {
-    pub node: u8,
-    pub all: Vec<Receipt>,
+    node: u8,
+    all: Vec<Receipt>,
 }
 
 impl Receipts {
@@ -63,10 +33,11 @@ impl Receipts {
         }
     }
 
-    /// Keeps the receipt of a call that this thread made.
-    pub fn keep(&mut self, call: Call) {
+    /// Keeps the receipt of a call that this thread made, whose entry has this line.
+    pub fn keep(&mut self, entry: &str) {
         let caller = std::thread::current().id();
-        self.all.push(Receipt { caller, call });
+        let entry = entry.to_string();
+        self.all.push(Receipt { caller, entry });
     }
 
     /// The places of each caller's receipts; the caller whose call came first stands first.
@@ -84,188 +55,12 @@ impl Receipts {
     }
 }
 
-fn text(text: &str) -> String {
-    let mut json = String::from("\"");
-    for c in text.chars() {
-        match c {
-            '"' | '\\' => json.extend(['\\', c]),
-            c if c < ' ' => write!(json, "\\u{:04x}", c as u32).expect("a String takes all"),
-            c => json.push(c),
-        }
-    }
-    json + "\""
-}
-
-fn optional(given: &Option<String>) -> String {
-    given.as_deref().map_or("null".into(), text)
-}
-
-fn hex(bytes: &[u8]) -> String {
-    let mut json = String::with_capacity(2 * bytes.len() + 2);
-    json.push('"');
-    for byte in bytes {
-        write!(json, "{byte:02x}").expect("a String takes all");
-    }
-    json + "\""
-}
-
-fn row(words: &[u32]) -> String {
-    let words: Vec<String> = words.iter().map(u32::to_string).collect();
-    format!("[{}]", words.join(","))
-}
-
-/// What was asked.
-pub mod ask {
-    use super::{hex, text};
-
-    pub fn set(name: &str, actions: &str) -> String {
-        format!("[\"set\",{},{}]", text(name), text(actions))
-    }
-
-    pub fn remove(name: &str) -> String {
-        format!("[\"remove\",{}]", text(name))
-    }
-
-    pub fn load(entries: &[u8]) -> String {
-        format!("[\"load\",{}]", text(&String::from_utf8_lossy(entries)))
-    }
-
-    pub fn pass(name: &str) -> String {
-        format!("[\"pass\",{}]", text(name))
-    }
-
-    pub fn shift(name: &str, term: u8, to: u8, amount: u64) -> String {
-        format!("[\"shift\",{},{term},{to},{amount}]", text(name))
-    }
-
-    pub fn grant(name: &str, term: u8, amount: u64) -> String {
-        format!("[\"grant\",{},{term},{amount}]", text(name))
-    }
-
-    pub fn emit(to: u8) -> String {
-        format!("[\"emit\",{to}]")
-    }
-
-    pub fn deliver(message: &[u8]) -> String {
-        format!("[\"deliver\",{}]", hex(message))
-    }
-}
-
-/// What was answered.
-pub mod reply {
-    use super::{Passed, Stamp, hex, task};
-
-    pub fn set(stamp: Stamp) -> String {
-        format!("[\"set\",{},{}]", stamp.clock, stamp.node)
-    }
-
-    pub fn removed(stamp: Stamp) -> String {
-        format!("[\"removed\",{},{}]", stamp.clock, stamp.node)
-    }
-
-    pub fn loaded(entries: u16) -> String {
-        format!("[\"loaded\",{entries}]")
-    }
-
-    pub fn pass(passed: &Passed) -> String {
-        match passed {
-            Passed::Unset => "[\"unset\"]".into(),
-            Passed::NoTerm { stamp } => format!("[\"none\",{},{}]", stamp.clock, stamp.node),
-            Passed::Act {
-                stamp,
-                term,
-                task: asked,
-            } => {
-                format!(
-                    "[\"act\",{},{},{term},{}]",
-                    stamp.clock,
-                    stamp.node,
-                    task(asked)
-                )
-            }
-        }
-    }
-
-    pub fn shifted(total: u64) -> String {
-        format!("[\"shifted\",{total}]")
-    }
-
-    pub fn granted(total: u64) -> String {
-        format!("[\"granted\",{total}]")
-    }
-
-    pub fn message(bytes: &[u8]) -> String {
-        format!("[\"message\",{}]", hex(bytes))
-    }
-
-    pub fn delivered(changed: bool) -> String {
-        if changed {
-            "[\"changed\"]".into()
-        } else {
-            "[\"same\"]".into()
-        }
-    }
-}
-
-/// What was asked by a request of HTTP that the node accepted as a call, and what it was told.
-pub fn of_request(method: &str, path: &str, body: &[u8], told: &str) -> Call {
-    let (ask, reply) = rows_of_request(method, path, body, told);
-    Call::of(ask, reply)
-}
-
-fn rows_of_request(method: &str, path: &str, body: &[u8], told: &str) -> (String, String) {
-    let parts: Vec<&str> = path.split('/').skip(1).collect();
-    let asked = String::from_utf8_lossy(body);
-    match (method, parts.as_slice()) {
-        ("PUT", ["fail", name]) => (ask::set(name, &asked), stamped("set", told)),
-        (_, ["fail", name]) => (ask::remove(name), stamped("removed", told)),
-        (_, ["load"]) => (ask::load(body), format!("[\"loaded\",{told}]")),
-        (_, ["shift", name, term, to, amount]) => {
-            let row = [term, to, amount].map(|digits| number(digits)).join(",");
-            let asked = format!("[\"shift\",{},{row}]", text(name));
-            (asked, format!("[\"shifted\",{told}]"))
-        }
-        (_, ["grant", name, term, amount]) => {
-            let row = [term, amount].map(|digits| number(digits)).join(",");
-            let asked = format!("[\"grant\",{},{row}]", text(name));
-            (asked, format!("[\"granted\",{told}]"))
-        }
-        _ => (ask::deliver(body), reply::delivered(told == "changed")),
-    }
-}
-
-// A reply whose stamp was told as `7.1`.
-fn stamped(what: &str, told: &str) -> String {
-    format!("[\"{what}\",{}]", told.replace('.', ","))
-}
-
-// A number of a path, as JSON spells it: without zeros in front.
-fn number(digits: &str) -> &str {
-    match digits.trim_start_matches('0') {
-        "" => "0",
-        rest => rest,
-    }
-}
-
-fn task(task: &Task) -> String {
-    match task {
-        Task::Off => "[\"off\"]".into(),
-        Task::Return(argument) => format!("[\"return\",{}]", optional(argument)),
-        Task::Sleep(time) => format!("[\"sleep\",{}]", time.as_millis()),
-        Task::Panic(argument) => format!("[\"panic\",{}]", optional(argument)),
-        Task::Print(argument) => format!("[\"print\",{}]", optional(argument)),
-        Task::Pause => "[\"pause\"]".into(),
-        Task::Yield => "[\"yield\"]".into(),
-        Task::Delay(time) => format!("[\"delay\",{}]", time.as_millis()),
-    }
-}
-
 fn write_entries(receipts: &Receipts, out: &mut impl Write) -> io::Result<()> {
     writeln!(out, "{{\"trace\":{}}}", receipts.node)?;
     receipts
         .all
         .iter()
-        .try_for_each(|receipt| receipt.call.write_entry(out))
+        .try_for_each(|receipt| writeln!(out, "{}", receipt.entry))
 }
 
 fn write_lists(receipts: &Receipts, next: &mut usize, out: &mut impl Write) -> io::Result<()> {
@@ -273,8 +68,8 @@ fn write_lists(receipts: &Receipts, next: &mut usize, out: &mut impl Write) -> i
         writeln!(out, "{{\"list\":{next}}}")?;
         *next += 1;
         for index in list {
-            let call = &receipts.all[index].call;
-            call.write_receipt(receipts.node, index as u64, out)?;
+            let entry = &receipts.all[index].entry;
+            writeln!(out, "{}", receipt_of(entry, receipts.node, index as u64))?;
         }
     }
     Ok(())
@@ -292,4 +87,16 @@ pub fn write(nodes: &[&Receipts], out: &mut impl Write) -> io::Result<()> {
         write_lists(receipts, &mut next, out)?;
     }
     out.flush()
+}
+
+#[cfg(test)]
+mod tests {
+    use super::*;
+
+    #[test]
+    fn a_receipt_is_an_entry_with_its_place() {
+        let text = r#"{"ask":["set","a","print(,\"reply\":[)"],"reply":["set",1,0],"words":[]}"#;
+        let wanted = r#"{"ask":["set","a","print(,\"reply\":[)"],"index":7,"node":2,"reply":["set",1,0],"words":[]}"#;
+        assert_eq!(receipt_of(text, 2, 7), wanted);
+    }
 }

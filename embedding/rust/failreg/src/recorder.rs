@@ -1,7 +1,8 @@
 //! Drills that are written call by call.
 
 use crate::error::{Error, ErrorKind};
-use crate::receipts::Call;
+use crate::kept::not_recorded;
+use crate::receipts::receipt_of;
 use std::fmt;
 use std::fs::File;
 use std::io::{self, Write};
@@ -106,9 +107,9 @@ impl Recorder {
         }
     }
 
-    /// Writes a call that a node accepted.
-    pub(crate) fn write(&self, node: u8, call: &Call) -> Result<(), Error> {
-        self.lock().write_call(node, call).map_err(not_recorded)
+    /// Writes a call that a node accepted, whose entry has this line.
+    pub(crate) fn write(&self, node: u8, entry: &str) -> Result<(), Error> {
+        self.lock().write_call(node, entry).map_err(not_recorded)
     }
 }
 
@@ -126,14 +127,13 @@ impl Drill {
     }
 
     // A piece of the node's trace, and one of its list, each with the next line of it.
-    fn write_call(&mut self, node: u8, call: &Call) -> io::Result<()> {
+    fn write_call(&mut self, node: u8, entry: &str) -> io::Result<()> {
         let written = &mut self.nodes[usize::from(node)];
         let index = written.unwrap_or(0);
         *written = Some(index + 1);
-        writeln!(self.lines, "{{\"trace\":{node},\"from\":{index}}}")?;
-        call.write_entry(&mut self.lines)?;
+        writeln!(self.lines, "{{\"trace\":{node},\"from\":{index}}}\n{entry}")?;
         writeln!(self.lines, "{{\"list\":{node},\"from\":{index}}}")?;
-        call.write_receipt(node, index, &mut self.lines)?;
+        writeln!(self.lines, "{}", receipt_of(entry, node, index))?;
         self.hand_out()
     }
 
@@ -148,11 +148,6 @@ impl Drill {
         self.out = Some(out);
         Ok(())
     }
-}
-
-fn not_recorded(error: io::Error) -> Error {
-    let fault = format!("the call was made and could not be recorded ({error})");
-    Error::new(ErrorKind::NotRecorded, fault)
 }
 
 fn failed(fault: &'static str) -> Error {
@@ -213,13 +208,7 @@ mod tests {
         (Recorder::new(out), text)
     }
 
-    fn pass() -> Call {
-        Call {
-            ask: r#"["pass","p"]"#.to_string(),
-            words: vec![7],
-            reply: r#"["unset"]"#.to_string(),
-        }
-    }
+    const PASS: &str = r#"{"ask":["pass","p"],"reply":["unset"],"words":[7]}"#;
 
     const BEGUN: &str = r#"{"failreg":"drill","version":2}
 {"trace":0}
@@ -243,9 +232,9 @@ mod tests {
         let (recorder, text) = recorder(usize::MAX);
         recorder.open(1, 2).unwrap();
         assert_eq!(text(), BEGUN);
-        recorder.write(1, &pass()).unwrap();
+        recorder.write(1, PASS).unwrap();
         recorder.open(0, 2).unwrap();
-        recorder.write(1, &pass()).unwrap();
+        recorder.write(1, PASS).unwrap();
         assert_eq!(text(), format!("{BEGUN}{TWO_CALLS}"));
     }
 
@@ -266,11 +255,9 @@ mod tests {
         let whole = BEGUN.len() + TWO_CALLS.len();
         for room in 0..whole {
             let (recorder, text) = recorder(room);
-            let first = recorder
-                .open(1, 2)
-                .and_then(|()| recorder.write(1, &pass()));
+            let first = recorder.open(1, 2).and_then(|()| recorder.write(1, PASS));
             let failed = match first {
-                Ok(()) => recorder.write(1, &pass()).unwrap_err().kind(),
+                Ok(()) => recorder.write(1, PASS).unwrap_err().kind(),
                 Err(error) => error.kind(),
             };
             let begun = room >= BEGUN.len();
@@ -282,7 +269,7 @@ mod tests {
             let after = recorder.goes_on().unwrap_err();
             assert_eq!(after.kind(), ErrorKind::RecordingFailed);
             assert_eq!(
-                recorder.write(1, &pass()).unwrap_err().kind(),
+                recorder.write(1, PASS).unwrap_err().kind(),
                 ErrorKind::NotRecorded
             );
             // What was taken is where the drill begins.
@@ -290,7 +277,7 @@ mod tests {
         }
         let (recorder, _) = recorder(whole);
         recorder.open(1, 2).unwrap();
-        assert!((0..2).all(|_| recorder.write(1, &pass()).is_ok()));
+        assert!((0..2).all(|_| recorder.write(1, PASS).is_ok()));
     }
 
     #[test]

@@ -1,11 +1,11 @@
 //! A node that threads share.
 
-use crate::builder::{Builder, Recording};
+use crate::builder::{Builder, How};
 use crate::error::{Error, ErrorKind};
+use crate::kept::Kept;
 use crate::node::Node;
 use crate::points::{Shown, names_in};
-use crate::receipts::{self, Call, Receipts, ask, reply};
-use crate::recorder::Recorder;
+use crate::receipts;
 use crate::told::{Passed, Stamp};
 use std::collections::{HashMap, HashSet};
 use std::fmt;
@@ -20,7 +20,8 @@ use std::sync::{Arc, Condvar, Mutex, MutexGuard, TryLockError};
 const PAUSES: [u32; 9] = [64, 128, 256, 512, 1024, 2048, 4096, 8192, 16384];
 
 /// One node of a cluster, for any number of threads. Its number is its own: no other node of the
-/// cluster has it, and none had it before, in an earlier run of the program either.
+/// cluster has it, and none had it before, in an earlier run of the program either, unless the node
+/// goes on from its part ([`Builder::recording`]).
 ///
 /// Without the feature `failpoints` no point is ever set at it: what would change it is refused.
 pub struct Registry {
@@ -30,6 +31,8 @@ pub struct Registry {
     state: Mutex<State>,
     /// Told under the lock of each change of the settings, and of the end of all changes.
     pub(crate) changed: Condvar,
+    /// Whether the node went on from a part that had calls.
+    goes_on: bool,
     pub(crate) made: Builder,
 }
 
@@ -38,8 +41,6 @@ pub(crate) type Callback = Arc<dyn Fn() + Send + Sync>;
 /// What the lock of a registry guards.
 pub(crate) struct State {
     pub(crate) node: Node,
-    /// Its number in its cluster.
-    number: u8,
     /// No other node of the program has it.
     pub(crate) id: u64,
     /// The points that are set; nothing where memory for the list was refused, and the node is
@@ -55,28 +56,8 @@ pub(crate) struct State {
     pub(crate) is_over: bool,
 }
 
-/// Where the calls go that the node accepts.
-enum Kept {
-    Nowhere,
-    Here(Receipts),
-    There(Recorder),
-}
-
-impl Kept {
-    fn of(made: &Builder) -> Result<Kept, Error> {
-        Ok(match &made.recording {
-            Recording::Off => Kept::Nowhere,
-            Recording::Kept => Kept::Here(Receipts::of(made.number)),
-            Recording::To(recorder) => {
-                recorder.open(made.number, made.nodes)?;
-                Kept::There(recorder.clone())
-            }
-        })
-    }
-}
-
 /// How many calls a node keeps at most, so that its memory doesn't grow with its passes.
-const MOST_KEPT: u32 = 1024;
+pub(crate) const MOST_KEPT: u32 = 1024;
 
 fn id_of_a_node() -> u64 {
     /// How many nodes the program has opened. It orders nothing: each is another number.
@@ -86,13 +67,15 @@ fn id_of_a_node() -> u64 {
 
 impl State {
     fn of(made: &Builder) -> Result<State, Error> {
+        let seed = made.seed_of_this_run();
+        let mut node = Node::open(made.number, made.nodes, made.cap, &seed)?;
+        let kept = Kept::of(made, &mut node)?;
         Ok(State {
-            node: Node::open(made.number, made.nodes, made.cap, &made.seed_of_this_run())?,
-            number: made.number,
+            node,
             id: id_of_a_node(),
             names: Some(HashSet::new()),
             callbacks: HashMap::new(),
-            kept: Kept::of(made)?,
+            kept,
             turns: 0,
             is_over: false,
         })
@@ -109,25 +92,6 @@ impl State {
     pub(crate) fn callback(&self, name: &str, stamp: Stamp) -> Option<Callback> {
         let (since, run) = self.callbacks.get(name)?;
         (*since == stamp).then(|| run.clone())
-    }
-
-    // Keeps or writes a call that was accepted, where that is asked for.
-    fn keep(&mut self, call: impl FnOnce(&mut Node) -> Call) -> Result<(), Error> {
-        let State { node, kept, .. } = self;
-        match kept {
-            Kept::Nowhere => {}
-            Kept::Here(receipts) => receipts.keep(call(node)),
-            Kept::There(recorder) => recorder.write(self.number, &call(node))?,
-        }
-        Ok(())
-    }
-
-    // The receipts, where they are kept.
-    fn receipts(&self) -> Option<&Receipts> {
-        match &self.kept {
-            Kept::Here(receipts) => Some(receipts),
-            Kept::Nowhere | Kept::There(_) => None,
-        }
     }
 
     /// Lets the node forget its calls every so many of them: nothing here reads them again, since
@@ -192,12 +156,19 @@ impl Registry {
     }
 
     pub(crate) fn built(made: Builder) -> Result<Registry, Error> {
-        Ok(Registry {
+        let mut state = State::of(&made)?;
+        let goes_on = state.node.calls()? > 0;
+        let registry = Registry {
             shown: Shown::new(),
-            state: Mutex::new(State::of(&made)?),
+            state: Mutex::new(state),
             changed: Condvar::new(),
+            goes_on,
             made,
-        })
+        };
+        if goes_on {
+            drop(registry.settings_changed(&mut registry.lock()));
+        }
+        Ok(registry)
     }
 
     pub(crate) fn is_node(&self, number: u8, nodes: u8) -> bool {
@@ -225,44 +196,36 @@ impl Registry {
             .unwrap_or_else(|poisoned| poisoned.into_inner())
     }
 
-    // Makes a call that changes the node, and keeps or writes it as it is told.
+    // Makes a call that changes the node, and keeps it by this.
     fn make<T>(
         &self,
         state: &mut State,
         make: impl FnOnce(&mut Node) -> Result<T, Error>,
-        told: impl FnOnce(&mut Node, &T) -> Call,
+        keep: impl FnOnce(&mut Kept, &mut Node, &T) -> Result<(), Error>,
     ) -> Result<T, Error> {
         self.may_be_called(state)?;
         let answer = make(&mut state.node);
         match &answer {
-            Ok(value) => self.keep(state, |node| told(node, value))?,
+            Ok(value) => self.keep(state, |kept, node| keep(kept, node, value))?,
             Err(error) if error.kind() == ErrorKind::CapReached => self.end(state),
             Err(_) => {}
         }
         answer
     }
 
-    // The same of a call that draws nothing.
+    // The same of a call that is no pass.
     fn call<T>(
         &self,
         state: &mut State,
-        asked: impl FnOnce() -> String,
         make: impl FnOnce(&mut Node) -> Result<T, Error>,
-        replied: impl FnOnce(&T) -> String,
     ) -> Result<T, Error> {
-        self.make(state, make, |_, value| Call::of(asked(), replied(value)))
+        self.make(state, make, |kept, node, _| kept.keep(node))
     }
 
     /// Whether the node may be called: no call is made any more once one couldn't be written.
     pub(crate) fn may_be_called(&self, state: &mut State) -> Result<(), Error> {
-        let goes_on = match &state.kept {
-            Kept::There(recorder) => recorder.goes_on(),
-            Kept::Nowhere | Kept::Here(_) => Ok(()),
-        };
-        if goes_on.is_err() {
-            self.end(state);
-        }
-        goes_on
+        let goes_on = state.kept.goes_on();
+        self.end_unless(state, goes_on)
     }
 
     /// Keeps or writes a call that was accepted, where that is asked for. Where it can't be written
@@ -270,24 +233,34 @@ impl Registry {
     pub(crate) fn keep(
         &self,
         state: &mut State,
-        call: impl FnOnce(&mut Node) -> Call,
+        keep: impl FnOnce(&mut Kept, &mut Node) -> Result<(), Error>,
     ) -> Result<(), Error> {
-        let kept = state.keep(call);
-        if kept.is_err() {
+        let kept = keep(&mut state.kept, &mut state.node);
+        self.end_unless(state, kept)
+    }
+
+    /// Writes what waits to be written, and says whether the record has each call so far.
+    pub(crate) fn flush(&self, state: &mut State) -> Result<(), Error> {
+        let flushed = state.kept.flush();
+        self.end_unless(state, flushed)
+    }
+
+    fn end_unless(&self, state: &mut State, goes_on: Result<(), Error>) -> Result<(), Error> {
+        if goes_on.is_err() {
             self.end(state);
         }
-        kept
+        goes_on
+    }
+
+    /// Whether the record has each call, where there is one: what waits is written.
+    pub(crate) fn recorded(&self) -> Result<(), Error> {
+        self.flush(&mut self.lock())
     }
 
     // Makes a call that changes which points are set, and shows that.
-    fn change<T>(
-        &self,
-        asked: impl FnOnce() -> String,
-        make: impl FnOnce(&mut Node) -> Result<T, Error>,
-        replied: impl FnOnce(&T) -> String,
-    ) -> Result<T, Error> {
+    fn change<T>(&self, make: impl FnOnce(&mut Node) -> Result<T, Error>) -> Result<T, Error> {
         let mut state = self.lock();
-        let answer = self.call(&mut state, asked, make, replied)?;
+        let answer = self.call(&mut state, make)?;
         let over = self.settings_changed(&mut state);
         drop(state);
         // Without the lock: what a closure holds may call the registry when it is dropped.
@@ -311,8 +284,9 @@ impl Registry {
 
     // Shows which points are set after a change; answers the callbacks that are over by it.
     pub(crate) fn settings_changed(&self, state: &mut State) -> Vec<Callback> {
-        let list = state.node.list();
-        self.show(state, list.ok().map(|list| names_in(&list)));
+        let list = state.node.list().ok();
+        state.kept.learn(list.as_deref());
+        self.show(state, list.map(|list| names_in(&list)));
         self.changed.notify_all();
         state.callbacks_over()
     }
@@ -322,8 +296,7 @@ impl Registry {
     /// often it may run on all nodes together, and one of the tasks `off`, `return`, `sleep`,
     /// `panic`, `print`, `pause`, `yield` and `delay`.
     pub fn set(&self, name: &str, actions: &str) -> Result<Stamp, Error> {
-        let asked = || ask::set(name, actions);
-        let set = self.change(asked, |n| n.set(name, actions), |s| reply::set(*s));
+        let set = self.change(|node| node.set(name, actions));
         set.map_err(|error| error.at_point(name))
     }
 
@@ -338,17 +311,8 @@ impl Registry {
     ) -> Result<Stamp, Error> {
         let run: Callback = Arc::new(run);
         let mut state = self.lock();
-        let asked = || ask::set(name, "off");
-        let set = self.call(
-            &mut state,
-            asked,
-            |n| n.set(name, "off"),
-            |s| reply::set(*s),
-        );
-        let stamp = match set {
-            Ok(stamp) => stamp,
-            Err(error) => return Err(error.at_point(name)),
-        };
+        let set = self.call(&mut state, |node| node.set(name, "off"));
+        let stamp = set.map_err(|error| error.at_point(name))?;
         let over = self.settings_changed(&mut state);
         state.callbacks.insert(name.to_string(), (stamp, run));
         drop(state);
@@ -358,8 +322,7 @@ impl Registry {
 
     /// Removes a point.
     pub fn remove(&self, name: &str) -> Result<Stamp, Error> {
-        let asked = || ask::remove(name);
-        let removed = self.change(asked, |n| n.remove(name), |s| reply::removed(*s));
+        let removed = self.change(|node| node.remove(name));
         removed.map_err(|error| error.at_point(name))
     }
 
@@ -369,7 +332,7 @@ impl Registry {
     }
 
     fn load_bytes(&self, text: &[u8]) -> Result<u16, Error> {
-        self.change(|| ask::load(text), |n| n.load(text), |n| reply::loaded(*n))
+        self.change(|node| node.load(text))
     }
 
     /// Loads the variable FAILPOINTS of the environment, if it is there.
@@ -382,6 +345,14 @@ impl Registry {
         }
     }
 
+    /// The same for a node that begins: one that goes on from its part has its points.
+    pub(crate) fn begin_with_env(&self) -> Result<(), Error> {
+        match self.goes_on {
+            true => Ok(()),
+            false => self.load_env().map(drop),
+        }
+    }
+
     /// Removes all points. A cluster of one node that keeps no receipts begins anew: with all of
     /// its cap and its names, and without the memory that it took. A registry that is closed stays
     /// so.
@@ -390,7 +361,7 @@ impl Registry {
         if state.node.is_closed() {
             return Ok(());
         }
-        let is_recording = !matches!(self.made.recording, Recording::Off);
+        let is_recording = !matches!(self.made.recording.0, How::Off);
         if self.made.nodes > 1 || is_recording {
             let (removed, over) = self.remove_all(&mut state);
             drop(state);
@@ -412,10 +383,8 @@ impl Registry {
             Err(error) => return (Err(error), Vec::new()),
         };
         let removed = names_in(&list).iter().try_for_each(|name| {
-            let asked = || ask::remove(name);
-            let make = |n: &mut Node| n.remove(name);
-            self.call(state, asked, make, |s| reply::removed(*s))
-                .map(drop)
+            let removed = self.call(state, |node| node.remove(name));
+            removed.map(drop)
         });
         match state.is_over {
             true => (removed, Vec::new()),
@@ -435,10 +404,8 @@ impl Registry {
         name: &str,
         make: impl FnOnce(&mut Node) -> Result<Passed, Error>,
     ) -> Result<Passed, Error> {
-        self.make(state, make, |node, passed| Call {
-            ask: ask::pass(name),
-            words: node.words(),
-            reply: reply::pass(passed),
+        self.make(state, make, |kept, node, passed| {
+            kept.keep_pass(node, name, passed)
         })
     }
 
@@ -450,41 +417,27 @@ impl Registry {
     /// Moves rights of a counted term, by its number from 0, to another node, which can spend them
     /// once it has heard of it. Answers how many went there in all, under the setting.
     pub fn shift(&self, name: &str, term: u8, to: u8, amount: u64) -> Result<u64, Error> {
-        let state = &mut *self.lock();
-        let asked = || ask::shift(name, term, to, amount);
-        let make = |n: &mut Node| n.shift(name, term, to, amount);
-        let total = self.call(state, asked, make, |total| reply::shifted(*total));
+        let make = |node: &mut Node| node.shift(name, term, to, amount);
+        let total = self.call(&mut self.lock(), make);
         total.map_err(|error| error.at_point(name))
     }
 
     /// Gives the node rights beyond the count. Answers how many in all, under the setting.
     pub fn grant(&self, name: &str, term: u8, amount: u64) -> Result<u64, Error> {
-        let state = &mut *self.lock();
-        let asked = || ask::grant(name, term, amount);
-        let make = |n: &mut Node| n.grant(name, term, amount);
-        let total = self.call(state, asked, make, |total| reply::granted(*total));
+        let make = |node: &mut Node| node.grant(name, term, amount);
+        let total = self.call(&mut self.lock(), make);
         total.map_err(|error| error.at_point(name))
     }
 
     /// A message to another node, which tells what that one isn't known to have.
     pub fn emit(&self, to: u8) -> Result<Vec<u8>, Error> {
-        let state = &mut *self.lock();
-        self.call(
-            state,
-            || ask::emit(to),
-            |n| n.emit(to),
-            |bytes| reply::message(bytes),
-        )
+        self.call(&mut self.lock(), |node| node.emit(to))
     }
 
     /// Takes in a message of another node; answers whether this one learnt anything.
     pub fn deliver(&self, message: &[u8]) -> Result<bool, Error> {
         let mut state = self.lock();
-        let asked = || ask::deliver(message);
-        let make = |n: &mut Node| n.deliver(message);
-        let changed = self.call(&mut state, asked, make, |changed| {
-            reply::delivered(*changed)
-        })?;
+        let changed = self.call(&mut state, |node| node.deliver(message))?;
         let over = changed.then(|| self.settings_changed(&mut state));
         drop(state);
         drop(over);
@@ -547,11 +500,13 @@ impl Registry {
         self.lock().node.calls()
     }
 
-    /// Ends the node and gives its memory back. The points do nothing from then on, threads that
-    /// pause go on, and calls are refused as [`ErrorKind::Closed`].
+    /// Ends the node and gives its memory back, and its part, which may be opened again. The points do
+    /// nothing from then on, threads that pause go on, and calls are refused as
+    /// [`ErrorKind::Closed`].
     pub fn close(&self) {
         let mut state = self.lock();
         state.node.close();
+        state.kept.close();
         self.end(&mut state);
         let over = state.all_callbacks();
         drop(state);
@@ -587,7 +542,7 @@ pub fn write_drill(registries: &[&Registry], out: &mut impl Write) -> io::Result
         ));
     }
     let states: Vec<_> = registries.iter().map(|registry| registry.lock()).collect();
-    let recorded: Option<Vec<_>> = states.iter().map(|state| state.receipts()).collect();
+    let recorded: Option<Vec<_>> = states.iter().map(|state| state.kept.receipts()).collect();
     match recorded {
         Some(recorded) => receipts::write(&recorded, out),
         None => Err(not_a_cluster("a drill takes nodes that are recording")),

@@ -426,7 +426,8 @@ fn what_is_public_can_be_shown() {
     );
     let policy = OnRefusal::call(|_| ());
     let builder = Registry::builder().on_refusal(policy).recording(true);
-    assert!(format!("{builder:?}").contains("recording: Kept, on_refusal: Call"));
+    let shown = format!("{builder:?}");
+    assert!(shown.contains("recording: Recording(Kept), ") && shown.contains("on_refusal: Call"));
 }
 
 #[test]

@@ -16,10 +16,13 @@ fn order() -> bool {
 }
 
 const CHILD: &str = "FAILREG_TEST_CHILD";
-const VARIABLES: [&str; 6] = [
+const VARIABLES: [&str; 9] = [
     "FAILREG_NODE",
     "FAILREG_CAP",
     "FAILREG_RECORD",
+    "FAILREG_RUN",
+    "FAILREG_SYNC",
+    "FAILREG_BUFFER",
     "FAILREG_LISTEN",
     "FAILREG_PEERS",
     "FAILPOINTS",
@@ -40,7 +43,7 @@ fn child() {
                 failreg::program().unwrap().hits("order")
             );
             assert!(failreg::from_env().is_err());
-            // With a drill that is written by a drop, or else told of.
+            // Else a drop ends it.
             if std::env::var_os("FAILREG_CAP").is_none() {
                 program.finish().unwrap();
             }
@@ -121,7 +124,7 @@ const BAD_VALUES: [(&str, &str, &str); 7] = [
     (
         "FAILREG_RECORD",
         "/nowhere/at/all",
-        "BadVariable FAILREG_RECORD=",
+        "BadPart FAILREG_RECORD: part \"/nowhere/at/all\": it can't be opened (",
     ),
 ];
 
@@ -218,9 +221,10 @@ fn a_program_is_served_and_tells_its_peers() {
 }
 
 #[test]
-fn who_is_being_served_at_the_end_is_in_the_drill() {
+fn who_is_being_served_at_the_end_is_in_the_part() {
     let path = file("of_a_served_program");
-    let child = Served::start(&[("FAILREG_RECORD", path.to_str().unwrap())]);
+    let record = ("FAILREG_RECORD", path.to_str().unwrap());
+    let child = Served::start(&[record, ("FAILREG_BUFFER", "1")]);
     let mut late = TcpStream::connect(child.addr).unwrap();
     let head = "PUT /fail/late HTTP/1.1\r\nHost: localhost\r\nContent-Length: 3\r\n\r\n";
     late.write_all(head.as_bytes()).unwrap();
@@ -230,29 +234,41 @@ fn who_is_being_served_at_the_end_is_in_the_drill() {
     late.write_all(b"off").unwrap();
     assert!(clients::rest_of(&mut late).ends_with("\r\n\r\n3.0"));
     child.ends();
-    let drill = std::fs::read_to_string(&path).unwrap();
-    let entry = "{\"ask\":[\"set\",\"late\",\"off\"],\"reply\":[\"set\",3,0],\"words\":[]}";
-    assert!(drill.contains(entry), "{drill}");
+    let part = std::fs::read_to_string(&path).unwrap();
+    let entry = "{\"ask\":[\"set\",\"late\",\"off\"],\"reply\":[\"set\",3,0],\"words\":[]}\n";
+    assert!(part.ends_with(entry), "{part}");
 }
 
 #[test]
-fn a_drill_is_written_call_by_call() {
+fn a_part_is_written_call_by_call() {
     let path = file("of_the_environment");
-    let points = ("FAILPOINTS", "order=2*return->off");
+    let points = ("FAILPOINTS", "order=6*return->off");
     let record = ("FAILREG_RECORD", path.to_str().unwrap());
-    assert!(told(&[points, record]).contains("lost 2, "));
-    let finished = std::fs::read_to_string(&path).unwrap();
-    let head = "{\"failreg\":\"drill\",\"version\":2}\n{\"trace\":0}\n{\"list\":0}\n";
-    assert!(finished.starts_with(head), "{finished}");
-    assert_eq!(finished.matches("\"reply\":[\"act\",").count(), 8);
-    // What is there isn't written over.
-    let again = told(&[points, record]);
-    assert!(
-        again.contains("wanted is the path of a new file: "),
-        "{again}"
-    );
-    std::fs::remove_file(&path).unwrap();
+    let of = |set: &[_]| told(&[&[points, record, ("FAILREG_NODE", "1/3")], set].concat());
+    let (run, sync) = (("FAILREG_RUN", "night 7"), ("FAILREG_SYNC", "1"));
+    let buffer = ("FAILREG_BUFFER", "1");
+    assert!(of(&[run]).contains("lost 4, "));
+    let begun = std::fs::read_to_string(&path).unwrap();
+    let head = "{\"cap\":72057594037927935,\"failreg\":\"part\",\"node\":1,\"nodes\":3,\
+        \"run\":\"night 7\",\"version\":1}\n";
+    assert!(begun.starts_with(head), "{begun}");
+    assert_eq!(begun.lines().count(), 6);
+    // FAILPOINTS isn't set again, and what is there stays.
+    assert!(of(&[run, sync, buffer]).contains("lost 2, "));
+    let gone_on = std::fs::read_to_string(&path).unwrap();
+    assert!(gone_on.starts_with(&begun) && gone_on.lines().count() == 10);
+    assert!(of(&[run, buffer]).contains("lost 0, "));
+    let whole = std::fs::read_to_string(&path).unwrap();
+    assert_eq!(whole.lines().count(), 14);
+    let other = of(&[]);
+    let wanted = "BadPart FAILREG_RECORD: part ";
+    let why = "run is \"night 7\" there and \"\" here";
+    assert!(other.contains(wanted) && other.contains(why), "{other}");
+    assert_eq!(std::fs::read_to_string(&path).unwrap(), whole);
     // A drop leaves the same.
-    assert!(told(&[points, record, ("FAILREG_CAP", "500")]).contains("lost 2, "));
-    assert_eq!(std::fs::read_to_string(&path).unwrap(), finished);
+    std::fs::remove_file(&path).unwrap();
+    assert!(of(&[run, ("FAILREG_CAP", "500")]).contains("lost 4, "));
+    let head = head.replace("72057594037927935", "500");
+    let (_, calls) = begun.split_once('\n').unwrap();
+    assert_eq!(std::fs::read_to_string(&path).unwrap(), head + calls);
 }

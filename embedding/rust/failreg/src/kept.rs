@@ -1,0 +1,223 @@
+//! What becomes of the calls that a node accepts: each as the line of its entry.
+
+use crate::builder::{Builder, How};
+use crate::error::{Error, ErrorKind};
+use crate::fail_rs::has_failpoints;
+use crate::node::Node;
+use crate::part::Part;
+use crate::receipts::Receipts;
+use crate::recorder::Recorder;
+use crate::told::{Passed, Stamp};
+use std::collections::HashMap;
+
+/// Where the lines go.
+enum Place {
+    Nowhere,
+    Here(Receipts),
+    /// With the number of the node.
+    There(Recorder, u8),
+    Part(Part),
+}
+
+/// The line of a point's last pass that drew nothing: a pass that comes to the same has the same.
+struct LastPass {
+    came_to: (Stamp, Option<u8>),
+    line: String,
+    may_wait: bool,
+}
+
+/// The record of a node.
+pub struct Kept {
+    place: Place,
+    /// Of points that are set, or were.
+    last: HashMap<String, LastPass>,
+    /// Which terms of the points that are set have a count, a bit for each, where that is known.
+    counted: Option<HashMap<String, u16>>,
+    /// Whether a call couldn't be kept.
+    has_failed: bool,
+}
+
+impl Kept {
+    /// The record of a node that was just opened. Where there is a part of it, it goes on from that.
+    pub fn of(made: &Builder, node: &mut Node) -> Result<Kept, Error> {
+        let place = match &made.recording.0 {
+            How::Off => Place::Nowhere,
+            How::Kept => Place::Here(Receipts::of(made.number)),
+            How::To(recorder) => {
+                recorder.open(made.number, made.nodes)?;
+                Place::There(recorder.clone(), made.number)
+            }
+            How::Part(path) if has_failpoints() => Place::Part(Part::open(path, made, node)?),
+            // No call is ever accepted.
+            How::Part(_) => Place::Nowhere,
+        };
+        Ok(Kept {
+            place,
+            last: HashMap::new(),
+            counted: None,
+            has_failed: false,
+        })
+    }
+
+    /// The receipts, where they are kept.
+    pub fn receipts(&self) -> Option<&Receipts> {
+        match &self.place {
+            Place::Here(receipts) => Some(receipts),
+            Place::Nowhere | Place::There(..) | Place::Part(_) => None,
+        }
+    }
+
+    /// Whether calls are still made: until one couldn't be kept.
+    pub fn goes_on(&self) -> Result<(), Error> {
+        if self.has_failed {
+            let fault = "a call could not be recorded before";
+            return Err(Error::new(ErrorKind::RecordingFailed, fault));
+        }
+        match &self.place {
+            Place::Nowhere | Place::Here(_) => Ok(()),
+            Place::There(recorder, _) => recorder.goes_on(),
+            Place::Part(part) => part.goes_on(),
+        }
+    }
+
+    /// Takes in which points are set, as a list of settings, where that is known.
+    pub fn learn(&mut self, list: Option<&str>) {
+        self.counted = match &self.place {
+            Place::Part(part) if part.is_buffered() => list.map(counts_in),
+            _ => None,
+        };
+    }
+
+    /// Keeps the newest call of the node, which is no pass.
+    pub fn keep(&mut self, node: &mut Node) -> Result<(), Error> {
+        if matches!(self.place, Place::Nowhere) {
+            return Ok(());
+        }
+        let kept = newest(node).and_then(|line| self.place.put(&line, false));
+        self.has_failed |= kept.is_err();
+        kept
+    }
+
+    /// Keeps the newest call of the node, which is a pass of a point.
+    pub fn keep_pass(&mut self, node: &mut Node, name: &str, pass: &Passed) -> Result<(), Error> {
+        if matches!(self.place, Place::Nowhere) {
+            return Ok(());
+        }
+        let kept = self.put_pass(node, name, pass);
+        self.has_failed |= kept.is_err();
+        kept
+    }
+
+    fn put_pass(&mut self, node: &mut Node, name: &str, pass: &Passed) -> Result<(), Error> {
+        let came_to = match pass {
+            Passed::Unset => None,
+            Passed::NoTerm { stamp } => Some((*stamp, None)),
+            Passed::Act { stamp, term, .. } => Some((*stamp, Some(*term))),
+        };
+        if let Some(last) = self.last.get(name)
+            && Some(last.came_to) == came_to
+        {
+            return self.place.put(&last.line, last.may_wait);
+        }
+        let line = newest(node)?;
+        let term = came_to.and_then(|(_, term)| term);
+        let may_wait = term.is_none_or(|term| !self.may_be_counted(name, term));
+        self.place.put(&line, may_wait)?;
+        // How many draws a pass takes is the setting's. Of a point that isn't set nothing is
+        // remembered: there may be any number of names.
+        if let Some(came_to) = came_to.filter(|_| line.ends_with("\"words\":[]}\n")) {
+            let last = LastPass {
+                came_to,
+                line,
+                may_wait,
+            };
+            self.last.insert(name.to_string(), last);
+        }
+        Ok(())
+    }
+
+    // Whether a term of a point may have a count: it has none where that is known.
+    fn may_be_counted(&self, name: &str, term: u8) -> bool {
+        let counts = self.counted.as_ref().and_then(|points| points.get(name));
+        counts.is_none_or(|counts| counts >> term & 1 == 1)
+    }
+
+    /// Writes the lines that wait, and says whether each call is kept so far.
+    pub fn flush(&mut self) -> Result<(), Error> {
+        if let Place::Part(part) = &self.place {
+            part.flush();
+        }
+        self.goes_on()
+    }
+
+    /// Gives up the part, which another process may open then.
+    pub fn close(&mut self) {
+        if matches!(self.place, Place::Part(_)) {
+            self.place = Place::Nowhere;
+        }
+    }
+}
+
+impl Place {
+    // Puts a line, with its newline, there. One that may wait is written with the next that may not.
+    fn put(&mut self, line: &str, may_wait: bool) -> Result<(), Error> {
+        match self {
+            Place::Nowhere => Ok(()),
+            Place::Here(receipts) => {
+                receipts.keep(line.trim_end());
+                Ok(())
+            }
+            Place::There(recorder, node) => recorder.write(*node, line.trim_end()),
+            Place::Part(part) => part.put(line, may_wait),
+        }
+    }
+}
+
+// The line of the newest call, with its newline.
+fn newest(node: &mut Node) -> Result<String, Error> {
+    let line = node
+        .last_entry()
+        .map_err(|error| not_recorded(error.fault()))?;
+    Ok(line + "\n")
+}
+
+/// The error of a call that was made and couldn't be kept.
+pub fn not_recorded(why: impl std::fmt::Display) -> Error {
+    let fault = format!("the call was made and could not be recorded ({why})");
+    Error::new(ErrorKind::NotRecorded, fault)
+}
+
+/// How many terms a setting has at most.
+const MOST_TERMS: usize = 16;
+
+// Which terms have a count in a list `name=actions;name=actions`. A count stands before the
+// argument, and nothing but the ends of terms is `->`.
+fn counts_in(list: &str) -> HashMap<String, u16> {
+    let is_counted = |term: &str| {
+        term.split('(')
+            .next()
+            .is_some_and(|head| head.contains('*'))
+    };
+    let counts = |actions: &str| {
+        let terms = actions.split("->").take(MOST_TERMS).enumerate();
+        terms.fold(0, |all, (n, term)| all | u16::from(is_counted(term)) << n)
+    };
+    let points = list.split(';').filter_map(|entry| entry.split_once('='));
+    points
+        .map(|(name, actions)| (name.to_string(), counts(actions)))
+        .collect()
+}
+
+#[cfg(test)]
+mod tests {
+    use super::*;
+
+    #[test]
+    fn counts_are_read_from_a_list() {
+        let list = "a=off;b.c=20%3*return(x=y)->off -> 1*pause;d=print(2*off)->0*print()";
+        let wanted = [("a", 0), ("b.c", 0b101), ("d", 0b10)];
+        let wanted = wanted.map(|(name, counts)| (name.to_string(), counts));
+        assert_eq!(counts_in(list), HashMap::from(wanted));
+        assert!(counts_in("").is_empty());
+    }
+}

@@ -1,0 +1,525 @@
+//! The part of a node: the file that has the line of each call that it accepted, from which it goes on
+//! when its process starts again.
+
+use crate::builder::Builder;
+use crate::error::{Error, ErrorKind};
+use crate::kept::not_recorded;
+use crate::node::Node;
+use crate::registry::MOST_KEPT;
+use std::fs::{File, OpenOptions, TryLockError};
+use std::io::{self, BufRead, BufReader, Read, Write};
+use std::path::Path;
+use std::sync::{Arc, Condvar, Mutex, MutexGuard};
+use std::thread::{self, JoinHandle};
+use std::time::Duration;
+
+/// How many bytes of a part are read at once.
+const CHUNK: usize = 65_536;
+
+/// The most bytes of a line, its newline included: what `failreg audit` reads too.
+const MOST_OF_LINE: usize = 268_435_456;
+
+/// How much of a first line is read, to say of what it is.
+const MOST_OF_HEAD: usize = 4_096;
+
+/// How often a lock is tried, and the rest between. A process that is gone may have been starting
+/// another one, which has its files for a moment.
+const TRIES: u32 = 20;
+const REST: Duration = Duration::from_millis(10);
+
+/// How long lines wait at most, and how many bytes of them.
+const LONGEST_WAIT: Duration = Duration::from_millis(50);
+const MOST_WAITING: usize = 65_536;
+
+/// A part that is written, and locked for this process while it is.
+pub struct Part {
+    shared: Arc<Shared>,
+    /// What writes lines that have waited for long, where lines may wait.
+    writer: Option<JoinHandle<()>>,
+}
+
+struct Shared {
+    lines: Mutex<Lines>,
+    /// Told where the first line waits, and where the part is closed.
+    changed: Condvar,
+}
+
+/// What the lock of a part guards. It is taken behind that of the registry, and never the other way
+/// round.
+struct Lines {
+    /// Nothing once a write failed.
+    out: Option<Box<dyn Write + Send>>,
+    /// Why it failed.
+    fault: String,
+    /// Whole lines that aren't written yet.
+    waiting: Vec<u8>,
+    /// Whether the thread that writes them waits for the first one.
+    is_idle: bool,
+    is_closed: bool,
+}
+
+/// A file each of whose writes is with the disk before it is done.
+struct Synced(File);
+
+impl Write for Synced {
+    fn write(&mut self, bytes: &[u8]) -> io::Result<usize> {
+        self.0.write(bytes)
+    }
+
+    fn flush(&mut self) -> io::Result<()> {
+        self.0.sync_data()
+    }
+}
+
+impl Part {
+    /// Opens the part of a node that was just opened, which goes on from it, and locks it. A new one
+    /// is begun where nothing is. Where it is refused, the file is as it was.
+    pub fn open(path: &Path, made: &Builder, node: &mut Node) -> Result<Part, Error> {
+        let opened = open(path, made, node).and_then(|file| match made.is_synced {
+            true => Part::to(Synced(file), made.is_buffered),
+            false => Part::to(file, made.is_buffered),
+        });
+        opened.map_err(|error| error.at_part(path))
+    }
+
+    fn to(out: impl Write + Send + 'static, is_buffered: bool) -> Result<Part, Error> {
+        let shared = Arc::new(Shared {
+            lines: Mutex::new(Lines {
+                out: Some(Box::new(out)),
+                fault: String::new(),
+                waiting: Vec::new(),
+                is_idle: false,
+                is_closed: false,
+            }),
+            changed: Condvar::new(),
+        });
+        let mut part = Part {
+            shared: shared.clone(),
+            writer: None,
+        };
+        if is_buffered {
+            let named = thread::Builder::new().name("failreg-part".into());
+            let writer = named.spawn(move || shared.write_in_time());
+            let none = |error: io::Error| Error::new(ErrorKind::NoThread, error.to_string());
+            part.writer = Some(writer.map_err(none)?);
+        }
+        Ok(part)
+    }
+
+    /// Whether lines may wait.
+    pub fn is_buffered(&self) -> bool {
+        self.writer.is_some()
+    }
+
+    /// Writes a line, which has its newline, behind those that wait; or lets it wait, where it may.
+    pub fn put(&self, line: &str, may_wait: bool) -> Result<(), Error> {
+        let mut lines = self.shared.lock();
+        if may_wait && self.is_buffered() && lines.waiting.len() < MOST_WAITING {
+            lines.waiting.extend_from_slice(line.as_bytes());
+            if lines.is_idle {
+                lines.is_idle = false;
+                self.shared.changed.notify_one();
+            }
+            // Of a part that has failed none is written, and that is told.
+            return lines.goes_on().map_err(not_recorded);
+        }
+        lines.write(line.as_bytes()).map_err(not_recorded)
+    }
+
+    /// Writes the lines that wait. Where that fails, `goes_on` says so.
+    pub fn flush(&self) {
+        _ = self.shared.lock().write(b"");
+    }
+
+    /// Whether lines are still written: until one couldn't be.
+    pub fn goes_on(&self) -> Result<(), Error> {
+        self.shared.lock().goes_on().map_err(|why| {
+            let fault = format!("a call could not be recorded before ({why})");
+            Error::new(ErrorKind::RecordingFailed, fault)
+        })
+    }
+}
+
+impl Drop for Part {
+    fn drop(&mut self) {
+        self.flush();
+        self.shared.lock().is_closed = true;
+        self.shared.changed.notify_one();
+        if let Some(writer) = self.writer.take() {
+            // Then nobody has the file, and its lock is gone.
+            drop(writer.join());
+        }
+    }
+}
+
+impl Shared {
+    fn lock(&self) -> MutexGuard<'_, Lines> {
+        self.lines.lock().unwrap_or_else(|poisoned| {
+            // After a panic of the writer nobody knows what it took.
+            let mut lines = poisoned.into_inner();
+            lines.out = None;
+            lines
+        })
+    }
+
+    // Writes lines that have waited for long, until the part is closed.
+    fn write_in_time(&self) {
+        let mut lines = self.lock();
+        while !lines.is_closed {
+            lines.is_idle = lines.waiting.is_empty();
+            if lines.is_idle {
+                let waited = self
+                    .changed
+                    .wait_while(lines, |l| l.is_idle && !l.is_closed);
+                lines = waited.unwrap_or_else(|poisoned| poisoned.into_inner());
+            } else {
+                let waited = (self.changed)
+                    .wait_timeout_while(lines, LONGEST_WAIT, |lines| !lines.is_closed);
+                lines = waited.unwrap_or_else(|poisoned| poisoned.into_inner()).0;
+                _ = lines.write(b"");
+            }
+        }
+    }
+}
+
+impl Lines {
+    fn goes_on(&self) -> Result<(), &str> {
+        self.out.is_some().then_some(()).ok_or(&self.fault)
+    }
+
+    // Hands out what waits and this line in one write, and lets go of the file where it fails.
+    fn write(&mut self, line: &[u8]) -> Result<(), &str> {
+        let Some(mut out) = self.out.take() else {
+            return Err(&self.fault);
+        };
+        let written = match self.waiting.is_empty() {
+            true if line.is_empty() => Ok(()),
+            true => out.write_all(line).and_then(|()| out.flush()),
+            false => {
+                self.waiting.extend_from_slice(line);
+                let written = out.write_all(&self.waiting).and_then(|()| out.flush());
+                self.waiting.clear();
+                written
+            }
+        };
+        match written {
+            Ok(()) => self.out = Some(out),
+            Err(error) => self.fault = error.to_string(),
+        }
+        self.goes_on()
+    }
+}
+
+fn bad(fault: String) -> Error {
+    Error::new(ErrorKind::BadPart, fault)
+}
+
+fn unread(error: io::Error) -> Error {
+    bad(format!("it can't be read ({error})"))
+}
+
+// The file, locked, behind which the next line goes, and the node as it left it.
+fn open(path: &Path, made: &Builder, node: &mut Node) -> Result<File, Error> {
+    let file = locked(path)?;
+    let head = node.part_head(&made.run)? + "\n";
+    let whole = resume(&file, &head, node)?;
+    let ready = match whole {
+        0 => begin(&file, path, &head, made.is_synced),
+        // Nobody was told of the call whose line has no end.
+        whole => file.set_len(whole),
+    };
+    let unready = |error: io::Error| {
+        let fault = format!("the part could not be begun ({error})");
+        Error::new(ErrorKind::RecordingFailed, fault)
+    };
+    ready.map(|()| file).map_err(unready)
+}
+
+fn locked(path: &Path) -> Result<File, Error> {
+    let mut options = OpenOptions::new();
+    let opened = options.read(true).append(true).create(true).open(path);
+    let file = opened.map_err(|error| bad(format!("it can't be opened ({error})")))?;
+    if !file.metadata().map_err(unread)?.is_file() {
+        return Err(bad("it is no file".into()));
+    }
+    for _ in 0..TRIES {
+        match file.try_lock() {
+            Ok(()) => return Ok(file),
+            Err(TryLockError::WouldBlock) => thread::sleep(REST),
+            Err(TryLockError::Error(error)) => {
+                return Err(bad(format!("it can't be locked ({error})")));
+            }
+        }
+    }
+    let fault = "it is open already, in this process or another";
+    Err(Error::new(ErrorKind::PartInUse, fault))
+}
+
+fn begin(mut file: &File, path: &Path, head: &str, is_synced: bool) -> io::Result<()> {
+    file.set_len(0)?;
+    file.write_all(head.as_bytes())?;
+    if is_synced {
+        file.sync_all()?;
+        // Its name as well.
+        let folder = path.canonicalize()?;
+        File::open(folder.parent().unwrap_or(&folder))?.sync_all()?;
+    }
+    Ok(())
+}
+
+// Makes the calls of a part again; answers how many bytes its whole lines have, 0 where it has to be
+// begun. Nothing of a line is kept.
+fn resume(file: &File, head: &str, node: &mut Node) -> Result<u64, Error> {
+    let mut reader = BufReader::with_capacity(CHUNK, file);
+    let mut line = Vec::new();
+    read_line(&mut reader, head.len(), &mut line)?;
+    if line.len() < head.len() && head.as_bytes().starts_with(&line) {
+        return Ok(0);
+    }
+    if line != head.as_bytes() {
+        if !line.ends_with(b"\n") {
+            read_line(&mut reader, MOST_OF_HEAD, &mut line)?;
+        }
+        return Err(bad(differences(&String::from_utf8_lossy(&line), head)));
+    }
+    let mut whole = head.len() as u64;
+    for number in 2_u64.. {
+        line.clear();
+        read_line(&mut reader, MOST_OF_LINE, &mut line)?;
+        match line.strip_suffix(b"\n") {
+            Some(call) => node.repeat(call).map_err(|error| in_line(number, error))?,
+            None if line.len() < MOST_OF_LINE => break,
+            None => return Err(bad(format!("line {number} is longer than that of a call"))),
+        }
+        whole += line.len() as u64;
+        if number.is_multiple_of(u64::from(MOST_KEPT)) {
+            node.forget();
+        }
+    }
+    Ok(whole)
+}
+
+// Reads as far as the end of a line, and so many bytes at most.
+fn read_line(reader: &mut impl BufRead, most: usize, line: &mut Vec<u8>) -> Result<(), Error> {
+    let read = reader.take(most as u64).read_until(b'\n', line);
+    read.map(drop).map_err(unread)
+}
+
+fn in_line(number: u64, error: Error) -> Error {
+    match error.kind() {
+        ErrorKind::BadPart => bad(format!("line {number}: {}", error.fault())),
+        _ => error,
+    }
+}
+
+// What another first line says that the node's own doesn't.
+fn differences(met: &str, head: &str) -> String {
+    let (met, own) = (members(met), members(head));
+    if !met.contains(&("failreg", "\"part\"")) {
+        return "it is no part of a node".into();
+    }
+    let other = own.iter().filter_map(|(name, own)| {
+        let met = met
+            .iter()
+            .find(|it| it.0 == *name)
+            .map_or("nothing", |it| it.1);
+        (met != *own).then(|| format!("{name} is {met} there and {own} here"))
+    });
+    let told: Vec<String> = other.collect();
+    match told.is_empty() {
+        true => "its first line isn't as a node writes it".into(),
+        false => format!("it isn't this node's: {}", told.join(", ")),
+    }
+}
+
+// The members of a first line as it is written, with their values. No text has a quote that isn't
+// escaped.
+fn members(head: &str) -> Vec<(&str, &str)> {
+    let inner = head
+        .trim_end()
+        .trim_start_matches("{\"")
+        .trim_end_matches('}');
+    let members = inner.split(",\"");
+    members.filter_map(|it| it.split_once("\":")).collect()
+}
+
+#[cfg(test)]
+mod tests {
+    use super::*;
+    use std::time::Instant;
+
+    /// Takes so many bytes, each time that it is written to a piece of its own, and fails then.
+    #[derive(Clone)]
+    struct Narrow {
+        room: usize,
+        taken: Arc<Mutex<Vec<String>>>,
+    }
+
+    impl Narrow {
+        fn new(room: usize) -> Narrow {
+            let taken = Arc::default();
+            Narrow { room, taken }
+        }
+
+        fn pieces(&self) -> Vec<String> {
+            self.taken.lock().unwrap().clone()
+        }
+    }
+
+    impl Write for Narrow {
+        fn write(&mut self, bytes: &[u8]) -> io::Result<usize> {
+            let length = bytes.len().min(self.room);
+            if length == 0 {
+                return Err(io::Error::from(io::ErrorKind::StorageFull));
+            }
+            self.room -= length;
+            let piece = String::from_utf8(bytes[..length].to_vec()).unwrap();
+            self.taken.lock().unwrap().push(piece);
+            Ok(length)
+        }
+
+        fn flush(&mut self) -> io::Result<()> {
+            Ok(())
+        }
+    }
+
+    #[test]
+    fn a_line_that_cannot_be_written_is_told() {
+        for (room, is_buffered) in (0..24).flat_map(|room| [(room, false), (room, true)]) {
+            let out = Narrow::new(room);
+            let part = Part::to(out.clone(), is_buffered).unwrap();
+            let told: Vec<_> = (0..4).map(|_| part.put("12345\n", false)).collect();
+            let kept = told.iter().take_while(|told| told.is_ok()).count();
+            assert_eq!(kept, room / 6, "{room} bytes");
+            let kinds = told[kept..]
+                .iter()
+                .map(|it| it.as_ref().unwrap_err().kind());
+            assert!(kinds.eq(vec![ErrorKind::NotRecorded; 4 - kept]));
+            let after = part.goes_on().unwrap_err();
+            assert_eq!(after.kind(), ErrorKind::RecordingFailed);
+            assert!(after.fault().contains("no storage space"), "{after}");
+            assert_eq!(out.pieces().concat(), "12345\n".repeat(4)[..room]);
+        }
+    }
+
+    #[test]
+    fn lines_share_a_write() {
+        let out = Narrow::new(usize::MAX);
+        let part = Part::to(out.clone(), true).unwrap();
+        part.put("a\n", true).unwrap();
+        part.put("b\n", true).unwrap();
+        assert!(out.pieces().is_empty());
+        part.put("c\n", false).unwrap();
+        assert_eq!(out.pieces(), ["a\nb\nc\n"]);
+        part.put("d\n", true).unwrap();
+        part.flush();
+        part.flush();
+        assert_eq!(out.pieces(), ["a\nb\nc\n", "d\n"]);
+        part.put("e\n", true).unwrap();
+        drop(part);
+        assert_eq!(out.pieces()[2..], ["e\n"]);
+    }
+
+    #[test]
+    fn a_line_waits_for_a_while_alone() {
+        let out = Narrow::new(usize::MAX);
+        let part = Part::to(out.clone(), true).unwrap();
+        for times in 1..4 {
+            let begun = Instant::now();
+            part.put("a\n", true).unwrap();
+            while out.pieces().len() < times {
+                assert!(begun.elapsed() < Duration::from_secs(10));
+                thread::sleep(Duration::from_millis(1));
+            }
+            assert!(begun.elapsed() >= LONGEST_WAIT);
+        }
+        // As many as there is room for.
+        let line = "a".repeat(MOST_WAITING / 4 - 1) + "\n";
+        (0..4).for_each(|_| part.put(&line, true).unwrap());
+        part.put("b\n", true).unwrap();
+        assert!(out.pieces().last().unwrap().ends_with("\nb\n"));
+    }
+
+    #[test]
+    fn what_waited_and_is_lost_is_told() {
+        let part = Part::to(Narrow::new(0), true).unwrap();
+        part.put("a\n", true).unwrap();
+        part.flush();
+        let kinds = [
+            part.put("b\n", true),
+            part.put("c\n", false),
+            part.goes_on(),
+        ];
+        let kinds = kinds.map(|it| it.unwrap_err().kind());
+        let not = ErrorKind::NotRecorded;
+        assert_eq!(kinds, [not, not, ErrorKind::RecordingFailed]);
+    }
+
+    #[test]
+    fn a_writer_that_panics_has_failed() {
+        struct Panics;
+        impl Write for Panics {
+            fn write(&mut self, _: &[u8]) -> io::Result<usize> {
+                panic!("the writer")
+            }
+
+            fn flush(&mut self) -> io::Result<()> {
+                Ok(())
+            }
+        }
+        let part = Arc::new(Part::to(Panics, false).unwrap());
+        let other = part.clone();
+        assert!(
+            thread::spawn(move || other.put("a\n", false))
+                .join()
+                .is_err()
+        );
+        let after = part.goes_on().unwrap_err();
+        assert_eq!(after.kind(), ErrorKind::RecordingFailed);
+    }
+
+    const HEAD: &str = "{\"cap\":9,\"failreg\":\"part\",\"node\":1,\"nodes\":3,\
+        \"run\":\"a,\\\"b}\",\"version\":1}\n";
+
+    #[test]
+    fn another_first_line_is_told_apart() {
+        let told = |from: &str, to: &str| differences(&HEAD.replace(from, to), HEAD);
+        let rows = [
+            ("\"node\":1", "\"node\":2", "node is 2 there and 1 here"),
+            ("\"nodes\":3", "\"nodes\":4", "nodes is 4 there and 3 here"),
+            ("\"cap\":9,", "", "cap is nothing there and 9 here"),
+            ("b}", "c", "run is \"a,\\\"c\" there and \"a,\\\"b}\" here"),
+            ("n\":1}", "n\":2}", "version is 2 there and 1 here"),
+        ];
+        for (from, to, wanted) in rows {
+            assert_eq!(told(from, to), format!("it isn't this node's: {wanted}"));
+        }
+        let wanted =
+            "it isn't this node's: node is 0 there and 1 here, nodes is 1 there and 3 here";
+        assert_eq!(
+            told("\"node\":1,\"nodes\":3", "\"node\":0,\"nodes\":1"),
+            wanted
+        );
+        assert_eq!(
+            told("}\n", " }\n"),
+            "it isn't this node's: version is 1  there and 1 here"
+        );
+        assert_eq!(
+            told("{", "[{"),
+            "it isn't this node's: cap is nothing there and 9 here"
+        );
+        for other in [
+            "",
+            "\n",
+            "{}",
+            "{\"failreg\":\"drill\",\"version\":1}\n",
+            "\0\0",
+        ] {
+            assert_eq!(differences(other, HEAD), "it is no part of a node");
+        }
+        assert_eq!(
+            differences(HEAD.trim_end(), HEAD),
+            "its first line isn't as a node writes it"
+        );
+    }
+}
