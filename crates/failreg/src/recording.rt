@@ -20,8 +20,8 @@ use std::sync::Wait;
 use std::thread::Threads;
 use thread_scripts::{ThreadPlan, output_of, play, read_plan};
 
-// Why a drill wasn't written, as scripts tell it.
-fn unwritten(fault: DrillFault) -> ScriptFault
+/// Why a drill wasn't written, as scripts tell it.
+pub fn unwritten(fault: DrillFault) -> ScriptFault
     ensures only { (result ≡ WriteFailed) ⊎ (result ≡ OutOfMemory) }
     ensures write_failed { (result ≡ WriteFailed) ↔ (fault ≡ DrillFault.WriteFailed) }
 {
