@@ -223,9 +223,15 @@ was told, with a line `budget` for each setting of a counted term; or `audit no`
 and why not. Nothing else that the file says is believed. docs/drills.md tells
 its format, and what an audit doesn't judge.
 
-The status is 0 after a yes. It is 1 after a no, and where the file can't be
-read (`P2 ReadFailed`), a line of it isn't one of a drill or stands out of its
-place (`P5 BadLine line=6`), or memory is refused; the reason then stands on
+In place of a drill the files may have its parts, one of each node, in any
+order: what a node kept by itself, or `failreg threads --record-parts`. Then a
+line `cut node=1` says that the last line of that node's part wasn't written
+whole; it isn't audited.
+
+The status is 0 after a yes. It is 1 after a no, and where a file can't be read
+(`P2 ReadFailed`), a line of it isn't one of a drill or a part or stands out of
+its place (`P5 BadLine line=6`), parts are of several runs (`P6`), a node has
+two or none (`P7`, `P8`), or memory is refused; the reason then stands on
 standard error.
 
 Example:

@@ -14,21 +14,24 @@ ghost use Rattle.streams.specs.Streams.{IfInput, Writes};
 ghost use Rattle.streams.specs.Watched.{has_failed, has_unflushed};
 ghost use Rattle.thread_plans.specs.BadLines.{bad_text};
 ghost use Rattle.thread_scripts.specs.Outputs.{PlaysSaying, PlaysTo};
-ghost use Rattle.failreg.specs.Recordings.{SaysVerdict};
+ghost use Rattle.failreg.specs.Recordings.{SaysOfAFile};
 ghost use Rattle.failreg.specs.Statuses.{HasStatus, OnStatus, SaysOrNothing};
 
 mod advice;
+mod audit_refused;
+mod audited_files;
 mod auditing;
 mod explaining;
 mod finish;
+mod part_recording;
 mod recording;
 mod short_lines;
 mod standard;
 mod warning;
 
 use actions::parse_actions;
-use advice::{advice_on_parse, advice_on_service, is_missing};
-use auditing::audit_file;
+use advice::{advice_on_audit, advice_on_parse, advice_on_service, is_missing};
+use audited_files::audit_files;
 use command_line::{
     Invocation, ServeOptions, SimOptions, ThreadOptions, quoted, read_command_line,
 };
@@ -39,6 +42,7 @@ use finish::{
     finish_unreadable, refuse,
 };
 use node_service::serve_node;
+use part_recording::{kept_part, run_in_parts};
 use recording::{is_kept, run_recorded};
 use scripts::{
     MOST_BYTES, ScriptFault, Watched, run_script, run_script_checked, run_script_echoing,
@@ -76,11 +80,14 @@ fn main(rt: HostRuntime) -> anyhow::Result<ExitCode> {
             check(&rt, options.echo, &mut reader, &mut writer, &mut errors)
         }
         Ok(Invocation::Sim(options)) => { sim(&rt, options, &mut reader, &mut writer, &mut errors) }
-        Ok(Invocation::Threads(options)) => match options.record {
-            Some(path) => { record(&rt, path, options, &mut reader, &mut writer, &mut errors) }
-            None => threads(&rt, options.quiet, &mut reader, &mut writer, &mut errors),
+        Ok(Invocation::Threads(options)) => match (options.record, options.record_parts) {
+            (Some(path), _) => record(&rt, path, options, &mut reader, &mut writer, &mut errors),
+            (None, Some(folder)) => {
+                record_parts(&rt, folder, options, &mut reader, &mut writer, &mut errors)
+            }
+            (None, None) => threads(&rt, options.quiet, &mut reader, &mut writer, &mut errors),
         },
-        Ok(Invocation::Audit(path)) => audit(&rt, path, &mut writer),
+        Ok(Invocation::Audit(paths)) => audit(&rt, &paths, &mut writer),
         Ok(Invocation::Serve(options)) => serve(&rt, options),
         Ok(Invocation::Explain(text)) => explain_codes(&rt, &text, &mut writer, &mut errors),
         Err(error) => finish_unread(&rt, &error),
@@ -245,22 +252,67 @@ fn record<R: Threads + Wait + Sync + Eprint + AllocGlobal + Files, I: Read, O: W
     finish_threads(rt, run, options.quiet, &said, errors)
 }
 
-// Audits the drill in a file, or on standard input where the path is `-`.
+// The same, and keeps the part of each node in a folder: over files that are there only where that is
+// wanted.
+fn record_parts<
+    R: Threads + Wait + Sync + Eprint + AllocGlobal + Files,
+    I: Read,
+    O: Write,
+    E: Write,
+>(
+    rt: &R,
+    folder: &str,
+    options: ThreadOptions<'_>,
+    reader: &mut Watched<I>,
+    writer: &mut Watched<O>,
+    errors: &mut Watched<E>,
+) -> anyhow::Result<ExitCode>
+    requires reader { has_failed reader.old ≡ false }
+    requires writer { has_failed writer.old ≡ false }
+    requires errors { has_failed errors.old ≡ false }
+    ensures done { OnStatus result 0 (IfInput I.remaining reader.old (λ input.
+        PlaysTo input (Writes O.contents writer.old writer.new))) }
+    ensures flushed { OnStatus result 0 (has_unflushed writer.new ≡ false) }
+    ensures said { options.entry.quiet ≡ false → OnStatus result 0 (
+        has_failed errors.new ≡ false → IfInput I.remaining reader.old (λ input.
+        PlaysSaying input (Writes O.contents writer.old writer.new)
+        (Writes E.contents errors.old errors.new))) }
+    ensures quiet { options.entry.quiet ≡ true → errors.new ≡ errors.old }
+    ensures read_failed { has_failed reader.new ≡ true → HasStatus result 1 }
+    ensures status { IfOk result (λ code. (exit_status code ≡ 0) ⊎ (exit_status code ≡ 1)) }
+{
+    if !options.force {
+        if let Some(path) = kept_part(rt, rt.alloc(), folder)? {
+            let shown = quoted(rt.alloc(), &path)?;
+            let advice = format!(in rt.alloc(); "{shown} is there: another folder, or --force")?;
+            return refuse(rt, ScriptFault::WriteFailed, &advice);
+        }
+    }
+    let mut said = Vec::new(rt.alloc());
+    let run = run_in_parts(rt, rt.alloc(), folder, reader, writer, &mut said);
+    finish_threads(rt, run, options.quiet, &said, errors)
+}
+
+// Audits the drill or the part in a file, or the parts in several. The path `-` is standard input.
 fn audit<R: Eprint + AllocGlobal + Files + Input, O: Write>(
     rt: &R,
-    path: &str,
+    paths: &[&str],
     writer: &mut Watched<O>,
 ) -> anyhow::Result<ExitCode>
     requires { has_failed writer.old ≡ false }
-    ensures done { OnStatus result 0 (SaysVerdict None true O.contents writer.old writer.new) }
+    ensures done { OnStatus result 0 (SaysOfAFile true O.contents writer.old writer.new) }
     ensures status { IfOk result (λ code. (exit_status code ≡ 0) ⊎ (exit_status code ≡ 1)) }
 {
-    if path != "-" && is_missing(rt, path) {
-        let shown = quoted(rt.alloc(), path)?;
-        let advice = format!(in rt.alloc(); "{shown}: no such file")?;
-        return refuse(rt, DrillFault::ReadFailed, &advice);
+    for path in paths {
+        if *path != "-" && is_missing(rt, path) {
+            let shown = quoted(rt.alloc(), path)?;
+            let advice = format!(in rt.alloc(); "{shown}: no such file")?;
+            return refuse(rt, DrillFault::ReadFailed, &advice);
+        }
     }
-    finish_audit(rt, audit_file(rt, rt.alloc(), path, writer), "")
+    let audited = audit_files(rt, rt.alloc(), paths, writer);
+    let advice = advice_on_audit(rt.alloc(), paths, &audited);
+    finish_audit(rt, audited, &advice)
 }
 
 // Serves the node that a command line names.

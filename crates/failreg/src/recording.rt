@@ -22,8 +22,8 @@ use std::sync::Wait;
 use std::thread::Threads;
 use thread_scripts::{ThreadPlan, judged_output_of, play, read_plan_saying, warnings_of};
 
-// Why a drill wasn't written, as scripts tell it.
-fn unwritten(fault: DrillFault) -> ScriptFault
+/// Why a drill wasn't written, as scripts tell it.
+pub fn unwritten(fault: DrillFault) -> ScriptFault
     ensures only { (result ≡ WriteFailed) ⊎ (result ≡ OutOfMemory) }
     ensures write_failed { (result ≡ WriteFailed) ↔ (fault ≡ DrillFault.WriteFailed) }
 {
