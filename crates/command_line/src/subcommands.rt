@@ -149,6 +149,7 @@ const THREADS: &[Argument] = &[
         values: (0, 0),
         most: None,
         takes_hyphens: false,
+        excludes: &[],
     },
 ];
 
