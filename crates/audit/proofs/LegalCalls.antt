@@ -1,5 +1,5 @@
 -- Legal traces, call by call, and how many calls they have.
-use Rattle.std.proofs.Common.{◌≡◌, ℕ, zero, suc, ◌+◌, ◌<◌, ◌≤◌, Bool, true, false, List, [], ◌∷◌, ◌++◌, length, take, Option, Some, None, refl, sym, subst, arith, slice_get}
+use Rattle.std.proofs.Common.{◌≡◌, ℕ, zero, suc, ◌+◌, ◌<◌, ◌≤◌, Bool, true, false, List, [], ◌∷◌, length, take, Option, Some, None, refl, subst, arith, slice_get}
 use Rattle.std.specs.Prelude.{nat_le}
 use Rattle.std.specs.Bool.{then_some}
 use Rattle.std.proofs.lemmas.Bool.Decides.{nat_tests}
@@ -10,41 +10,11 @@ use Rattle.node_calls.specs.declared.fault.NodeFault.TheVariants as faults
 use Rattle.node_calls.specs.Asks.{Asked, Call}
 use Rattle.node_calls.specs.Asks as asks
 use Rattle.node_core.specs.Nodes.{Node}
-use Rattle.node_core.specs.Steps.{after, reply}
+use Rattle.node_core.specs.Steps.{after}
 use Rattle.node_core.specs.Refusals.{refusal_at, is_full}
-use Rattle.node_core.specs.Traces.{SendsDelta, IsLegalFrom, replay_from}
-use Rattle.node_core.proofs.LegalTraces.{legal_more}
+use Rattle.node_core.specs.Resumed.{IsLegalCall}
+use Rattle.node_core.specs.Traces.{IsLegalFrom, replay_from}
 use Rattle.cluster_model.specs.Worlds.{cluster_of, config_of}
-
--- the next call of a node is legal
-pub record IsLegalCall (config : Config) (entries : ℕ) (n : Node) (c : Call) : Type 0 where
-  pub agreed : refusal_at config entries n c.ask c.words ≡ None
-  pub sends : SendsDelta n c.ask
-  pub reply : c.reply ≡ reply config.node n c.ask c.words
-
-pub legal_parts : (config : Config) (entries : ℕ) (n : Node) (trace : List Call) (c : Call) →
-    IsLegalFrom config entries n (trace ++ c ∷ []) →
-    IsLegalFrom config entries n trace × IsLegalCall config (entries + length trace) (replay_from config.node n trace) c
-unfolding IsLegalFrom replay_from
-legal_parts config entries n [] c legal =
-    let here : entries ≡ entries + 0 = omega arith in
-    (tt, subst (λ k. IsLegalCall config k n c) here (record { agreed = legal.0; sends = legal.1; reply = legal.2 }))
-legal_parts config entries n (d ∷ trace) c legal =
-    let rest = legal_parts config (entries + 1) (after config.node n d.ask d.words) trace c legal.3 in
-    let places : entries + 1 + length trace ≡ entries + length (d ∷ trace) = omega arith in (
-      (legal.0, legal.1, legal.2, rest.0),
-      subst (λ k. IsLegalCall config k
-          (replay_from config.node (after config.node n d.ask d.words) trace) c) places rest.1,
-    )
-
-pub legal_with : (config : Config) (entries : ℕ) (n : Node) (trace : List Call) (c : Call) →
-    IsLegalFrom config entries n trace →
-    IsLegalCall config (entries + length trace) (replay_from config.node n trace) c →
-    IsLegalFrom config entries n (trace ++ c ∷ [])
-legal_with config entries n trace c legal next =
-    subst (λ r. IsLegalFrom config entries n (trace ++ record { ask = c.ask; words = c.words; reply = r } ∷ []))
-    (sym next.reply)
-    (legal_more config entries n trace c.ask c.words legal next.agreed next.sends)
 
 -- the call at an index of a legal trace
 pub legal_at : (config : Config) (entries : ℕ) (n : Node) (trace : List Call) (k : ℕ) (c : Call) →

@@ -34,12 +34,11 @@ use Rattle.cluster_model.specs.Histories.{keys_by}
 use Rattle.audit.specs.Counts.{AreCountsOf, AddsKeys}
 use Rattle.audit.specs.declared.counts.Counts.{Counts}
 use Rattle.audit.specs.Points.{Points, point_read, points_set}
-use Rattle.audit.specs.Replays.{IsLegalKept}
+use Rattle.node_core.specs.Resumed.{IsLegalKept, IsLegalCall}
 use Rattle.audit.specs.Tallies.{IsAfter, granted_by, amount_under}
 use Rattle.audit.specs.Sums.{is_term}
 use Rattle.audit.proofs.ClockKept.{replay_clock, last_set}
-use Rattle.audit.proofs.LegalCalls.{IsLegalCall}
-use Rattle.audit.proofs.Replayed.{next_parts}
+use Rattle.node_core.proofs.Repeated.{next_parts}
 
 -- ---- what is accepted
 

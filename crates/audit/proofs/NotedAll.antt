@@ -1,5 +1,5 @@
 -- What is noted of a trace, and of all traces.
-use Rattle.std.proofs.Common.{◌≡◌, ℕ, zero, suc, ◌+◌, ◌-◌, ◌^◌, ◌<◌, ◌≤◌, cond, Bool, true, false, List, [], ◌∷◌, ◌++◌, length, map, take, Some, None, refl, sym, ◌∙◌, ap, subst, arith, slice_get}
+use Rattle.std.proofs.Common.{◌≡◌, ℕ, suc, ◌+◌, ◌-◌, ◌^◌, ◌<◌, ◌≤◌, cond, Bool, true, false, List, [], ◌∷◌, ◌++◌, length, map, take, Some, sym, ◌∙◌, ap, subst, arith, slice_get}
 use Rattle.std.proofs.lemmas.List.{length-map, length-take-le, length-append, map-append, append-nil}
 use Rattle.std.proofs.lemmas.List.Sums.{sum_by-cons}
 use Rattle.std.specs.Map.{lookup}
@@ -16,12 +16,12 @@ use Rattle.audit.specs.declared.tally.Tally.{Tally}
 use Rattle.audit.specs.Sums.{sum_of}
 use Rattle.audit.specs.Counts.{count_kept, AreCountsOf, AddsKeys}
 use Rattle.audit.specs.Tallies.{keys_from, granted_by, executed_in, calls_of, Notes, IsTallied}
-use Rattle.audit.specs.Traces.{Traces, trace_of, audited, IsLegalAlone}
+use Rattle.audit.specs.Traces.{Traces, trace_of, audited}
+use Rattle.node_core.specs.Resumed.{IsLegalAlone}
 use Rattle.audit.proofs.CountsKept.{adds_behind, adds_none}
 use Rattle.std.proofs.lemmas.Option.{slice_get_within}
 use Rattle.audit.proofs.LegalCalls.{legal_short}
-use Rattle.audit.proofs.Replayed.{alone}
-use Rattle.audit.proofs.Steps.{take_one_more}
+use Rattle.node_core.proofs.Repeated.{alone, take_one_more}
 use Rattle.audit.proofs.Tallied.{keys_more, granted_more, executed_more}
 
 nothing_kept : {K X : Type 0} (test : K → Bool) (es : List (K × X)) (v : X) → es ≡ [] → lookup test es ≡ Some v → ⊥
@@ -137,13 +137,6 @@ node_tallied old new nodes traces i short t n = subst (λ j. IsTallied new nodes
 
     many : length (calls_of nodes traces i) ≡ length (trace_of traces i)
     many = length-map (trace_of traces i) (call_from nodes)
-
--- all are taken where none comes next
-pub take_past : (es : List Told) (j : ℕ) → slice_get es j ≡ None → take j es ≡ es
-take_past [] zero h = refl
-take_past [] (suc j) h = refl
-take_past (e ∷ es) zero h = absurd (cc h)
-take_past (e ∷ es) (suc j) h = ap (λ xs. e ∷ xs) (take_past es j h)
 
 pub calls_taken : (config : Config) (es : List Told) (j : ℕ) (e : Told) → slice_get es j ≡ Some e →
     length (map (call_from config.nodes) (take j es)) ≡ j

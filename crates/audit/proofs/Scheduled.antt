@@ -30,8 +30,10 @@ use Rattle.audit.specs.Traces.{Traces, trace_of, entry_at, IsSized, audited, All
 use Rattle.audit.specs.Schedules.{event_of, events_of, SomeFits}
 use Rattle.audit.specs.Places.{count_at, emitted_at, IsSent, IsReady, IsRun, Fits, IsOrder, steps_at}
 use Rattle.audit.proofs.Runs.{count_cases, trace_past, entry_within}
-use Rattle.audit.proofs.LegalCalls.{IsLegalCall, legal_at, legal_short, legal_wider}
-use Rattle.audit.proofs.Steps.{take_one_more, take_whole, step_of, steps_more, entries_taken, fed_of_run, sent_from, places_of, count_entries, run_of_steps}
+use Rattle.audit.proofs.LegalCalls.{legal_at, legal_short, legal_wider}
+use Rattle.node_core.specs.Resumed.{IsLegalCall}
+use Rattle.audit.proofs.Steps.{take_whole, step_of, steps_more, entries_taken, fed_of_run, sent_from, places_of, count_entries, run_of_steps}
+use Rattle.node_core.proofs.Repeated.{take_map, take_one_more}
 
 -- ---- lists
 
@@ -40,12 +42,6 @@ get_map : (f : Told → Call) (xs : List Told) (k : ℕ) (x : Told) → slice_ge
 get_map f [] k x is = absurd (cc is)
 get_map f (y ∷ ys) zero x is = let same : y ≡ x = cc is in ap (λ z. Some (f z)) same
 get_map f (y ∷ ys) (suc k) x is = get_map f ys k x is
-
-take_map : (f : Told → Call) (xs : List Told) (k : ℕ) → take k (map f xs) ≡ map f (take k xs)
-take_map f [] zero = refl
-take_map f [] (suc k) = refl
-take_map f (x ∷ xs) zero = refl
-take_map f (x ∷ xs) (suc k) = ap (λ ys. f x ∷ ys) (take_map f xs k)
 
 length_taken : (f : Told → Call) (xs : List Told) (k : ℕ) (x : Told) → slice_get xs k ≡ Some x →
     length (map f (take k xs)) ≡ k

@@ -1,5 +1,5 @@
 -- Which places were seen.
-use Rattle.std.proofs.Common.{◌≡◌, ◌≢◌, ℕ, zero, suc, ◌==◌, ◌&&◌, ◌+◌, ◌<◌, ◌≤◌, cond, Bool, true, false, List, [], ◌∷◌, ◌++◌, length, set, get_or, replicate, take, Some, None, All, Vec, refl, sym, ◌∙◌, ap, subst, arith, inl, inr, slice_get}
+use Rattle.std.proofs.Common.{◌≡◌, ◌≢◌, ℕ, zero, suc, ◌==◌, ◌&&◌, ◌+◌, ◌<◌, ◌≤◌, cond, Bool, true, false, List, [], ◌∷◌, ◌++◌, length, set, get_or, replicate, take, Some, All, Vec, refl, sym, ◌∙◌, ap, subst, arith, inl, inr, slice_get}
 use Rattle.std.proofs.lemmas.Bool.Decides.{eqb_tells, leb_tells}
 use Rattle.std.proofs.lemmas.List.{get_or-set_same, get_or-set_other, length-set, take_more}
 use Rattle.std.proofs.lemmas.List.Sums.{sum_by_push, sum_by-take-le}

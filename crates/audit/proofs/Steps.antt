@@ -3,17 +3,12 @@ use Rattle.std.proofs.Common.{◌≡◌, ◌≢◌, ◌⊎◌, inl, inr, ℕ, ze
 use Rattle.std.specs.Prelude.{option_and_then}
 use Rattle.std.proofs.lemmas.Bool.Decides.{eqb_tells}
 use Rattle.node_calls.specs.Told.{Told}
+use Rattle.node_core.proofs.Repeated.{take_one_more}
 use Rattle.audit.specs.Messages.{bytes_emitted}
 use Rattle.audit.specs.Traces.{Traces, trace_of, entry_at}
 use Rattle.audit.specs.Schedules.{Step, entries_at, WasEmitted, AreFed}
 use Rattle.audit.specs.Places.{count_at, emitted_at, IsSent, IsReady, IsRun, step_with, steps_at}
 use Rattle.audit.proofs.Runs.{count_cases}
-
-pub take_one_more : (es : List Told) (k : ℕ) (e : Told) → slice_get es k ≡ Some e →
-    take (suc k) es ≡ take k es ++ e ∷ []
-take_one_more [] k e is = absurd (cc is)
-take_one_more (f ∷ es) zero e is = let same : f ≡ e = cc is in ap (λ x. x ∷ []) same
-take_one_more (f ∷ es) (suc k) e is = ap (λ xs. f ∷ xs) (take_one_more es k e is)
 
 pub take_whole : (es : List Told) → take (length es) es ≡ es
 take_whole [] = refl

@@ -5,7 +5,6 @@ pub mod Places
 pub mod Receipts
 pub mod Checked
 pub mod Answers
-pub mod Replays
 pub mod Laws
 pub mod Boards
 pub mod FaultText

@@ -15,7 +15,7 @@ use Rattle.audit.specs.declared.sums.Sums.{Sums}
 use Rattle.audit.specs.declared.tally.Tally.{Tally}
 use Rattle.audit.specs.Sums.{is_term, sum_of}
 use Rattle.audit.specs.Counts.{AreCountsOf, AddsKeys}
-use Rattle.audit.specs.Replays.{IsLegalKept}
+use Rattle.node_core.specs.Resumed.{IsLegalKept}
 use Rattle.audit.specs.Traces.{Traces, trace_of}
 
 -- ---- of the calls of node i, from this state of it on

@@ -1,10 +1,8 @@
 -- The traces of a cluster, and which of them are legal.
-use Rattle.std.specs.Prelude.{◌≡◌, ℕ, zero, suc, ◌+◌, ◌-◌, ◌^◌, ◌<◌, ◌≤◌, List, [], ◌∷◌, length, map, take, slice_get, Option, Some}
+use Rattle.std.specs.Prelude.{◌≡◌, ℕ, zero, suc, ◌-◌, ◌^◌, ◌<◌, ◌≤◌, List, [], ◌∷◌, length, slice_get, Option}
 use Rattle.message_format.specs.Limits.{max_nodes}
-use Rattle.node_core.specs.declared.config.Config.{Config}
 use Rattle.node_calls.specs.Told.{Told}
-use Rattle.node_calls.specs.Asks.{call_from}
-use Rattle.node_core.specs.Traces.{IsLegal}
+use Rattle.node_core.specs.Resumed.{IsFirstWrong, IsLegalAlone}
 use Rattle.packed_trace.specs.Packed.{Packed}
 use Rattle.cluster_model.specs.Worlds.{Cluster, config_of, cluster_of}
 
@@ -31,21 +29,11 @@ pub record IsSized (nodes : ℕ) (traces : Traces) : Type 0 where
 abbrev pub audited : ℕ → Cluster
 audited nodes = cluster_of nodes (2 ^ 32 - 1)
 
--- a replay of the entries at that node alone gives them
-abbrev pub IsLegalAlone : Config → List Told → Type 0
-IsLegalAlone config entries = IsLegal config (map (call_from config.nodes) entries)
-
+-- each of them is legal at its node alone
 abbrev pub AllLegal : ℕ → Traces → Type 0
 AllLegal nodes traces = (node : ℕ) → IsLegalAlone (config_of (audited nodes) node) (trace_of traces node)
 
--- the entry at this index is the first that a replay doesn't give
-pub record IsFirstWrong (config : Config) (entries : List Told) (index : ℕ) : Type 0 where
-  pub entry : Told
-  pub there : slice_get entries index ≡ Some entry
-  pub legal : IsLegalAlone config (take index entries)
-  pub wrong : IsLegalAlone config (take (index + 1) entries) → ⊥
-
--- it is that of the least node whose trace isn't legal
+-- the first wrong entry is that of the least node whose trace isn't legal
 pub record IsLeastWrong (nodes : ℕ) (traces : Traces) (node index : ℕ) : Type 0 where
   pub first : IsFirstWrong (config_of (audited nodes) node) (trace_of traces node) index
   pub least : (n : ℕ) → n < node → IsLegalAlone (config_of (audited nodes) n) (trace_of traces n)

@@ -8,6 +8,7 @@ pub mod Conserved
 pub mod Versions
 pub mod Honest
 pub mod Replays
+pub mod Resumes
 pub mod HonestBytes
 pub mod Replies
 pub mod Closed

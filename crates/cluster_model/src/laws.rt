@@ -17,6 +17,7 @@ ghost use Rattle.cluster_model.specs.Laws.{DeltaIsOne, IsLegalEmit, PastBegins, 
 ghost use Rattle.cluster_model.specs.Laws.{PastStays, PastIsState, KnownVersionIsReached};
 ghost use Rattle.cluster_model.specs.Laws.{KnownVersionIsBelow, KnownVersionsSameState};
 ghost use Rattle.cluster_model.specs.Laws.{EachVersionSeesWhole};
+ghost use Rattle.cluster_model.specs.Resumed.{ResumedIsSame, ResumedIsTaken};
 
 /// Each event of a schedule is a call of one node: it is refused, and changes nothing, or it changes
 /// that node by the step that the contracts of `NodeCore` cite, and its trace tells all of it. The
@@ -102,4 +103,12 @@ pub fn known_versions()
     ensures below { KnownVersionIsBelow }
     ensures same { KnownVersionsSameState }
     ensures whole { EachVersionSeesWhole }
+{}
+
+/// A cluster in which nodes end and go on from all that they did is one in which none ended, so that
+/// all that holds of schedules holds of it. And no node is refused what it did: its own calls are such
+/// as a node of its number gives (`NodeCore::resume`).
+pub fn resumed()
+    ensures same { ResumedIsSame }
+    ensures taken { ResumedIsTaken }
 {}

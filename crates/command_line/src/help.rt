@@ -189,12 +189,20 @@ which is never more than its count and what was granted. A call that a node
 refuses changes nothing and isn't counted. A thread that can't be started makes
 no calls.
 
+On standard error it says what goes wrong, of 20 lines of a kind at most: of
+each line whose call a node refuses whatever it knows, why; of each node how
+many calls of its `start` lines weren't accepted, if some weren't, and of each
+worker how many of its own, by the line where it begins; how many passes met a
+point that isn't set; and that the audit says no. Of a node that spreads rights
+no shift is looked at. --quiet ends that.
+
 The status is 0. It is 1 where the script can't be read, is longer than
 16777216 bytes, or can't be answered, where memory is refused, and where a line
 can't be read or stands out of its place, as `P5 BadLine line=6`: then nothing
 is called. The line is the first that is bad, counted from 1 with the skipped
 ones; where the seed is missing, it is the one behind the last. The reason
-stands on standard error.
+stands on standard error, and behind it what was wanted of each bad line, of 20
+at most, unless --quiet is given.
 
 Example:
   $ printf 'nodes 1 9\\nseed %064d\\nstart set 0 a 2*off\\nworker 0\\npass a 4\\n' 0 | failreg threads
@@ -215,9 +223,15 @@ was told, with a line `budget` for each setting of a counted term; or `audit no`
 and why not. Nothing else that the file says is believed. docs/drills.md tells
 its format, and what an audit doesn't judge.
 
-The status is 0 after a yes. It is 1 after a no, and where the file can't be
-read (`P2 ReadFailed`), a line of it isn't one of a drill or stands out of its
-place (`P5 BadLine line=6`), or memory is refused; the reason then stands on
+In place of a drill the files may have its parts, one of each node, in any
+order: what a node kept by itself, or `failreg threads --record-parts`. Then a
+line `cut node=1` says that the last line of that node's part wasn't written
+whole; it isn't audited.
+
+The status is 0 after a yes. It is 1 after a no, and where a file can't be read
+(`P2 ReadFailed`), a line of it isn't one of a drill or a part or stands out of
+its place (`P5 BadLine line=6`), parts are of several runs (`P6`), a node has
+two or none (`P7`, `P8`), or memory is refused; the reason then stands on
 standard error.
 
 Example:

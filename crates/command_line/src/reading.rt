@@ -21,8 +21,8 @@ pub enum Invocation<'a> {
     Sim(SimOptions),
     /// To run the script of threads on standard input.
     Threads(ThreadOptions<'a>),
-    /// To audit the drill in a file.
-    Audit(&'a str),
+    /// To audit the drill in a file, or that of the parts in files.
+    Audit(Vec<&'a str>),
     /// To serve a node over HTTP.
     Serve(ServeOptions<'a>),
     /// To say what the codes in a text mean, or, without one, to list all codes.
@@ -45,8 +45,12 @@ pub struct SimOptions {
 pub struct ThreadOptions<'a> {
     /// The file that its drill is kept in, if it is kept.
     pub record: Option<&'a str>,
-    /// Whether a file that is there is written over.
+    /// The folder that a part of each node is kept in, if they are kept.
+    pub record_parts: Option<&'a str>,
+    /// Whether files that are there are written over.
     pub force: bool,
+    /// Whether nothing is said of what goes wrong.
+    pub quiet: bool,
 }
 
 /// Whom a served node tells what it knows, and how often.
@@ -152,9 +156,14 @@ fn read_matches<'a>(alloc: Global, matches: &ArgMatches<'a>) -> Result<Invocatio
         }),
         Subcommand::Threads => Invocation::Threads(ThreadOptions {
             record: matches.get_str("record"),
+            record_parts: matches.get_str("record-parts"),
             force: matches.get_flag("force"),
+            quiet: matches.get_flag("quiet"),
         }),
-        Subcommand::Audit => Invocation::Audit(matches.get_str("file").unwrap_or("")),
+        Subcommand::Audit => {
+            let files = matches.get_strs("file").unwrap_or(&[]);
+            Invocation::Audit(Vec::from_slice(alloc, files)?)
+        }
         Subcommand::Serve => Invocation::Serve(serve_options(alloc, matches)?),
         Subcommand::Explain => {
             Invocation::Explain(text_of(alloc, matches.get_strs("text").unwrap_or(&[]))?)

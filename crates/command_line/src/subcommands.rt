@@ -23,10 +23,12 @@ struct Argument {
     // The greatest number that it takes; or it takes any text.
     most: Option<i64>,
     takes_hyphens: bool,
+    // The arguments that it isn't given with.
+    excludes: &'static [&'static str],
 }
 
 impl Argument {
-    fn arg<'a>(&self, alloc: Global) -> Arg<'a> {
+    fn arg<'a>(&self, alloc: Global) -> Result<Arg<'a>, AllocError> {
         let (least, most) = self.values;
         let arg = Arg::new(alloc, self.name)
             .value_name(self.value)
@@ -34,16 +36,17 @@ impl Argument {
             .required(self.required)
             .default_values(self.default)
             .num_args(least..=most)
-            .allow_hyphen_values(self.takes_hyphens);
+            .allow_hyphen_values(self.takes_hyphens)
+            .conflicts_with_all(self.excludes)?;
         let arg = if self.by_name {
             arg.long(self.name)
         } else {
             arg
         };
-        match self.most {
+        Ok(match self.most {
             Some(most) => arg.value_parser(ValueParser::signed(0, most)),
             None => arg,
-        }
+        })
     }
 }
 
@@ -57,6 +60,7 @@ const PARSE: &[Argument] = &[Argument {
     values: (1, 1),
     most: None,
     takes_hyphens: true,
+    excludes: &[],
 }];
 
 const SIM: &[Argument] = &[
@@ -70,6 +74,7 @@ const SIM: &[Argument] = &[
         values: (0, 0),
         most: None,
         takes_hyphens: false,
+        excludes: &[],
     },
     Argument {
         name: "check",
@@ -81,6 +86,7 @@ const SIM: &[Argument] = &[
         values: (0, 0),
         most: None,
         takes_hyphens: false,
+        excludes: &[],
     },
     Argument {
         name: "quiet",
@@ -92,6 +98,7 @@ const SIM: &[Argument] = &[
         values: (0, 0),
         most: None,
         takes_hyphens: false,
+        excludes: &[],
     },
 ];
 
@@ -106,17 +113,43 @@ const THREADS: &[Argument] = &[
         values: (1, 1),
         most: None,
         takes_hyphens: false,
+        excludes: &[],
+    },
+    Argument {
+        name: "record-parts",
+        by_name: true,
+        value: "folder",
+        help: "Keeps a part of each node in this folder, for `failreg audit`",
+        required: false,
+        default: &[],
+        values: (1, 1),
+        most: None,
+        takes_hyphens: false,
+        excludes: &["record"],
     },
     Argument {
         name: "force",
         by_name: true,
         value: "force",
-        help: "Lets --record write over a file that is there",
+        help: "Lets --record and --record-parts write over files that are there",
         required: false,
         default: &[],
         values: (0, 0),
         most: None,
         takes_hyphens: false,
+        excludes: &[],
+    },
+    Argument {
+        name: "quiet",
+        by_name: true,
+        value: "quiet",
+        help: "Says nothing of what goes wrong",
+        required: false,
+        default: &[],
+        values: (0, 0),
+        most: None,
+        takes_hyphens: false,
+        excludes: &[],
     },
 ];
 
@@ -124,12 +157,13 @@ const AUDIT: &[Argument] = &[Argument {
     name: "file",
     by_name: false,
     value: "file",
-    help: "A drill that `failreg threads --record` kept, or `-` for standard input",
+    help: "A drill that was kept, or each part of one, or `-` for standard input",
     required: true,
     default: &[],
-    values: (1, 1),
+    values: (1, usize::MAX),
     most: None,
     takes_hyphens: false,
+    excludes: &[],
 }];
 
 const SERVE: &[Argument] = &[
@@ -143,6 +177,7 @@ const SERVE: &[Argument] = &[
         values: (1, 1),
         most: Some(255),
         takes_hyphens: false,
+        excludes: &[],
     },
     Argument {
         name: "nodes",
@@ -154,6 +189,7 @@ const SERVE: &[Argument] = &[
         values: (1, 1),
         most: Some(255),
         takes_hyphens: false,
+        excludes: &[],
     },
     Argument {
         name: "port",
@@ -165,6 +201,7 @@ const SERVE: &[Argument] = &[
         values: (1, 1),
         most: Some(65535),
         takes_hyphens: false,
+        excludes: &[],
     },
     Argument {
         name: "cap",
@@ -176,6 +213,7 @@ const SERVE: &[Argument] = &[
         values: (1, 1),
         most: Some(4_294_967_295),
         takes_hyphens: false,
+        excludes: &[],
     },
     Argument {
         name: "no-cap",
@@ -187,6 +225,7 @@ const SERVE: &[Argument] = &[
         values: (0, 0),
         most: None,
         takes_hyphens: false,
+        excludes: &[],
     },
     Argument {
         name: "requests",
@@ -198,6 +237,7 @@ const SERVE: &[Argument] = &[
         values: (1, 1),
         most: Some(4_294_967_295),
         takes_hyphens: false,
+        excludes: &[],
     },
     Argument {
         name: "failpoints",
@@ -209,6 +249,7 @@ const SERVE: &[Argument] = &[
         values: (1, 1),
         most: None,
         takes_hyphens: false,
+        excludes: &[],
     },
     Argument {
         name: "rounds",
@@ -220,6 +261,7 @@ const SERVE: &[Argument] = &[
         values: (1, 1),
         most: Some(4_294_967_295),
         takes_hyphens: false,
+        excludes: &[],
     },
     Argument {
         name: "every",
@@ -231,6 +273,7 @@ const SERVE: &[Argument] = &[
         values: (1, 1),
         most: Some(4_294_967_295),
         takes_hyphens: false,
+        excludes: &[],
     },
     Argument {
         name: "peer",
@@ -242,6 +285,7 @@ const SERVE: &[Argument] = &[
         values: (0, usize::MAX),
         most: None,
         takes_hyphens: false,
+        excludes: &[],
     },
 ];
 
@@ -255,6 +299,7 @@ const EXPLAIN: &[Argument] = &[Argument {
     values: (0, usize::MAX),
     most: None,
     takes_hyphens: false,
+    excludes: &[],
 }];
 
 /// A subcommand of the program.
@@ -304,7 +349,7 @@ impl Subcommand {
                 "Runs the script on standard input, and prints what its lines answer",
             Subcommand::Threads =>
                 "Runs the script on standard input with workers in threads, and counts their calls",
-            Subcommand::Audit => "Audits a drill that `threads --record` kept",
+            Subcommand::Audit => "Audits a drill that `threads --record` kept, or parts of one",
             Subcommand::Serve => "Serves a node over HTTP on 127.0.0.1",
             Subcommand::Explain => "Says what codes of refusals mean, and what to do",
         }
@@ -349,7 +394,7 @@ fn with_arguments<'a>(
     arguments: &[Argument],
 ) -> Result<Command<'a>, AllocError> {
     for argument in arguments {
-        command = command.arg(argument.arg(alloc))?;
+        command = command.arg(argument.arg(alloc)?)?;
     }
     Ok(command)
 }

@@ -10,9 +10,9 @@ use Rattle.serde_json.specs.View.{items_of}
 use Rattle.stamp_register.specs.declared.key.Stamp.{Stamp}
 use Rattle.actions.specs.Value.{TaskValue, off, «return», sleep, panic, print, pause, yield, delay}
 use Rattle.node_calls.specs.Told.{AskTold, sets, removes, loads, passes, shifts, grants, emits, delivers, ReplyTold, was_set, was_removed, was_loaded, was_passed, was_shifted, was_granted, was_emitted, was_delivered, Told, Passed, Unset, NoTerm, Act}
-use Rattle.drills.specs.Lines.{LineTold, head, trace, entry, list, receipt, ReceiptTold, line_data}
+use Rattle.drills.specs.Lines.{LineTold, head, trace, entry, list, receipt, part_head, ReceiptTold, HeadTold, line_data}
 use Rattle.drills.specs.Rows.{count_data, bytes_data, text_data, row, task_data, ask_data, pass_data, reply_data}
-use Rattle.drills.specs.Reading.{up_to, bytes_in, text_or_null, words_from, decoded, stamp_in, task_in, ask_in, pass_in, reply_in, told_in, receipt_in, line_of}
+use Rattle.drills.specs.Reading.{up_to, bytes_in, text_or_null, words_from, decoded, stamp_in, task_in, ask_in, pass_in, reply_in, told_in, receipt_in, part_head_of, line_of}
 use Rattle.drills.specs.Fits.{StampFits, AskFits, ReplyFits, PassFits, WordsFit, ToldFits, LineFits}
 
 fits_up_to : (most n : ℕ) → n ≤ most → up_to most n ≡ Some n
@@ -96,6 +96,10 @@ receipt_back r h =
       reply_back r.entry.reply h.2.reply,
     ) refl
 
+part_head_back : (h : HeadTold) → LineFits (part_head h) → part_head_of (line_data (part_head h)) ≡ Some h
+part_head_back h fits =
+    rw (fits_up_to 255 h.node (omega (arith, fits.0)), fits_up_to 255 h.nodes (omega (arith, fits.1))) refl
+
 pub line_back : (line : LineTold) → LineFits line → line_of (line_data line) ≡ Some line
 line_back (head false) h = refl
 line_back (head true) h = refl
@@ -105,3 +109,4 @@ line_back (entry e) h = ap (option_map entry) (entry_back e h)
 line_back (list number None) h = refl
 line_back (list number (Some from)) h = refl
 line_back (receipt r) h = ap (option_map receipt) (receipt_back r h)
+line_back (part_head p) h = ap (option_map part_head) (part_head_back p h)

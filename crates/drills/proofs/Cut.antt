@@ -24,7 +24,7 @@ all_lines (line ∷ lines) h =
     ∙ one_line (line_text line) (flat_map ended lines) (All-head ReadsBack line lines h).one
     ∙ ap (λ ls. line_text line ∷ ls) (all_lines lines (All-tail ReadsBack line lines h))
 
-ends_at : (x : ℕ) (xs : List ℕ) → ends_with_byte 10 (x ∷ xs) ≡ (slice_index (x ∷ xs) (length xs) == 10)
+pub ends_at : (x : ℕ) (xs : List ℕ) → ends_with_byte 10 (x ∷ xs) ≡ (slice_index (x ∷ xs) (length xs) == 10)
 ends_at x xs =
     let some : nat_lt 0 (length (x ∷ xs)) ≡ true = lt-ltb _ _ (omega arith) in
     let last : length (x ∷ xs) - 1 ≡ length xs = omega arith in
@@ -42,7 +42,7 @@ strip_next x y ys =
     lift true x y ys = refl
     lift false x y ys = refl
 
-strip_through : (x y : ℕ) (ys : List ℕ) → strip_last 10 (x ∷ take_through 10 (y ∷ ys)) ≡ x ∷ first_piece 10 (y ∷ ys)
+pub strip_through : (x y : ℕ) (ys : List ℕ) → strip_last 10 (x ∷ take_through 10 (y ∷ ys)) ≡ x ∷ first_piece 10 (y ∷ ys)
 strip_through x y ys =
     cond_both (y == 10) (y ∷ []) (y ∷ take_through 10 ys) (λ l. strip_last 10 (x ∷ l) ≡ x ∷ strip_last 10 l)
     (λ _. strip_next x y []) (λ _. strip_next x y (take_through 10 ys))

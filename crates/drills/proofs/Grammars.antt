@@ -7,7 +7,7 @@ use Rattle.std.proofs.lemmas.List.{map-append}
 use Rattle.node_calls.specs.Told.{Told}
 use Rattle.drills.specs.declared.so_far.Place.{Place}
 use Rattle.drills.specs.declared.so_far.Place.TheVariants.{InList, InTrace, Nowhere}
-use Rattle.drills.specs.Lines.{LineTold, head, trace, entry, list, receipt, ReceiptTold}
+use Rattle.drills.specs.Lines.{LineTold, head, trace, entry, list, receipt, part_head, ReceiptTold}
 use Rattle.drills.specs.Reading.{line_in}
 use Rattle.drills.specs.Drills.{DrillTold, SoFarTold, after_entry, after_line, after_receipt, after_text, behind, drill_from, drill_in, drill_so_far, lines_in, or_line, started, takes_trace, ◌>>=◌}
 use Rattle.drills.specs.Grammar.{AreDrill, AreSomeDrill, IsDrill, IsFirstBad, Part, made, no_drill, of_list, of_trace, part_lines, with_part}
@@ -194,11 +194,13 @@ grown None (trace node from) next lines e x = absurd cc
 grown None (entry t) next lines e x = absurd cc
 grown None (list number from) next lines e x = absurd cc
 grown None (receipt r) next lines e x = absurd cc
+grown None (part_head h) next lines e x = absurd cc
 grown (Some s) (head pieces) next lines e x = absurd cc
 grown (Some s) (trace node from) next lines e x = trace_grown s node from next lines e x
 grown (Some s) (entry t) next lines e x = entry_grown s.pieces s.traces s.lists s.place t next lines e x
 grown (Some s) (list number from) next lines e x = list_grown s number from next lines e x
 grown (Some s) (receipt r) next lines e x = receipt_grown s.pieces s.traces s.lists s.place r next lines e x
+grown (Some s) (part_head h) next lines e x = absurd cc
 
 explained : (values : List LineTold) (o : Option SoFarTold) (before : List LineTold) (s : SoFarTold) →
     Explains o before → comes o values ≡ Some s → Explained s (before ++ values)

@@ -11,7 +11,7 @@ use Rattle.packed_trace.proofs.Stays.{taken_all, taken_one}
 use Rattle.drills.specs.declared.fault.DrillFault.{DrillFault}
 use Rattle.drills.specs.declared.fault.DrillFault.TheVariants.{WriteFailed}
 use Rattle.drills.specs.Drills.{ended, newline, numbered}
-use Rattle.drills.specs.Lines.{LineTold, entry, head}
+use Rattle.drills.specs.Lines.{LineTold, entry, head, HeadTold, part_head}
 use Rattle.drills.specs.Written.{ReadsBack, SaysLine}
 
 -- what was written so far is the text of these lines
@@ -112,3 +112,11 @@ whole start first mid last new text traces lists says written behind rest kept =
     behind refl in
     flushed start last new (head false ∷ (traces ++ lists)) (both start mid last (head false ∷ traces) lists
     (head false ∷ (traces ++ lists)) begun rest refl) kept
+
+-- a part is its head, and its entries
+pub whole_part : (start first mid new : Option (List ℕ)) (text : List ℕ) (h : HeadTold) (entries : List LineTold) →
+    SaysLine text (part_head h) → Appends start first (text ++ newline ∷ [])
+    → Holds first mid entries → Keeps mid new → Holds start new (part_head h ∷ entries)
+whole_part start first mid new text h entries says written behind kept =
+    flushed start mid new (part_head h ∷ entries) (both start first mid (part_head h ∷ []) entries
+    (part_head h ∷ entries) (one_line start first text (part_head h) says written) behind refl) kept

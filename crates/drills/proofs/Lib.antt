@@ -11,3 +11,6 @@ pub mod Growing
 pub mod Grammars
 pub mod Concatenated
 pub mod Whole
+pub mod EndedLines
+pub mod PartsRead
+pub mod Joins

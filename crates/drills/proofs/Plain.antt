@@ -8,7 +8,7 @@ use Rattle.serde_json.specs.View.{items_of}
 use Rattle.serde_json.specs.Written.{has_float, items_have_float}
 use Rattle.actions.specs.Value.{TaskValue, off, «return», sleep, panic, print, pause, yield, delay}
 use Rattle.node_calls.specs.Told.{AskTold, sets, removes, loads, passes, shifts, grants, emits, delivers, ReplyTold, was_set, was_removed, was_loaded, was_passed, was_shifted, was_granted, was_emitted, was_delivered, Told, Passed, Unset, NoTerm, Act}
-use Rattle.drills.specs.Lines.{LineTold, head, trace, entry, list, receipt, line_data}
+use Rattle.drills.specs.Lines.{LineTold, head, trace, entry, list, receipt, part_head, line_data}
 use Rattle.drills.specs.Rows.{count_data, text_data, row, words_data, task_data, ask_data, pass_data, reply_data}
 
 record IsPlain (deep : ℕ) (d : Data) : Type 0 where
@@ -120,3 +120,4 @@ line_plain (receipt r) =
     let reply = plain.reply in
     let words = plain.words in
     (plain.floatless, omega (arith, ask, reply, words))
+line_plain (part_head h) = (refl, omega arith)

@@ -8,7 +8,7 @@ use Rattle.drills.specs.declared.drill.Drill.{Drill}
 use Rattle.drills.specs.declared.so_far.Place.{Place}
 use Rattle.drills.specs.declared.so_far.Place.TheVariants.{InList, InTrace, Nowhere}
 use Rattle.drills.specs.declared.so_far.SoFar.{SoFar}
-use Rattle.drills.specs.Lines.{LineTold, head, trace, entry, list, receipt, ReceiptTold, receipt_told, line_text}
+use Rattle.drills.specs.Lines.{LineTold, head, trace, entry, list, receipt, part_head, ReceiptTold, receipt_told, line_text}
 use Rattle.drills.specs.Reading.{line_in}
 
 pub record DrillTold : Type 0 where
@@ -138,6 +138,7 @@ after_head s (trace node from) = after_trace s node from
 after_head s (entry e) = after_entry s e s.place
 after_head s (list number from) = after_list s number from
 after_head s (receipt r) = after_receipt s r s.place
+after_head s (part_head h) = None
 
 -- a drill has no part yet behind its first line, before which there is none
 abbrev pub at_start : LineTold → Option SoFarTold
@@ -146,6 +147,7 @@ at_start (trace node from) = None
 at_start (entry e) = None
 at_start (list number from) = None
 at_start (receipt r) = None
+at_start (part_head h) = None
 
 abbrev pub after_line : Option SoFarTold → LineTold → Option SoFarTold
 after_line None line = at_start line

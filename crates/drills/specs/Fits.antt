@@ -3,7 +3,7 @@ use Rattle.std.specs.Prelude.{ℕ, ◌<◌, ◌^◌, List, All, IfSome}
 use Rattle.hex.specs.Hex.{IsBytes}
 use Rattle.stamp_register.specs.declared.key.Stamp.{Stamp}
 use Rattle.node_calls.specs.Told.{AskTold, sets, removes, loads, passes, shifts, grants, emits, delivers, ReplyTold, was_set, was_removed, was_loaded, was_passed, was_shifted, was_granted, was_emitted, was_delivered, Told, Passed, Unset, NoTerm, Act}
-use Rattle.drills.specs.Lines.{LineTold, head, trace, entry, list, receipt}
+use Rattle.drills.specs.Lines.{LineTold, head, trace, entry, list, receipt, part_head}
 
 abbrev pub StampFits : Stamp → Type 0
 StampFits stamp = (stamp.clock < 2 ^ 64) × (stamp.node < 2 ^ 8)
@@ -47,3 +47,4 @@ LineFits (trace node from) = (node < 2 ^ 64) × IfSome from (λ told. told < 2 ^
 LineFits (entry e) = ToldFits e
 LineFits (list number from) = (number < 2 ^ 64) × IfSome from (λ told. told < 2 ^ 64)
 LineFits (receipt r) = (r.node < 2 ^ 8) × (r.index < 2 ^ 32) × ToldFits r.entry
+LineFits (part_head h) = (h.node < 2 ^ 8) × (h.nodes < 2 ^ 8) × (h.cap < 2 ^ 64)

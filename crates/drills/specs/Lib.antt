@@ -5,7 +5,11 @@ pub mod Reading
 pub mod Drills
 pub mod Grammar
 pub mod Pieces
+pub mod Parts
+pub mod Joined
+pub mod Places
 pub mod Laws
 pub mod Taken
+pub mod TakenEnded
 pub mod Written
 pub mod FaultText

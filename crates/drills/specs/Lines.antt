@@ -1,11 +1,12 @@
 -- The lines of a recorded drill.
-use Rattle.std.specs.Prelude.{ℕ, Bool, true, false, List, codes, Option, Some, None}
+use Rattle.std.specs.Prelude.{ℕ, Bool, true, false, List, codes, string_bytes, Option, Some, None}
 use Rattle.serde_json.specs.Data.{Data, string, object, Members, member, no_members, put}
 use Rattle.serde_json.specs.Written.{compact_text}
 use Rattle.node_calls.specs.declared.receipt.Receipt.{Receipt}
 use Rattle.node_calls.specs.Told.{Told, told}
 use Rattle.drills.specs.declared.line.Line.{Line}
 use Rattle.drills.specs.declared.line.Line.TheVariants as lines
+use Rattle.drills.specs.declared.part.PartHead.{PartHead}
 use Rattle.drills.specs.Rows.{count_data, words_data, ask_data, reply_data}
 
 -- what a receipt tells: its place, and its entry
@@ -17,14 +18,26 @@ pub record ReceiptTold : Type 0 where
 abbrev pub receipt_told : Receipt → ReceiptTold
 receipt_told r = record { node = r.node; index = r.index; entry = told r.entry }
 
+-- what the head of a part tells: its node, of how many, how many calls the node accepts in its life, and which run it is
+pub record HeadTold : Type 0 where
+  pub node : ℕ
+  pub nodes : ℕ
+  pub cap : ℕ
+  pub run : List ℕ
+
+abbrev pub head_told : PartHead → HeadTold
+head_told h = record { node = h.node; nodes = h.nodes; cap = h.cap; run = string_bytes h.run }
+
 -- the first line, and whether traces and lists may come in pieces; the trace of a node begins, or a piece of it that
--- says behind how many of its entries; its next entry; so a list begins, or a piece of it; or its next receipt
+-- says behind how many of its entries; its next entry; so a list begins, or a piece of it; or its next receipt. A part
+-- has another first line
 pub data LineTold : Type 0 where
   head : (pieces : Bool) → LineTold
   trace : (node : ℕ) → (from : Option ℕ) → LineTold
   entry : (told : Told) → LineTold
   list : (number : ℕ) → (from : Option ℕ) → LineTold
   receipt : (told : ReceiptTold) → LineTold
+  part_head : (told : HeadTold) → LineTold
 
 -- a line of the code, without where its texts lie in memory
 abbrev pub line_told : Line → LineTold
@@ -33,6 +46,7 @@ line_told (lines.Trace node from) = trace node from
 line_told (lines.Entry e) = entry (told e)
 line_told (lines.List number from) = list number from
 line_told (lines.Receipt r) = receipt (receipt_told r)
+line_told (lines.Part h) = part_head (head_told h)
 
 -- what an entry tells, put into an object
 abbrev pub with_told : Told → Members → Members
@@ -68,6 +82,13 @@ line_data (receipt r) =
     (member (codes "node") (count_data r.node)
     (member (codes "reply") (reply_data r.entry.reply)
     (member (codes "words") (words_data r.entry.words) no_members)))))
+line_data (part_head h) =
+    object (member (codes "cap") (count_data h.cap)
+    (member (codes "failreg") (string (codes "part"))
+    (member (codes "node") (count_data h.node)
+    (member (codes "nodes") (count_data h.nodes)
+    (member (codes "run") (string h.run)
+    (member (codes "version") (count_data 1) no_members))))))
 
 -- with no spaces, and without the newline that ends it
 abbrev pub line_text : LineTold → List ℕ

@@ -13,7 +13,7 @@ use Rattle.stamp_register.specs.declared.key.Stamp.{Stamp}
 use Rattle.actions.specs.Value.{TaskValue, off, «return», sleep, panic, print, pause, yield, delay}
 use Rattle.node_calls.specs.Told.{AskTold, sets, removes, loads, passes, shifts, grants, emits, delivers, ReplyTold, was_set, was_removed, was_loaded, was_passed, was_shifted, was_granted, was_emitted, was_delivered, Told, Passed, Unset, NoTerm, Act}
 use Rattle.streams.specs.Lines.{◌>>=◌, text_in}
-use Rattle.drills.specs.Lines.{LineTold, head, trace, entry, list, receipt, ReceiptTold}
+use Rattle.drills.specs.Lines.{LineTold, head, trace, entry, list, receipt, ReceiptTold, part_head, HeadTold}
 
 -- ---- values
 
@@ -243,14 +243,58 @@ piece_or_head (Some from) d = begin_in (Some from) d
 abbrev pub pair_in : Data → Option LineTold
 pair_in d = piece_or_head (number_member (codes "from") d) d
 
+-- this number
+abbrev pub is_number : ℕ → Option ℕ → Bool
+is_number n None = false
+is_number n (Some m) = m == n
+
+abbrev pub is_part : Data → Bool
+is_part d = is_word (codes "part") (text_member (codes "failreg") d) && is_number 1 (number_member (codes "version") d)
+
+abbrev pub head_members_in : Data → Option HeadTold
+head_members_in d = do
+  node ← get (codes "node") d >>= byte_in
+  nodes ← get (codes "nodes") d >>= byte_in
+  cap ← number_member (codes "cap") d
+  run ← text_member (codes "run") d
+  Some (record { node = node; nodes = nodes; cap = cap; run = run })
+
+abbrev pub part_head_of : Data → Option HeadTold
+part_head_of d = if is_part d then head_members_in d else None
+
 -- by how many members it has
 abbrev pub line_of : Data → Option LineTold
 line_of d =
     if members_in d == 5 then option_map receipt (receipt_in d) else
     (if members_in d == 3 then option_map entry (told_in d) else
     (if members_in d == 1 then begin_in None d else
-    (if members_in d == 2 then pair_in d else None)))
+    (if members_in d == 2 then pair_in d else
+    (if members_in d == 6 then option_map part_head (part_head_of d) else None))))
 
 -- the same of bytes, which have to be text
 abbrev pub line_in : List ℕ → Option LineTold
 line_in bytes = (text_in bytes >>= read) >>= line_of
+
+-- an entry's line alone
+abbrev pub entry_alone : LineTold → Option Told
+entry_alone (head pieces) = None
+entry_alone (trace node from) = None
+entry_alone (entry e) = Some e
+entry_alone (list n from) = None
+entry_alone (receipt r) = None
+entry_alone (part_head h) = None
+
+abbrev pub entry_in : List ℕ → Option Told
+entry_in bytes = line_in bytes >>= entry_alone
+
+-- and a part's first line
+abbrev pub head_alone : LineTold → Option HeadTold
+head_alone (head pieces) = None
+head_alone (trace node from) = None
+head_alone (entry e) = None
+head_alone (list n from) = None
+head_alone (receipt r) = None
+head_alone (part_head h) = Some h
+
+abbrev pub part_head_in : List ℕ → Option HeadTold
+part_head_in bytes = line_in bytes >>= head_alone

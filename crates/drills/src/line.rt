@@ -1,14 +1,17 @@
-//! The lines of a recorded drill, read.
+//! The lines of a recorded drill, and of a part, read.
 
 ghost use Rattle.std.specs.Prelude.{◌≡◌, option_map, IfOk};
 ghost use Rattle.std.specs.Vec.{vec_items};
 ghost use Rattle.serde_json.specs.View.{view};
 ghost use Rattle.node_calls.specs.Told.{ask_told, reply_told, told};
-ghost use Rattle.drills.specs.Lines.{line_told, receipt_told};
+ghost use Rattle.drills.specs.Lines.{head_told, line_told, receipt_told};
 ghost use Rattle.drills.specs.Reading.{ask_member, begin_in, head_in, line_in, line_of, members_in};
 ghost use Rattle.drills.specs.Reading.{number_member, pair_in, receipt_in, reply_member};
 ghost use Rattle.drills.specs.Reading.{text_member, told_in, told_of, version_in, words_member};
+ghost use Rattle.drills.specs.Reading.{entry_alone, entry_in, head_alone, head_members_in};
+ghost use Rattle.drills.specs.Reading.{is_part, part_head_in, part_head_of};
 
+use crate::part::PartHead;
 use crate::rows::{ask_in, byte_in, reply_in, word_in, words_in};
 use node_calls::{Ask, Entry, Receipt, Reply};
 use serde_json::Value;
@@ -28,6 +31,8 @@ pub enum Line {
     List { number: u64, from: Option<u64> },
     /// The next receipt of the list.
     Receipt(Receipt),
+    /// The first line of a part, which is no drill's.
+    Part(PartHead),
 }
 
 fn members_in(value: &Value) -> usize
@@ -162,6 +167,53 @@ fn pair_in(value: &Value) -> Option<Line>
     }
 }
 
+// Whether it is the first line of a part of the first version.
+fn is_part(value: &Value) -> bool
+    ensures { result ≡ is_part (view value.now) }
+{
+    let is_named = match text_member(value, "failreg") {
+        Some(name) => name == "part",
+        None => false,
+    };
+    is_named
+        && match number_member(value, "version") {
+            Some(version) => version == 1,
+            None => false,
+        }
+}
+
+fn head_members_in(alloc: Global, value: &Value) -> Result<Option<PartHead>, AllocError>
+    ensures { IfOk result (λ head.
+        option_map head_told head ≡ head_members_in (view value.now)) }
+{
+    let (Some(node), Some(nodes)) = (
+        value.get("node").and_then(byte_in),
+        value.get("nodes").and_then(byte_in),
+    ) else {
+        return Ok(None);
+    };
+    let (Some(cap), Some(run)) = (number_member(value, "cap"), text_member(value, "run")) else {
+        return Ok(None);
+    };
+    let run = String::from_str(alloc, run)?;
+    Ok(Some(PartHead {
+        node,
+        nodes,
+        cap,
+        run,
+    }))
+}
+
+fn part_head_of(alloc: Global, value: &Value) -> Result<Option<PartHead>, AllocError>
+    ensures { IfOk result (λ head. option_map head_told head ≡ part_head_of (view value.now)) }
+{
+    if is_part(value) {
+        head_members_in(alloc, value)
+    } else {
+        Ok(None)
+    }
+}
+
 fn line_of(alloc: Global, value: &Value) -> Result<Option<Line>, AllocError>
     ensures { IfOk result (λ line. option_map line_told line ≡ line_of (view value.now)) }
 {
@@ -170,6 +222,7 @@ fn line_of(alloc: Global, value: &Value) -> Result<Option<Line>, AllocError>
         3 => Ok(told_in(alloc, value)?.map(Line::Entry)),
         1 => Ok(begin_in(value, None)),
         2 => Ok(pair_in(value)),
+        6 => Ok(part_head_of(alloc, value)?.map(Line::Part)),
         _ => Ok(None),
     }
 }
@@ -185,5 +238,55 @@ pub(crate) fn line_in(alloc: Global, bytes: &[u8]) -> Result<Option<Line>, Alloc
         Ok(value) => line_of(alloc, &value),
         Err(error) if error.is_memory() => Err(AllocError),
         Err(_) => Ok(None),
+    }
+}
+
+// The entry of an entry's line.
+fn entry_alone(line: Line) -> Option<Entry>
+    ensures { option_map told result ≡ entry_alone (line_told line) }
+{
+    match line {
+        Line::Entry(entry) => Some(entry),
+        Line::Head { .. }
+        | Line::Trace { .. }
+        | Line::List { .. }
+        | Line::Receipt(_)
+        | Line::Part(_) => None,
+    }
+}
+
+/// The entry that the bytes of a line tell, without the newline that ends it, where the line is an
+/// entry's. The only error is out of memory.
+pub fn entry_in(alloc: Global, line: &[u8]) -> Result<Option<Entry>, AllocError>
+    ensures { IfOk result (λ entry. option_map told entry ≡ entry_in line.now) }
+{
+    match line_in(alloc, line)? {
+        Some(line) => Ok(entry_alone(line)),
+        None => Ok(None),
+    }
+}
+
+// The head of a part's first line.
+fn head_alone(line: Line) -> Option<PartHead>
+    ensures { option_map head_told result ≡ head_alone (line_told line) }
+{
+    match line {
+        Line::Part(head) => Some(head),
+        Line::Head { .. }
+        | Line::Trace { .. }
+        | Line::Entry(_)
+        | Line::List { .. }
+        | Line::Receipt(_) => None,
+    }
+}
+
+/// The head that the bytes of a line tell, without the newline that ends it, where the line is a part's
+/// first. Which of its nodes it is of isn't looked at. The only error is out of memory.
+pub fn part_head_in(alloc: Global, line: &[u8]) -> Result<Option<PartHead>, AllocError>
+    ensures { IfOk result (λ head. option_map head_told head ≡ part_head_in line.now) }
+{
+    match line_in(alloc, line)? {
+        Some(line) => Ok(head_alone(line)),
+        None => Ok(None),
     }
 }

@@ -1,4 +1,4 @@
-//! The lines of a recorded drill, written.
+//! The lines of a recorded drill, and of a part, written.
 
 ghost use Rattle.std.specs.Prelude.{◌≡◌, false, IfOk, None, OnOk, string_bytes};
 ghost use Rattle.serde_json.specs.Data.{put};
@@ -7,11 +7,12 @@ ghost use Rattle.packed_trace.specs.Packed.{seen_told};
 ghost use Rattle.drills.specs.Fits.{LineFits, ToldFits, WordsFit};
 ghost use Rattle.drills.specs.Lines.{entry as entry_line, head as head_line, line_data};
 ghost use Rattle.drills.specs.Lines.{list as list_line, receipt as receipt_line, receipt_told};
-ghost use Rattle.drills.specs.Lines.{trace as trace_line, with_told};
+ghost use Rattle.drills.specs.Lines.{trace as trace_line, with_told, head_told, part_head};
 ghost use Rattle.drills.specs.Rows.{words_data};
 ghost use Rattle.drills.specs.Written.{IsPrinted, SaysLine};
 
 use crate::json_rows::{ask_value, reply_value, words_value};
+use crate::part::PartHead;
 use node_calls::Receipt;
 use packed_trace::Seen;
 use serde_json::{Map, Value, json};
@@ -107,6 +108,29 @@ fn receipt_value(alloc: Global, receipt: &Receipt) -> Result<Value, AllocError>
     Ok(Value::Object(members))
 }
 
+fn part_head_value(alloc: Global, head: &PartHead) -> Result<Value, AllocError>
+    ensures value { IfOk result
+        (λ value. view value ≡ line_data (part_head (head_told head.now))) }
+    ensures fits { OnOk result (LineFits (part_head (head_told head.now))) }
+{
+    let PartHead {
+        node,
+        nodes,
+        cap,
+        run,
+    } = head;
+    let run = String::from_str(alloc, run)?;
+    let part = String::from_str(alloc, "part")?;
+    let mut members = Map::new(alloc);
+    put(alloc, &mut members, "cap", Value::from(*cap))?;
+    put(alloc, &mut members, "failreg", Value::String(part))?;
+    put(alloc, &mut members, "node", Value::from(*node))?;
+    put(alloc, &mut members, "nodes", Value::from(*nodes))?;
+    put(alloc, &mut members, "run", Value::String(run))?;
+    put(alloc, &mut members, "version", Value::from(1u64))?;
+    Ok(Value::Object(members))
+}
+
 fn printed(alloc: Global, value: &Value) -> Result<String, AllocError>
     ensures { IfOk result (λ text. IsPrinted (view value.now) (string_bytes text)) }
 {
@@ -130,8 +154,9 @@ pub(crate) fn trace_text(alloc: Global, node: u64) -> Result<String, AllocError>
     printed(alloc, &value)
 }
 
-/// The line of a call of a trace.
-pub(crate) fn call_text(alloc: Global, call: Seen<'_>) -> Result<String, AllocError>
+/// The line of a call of a trace, without the newline that ends it. It reads back as what the call
+/// tells. The only error is out of memory.
+pub fn entry_text(alloc: Global, call: Seen<'_>) -> Result<String, AllocError>
     ensures { IfOk result
         (λ text. SaysLine (string_bytes text) (entry_line (seen_told call.entry))) }
 {
@@ -153,5 +178,15 @@ pub(crate) fn receipt_text(alloc: Global, receipt: &Receipt) -> Result<String, A
         (λ text. SaysLine (string_bytes text) (receipt_line (receipt_told receipt.now))) }
 {
     let value = receipt_value(alloc, receipt)?;
+    printed(alloc, &value)
+}
+
+/// The first line of a part, without the newline that ends it. It reads back as the same head. The only
+/// error is out of memory.
+pub fn part_head_text(alloc: Global, head: &PartHead) -> Result<String, AllocError>
+    ensures { IfOk result
+        (λ text. SaysLine (string_bytes text) (part_head (head_told head.now))) }
+{
+    let value = part_head_value(alloc, head)?;
     printed(alloc, &value)
 }

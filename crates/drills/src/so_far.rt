@@ -126,9 +126,6 @@ fn push_entry(traces: &mut Vec<Trace>, node: u64, entry: Entry) -> Result<bool, 
     let Some(trace) = traces.get_mut(node as usize) else {
         return Ok(false);
     };
-    if trace.len() > u32::MAX as usize {
-        return Err(AllocError);
-    }
     trace.reserve_entry()?;
     trace.push_entry(entry);
     Ok(true)
@@ -213,7 +210,7 @@ fn put_line(alloc: Global, so_far: &mut SoFar, line: Line) -> Result<bool, Alloc
         (after_head (so_far_of so_far.old) (line_told line)) (so_far_of so_far.new)) }
 {
     match line {
-        Line::Head { .. } => Ok(false),
+        Line::Head { .. } | Line::Part(_) => Ok(false),
         Line::Trace { node, from } => put_trace(alloc, so_far, node, from),
         Line::Entry(entry) => put_entry(so_far, entry),
         Line::List { number, from } => put_list(alloc, so_far, number, from),
@@ -236,17 +233,17 @@ fn after_head(alloc: Global, mut so_far: SoFar, line: Line) -> Result<Option<SoF
 fn at_start(alloc: Global, line: Line) -> Option<SoFar>
     ensures { option_map so_far_of result ≡ at_start (line_told line) }
 {
-    match line {
-        Line::Head { pieces } => Some(SoFar {
-            pieces,
-            drill: Drill {
-                traces: Vec::new(alloc),
-                lists: Vec::new(alloc),
-            },
-            place: Place::Nowhere,
-        }),
-        Line::Trace { .. } | Line::Entry(_) | Line::List { .. } | Line::Receipt(_) => None,
-    }
+    let Line::Head { pieces } = line else {
+        return None;
+    };
+    Some(SoFar {
+        pieces,
+        drill: Drill {
+            traces: Vec::new(alloc),
+            lists: Vec::new(alloc),
+        },
+        place: Place::Nowhere,
+    })
 }
 
 /// The drill with a line more, or with its first one, where it can be read and stands in its place.

@@ -1,16 +1,20 @@
-//! A recorded drill to a writer.
+//! A recorded drill, and a part, to a writer.
 
 ghost use Rattle.std.specs.Prelude.{◌≡◌, ◌++◌, ◌∷◌, [], ◌↔◌, ◌⊎◌, true, false, map, string_bytes, IfErr, OnOk, Ok, Err};
 ghost use Rattle.streams.specs.Watched.{has_failed, has_unflushed};
 ghost use Rattle.streams.specs.Streams.{Writes};
 ghost use Rattle.drills.specs.declared.fault.DrillFault.TheVariants.{OutOfMemory, WriteFailed};
-ghost use Rattle.drills.specs.Lines.{receipt_told};
+ghost use Rattle.drills.specs.Lines.{entry as entry_line, head_told, receipt_told};
 ghost use Rattle.drills.specs.Drills.{drill_in, drill_text, drill_told, list_lines, lists_told};
 ghost use Rattle.drills.specs.Drills.{newline, numbered, trace_lines, traces_told};
+ghost use Rattle.drills.specs.Parts.{CanBeRead, part_in, part_text, whole_part};
 ghost use Rattle.drills.specs.Written.{WritesLines};
 
 use crate::fault::DrillFault;
-use crate::line_text::{call_text, head_text, list_text, receipt_text, trace_text};
+use crate::line_text::{
+    entry_text, head_text, list_text, part_head_text, receipt_text, trace_text,
+};
+use crate::part::PartHead;
 use node_calls::Receipt;
 use packed_trace::Trace;
 use std::alloc::Global;
@@ -32,7 +36,27 @@ fn write_line<W: Write>(writer: &mut Watched<W>, mut text: String) -> Result<(),
     }
 }
 
-// Writes a node's trace, each call where it lies.
+// Writes the calls of a trace, each where it lies.
+fn write_calls<W: Write>(
+    alloc: Global,
+    trace: &Trace,
+    writer: &mut Watched<W>,
+) -> Result<(), DrillFault>
+    requires { has_failed writer.old ≡ false }
+    ensures ok { OnOk result (WritesLines W.contents writer.old writer.new
+        (map entry_line trace.now.calls)) }
+    ensures write_failed { (result ≡ Err WriteFailed) ↔ (has_failed writer.new ≡ true) }
+    ensures only { IfErr result (λ fault. (fault ≡ WriteFailed) ⊎ (fault ≡ OutOfMemory)) }
+{
+    for index in 0..trace.len() {
+        if let Some(call) = trace.at(index) {
+            write_line(writer, entry_text(alloc, call)?)?;
+        }
+    }
+    Ok(())
+}
+
+// Writes a node's trace.
 fn write_trace<W: Write>(
     alloc: Global,
     node: u64,
@@ -46,12 +70,7 @@ fn write_trace<W: Write>(
     ensures only { IfErr result (λ fault. (fault ≡ WriteFailed) ⊎ (fault ≡ OutOfMemory)) }
 {
     write_line(writer, trace_text(alloc, node)?)?;
-    for index in 0..trace.len() {
-        if let Some(call) = trace.at(index) {
-            write_line(writer, call_text(alloc, call)?)?;
-        }
-    }
-    Ok(())
+    write_calls(alloc, trace, writer)
 }
 
 // Writes a list of receipts.
@@ -132,6 +151,35 @@ pub fn write_drill<W: Write>(
     write_line(writer, head_text(alloc)?)?;
     write_traces(alloc, traces, writer)?;
     write_lists(alloc, lists, writer)?;
+    match writer.flush() {
+        Ok(()) => Ok(()),
+        Err(_) => Err(DrillFault::WriteFailed),
+    }
+}
+
+/// Writes a part: its head, and each call of its trace. What is written reads back as the same, with no
+/// line cut, where the node is one of 1 to 32 and the calls are as many as its cap at most.
+///
+/// It is written line by line, and after a fault some of it may be written, which no clause tells.
+pub fn write_part<W: Write>(
+    alloc: Global,
+    head: &PartHead,
+    trace: &Trace,
+    writer: &mut Watched<W>,
+) -> Result<(), DrillFault>
+    requires { has_failed writer.old ≡ false }
+    ensures ok { OnOk result (Writes W.contents writer.old writer.new
+        (part_text (head_told head.now) trace.now.calls)) }
+    ensures reads_back { OnOk result (CanBeRead (head_told head.now) trace.now.calls
+        → part_in (part_text (head_told head.now) trace.now.calls)
+        ≡ Ok (whole_part (head_told head.now) trace.now.calls)) }
+    // All that was written is flushed.
+    ensures flushed { OnOk result (has_unflushed writer.new ≡ false) }
+    ensures write_failed { (result ≡ Err WriteFailed) ↔ (has_failed writer.new ≡ true) }
+    ensures only { IfErr result (λ fault. (fault ≡ WriteFailed) ⊎ (fault ≡ OutOfMemory)) }
+{
+    write_line(writer, part_head_text(alloc, head)?)?;
+    write_calls(alloc, trace, writer)?;
     match writer.flush() {
         Ok(()) => Ok(()),
         Err(_) => Err(DrillFault::WriteFailed),

@@ -1,4 +1,5 @@
 pub mod Statuses
 pub mod Recordings
+pub mod RefusedText
 pub mod ShortLines
 pub mod Explaining

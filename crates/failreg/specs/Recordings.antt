@@ -1,5 +1,5 @@
--- What of a recorded drill is written, and what an audit of one says.
-use Rattle.std.specs.Prelude.{◌≡◌, ◌≢◌, ℕ, Bool, List, length, min, is_ok, IfSome, Option, Result, Ok, Err}
+-- What of a recorded drill is written, and what an audit of one says, or of parts.
+use Rattle.std.specs.Prelude.{◌≡◌, ◌≢◌, ◌⊎◌, ◌==◌, ◌&&◌, ◌||◌, ◌++◌, ◌∷◌, ℕ, zero, suc, Bool, false, List, [], codes, decimal, if◌then◌else◌, length, min, is_ok, IfSome, Option, None, Result, Ok, Err}
 use Rattle.audit.specs.declared.auditing.AuditYes.{AuditYes}
 use Rattle.audit.specs.declared.fault.AuditFault.{AuditFault}
 use Rattle.audit.specs.declared.fault.AuditFault.TheVariants.{OutOfMemory}
@@ -8,23 +8,43 @@ use Rattle.audit.specs.Receipts.{Lists}
 use Rattle.audit.specs.Traces.{Traces}
 use Rattle.audit.specs.VerdictText.{verdict_text}
 use Rattle.drills.specs.Drills.{drill_in, drill_text, drill_told}
-use Rattle.thread_scripts.specs.Outputs.{IsOutputOf}
+use Rattle.drills.specs.Joined.{joined_of}
+use Rattle.drills.specs.Parts.{PartTold}
+use Rattle.thread_scripts.specs.Outputs.{IsJudged}
 use Rattle.thread_scripts.specs.Plays.{AreListsOf, AreTracesOf}
+use Rattle.thread_scripts.specs.Warnings.{warned_text}
 use Rattle.thread_plans.specs.Plans.{PlanValue}
 use Rattle.streams.specs.Streams.{Writes}
 use Rattle.streams.specs.declared.watched.Watched.{Watched}
 
--- A drill was written that reads back as the same, and what a plan prints that came to its traces and receipts.
-pub record IsRecorded {D O : Type 0} (plan : PlanValue) (kept : D → Option (List ℕ)) (old_kept new_kept : Watched D)
-    (contents : O → Option (List ℕ)) (old new : Watched O) : Type 0 where
+-- A drill was written that reads back as the same, and what a plan prints that came to its traces and receipts; and
+-- this is what the plan's script is warned of, of these.
+pub record IsRecorded {D O : Type 0} (script : List ℕ) (plan : PlanValue) (said : List ℕ) (kept : D → Option (List ℕ))
+    (old_kept new_kept : Watched D) (contents : O → Option (List ℕ)) (old new : Watched O) : Type 0 where
   pub traces : Traces
   pub lists : Lists
   pub text : List ℕ
+  pub explained : Bool
   pub legal : AreTracesOf plan traces
   pub given : AreListsOf plan lists
-  pub output : IsOutputOf plan traces lists text
+  pub judged : IsJudged plan traces lists text explained
+  pub warned : said ≡ warned_text script plan lists explained
   pub drill : Writes kept old_kept new_kept (drill_text (drill_told traces lists))
   pub reads_back : drill_in (drill_text (drill_told traces lists)) ≡ Ok (drill_told traces lists)
+  pub printed : Writes contents old new text
+
+-- What a plan prints was written that came to some traces and receipts; and this is what the plan's script is warned of,
+-- of these.
+pub record IsPlayed {O : Type 0} (script : List ℕ) (plan : PlanValue) (said : List ℕ) (contents : O → Option (List ℕ))
+    (old new : Watched O) : Type 0 where
+  pub traces : Traces
+  pub lists : Lists
+  pub text : List ℕ
+  pub explained : Bool
+  pub legal : AreTracesOf plan traces
+  pub given : AreListsOf plan lists
+  pub judged : IsJudged plan traces lists text explained
+  pub warned : said ≡ warned_text script plan lists explained
   pub printed : Writes contents old new text
 
 -- what an audit says of a drill was written, of the one that the bytes are where these are known; more than 255 traces
@@ -35,3 +55,40 @@ SaysVerdict bytes explained contents old new =
     × IfSome bytes (λ known. drill_in known ≡ Ok (drill_told traces lists))
     × IsAudited (min (length traces) 255) traces lists verdict × (verdict ≢ Err OutOfMemory)
     × (explained ≡ is_ok verdict) × Writes contents old new (verdict_text verdict)
+
+-- whether a part of this node was cut
+abbrev pub is_cut_at : ℕ → List PartTold → Bool
+is_cut_at node [] = false
+is_cut_at node (p ∷ parts) = (p.cut && (p.head.node == node)) || is_cut_at node parts
+
+abbrev pub cut_line : ℕ → List ℕ
+cut_line node = codes "cut node=" ++ decimal node ++ codes "\n"
+
+-- a line for each node below n whose part was cut
+abbrev pub cuts_below : ℕ → List PartTold → List ℕ
+cuts_below zero parts = []
+cuts_below (suc n) parts = cuts_below n parts ++ (if is_cut_at n parts then cut_line n else [])
+
+-- of how many nodes the first of them says that there are
+abbrev pub nodes_in : List PartTold → ℕ
+nodes_in [] = 0
+nodes_in (p ∷ parts) = p.head.nodes
+
+abbrev pub cuts_text : List PartTold → List ℕ
+cuts_text parts = cuts_below (nodes_in parts) parts
+
+-- what an audit says of the drill that parts join to was written, and behind it which of them were cut
+abbrev pub SaysOfParts : {O : Type 0} → List PartTold → Bool → (O → Option (List ℕ)) → Watched O → Watched O → Type 0
+SaysOfParts parts explained contents old new =
+    (traces : Traces) × (lists : Lists) × (verdict : Result AuditYes AuditFault)
+    × (joined_of parts ≡ Ok (drill_told traces lists))
+    × IsAudited (min (length traces) 255) traces lists verdict × (verdict ≢ Err OutOfMemory)
+    × (explained ≡ is_ok verdict) × Writes contents old new (verdict_text verdict ++ cuts_text parts)
+
+abbrev pub SaysOfSomeParts : {O : Type 0} → Bool → (O → Option (List ℕ)) → Watched O → Watched O → Type 0
+SaysOfSomeParts explained contents old new = (parts : List PartTold) × SaysOfParts parts explained contents old new
+
+-- of a file nothing is known: it is some drill, or a part
+abbrev pub SaysOfAFile : {O : Type 0} → Bool → (O → Option (List ℕ)) → Watched O → Watched O → Type 0
+SaysOfAFile explained contents old new =
+    SaysVerdict None explained contents old new ⊎ SaysOfSomeParts explained contents old new

@@ -1,7 +1,9 @@
 //! What a refusal met and what to do, in words, for its second line.
 
+use crate::audit_refused::AuditRefused;
 use actions::{ActionFault, Actions};
 use command_line::quoted;
+use drills::{DrillFault, JoinFault};
 use http_serve::ServeFault;
 use node_core::NodeFault;
 use node_service::ServiceFault;
@@ -89,6 +91,56 @@ pub fn advice_on_service(
             format!(in alloc; "port {port}: let the process open more descriptors (ulimit -n)")
         }
         Err(_) | Ok(_) => return String::new(alloc),
+    };
+    advice.unwrap_or(String::new(alloc))
+}
+
+// What is wrong with a file that should have a part.
+fn advice_on_part(alloc: Global, path: &str, fault: DrillFault) -> Result<String, AllocError> {
+    let shown = quoted(alloc, path)?;
+    match fault {
+        DrillFault::ReadFailed => format!(in alloc; "{shown} can't be read"),
+        DrillFault::BadLine { line } => format!(in alloc;
+            "{shown}: line {line} is none of a part: give the parts of one run, as they were written"
+        ),
+        DrillFault::WriteFailed | DrillFault::OutOfMemory => Ok(String::new(alloc)),
+    }
+}
+
+// Why parts in files join to no drill.
+fn advice_on_join(alloc: Global, paths: &[&str], fault: JoinFault) -> Result<String, AllocError> {
+    match fault {
+        JoinFault::OtherDrill { file } => {
+            let first = quoted(alloc, paths.first().copied().unwrap_or(""))?;
+            let place = file.saturating_sub(1) as usize;
+            let other = quoted(alloc, paths.get(place).copied().unwrap_or(""))?;
+            format!(in alloc;
+                "{other} has another run or another number of nodes than {first}: give parts of one run"
+            )
+        }
+        JoinFault::SamePart { node } => {
+            format!(in alloc; "two files have a part of node {node}: give one of each node")
+        }
+        JoinFault::NoPart { node } => {
+            format!(in alloc; "no file has the part of node {node}: give one of each node")
+        }
+        JoinFault::OutOfMemory => Ok(String::new(alloc)),
+    }
+}
+
+/// Which of the files were refused that should be audited, and what to give, if they were and have
+/// parts. Without memory for it there is none.
+pub fn advice_on_audit(
+    alloc: Global,
+    paths: &[&str],
+    audited: &Result<bool, AuditRefused>,
+) -> String {
+    let advice = match audited {
+        Err(AuditRefused::Part { file, fault }) => {
+            advice_on_part(alloc, paths.get(*file).copied().unwrap_or(""), *fault)
+        }
+        Err(AuditRefused::Join { fault }) => advice_on_join(alloc, paths, *fault),
+        Err(AuditRefused::Drill { .. }) | Ok(_) => return String::new(alloc),
     };
     advice.unwrap_or(String::new(alloc))
 }

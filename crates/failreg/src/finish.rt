@@ -5,8 +5,8 @@ ghost use Rattle.std.specs.Process.{exit_status};
 ghost use Rattle.clap.specs.Values.{kind_of};
 ghost use Rattle.failreg.specs.Statuses.{HasStatus, unread_status};
 
+use crate::audit_refused::AuditRefused;
 use actions::{ActionFault, Actions};
-use drills::DrillFault;
 use node_service::ServiceFault;
 use scripts::ScriptFault;
 use std::fmt::Display;
@@ -78,10 +78,10 @@ pub fn finish_checked<R: Eprint>(rt: &R, run: Result<bool, ScriptFault>) -> anyh
     }
 }
 
-/// After a drill was audited: ends as the audit says, or says why there was none.
+/// After files were audited: ends as the audit says, or says why there was none.
 pub fn finish_audit<R: Eprint>(
     rt: &R,
-    audited: Result<bool, DrillFault>,
+    audited: Result<bool, AuditRefused>,
     advice: &str,
 ) -> anyhow::Result<ExitCode>
     ensures done { IfOk result (λ code. exit_status code ≡ 0 ↔ (audited ≡ Ok true)) }

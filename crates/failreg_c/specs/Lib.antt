@@ -5,3 +5,4 @@ pub mod Calls
 pub mod Pauses
 pub mod Points
 pub mod Answered
+pub mod Parts

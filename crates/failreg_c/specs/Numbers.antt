@@ -55,6 +55,17 @@ already_open = 32
 abbrev pub no_point : ℕ
 no_point = 33
 
+-- the node answers the call of a line otherwise, or refuses it; it keeps no call of the number; bytes are no line of a
+-- call
+abbrev pub differs : ℕ
+differs = 23
+
+abbrev pub no_entry : ℕ
+no_entry = 34
+
+abbrev pub no_line : ℕ
+no_line = 35
+
 -- version 0.1.0: its numbers times 10000, 100 and 1
 abbrev pub library_version : ℕ
 library_version = 0 * 10000 + 1 * 100 + 0

@@ -12,6 +12,7 @@ mod parts;
 mod pauses;
 mod points;
 mod readers;
+mod recording;
 mod registry;
 mod version;
 

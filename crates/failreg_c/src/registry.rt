@@ -53,7 +53,7 @@ pub enum Said {
 }
 
 /// What a text that is not UTF-8 is answered.
-const NOT_TEXT: u32 = 30;
+pub(crate) const NOT_TEXT: u32 = 30;
 
 /// What a number is answered that no point has.
 const NO_POINT: u32 = 33;

@@ -12,6 +12,7 @@ mod fault;
 mod receipt;
 mod reply;
 mod reply_ref;
+mod same;
 mod trace;
 
 pub use ask::Ask;

@@ -39,3 +39,4 @@ pub mod UptoStates
 pub mod Changed
 pub mod KeptVersions
 pub mod VersionsInStep
+pub mod Repeated

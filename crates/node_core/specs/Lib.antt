@@ -7,6 +7,8 @@ pub mod Steps
 pub mod Outcomes
 pub mod Refusals
 pub mod Traces
+pub mod Resumed
+pub mod FaultText
 pub mod Lasts
 pub mod Room
 pub mod Holds

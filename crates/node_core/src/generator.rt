@@ -55,6 +55,13 @@ impl Generator {
         self.stream.get_word_pos()
     }
 
+    /// Goes over so many random draws, that were drawn before.
+    pub fn skip(&mut self, count: u64)
+        ensures { self.new ≡ record self.old { word_pos = (self.old.word_pos + count) % 2 ^ 68 } }
+    {
+        self.set_place(self.place() + count as u128);
+    }
+
     // Goes to a place.
     fn set_place(&mut self, place: u128)
         ensures { self.new ≡ record self.old { word_pos = place % 2 ^ 68 } }

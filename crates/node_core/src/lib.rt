@@ -8,6 +8,7 @@ mod generator;
 pub mod laws;
 mod list;
 mod node;
+mod resume_fault;
 mod setting;
 mod words;
 
@@ -18,6 +19,7 @@ pub use node_calls::{
     Ask, AskRef, Entry, NodeFault, PassReply, PassReplyRef, Receipt, Reply, ReplyRef, TextFault,
 };
 pub use packed_trace::{Seen, Trace};
+pub use resume_fault::ResumeFault;
 pub use words::WordSource;
 
 /// What holds a node's state.

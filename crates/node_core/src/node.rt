@@ -21,6 +21,7 @@ mod emit;
 mod grant;
 mod load;
 mod pass;
+mod repeat;
 mod set;
 mod shift;
 

@@ -120,6 +120,13 @@ N1 TraceFull
   Refused are: each call that takes memory
   Because: memory was refused
   What to do: make the call again
+|N23 Differs index=
+  Of a node
+  Refused are: making a node of recorded calls
+  Because: the node of the calls before refuses the call of this number, which
+    counts from 0, or answers it otherwise than is recorded
+  What to do: give the record of this very node, as it was written: a call that
+    was altered or left out can't be made good
 |NoNode
   Of a cluster
   Refused are: each call; in a script each question too
@@ -302,12 +309,29 @@ N1 TraceFull
   What to do: let the process have more memory
 |P5 BadLine line=
   Of a script or a drill
-  Because: a line of a script of `threads`, or of a drill, can't be read or
-    stands out of its place. Lines count from 1, skipped ones too; where the
-    seed is missing, it is the line behind the last
+  Because: a line of a script of `threads`, of a drill or of a part can't be
+    read or stands out of its place. Lines count from 1, skipped ones too;
+    where the seed is missing, it is the line behind the last
   What was written: nothing
   What to do: mend the line: `failreg threads --help` has each form; a drill
-    is audited as it was written
+    or a part is audited as it was written
+|P6 OtherDrill file=
+  Of a script or a drill
+  Because: a part has another run or another number of nodes than the first.
+    It is the first such file, counted from 1
+  What was written: nothing
+  What to do: give the parts of one run: standard error names the file
+|P7 SamePart node=
+  Of a script or a drill
+  Because: two files have a part of this node, the least such
+  What was written: nothing
+  What to do: give one part of each node
+|P8 NoPart node=
+  Of a script or a drill
+  Because: no file has a part of this node, the least such
+  What was written: nothing
+  What to do: give one part of each node: that of a node that did nothing is
+    its first line alone
 |X1 BadConfig
   Of an audit
   Because: the cluster hasn't 1 to 32 nodes, or there isn't a trace for each

@@ -6,6 +6,7 @@
 mod fault_texts;
 mod registry;
 mod replicas;
+mod resumed;
 mod texts;
 
 use std::alloc::{AllocError, Global};

@@ -4,3 +4,6 @@ pub mod Runs
 pub mod Spelled
 pub mod Planned
 pub mod Grammars
+pub mod Naming
+pub mod WorkerLines
+pub mod NamedFirst

@@ -10,8 +10,8 @@ use crate::stage::{Stage, after_text, whole_plan};
 use std::alloc::Global;
 use streams::{MOST_BYTES, ScriptFault};
 
-// Whether nothing stands behind the last newline.
-fn ends_line(script: &[u8]) -> bool
+/// Whether nothing stands behind the last newline.
+pub(crate) fn ends_line(script: &[u8]) -> bool
     ensures { result ≡ ends_line script.now }
 {
     script.is_empty() || script[script.len() - 1] == b'\n'

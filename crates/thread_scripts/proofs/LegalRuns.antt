@@ -5,7 +5,8 @@ use Rattle.node_calls.specs.Asks.{call_from}
 use Rattle.packed_trace.specs.Packed.{Packed}
 use Rattle.node_core.specs.Nodes.{start}
 use Rattle.node_core.proofs.LegalTraces.{nothing_legal}
-use Rattle.audit.specs.Traces.{Traces, IsLegalAlone, trace_of}
+use Rattle.audit.specs.Traces.{Traces, trace_of}
+use Rattle.node_core.specs.Resumed.{IsLegalAlone}
 use Rattle.audit.proofs.LegalCalls.{legal_short, legal_wider}
 use Rattle.audit.proofs.Replayed.{legal_begins}
 use Rattle.thread_plans.specs.Plans.{PlanValue}

@@ -6,3 +6,7 @@ pub mod Made
 pub mod NodeLists
 pub mod Seats
 pub mod StartLines
+pub mod Unfits
+pub mod UnfitCalls
+pub mod Shorts
+pub mod ShortStarts

@@ -4,3 +4,8 @@ pub mod Gossips
 pub mod Plays
 pub mod Laws
 pub mod Outputs
+pub mod Unfit
+pub mod Unfits
+pub mod Short
+pub mod ShortStarts
+pub mod Warnings

@@ -1,5 +1,5 @@
 -- What a script of threads prints.
-use Rattle.std.specs.Prelude.{◌≡◌, ◌≢◌, ℕ, List, length, ◌++◌, codes, decimal, vec_len, IfOk, Result, Ok, Err}
+use Rattle.std.specs.Prelude.{◌≡◌, ◌≢◌, ℕ, Bool, List, length, ◌++◌, codes, decimal, is_ok, vec_len, IfOk, Result, Ok, Err}
 use Rattle.std.specs.List.{sum_by}
 use Rattle.audit.specs.declared.auditing.AuditYes.{AuditYes}
 use Rattle.audit.specs.declared.fault.AuditFault.{AuditFault}
@@ -12,6 +12,7 @@ use Rattle.audit.specs.VerdictText.{verdict_text}
 use Rattle.streams.specs.Fields.{output_line}
 use Rattle.thread_plans.specs.Plans.{PlanValue, plan_in}
 use Rattle.thread_scripts.specs.Plays.{AreListsOf, AreTracesOf}
+use Rattle.thread_scripts.specs.Warnings.{warned_text}
 
 -- how many blocks there were, how many calls were accepted, and what an audit said
 abbrev pub output_text : ℕ → ℕ → Result AuditYes AuditFault → List ℕ
@@ -53,3 +54,20 @@ ComesTo script text = (plan : PlanValue) × (plan_in script ≡ Ok plan) × IsOu
 abbrev pub PlaysTo : List ℕ → (List ℕ → Type 0) → Type 0
 PlaysTo script written =
     (plan : PlanValue) × (text : List ℕ) × (plan_in script ≡ Ok plan) × IsOutput plan text × written text
+
+-- the same, with whether the verdict is a yes
+abbrev pub IsJudged : PlanValue → Traces → Lists → List ℕ → Bool → Type 0
+IsJudged plan traces lists text explained =
+    (o : IsOutputOf plan traces lists text) × (explained ≡ is_ok o.verdict)
+
+-- a script has a plan, whose run came to this text, and is warned of this
+abbrev pub ComesToSaying : List ℕ → List ℕ → List ℕ → Type 0
+ComesToSaying script text said =
+    (plan : PlanValue) × (traces : Traces) × (lists : Lists) × (explained : Bool) × (plan_in script ≡ Ok plan)
+    × AreTracesOf plan traces × AreListsOf plan lists × IsJudged plan traces lists text explained
+    × (said ≡ warned_text script plan lists explained)
+
+-- a script has a plan, and this is so of what it prints, and this of what it is warned of
+abbrev pub PlaysSaying : List ℕ → (List ℕ → Type 0) → (List ℕ → Type 0) → Type 0
+PlaysSaying script written warned =
+    (text : List ℕ) × (said : List ℕ) × ComesToSaying script text said × written text × warned said

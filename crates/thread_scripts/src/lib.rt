@@ -10,9 +10,14 @@ mod nodes;
 mod output;
 mod played;
 mod run;
+mod short;
+mod short_starts;
 mod starts;
+mod unfit;
+mod warnings;
 
-pub use output::output_of;
+pub use output::{judged_output_of, output_of};
 pub use played::{Played, play};
-pub use run::run_threads;
+pub use run::{run_threads, run_threads_warning};
 pub use thread_plans::{Block, CallLine, Size, Start, StartLine, ThreadPlan, read_plan};
+pub use warnings::{read_plan_saying, warnings_of};

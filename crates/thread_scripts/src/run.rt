@@ -1,17 +1,19 @@
 //! A script of threads from a reader, and what it prints to a writer.
 
 ghost use Rattle.std.specs.Prelude.{◌≡◌, ◌≢◌, ℕ, ◌+◌, ◌<◌, ◌≤◌, ◌↔◌, ◌⊎◌, true, false, length};
-ghost use Rattle.std.specs.Prelude.{IfErr, IfOk, OnOk, string_bytes};
+ghost use Rattle.std.specs.Prelude.{IfErr, IfOk, OnErr, OnOk, string_bytes};
 ghost use Rattle.streams.specs.declared.fault.ScriptFault.TheVariants.{BadLine, OutOfMemory};
 ghost use Rattle.streams.specs.declared.fault.ScriptFault.TheVariants.{ReadFailed, TooLong};
 ghost use Rattle.streams.specs.declared.fault.ScriptFault.TheVariants.{WriteFailed};
 ghost use Rattle.streams.specs.Watched.{has_failed, has_unflushed};
 ghost use Rattle.streams.specs.Streams.{IfInput, ReadsUpTo, Writes, WritesPrefix};
-ghost use Rattle.thread_scripts.specs.Outputs.{ComesTo, PlaysTo};
+ghost use Rattle.thread_scripts.specs.Outputs.{ComesTo, ComesToSaying, PlaysSaying, PlaysTo};
+ghost use Rattle.thread_plans.specs.BadLines.{bad_text};
 ghost use Rattle.thread_plans.specs.Plans.{plan_in};
 
-use crate::output::output_of;
+use crate::output::{judged_output_of, output_of};
 use crate::played::play;
+use crate::warnings::{read_plan_saying, warnings_of};
 use std::alloc::Global;
 use std::io::{Read, Write};
 use std::sync::Wait;
@@ -78,4 +80,90 @@ pub fn run_threads<R: Threads + Wait + Sync, I: Read, O: Write>(
     let script = read_script(alloc, reader)?;
     let text = played_text(rt, alloc, script.as_slice())?;
     write_text(writer, text.as_bytes())
+}
+
+// What a script comes to, and what it is warned of. Where it has no plan, what is said becomes what was
+// wanted of its bad lines.
+fn played_texts<R: Threads + Wait + Sync>(
+    rt: &R,
+    alloc: Global,
+    script: &[u8],
+    said: &mut Vec<u8>,
+) -> Result<(String, Vec<u8>), ScriptFault>
+    requires { length script.now ≤ MOST_BYTES }
+    ensures ok { IfOk result (λ both.
+        ComesToSaying script.now (string_bytes both.0) both.1.items) }
+    ensures bad { (line : ℕ) → result ≡ Err (BadLine line) → plan_in script.now ≡ Err line }
+    ensures bad_said { (line : ℕ) → result ≡ Err (BadLine line) →
+        said.new.items ≡ bad_text script.now }
+    ensures unsaid { IfErr result (λ fault.
+        ((line : ℕ) → fault ≢ BadLine line) → said.new ≡ said.old) }
+    ensures kept { OnOk result (said.new ≡ said.old) }
+    ensures only { IfErr result (λ fault.
+        (fault ≡ OutOfMemory) ⊎ ((line : ℕ) × (fault ≡ BadLine line))) }
+{
+    let plan = read_plan_saying(alloc, script, said)?;
+    let played = play(rt, alloc, &plan)?;
+    let (text, yes) = judged_output_of(alloc, &plan, &played)?;
+    let warned = warnings_of(alloc, script, &plan, &played, yes)?;
+    Ok((text, warned))
+}
+
+// Writes what a script comes to, and then sets what is said.
+fn write_warned<O: Write>(
+    writer: &mut Watched<O>,
+    text: &[u8],
+    warned: Vec<u8>,
+    said: &mut Vec<u8>,
+) -> Result<(), ScriptFault>
+    requires { has_failed writer.old ≡ false }
+    ensures printed { OnOk result (Writes O.contents writer.old writer.new text.now) }
+    ensures flushed { OnOk result (has_unflushed writer.new ≡ false) }
+    ensures said { OnOk result (said.new.items ≡ warned.items) }
+    ensures unsaid { OnErr result (said.new ≡ said.old) }
+    ensures only { IfErr result (λ fault. fault ≡ WriteFailed) }
+    ensures failed { (result ≡ Err WriteFailed) ↔ (has_failed writer.new ≡ true) }
+{
+    write_text(writer, text)?;
+    *said = warned;
+    Ok(())
+}
+
+/// Runs the script of threads that a reader gives as `run_threads` does, and sets what is said to what
+/// it is warned of; or, where it is refused for a bad line, to what was wanted of its bad lines. After
+/// any other fault what is said is as it was.
+pub fn run_threads_warning<R: Threads + Wait + Sync, I: Read, O: Write>(
+    rt: &R,
+    alloc: Global,
+    reader: &mut Watched<I>,
+    writer: &mut Watched<O>,
+    said: &mut Vec<u8>,
+) -> Result<(), ScriptFault>
+    requires reader { has_failed reader.old ≡ false }
+    requires writer { has_failed writer.old ≡ false }
+
+    // The script has a plan, its whole output is written, of some traces and receipts, and what is
+    // said is what it is warned of, of just these.
+    ensures ok { OnOk result (IfInput I.remaining reader.old (λ input. PlaysSaying input
+        (Writes O.contents writer.old writer.new) (λ warned. said.new.items ≡ warned))) }
+    ensures flushed { OnOk result (has_unflushed writer.new ≡ false) }
+    ensures unwritten { IfErr result (λ fault. fault ≢ WriteFailed → writer.new ≡ writer.old) }
+
+    // The line is the first that is bad.
+    ensures bad_line { (line : ℕ) → result ≡ Err (BadLine line) →
+        IfInput I.remaining reader.old (λ input. plan_in input ≡ Err line) }
+    ensures bad_said { (line : ℕ) → result ≡ Err (BadLine line) →
+        IfInput I.remaining reader.old (λ input. said.new.items ≡ bad_text input) }
+    ensures unsaid { IfErr result (λ fault.
+        ((line : ℕ) → fault ≢ BadLine line) → said.new ≡ said.old) }
+    ensures read_failed { (result ≡ Err ReadFailed) ↔ (has_failed reader.new ≡ true) }
+    ensures write_failed { (result ≡ Err WriteFailed) ↔ (has_failed writer.new ≡ true) }
+    ensures long { IfInput I.remaining reader.old (λ input. MOST_BYTES < length input →
+        (result ≡ Err TooLong) ⊎ (has_failed reader.new ≡ true) ⊎ (result ≡ Err OutOfMemory)) }
+    ensures too_long { result ≡ Err TooLong →
+        IfInput I.remaining reader.old (λ input. MOST_BYTES < length input) }
+{
+    let script = read_script(alloc, reader)?;
+    let (text, warned) = played_texts(rt, alloc, script.as_slice(), said)?;
+    write_warned(writer, text.as_bytes(), warned, said)
 }

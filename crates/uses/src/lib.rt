@@ -37,7 +37,7 @@ pub use crate::http_serve_caller::node_served;
 pub use crate::http_wire_caller::send_twice;
 pub use crate::lattice_laws_caller::learn;
 pub use crate::message_format_caller::written_again;
-pub use crate::node_core_caller::pass_and_count;
+pub use crate::node_core_caller::{again, pass_and_count};
 pub use crate::node_registry_caller::asked;
 pub use crate::node_service_caller::lone_node_served;
 pub use crate::replica_state_caller::{hits_under, spend};

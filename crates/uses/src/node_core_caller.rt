@@ -1,8 +1,8 @@
 //! A caller of `node_core`.
 
-ghost use Rattle.std.specs.Prelude.{◌≡◌, ◌+◌, length, OnOk, OnErr};
+ghost use Rattle.std.specs.Prelude.{◌≡◌, ◌+◌, length, IfOk, OnOk, OnErr};
 
-use node_core::{NodeCore, NodeFault, PassReply};
+use node_core::{NodeCore, NodeFault, PassReply, ResumeFault};
 use std::alloc::Global;
 
 /// Passes a point whose terms take no random draws. An accepted pass is one more entry of the
@@ -16,4 +16,12 @@ pub fn pass_and_count(
     ensures err { OnErr result (node.new ≡ node.old) }
 {
     node.pass_with(alloc, name, &[])
+}
+
+/// The same node again, from its calls, all of which it keeps.
+pub fn again(alloc: Global, node: &NodeCore) -> Result<NodeCore, ResumeFault>
+    requires { node.now.from ≡ 0 }
+    ensures { IfOk result (λ n. n ≡ node.now) }
+{
+    NodeCore::resume(alloc, node.config(), node.trace())
 }

@@ -1,4 +1,4 @@
-use Rattle.std.proofs.Common.{ℕ, ◌+◌, ◌≤◌, All, List, arith, subst, sym}
+use Rattle.std.proofs.Common.{◌+◌, ◌≤◌, All, List, arith, subst, sym}
 use Rattle.node_calls.specs.declared.receipt.Receipt.{Receipt}
 use Rattle.audit.specs.Receipts.{HasPlace, IsReceiptOf, given_count, times_seen}
 use Rattle.audit.proofs.Seen.{given_more, place_there}

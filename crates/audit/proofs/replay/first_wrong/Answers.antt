@@ -1,17 +1,18 @@
-use Rattle.std.proofs.Common.{◌≡◌, List, map, sym, ◌∙◌, ap, subst, arith}
+use Rattle.std.proofs.Common.{◌≡◌, List, true, false, map, sym, ◌∙◌, ap, subst, arith}
 use Rattle.std.specs.Prelude.{option_map}
-use Rattle.std.specs.Bool.{OnTrue, OnFalse}
+use Rattle.std.specs.Bool.{OnTrue}
 use Rattle.std.proofs.lemmas.Option.{slice_get_within}
 use Rattle.node_calls.specs.Told.{Told}
 use Rattle.node_calls.specs.Asks.{call_from}
 use Rattle.node_core.proofs.LegalTraces.{nothing_legal}
 use Rattle.node_core.specs.Nodes.{start}
 use Rattle.packed_trace.specs.Packed.{seen_told}
-use Rattle.audit.specs.Replays.{IsLegalKept}
+use Rattle.node_core.specs.Resumed.{IsLegalKept}
 use Rattle.node_core.specs.Traces.{with_call}
 use Rattle.audit.specs.Tallies.{Notes}
-use Rattle.audit.proofs.Replayed.{first_wrong_at, index_small, replayed_more, whole_legal}
-use Rattle.audit.proofs.NotedAll.{notes_none, entry_noted, calls_taken, take_past}
+use Rattle.audit.proofs.Replayed.{index_small}
+use Rattle.node_core.proofs.Repeated.{first_wrong_at, legal_next, next_parts, replayed_more, take_past, whole_legal}
+use Rattle.audit.proofs.NotedAll.{notes_none, entry_noted, calls_taken}
 use Rattle.audit.proofs.replay.first_wrong.Goals as goal
 
 pub loop-seen-init : goal.loop-seen-init
@@ -33,18 +34,19 @@ returns-then-not-branch-clause-wrong c =
     let is = sym c.at.ensures ∙ ap (option_map seen_told) c.in-Some.is in
     first_wrong_at c.args.config c.args.trace.now.calls c.loop-seen.index (seen_told c.in-Some.seen) c.loop-seen.core
     c.loop-seen.invariant.core is c.loop-seen.invariant.legal
-    (subst (λ b. OnFalse b (IsLegalKept (with_call c.loop-seen.core
-    (call_from c.loop-seen.core.config.nodes (seen_told c.in-Some.seen))) → ⊥)) c.if-not-branch.true
-    c.in_ok-gives.ensures.wrong)
+    (λ legal. let next = next_parts c.loop-seen.core
+    (call_from c.loop-seen.core.config.nodes (seen_told c.in-Some.seen)) legal in
+    let clash : true ≡ false = sym (c.in_ok-repeat.ensures.given.1 next) ∙ c.if-not-branch.true in
+    cc)
 
 pub loop-seen-preserved : goal.loop-seen-preserved
 loop-seen-preserved c =
     let is = sym c.at.ensures ∙ ap (option_map seen_told) c.in-Some.is in
-    let made = subst (λ b. OnTrue b (c.gives.new.core ≡ with_call c.loop-seen.core
-    (call_from c.loop-seen.core.config.nodes (seen_told c.in-Some.seen)))) c.if-not-branch.false
-    c.in_ok-gives.ensures.made in
-    let legal = subst (λ b. OnTrue b (IsLegalKept c.gives.new.core)) c.if-not-branch.false
-    c.in_ok-gives.ensures.legal in
+    let call = call_from c.loop-seen.core.config.nodes (seen_told c.in-Some.seen) in
+    let made = subst (λ b. OnTrue b (c.repeat.new.self ≡ with_call c.loop-seen.core call)) c.if-not-branch.false
+    c.in_ok-repeat.ensures.made in
+    let next = c.in_ok-repeat.ensures.given.0 c.if-not-branch.false in
+    let legal = subst IsLegalKept (sym made) (legal_next c.loop-seen.core call c.loop-seen.invariant.legal next) in
     record {
       legal = legal;
       noted = entry_noted c.args.tally.now c.loop-seen.tally c.note.new.self c.args.config c.args.trace.now.calls
@@ -52,8 +54,21 @@ loop-seen-preserved c =
           c.loop-seen.invariant.noted
           (c.in_ok-note.ensures c.loop-seen.core (record { made = made; legal = legal }));
       core = replayed_more c.args.config c.args.trace.now.calls c.loop-seen.index (seen_told c.in-Some.seen)
-          c.loop-seen.core c.gives.new.core c.loop-seen.invariant.core is made;
+          c.loop-seen.core c.repeat.new.self c.loop-seen.invariant.core is made;
     }
+
+pub note-requires-clause-after : goal.note-requires-clause-after
+note-requires-clause-after c =
+    let call = call_from c.loop-seen.core.config.nodes (seen_told c.in-Some.seen) in
+    let made = subst (λ b. OnTrue b (c.repeat.new.self ≡ with_call c.loop-seen.core call)) c.if-not-branch.false
+    c.in_ok-repeat.ensures.made in
+    let next = c.in_ok-repeat.ensures.given.0 c.if-not-branch.false in (
+      c.loop-seen.core,
+      record {
+        made = made;
+        legal = subst IsLegalKept (sym made) (legal_next c.loop-seen.core call c.loop-seen.invariant.legal next);
+      },
+    )
 
 pub note-requires-clause-granted : goal.note-requires-clause-granted
 note-requires-clause-granted c = λ stamp term.

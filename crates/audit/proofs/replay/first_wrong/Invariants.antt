@@ -2,8 +2,8 @@ use Rattle.std.proofs.Common.{◌≡◌, ◌-◌, length, map, take}
 use Rattle.node_calls.specs.Asks.{call_from}
 use Rattle.node_core.specs.Nodes.{start}
 use Rattle.audit.specs.Tallies.{Notes}
-use Rattle.audit.specs.Replays.{IsLegalKept}
-use Rattle.audit.proofs.Replayed.{alone}
+use Rattle.node_core.specs.Resumed.{IsLegalKept}
+use Rattle.node_core.proofs.Repeated.{alone}
 use Rattle.audit.proofs.replay.first_wrong.Given as goal
 
 abbrev pub invariant-loop-seen : goal.invariant-loop-seen

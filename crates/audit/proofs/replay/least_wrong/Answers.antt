@@ -1,13 +1,13 @@
 use Rattle.std.proofs.Common.{◌≡◌, ◌<◌, ◌≤◌, List, length, map, sym, subst, arith, below_more, IfSome, IfNone}
 use Rattle.node_calls.specs.Told.{Told}
 use Rattle.cluster_model.specs.Worlds.{config_of}
-use Rattle.audit.specs.Traces.{audited, IsLegalAlone, IsFirstWrong}
+use Rattle.audit.specs.Traces.{audited, trace_of}
+use Rattle.node_core.specs.Resumed.{IsLegalAlone, IsFirstWrong}
 use Rattle.audit.proofs.Runs.{trace_read}
 use Rattle.audit.proofs.Replayed.{legal_everywhere}
 use Rattle.message_format.specs.Limits.{max_nodes}
 use Rattle.node_calls.specs.Asks.{call_from}
 use Rattle.node_core.specs.Nodes.{start}
-use Rattle.audit.specs.Traces.{trace_of}
 use Rattle.audit.specs.Tallies.{Notes, IsTallied}
 use Rattle.audit.proofs.NotedAll.{node_tallied, one_short}
 use Rattle.audit.proofs.replay.least_wrong.Goals as goal

@@ -1,6 +1,7 @@
 use Rattle.std.proofs.Common.{◌<◌, ℕ}
 use Rattle.cluster_model.specs.Worlds.{config_of}
-use Rattle.audit.specs.Traces.{trace_of, audited, IsLegalAlone}
+use Rattle.audit.specs.Traces.{trace_of, audited}
+use Rattle.node_core.specs.Resumed.{IsLegalAlone}
 use Rattle.audit.specs.Tallies.{IsTallied}
 use Rattle.audit.proofs.replay.least_wrong.Given as goal
 

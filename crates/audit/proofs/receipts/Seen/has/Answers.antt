@@ -1,4 +1,4 @@
-use Rattle.std.proofs.Common.{◌≡◌, ℕ, false, cond, get_or, slice_get, Some, None, ◌∙◌, sym, ap, arith, refl}
+use Rattle.std.proofs.Common.{ℕ, false, cond, get_or, ◌∙◌, sym, ap, arith, refl}
 use Rattle.std.proofs.lemmas.Option.{slice_get_past, slice_get_read}
 use Rattle.audit.specs.Receipts.{marks_in, times_seen}
 use Rattle.audit.proofs.receipts.Seen.has.Goals as goal

@@ -1,7 +1,7 @@
 use Rattle.std.proofs.Common.{◌≡◌, ℕ, List, ◌∷◌, ◌++◌, [], length, cond, Some, None, ◌∙◌, ap, sym, rules}
 use Rattle.std.specs.Prelude.{bytes_eq}
 use Rattle.failreg_c.specs.Points.{number_in}
-use Rattle.failreg_c.proofs.NumberedPoints.{AreNumbered, got_last, numbered_more, same_name}
+use Rattle.failreg_c.proofs.NumberedPoints.{got_last, numbered_more, same_name}
 use Rattle.failreg_c.proofs.points.Points.number.Goals as goal
 
 is_next : (c : goal.After-push_reserved) → c.in-Ok.number ≡ length c.self.inside.names.items
