@@ -11,8 +11,11 @@ fn program() -> Command {
     Command::new(std::env::var_os("FAILREG_PROGRAM").expect("FAILREG_PROGRAM is a path"))
 }
 
+/// The path of a file that isn't there.
 fn file(name: &str) -> PathBuf {
-    Path::new(env!("CARGO_TARGET_TMPDIR")).join(name)
+    let path = Path::new(env!("CARGO_TARGET_TMPDIR")).join(name);
+    _ = std::fs::remove_file(&path);
+    path
 }
 
 // What an audit of this drill prints.

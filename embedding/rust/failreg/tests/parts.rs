@@ -270,6 +270,38 @@ fn a_line_that_the_node_did_not_write_is_refused_by_its_number() {
 }
 
 #[test]
+fn a_part_with_an_altered_byte_is_refused_or_taken_as_it_is() {
+    let path = new_file("any_byte");
+    let node = open(&path);
+    node.set("p", "2*return(a)->50%off").unwrap();
+    (0..4).for_each(|_| _ = passed(&node));
+    node.emit(0).unwrap();
+    drop(node);
+    let part = fs::read(&path).unwrap();
+    let head = part.iter().position(|b| *b == b'\n').unwrap() + 1;
+    let mut cut = 0;
+    for at in 0..part.len() {
+        let mut altered = part.clone();
+        altered[at] ^= 1;
+        fs::write(&path, &altered).unwrap();
+        let opened = builder().recording(&path).build();
+        let opened = opened.map(drop).map_err(|error| error.kind());
+        let kept = match opened {
+            Ok(()) => altered.iter().rposition(|b| *b == b'\n').unwrap() + 1,
+            Err(kind) => {
+                assert_eq!(kind, ErrorKind::BadPart, "byte {at}");
+                altered.len()
+            }
+        };
+        assert!(opened.is_err() || at >= head, "byte {at}");
+        assert!(fs::read(&path).unwrap() == altered[..kept], "byte {at}");
+        cut += u32::from(kept < altered.len());
+    }
+    // The last line alone may lose its end.
+    assert_eq!(cut, 1);
+}
+
+#[test]
 fn what_is_no_file_is_refused() {
     let folder = Path::new(env!("CARGO_TARGET_TMPDIR"));
     for path in [folder, Path::new("/nowhere/at/all"), Path::new("/dev/null")] {
