@@ -69,15 +69,16 @@ impl Kept {
 
     /// Whether calls are still made: until one couldn't be kept.
     pub fn goes_on(&self) -> Result<(), Error> {
+        match &self.place {
+            Place::Nowhere | Place::Here(_) => {}
+            Place::There(recorder, _) => recorder.goes_on()?,
+            Place::Part(part) => part.goes_on()?,
+        }
         if self.has_failed {
             let fault = "a call could not be recorded before";
             return Err(Error::new(ErrorKind::RecordingFailed, fault));
         }
-        match &self.place {
-            Place::Nowhere | Place::Here(_) => Ok(()),
-            Place::There(recorder, _) => recorder.goes_on(),
-            Place::Part(part) => part.goes_on(),
-        }
+        Ok(())
     }
 
     /// Takes in which points are set, as a list of settings, where that is known.

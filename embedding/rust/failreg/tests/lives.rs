@@ -211,6 +211,11 @@ fn fill(node: &Arc<Registry>) {
     .map(|refused| refused.unwrap_err().kind());
     assert_eq!(kinds, [ErrorKind::RecordingFailed; 9]);
     assert!(node.eval("p").is_none() && node.calls().unwrap() == made);
+    let why = node.set("q", "off").unwrap_err().to_string();
+    assert!(
+        why.contains("could not be recorded before (File too large"),
+        "{why}"
+    );
     // What only reads goes on, also for clients.
     for path in ["/fail", "/report"] {
         assert_eq!(node.answer("GET", path, b"").unwrap().status, 200);
