@@ -19,18 +19,47 @@ enum Place {
     Part(Part),
 }
 
-/// The line of a point's last pass that drew nothing: a pass that comes to the same has the same.
-struct LastPass {
+/// The line of a pass of a point, without its end: a pass that comes to the same has the same, and its
+/// own draws behind it.
+struct PassLine {
     came_to: (Stamp, Option<u8>),
-    line: String,
+    start: String,
+    has_draws: bool,
     may_wait: bool,
+}
+
+/// What stands before the draws of a pass in its line, and behind them.
+const BEFORE_DRAWS: &str = "\"words\":[";
+const BEHIND_DRAWS: &str = "]}\n";
+
+impl PassLine {
+    // Of a line with its newline. How many draws a pass takes is the setting's.
+    fn of(came_to: (Stamp, Option<u8>), line: &str, may_wait: bool) -> Option<PassLine> {
+        let end = line.rfind(BEFORE_DRAWS)? + BEFORE_DRAWS.len();
+        Some(PassLine {
+            came_to,
+            start: line[..end].to_string(),
+            has_draws: &line[end..] != BEHIND_DRAWS,
+            may_wait,
+        })
+    }
+
+    // The line of the newest pass, which came to the same.
+    fn line(&self, node: &mut Node) -> String {
+        let mut line = self.start.clone();
+        if self.has_draws {
+            let draws: Vec<String> = node.words().iter().map(u32::to_string).collect();
+            line += &draws.join(",");
+        }
+        line + BEHIND_DRAWS
+    }
 }
 
 /// The record of a node.
 pub struct Kept {
     place: Place,
-    /// Of points that are set, or were.
-    last: HashMap<String, LastPass>,
+    /// Of each point that is set, one for each term and one for none, since the settings changed last.
+    lines: HashMap<String, Vec<PassLine>>,
     /// Which terms of the points that are set have a count, a bit for each, where that is known.
     counted: Option<HashMap<String, u16>>,
     /// Whether a call couldn't be kept.
@@ -53,7 +82,7 @@ impl Kept {
         };
         Ok(Kept {
             place,
-            last: HashMap::new(),
+            lines: HashMap::new(),
             counted: None,
             has_failed: false,
         })
@@ -83,6 +112,7 @@ impl Kept {
 
     /// Takes in which points are set, as a list of settings, where that is known.
     pub fn learn(&mut self, list: Option<&str>) {
+        self.lines.clear();
         self.counted = match &self.place {
             Place::Part(part) if part.is_buffered() => list.map(counts_in),
             _ => None,
@@ -115,24 +145,17 @@ impl Kept {
             Passed::NoTerm { stamp } => Some((*stamp, None)),
             Passed::Act { stamp, term, .. } => Some((*stamp, Some(*term))),
         };
-        if let Some(last) = self.last.get(name)
-            && Some(last.came_to) == came_to
-        {
-            return self.place.put(&last.line, last.may_wait);
+        let mut known = self.lines.get(name).into_iter().flatten();
+        if let Some(known) = known.find(|it| Some(it.came_to) == came_to) {
+            return self.place.put(&known.line(node), known.may_wait);
         }
         let line = newest(node)?;
         let term = came_to.and_then(|(_, term)| term);
         let may_wait = term.is_none_or(|term| !self.may_be_counted(name, term));
         self.place.put(&line, may_wait)?;
-        // How many draws a pass takes is the setting's. Of a point that isn't set nothing is
-        // remembered: there may be any number of names.
-        if let Some(came_to) = came_to.filter(|_| line.ends_with("\"words\":[]}\n")) {
-            let last = LastPass {
-                came_to,
-                line,
-                may_wait,
-            };
-            self.last.insert(name.to_string(), last);
+        // Of a point that isn't set nothing is remembered: there may be any number of names.
+        if let Some(known) = came_to.and_then(|came_to| PassLine::of(came_to, &line, may_wait)) {
+            self.lines.entry(name.to_string()).or_default().push(known);
         }
         Ok(())
     }
@@ -220,5 +243,42 @@ mod tests {
         let wanted = wanted.map(|(name, counts)| (name.to_string(), counts));
         assert_eq!(counts_in(list), HashMap::from(wanted));
         assert!(counts_in("").is_empty());
+    }
+
+    #[test]
+    fn a_line_is_put_together_again() {
+        let came_to = (Stamp { clock: 1, node: 0 }, None);
+        let start = r#"{"ask":["pass","\"words\":["],"reply":["none",1,0],"words":["#;
+        for (draws, has_draws) in [("", false), ("7", true), ("7,4294967295", true)] {
+            let line = format!("{start}{draws}{BEHIND_DRAWS}");
+            let known = PassLine::of(came_to, &line, true).unwrap();
+            assert_eq!((known.start.as_str(), known.has_draws), (start, has_draws));
+        }
+    }
+
+    #[test]
+    #[cfg(feature = "failpoints")]
+    fn passes_that_come_to_the_same_have_their_own_draws() {
+        let made = Builder::default().recording(true);
+        let seed = [7; 32];
+        let open = || Node::open(0, 1, 1000, &seed).unwrap();
+        let (mut node, mut other) = (open(), open());
+        let mut kept = Kept::of(&made, &mut node).unwrap();
+        for node in [&mut node, &mut other] {
+            node.set("p", "50%3*print(x)->30%off->off").unwrap();
+        }
+        kept.keep(&mut node).unwrap();
+        let mut wanted = vec![newest(&mut other).unwrap()];
+        for _ in 0..200 {
+            let pass = node.pass("p").unwrap();
+            kept.keep_pass(&mut node, "p", &pass).unwrap();
+            other.pass("p").unwrap();
+            wanted.push(newest(&mut other).unwrap());
+        }
+        let mut drill = Vec::new();
+        crate::receipts::write(&[kept.receipts().unwrap()], &mut drill).unwrap();
+        let drill = String::from_utf8(drill).unwrap();
+        let (_, trace) = drill.split_once("{\"trace\":0}\n").unwrap();
+        assert!(trace.starts_with(&wanted.concat()));
     }
 }

@@ -150,6 +150,15 @@ impl Node {
         self.answer(status, ())
     }
 
+    /// The random draws of the last pass.
+    pub fn words(&mut self) -> Vec<u32> {
+        let mut words = [0; 16];
+        let (into, room) = (words.as_mut_ptr(), words.len());
+        // SAFETY: the array has so many words.
+        let length = unsafe { sys::failreg_words(&mut self.handle, into, room) };
+        words[..length.min(room)].to_vec()
+    }
+
     pub fn set(&mut self, name: &str, actions: &str) -> Result<Stamp, Error> {
         let mut stamp = sys::failreg_stamp::default();
         let (at, len) = (actions.as_ptr(), actions.len());
