@@ -108,8 +108,8 @@ impl ErrorKind {
                  another cluster with a new recorder"
             }
             ErrorKind::BadPart => {
-                "give the node its own part as it was written, or a new file where nothing ran \
-                 under its number yet"
+                "name a file that the program may write: the node's own part as it was written, or a \
+                 new one where nothing ran under its number yet"
             }
             ErrorKind::PartInUse => {
                 "end what has it open, and give each node of the cluster a part of its own"
