@@ -126,6 +126,11 @@ macro_rules! fail_point {
     ($($ignored:tt)*) => {{}};
 }
 
+// The code of a page, which is tried with the other examples.
+#[cfg(all(doctest, feature = "failpoints"))]
+#[doc = include_str!("../../../../docs/carriers.md")]
+struct Carriers;
+
 // A point whose name is spelled out keeps beside it what was found of it.
 #[doc(hidden)]
 #[macro_export]

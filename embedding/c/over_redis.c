@@ -1,0 +1,315 @@
+/* A node whose messages go through Redis: each node has a list there, its mailbox, into which the others put what they
+ * tell it, and from which it takes what came. Any broker is used so. It carries what failreg_emit made, and what came
+ * is given to failreg_deliver; it may lose, delay, double and reorder all of it (docs/carriers.md).
+ *
+ *     cc -I embedding embedding/c/over_redis.c embedding/lib/libfailreg.a -lhiredis -lpthread -o over_redis
+ *     FAILREG_NODE=1/3 FAILREG_RUN=monday FAILREG_REDIS=127.0.0.1:6379 ./over_redis
+ *
+ * A line of standard input is `save 3`, which saves so many orders, unless the point `save` loses them, or a request,
+ * as `PUT /fail/save 5*return(disk full)->off`. The page says what else the environment may have: a password, and what
+ * TLS takes. */
+#define _POSIX_C_SOURCE 200809L
+#include "failreg.h"
+
+#include <hiredis/hiredis.h>
+#ifdef WITH_TLS
+#include <hiredis/hiredis_ssl.h>
+#endif
+#include <pthread.h>
+#include <signal.h>
+#include <stdarg.h>
+#include <stdatomic.h>
+#include <stdio.h>
+#include <stdlib.h>
+#include <string.h>
+#include <sys/time.h>
+#include <time.h>
+
+enum { MOST_NODES = 32, MOST_MESSAGES = 64, KEPT_SECONDS = 3600, TICK = 50, LONGEST_REST = 5000 };
+
+/* What a peer was told last, for how many milliseconds it is left alone from then on, and still. */
+typedef struct peer {
+    uint64_t told_version, told_known;
+    int rest, waits;
+} peer;
+
+static failreg node = FAILREG_CLOSED_NODE;
+/* Of the node. Nobody waits for Redis who has it, so no order does. */
+static pthread_mutex_t lock = PTHREAD_MUTEX_INITIALIZER;
+static unsigned number, nodes;
+static const char *address, *run;
+static redisContext *redis;
+static peer peers[MOST_NODES];
+static atomic_bool is_over;
+
+static void stop(const char *why)
+{
+    fprintf(stderr, "over_redis: %s\n", why);
+    exit(1);
+}
+
+static void must(uint32_t status)
+{
+    if (status != FAILREG_OK)
+        stop(failreg_strerror(status));
+}
+
+/* What is to be fetched, with a zero behind it. The caller frees it. */
+static char *fetched(size_t *length)
+{
+    *length = failreg_fetch(&node, "", 0);
+    char *bytes = malloc(*length + 1);
+    if (bytes == NULL)
+        stop("out of memory");
+    failreg_fetch(&node, bytes, *length);
+    bytes[*length] = 0;
+    return bytes;
+}
+
+/* What Redis answers. Where it refuses or isn't there, the connection is let go. */
+static redisReply *ask(const char *format, ...)
+{
+    va_list words;
+    va_start(words, format);
+    redisReply *reply = redisvCommand(redis, format, words);
+    va_end(words);
+    if (reply != NULL && reply->type != REDIS_REPLY_ERROR)
+        return reply;
+    fprintf(stderr, "over_redis: %s: %s\n", address, reply != NULL ? reply->str : redis->errstr);
+    if (reply != NULL)
+        freeReplyObject(reply);
+    redisFree(redis);
+    redis = NULL;
+    return NULL;
+}
+
+static bool is_done(redisReply *reply)
+{
+    if (reply != NULL)
+        freeReplyObject(reply);
+    return reply != NULL;
+}
+
+/* Encrypts the connection, where the environment asks for that. */
+static bool is_secured(const char *host)
+{
+    const char *trusted = getenv("FAILREG_REDIS_CA");
+    if (trusted == NULL)
+        return true;
+#ifdef WITH_TLS
+    static redisSSLContext *tls;
+    redisSSLContextError error = REDIS_SSL_CTX_NONE;
+    if (tls == NULL && redisInitOpenSSL() == REDIS_OK)
+        tls = redisCreateSSLContext(trusted, NULL, getenv("FAILREG_REDIS_CERT"), getenv("FAILREG_REDIS_KEY"), host,
+                                    &error);
+    if (tls == NULL)
+        stop(redisSSLContextGetError(error));
+    return redisInitiateSSLWithContext(redis, tls) == REDIS_OK;
+#else
+    (void)host;
+    stop("FAILREG_REDIS_CA is set, and this was compiled without -DWITH_TLS");
+    return false;
+#endif
+}
+
+static bool is_connected(void)
+{
+    const struct timeval two_seconds = { .tv_sec = 2 };
+    const char *user = getenv("FAILREG_REDIS_USER"), *password = getenv("FAILREG_REDIS_PASSWORD");
+    char host[256];
+    int port;
+    if (sscanf(address, "[%255[^]]]:%d", host, &port) != 2 && sscanf(address, "%255[^:]:%d", host, &port) != 2)
+        stop("FAILREG_REDIS is as 127.0.0.1:6379 or [::1]:6379");
+    redis = redisConnectWithTimeout(host, port, two_seconds);
+    if (redis == NULL)
+        stop("out of memory");
+    if (redis->err || redisSetTimeout(redis, two_seconds) != REDIS_OK || !is_secured(host)) {
+        fprintf(stderr, "over_redis: %s: %s\n", address, redis->errstr);
+        redisFree(redis);
+        redis = NULL;
+        return false;
+    }
+    /* It may have lost what it was given: everybody is told again. */
+    for (unsigned to = 0; to < nodes; to++)
+        peers[to].rest = peers[to].waits = 0;
+    return password == NULL || is_done(user ? ask("AUTH %s %s", user, password) : ask("AUTH %s", password));
+}
+
+/* Puts a message into a mailbox, in front of those that are there, of which the newest are kept. */
+static bool is_put(unsigned to, const char *message, size_t length)
+{
+    return is_done(ask("LPUSH failreg:%s:%u %b", run, to, message, length))
+        && is_done(ask("LTRIM failreg:%s:%u 0 %d", run, to, MOST_MESSAGES - 1))
+        && is_done(ask("EXPIRE failreg:%s:%u %d", run, to, KEPT_SECONDS));
+}
+
+static void deliver(const char *message, size_t length)
+{
+    char fault[128] = "";
+    size_t fault_length;
+    bool is_news;
+    pthread_mutex_lock(&lock);
+    bool is_refused = failreg_deliver(&node, (const uint8_t *)message, length, &is_news) != FAILREG_OK;
+    if (is_refused)
+        must(failreg_fault(&node, fault, sizeof fault - 1, &fault_length));
+    pthread_mutex_unlock(&lock);
+    if (is_refused)
+        fprintf(stderr, "over_redis: a message is refused: %s\n", fault);
+}
+
+/* Takes in what came, the newest first. */
+static bool has_taken(void)
+{
+    bool is_message = true;
+    for (int taken = 0; is_message && taken < MOST_MESSAGES; taken++) {
+        redisReply *reply = ask("LPOP failreg:%s:%u", run, number);
+        if (reply == NULL)
+            return false;
+        is_message = reply->type == REDIS_REPLY_STRING;
+        if (is_message)
+            deliver(reply->str, reply->len);
+        freeReplyObject(reply);
+    }
+    return true;
+}
+
+/* Tells a peer what it hasn't heard. A mailbox takes messages for one that is gone, too: so one that hasn't answered
+ * what it was told last is left alone, for twice as long each time. */
+static bool has_told(unsigned to)
+{
+    peer *p = &peers[to];
+    uint64_t version, acked, known;
+    size_t length;
+    char *message = NULL;
+    p->waits -= p->waits > 0 ? TICK : 0;
+    pthread_mutex_lock(&lock);
+    must(failreg_state_version(&node, &version));
+    must(failreg_acked(&node, (uint8_t)to, &acked));
+    must(failreg_known(&node, (uint8_t)to, &known));
+    bool is_news = version > acked || known != p->told_known;
+    bool has_answered = acked >= p->told_version || known != p->told_known;
+    if (is_news && (has_answered || p->waits <= 0 || is_over) && failreg_emit(&node, (uint8_t)to) == FAILREG_OK)
+        message = fetched(&length);
+    pthread_mutex_unlock(&lock);
+    if (message == NULL)
+        return true;
+    bool is_told = is_put(to, message, length);
+    free(message);
+    if (is_told) {
+        p->rest = has_answered || p->rest == 0 ? TICK : p->rest * 2;
+        p->rest = p->rest > LONGEST_REST ? LONGEST_REST : p->rest;
+        *p = (peer){ version, known, p->rest, p->rest };
+    }
+    return is_told;
+}
+
+/* Takes and tells, and answers whether Redis was there. */
+static bool has_carried(void)
+{
+    bool is_there = (redis != NULL || is_connected()) && has_taken();
+    for (unsigned to = 0; is_there && to < nodes; to++)
+        is_there = to == number || has_told(to);
+    pthread_mutex_lock(&lock);
+    must(failreg_forget(&node));
+    pthread_mutex_unlock(&lock);
+    return is_there;
+}
+
+/* Carries messages until all is over, and once more then. Where Redis isn't there it is left alone, for twice as long
+ * each time. */
+static void *carry(void *unused)
+{
+    int rest = TICK;
+    for (bool is_last = false; !is_last;) {
+        is_last = is_over;
+        rest = has_carried() ? TICK : rest * 2 > LONGEST_REST ? LONGEST_REST : rest * 2;
+        for (int rested = 0; rested < rest && !is_over; rested += TICK)
+            nanosleep(&(struct timespec){ .tv_nsec = TICK * 1000000L }, NULL);
+    }
+    return unused;
+}
+
+/* Saves an order, unless the point loses it. */
+static void save(void)
+{
+    bool is_set;
+    failreg_act act;
+    size_t length;
+    char *reason = NULL;
+    pthread_mutex_lock(&lock);
+    if (failreg_is_set(&node, "save", 4, &is_set) == FAILREG_OK && is_set
+        && failreg_pass(&node, "save", 4, &act) == FAILREG_OK && act.outcome == FAILREG_OUTCOME_ACT
+        && act.task == FAILREG_TASK_RETURN)
+        reason = fetched(&length);
+    pthread_mutex_unlock(&lock);
+    if (reason != NULL)
+        printf("lost: %s\n", reason);
+    else
+        puts("saved");
+    free(reason);
+}
+
+/* Asks the node what an operator asks by HTTP. */
+static void request(const char *method, const char *path, const char *body)
+{
+    uint16_t status;
+    size_t length;
+    char *answer = NULL;
+    pthread_mutex_lock(&lock);
+    uint32_t refusal = failreg_answer(&node, method, strlen(method), path, strlen(path), (const uint8_t *)body,
+                                      strlen(body), &status);
+    if (refusal == FAILREG_OK)
+        answer = fetched(&length);
+    pthread_mutex_unlock(&lock);
+    printf("%u %s\n", status, answer != NULL ? answer : failreg_strerror(refusal));
+    free(answer);
+}
+
+static void obey(char *line)
+{
+    char word[16], path[512];
+    line[strcspn(line, "\n")] = 0;
+    int rest = (int)strlen(line);
+    if (strncmp(line, "save ", 5) == 0)
+        for (long orders = atol(line + 5); orders > 0; orders--)
+            save();
+    else if (sscanf(line, "%15s %511s %n", word, path, &rest) == 2)
+        request(word, path, line + rest);
+    else
+        puts("a line is as `save 3`, or as `GET /report`");
+}
+
+static const char *from_environment(const char *name)
+{
+    const char *value = getenv(name);
+    if (value == NULL || value[0] == 0)
+        stop("FAILREG_NODE, FAILREG_RUN and FAILREG_REDIS are needed, as 1/3, monday and 127.0.0.1:6379");
+    return value;
+}
+
+int main(void)
+{
+    static const uint8_t seed[32] = { 1 };
+    pthread_t carrier;
+    char *line = NULL;
+    size_t room = 0;
+    signal(SIGPIPE, SIG_IGN);
+    setvbuf(stdout, NULL, _IOLBF, 0);
+    address = from_environment("FAILREG_REDIS");
+    run = from_environment("FAILREG_RUN");
+    if (sscanf(from_environment("FAILREG_NODE"), "%u/%u", &number, &nodes) != 2 || number >= nodes
+        || nodes > MOST_NODES)
+        stop("FAILREG_NODE is as 1/3: a number, and how many nodes there are, 32 at most");
+    must(failreg_open(&node, (uint8_t)number, (uint8_t)nodes, FAILREG_NO_CAP, seed));
+    if (pthread_create(&carrier, NULL, carry, NULL) != 0)
+        stop("no thread can be started");
+    while (getline(&line, &room, stdin) > 0)
+        obey(line);
+    is_over = true;
+    pthread_join(carrier, NULL);
+    if (redis != NULL)
+        redisFree(redis);
+    failreg_close(&node);
+    free(line);
+    return 0;
+}
