@@ -1,6 +1,6 @@
 #!/usr/bin/env python3
 """How what work costs grows with it: scripts of passes, loads, shifts, grants and exchanges, messages, rounds of gossip,
-and audits, each at two sizes. See README.md beside this file."""
+drills and audits, each at two sizes. See README.md beside this file."""
 
 import argparse
 import os
@@ -46,9 +46,11 @@ FORMS = ("plain", "grants")
 NAMES = (64, 128, 256)
 TIMES = 100
 
-# Drills of 16 nodes that are audited, of so many entries: nodes that pass, and nodes that send messages round.
-DRILLS = ("passes", "forwards", "backwards")
+# Drills of 16 nodes that pass, of so many entries, which one program makes and audits.
 ENTRIES = (1_000_000, 2_000_000)
+# Drills in parts, of so many entries: of nodes that pass, and of nodes that send messages round.
+DRILLS = ("passes", "forwards", "backwards")
+ENTRIES_OF_PARTS = (50_000, 100_000)
 ROUNDS_OF_DRILLS = 3
 
 # Rounds of gossip of so many nodes, before each of which so many of 256 points are passed; and how many messages
@@ -304,28 +306,55 @@ def time_rounds(program):
             )
 
 
-def made_and_audited(program, drill, entries, work):
+def made_and_audited(program, entries, work):
     """Nanoseconds by the clock in which the calls were made and in which they were audited, and the most memory in MiB."""
-    ran = Command(program, "audits", drill, entries, work)
+    ran = Command(program, "audits", entries, work)
     return ran.nanoseconds, ran.to_audit, ran.memory / 2**20
 
 
 def time_audits(program):
     """The sizes go in turn. `to make` is to the time in which one thread makes the calls, of as many entries."""
     few, many = ENTRIES
+    print(f"\n{'ns to make one':<16}{f'audit it, {few}':>20}{many:>9}{'ratio':>7}{'to make':>9}{'MiB of calls':>14}{'with audit':>12}")
+    rounds = [[made_and_audited(program, count, "audit") for count in ENTRIES] for _ in range(ROUNDS_OF_DRILLS)]
+    (made, audited, memory), (_, twice, _) = ([min(parts) for parts in zip(*runs)] for runs in zip(*rounds))
+    before = made_and_audited(program, few, "make")[2]
     print(
-        f"\n{'drill':<11}{'ns to make one':>16}{f'audit it, {few}':>20}{many:>9}{'ratio':>7}{'to make':>9}{many:>9}"
-        f"{'MiB of calls':>14}{'with audit':>12}"
+        f"{made / few:<16.0f}{audited / few:>20.0f}{twice / many:>9.0f}{twice / audited:>7.2f}{audited / made:>9.2f}"
+        f"{before:>14.0f}{memory:>12.0f}"
     )
+
+
+def read_and_audited(program, folder):
+    """Seconds of a processor in which parts are read and refused, since two are of one node, and are read and audited."""
+    parts = [os.path.join(folder, f"part{node}") for node in range(16)]
+    read = Ran((program, "audit", *parts[:-1], parts[0]), first=FIRST, wanted=1)
+    audited = Ran((program, "audit", *parts), first=FIRST)
+    if not audited.printed.startswith(b"audit yes\n"):
+        sys.exit(f"{program} audit: {audited.printed.decode()}")
+    return read.seconds, audited.seconds
+
+
+def parts_of(ring, drill, entries, folder):
+    """Makes the parts, and answers their MiB."""
+    os.mkdir(folder)
+    programs.do(ring, drill, str(entries), folder)
+    return sum(os.path.getsize(os.path.join(folder, name)) for name in os.listdir(folder)) / 2**20
+
+
+def time_parts(program, ring, room):
+    """Microseconds an entry of drills in parts."""
+    few, many = ENTRIES_OF_PARTS
+    print(f"\n{'drill':<11}{'MiB of parts':>13}{'us to read one':>16}{f'audit it, {few}':>18}{many:>9}{'ratio':>7}")
     for drill in DRILLS:
-        rounds = [
-            [made_and_audited(program, drill, count, "audit") for count in ENTRIES] for _ in range(ROUNDS_OF_DRILLS)
-        ]
-        (made, audited, memory), (made_twice, twice, _) = ([min(parts) for parts in zip(*runs)] for runs in zip(*rounds))
-        before = made_and_audited(program, drill, few, "make")[2]
+        folders = [os.path.join(room, f"{drill}{entries}") for entries in ENTRIES_OF_PARTS]
+        sizes = [parts_of(ring, drill, entries, folder) for entries, folder in zip(ENTRIES_OF_PARTS, folders)]
+        rounds = [[read_and_audited(program, folder) for folder in folders] for _ in range(ROUNDS_OF_DRILLS)]
+        best = [[min(parts) for parts in zip(*runs)] for runs in zip(*rounds)]
+        (read, _), (first, second) = best[0], (whole - read for read, whole in best)
         print(
-            f"{drill:<11}{made / few:>16.0f}{audited / few:>20.0f}{twice / many:>9.0f}{twice / audited:>7.2f}"
-            f"{audited / made:>9.2f}{twice / made_twice:>9.2f}{before:>14.0f}{memory:>12.0f}"
+            f"{drill:<11}{sizes[0]:>13.1f}{read / few * 1e6:>16.2f}{first / few * 1e6:>18.2f}{second / many * 1e6:>9.2f}"
+            f"{second / first:>7.2f}"
         )
 
 
@@ -336,23 +365,31 @@ def all_messages(program):
 
 def rounds_of_c(is_built):
     programs.library(is_built)
-    with tempfile.TemporaryDirectory() as folder:
-        time_rounds(programs.of_c(folder, "rounds"))
+    with tempfile.TemporaryDirectory() as room:
+        time_rounds(programs.of_c(room, "rounds"))
 
 
-# Of scripts, and of `bench`.
+def parts_of_c(is_built):
+    programs.library(is_built)
+    failreg = programs.proved(is_built, "failreg", "--help")
+    with tempfile.TemporaryDirectory() as room:
+        time_parts(failreg, programs.of_c(room, "ring"), room)
+
+
+# What is timed of scripts, of programs of C, and of `bench`.
 OF_SCRIPTS = {"passes": time_passes, "calls": time_calls, "exchanges": time_exchanges, "turns": time_turns}
+OF_C = {"rounds": rounds_of_c, "parts": parts_of_c}
 OF_BENCH = {"messages": all_messages, "audits": time_audits}
-PARTS = (*OF_SCRIPTS, "rounds", *OF_BENCH)
+PARTS = (*OF_SCRIPTS, *OF_C, *OF_BENCH)
 
 
 def play(part, is_built):
     if part in OF_SCRIPTS:
         OF_SCRIPTS[part](programs.proved(is_built, "failreg", "--help"))
-    elif part in OF_BENCH:
-        OF_BENCH[part](programs.proved(is_built, "bench", "passes registry counted 1"))
+    elif part in OF_C:
+        OF_C[part](is_built)
     else:
-        rounds_of_c(is_built)
+        OF_BENCH[part](programs.proved(is_built, "bench", "passes registry counted 1"))
 
 
 def main():

@@ -85,9 +85,10 @@ def of_gofail(folder):
 
 
 class Ran:
-    """A run that ended well: what it printed, its seconds of a processor, and the most memory that it held, in bytes."""
+    """A run that ended with a status: what it printed, its seconds of a processor, and the most memory that it held, in
+    bytes."""
 
-    def __init__(self, words, text=b"", first=()):
+    def __init__(self, words, text=b"", first=(), wanted=0):
         with tempfile.TemporaryFile() as source, tempfile.TemporaryFile() as output, tempfile.TemporaryFile() as errors:
             source.write(text)
             source.seek(0)
@@ -97,7 +98,7 @@ class Ran:
             output.seek(0)
             errors.seek(0)
             self.printed, self.said = output.read(), errors.read().decode(errors="replace")
-        if child.returncode != 0:
+        if child.returncode != wanted:
             sys.exit(f"{' '.join(words)}: status {child.returncode}\n{self.said}")
         self.seconds = usage.ru_utime + usage.ru_stime
         self.memory = usage.ru_maxrss * 1024

@@ -57,7 +57,7 @@ def lines():
         yield Line("", "Rust", Way("rust", kind, 4), kind)
     yield Line("set, four threads with a point each", "four registries", Way("bench", "nodes uncounted", 4), "own", "35 ns")
     yield Line("set, 256 points in turn", "C, by number", Way("c", "many-at"), "many", "1.2 times one point")
-    yield Line("a line `pass` of a script", "`failreg sim`", Way("sim", "return"), "", "200 ns")
+    yield Line("a line `pass` of a script", "`failreg sim`", Way("sim", "print(x)"), "", "200 ns")
     yield Line("the audit of a pass", "16 nodes", Way("bench", "audits"), "", "300 ns")
 
 
@@ -74,8 +74,13 @@ class Speed:
         return [float(word) for word in Ran(self.words(way, PASSES), first=FIRST).printed.split()]
 
     def figures(self, best):
-        """Nanoseconds a pass, and bytes if it tells them, of the least of all runs."""
-        return best
+        """Nanoseconds a pass, of the least that each of its runs told."""
+        return best[0]
+
+    def kept(self, way):
+        """Bytes that a pass keeps: of ten times as many passes less those of one."""
+        few, many = (float(Ran(self.words(way, passes)).printed.split()[1]) * passes for passes in (PASSES, 10 * PASSES))
+        return (many - few) / (9 * PASSES)
 
     def count(self, way):
         few, many = (instructions(self.words(way, passes)) for passes in COUNTED)
@@ -86,11 +91,14 @@ class Bench(Speed):
     """`bench`, which tells the nanoseconds of all passes, or of an audit."""
 
     def command(self, way, passes, work):
-        return self.path, f"audits passes {passes} {work}" if way.kind == "audits" else f"passes {way.kind} {passes}"
+        return self.path, f"audits {passes} {work}" if way.kind == "audits" else f"passes {way.kind} {passes}"
 
     def time(self, way):
         took = re.findall(r"(\d+) ns", Ran(self.command(way, PASSES, "audit"), first=FIRST).said)
         return [int(took[way.kind == "audits"]) / PASSES]
+
+    def kept(self, way):
+        return None
 
     def count(self, way):
         few, many = (self.counted(way, passes) for passes in COUNTED)
@@ -114,7 +122,10 @@ class Sim(Speed):
 
     def figures(self, best):
         once, twice = best
-        return [(twice - once) / PASSES * 1e9]
+        return (twice - once) / PASSES * 1e9
+
+    def kept(self, way):
+        return None
 
     def count(self, way):
         few, many = (instructions((self.path, "sim"), self.script(way, passes)) for passes in COUNTED)
@@ -171,8 +182,9 @@ def measure(found, ways):
     rounds = [[found[way.program].time(way) for way in ways] for _ in range(ROUNDS)]
     figures = {}
     for way, runs in zip(ways, zip(*rounds)):
-        best = found[way.program].figures([min(parts) for parts in zip(*runs)])
-        figures[way] = Figure(best[0], count(found[way.program], way), best[1] if len(best) > 1 else None)
+        program = found[way.program]
+        best = program.figures([min(parts) for parts in zip(*runs)])
+        figures[way] = Figure(best, count(program, way), program.kept(way) if way.threads == 1 else None)
     return figures
 
 
@@ -192,7 +204,7 @@ def ratio(ours, theirs):
 
 
 def print_table(table, figures):
-    print("| A pass of a point that is | from | failreg | gofail | to it | libfiu | to it | bytes | wished |")
+    print("| A pass | from | failreg | gofail | to it | libfiu | to it | bytes | wished |")
     print("|---|---|---|---|---|---|---|---|---|")
     for line in table:
         ours = figures[line.ours]

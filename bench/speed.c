@@ -120,7 +120,7 @@ static void set_many(const char *actions)
 {
     char name[16];
     for (int i = 0; i < MOST_POINTS; i++) {
-        snprintf(name, sizeof name, "point.%d", i);
+        snprintf(name, sizeof name, "p%d", i);
         set(name, actions);
         if (failreg_point(&node, name, strlen(name), &points[i]) != FAILREG_OK)
             stop("a point has no number");

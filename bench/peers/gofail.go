@@ -73,7 +73,7 @@ func enableOne(terms string) {
 
 func enableMany(terms string) {
 	for i := range points {
-		name := "point" + strconv.Itoa(i)
+		name := "p" + strconv.Itoa(i)
 		points[i] = runtime.NewFailpoint("passed", name, false)
 		enable("passed/"+name, terms)
 	}

@@ -92,7 +92,7 @@ int main(int count, char **words)
 {
     struct wanted wanted = wanted_by(count, words);
     for (int i = 0; i < MOST_POINTS; i++)
-        snprintf(names[i], sizeof names[i], "point/%d", i);
+        snprintf(names[i], sizeof names[i], "p%d", i);
     if (fiu_init(0) != 0)
         stop("no libfiu");
     for (size_t i = 0; i < sizeof KINDS / sizeof KINDS[0]; i++)

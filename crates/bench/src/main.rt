@@ -18,7 +18,7 @@ use std::time::Clock;
 const USAGE: &str = "bench COMMAND.., where a COMMAND is one word of
 messages decode|encode plain|grants NAMES TIMES
 passes registry|threads|nodes uncounted|counted|chance PASSES
-audits passes|forwards|backwards ENTRIES make|audit";
+audits CALLS make|audit";
 
 // What a command asks for.
 #[derive(Clone, Copy)]
