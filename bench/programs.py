@@ -53,7 +53,9 @@ def of_c(folder, source):
 
 
 def of_rust(folder):
-    """The program of Rust that times passes."""
+    """The program of Rust that times passes, or none where cargo isn't installed."""
+    if not shutil.which("cargo"):
+        return None
     words = ("cargo", "build", "--offline", "--quiet", "--release", "--features", "failpoints", "--example", "speed")
     environment = {**os.environ, "FAILREG_LIB": os.path.dirname(LIBRARY)}
     do(*words, "--target-dir", folder, cwd=f"{EMBEDDING}/rust/failreg", env=environment)

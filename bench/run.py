@@ -40,21 +40,23 @@ class Line(NamedTuple):
 
 def lines():
     yield Line("no point is set", "Rust", Way("rust", "nothing-set"), "nothing-set")
-    yield Line("not set, another point is", "Rust", Way("rust", "unset"), "unset", "2 ns")
-    yield Line("", "C, which asks whether it is set", Way("c", "looked"), "unset")
-    yield Line("", "C, which passes it all the same", Way("c", "unset-at"), "unset")
+    unset = "not set, another point is"
+    yield Line(unset, "Rust", Way("rust", "unset"), "unset", "2 ns")
+    yield Line(unset, "C, which asks whether it is set", Way("c", "looked"), "unset")
+    yield Line(unset, "C, which passes it all the same", Way("c", "unset-at"), "unset")
     for work, kind, wished in (("set, no count", "uncounted", "115 ns"), ("counted", "counted", "160 ns")):
         yield Line(work, "a registry", Way("bench", f"registry {kind}"), kind, wished)
-        yield Line("", "C, by number", Way("c", f"{kind}-at"), kind, "150 ns")
-        yield Line("", "C, by name", Way("c", kind), kind)
-        yield Line("", "Rust", Way("rust", kind), kind)
-    yield Line("with a chance of 50%", "a registry", Way("bench", "registry chance"), "chance")
-    yield Line("", "C, by number", Way("c", "chance-at"), "chance")
-    yield Line("", "Rust", Way("rust", "chance"), "chance")
+        yield Line(work, "C, by number", Way("c", f"{kind}-at"), kind, "150 ns")
+        yield Line(work, "C, by name", Way("c", kind), kind)
+        yield Line(work, "Rust", Way("rust", kind), kind)
+    chance = "with a chance of 50%"
+    yield Line(chance, "a registry", Way("bench", "registry chance"), "chance")
+    yield Line(chance, "C, by number", Way("c", "chance-at"), "chance")
+    yield Line(chance, "Rust", Way("rust", "chance"), "chance")
     for work, kind in (("set, four threads on one point", "uncounted"), ("counted, four threads", "counted")):
         yield Line(work, "a registry", Way("bench", f"threads {kind}", 4), kind, "gofail's")
-        yield Line("", "C, by number", Way("c", f"{kind}-at", 4), kind, "gofail's")
-        yield Line("", "Rust", Way("rust", kind, 4), kind)
+        yield Line(work, "C, by number", Way("c", f"{kind}-at", 4), kind, "gofail's")
+        yield Line(work, "Rust", Way("rust", kind, 4), kind)
     yield Line("set, four threads with a point each", "four registries", Way("bench", "nodes uncounted", 4), "own", "35 ns")
     yield Line("set, 256 points in turn", "C, by number", Way("c", "many-at"), "many", "1.2 times one point")
     yield Line("a line `pass` of a script", "`failreg sim`", Way("sim", "print(x)"), "", "200 ns")
@@ -141,16 +143,16 @@ class Figure(NamedTuple):
 
 
 def build(folder, is_built):
-    """Each program by its name. gofail and libfiu are left out where they aren't installed."""
+    """Each program by its name. Those of Rust, gofail and libfiu are left out where what they take isn't installed."""
     programs.library(is_built)
     found = {
         "bench": Bench(programs.proved(is_built, "bench", "passes registry counted 1")),
         "sim": Sim(programs.proved(is_built, "failreg", "--help")),
         "c": Speed(programs.of_c(folder, "speed")),
-        "rust": Speed(programs.of_rust(folder)),
     }
-    for name, path in (("gofail", programs.of_gofail(folder)), ("libfiu", programs.of_libfiu(folder))):
-        if path:
+    others = {"rust": programs.of_rust, "gofail": programs.of_gofail, "libfiu": programs.of_libfiu}
+    for name, made in others.items():
+        if path := made(folder):
             found[name] = Speed(path)
         else:
             print(f"{name} isn't installed, and was skipped")
@@ -206,14 +208,16 @@ def ratio(ours, theirs):
 def print_table(table, figures):
     print("| A pass | from | failreg | gofail | to it | libfiu | to it | bytes | wished |")
     print("|---|---|---|---|---|---|---|---|---|")
-    for line in table:
+    for before, line in zip((None, *table), table):
         ours = figures[line.ours]
         theirs = [figures.get(Way(name, line.theirs, line.ours.threads)) for name in ("gofail", "libfiu")]
-        # Beside the first line of a work stand their figures, beside each its ratios.
-        gofail, libfiu = [cell(figure) if line.work else "" for figure in theirs]
+        # The first line of a work has its name and their figures, each line its ratios.
+        is_first = before is None or before.work != line.work
+        work = line.work if is_first else ""
+        gofail, libfiu = (cell(figure) if is_first else "" for figure in theirs)
         to_gofail, to_libfiu = (ratio(ours, figure) for figure in theirs)
         kept = "" if ours.bytes is None else number(max(ours.bytes, 0))
-        words = (line.work, line.caller, cell(ours), gofail, to_gofail, libfiu, to_libfiu, kept, line.wished)
+        words = (work, line.caller, cell(ours), gofail, to_gofail, libfiu, to_libfiu, kept, line.wished)
         print(f"| {' | '.join(words)} |")
 
 
@@ -233,9 +237,9 @@ def main():
     parser = argparse.ArgumentParser(description=__doc__)
     parser.add_argument("--built", action="store_true", help="take our programs and the library as they stand")
     asked = parser.parse_args()
-    table = list(lines())
     with tempfile.TemporaryDirectory() as folder:
         found = build(folder, asked.built)
+        table = [line for line in lines() if line.ours.program in found]
         conditions()
         print_table(table, measure(found, list(dict.fromkeys(ways_of(table, found)))))
 
