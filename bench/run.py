@@ -1,417 +1,247 @@
 #!/usr/bin/env python3
-"""Times scripts of passes, loads, shifts, grants and exchanges, work on maps, messages, passes under locks, rounds of
-gossip, and audits. See README.md beside this file."""
+"""What a pass costs, beside gofail and libfiu where these are installed: one table. See README.md beside
+this file."""
 
+import argparse
 import os
 import re
 import subprocess
 import sys
 import tempfile
+from typing import NamedTuple
+
+import programs
+from programs import FIRST, Ran, instructions
 
-CRATES = os.path.join(os.path.dirname(os.path.abspath(__file__)), "..", "crates")
-PASSES = (100_000, 200_000)
-POINTS = (1, 256)
-LOADS = (500, 1_000)
-SHIFTS = (100_000, 200_000)
-GRANTS = (100_000, 200_000)
-CLUSTERS = (2, 4, 16)
-EXCHANGES = (2_000, 4_000)
-KEYS = (100_000, 200_000)
-ROUNDS = 11
-ROUNDS_BESIDE = 31
-
-# Points that 16 nodes know before they take turns: as many turns as take a second, or so many.
-KNOWN_POINTS = (16, 64, 256)
-SECONDS_OF_TURNS = 1
-MOST_TURNS = 65_536
-ROUNDS_OF_TURNS = 3
-# A message is delivered again until its copies take so many MiB, or so often.
-MIB_OF_COPIES = 32
-MOST_COPIES = 262_144
-
-# The actions of each point, and what follows the point's name in each pass. The long text is 1,000
-# bytes, of which each pass runs the first term.
-SETTINGS = {
-    "uncounted": ("print(x)", ""),
-    "counted": ("1000000*print(x)", ""),
-    "chance": ("50%print(x)", " 2147483647"),
-    "short text": ("off->panic", ""),
-    "long text": ("off->print(" + "x" * 988 + ")", ""),
-}
-
-
-# What is done with maps of so many keys: made of as many raises; each key raised again, in its place;
-# two maps joined; a map of one key joined in, for each key.
-WORKS = ("build", "raise", "join", "take")
-
-# Messages of so many names, without grants and with all, each of them read and written so often.
-FORMS = ("plain", "grants")
-NAMES = (64, 128, 256)
-TIMES = 100
-
-# Passes of one point by calls: of a node that has no lock, through a registry by one thread and by four, and through four
-# registries by a thread each; of an uncounted term, a counted one, and one with a chance.
-WAYS = ("core", "registry", "threads", "nodes")
-TERMS = ("uncounted", "counted", "chance")
-# By a name that was read before, which answers a place; and by a text, which answers a receipt that is dropped.
-ANSWERS = ("point", "drop")
-CALLS = (400_000, 800_000)
-
-# Drills of 16 nodes that are audited, of so many entries: nodes that pass, and nodes that send messages round.
-DRILLS = ("passes", "forwards", "backwards")
-ENTRIES = (1_000_000, 2_000_000)
-ROUNDS_OF_DRILLS = 3
-
-# Rounds of gossip of so many nodes over mail, before each of which so many of 256 points are passed; and how many messages
-# they make, more or less.
-MEMBERS = (2, 4, 16, 32)
-CHANGED = (0, 1, 256)
-MESSAGES = {0: 40_000, 1: 20_000, 256: 2_000}
-
-
-def build(is_built, crate, *arguments):
-    """Proves and builds a program, where it has changed, unless it is to be taken as it stands."""
-    folder = os.path.join(CRATES, crate)
-    if not is_built:
-        how = {"check": True, "stdin": subprocess.DEVNULL, "stdout": subprocess.DEVNULL}
-        subprocess.run(["rt", "run", "--", *arguments], cwd=folder, **how)
-    return os.path.join(folder, "out", crate)
-
-
-def script(setting, points, passes):
-    actions, words = SETTINGS[setting]
-    lines = ["nodes 1 4294967295"]
-    lines += [f"set 0 p{point} {actions}" for point in range(points)]
-    lines += [f"pass 0 p{number % points}{words}" for number in range(passes)]
-    return "\n".join(lines).encode()
-
-
-def load_script(loads):
-    """Each load sets the same 256 points."""
-    setting = ";".join(f"point{point}=20%3*print(x)->panic" for point in range(256))
-    return "\n".join(["nodes 1 4294967295"] + [f"load 0 {setting}"] * loads).encode()
-
-
-def shift_script(shifts):
-    """Each shift moves one right of 256 points in turn to one of 15 other nodes."""
-    lines = ["nodes 16 4294967295"]
-    lines += [f"set 0 p{point} 1000000*off" for point in range(256)]
-    lines += [f"shift 0 p{number % 256} 0 {number % 15 + 1} 1" for number in range(shifts)]
-    return "\n".join(lines).encode()
-
-
-def grant_script(grants):
-    """Each grant is of one right of 256 points in turn."""
-    lines = ["nodes 16 4294967295"]
-    lines += [f"set 0 p{point} 1*off" for point in range(256)]
-    lines += [f"grant 0 p{number % 256} 0 1" for number in range(grants)]
-    return "\n".join(lines).encode()
-
-
-def exchange_script(nodes, exchanges):
-    """Nodes of 16 points pass 8 times each, in turn; then one sends all that it knows to the next. The rights are shared out first."""
-    lines = [f"nodes {nodes} 4294967295"]
-    for point in range(16):
-        lines.append(f"set 0 p{point} 1000000*off")
-        lines += [f"shift 0 p{point} 0 {to} {1000000 // nodes}" for to in range(1, nodes)]
-    for to in range(1, nodes):
-        lines += [f"emit 0 {to}", f"deliver {to} {to - 1}"]
-    message = nodes - 1
-    for number in range(exchanges):
-        sender, receiver = number % nodes, (number + 1) % nodes
-        lines += [f"pass {sender} p{(number + place) % 16}" for place in range(8)]
-        lines += [f"emit {sender} {receiver}", f"deliver {receiver} {message}"]
-        message += 1
-    return "\n".join(lines).encode()
-
-
-class Turns:
-    """A script of 16 nodes that know points with 16 counted terms. They take turns: a node passes a point and tells the
-    other node of its pair, which then tells it. Before the turns that are asked for each node has had one, so that each
-    knows by then which version of it the other knows."""
-
-    def __init__(self, points, turns):
-        self.lines = ["nodes 16 4294967295"]
-        self.receivers = []
-        self.tell(2, 3)
-        actions = "->".join(["1000000*off"] * 16)
-        for point in range(points):
-            self.lines.append(f"set 0 p{point} {actions}")
-            self.lines += [f"shift 0 p{point} 0 {to} 60000" for to in range(1, 16)]
-        for receiver in range(1, 16):
-            self.tell(0, receiver)
-        for turn in range(16 + turns):
-            node = turn % 16
-            self.lines.append(f"pass {node} p{(turn + turn // 16) % points}")
-            self.tell(node, node ^ 1)
-            self.tell(node ^ 1, node)
-        self.changes = 15 + 16 + turns
-
-    def tell(self, sender, receiver):
-        """A message that is delivered at once."""
-        self.lines += [f"emit {sender} {receiver}", f"deliver {receiver} {len(self.receivers)}"]
-        self.receivers.append(receiver)
-
-    def deliver_again(self, message, times):
-        """The last message is also -1."""
-        message %= len(self.receivers)
-        self.lines += [f"deliver {self.receivers[message]} {message}"] * times
-
-    def run(self, program):
-        return run(program, "\n".join(self.lines).encode(), b"changed", self.changes)
-
-
-def run(program, text, answer, count):
-    """Seconds of a processor, and the most memory in MiB. So many lines begin with the answer."""
-    with tempfile.TemporaryFile() as source, tempfile.TemporaryFile() as output:
-        source.write(text)
-        source.seek(0)
-        child = subprocess.Popen([program, "sim"], stdin=source, stdout=output)
-        _, status, usage = os.wait4(child.pid, 0)
-        child.returncode = os.waitstatus_to_exitcode(status)
-        output.seek(0)
-        answers = sum(line.startswith(answer) for line in output)
-    if child.returncode != 0 or answers != count:
-        sys.exit(f"{program} sim: status {child.returncode}, {answers} of {count} calls answered {answer.decode()}")
-    return usage.ru_utime + usage.ru_stime, usage.ru_maxrss / 1024
-
-
-def timed(program, texts, answer, counts):
-    """Seconds at each size, the best of the rounds, and the most memory. The sizes go in turn."""
-    rounds = [[run(program, text, answer, count) for text, count in zip(texts, counts)] for _ in range(ROUNDS)]
-    times = [min(seconds for seconds, _ in runs) for runs in zip(*rounds)]
-    return times, max(most for runs in rounds for _, most in runs)
-
-
-def time_passes(program):
-    few, many = PASSES
-    print(f"{'setting':<12}{'points':>7}{f'ns a pass, {few}':>20}{many:>8}{'ratio':>7}{'most MiB':>10}")
-    for setting in SETTINGS:
-        for points in POINTS:
-            texts = [script(setting, points, passes) for passes in PASSES]
-            (first, second), memory = timed(program, texts, b"act ", PASSES)
-            print(f"{setting:<12}{points:>7}{first / few * 1e9:>20.0f}{second / many * 1e9:>8.0f}{second / first:>7.2f}{memory:>10.1f}")
-
-
-def compare_passes(before, now):
-    """Two programs in turn, 200,000 passes each, and how many times the first one's time the second takes."""
-    many = PASSES[-1]
-    print(f"{'setting':<12}{'points':>7}{'ns a pass, before':>20}{'now':>8}{'ratio':>7}")
-    for setting in SETTINGS:
-        for points in POINTS:
-            text = script(setting, points, many)
-            rounds = [[run(program, text, b"act ", many)[0] for program in (before, now)] for _ in range(ROUNDS_BESIDE)]
-            first, second = (min(times) for times in zip(*rounds))
-            print(f"{setting:<12}{points:>7}{first / many * 1e9:>20.0f}{second / many * 1e9:>8.0f}{second / first:>7.3f}")
-
-
-def time_calls(program):
-    print(f"\n{'call':<24}{'us a call, n':>14}{'2n':>8}{'ratio':>7}{'most MiB':>10}")
-    for name, make, answer, counts in (
-        ("load of 256 points", load_script, b"loaded 256", LOADS),
-        ("shift", shift_script, b"shifted ", SHIFTS),
-        ("grant", grant_script, b"granted ", GRANTS),
-    ):
-        (first, second), memory = timed(program, [make(count) for count in counts], answer, counts)
-        few, many = counts
-        print(f"{name:<24}{first / few * 1e6:>14.2f}{second / many * 1e6:>8.2f}{second / first:>7.2f}{memory:>10.1f}")
-
-
-def time_exchanges(program):
-    few, many = EXCHANGES
-    print(f"\n{'nodes':<7}{f'us an exchange, {few}':>22}{many:>8}{'ratio':>7}{'most MiB':>10}")
-    for nodes in CLUSTERS:
-        texts = [exchange_script(nodes, count) for count in EXCHANGES]
-        counts = [count + nodes - 1 for count in EXCHANGES]
-        (first, second), memory = timed(program, texts, b"changed", counts)
-        print(f"{nodes:<7}{first / few * 1e6:>22.1f}{second / many * 1e6:>8.1f}{second / first:>7.2f}{memory:>10.1f}")
-
-
-def seconds_of_turns(program, points, turns):
-    """What so many turns take beyond those before them, the best of the rounds, and the most memory."""
-    rounds = [[Turns(points, count).run(program) for count in (0, turns)] for _ in range(ROUNDS_OF_TURNS)]
-    before, all_turns = (min(seconds for seconds, _ in runs) for runs in zip(*rounds))
-    return all_turns - before, max(most for runs in rounds for _, most in runs)
-
-
-def bytes_kept(program, points, message):
-    """What a node keeps of one delivery of a message: so many more of them take so much more memory."""
-    memory, times = {}, 256
-    while True:
-        for count in (times, 2 * times):
-            turns = Turns(points, 16)
-            turns.deliver_again(message, count)
-            memory[count] = turns.run(program)[1]
-        if memory[times] >= MIB_OF_COPIES or times == MOST_COPIES:
-            return (memory[2 * times] - memory[times]) * 2**20 / times
-        times *= 4
-
-
-def time_turns(program):
-    print(f"\n{'points':<8}{'turns n':>8}{'us a turn, n':>14}{'2n':>9}{'ratio':>7}{'bytes there':>13}{'back':>8}{'most MiB':>10}")
-    # Message 0 tells nothing, in 32 bytes.
-    beside = bytes_kept(program, KNOWN_POINTS[0], 0) - 32
-    for points in KNOWN_POINTS:
-        few = 16
-        while (first := seconds_of_turns(program, points, few)[0]) < SECONDS_OF_TURNS and few < MOST_TURNS:
-            few *= 2
-        second, memory = seconds_of_turns(program, points, 2 * few)
-        there, back = (bytes_kept(program, points, message) - beside for message in (-2, -1))
-        print(
-            f"{points:<8}{few:>8}{first / few * 1e6:>14.1f}{second / few / 2 * 1e6:>9.1f}{second / first:>7.2f}"
-            f"{there:>13.0f}{back:>8.0f}{memory:>10.1f}"
-        )
-
-
-class Ran:
-    """A run of `bench` that did what one command says."""
-
-    def __init__(self, program, *words):
-        command = " ".join(map(str, words))
-        how = {"stdin": subprocess.DEVNULL, "stdout": subprocess.PIPE, "stderr": subprocess.PIPE, "text": True}
-        child = subprocess.Popen([program, command], **how)
-        printed, took = child.stdout.read(), child.stderr.read()
-        _, status, usage = os.wait4(child.pid, 0)
-        child.returncode = os.waitstatus_to_exitcode(status)
-        said = re.fullmatch(r".*: (\d+) done, (\d+) bytes, 0 wrong\n", printed)
-        if child.returncode != 0 or not said:
-            sys.exit(f"{program} {command!r}: status {child.returncode}, {printed}{took}")
-        self.count, self.bytes = map(int, said.groups())
-        # By the clock.
-        self.nanoseconds, self.to_audit = map(int, re.findall(r"(\d+) ns", took))
-        # Of a processor.
-        self.seconds = usage.ru_utime + usage.ru_stime
-        # The most, in bytes.
-        self.memory = usage.ru_maxrss * 1024
-
-
-def time_maps(program):
-    few, many = KEYS
-    print(f"\n{'work':<12}{f'ms, {few} keys':>20}{many:>8}{'ratio':>7}")
-    for work in WORKS:
-        rounds = [[Ran(program, "maps", work, keys).seconds for keys in KEYS] for _ in range(ROUNDS)]
-        first, second = (min(times) * 1e3 for times in zip(*rounds))
-        print(f"{work:<12}{first:>20.0f}{second:>8.0f}{second / first:>7.2f}")
-
-
-def message_bytes(program, form, names):
-    return Ran(program, "messages", "decode", form, names, 0).bytes
-
-
-def time_messages(program, form):
-    """What is spent without reading or writing is left out of the times."""
-    few, many, most = NAMES
-    lengths = [message_bytes(program, form, names) for names in NAMES]
-    print(f"\n{form:<9}{f'MB/s, {few} names':>16}{many:>7}{most:>7}{'ratio':>7}{f'ms, {lengths[-1]} bytes':>20}{'most MiB':>10}")
-    for work in ("decode", "encode"):
-        rounds = [
-            [Ran(program, "messages", work, form, names, times).seconds for names in NAMES for times in (0, TIMES)]
-            for _ in range(ROUNDS)
-        ]
-        best = [min(times) for times in zip(*rounds)]
-        seconds = [(after - before) / TIMES for before, after in zip(best[::2], best[1::2])]
-        speeds = [length / time / 1e6 for length, time in zip(lengths, seconds)]
-        memory = Ran(program, "messages", work, form, most, 1).memory / 2**20
-        print(
-            f"{work:<9}{speeds[0]:>16.0f}{speeds[1]:>7.0f}{speeds[2]:>7.0f}{seconds[1] / seconds[0]:>7.2f}"
-            f"{seconds[2] * 1e3:>20.1f}{memory:>10.1f}"
-        )
-
-
-def spent_on_calls(program, way, term, calls, answers):
-    """Nanoseconds by the clock, of the passes alone, seconds of a processor, and the most memory in bytes."""
-    ran = Ran(program, "passes", way, term, calls, answers)
-    return ran.nanoseconds, ran.seconds, ran.memory
-
-
-def time_locks(program):
-    """The sizes go in turn, and the ways too. `to one` is to the time through a registry by one thread."""
-    few, many = CALLS
-    print(
-        f"\n{'way':<10}{'term':<11}{'by':<7}{f'ns a pass, {few}':>20}{many:>8}{'ratio':>7}{'to one':>8}"
-        f"{'ns of processors':>18}{'bytes kept':>12}"
-    )
-    for term, answers in ((term, answers) for term in TERMS for answers in ANSWERS):
-        rounds = [
-            [[spent_on_calls(program, way, term, calls, answers) for calls in CALLS] for way in WAYS] for _ in range(ROUNDS)
-        ]
-        best = [[[min(parts) for parts in zip(*runs)] for runs in zip(*sizes)] for sizes in zip(*rounds)]
-        one_thread = best[WAYS.index("registry")][1][0]
-        for way, ((first, _, memory), (second, processor, twice)) in zip(WAYS, best):
-            print(
-                f"{way:<10}{term:<11}{answers:<7}{first / few:>20.0f}{second / many:>8.0f}{second / first:>7.2f}{second / one_thread:>8.2f}"
-                f"{processor / many * 1e9:>18.0f}{(twice - memory) / few:>12.0f}"
-            )
-
-
-def told(program, nodes, changed, rounds):
-    """The messages and bytes of so many rounds of all nodes; their nanoseconds by the clock, without the changes before
-    them; and the seconds of a processor that the whole run took."""
-    ran = Ran(program, "rounds", nodes, changed, rounds)
-    return ran.count, ran.bytes, ran.nanoseconds, ran.seconds
-
-
-def time_rounds(program):
-    """In a round each node tells all others, one node after the other. The ratio is of what the rounds take of a processor,
-    without what a run of none takes; the microseconds are by the clock."""
-    print(f"\n{'nodes':<7}{'changed':>8}{'rounds n':>10}{'messages':>10}{'bytes':>12}{'us a round, n':>15}{'2n':>10}{'ratio':>7}{'us a message':>14}")
-    for nodes in MEMBERS:
-        for changed in CHANGED:
-            few = max(4, MESSAGES[changed] // (nodes * (nodes - 1)))
-            sizes = (0, few, 2 * few)
-            rounds = [[told(program, nodes, changed, count) for count in sizes] for _ in range(ROUNDS_OF_TURNS)]
-            messages, length = rounds[0][1][:2]
-            _, first, second = (min(run[2] for run in runs) / 1e3 for runs in zip(*rounds))
-            none, once, twice = (min(run[3] for run in runs) for runs in zip(*rounds))
-            print(
-                f"{nodes:<7}{changed:>8}{few:>10}{messages / few:>10.0f}{length / few:>12.0f}{first / few:>15.1f}"
-                f"{second / few / 2:>10.1f}{(twice - none) / (once - none):>7.2f}{second / messages / 2:>14.2f}"
-            )
-
-
-def made_and_audited(program, drill, entries, work):
-    """Nanoseconds by the clock in which the calls were made and in which they were audited, and the most memory in MiB."""
-    ran = Ran(program, "audits", drill, entries, work)
-    return ran.nanoseconds, ran.to_audit, ran.memory / 2**20
-
-
-def time_audits(program):
-    """The sizes go in turn. `to make` is to the time in which one thread makes the calls, of as many entries."""
-    few, many = ENTRIES
-    print(
-        f"\n{'drill':<11}{'ns to make one':>16}{f'audit it, {few}':>20}{many:>9}{'ratio':>7}{'to make':>9}{many:>9}"
-        f"{'MiB of calls':>14}{'with audit':>12}"
-    )
-    for drill in DRILLS:
-        rounds = [
-            [made_and_audited(program, drill, count, "audit") for count in ENTRIES] for _ in range(ROUNDS_OF_DRILLS)
-        ]
-        (made, audited, memory), (made_twice, twice, _) = ([min(parts) for parts in zip(*runs)] for runs in zip(*rounds))
-        before = made_and_audited(program, drill, few, "make")[2]
-        print(
-            f"{drill:<11}{made / few:>16.0f}{audited / few:>20.0f}{twice / many:>9.0f}{twice / audited:>7.2f}"
-            f"{audited / made:>9.2f}{twice / made_twice:>9.2f}{before:>14.0f}{memory:>12.0f}"
-        )
+# A run makes so many passes. All programs go in turn, so often, and of each the best run counts.
+PASSES = 200_000
+ROUNDS = 31
+# Instructions are those of the second run less those of the first.
+COUNTED = (20_000, 40_000)
+
+
+class Way(NamedTuple):
+    """How one program passes: what it is asked, but for how often."""
+
+    program: str
+    kind: str
+    threads: int = 1
+
+
+class Line(NamedTuple):
+    """A line of the table: ours, and the kind of passes of gofail and libfiu beside it, if there is one."""
+
+    work: str
+    caller: str
+    ours: Way
+    theirs: str = ""
+    wished: str = ""
+
+
+def lines():
+    yield Line("no point is set", "Rust", Way("rust", "nothing-set"), "nothing-set")
+    unset = "not set, another point is"
+    yield Line(unset, "Rust", Way("rust", "unset"), "unset", "2 ns")
+    yield Line(unset, "C, which asks whether it is set", Way("c", "looked"), "unset")
+    yield Line(unset, "C, which passes it all the same", Way("c", "unset-at"), "unset")
+    for work, kind, wished in (("set, no count", "uncounted", "115 ns"), ("counted", "counted", "160 ns")):
+        yield Line(work, "a registry", Way("bench", f"registry {kind}"), kind, wished)
+        yield Line(work, "C, by number", Way("c", f"{kind}-at"), kind, "150 ns")
+        yield Line(work, "C, by name", Way("c", kind), kind)
+        yield Line(work, "Rust", Way("rust", kind), kind)
+    chance = "with a chance of 50%"
+    yield Line(chance, "a registry", Way("bench", "registry chance"), "chance")
+    yield Line(chance, "C, by number", Way("c", "chance-at"), "chance")
+    yield Line(chance, "Rust", Way("rust", "chance"), "chance")
+    for work, kind in (("set, four threads on one point", "uncounted"), ("counted, four threads", "counted")):
+        yield Line(work, "a registry", Way("bench", f"threads {kind}", 4), kind, "gofail's")
+        yield Line(work, "C, by number", Way("c", f"{kind}-at", 4), kind, "gofail's")
+        yield Line(work, "Rust", Way("rust", kind, 4), kind)
+    yield Line("set, four threads with a point each", "four registries", Way("bench", "nodes uncounted", 4), "own", "35 ns")
+    yield Line("set, 256 points in turn", "C, by number", Way("c", "many-at"), "many", "1.2 times one point")
+    yield Line("a line `pass` of a script", "`failreg sim`", Way("sim", "print(x)"), "", "200 ns")
+    yield Line("the audit of a pass", "16 nodes", Way("bench", "audits"), "", "300 ns")
+
+
+class Speed:
+    """A program that is told a kind, threads and passes, and prints nanoseconds and bytes a pass."""
+
+    def __init__(self, path):
+        self.path = path
+
+    def words(self, way, passes):
+        return self.path, way.kind, str(way.threads), str(passes)
+
+    def time(self, way):
+        return [float(word) for word in Ran(self.words(way, PASSES), first=FIRST).printed.split()]
+
+    def figures(self, best):
+        """Nanoseconds a pass, of the least that each of its runs told."""
+        return best[0]
+
+    def kept(self, way):
+        """Bytes that a pass keeps: of ten times as many passes less those of one."""
+        few, many = (float(Ran(self.words(way, passes)).printed.split()[1]) * passes for passes in (PASSES, 10 * PASSES))
+        return (many - few) / (9 * PASSES)
+
+    def count(self, way):
+        few, many = (instructions(self.words(way, passes)) for passes in COUNTED)
+        return (many - few) / (COUNTED[1] - COUNTED[0])
+
+
+class Bench(Speed):
+    """`bench`, which tells the nanoseconds of all passes, or of an audit."""
+
+    def command(self, way, passes, work):
+        return self.path, f"audits {passes} {work}" if way.kind == "audits" else f"passes {way.kind} {passes}"
+
+    def time(self, way):
+        took = re.findall(r"(\d+) ns", Ran(self.command(way, PASSES, "audit"), first=FIRST).said)
+        return [int(took[way.kind == "audits"]) / PASSES]
+
+    def kept(self, way):
+        return None
+
+    def count(self, way):
+        few, many = (self.counted(way, passes) for passes in COUNTED)
+        return (many - few) / (COUNTED[1] - COUNTED[0])
+
+    def counted(self, way, passes):
+        # What it takes to make the calls is no part of their audit.
+        before = instructions(self.command(way, passes, "make")) if way.kind == "audits" else 0
+        return instructions(self.command(way, passes, "audit")) - before
+
+
+class Sim(Speed):
+    """`failreg sim`, whose passes are the difference of two scripts, in time of a processor."""
+
+    def script(self, way, passes):
+        return "\n".join(["nodes 1 4294967295", f"set 0 p0 {way.kind}"] + ["pass 0 p0"] * passes).encode()
+
+    def time(self, way):
+        texts = (self.script(way, passes) for passes in (PASSES, 2 * PASSES))
+        return [Ran((self.path, "sim"), text, first=FIRST).seconds for text in texts]
+
+    def figures(self, best):
+        once, twice = best
+        return (twice - once) / PASSES * 1e9
+
+    def kept(self, way):
+        return None
+
+    def count(self, way):
+        few, many = (instructions((self.path, "sim"), self.script(way, passes)) for passes in COUNTED)
+        return (many - few) / (COUNTED[1] - COUNTED[0])
+
+
+class Figure(NamedTuple):
+    """Of a pass."""
+
+    nanoseconds: float
+    instructions: float | None
+    bytes: float | None
+
+
+def build(folder, is_built):
+    """Each program by its name. Those of Rust, gofail and libfiu are left out where what they take isn't installed."""
+    programs.library(is_built)
+    found = {
+        "bench": Bench(programs.proved(is_built, "bench", "passes registry counted 1")),
+        "sim": Sim(programs.proved(is_built, "failreg", "--help")),
+        "c": Speed(programs.of_c(folder, "speed")),
+    }
+    others = {"rust": programs.of_rust, "gofail": programs.of_gofail, "libfiu": programs.of_libfiu}
+    for name, made in others.items():
+        if path := made(folder):
+            found[name] = Speed(path)
+        else:
+            print(f"{name} isn't installed, and was skipped")
+    return found
+
+
+def ways_of(table, names):
+    """Each way once, in the order of the table. libfiu has no counts."""
+    for line in table:
+        yield line.ours
+        for name in ("gofail", "libfiu"):
+            if line.theirs and name in names and (name, line.theirs) != ("libfiu", "counted"):
+                yield Way(name, line.theirs, line.ours.threads)
+
+
+def count(program, way):
+    """Only of one thread: cachegrind lets threads run one at a time. None where it isn't there, or can't run the program."""
+    if way.threads > 1:
+        return None
+    try:
+        return program.count(way)
+    except (SystemExit, OSError) as why:
+        print(f"the instructions of {way.program} {way.kind} weren't counted: {str(why).splitlines()[0]}", file=sys.stderr)
+        return None
+
+
+def measure(found, ways):
+    """A figure of each way, of the best of rounds in which all go in turn."""
+    rounds = [[found[way.program].time(way) for way in ways] for _ in range(ROUNDS)]
+    figures = {}
+    for way, runs in zip(ways, zip(*rounds)):
+        program = found[way.program]
+        best = program.figures([min(parts) for parts in zip(*runs)])
+        figures[way] = Figure(best, count(program, way), program.kept(way) if way.threads == 1 else None)
+    return figures
+
+
+def number(value):
+    return f"{value:.0f}" if value >= 9.95 else f"{value:.1f}"
+
+
+def cell(figure):
+    if figure is None:
+        return ""
+    inner = "" if figure.instructions is None else f" ({figure.instructions:,.0f})"
+    return number(figure.nanoseconds) + inner
+
+
+def ratio(ours, theirs):
+    return "" if theirs is None else f"{ours.nanoseconds / theirs.nanoseconds:.2f}"
+
+
+def print_table(table, figures):
+    print("| A pass | from | failreg | gofail | to it | libfiu | to it | bytes | wished |")
+    print("|---|---|---|---|---|---|---|---|---|")
+    for before, line in zip((None, *table), table):
+        ours = figures[line.ours]
+        theirs = [figures.get(Way(name, line.theirs, line.ours.threads)) for name in ("gofail", "libfiu")]
+        # The first line of a work has its name and their figures, each line its ratios.
+        is_first = before is None or before.work != line.work
+        work = line.work if is_first else ""
+        gofail, libfiu = (cell(figure) if is_first else "" for figure in theirs)
+        to_gofail, to_libfiu = (ratio(ours, figure) for figure in theirs)
+        kept = "" if ours.bytes is None else number(max(ours.bytes, 0))
+        words = (work, line.caller, cell(ours), gofail, to_gofail, libfiu, to_libfiu, kept, line.wished)
+        print(f"| {' | '.join(words)} |")
+
+
+def conditions():
+    """What stands beside the figures, so that they can be read later."""
+    with open("/proc/cpuinfo", encoding="utf-8") as info:
+        model = re.search(r"model name\s*: (.*)", info.read())
+    packages = ("golang-github-etcd-io-gofail-dev", "golang-go", "libfiu-dev")
+    words = ["dpkg-query", "-W", "-f", "${Package} ${Version}, ", *packages]
+    versions = subprocess.run(words, capture_output=True, text=True).stdout if os.path.exists("/usr/bin/dpkg-query") else ""
+    print(f"{os.cpu_count()} processors, {model.group(1) if model else 'unknown'}; load {os.getloadavg()[0]:.0f}")
+    print(f"{versions}before each program: {' '.join(FIRST) or 'nothing'}")
+    print(f"best of {ROUNDS} runs of {PASSES:,} passes: nanoseconds (instructions) a pass\n")
 
 
 def main():
-    words = [word for word in sys.argv[1:] if word != "--built"]
-    is_built = len(words) < len(sys.argv) - 1
-    failreg = build(is_built, "failreg", "--help")
-    if words:
-        compare_passes(os.path.abspath(words[0]), failreg)
-        return
-    time_passes(failreg)
-    time_calls(failreg)
-    time_exchanges(failreg)
-    time_turns(failreg)
-    bench = build(is_built, "bench", "maps build 1")
-    time_maps(bench)
-    for form in FORMS:
-        time_messages(bench, form)
-    time_locks(bench)
-    time_rounds(bench)
-    time_audits(bench)
+    parser = argparse.ArgumentParser(description=__doc__)
+    parser.add_argument("--built", action="store_true", help="take our programs and the library as they stand")
+    asked = parser.parse_args()
+    with tempfile.TemporaryDirectory() as folder:
+        found = build(folder, asked.built)
+        table = [line for line in lines() if line.ours.program in found]
+        conditions()
+        print_table(table, measure(found, list(dict.fromkeys(ways_of(table, found)))))
 
 
 if __name__ == "__main__":

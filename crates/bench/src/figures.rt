@@ -3,11 +3,11 @@
 /// How much was done, and how long it took by the clock.
 #[derive(Clone, Copy)]
 pub(crate) struct Figures {
-    /// So many keys, messages, passes of each thread, or entries.
+    /// So many messages, passes of each thread, or entries.
     pub(crate) count: u64,
     /// So many bytes of messages.
     pub(crate) bytes: u64,
-    /// So many messages were lost, or aren't written as they were read.
+    /// So many messages aren't written as they were read.
     pub(crate) wrong: u64,
     /// Nanoseconds of the work.
     pub(crate) work: u128,

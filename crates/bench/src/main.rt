@@ -1,16 +1,13 @@
-//! Times what the program doesn't reach by scripts: `bench/run.py` runs it. Each word of its command
-//! line is one command.
+//! Times what neither scripts nor the library for C reach: `bench/run.py` and `bench/growth.py` run it.
+//! Each word of its command line is one command.
 #![tactic(auto)]
 
 mod audits;
-mod baton;
 mod calls;
 mod figures;
 mod great_messages;
-mod maps;
 mod messages;
 mod passes;
-mod rounds;
 
 use figures::Figures;
 use std::process::ExitCode;
@@ -19,19 +16,15 @@ use std::thread::Threads;
 use std::time::Clock;
 
 const USAGE: &str = "bench COMMAND.., where a COMMAND is one word of
-maps build|raise|join|take KEYS
 messages decode|encode plain|grants NAMES TIMES
-passes core|registry|threads|nodes uncounted|counted|chance PASSES drop|point
-rounds NODES CHANGED ROUNDS, of 1 to 32 nodes, and of 256 points at most
-audits passes|forwards|backwards ENTRIES make|audit";
+passes registry|threads|nodes uncounted|counted|chance PASSES
+audits CALLS make|audit";
 
 // What a command asks for.
 #[derive(Clone, Copy)]
 enum Work {
-    Maps(maps::Load),
     Messages(messages::Load),
     Passes(passes::Load),
-    Rounds(rounds::Load),
     Audits(audits::Load),
 }
 
@@ -39,10 +32,8 @@ enum Work {
 fn work_of(words: &[&str]) -> Option<Work> {
     let (work, load) = words.split_first()?;
     Some(match *work {
-        "maps" => Work::Maps(maps::load_of(load)?),
         "messages" => Work::Messages(messages::load_of(load)?),
         "passes" => Work::Passes(passes::load_of(load)?),
-        "rounds" => Work::Rounds(rounds::load_of(load)?),
         "audits" => Work::Audits(audits::load_of(load)?),
         _ => return None,
     })
@@ -54,10 +45,8 @@ fn figures_of<R: AllocGlobal + Clock + Threads + Wait + Sync>(
     work: Work,
 ) -> anyhow::Result<Figures> {
     match work {
-        Work::Maps(load) => Ok(maps::figures(rt.alloc(), load)?),
         Work::Messages(load) => Ok(messages::figures(rt.alloc(), load)?),
         Work::Passes(load) => passes::figures(rt, load),
-        Work::Rounds(load) => rounds::figures(rt, load),
         Work::Audits(load) => audits::figures(rt, load),
     }
 }

@@ -11,14 +11,17 @@ use std::time::Instant;
 
 const KINDS: [(&str, &[&str]); 6] = [
     ("nothing-set", &[]),
-    ("unset", &["other.point=off"]),
-    ("uncounted", &["other.point=off", "some.point=off"]),
-    ("counted", &["other.point=off", "some.point=1000000000*off"]),
+    ("unset", &["other.point=return"]),
+    ("uncounted", &["other.point=return", "some.point=return"]),
+    (
+        "counted",
+        &["other.point=return", "some.point=1000000000*return"],
+    ),
     (
         "spent",
-        &["other.point=off", "some.point=0*off->return(spent)"],
+        &["other.point=return", "some.point=0*off->return(spent)"],
     ),
-    ("chance", &["other.point=off", "some.point=50%off"]),
+    ("chance", &["other.point=return", "some.point=50%return"]),
 ];
 
 fn passed(node: &Registry) -> u32 {
@@ -67,7 +70,7 @@ fn main() {
     let made = (each * threads) as f64;
     let took = begun.elapsed().as_nanos() as f64;
     println!(
-        "{:.1} {:.1}",
+        "{:.2} {:.2}",
         took / made,
         (bytes_resident() - resident) / made
     );
