@@ -204,6 +204,9 @@ ones; where the seed is missing, it is the one behind the last. The reason
 stands on standard error, and behind it what was wanted of each bad line, of 20
 at most, unless --quiet is given.
 
+With --check the status is 3 where any of this is said, of bad lines too, and
+--quiet ends nothing. All of the script runs, unless a line is bad.
+
 Example:
   $ printf 'nodes 1 9\\nseed %064d\\nstart set 0 a 2*off\\nworker 0\\npass a 4\\n' 0 | failreg threads
   workers 1

@@ -49,7 +49,9 @@ pub struct ThreadOptions<'a> {
     pub record_parts: Option<&'a str>,
     /// Whether files that are there are written over.
     pub force: bool,
-    /// Whether nothing is said of what goes wrong.
+    /// Whether what goes wrong counts.
+    pub check: bool,
+    /// Whether nothing is said of what goes wrong, where it doesn't count.
     pub quiet: bool,
 }
 
@@ -158,6 +160,7 @@ fn read_matches<'a>(alloc: Global, matches: &ArgMatches<'a>) -> Result<Invocatio
             record: matches.get_str("record"),
             record_parts: matches.get_str("record-parts"),
             force: matches.get_flag("force"),
+            check: matches.get_flag("check"),
             quiet: matches.get_flag("quiet"),
         }),
         Subcommand::Audit => {

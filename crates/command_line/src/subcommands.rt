@@ -140,6 +140,18 @@ const THREADS: &[Argument] = &[
         excludes: &[],
     },
     Argument {
+        name: "check",
+        by_name: true,
+        value: "check",
+        help: "Ends with 3 where something goes wrong",
+        required: false,
+        default: &[],
+        values: (0, 0),
+        most: None,
+        takes_hyphens: false,
+        excludes: &[],
+    },
+    Argument {
         name: "quiet",
         by_name: true,
         value: "quiet",

@@ -1,5 +1,6 @@
 pub mod Statuses
 pub mod Recordings
+pub mod Checked
 pub mod RefusedText
 pub mod ShortLines
 pub mod Explaining

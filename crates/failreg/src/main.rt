@@ -21,6 +21,7 @@ mod advice;
 mod audit_refused;
 mod audited_files;
 mod auditing;
+mod checking;
 mod explaining;
 mod finish;
 mod part_recording;
@@ -32,6 +33,7 @@ mod warning;
 use actions::parse_actions;
 use advice::{advice_on_audit, advice_on_parse, advice_on_service, is_missing};
 use audited_files::audit_files;
+use checking::check_threads;
 use command_line::{
     Invocation, ServeOptions, SimOptions, ThreadOptions, quoted, read_command_line,
 };
@@ -80,6 +82,9 @@ fn main(rt: HostRuntime) -> anyhow::Result<ExitCode> {
             check(&rt, options.echo, &mut reader, &mut writer, &mut errors)
         }
         Ok(Invocation::Sim(options)) => { sim(&rt, options, &mut reader, &mut writer, &mut errors) }
+        Ok(Invocation::Threads(options)) if options.check => {
+            check_threads(&rt, options, &mut reader, &mut writer, &mut errors)
+        }
         Ok(Invocation::Threads(options)) => match (options.record, options.record_parts) {
             (Some(path), _) => record(&rt, path, options, &mut reader, &mut writer, &mut errors),
             (None, Some(folder)) => {

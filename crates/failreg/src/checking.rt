@@ -1,0 +1,123 @@
+//! Scripts of threads that are checked.
+
+ghost use Rattle.std.specs.Prelude.{◌≡◌, ◌≢◌, ◌↔◌, ◌⊎◌, ℕ, [], true, false, Err, IfErr, IfOk};
+ghost use Rattle.std.specs.Prelude.{OnOk};
+ghost use Rattle.std.specs.Process.{exit_status};
+ghost use Rattle.streams.specs.declared.fault.ScriptFault.TheVariants.{BadLine, ReadFailed};
+ghost use Rattle.streams.specs.Streams.{IfInput, Writes};
+ghost use Rattle.streams.specs.Watched.{has_failed, has_unflushed};
+ghost use Rattle.thread_plans.specs.BadLines.{bad_text};
+ghost use Rattle.thread_scripts.specs.Outputs.{PlaysSaying};
+ghost use Rattle.failreg.specs.Checked.{FailsSaying};
+ghost use Rattle.failreg.specs.Statuses.{HasStatus, OnStatus};
+
+use crate::finish::refuse;
+use crate::part_recording::{kept_part, run_in_parts};
+use crate::recording::{is_kept, run_recorded};
+use crate::warning::finish_checked_threads;
+use command_line::{ThreadOptions, quoted};
+use scripts::{ScriptFault, Watched};
+use std::alloc::{AllocError, AllocGlobal};
+use std::fs::Files;
+use std::io::{Read, Write};
+use std::process::ExitCode;
+use std::sync::Wait;
+use std::thread::Threads;
+use thread_scripts::run_threads_warning;
+
+// The file that is there where the drill or a part of it is to be kept, if one is.
+fn in_the_way<R: Files + AllocGlobal>(
+    rt: &R,
+    options: ThreadOptions<'_>,
+) -> Result<Option<String>, AllocError> {
+    match (options.record, options.record_parts) {
+        (Some(path), _) => {
+            if is_kept(rt, path) {
+                return Ok(Some(String::from_str(rt.alloc(), path)?));
+            }
+            Ok(None)
+        }
+        (None, Some(folder)) => kept_part(rt, rt.alloc(), folder),
+        (None, None) => Ok(None),
+    }
+}
+
+// Says that a file is there.
+fn refuse_kept<R: Eprint + AllocGlobal>(
+    rt: &R,
+    path: &str,
+    options: ThreadOptions<'_>,
+) -> anyhow::Result<ExitCode>
+    ensures { HasStatus result 1 }
+{
+    let other = match options.record {
+        Some(_) => "file",
+        None => "folder",
+    };
+    let shown = quoted(rt.alloc(), path)?;
+    let advice = format!(in rt.alloc(); "{shown} is there: another {other}, or --force")?;
+    refuse(rt, ScriptFault::WriteFailed, &advice)
+}
+
+// Runs the script of threads that a reader gives, writes what it prints, and sets what is said; and
+// keeps its drill, where that is asked for.
+fn run_saying<R: Threads + Wait + Sync + Files + AllocGlobal, I: Read, O: Write>(
+    rt: &R,
+    options: ThreadOptions<'_>,
+    reader: &mut Watched<I>,
+    writer: &mut Watched<O>,
+    said: &mut Vec<u8>,
+) -> Result<(), ScriptFault>
+    requires reader { has_failed reader.old ≡ false }
+    requires writer { has_failed writer.old ≡ false }
+    ensures ok { OnOk result (IfInput I.remaining reader.old (λ input. PlaysSaying input
+        (Writes O.contents writer.old writer.new) (λ warned. said.new.items ≡ warned))) }
+    ensures flushed { OnOk result (has_unflushed writer.new ≡ false) }
+    ensures bad_said { (line : ℕ) → result ≡ Err (BadLine line) →
+        IfInput I.remaining reader.old (λ input. said.new.items ≡ bad_text input) }
+    ensures unsaid { IfErr result (λ fault.
+        ((line : ℕ) → fault ≢ BadLine line) → said.new ≡ said.old) }
+    ensures read_failed { (result ≡ Err ReadFailed) ↔ (has_failed reader.new ≡ true) }
+{
+    match (options.record, options.record_parts) {
+        (Some(path), _) => run_recorded(rt, rt.alloc(), path, reader, writer, said),
+        (None, Some(folder)) => run_in_parts(rt, rt.alloc(), folder, reader, writer, said),
+        (None, None) => run_threads_warning(rt, rt.alloc(), reader, writer, said),
+    }
+}
+
+/// Runs the script of threads that a reader gives as one that is checked, and may keep its drill: in
+/// files that are there only where that is wanted.
+pub fn check_threads<R, I: Read, O: Write, E: Write>(
+    rt: &R,
+    options: ThreadOptions<'_>,
+    reader: &mut Watched<I>,
+    writer: &mut Watched<O>,
+    errors: &mut Watched<E>,
+) -> anyhow::Result<ExitCode>
+where
+    R: Threads + Wait + Sync + Eprint + AllocGlobal + Files,
+    requires reader { has_failed reader.old ≡ false }
+    requires writer { has_failed writer.old ≡ false }
+    requires errors { has_failed errors.old ≡ false }
+    // With status 0 its whole output is written and flushed, and it is warned of nothing.
+    ensures good { OnStatus result 0 (IfInput I.remaining reader.old (λ input.
+        PlaysSaying input (Writes O.contents writer.old writer.new) (λ warned. warned ≡ []))) }
+    ensures flushed { OnStatus result 0 (has_unflushed writer.new ≡ false) }
+    // With status 3 it is warned of something, or has bad lines, and that is said.
+    ensures failed { OnStatus result 3 (has_failed errors.new ≡ false →
+        IfInput I.remaining reader.old (λ input. FailsSaying input
+        (Writes O.contents writer.old writer.new) (Writes E.contents errors.old errors.new))) }
+    ensures read_failed { has_failed reader.new ≡ true → HasStatus result 1 }
+    ensures status { IfOk result (λ code.
+        (exit_status code ≡ 0) ⊎ (exit_status code ≡ 1) ⊎ (exit_status code ≡ 3)) }
+{
+    if !options.force {
+        if let Some(path) = in_the_way(rt, options)? {
+            return refuse_kept(rt, &path, options);
+        }
+    }
+    let mut said = Vec::new(rt.alloc());
+    let run = run_saying(rt, options, reader, writer, &mut said);
+    finish_checked_threads(rt, run, &said, errors)
+}
