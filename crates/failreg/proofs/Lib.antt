@@ -1,2 +1,3 @@
+mod Parts
 pub mod Recorded
 pub mod Warned

@@ -4,32 +4,21 @@ use Rattle.std.specs.Prelude.{IfOk, IfSome, OnOk}
 use Rattle.streams.specs.Streams.{Writes}
 use Rattle.streams.specs.declared.watched.Watched.{Watched}
 use Rattle.drills.specs.Parts.{PartTold}
-use Rattle.failreg.specs.Recordings.{IsPlayed, IsRecorded, SaysOfAFile, SaysOfParts, SaysOfSomeParts, SaysVerdict}
+use Rattle.audit.specs.Receipts.{Lists}
+use Rattle.audit.specs.Traces.{Traces}
+use Rattle.failreg.specs.Recordings.{IsKept, SaysOfAFile, SaysOfParts, SaysOfSomeParts, SaysVerdict}
 use Rattle.thread_scripts.specs.Outputs.{ComesToSaying, PlaysSaying}
 use Rattle.thread_plans.specs.Plans.{PlanValue, plan_in}
 
 -- the script that was read is the input, what it prints was written, and what it is warned of is said
-pub played : {D O T E : Type 0} (kept : D → Option (List ℕ)) (old_kept new_kept : Watched D)
-    (contents : O → Option (List ℕ)) (old new : Watched O)
+pub played : {O T E : Type 0} (Keeps : Traces → Lists → Type 0) (contents : O → Option (List ℕ)) (old new : Watched O)
     (script : List ℕ) (plan : PlanValue) (said : List ℕ) (result : Result T E) (input : Option (List ℕ))
     → IfSome input (λ bytes. script ≡ bytes) → plan_in script ≡ Ok plan →
-    OnOk result (IsRecorded script plan said kept old_kept new_kept contents old new)
+    OnOk result (IsKept Keeps script plan said contents old new)
     → OnOk result (IfSome input (λ bytes. PlaysSaying bytes (Writes contents old new) (λ warned. said ≡ warned)))
-played kept old_kept new_kept contents old new script plan said (Err fault) input same planned h = tt
-played kept old_kept new_kept contents old new script plan said (Ok done) None same planned h = tt
-played kept old_kept new_kept contents old new script plan said (Ok done) (Some bytes) same planned h =
-    let comes : ComesToSaying script h.text said =
-    (plan, h.traces, h.lists, h.explained, planned, h.legal, h.given, h.judged, h.warned) in
-    (h.text, said, subst (λ b. ComesToSaying b h.text said) same comes, h.printed, refl)
-
-pub played_in_parts : {O T E : Type 0} (contents : O → Option (List ℕ)) (old new : Watched O)
-    (script : List ℕ) (plan : PlanValue) (said : List ℕ) (result : Result T E) (input : Option (List ℕ))
-    → IfSome input (λ bytes. script ≡ bytes) → plan_in script ≡ Ok plan →
-    OnOk result (IsPlayed script plan said contents old new)
-    → OnOk result (IfSome input (λ bytes. PlaysSaying bytes (Writes contents old new) (λ warned. said ≡ warned)))
-played_in_parts contents old new script plan said (Err fault) input same planned h = tt
-played_in_parts contents old new script plan said (Ok done) None same planned h = tt
-played_in_parts contents old new script plan said (Ok done) (Some bytes) same planned h =
+played Keeps contents old new script plan said (Err fault) input same planned h = tt
+played Keeps contents old new script plan said (Ok done) None same planned h = tt
+played Keeps contents old new script plan said (Ok done) (Some bytes) same planned h =
     let comes : ComesToSaying script h.text said =
     (plan, h.traces, h.lists, h.explained, planned, h.legal, h.given, h.judged, h.warned) in
     (h.text, said, subst (λ b. ComesToSaying b h.text said) same comes, h.printed, refl)

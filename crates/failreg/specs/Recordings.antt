@@ -1,5 +1,5 @@
 -- What of a recorded drill is written, and what an audit of one says, or of parts.
-use Rattle.std.specs.Prelude.{◌≡◌, ◌≢◌, ◌⊎◌, ◌==◌, ◌&&◌, ◌||◌, ◌++◌, ◌∷◌, ℕ, zero, suc, Bool, false, List, [], codes, decimal, if◌then◌else◌, length, min, is_ok, IfSome, Option, None, Result, Ok, Err}
+use Rattle.std.specs.Prelude.{◌≡◌, ◌≢◌, ◌<◌, ◌⊎◌, ◌==◌, ◌&&◌, ◌||◌, ◌++◌, ◌∷◌, ℕ, zero, suc, Bool, false, List, [], codes, decimal, if◌then◌else◌, length, min, is_ok, slice_index_or, IfSome, Option, Some, None, Result, Ok, Err}
 use Rattle.audit.specs.declared.auditing.AuditYes.{AuditYes}
 use Rattle.audit.specs.declared.fault.AuditFault.{AuditFault}
 use Rattle.audit.specs.declared.fault.AuditFault.TheVariants.{OutOfMemory}
@@ -9,18 +9,21 @@ use Rattle.audit.specs.Traces.{Traces}
 use Rattle.audit.specs.VerdictText.{verdict_text}
 use Rattle.drills.specs.Drills.{drill_in, drill_text, drill_told}
 use Rattle.drills.specs.Joined.{joined_of}
-use Rattle.drills.specs.Parts.{PartTold}
+use Rattle.drills.specs.Lines.{HeadTold}
+use Rattle.drills.specs.Parts.{PartTold, part_text}
+use Rattle.packed_trace.specs.Packed.{Packed}
 use Rattle.thread_scripts.specs.Outputs.{IsJudged}
 use Rattle.thread_scripts.specs.Plays.{AreListsOf, AreTracesOf}
 use Rattle.thread_scripts.specs.Warnings.{warned_text}
 use Rattle.thread_plans.specs.Plans.{PlanValue}
 use Rattle.streams.specs.Streams.{Writes}
+use Rattle.streams.specs.Watched.{has_unflushed}
 use Rattle.streams.specs.declared.watched.Watched.{Watched}
 
--- A drill was written that reads back as the same, and what a plan prints that came to its traces and receipts; and
--- this is what the plan's script is warned of, of these.
-pub record IsRecorded {D O : Type 0} (script : List ℕ) (plan : PlanValue) (said : List ℕ) (kept : D → Option (List ℕ))
-    (old_kept new_kept : Watched D) (contents : O → Option (List ℕ)) (old new : Watched O) : Type 0 where
+-- A plan was played and its run kept, as this says of its traces and lists of receipts; what it prints was written; and
+-- this is what the plan's script is warned of.
+pub record IsKept {O : Type 0} (Keeps : Traces → Lists → Type 0) (script : List ℕ) (plan : PlanValue) (said : List ℕ)
+    (contents : O → Option (List ℕ)) (old new : Watched O) : Type 0 where
   pub traces : Traces
   pub lists : Lists
   pub text : List ℕ
@@ -29,23 +32,32 @@ pub record IsRecorded {D O : Type 0} (script : List ℕ) (plan : PlanValue) (sai
   pub given : AreListsOf plan lists
   pub judged : IsJudged plan traces lists text explained
   pub warned : said ≡ warned_text script plan lists explained
-  pub drill : Writes kept old_kept new_kept (drill_text (drill_told traces lists))
-  pub reads_back : drill_in (drill_text (drill_told traces lists)) ≡ Ok (drill_told traces lists)
+  pub kept : Keeps traces lists
   pub printed : Writes contents old new text
 
--- What a plan prints was written that came to some traces and receipts; and this is what the plan's script is warned of,
--- of these.
-pub record IsPlayed {O : Type 0} (script : List ℕ) (plan : PlanValue) (said : List ℕ) (contents : O → Option (List ℕ))
-    (old new : Watched O) : Type 0 where
-  pub traces : Traces
-  pub lists : Lists
-  pub text : List ℕ
-  pub explained : Bool
-  pub legal : AreTracesOf plan traces
-  pub given : AreListsOf plan lists
-  pub judged : IsJudged plan traces lists text explained
-  pub warned : said ≡ warned_text script plan lists explained
-  pub printed : Writes contents old new text
+-- the drill was written, and reads back as the same
+abbrev pub KeepsDrill : {D : Type 0} → (D → Option (List ℕ)) → Watched D → Watched D → Traces → Lists → Type 0
+KeepsDrill kept old new traces lists =
+    Writes kept old new (drill_text (drill_told traces lists))
+    × (drill_in (drill_text (drill_told traces lists)) ≡ Ok (drill_told traces lists))
+
+-- the head of a node's part in a run of a plan, which has no name
+abbrev pub head_at : PlanValue → ℕ → HeadTold
+head_at plan node = record { node = node; nodes = plan.nodes; cap = plan.cap; run = [] }
+
+-- the part of a node, of the trace at its place, was written to the writer at that place, and flushed
+abbrev pub KeepsPart : {D : Type 0} → (D → Option (List ℕ)) → PlanValue → Traces → List (Watched D) → List (Watched D)
+    → ℕ → Type 0
+KeepsPart {D = D} kept plan traces old new node =
+    (w : Watched D) (t : Packed)
+    → Writes kept (slice_index_or old node w) (slice_index_or new node w)
+    (part_text (head_at plan node) (slice_index_or traces node t).calls)
+    × (has_unflushed (slice_index_or new node w) ≡ false)
+
+-- so was that of each node
+abbrev pub KeepsParts : {D : Type 0} → (D → Option (List ℕ)) → PlanValue → Traces → List (Watched D) → List (Watched D)
+    → Type 0
+KeepsParts kept plan traces old new = (node : ℕ) → node < plan.nodes → KeepsPart kept plan traces old new node
 
 -- what an audit says of a drill was written, of the one that the bytes are where these are known; more than 255 traces
 -- are as few as those, and too many; out of memory is no verdict

@@ -1,9 +1,11 @@
 //! Scripts of threads that are checked.
 
-ghost use Rattle.std.specs.Prelude.{◌≡◌, ◌≢◌, ◌↔◌, ◌⊎◌, ℕ, [], true, false, Err, IfErr, IfOk};
-ghost use Rattle.std.specs.Prelude.{OnOk};
+ghost use Rattle.std.specs.Prelude.{◌≡◌, ◌≢◌, ◌↔◌, ◌<◌, ◌⊎◌, ℕ, [], true, false, length, Err};
+ghost use Rattle.std.specs.Prelude.{IfErr, IfOk, OnOk};
 ghost use Rattle.std.specs.Process.{exit_status};
-ghost use Rattle.streams.specs.declared.fault.ScriptFault.TheVariants.{BadLine, ReadFailed};
+ghost use Rattle.streams.specs.declared.fault.ScriptFault.TheVariants.{BadLine, OutOfMemory};
+ghost use Rattle.streams.specs.declared.fault.ScriptFault.TheVariants.{ReadFailed, TooLong};
+ghost use Rattle.streams.specs.declared.fault.ScriptFault.TheVariants.{WriteFailed};
 ghost use Rattle.streams.specs.Streams.{IfInput, Writes};
 ghost use Rattle.streams.specs.Watched.{has_failed, has_unflushed};
 ghost use Rattle.thread_plans.specs.BadLines.{bad_text};
@@ -16,7 +18,7 @@ use crate::part_recording::{kept_part, run_in_parts};
 use crate::recording::{is_kept, run_recorded};
 use crate::warning::finish_checked_threads;
 use command_line::{ThreadOptions, quoted};
-use scripts::{ScriptFault, Watched};
+use scripts::{MOST_BYTES, ScriptFault, Watched};
 use std::alloc::{AllocError, AllocGlobal};
 use std::fs::Files;
 use std::io::{Read, Write};
@@ -25,8 +27,8 @@ use std::sync::Wait;
 use std::thread::Threads;
 use thread_scripts::run_threads_warning;
 
-// The file that is there where the drill or a part of it is to be kept, if one is.
-fn in_the_way<R: Files + AllocGlobal>(
+/// The file that is there where the drill or a part of it is to be kept, if one is.
+pub fn in_the_way<R: Files + AllocGlobal>(
     rt: &R,
     options: ThreadOptions<'_>,
 ) -> Result<Option<String>, AllocError> {
@@ -42,8 +44,8 @@ fn in_the_way<R: Files + AllocGlobal>(
     }
 }
 
-// Says that a file is there.
-fn refuse_kept<R: Eprint + AllocGlobal>(
+/// Says that a file is there.
+pub fn refuse_kept<R: Eprint + AllocGlobal>(
     rt: &R,
     path: &str,
     options: ThreadOptions<'_>,
@@ -59,9 +61,9 @@ fn refuse_kept<R: Eprint + AllocGlobal>(
     refuse(rt, ScriptFault::WriteFailed, &advice)
 }
 
-// Runs the script of threads that a reader gives, writes what it prints, and sets what is said; and
-// keeps its drill, where that is asked for.
-fn run_saying<R: Threads + Wait + Sync + Files + AllocGlobal, I: Read, O: Write>(
+/// Runs the script of threads that a reader gives, writes what it prints, and sets what is said; and
+/// keeps its drill, where that is asked for.
+pub fn run_saying<R: Threads + Wait + Sync + Files + AllocGlobal, I: Read, O: Write>(
     rt: &R,
     options: ThreadOptions<'_>,
     reader: &mut Watched<I>,
@@ -78,6 +80,9 @@ fn run_saying<R: Threads + Wait + Sync + Files + AllocGlobal, I: Read, O: Write>
     ensures unsaid { IfErr result (λ fault.
         ((line : ℕ) → fault ≢ BadLine line) → said.new ≡ said.old) }
     ensures read_failed { (result ≡ Err ReadFailed) ↔ (has_failed reader.new ≡ true) }
+    ensures write_failed { has_failed writer.new ≡ true → result ≡ Err WriteFailed }
+    ensures long { IfInput I.remaining reader.old (λ input. MOST_BYTES < length input →
+        (result ≡ Err TooLong) ⊎ (has_failed reader.new ≡ true) ⊎ (result ≡ Err OutOfMemory)) }
 {
     match (options.record, options.record_parts) {
         (Some(path), _) => run_recorded(rt, rt.alloc(), path, reader, writer, said),

@@ -12,10 +12,8 @@ ghost use Rattle.scripts.specs.Script.{echoed_text, script_text};
 ghost use Rattle.scripts.specs.Warnings.{warned_text};
 ghost use Rattle.streams.specs.Streams.{IfInput, Writes};
 ghost use Rattle.streams.specs.Watched.{has_failed, has_unflushed};
-ghost use Rattle.thread_plans.specs.BadLines.{bad_text};
-ghost use Rattle.thread_scripts.specs.Outputs.{PlaysSaying, PlaysTo};
 ghost use Rattle.failreg.specs.Recordings.{SaysOfAFile};
-ghost use Rattle.failreg.specs.Statuses.{HasStatus, OnStatus, SaysOrNothing};
+ghost use Rattle.failreg.specs.Statuses.{HasStatus, OnStatus};
 
 mod advice;
 mod audit_refused;
@@ -28,15 +26,14 @@ mod part_recording;
 mod recording;
 mod short_lines;
 mod standard;
+mod thread_runs;
 mod warning;
 
 use actions::parse_actions;
 use advice::{advice_on_audit, advice_on_parse, advice_on_service, is_missing};
 use audited_files::audit_files;
 use checking::check_threads;
-use command_line::{
-    Invocation, ServeOptions, SimOptions, ThreadOptions, quoted, read_command_line,
-};
+use command_line::{Invocation, ServeOptions, SimOptions, quoted, read_command_line};
 use drills::DrillFault;
 use explaining::explain_codes;
 use finish::{
@@ -44,11 +41,8 @@ use finish::{
     finish_unreadable, refuse,
 };
 use node_service::serve_node;
-use part_recording::{kept_part, run_in_parts};
-use recording::{is_kept, run_recorded};
 use scripts::{
-    MOST_BYTES, ScriptFault, Watched, run_script, run_script_checked, run_script_echoing,
-    run_script_warning,
+    MOST_BYTES, Watched, run_script, run_script_checked, run_script_echoing, run_script_warning,
 };
 use standard::hold_standard;
 use std::alloc::AllocGlobal;
@@ -61,8 +55,7 @@ use std::sync::Wait;
 use std::thread::Threads;
 use std::time::Clock;
 use std::{io, net};
-use thread_scripts::run_threads_warning;
-use warning::finish_threads;
+use thread_runs::threads;
 
 fn main(rt: HostRuntime) -> anyhow::Result<ExitCode> {
     // They are held to the end.
@@ -85,13 +78,9 @@ fn main(rt: HostRuntime) -> anyhow::Result<ExitCode> {
         Ok(Invocation::Threads(options)) if options.check => {
             check_threads(&rt, options, &mut reader, &mut writer, &mut errors)
         }
-        Ok(Invocation::Threads(options)) => match (options.record, options.record_parts) {
-            (Some(path), _) => record(&rt, path, options, &mut reader, &mut writer, &mut errors),
-            (None, Some(folder)) => {
-                record_parts(&rt, folder, options, &mut reader, &mut writer, &mut errors)
-            }
-            (None, None) => threads(&rt, options.quiet, &mut reader, &mut writer, &mut errors),
-        },
+        Ok(Invocation::Threads(options)) => {
+            threads(&rt, options, &mut reader, &mut writer, &mut errors)
+        }
         Ok(Invocation::Audit(paths)) => audit(&rt, &paths, &mut writer),
         Ok(Invocation::Serve(options)) => serve(&rt, options),
         Ok(Invocation::Explain(text)) => explain_codes(&rt, &text, &mut writer, &mut errors),
@@ -184,118 +173,6 @@ fn check<R: Eprint + AllocGlobal, I: Read, O: Write, E: Write>(
         rt,
         run_script_checked(rt.alloc(), echo, reader, writer, errors),
     )
-}
-
-// Runs the script of threads that a reader gives, and may say what goes wrong in it.
-fn threads<R: Threads + Wait + Sync + Eprint + AllocGlobal, I: Read, O: Write, E: Write>(
-    rt: &R,
-    quiet: bool,
-    reader: &mut Watched<I>,
-    writer: &mut Watched<O>,
-    errors: &mut Watched<E>,
-) -> anyhow::Result<ExitCode>
-    requires reader { has_failed reader.old ≡ false }
-    requires writer { has_failed writer.old ≡ false }
-    requires errors { has_failed errors.old ≡ false }
-    // With status 0 the script has a plan, and what is written and flushed is its whole output: of
-    // some traces and receipts.
-    ensures done { OnStatus result 0 (IfInput I.remaining reader.old (λ input.
-        PlaysTo input (Writes O.contents writer.old writer.new))) }
-    ensures flushed { OnStatus result 0 (has_unflushed writer.new ≡ false) }
-    // And what it is warned of is said, of just these; unless that isn't wanted.
-    ensures said { quiet ≡ false → OnStatus result 0 (
-        has_failed errors.new ≡ false → IfInput I.remaining reader.old (λ input.
-        PlaysSaying input (Writes O.contents writer.old writer.new)
-        (Writes E.contents errors.old errors.new))) }
-    ensures quiet { quiet ≡ true → errors.new ≡ errors.old }
-    // Where it is refused, nothing is said but what was wanted of its bad lines.
-    ensures bad_said { quiet ≡ false → OnStatus result 1 (
-        has_failed errors.new ≡ false → IfInput I.remaining reader.old (λ input.
-        SaysOrNothing (Writes E.contents errors.old errors.new) (bad_text input))) }
-    // A script that is too long, or that can't be read or answered, has status 1.
-    ensures read_failed { has_failed reader.new ≡ true → HasStatus result 1 }
-    ensures write_failed { has_failed writer.new ≡ true → HasStatus result 1 }
-    ensures long { IfInput I.remaining reader.old (λ input.
-        MOST_BYTES < length input → HasStatus result 1) }
-    ensures status { IfOk result (λ code. (exit_status code ≡ 0) ⊎ (exit_status code ≡ 1)) }
-{
-    let mut said = Vec::new(rt.alloc());
-    let run = run_threads_warning(rt, rt.alloc(), reader, writer, &mut said);
-    finish_threads(rt, run, quiet, &said, errors)
-}
-
-// The same, and keeps its drill in a file: in one that is there only where that is wanted.
-fn record<R: Threads + Wait + Sync + Eprint + AllocGlobal + Files, I: Read, O: Write, E: Write>(
-    rt: &R,
-    path: &str,
-    options: ThreadOptions<'_>,
-    reader: &mut Watched<I>,
-    writer: &mut Watched<O>,
-    errors: &mut Watched<E>,
-) -> anyhow::Result<ExitCode>
-    requires reader { has_failed reader.old ≡ false }
-    requires writer { has_failed writer.old ≡ false }
-    requires errors { has_failed errors.old ≡ false }
-    ensures done { OnStatus result 0 (IfInput I.remaining reader.old (λ input.
-        PlaysTo input (Writes O.contents writer.old writer.new))) }
-    ensures flushed { OnStatus result 0 (has_unflushed writer.new ≡ false) }
-    ensures said { options.entry.quiet ≡ false → OnStatus result 0 (
-        has_failed errors.new ≡ false → IfInput I.remaining reader.old (λ input.
-        PlaysSaying input (Writes O.contents writer.old writer.new)
-        (Writes E.contents errors.old errors.new))) }
-    ensures quiet { options.entry.quiet ≡ true → errors.new ≡ errors.old }
-    ensures read_failed { has_failed reader.new ≡ true → HasStatus result 1 }
-    ensures status { IfOk result (λ code. (exit_status code ≡ 0) ⊎ (exit_status code ≡ 1)) }
-{
-    if !options.force && is_kept(rt, path) {
-        let shown = quoted(rt.alloc(), path)?;
-        let advice = format!(in rt.alloc(); "{shown} is there: another file, or --force")?;
-        return refuse(rt, ScriptFault::WriteFailed, &advice);
-    }
-    let mut said = Vec::new(rt.alloc());
-    let run = run_recorded(rt, rt.alloc(), path, reader, writer, &mut said);
-    finish_threads(rt, run, options.quiet, &said, errors)
-}
-
-// The same, and keeps the part of each node in a folder: over files that are there only where that is
-// wanted.
-fn record_parts<
-    R: Threads + Wait + Sync + Eprint + AllocGlobal + Files,
-    I: Read,
-    O: Write,
-    E: Write,
->(
-    rt: &R,
-    folder: &str,
-    options: ThreadOptions<'_>,
-    reader: &mut Watched<I>,
-    writer: &mut Watched<O>,
-    errors: &mut Watched<E>,
-) -> anyhow::Result<ExitCode>
-    requires reader { has_failed reader.old ≡ false }
-    requires writer { has_failed writer.old ≡ false }
-    requires errors { has_failed errors.old ≡ false }
-    ensures done { OnStatus result 0 (IfInput I.remaining reader.old (λ input.
-        PlaysTo input (Writes O.contents writer.old writer.new))) }
-    ensures flushed { OnStatus result 0 (has_unflushed writer.new ≡ false) }
-    ensures said { options.entry.quiet ≡ false → OnStatus result 0 (
-        has_failed errors.new ≡ false → IfInput I.remaining reader.old (λ input.
-        PlaysSaying input (Writes O.contents writer.old writer.new)
-        (Writes E.contents errors.old errors.new))) }
-    ensures quiet { options.entry.quiet ≡ true → errors.new ≡ errors.old }
-    ensures read_failed { has_failed reader.new ≡ true → HasStatus result 1 }
-    ensures status { IfOk result (λ code. (exit_status code ≡ 0) ⊎ (exit_status code ≡ 1)) }
-{
-    if !options.force {
-        if let Some(path) = kept_part(rt, rt.alloc(), folder)? {
-            let shown = quoted(rt.alloc(), &path)?;
-            let advice = format!(in rt.alloc(); "{shown} is there: another folder, or --force")?;
-            return refuse(rt, ScriptFault::WriteFailed, &advice);
-        }
-    }
-    let mut said = Vec::new(rt.alloc());
-    let run = run_in_parts(rt, rt.alloc(), folder, reader, writer, &mut said);
-    finish_threads(rt, run, options.quiet, &said, errors)
 }
 
 // Audits the drill or the part in a file, or the parts in several. The path `-` is standard input.

@@ -1,7 +1,7 @@
 //! Parts: a script of threads of which the record of each node is kept.
 
 ghost use Rattle.std.specs.Prelude.{◌≡◌, ◌≢◌, ◌↔◌, ◌<◌, ◌≤◌, ◌⊎◌, ℕ, length, true, false, Err};
-ghost use Rattle.std.specs.Prelude.{IfErr, OnErr, OnOk};
+ghost use Rattle.std.specs.Prelude.{All, IfErr, IfOk, OnErr, OnOk};
 ghost use Rattle.streams.specs.declared.fault.ScriptFault.TheVariants.{BadLine, OutOfMemory};
 ghost use Rattle.streams.specs.declared.fault.ScriptFault.TheVariants.{ReadFailed, TooLong};
 ghost use Rattle.streams.specs.declared.fault.ScriptFault.TheVariants.{WriteFailed};
@@ -10,7 +10,8 @@ ghost use Rattle.streams.specs.Watched.{has_failed, has_unflushed};
 ghost use Rattle.thread_scripts.specs.Outputs.{PlaysSaying};
 ghost use Rattle.thread_plans.specs.BadLines.{bad_text};
 ghost use Rattle.thread_plans.specs.Plans.{plan_in, plan_value};
-ghost use Rattle.failreg.specs.Recordings.{IsPlayed};
+ghost use Rattle.drills.specs.Parts.{part_text};
+ghost use Rattle.failreg.specs.Recordings.{IsKept, KeepsParts, head_at};
 
 use crate::recording::{is_kept, unwritten};
 use drills::{PartHead, write_part};
@@ -22,7 +23,7 @@ use std::fs::Files;
 use std::io::{BufWriter, Read, Write};
 use std::sync::Wait;
 use std::thread::Threads;
-use thread_scripts::{Size, ThreadPlan, judged_output_of, play, read_plan_saying, warnings_of};
+use thread_scripts::{ThreadPlan, judged_output_of, play, read_plan_saying, warnings_of};
 
 /// The most nodes of a cluster.
 const MOST_NODES: u8 = 32;
@@ -47,15 +48,35 @@ pub fn kept_part<R: Files>(
     Ok(None)
 }
 
-// Keeps the part of a node in a file.
-fn keep_part<R: Files>(
+// Writes to the files of the parts, one of each node, in a folder that is made where it isn't there.
+fn part_files<R: Files>(
+    rt: &R,
+    alloc: Global,
+    folder: &str,
+    nodes: u8,
+) -> Result<Vec<Watched<BufWriter<R::File>>>, ScriptFault>
+    ensures number { IfOk result (λ files. length files.items ≡ nodes) }
+    ensures sound { IfOk result (λ files. All (λ file. has_failed file ≡ false) files.items) }
+    ensures only { IfErr result (λ fault. (fault ≡ WriteFailed) ⊎ (fault ≡ OutOfMemory)) }
+{
+    // Where it can't be made, no file in it can be.
+    let _made = fs::create_dir(rt, folder);
+    let mut files = Vec::new(alloc);
+    for node in 0..nodes {
+        let file = part_file(rt, alloc, &part_path(alloc, folder, node)?)?;
+        files.reserve(1)?;
+        files.push_reserved(file);
+    }
+    Ok(files)
+}
+
+fn part_file<R: Files>(
     rt: &R,
     alloc: Global,
     path: &str,
-    head: &PartHead,
-    trace: &Trace,
-) -> Result<(), ScriptFault>
-    ensures { IfErr result (λ fault. (fault ≡ WriteFailed) ⊎ (fault ≡ OutOfMemory)) }
+) -> Result<Watched<BufWriter<R::File>>, ScriptFault>
+    ensures sound { IfOk result (λ file. has_failed file ≡ false) }
+    ensures only { IfErr result (λ fault. (fault ≡ WriteFailed) ⊎ (fault ≡ OutOfMemory)) }
 {
     let Ok(file) = fs::create(rt, path) else {
         return Err(ScriptFault::WriteFailed);
@@ -63,61 +84,83 @@ fn keep_part<R: Files>(
     let Ok(file) = BufWriter::new(alloc, file) else {
         return Err(ScriptFault::OutOfMemory);
     };
-    match write_part(alloc, head, trace, &mut Watched::new(file)) {
+    Ok(Watched::new(file))
+}
+
+// Writes the part of a node of a run.
+fn keep_part<D: Write>(
+    alloc: Global,
+    plan: &ThreadPlan<'_>,
+    node: u8,
+    trace: &Trace,
+    file: &mut Watched<D>,
+) -> Result<(), ScriptFault>
+    requires { has_failed file.old ≡ false }
+    ensures kept { OnOk result (Writes D.contents file.old file.new
+        (part_text (head_at (plan_value plan.now) node) trace.now.calls)) }
+    ensures flushed { OnOk result (has_unflushed file.new ≡ false) }
+    ensures only { IfErr result (λ fault. (fault ≡ WriteFailed) ⊎ (fault ≡ OutOfMemory)) }
+{
+    let head = PartHead {
+        node,
+        nodes: plan.size.nodes,
+        cap: plan.size.trace_cap as u64,
+        run: String::new(alloc),
+    };
+    match write_part(alloc, &head, trace, file) {
         Ok(()) => Ok(()),
         Err(fault) => Err(unwritten(fault)),
     }
 }
 
-// Keeps the part of each node in a folder, which is made where it isn't there.
-fn keep_parts<R: Files>(
-    rt: &R,
+// Writes the part of each node of a run.
+fn keep_parts<D: Write>(
     alloc: Global,
-    folder: &str,
-    size: Size,
+    plan: &ThreadPlan<'_>,
     traces: &[Trace],
+    files: &mut [Watched<D>],
 ) -> Result<(), ScriptFault>
-    ensures { IfErr result (λ fault. (fault ≡ WriteFailed) ⊎ (fault ≡ OutOfMemory)) }
+    requires traces { length traces.now ≡ plan.now.size.nodes }
+    requires files { length files.old ≡ plan.now.size.nodes }
+    requires sound { All (λ file. has_failed file ≡ false) files.old }
+    ensures kept { OnOk result (KeepsParts D.contents (plan_value plan.now) traces.now
+        files.old files.new) }
+    ensures only { IfErr result (λ fault. (fault ≡ WriteFailed) ⊎ (fault ≡ OutOfMemory)) }
 {
-    // Where it can't be made, no file in it can be.
-    let _made = fs::create_dir(rt, folder);
-    for node in 0..size.nodes {
-        if let Some(trace) = traces.get(node as usize) {
-            let path = part_path(alloc, folder, node)?;
-            let head = PartHead {
-                node,
-                nodes: size.nodes,
-                cap: size.trace_cap as u64,
-                run: String::new(alloc),
-            };
-            keep_part(rt, alloc, &path, &head, trace)?;
-        }
+    for node in 0..plan.size.nodes {
+        let at = usize::from(node);
+        keep_part(alloc, plan, node, &traces[at], &mut files[at])?;
     }
     Ok(())
 }
 
 // Plays the plan of a script, keeps the part of each node, and then writes what it prints and sets what
 // is said to what it is warned of.
-fn play_in_parts<R: Threads + Wait + Sync + Files, O: Write>(
+fn play_in_parts<R: Threads + Wait + Sync, D: Write, O: Write>(
     rt: &R,
     alloc: Global,
     script: &[u8],
     plan: &ThreadPlan<'_>,
-    folder: &str,
+    files: &mut [Watched<D>],
     writer: &mut Watched<O>,
     said: &mut Vec<u8>,
 ) -> Result<(), ScriptFault>
     requires length { length script.now ≤ MOST_BYTES }
+    requires files { length files.old ≡ plan.now.size.nodes }
+    requires sound { All (λ file. has_failed file ≡ false) files.old }
     requires writer { has_failed writer.old ≡ false }
-    ensures ok { OnOk result (IsPlayed script.now (plan_value plan.now) said.new.items
+    // The parts that were kept are those of the run whose output was written.
+    ensures ok { OnOk result (IsKept (λ traces lists. KeepsParts D.contents (plan_value plan.now) traces
+        files.old files.new) script.now (plan_value plan.now) said.new.items
         O.contents writer.old writer.new) }
     ensures unsaid { OnErr result (said.new ≡ said.old) }
     ensures flushed { OnOk result (has_unflushed writer.new ≡ false) }
     ensures only { IfErr result (λ fault. (fault ≡ WriteFailed) ⊎ (fault ≡ OutOfMemory)) }
     ensures unwritten { result ≡ Err OutOfMemory → writer.new ≡ writer.old }
+    ensures write_failed { has_failed writer.new ≡ true → result ≡ Err WriteFailed }
 {
     let played = play(rt, alloc, plan)?;
-    keep_parts(rt, alloc, folder, plan.size, &played.traces)?;
+    keep_parts(alloc, plan, &played.traces, files)?;
     let (text, yes) = judged_output_of(alloc, plan, &played)?;
     let warned = warnings_of(alloc, script, plan, &played, yes)?;
     write_text(writer, text.as_bytes())?;
@@ -155,8 +198,21 @@ pub fn run_in_parts<R: Threads + Wait + Sync + Files, I: Read, O: Write>(
         IfInput I.remaining reader.old (λ input. MOST_BYTES < length input) }
     // After any other fault the writer is as it was.
     ensures unwritten { IfErr result (λ fault. fault ≢ WriteFailed → writer.new ≡ writer.old) }
+    ensures write_failed { has_failed writer.new ≡ true → result ≡ Err WriteFailed }
+    // A longer script is too long, but where a read failed or memory was refused before.
+    ensures long { IfInput I.remaining reader.old (λ input. MOST_BYTES < length input →
+        (result ≡ Err TooLong) ⊎ (has_failed reader.new ≡ true) ⊎ (result ≡ Err OutOfMemory)) }
 {
     let script = read_script(alloc, reader)?;
     let plan = read_plan_saying(alloc, script.as_slice(), said)?;
-    play_in_parts(rt, alloc, script.as_slice(), &plan, folder, writer, said)
+    let mut files = part_files(rt, alloc, folder, plan.size.nodes)?;
+    play_in_parts(
+        rt,
+        alloc,
+        script.as_slice(),
+        &plan,
+        &mut files,
+        writer,
+        said,
+    )
 }

@@ -10,7 +10,7 @@ ghost use Rattle.streams.specs.Watched.{has_failed, has_unflushed};
 ghost use Rattle.thread_scripts.specs.Outputs.{PlaysSaying};
 ghost use Rattle.thread_plans.specs.BadLines.{bad_text};
 ghost use Rattle.thread_plans.specs.Plans.{plan_in, plan_value};
-ghost use Rattle.failreg.specs.Recordings.{IsRecorded};
+ghost use Rattle.failreg.specs.Recordings.{IsKept, KeepsDrill};
 
 use drills::{DrillFault, write_drill};
 use scripts::{MOST_BYTES, ScriptFault, Watched, read_script, write_text};
@@ -50,8 +50,8 @@ fn play_recorded<R: Threads + Wait + Sync, D: Write, O: Write>(
     requires recorder { has_failed recorder.old ≡ false }
     requires writer { has_failed writer.old ≡ false }
     // The drill that was kept is the one whose output was written, and of which a warning is said.
-    ensures ok { OnOk result (IsRecorded script.now (plan_value plan.now) said.new.items
-        D.contents recorder.old recorder.new O.contents writer.old writer.new) }
+    ensures ok { OnOk result (IsKept (KeepsDrill D.contents recorder.old recorder.new)
+        script.now (plan_value plan.now) said.new.items O.contents writer.old writer.new) }
     ensures unsaid { OnErr result (said.new ≡ said.old) }
     ensures kept_whole { OnOk result (has_unflushed recorder.new ≡ false) }
     ensures flushed { OnOk result (has_unflushed writer.new ≡ false) }
@@ -109,6 +109,10 @@ pub fn run_recorded<R: Threads + Wait + Sync + Files, I: Read, O: Write>(
         IfInput I.remaining reader.old (λ input. MOST_BYTES < length input) }
     // After any other fault the writer is as it was.
     ensures unwritten { IfErr result (λ fault. fault ≢ WriteFailed → writer.new ≡ writer.old) }
+    ensures write_failed { has_failed writer.new ≡ true → result ≡ Err WriteFailed }
+    // A longer script is too long, but where a read failed or memory was refused before.
+    ensures long { IfInput I.remaining reader.old (λ input. MOST_BYTES < length input →
+        (result ≡ Err TooLong) ⊎ (has_failed reader.new ≡ true) ⊎ (result ≡ Err OutOfMemory)) }
 {
     let script = read_script(alloc, reader)?;
     let plan = read_plan_saying(alloc, script.as_slice(), said)?;

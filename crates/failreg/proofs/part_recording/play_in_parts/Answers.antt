@@ -12,5 +12,6 @@ returns-clause-ok g c = record {
   given = c.in_ok-played.ensures.lists;
   judged = c.in_ok-text.ensures;
   warned = c.in_ok-warned.ensures;
+  kept = rw c.deref.ensures.value at c.in_ok-keep_parts.ensures.kept;
   printed = search rules;
 }

@@ -12,7 +12,6 @@ returns-clause-ok g c = record {
   given = c.in_ok-played.ensures.lists;
   judged = c.in_ok-text.ensures;
   warned = c.in_ok-warned.ensures;
-  drill = search rules;
-  reads_back = search rules;
+  kept = search rules;
   printed = search rules;
 }

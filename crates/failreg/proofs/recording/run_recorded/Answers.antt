@@ -7,5 +7,5 @@ pub returns-clause-ok : goal.returns-clause-ok
 returns-clause-ok g c =
     let planned = rw c.as_slice.ensures.value at c.in_ok-plan.ensures.ok in
     let recorded = rw c.as_slice-2.ensures.value at c.play_recorded.ensures.ok in
-    played _ _ _ _ _ _ c.in_ok-script.script.items (plan_value c.in_ok-plan.plan) c.play_recorded.new.said.items
+    played _ _ _ _ c.in_ok-script.script.items (plan_value c.in_ok-plan.plan) c.play_recorded.new.said.items
     c.play_recorded.result (g.I.Read.remaining (inner_of c.args.reader.now)) c.in_ok-script.ensures.ok planned recorded
