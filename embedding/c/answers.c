@@ -69,7 +69,6 @@ static const request REQUESTS[] = {
     { "GET", "/report", "", 200, NULL, false, true },
     { "POST", "/status", "", 405, "bad method", false, false },
     { "GET", "/status", "", 200, NULL, false, true },
-    { "POST", "/stop", "", 404, "not found", false, false },
     { "DELETE", "/fail/a!", "", 400, "N2 BadName", false, false },
 };
 

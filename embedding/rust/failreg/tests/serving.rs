@@ -30,7 +30,7 @@ fn status_of(reply: &str) -> u16 {
     reply.get(9..12).map_or(0, |digits| digits.parse().unwrap())
 }
 
-const REQUESTS: [(&str, &str, &str, u16, &str); 24] = [
+const REQUESTS: [(&str, &str, &str, u16, &str); 23] = [
     ("PUT", "/fail/a", "3*return(x)->off", 200, "1.0"),
     ("GET", "/fail", "", 200, "a=3*return(x)->off"),
     ("GET", "/fail/?all", "", 200, "a=3*return(x)->off"),
@@ -63,7 +63,6 @@ const REQUESTS: [(&str, &str, &str, u16, &str); 24] = [
     ("GET", "/fail/a/b", "", 404, "not found"),
     ("PUT", "/report", "", 405, "bad method"),
     ("POST", "/status", "", 405, "bad method"),
-    ("POST", "/stop", "", 404, "not found"),
     ("GET", "/fail/a", "", 405, "bad method"),
     ("put", "/fail/a", "off", 405, "bad method"),
     ("HEAD", "/report", "", 405, ""),
@@ -107,9 +106,7 @@ fn each_request_is_answered() {
         told.contains("\"granted\":[\"2\",\"0\"],\"rights\":[\"1\",\"4\"],\"spent\":[\"0\",\"0\"]"),
         "{told}"
     );
-    // Of messages the service tells those that it was posted.
-    let end = ",\"peers\":[],\"refused\":[{\"code\":\"N16\",\"messages\":\"1\",\"node\":null}]}";
-    assert!(told.ends_with(end), "{told}");
+    assert!(told.ends_with(",\"version\":\"0.1.0\"}}"), "{told}");
     // Threads see what requests set.
     let told = |name| node.eval(name);
     assert_eq!(told("a"), Some(Some("x".into())));
