@@ -258,7 +258,9 @@ uint32_t failreg_forget(failreg *node);
  * failreg_load, failreg_shift, failreg_grant, failreg_deliver), and it was accepted: the status is
  * 200 then. Of a refusal the body says why; failreg_fault doesn't. Where memory is refused the
  * status is 503, nothing has changed, and there may be no body; what asks nothing of the node, as a
- * path that isn't there, is answered as such all the same. */
+ * path that isn't there, is answered as such all the same. GET /status is answered with what the node
+ * knows, an object whose one member is "node": a program that knows more puts its own members in the
+ * place of the last brace. */
 uint32_t failreg_answer(failreg *node, const char *method, size_t method_len, const char *path,
                         size_t path_len, const uint8_t *body, size_t body_len, uint16_t *status);
 

@@ -67,6 +67,8 @@ static const request REQUESTS[] = {
     { "GET", "/nope", "", 404, "not found", false, false },
     { "PUT", "/report", "", 405, "bad method", false, false },
     { "GET", "/report", "", 200, NULL, false, true },
+    { "POST", "/status", "", 405, "bad method", false, false },
+    { "GET", "/status", "", 200, NULL, false, true },
     { "DELETE", "/fail/a!", "", 400, "N2 BadName", false, false },
 };
 

@@ -104,8 +104,15 @@ slashed t r f h rest =
 shift_rows : RowsOf (RouteOf RouteId)
 shift_rows = behind (codes "/") ((parts4, shift_row) ∷ []) ++ []
 
+-- after the `s` that two routes share
+tatus_rows : RowsOf (RouteOf RouteId)
+tatus_rows = behind (codes "tatus") (only (plain (codes "/status") routes.Status)) ++ []
+
+s_rows : RowsOf (RouteOf RouteId)
+s_rows = behind (codes "hift") shift_rows ++ tatus_rows
+
 rows5 : RowsOf (RouteOf RouteId)
-rows5 = behind (codes "shift") shift_rows ++ []
+rows5 = behind (codes "s") s_rows ++ []
 
 rows4 : RowsOf (RouteOf RouteId)
 rows4 = behind (codes "report") (only (plain (codes "/report") routes.Report)) ++ rows5
@@ -152,19 +159,55 @@ g-root (y ∷ q) = by (103 == y) refl
         rw same (refl {a = root1 (103 ∷ q)})
     by false e = rw e (refl {a = root3 (y ∷ q)})
 
+shifts_on : List ℕ → Found
+shifts_on rest = on_start (codes "/") shifts nowhere rest
+
+tatus : List ℕ → Found
+tatus rest = on_start (codes "tatus") (at_end (plain (codes "/status") routes.Status)) nowhere rest
+
+in_s : List ℕ → Found
+in_s rest = on_start (codes "hift") shifts_on tatus rest
+
+-- the two routes that begin with `s`, one after the other or behind it
+s-root : (rest : List ℕ) → cond (starts_with nat_eq rest (codes "s")) (in_s (drop 1 rest)) None ≡ root5 rest
+unfolding in_s shifts_on tatus
+s-root [] = refl
+s-root (y ∷ q) = by (115 == y) refl
+  where
+    by : (v : Bool) → (115 == y) ≡ v → cond (starts_with nat_eq (y ∷ q) (codes "s")) (in_s (drop 1 (y ∷ q))) None ≡
+        root5 (y ∷ q)
+    by true e =
+        let same : y ≡ 115 = grind (arith, nat_tests) in
+        rw same (refl {a = root5 (115 ∷ q)})
+    by false e = rw e refl
+
+tatus-same : (rest : List ℕ) → first tatus_rows rest ≡ tatus rest
+unfolding tatus_rows tatus only
+tatus-same rest =
+    first-behind (codes "tatus") (only (plain (codes "/status") routes.Status)) rest
+    (omega arith, (omega arith, (omega arith, (omega arith, (omega arith, tt)))))
+    ∙ both (starts_with nat_eq rest (codes "tatus")) (first (only (plain (codes "/status") routes.Status))
+    (drop 5 rest)) None (at_end (plain (codes "/status") routes.Status) (drop 5 rest)) None
+    (first-end (plain (codes "/status") routes.Status) (drop 5 rest)) refl
+
+s-same : (rest : List ℕ) → first s_rows rest ≡ in_s rest
+unfolding s_rows in_s shifts_on tatus shift_rows tatus_rows parts4 only
+s-same rest =
+    choose 104 (codes "ift") shift_rows tatus_rows rest (omega arith, (omega arith, (omega arith, (omega arith, tt))))
+    refl refl refl refl
+    ∙ both (starts_with nat_eq rest (codes "hift")) (first shift_rows (drop 4 rest)) (first tatus_rows rest)
+    (shifts_on (drop 4 rest)) (tatus rest) (slashed parts4 shift_row shifts shift-same (drop 4 rest)) (tatus-same rest)
+
 same5 : (rest : List ℕ) → first rows5 rest ≡ root5 rest
-unfolding rows5 shift_rows
+unfolding rows5 s_rows shift_rows tatus_rows parts4 only
 same5 rest =
-    first-behind (codes "shift") shift_rows rest (
-      omega arith,
-      (omega arith, (omega arith, (omega arith, (omega arith, tt)))),
-    )
-    ∙ both (starts_with nat_eq rest (codes "shift")) (first shift_rows (drop 5 rest)) None
-    (on_start (codes "/") shifts nowhere (drop 5 rest)) None
-    (slashed parts4 shift_row shifts shift-same (drop 5 rest)) refl
+    first-behind (codes "s") s_rows rest (omega arith, tt)
+    ∙ both (starts_with nat_eq rest (codes "s")) (first s_rows (drop 1 rest)) None (in_s (drop 1 rest)) None
+    (s-same (drop 1 rest)) refl
+    ∙ s-root rest
 
 same4 : (rest : List ℕ) → first rows4 rest ≡ root4 rest
-unfolding rows4 rows5 shift_rows parts4 only
+unfolding rows4 rows5 s_rows shift_rows tatus_rows parts4 only
 same4 rest =
     choose 114 (codes "eport") (only (plain (codes "/report") routes.Report)) rows5 rest
     (omega arith, (omega arith, (omega arith, (omega arith, (omega arith, (omega arith, tt)))))) refl refl refl refl
@@ -173,7 +216,7 @@ same4 rest =
     (first-end (plain (codes "/report") routes.Report) (drop 6 rest)) (same5 rest)
 
 same3 : (rest : List ℕ) → first rows3 rest ≡ root3 rest
-unfolding rows3 rows4 rows5 shift_rows parts4 only
+unfolding rows3 rows4 rows5 s_rows shift_rows tatus_rows parts4 only
 same3 rest =
     choose 108 (codes "oad") (only (plain (codes "/load") routes.Load)) rows4 rest
     (omega arith, (omega arith, (omega arith, (omega arith, tt)))) refl refl refl refl
@@ -199,7 +242,7 @@ g-same rest =
     (drop 5 rest)) (rant-same rest)
 
 same2 : (rest : List ℕ) → first rows2 rest ≡ root1 rest
-unfolding rows2 g_rows rant_rows grant_rows parts3 rows3 rows4 rows5 shift_rows parts4 only
+unfolding rows2 g_rows rant_rows grant_rows parts3 rows3 rows4 rows5 s_rows shift_rows tatus_rows parts4 only
 same2 rest =
     choose 103 [] g_rows rows3 rest (omega arith, tt) refl refl refl refl
     ∙ both (starts_with nat_eq rest (codes "g")) (first g_rows (drop 1 rest)) (first rows3 rest) (in_g (drop 1 rest))
@@ -207,7 +250,8 @@ same2 rest =
     ∙ g-root rest
 
 same1 : (rest : List ℕ) → first rows1 rest ≡ root rest
-unfolding rows1 rows2 g_rows rant_rows grant_rows parts3 rows3 rows4 rows5 shift_rows parts4 fail_rows name_rows only
+unfolding rows1 rows2 g_rows rant_rows grant_rows parts3 rows3 rows4 rows5 s_rows shift_rows tatus_rows parts4 fail_rows
+    name_rows only
 same1 rest =
     choose 102 (codes "ail") fail_rows rows2 rest (omega arith, (omega arith, (omega arith, (omega arith, tt)))) refl
     refl refl refl
@@ -215,8 +259,8 @@ same1 rest =
     (in_points (drop 4 rest)) (root1 rest) (points-same (drop 4 rest)) (same2 rest)
 
 pub first_is : (path : List ℕ) → first route_rows path ≡ row_of path
-unfolding row_of rows1 rows2 g_rows rant_rows grant_rows parts3 grant_row rows3 rows4 rows5 shift_rows parts4 fail_rows
-    name_rows only plain point_row shift_row
+unfolding row_of rows1 rows2 g_rows rant_rows grant_rows parts3 grant_row rows3 rows4 rows5 s_rows shift_rows tatus_rows
+    parts4 fail_rows name_rows only plain point_row shift_row
 first_is path =
     first-behind (47 ∷ []) rows1 path (omega arith, tt)
     ∙ both (starts_with nat_eq path (47 ∷ [])) (first rows1 (drop 1 path)) None (root (drop 1 path)) None

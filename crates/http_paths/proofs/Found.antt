@@ -96,8 +96,11 @@ abbrev pub shifts : List ℕ → Found
 shifts rest = next_part (next_part (next_part (last_part shift_row))) rest
 
 -- after the first slash, from one word on
+abbrev pub root6 : List ℕ → Found
+root6 rest = on_start (codes "status") (at_end (plain (codes "/status") routes.Status)) nowhere rest
+
 abbrev pub root5 : List ℕ → Found
-root5 rest = on_start (codes "shift") (on_start (codes "/") shifts nowhere) nowhere rest
+root5 rest = on_start (codes "shift") (on_start (codes "/") shifts nowhere) root6 rest
 
 abbrev pub root4 : List ℕ → Found
 root4 rest = on_start (codes "report") (at_end (plain (codes "/report") routes.Report)) root5 rest

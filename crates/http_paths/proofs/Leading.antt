@@ -9,8 +9,8 @@ use Rattle.matchit.specs.Seek.{first, has_slash}
 use Rattle.http_paths.specs.declared.targets.RouteId.{RouteId}
 use Rattle.http_paths.specs.declared.targets.RouteId.TheVariants as routes
 use Rattle.http_paths.specs.Parts.{Taken, with_parts}
-use Rattle.http_paths.specs.Paths.{TargetValue, point, load, shift, grant, gossip, report, segments, is_part, after_fail, after_grant, after_shift, alone, after_word, target_of}
-use Rattle.http_paths.proofs.Found.{Found, plain, point_row, grant_row, shift_row, on_start, at_end, in_points, named_point, grants, shifts, next_part, last_part, nowhere, root, root1, root2, root3, root4, root5, row_of}
+use Rattle.http_paths.specs.Paths.{TargetValue, point, load, shift, grant, gossip, report, status, segments, is_part, after_fail, after_grant, after_shift, alone, after_word, target_of}
+use Rattle.http_paths.proofs.Found.{Found, plain, point_row, grant_row, shift_row, on_start, at_end, in_points, named_point, grants, shifts, next_part, last_part, nowhere, root, root1, root2, root3, root4, root5, root6, row_of}
 use Rattle.http_paths.proofs.Segments.{Slashless, joined, segments-slashless, segments-join, next-more, next-none, next-alone, last-alone, last-more, led, joined-led, word-found, cut-utf8, ascii-text}
 use Rattle.http_paths.specs.Rows.{route_rows}
 use Rattle.http_paths.proofs.Choosing.{first_is}
@@ -238,8 +238,11 @@ module _ (word : List ℕ) (parts : List (List ℕ)) (h : has_slash word ≡ fal
   report_row : RouteOf RouteId
   report_row = plain (codes "/report") routes.Report
 
+  status_row : RouteOf RouteId
+  status_row = plain (codes "/status") routes.Status
+
   root-leads : Leads path (root (word ++ led parts)) (after_word word parts)
-  unfolding gossip_row load_row report_row
+  unfolding gossip_row load_row report_row status_row
   root-leads =
       word-leads (codes "fail") in_points root1 (after_fail parts) _ refl points-stop (λ r. refl) (fail-leads parts hs)
       (word-leads (codes "gossip") (at_end gossip_row) root2 (alone gossip parts) _ refl (at_end-stops gossip_row)
@@ -253,9 +256,12 @@ module _ (word : List ℕ) (parts : List (List ℕ)) (h : has_slash word ≡ fal
       (word-leads (codes "report") (at_end report_row) root5 (alone report parts) _ refl (at_end-stops report_row)
       (λ r. refl)
       (alone-leads (codes "/report" ++ led parts) (codes "/report") routes.Report report refl parts)
-      (word-leads (codes "shift") (on_start (codes "/") shifts nowhere) nowhere (after_shift parts) None refl
+      (word-leads (codes "shift") (on_start (codes "/") shifts nowhere) root6 (after_shift parts) _ refl
       (slash-stops shifts) (λ r. refl)
-      (shift-leads parts hs) refl)))))
+      (shift-leads parts hs)
+      (word-leads (codes "status") (at_end status_row) nowhere (alone status parts) None refl (at_end-stops status_row)
+      (λ r. refl)
+      (alone-leads (codes "/status" ++ led parts) (codes "/status") routes.Status status refl parts) refl))))))
 
 -- ---- any path
 

@@ -5,7 +5,7 @@ use Rattle.std.specs.Prelude.{codes}
 use Rattle.std.specs.List.{list_all}
 use Rattle.std.specs.Cmp.Lexicographic.{bytes_decides}
 use Rattle.matchit.specs.Seek.{has_slash}
-use Rattle.http_paths.specs.Paths.{TargetValue, points, point, load, shift, grant, gossip, report, segments, is_part, after_fail, after_grant, after_shift, alone, after_word, target_in, target_of, AreParts, SpellsTarget}
+use Rattle.http_paths.specs.Paths.{TargetValue, points, point, load, shift, grant, gossip, report, status, segments, is_part, after_fail, after_grant, after_shift, alone, after_word, target_in, target_of, AreParts, SpellsTarget}
 use Rattle.http_paths.proofs.Segments.{Slashless, joined, no-slash, segments-slashless, segments-join, led, joined-led}
 
 -- ---- what a path leads to, it is a path of
@@ -73,7 +73,9 @@ module _ (word : List ℕ) (parts : List (List ℕ)) where
       (word-spelled (codes "grant") (after_grant parts) _ (grant-spelled parts h)
       (word-spelled (codes "load") (alone load parts) _ (alone-spelled (codes "/load") load refl parts)
       (word-spelled (codes "report") (alone report parts) _ (alone-spelled (codes "/report") report refl parts)
-      (word-spelled (codes "shift") (after_shift parts) None (shift-spelled parts h) tt)))))
+      (word-spelled (codes "shift") (after_shift parts) _ (shift-spelled parts h)
+      (word-spelled (codes "status") (alone status parts) None (alone-spelled (codes "/status") status refl parts)
+      tt))))))
 
 in-spelled : (parts : List (List ℕ)) → Slashless parts → Spelled (joined parts) (target_in parts)
 in-spelled [] h = tt
@@ -125,6 +127,7 @@ leads-there (grant n t a) path h =
     rw (h.1, segments-joined n (t ∷ a ∷ []) h.0, all-parts (n ∷ t ∷ a ∷ []) h.0) refl
 leads-there gossip path h = rw h refl
 leads-there report path h = rw h refl
+leads-there status path h = rw h refl
 
 -- ---- so a path has this target just where it is a path of it, and has at most one
 

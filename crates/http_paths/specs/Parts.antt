@@ -4,7 +4,7 @@ use Rattle.matchit.specs.Params.{walk, named}
 use Rattle.matchit.specs.declared.params.Params.{Params}
 use Rattle.http_paths.specs.declared.targets.RouteId.{RouteId}
 use Rattle.http_paths.specs.declared.targets.RouteId.TheVariants as routes
-use Rattle.http_paths.specs.Paths.{TargetValue, points, point, load, shift, grant, gossip, report}
+use Rattle.http_paths.specs.Paths.{TargetValue, points, point, load, shift, grant, gossip, report, status}
 
 -- each name with its part
 abbrev pub Taken : Type 0
@@ -37,3 +37,4 @@ with_parts routes.Shift taken = shift_of taken
 with_parts routes.Grant taken = grant_of taken
 with_parts routes.Gossip taken = Some gossip
 with_parts routes.Report taken = Some report
+with_parts routes.Status taken = Some status

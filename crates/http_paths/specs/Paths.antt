@@ -14,6 +14,7 @@ pub data TargetValue : Type 0 where
   grant : (name term amount : List ℕ) → TargetValue
   gossip : TargetValue
   report : TargetValue
+  status : TargetValue
 
 -- ---- from a path to its target
 
@@ -59,7 +60,8 @@ after_word word parts =
     else if bytes_eq word (codes "grant") then after_grant parts
     else if bytes_eq word (codes "load") then alone load parts
     else if bytes_eq word (codes "report") then alone report parts
-    else if bytes_eq word (codes "shift") then after_shift parts else None
+    else if bytes_eq word (codes "shift") then after_shift parts
+    else if bytes_eq word (codes "status") then alone status parts else None
 
 abbrev pub target_in : List (List ℕ) → Option TargetValue
 target_in ([] ∷ word ∷ parts) = after_word word parts
@@ -94,3 +96,4 @@ SpellsTarget (grant name term amount) path =
     SpellsParts (codes "/grant/") (name ∷ term ∷ amount ∷ []) path
 SpellsTarget gossip path = path ≡ codes "/gossip"
 SpellsTarget report path = path ≡ codes "/report"
+SpellsTarget status path = path ≡ codes "/status"

@@ -32,6 +32,7 @@ route_rows =
     ∷ open_row (codes "/shift/" ++ any ++ codes "/" ++ any ++ codes "/" ++ any ++ codes "/" ++ any)
     (codes "/shift/{name}/{term}/{to}/{amount}")
     ((8, 12) ∷ (15, 19) ∷ (22, 24) ∷ (27, 33) ∷ []) routes.Shift
+    ∷ plain_row (codes "/status") routes.Status
     ∷ []
 
 -- a route that can be read, and that none of these stands in the way of

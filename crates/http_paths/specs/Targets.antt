@@ -1,7 +1,7 @@
 -- Where the program says that a path leads.
 use Rattle.http_paths.specs.declared.targets.Target.{Target}
 use Rattle.http_paths.specs.declared.targets.Target.TheVariants as targets
-use Rattle.http_paths.specs.Paths.{TargetValue, points, point, load, shift, grant, gossip, report}
+use Rattle.http_paths.specs.Paths.{TargetValue, points, point, load, shift, grant, gossip, report, status}
 
 abbrev pub target_value : Target → TargetValue
 target_value targets.Points = points
@@ -11,3 +11,4 @@ target_value (targets.Shift name term to amount) = shift name.now term.now to.no
 target_value (targets.Grant name term amount) = grant name.now term.now amount.now
 target_value targets.Gossip = gossip
 target_value targets.Report = report
+target_value targets.Status = status

@@ -9,6 +9,7 @@
 //! | `/grant/<name>/<term>/<amount>` | a name and two numbers |
 //! | `/gossip` | |
 //! | `/report` | |
+//! | `/status` | |
 //!
 //! A part in angle brackets is one segment that isn't empty, taken as it stands: percents aren't
 //! decoded, and what a part spells isn't looked at. The routes are made once and lent:

@@ -62,6 +62,7 @@ fn with_parts<'p>(route: RouteId, params: &Params<'_, 'p>) -> Option<Target<'p>>
         },
         RouteId::Gossip => Target::Gossip,
         RouteId::Report => Target::Report,
+        RouteId::Status => Target::Status,
     })
 }
 
@@ -94,5 +95,6 @@ fn filled(alloc: Global) -> Result<Router<RouteId>, AllocError>
         "/shift/{name}/{term}/{to}/{amount}",
         RouteId::Shift,
     )?;
+    add(&mut router, "/status", RouteId::Status)?;
     Ok(router)
 }

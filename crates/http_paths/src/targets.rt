@@ -17,6 +17,8 @@ pub enum RouteId {
     Gossip,
     /// The report.
     Report,
+    /// What a program tells of its node.
+    Status,
 }
 
 /// Where a path leads, with the parts that its route leaves open, as they stand.
@@ -47,4 +49,6 @@ pub enum Target<'p> {
     Gossip,
     /// The report.
     Report,
+    /// What a program tells of its node.
+    Status,
 }

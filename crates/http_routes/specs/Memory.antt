@@ -37,10 +37,11 @@ abbrev pub IsRefusedAtLength : Kept → AskTold → Type 0
 IsRefusedAtLength k ask =
     (fault : NodeFault) × (refusal k (asked_first k.config.nodes ask) [] ≡ Some fault) × (holds_fault fault ≡ true)
 
--- a request: its call does, or it is refused at length; the list and the report are written to memory of their own. What
--- wants nothing of the node needs none
+-- a request: its call does, or it is refused at length; the list, the report and the status are written to memory of
+-- their own. What wants nothing of the node needs none
 abbrev pub NeedsMemory : Kept → WantedValue → Type 0
 NeedsMemory k (wants.call ask) = AskNeedsMemory k ask ⊎ IsRefusedAtLength k ask
 NeedsMemory k wants.list = Unit {0}
 NeedsMemory k wants.report = Unit {0}
+NeedsMemory k wants.status = Unit {0}
 NeedsMemory k (wants.answered reply) = ⊥

@@ -10,17 +10,19 @@ use Rattle.http_routes.specs.Replies.{ReplyValue, http_value, no_memory, text_re
 use Rattle.http_routes.specs.declared.wanted.Wanted.{Wanted}
 use Rattle.http_routes.specs.declared.wanted.Wanted.TheVariants as wants
 
--- a call, the list, the report, or nothing but this reply
+-- a call, the list, the report, the status, or nothing but this reply
 pub data WantedValue : Type 0 where
   call : (ask : AskTold) → WantedValue
   list : WantedValue
   report : WantedValue
+  status : WantedValue
   answered : (reply : ReplyValue) → WantedValue
 
 abbrev pub wanted_value : Wanted → WantedValue
 wanted_value (wants.Do ask) = call (ask_told ask)
 wanted_value wants.List = list
 wanted_value wants.Report = report
+wanted_value wants.Status = status
 wanted_value (wants.Answered reply) = answered (http_value reply)
 
 -- this, or no more than the reply where memory was refused
@@ -32,7 +34,7 @@ abbrev pub max_amount : ℕ
 max_amount = 18446744073709551615
 
 abbrev pub refused : ℕ → List ℕ → WantedValue
-refused status text = answered (text_reply status text)
+refused code text = answered (text_reply code text)
 
 -- bytes that are a text
 abbrev pub text_in : List ℕ → Option (List ℕ)
@@ -63,6 +65,7 @@ is_allowed (paths.shift name term to amount) method = bytes_eq method (codes "PO
 is_allowed (paths.grant name term amount) method = bytes_eq method (codes "POST")
 is_allowed paths.gossip method = bytes_eq method (codes "POST")
 is_allowed paths.report method = bytes_eq method (codes "GET")
+is_allowed paths.status method = bytes_eq method (codes "GET")
 
 -- where the method is one of the path's and the body isn't too long
 abbrev pub wanted_there : TargetValue → List ℕ → List ℕ → WantedValue
@@ -76,6 +79,7 @@ wanted_there (paths.grant name term amount) method body =
     grant_wanted name (number_of 255 term) (number_of max_amount amount)
 wanted_there paths.gossip method body = call (delivers body)
 wanted_there paths.report method body = report
+wanted_there paths.status method body = status
 
 abbrev pub wanted_at : TargetValue → List ℕ → List ℕ → WantedValue
 wanted_at target method body =

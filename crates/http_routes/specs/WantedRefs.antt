@@ -2,7 +2,7 @@
 use Rattle.std.specs.Prelude.{codes}
 use Rattle.node_calls.specs.Told.{ask_ref_told}
 use Rattle.http_routes.specs.Replies.{ReplyValue, text_reply}
-use Rattle.http_routes.specs.Requests.{WantedValue, call, list, report, answered}
+use Rattle.http_routes.specs.Requests.{WantedValue, call, list, report, status, answered}
 use Rattle.http_routes.specs.declared.wanted_ref.RequestFault.{RequestFault}
 use Rattle.http_routes.specs.declared.wanted_ref.RequestFault.TheVariants as faults
 use Rattle.http_routes.specs.declared.wanted_ref.WantedRef.{WantedRef}
@@ -20,4 +20,5 @@ abbrev pub wanted_ref_value : WantedRef → WantedValue
 wanted_ref_value (refs.Do ask) = call (ask_ref_told ask)
 wanted_ref_value refs.List = list
 wanted_ref_value refs.Report = report
+wanted_ref_value refs.Status = status
 wanted_ref_value (refs.Refused fault) = answered (request_fault_reply fault)

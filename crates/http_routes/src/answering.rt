@@ -12,6 +12,7 @@ ghost use Rattle.http_routes.specs.Rooms.{room_reply_value};
 
 use crate::reply::HttpReply;
 use crate::room::{KeptRoom, RoomReply};
+use crate::status::node_status;
 use crate::wanted_ref::{WantedRef, route_ref};
 use http_paths::Routes;
 use node_core::{AskRef, NodeCore, NodeFault, Reply};
@@ -84,6 +85,9 @@ pub fn answer_in(
             let nodes = core.config().nodes;
             let report = report_json(alloc, core.state(), nodes);
             RoomReply::Apart(HttpReply::written(alloc, 200, report))
+        }
+        WantedRef::Status => {
+            RoomReply::Apart(HttpReply::written(alloc, 200, node_status(alloc, core)))
         }
         WantedRef::Refused(fault) => room.refuse_request(fault),
     }

@@ -10,6 +10,7 @@
 //! | `/grant/<name>/<term>/<amount>` | POST | grant | how many rights were granted in all |
 //! | `/gossip` | POST | deliver; the body is the message | `changed` or `same` |
 //! | `/report` | GET | the report as JSON | the report |
+//! | `/status` | GET | the status as JSON | the status |
 //!
 //! The paths have the shape of the `/fail` routes of TiKV's status server. Of several refusals the
 //! first is the answer: 404 `not found`, 405 `bad method`, 413 `too long` of a body of more than
@@ -26,11 +27,13 @@
 mod answering;
 mod reply;
 mod room;
+mod status;
 mod wanted;
 mod wanted_ref;
 
 pub use answering::{answer, answer_in};
 pub use reply::{HttpReply, ReplyRoom, reply_of};
 pub use room::{KeptRoom, RoomReply};
+pub use status::node_status;
 pub use wanted::{MAX_BODY, Wanted, route, route_owned, too_long};
 pub use wanted_ref::{RequestFault, WantedRef, route_ref};

@@ -29,6 +29,8 @@ pub enum Wanted {
     List,
     /// The report.
     Report,
+    /// The status.
+    Status,
     /// Nothing: this is the reply.
     Answered(HttpReply),
 }
@@ -120,7 +122,7 @@ pub(crate) fn is_allowed(target: &Target<'_>, method: &str) -> bool
     ensures { result ≡ is_allowed (target_value target.now) method.now }
 {
     match target {
-        Target::Points | Target::Report => method == "GET",
+        Target::Points | Target::Report | Target::Status => method == "GET",
         Target::Point { .. } => method == "PUT" || method == "DELETE",
         Target::Load | Target::Shift { .. } | Target::Grant { .. } | Target::Gossip => {
             method == "POST"
@@ -158,6 +160,7 @@ fn wanted_at(alloc: Global, target: Target<'_>, method: &str, body: Vec<u8>) -> 
         Target::Grant { name, term, amount } => grant_wanted(alloc, name, term, amount),
         Target::Gossip => Wanted::Do(Ask::Deliver { message: body }),
         Target::Report => Wanted::Report,
+        Target::Status => Wanted::Status,
     }
 }
 

@@ -53,6 +53,8 @@ pub enum WantedRef<'a> {
     List,
     /// The report.
     Report,
+    /// The status.
+    Status,
     /// Nothing: this is why.
     Refused(RequestFault),
 }
@@ -143,6 +145,7 @@ fn wanted_ref_at<'a>(target: Target<'a>, method: &str, body: &'a [u8]) -> Wanted
         Target::Grant { name, term, amount } => grant_ref(name, term, amount),
         Target::Gossip => WantedRef::Do(AskRef::Deliver { message: body }),
         Target::Report => WantedRef::Report,
+        Target::Status => WantedRef::Status,
     }
 }
 

@@ -45,6 +45,7 @@ served config seed had has (wants.call ask) given (inr (inl refused, same)) = in
 served config seed had has (wants.call ask) given (inr (inr none, same)) = inr none
 served config seed had has wants.list given (is, same) = is
 served config seed had has wants.report given (is, same) = is
+served config seed had has wants.status given (is, same) = is
 served config seed had has (wants.answered reply) given (is, same) = is
 
 -- a request that is answered without the node

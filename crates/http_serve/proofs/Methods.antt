@@ -1,6 +1,6 @@
 -- The methods of a path are those that its route has.
 use Rattle.std.proofs.Common.{◌≡◌, ℕ, List, refl}
-use Rattle.http_paths.specs.Paths.{TargetValue, points, point, load, shift, grant, gossip, report}
+use Rattle.http_paths.specs.Paths.{TargetValue, points, point, load, shift, grant, gossip, report, status}
 use Rattle.http_routes.specs.Requests.{is_allowed}
 use Rattle.http_serve.specs.Labels.{has_method, methods_of}
 
@@ -13,3 +13,4 @@ allowed (shift name term to amount) method = refl
 allowed (grant name term amount) method = refl
 allowed gossip method = refl
 allowed report method = refl
+allowed status method = refl

@@ -19,6 +19,7 @@ methods_of (paths.shift name term to amount) = Post
 methods_of (paths.grant name term amount) = Post
 methods_of paths.gossip = Post
 methods_of paths.report = Get
+methods_of paths.status = Get
 
 -- whether a method is one of them
 abbrev pub has_method : Methods → List ℕ → Bool
@@ -26,9 +27,10 @@ has_method Get method = bytes_eq method (codes "GET")
 has_method Post method = bytes_eq method (codes "POST")
 has_method PutOrDelete method = bytes_eq method (codes "PUT") || bytes_eq method (codes "DELETE")
 
--- the report is JSON, and anything else a text
+-- the report and the status are JSON, and anything else is a text
 abbrev pub content_at : Option TargetValue → Content
 content_at (Some paths.report) = Json
+content_at (Some paths.status) = Json
 content_at _ = Text
 
 -- what a reply with this status to a request of this path is labelled as: where the method isn't one of the path's,

@@ -11,6 +11,8 @@ use Rattle.node_registry.specs.Cells.{Cell, IsLawfulAt}
 use Rattle.node_registry.specs.Receipts.{IsGiven, IsReceiptOf}
 use Rattle.node_registry.specs.Receipts as registry
 use Rattle.report_text.specs.Json.{report_json_text}
+use Rattle.report_text.specs.Status.{status_json_text}
+use Rattle.http_routes.specs.Answers.{head_of}
 use Rattle.http_routes.specs.Replies.{ReplyValue, IsReply, acceptance_value, no_memory, refusal_value, text_reply}
 use Rattle.http_routes.specs.Requests.{WantedValue}
 use Rattle.http_routes.specs.Requests as wants
@@ -36,6 +38,9 @@ Comes config seed wants.list given =
 Comes config seed wants.report given =
     (c : Cell) × IsLawfulAt config seed c
     × IsReply (text_reply 200 (report_json_text (state_known c.node) config.nodes)) given
+Comes config seed wants.status given =
+    (c : Cell) × IsLawfulAt config seed c
+    × IsReply (text_reply 200 (status_json_text (head_of c.node) (state_known c.node))) given
 Comes config seed (wants.answered reply) given = IsReply reply given
 
 -- the same; or memory was refused before anything was asked

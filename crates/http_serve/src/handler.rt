@@ -12,7 +12,7 @@ ghost use Rattle.http_serve.specs.Served.{IsServed, IsServedFrom};
 
 use crate::labels::Labels;
 use http_paths::Routes;
-use http_routes::{HttpReply, ReplyRoom, Wanted, route_owned, too_long};
+use http_routes::{HttpReply, ReplyRoom, Wanted, node_status, route_owned, too_long};
 use node_core::Ask;
 use node_registry::{Label, Registry, Seat};
 use report_text::report_json;
@@ -108,6 +108,7 @@ impl<L: Label> NodeHandler<L> {
             Wanted::Do(ask) => self.call(rt, alloc, seat, ask),
             Wanted::List => self.list(rt, alloc),
             Wanted::Report => self.report(rt, alloc),
+            Wanted::Status => self.status(rt, alloc),
             Wanted::Answered(reply) => reply,
         }
     }
@@ -138,6 +139,13 @@ impl<L: Label> NodeHandler<L> {
             |core| report_json(alloc, core.state(), core.config().nodes),
         );
         HttpReply::written(alloc, 200, report)
+    }
+
+    fn status<R: Wait>(&self, rt: &R, alloc: Global) -> HttpReply
+        ensures { IsServed L.config L.seed requests.status (http_value result) }
+    {
+        let status = self.registry.with(rt, |core| node_status(alloc, core));
+        HttpReply::written(alloc, 200, status)
     }
 
     /// The reply to a request whose body is longer than the longest, however it goes on.

@@ -109,7 +109,7 @@ fn content_of(target: &Option<Target<'_>>) -> Content
     ensures { result ≡ content_at (option_map target_value target.now) }
 {
     match target {
-        Some(Target::Report) => Content::Json,
+        Some(Target::Report | Target::Status) => Content::Json,
         _ => Content::Text,
     }
 }
@@ -118,7 +118,7 @@ fn methods_at(target: &Target<'_>) -> Methods
     ensures { result ≡ methods_of (target_value target.now) }
 {
     match target {
-        Target::Points | Target::Report => Methods::Get,
+        Target::Points | Target::Report | Target::Status => Methods::Get,
         Target::Point { name: _ } => Methods::PutOrDelete,
         _ => Methods::Post,
     }

@@ -17,6 +17,8 @@ use Rattle.serde_json.proofs.Texts.{print-outline}
 use Rattle.stamp_register.specs.Keys.{stamp_text}
 use Rattle.replica_state.specs.States.{State}
 use Rattle.report_text.specs.Report.{TermRow, PointRow, point_rows}
+use Rattle.report_text.specs.Status.{BudgetRow, BudgetsRow, all_budgets, budget_data, budgets_data, node_data, points_data, status_data}
+use Rattle.report_text.specs.declared.node_json.NodeHead.{NodeHead}
 use Rattle.report_text.specs.Json.{list_data, rights_data, term_data, actions_data, point_data, report_data}
 
 -- a value that is read as itself, with no number, that nests no deeper than this
@@ -146,6 +148,50 @@ report_plain v nodes = list_plain point_data 4 point_plain (point_rows v nodes)
 
 pub report_floatless : (v : State) (nodes : ℕ) → has_float (report_data v nodes) ≡ false
 report_floatless v nodes = (report_plain v nodes).floatless
+
+-- ---- the status of a node
+
+by_node_plain : (cells : List (ℕ × ℕ)) → IsPlain 1 (list_data (map (λ at. string (decimal at.1)) cells))
+by_node_plain cells = list_plain _ 0 (λ at. string_plain 0 (decimal at.1)) cells
+
+budget_plain : (row : BudgetRow) → IsPlain 2 (budget_data row)
+budget_plain row =
+    object_plain 1 _
+    (and_member (codes "count") (string_plain 1 _)
+    (and_member (codes "granted") (by_node_plain row.granted)
+    (and_member (codes "rights") (list_plain _ 0 (λ at. string_plain 0 (signed_decimal at.1)) row.rights)
+    (and_member (codes "spent") (by_node_plain row.spent)
+    (and_member (codes "term") (string_plain 1 _) (no_more 1))))))
+    refl
+
+budgets_plain : (row : BudgetsRow) → IsPlain 4 (budgets_data row)
+budgets_plain row =
+    object_plain 3 _
+    (and_member (codes "name") (string_plain 3 row.name)
+    (and_member (codes "stamp") (string_plain 3 (stamp_text row.stamp))
+    (and_member (codes "terms") (list_plain budget_data 2 budget_plain row.terms) (no_more 3))))
+    refl
+
+points_plain : (v : State) (nodes : ℕ) → IsPlain 5 (points_data v nodes)
+unfolding points_data
+points_plain v nodes = list_plain budgets_data 4 budgets_plain (all_budgets v nodes)
+
+node_plain : (head : NodeHead) (v : State) → IsPlain 6 (node_data head v)
+node_plain head v =
+    object_plain 5 _
+    (and_member (codes "calls") (string_plain 5 _)
+    (and_member (codes "cap") (string_plain 5 _)
+    (and_member (codes "nodes") (string_plain 5 _)
+    (and_member (codes "number") (string_plain 5 _)
+    (and_member (codes "points") (points_plain v head.nodes)
+    (and_member (codes "version") (string_plain 5 _) (no_more 5)))))))
+    refl
+
+status_plain : (head : NodeHead) (v : State) → IsPlain 7 (status_data head v)
+status_plain head v = object_plain 6 _ (and_member (codes "node") (node_plain head v) (no_more 6)) refl
+
+pub status_floatless : (head : NodeHead) (v : State) → has_float (status_data head v) ≡ false
+status_floatless head v = (status_plain head v).floatless
 
 -- the text of such a value is read as the value
 plain_read : (deep : ℕ) (d : Data) → deep ≤ max_depth → IsPlain deep d → read (compact_text d) ≡ Some d

@@ -2,3 +2,4 @@ pub mod Report
 pub mod Lines
 pub mod Json
 pub mod Laws
+pub mod Status

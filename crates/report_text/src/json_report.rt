@@ -18,14 +18,14 @@ use stamp_register::{Body, Key};
 use std::alloc::{AllocError, Global};
 
 /// An array of these values.
-fn list_value(values: Vec<Value>) -> Value
+pub(crate) fn list_value(values: Vec<Value>) -> Value
     ensures { view result ≡ list_data (map view values.items) }
 {
     Value::Array(values)
 }
 
 /// Adds a value behind the others.
-fn push_value(values: &mut Vec<Value>, value: Value) -> Result<(), AllocError>
+pub(crate) fn push_value(values: &mut Vec<Value>, value: Value) -> Result<(), AllocError>
     ensures { OnOk result (map view values.new.items
         ≡ map view values.old.items ++ view value ∷ []) }
 {
@@ -34,7 +34,7 @@ fn push_value(values: &mut Vec<Value>, value: Value) -> Result<(), AllocError>
 }
 
 /// A number, as the text of its digits.
-fn number_value(alloc: Global, number: u128) -> Result<Value, AllocError>
+pub(crate) fn number_value(alloc: Global, number: u128) -> Result<Value, AllocError>
     ensures { IfOk result (λ value. view value ≡ string (decimal number)) }
 {
     Ok(Value::String(format!(in alloc; "{number}")?))
@@ -85,7 +85,7 @@ fn rights_at<R: Replica>(
 }
 
 /// The rights to a term that each node has left.
-fn rights_value<R: Replica>(
+pub(crate) fn rights_value<R: Replica>(
     alloc: Global,
     replica: &R,
     nodes: u8,

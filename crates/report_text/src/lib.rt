@@ -1,10 +1,12 @@
 //! Reports of what a replica knows of the points of a cluster, as lines for people and as JSON for
-//! programs.
+//! programs; and the status of a node, as JSON.
 #![tactic(auto)]
 
 mod json_report;
 pub mod laws;
 mod lines_report;
+mod node_json;
 
 pub use json_report::report_json;
 pub use lines_report::report_lines;
+pub use node_json::{NodeHead, status_json};

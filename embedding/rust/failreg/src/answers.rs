@@ -30,6 +30,7 @@ impl Registry {
     /// | `POST /shift/<name>/<term>/<to>/<amount>` | | how many were moved there in all |
     /// | `POST /grant/<name>/<term>/<amount>` | | how many were granted in all |
     /// | `GET /report` | | what the node knows, as JSON |
+    /// | `GET /status` | | the node, its calls and what each node has of each count, as JSON: an object with the one member `node`, behind which a program may tell more |
     /// | `POST /gossip` | a message of another node | `changed` or `same` |
     ///
     /// What is done is as by the calls of the registry: threads see new settings, pauses end, and

@@ -110,7 +110,7 @@ fn methods_at(path: &str) -> Option<&'static str> {
         return None;
     }
     match parts[..] {
-        ["fail"] | ["report"] => Some("GET"),
+        ["fail"] | ["report"] | ["status"] => Some("GET"),
         ["fail", _] => Some("PUT, DELETE"),
         ["load"] | ["gossip"] | ["grant", _, _, _] | ["shift", _, _, _, _] => Some("POST"),
         _ => None,
@@ -419,7 +419,7 @@ fn reply_head(head: Option<&Head>, status: u16, length: usize) -> String {
         false => "HTTP/1.1",
     };
     let path = head.map_or("", |head| &head.path);
-    let content = match status == 200 && path == "/report" {
+    let content = match status == 200 && (path == "/report" || path == "/status") {
         true => "application/json",
         false => "text/plain; charset=utf-8",
     };
@@ -634,6 +634,8 @@ mod tests {
             ("POST /grant/a/0", 404),
             ("POST /gossip", 413),
             ("GET /report", 413),
+            ("GET /status", 413),
+            ("POST /status", 405),
             ("PUT /fail/", 404),
             ("GET /", 404),
             ("PUT /fail/a/b", 404),

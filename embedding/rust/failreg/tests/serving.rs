@@ -30,7 +30,7 @@ fn status_of(reply: &str) -> u16 {
     reply.get(9..12).map_or(0, |digits| digits.parse().unwrap())
 }
 
-const REQUESTS: [(&str, &str, &str, u16, &str); 22] = [
+const REQUESTS: [(&str, &str, &str, u16, &str); 23] = [
     ("PUT", "/fail/a", "3*return(x)->off", 200, "1.0"),
     ("GET", "/fail", "", 200, "a=3*return(x)->off"),
     ("GET", "/fail/?all", "", 200, "a=3*return(x)->off"),
@@ -62,6 +62,7 @@ const REQUESTS: [(&str, &str, &str, u16, &str); 22] = [
     ("GET", "/nope", "", 404, "not found"),
     ("GET", "/fail/a/b", "", 404, "not found"),
     ("PUT", "/report", "", 405, "bad method"),
+    ("POST", "/status", "", 405, "bad method"),
     ("GET", "/fail/a", "", 405, "bad method"),
     ("put", "/fail/a", "off", 405, "bad method"),
     ("HEAD", "/report", "", 405, ""),
@@ -96,6 +97,16 @@ fn each_request_is_answered() {
     );
     let (status, report) = ask(addr, "GET", "/report", "");
     assert!(status == 200 && report.starts_with("[{\"actions\":\"3*return(x)->off\","));
+    let (status, told) = ask(addr, "GET", "/status", "");
+    assert!(
+        status == 200 && told.starts_with("{\"node\":{\"calls\":\"9\",\"cap\":\""),
+        "{told}"
+    );
+    assert!(
+        told.contains("\"granted\":[\"2\",\"0\"],\"rights\":[\"1\",\"4\"],\"spent\":[\"0\",\"0\"]"),
+        "{told}"
+    );
+    assert!(told.ends_with(",\"version\":\"0.1.0\"}}"), "{told}");
     // Threads see what requests set.
     let told = |name| node.eval(name);
     assert_eq!(told("a"), Some(Some("x".into())));

@@ -69,6 +69,19 @@ add-requires-8 c =
     let h = c.in_ok-add-7.ensures in
     rw (h, g, f, e, d, b, a, c.new-router.ensures) refl
 
+pub add-requires-9 : goal.add-requires-9
+unfolding matchit_on_literals
+add-requires-9 c =
+    let a = c.in_ok-add.ensures in
+    let b = c.in_ok-add-2.ensures in
+    let d = c.in_ok-add-3.ensures in
+    let e = c.in_ok-add-4.ensures in
+    let f = c.in_ok-add-5.ensures in
+    let g = c.in_ok-add-6.ensures in
+    let h = c.in_ok-add-7.ensures in
+    let i = c.in_ok-add-8.ensures in
+    rw (i, h, g, f, e, d, b, a, c.new-router.ensures) refl
+
 pub returns : goal.returns
 unfolding matchit_on_literals
 returns c =
@@ -80,4 +93,5 @@ returns c =
     let g = c.in_ok-add-6.ensures in
     let h = c.in_ok-add-7.ensures in
     let i = c.in_ok-add-8.ensures in
-    rw (h, g, f, e, d, b, a, c.new-router.ensures) at i
+    let j = c.in_ok-add-9.ensures in
+    rw (i, h, g, f, e, d, b, a, c.new-router.ensures) at j

@@ -19,6 +19,7 @@ same k new given (Some (paths.shift name term to amount)) (inl kept) = kept.0
 same k new given (Some (paths.grant name term amount)) (inl kept) = kept.0
 same k new given (Some paths.gossip) (inl kept) = kept.0
 same k new given (Some paths.report) (inl kept) = kept.0
+same k new given (Some paths.status) (inl kept) = kept.0
 
 pub returns : goal.returns
 returns c = same c.args.node.now c.answer.new.core (http_value c.answer.result) (target_of c.args.path.now)
