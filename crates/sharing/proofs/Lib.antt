@@ -1,0 +1,5 @@
+pub mod Walks
+pub mod Lines
+pub mod Given
+pub mod Due
+pub mod Once

@@ -1,0 +1,4 @@
+pub mod Memory
+pub mod Shares
+pub mod Remembered
+pub mod Laws

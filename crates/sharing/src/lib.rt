@@ -1,0 +1,13 @@
+//! Which of its rights a node shifts to others of its own accord, round by round: from who has some
+//! to spare, to who passed lately and has none.
+#![tactic(auto)]
+
+pub mod laws;
+mod line;
+mod memory;
+mod point;
+mod remembered;
+mod shift;
+
+pub use memory::Memory;
+pub use shift::Shift;
