@@ -295,12 +295,18 @@ two peers of one node the first counts, and one of the node itself is told
 nothing. The rounds end with the service, which waits for the one under way.
 Where no thread or no sockets can be had for them, the node is served without.
 
+With --record the node outlives its process: each call that it accepts is a
+line of the file before anybody is told of it. Where the file is there, those
+calls are made again first, and --failpoints only where there are none. Where a
+line can't be written, as on a full disk, that call and all later ones are 503.
+
 The status is 0 once all were served. It is 2 where a peer isn't the number of
 a node of the cluster and a port, round a `:`. It is 1 where the node can't be
 made (`refused N21 BadConfig`: n isn't below m, or m isn't 1 to 32), where the
 port can't be listened on (`refused V1 BindFailed`), where the node refuses the
-FAILPOINTS text, and where no more clients can be let in; the reason stands on
-standard error.
+FAILPOINTS text, where the file isn't this node's part (`refused V4 BadPart`) or
+another process has it open (`refused V5 PartInUse`), and where no more clients
+can be let in; the reason stands on standard error.
 
 Example:
   $ failreg serve --node 0 --nodes 2 --port 17070 --requests 0

@@ -23,8 +23,8 @@ pub enum Invocation<'a> {
     Threads(ThreadOptions<'a>),
     /// To audit the drill in a file, or that of the parts in files.
     Audit(Vec<&'a str>),
-    /// To serve a node over HTTP.
-    Serve(ServeOptions<'a>),
+    /// To serve a node over HTTP, and to keep its part, if that is wanted.
+    Serve(ServeOptions<'a>, Option<PartOptions<'a>>),
     /// To say what the codes in a text mean, or, without one, to list all codes.
     Explain(Option<String>),
 }
@@ -81,6 +81,17 @@ pub struct ServeOptions<'a> {
     pub telling: GossipOptions,
 }
 
+/// Where the part of a served node is kept, and how.
+#[derive(Clone, Copy, Debug, Drop)]
+pub struct PartOptions<'a> {
+    /// Its file.
+    pub path: &'a str,
+    /// The run of which it is a part.
+    pub run: &'a str,
+    /// Whether what is written is with the disk before anybody is told.
+    pub is_synced: bool,
+}
+
 // The words of a command line live as long as the texts of its command.
 fn whole_command<'a>(alloc: Global, extent: Extent) -> Result<Command<'a>, AllocError> {
     let mut command = Command::new(alloc, "failreg")
@@ -120,6 +131,26 @@ fn serve_options<'a>(alloc: Global, matches: &ArgMatches<'a>) -> Result<ServeOpt
             every: Duration::from_millis(u64::from(every)),
         },
     })
+}
+
+// Where a part is kept, if it is: the options that say how are given with its file alone.
+fn part_options<'a>(
+    alloc: Global,
+    matches: &ArgMatches<'a>,
+) -> Result<Option<PartOptions<'a>>, Error> {
+    let run = matches.get_str("run");
+    let is_synced = matches.get_flag("sync");
+    match matches.get_str("record") {
+        Some(path) => Ok(Some(PartOptions {
+            path,
+            run: run.unwrap_or(""),
+            is_synced,
+        })),
+        None if run.is_some() || is_synced => {
+            Err(bad_value_of_serve(alloc, "--run and --sync are given with --record <file>")?)
+        }
+        None => Ok(None),
+    }
 }
 
 // Words that name no peers, in the form of other mistakes in a command line.
@@ -167,7 +198,10 @@ fn read_matches<'a>(alloc: Global, matches: &ArgMatches<'a>) -> Result<Invocatio
             let files = matches.get_strs("file").unwrap_or(&[]);
             Invocation::Audit(Vec::from_slice(alloc, files)?)
         }
-        Subcommand::Serve => Invocation::Serve(serve_options(alloc, matches)?),
+        Subcommand::Serve => {
+            let part = part_options(alloc, matches)?;
+            Invocation::Serve(serve_options(alloc, matches)?, part)
+        }
         Subcommand::Explain => {
             Invocation::Explain(text_of(alloc, matches.get_strs("text").unwrap_or(&[]))?)
         }

@@ -22,6 +22,7 @@ mod auditing;
 mod checking;
 mod explaining;
 mod finish;
+mod part_advice;
 mod part_recording;
 mod recording;
 mod short_lines;
@@ -33,20 +34,21 @@ use actions::parse_actions;
 use advice::{advice_on_audit, advice_on_parse, advice_on_service, is_missing};
 use audited_files::audit_files;
 use checking::check_threads;
-use command_line::{Invocation, ServeOptions, SimOptions, quoted, read_command_line};
+use command_line::{Invocation, PartOptions, ServeOptions, SimOptions, quoted, read_command_line};
 use drills::DrillFault;
 use explaining::explain_codes;
 use finish::{
     finish_audit, finish_checked, finish_parse, finish_script, finish_serve, finish_unread,
     finish_unreadable, refuse,
 };
-use node_service::serve_node;
+use node_service::{ServiceFault, serve_node, serve_recorded};
+use part_advice::advice_on_recorded;
 use scripts::{
     MOST_BYTES, Watched, run_script, run_script_checked, run_script_echoing, run_script_warning,
 };
 use standard::hold_standard;
 use std::alloc::AllocGlobal;
-use std::fs::Files;
+use std::fs::{File, Files};
 use std::io::{Read, Write};
 use std::net::Net;
 use std::process::ExitCode;
@@ -82,7 +84,7 @@ fn main(rt: HostRuntime) -> anyhow::Result<ExitCode> {
             threads(&rt, options, &mut reader, &mut writer, &mut errors)
         }
         Ok(Invocation::Audit(paths)) => audit(&rt, &paths, &mut writer),
-        Ok(Invocation::Serve(options)) => serve(&rt, options),
+        Ok(Invocation::Serve(options, part)) => serve(&rt, options, part),
         Ok(Invocation::Explain(text)) => explain_codes(&rt, &text, &mut writer, &mut errors),
         Err(error) => finish_unread(&rt, &error),
     }
@@ -197,8 +199,12 @@ fn audit<R: Eprint + AllocGlobal + Files + Input, O: Write>(
     finish_audit(rt, audited, &advice)
 }
 
-// Serves the node that a command line names.
-fn serve<R>(rt: &R, options: ServeOptions<'_>) -> anyhow::Result<ExitCode>
+// Serves the node that a command line names, and keeps its part where that is wanted.
+fn serve<R>(
+    rt: &R,
+    options: ServeOptions<'_>,
+    part: Option<PartOptions<'_>>,
+) -> anyhow::Result<ExitCode>
 where
     R: Wait
         + Threads
@@ -206,6 +212,7 @@ where
         + RandomSource
         + AllocGlobal
         + Net<Listener = net::TcpListener, Stream = net::TcpStream>
+        + Files<File = File>
         + Send
         + Sync
         + Copy
@@ -223,7 +230,15 @@ where
         eprintln!(rt; "warning: --rounds without a peer tells nobody")?;
     }
     let (node, nodes, port) = (options.node, options.nodes, options.port);
-    let served = serve_node(rt, options);
-    let advice = advice_on_service(rt.alloc(), node, nodes, port, &served);
+    let Some(part) = part else {
+        let served = serve_node(rt, options);
+        let advice = advice_on_service(rt.alloc(), node, nodes, port, &served);
+        return finish_serve(rt, served, &advice);
+    };
+    let served = serve_recorded(rt, options, part);
+    let advice = match &served {
+        Err(ServiceFault::Part(fault)) => advice_on_recorded(rt.alloc(), part.path, fault),
+        _ => advice_on_service(rt.alloc(), node, nodes, port, &served),
+    };
     finish_serve(rt, served, &advice)
 }

@@ -13,6 +13,9 @@ use Rattle.node_registry.proofs.guarded.Seat.TheSendSync as seat
 use Rattle.http_paths.proofs.Crossing.{routes_send, routes_sync}
 use Rattle.http_serve.specs.contracts.handler.ForgettingHandler as ForgettingHandler
 use Rattle.http_serve.specs.contracts.handler.NodeHandler as NodeHandler
+use Rattle.http_serve.specs.contracts.handler.recording.RecordingHandler as RecordingHandler
+use Rattle.part_keeper.specs.contracts.recorder.Recorder as Recorder
+use Rattle.part_keeper.proofs.recorder.Recorder.TheSendSync as recorder
 
 handler_fields_send : (L : RattleType) (g : label.Ghosts L.Denot) (g' : ledger.Ghosts L.Denot) →
     IsSend (NodeHandler.the_field L g g').row
@@ -51,3 +54,27 @@ pub forgetting_sync : (L : RattleType) (g : label.Ghosts L.Denot) (g' : ledger.G
 forgetting_sync L g g' =
     recorded_sync (ForgettingHandler.the_field L g g').row _ _ (ForgettingHandler.the_type L g g').to_one
     (struct_sync (shape (ForgettingHandler.the_type L g g')) (handler_fields_sync L g g', tt))
+
+recording_fields_send : (L : RattleType) (g : label.Ghosts L.Denot) (g' : ledger.Ghosts L.Denot) →
+    IsSend (RecordingHandler.the_field L g g').row
+recording_fields_send L g g' =
+    let shared = Arc-send (Recorder.the_row L g g') (recorder.the_send L g g') (recorder.the_sync L g g') in
+    struct_send (shape (RecordingHandler.the_type L g g')) (handler_fields_send L g g', (shared, tt))
+
+recording_fields_sync : (L : RattleType) (g : label.Ghosts L.Denot) (g' : ledger.Ghosts L.Denot) →
+    IsSync (RecordingHandler.the_field L g g').row
+recording_fields_sync L g g' =
+    let shared = Arc-sync (Recorder.the_row L g g') (recorder.the_send L g g') (recorder.the_sync L g g') in
+    struct_sync (shape (RecordingHandler.the_type L g g')) (handler_fields_sync L g g', (shared, tt))
+
+pub recording_send : (L : RattleType) (g : label.Ghosts L.Denot) (g' : ledger.Ghosts L.Denot) →
+    IsSend (RecordingHandler.the_row L g g')
+recording_send L g g' =
+    recorded_send (RecordingHandler.the_field L g g').row _ _ (RecordingHandler.the_type L g g').to_one
+    (recording_fields_send L g g')
+
+pub recording_sync : (L : RattleType) (g : label.Ghosts L.Denot) (g' : ledger.Ghosts L.Denot) →
+    IsSync (RecordingHandler.the_row L g g')
+recording_sync L g g' =
+    recorded_sync (RecordingHandler.the_field L g g').row _ _ (RecordingHandler.the_type L g g').to_one
+    (recording_fields_sync L g g')

@@ -3,3 +3,4 @@ mod Crossing
 mod Exchanges
 mod Methods
 mod Ports
+mod Recorded

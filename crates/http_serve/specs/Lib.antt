@@ -3,4 +3,5 @@ pub mod Exchanges
 pub mod FaultText
 pub mod Heads
 pub mod Labels
+pub mod Recorded
 pub mod Served

@@ -10,11 +10,14 @@ ghost use Rattle.http_paths.specs.Paths.{target_of};
 ghost use Rattle.http_serve.specs.Labels.{labels_of};
 ghost use Rattle.http_serve.specs.Served.{IsServed, IsServedFrom};
 
+mod recording;
+
 use crate::labels::Labels;
 use http_paths::Routes;
 use http_routes::{HttpReply, ReplyRoom, Wanted, node_status, route_owned, too_long};
 use node_core::Ask;
 use node_registry::{Label, Registry, Seat};
+pub(crate) use recording::RecordingHandler;
 use report_text::report_json;
 use std::alloc::{AllocError, Global};
 use std::sync::{Arc, Mutex, Wait};

@@ -22,4 +22,4 @@ mod permits;
 mod serving;
 
 pub use fault::ServeFault;
-pub use serving::{serve, serve_forgetting};
+pub use serving::{serve, serve_forgetting, serve_recording};

@@ -11,7 +11,7 @@ ghost use Rattle.tokio.specs.Timers.{IsDelayedBy, sleep_deadline, timeout_delay}
 use crate::connection::{Accepting, Clients, ConnectionFactory, ConnectionTask};
 use crate::exchange::ConnectionService;
 use crate::fault::ServeFault;
-use crate::handler::{ForgettingHandler, Handler, NodeHandler};
+use crate::handler::{ForgettingHandler, Handler, NodeHandler, RecordingHandler};
 use crate::permits::Permits;
 use bytes::Bytes;
 use futures::Future;
@@ -20,6 +20,7 @@ use http_body_util::Full;
 use hyper::rt::TokioTimer;
 use hyper::server::conn::http1::{Builder, Connection};
 use node_registry::{Label, Registry, Seat};
+use part_keeper::Recorder;
 use std::alloc::{AllocGlobal, Global};
 use std::hash::RandomState;
 use std::io::ErrorKind;
@@ -186,6 +187,29 @@ where
     let handler = ForgettingHandler::new(alloc, registry, seat)?;
     let served = serve_handler(rt, alloc, runtime, handler, listener, requests)?;
     Ok(served.count())
+}
+
+/// Serves connections as `serve` does, and has each call written to the node's part before it is
+/// answered. The seat makes no call.
+pub fn serve_recording<L, R>(
+    rt: &R,
+    alloc: Global,
+    runtime: &mut Runtime,
+    registry: &Arc<Registry<L>>,
+    recorder: &Arc<Recorder<L>>,
+    seat: Seat<L>,
+    listener: TcpListener,
+    requests: u32,
+) -> Result<u32, ServeFault>
+where
+    L: Label + Send + Sync,
+    R: Wait + Threads + Clock + RandomSource + AllocGlobal + Send + Sync + Copy,
+    ensures ok { IfOk result (λ served. served ≡ requests) }
+    ensures err { IfErr result (λ f. (f ≡ AcceptFailed) ⊎ (f ≡ OutOfMemory)) }
+{
+    let handler = RecordingHandler::new(alloc, registry, recorder, seat)?;
+    let answered = serve_handler(rt, alloc, runtime, handler, listener, requests)?;
+    Ok(answered.count())
 }
 
 // Serves clients whose requests go to a handler.

@@ -1,5 +1,6 @@
 //! Why a node isn't served, or no longer.
 
+use crate::part_file::OpenFault;
 use http_serve::ServeFault;
 use node_core::NodeFault;
 use std::error::Error;
@@ -14,6 +15,10 @@ pub enum ServiceFault {
     Serve(ServeFault),
     /// It can't be said where it listens.
     Output(io::Error),
+    /// It doesn't go on from its part.
+    Part(OpenFault),
+    /// Its first points couldn't be recorded.
+    NotRecorded,
 }
 
 impl fmt::Display for ServiceFault {
@@ -26,6 +31,8 @@ impl fmt::Display for ServiceFault {
             ServiceFault::Node(fault) => write!(f, "{fault}"),
             ServiceFault::Serve(fault) => write!(f, "{fault}"),
             ServiceFault::Output(error) => write!(f, "{error}"),
+            ServiceFault::Part(fault) => write!(f, "{fault}"),
+            ServiceFault::NotRecorded => f.write_str("V6 NotRecorded"),
         }
     }
 }
@@ -62,5 +69,16 @@ impl From<io::Error> for ServiceFault {
 
     fn from(error: io::Error) -> ServiceFault {
         ServiceFault::Output(error)
+    }
+}
+
+impl From<OpenFault> for ServiceFault {
+    ghost use Rattle.std.specs.Prelude.{◌≡◌};
+    ghost use Rattle.node_service.specs.declared.fault.ServiceFault.TheVariants.{Part};
+
+    ghost from_gives = { λ fault e. e ≡ Part fault };
+
+    fn from(fault: OpenFault) -> ServiceFault {
+        ServiceFault::Part(fault)
     }
 }

@@ -3,8 +3,13 @@
 
 mod fault;
 mod host;
+mod part_file;
+mod recording;
+mod recording_wire;
 mod serving;
 mod telling;
 
 pub use fault::ServiceFault;
+pub use part_file::OpenFault;
+pub use recording::serve_recorded;
 pub use serving::serve_node;

@@ -54,7 +54,7 @@ where
 }
 
 // The configuration of a node that is served.
-fn config_of(node: u8, nodes: u8, cap: Option<u32>) -> Config
+pub(crate) fn config_of(node: u8, nodes: u8, cap: Option<u32>) -> Config
     ensures { result ≡ record { node = node; nodes = nodes; trace_cap = cap_of cap } }
 {
     Config {
@@ -153,7 +153,7 @@ where
 }
 
 // Says on which port the node is served, so that whoever started it needn't wait.
-fn say_where<R: Print>(rt: &R, port: u16) -> io::Result<()> {
+pub(crate) fn say_where<R: Print>(rt: &R, port: u16) -> io::Result<()> {
     println!(rt; "listening {port}")?;
     io::writer(rt).flush()
 }
@@ -188,7 +188,7 @@ fn loopback(port: u16) -> SocketAddr
 }
 
 // Listens on a port of this machine, and answers which.
-fn listen<R>(rt: &R, port: u16) -> io::Result<(Runtime, TcpListener, u16)>
+pub(crate) fn listen<R>(rt: &R, port: u16) -> io::Result<(Runtime, TcpListener, u16)>
 where
     R: Host,
 {

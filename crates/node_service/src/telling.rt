@@ -35,20 +35,20 @@ pub struct Serving<'a, L: Label> {
 
 /// Whether a service has ended. Its end also ends a rest.
 #[derive(Drop)]
-struct Service {
+pub(crate) struct Service {
     has_ended: AtomicBool,
     sleeper: Parker,
 }
 
 impl Service {
-    fn new() -> Service {
+    pub(crate) fn new() -> Service {
         Service {
             has_ended: AtomicBool::new(false),
             sleeper: Parker::new(),
         }
     }
 
-    fn end(&self) {
+    pub(crate) fn end(&self) {
         self.has_ended.store(true, Ordering::SeqCst);
         self.sleeper.unpark();
     }
@@ -78,7 +78,7 @@ fn peers_of(alloc: Global, named: &[NamedPeer]) -> Result<Vec<Peer>, AllocError>
 }
 
 // A wire to these peers.
-fn wire_to<R: Host>(rt: &R, named: &[NamedPeer]) -> Result<HttpWire<R>, WireError>
+pub(crate) fn wire_to<R: Host>(rt: &R, named: &[NamedPeer]) -> Result<HttpWire<R>, WireError>
     ensures { IfOk result (λ wire. wire.peers.items ≡ map peer_of named.now) }
 {
     let peers = peers_of(rt.alloc(), named)?;
@@ -120,7 +120,7 @@ fn paces_of(
 }
 
 // When each node is told that a registry's node tells.
-fn first_paces<L: Label, R: Wait + AllocGlobal>(
+pub(crate) fn first_paces<L: Label, R: Wait + AllocGlobal>(
     rt: &R,
     registry: &Registry<L>,
     named: &[NamedPeer],
@@ -135,7 +135,7 @@ fn first_paces<L: Label, R: Wait + AllocGlobal>(
 
 // Does one round after the other over a wire, with a rest between two, until all are done or the
 // service has ended. A round tells only news, and only who is reached.
-fn keep_telling<L, R, W>(
+pub(crate) fn keep_telling<L, R, W>(
     rt: &R,
     registry: &Registry<L>,
     seat: &mut Seat<L>,

@@ -154,6 +154,23 @@ N1 TraceFull
     client, that one is answered 503 without a body or its connection is
     closed, and the service goes on
   What to do: let the process have more memory
+|V4 BadPart
+  Of a node that is served
+  Because: the file of `--record` isn't this node's part: it can't be opened
+    or read, its first line isn't that of this node, cap and run, or the node
+    doesn't answer the call of a line as it says. It is as it was
+  What to do: name a file that the program may write: the node's own part as
+    it was written, or a new one where nothing ran under its number yet
+|V5 PartInUse
+  Of a node that is served
+  Because: the file of `--record` is open already. It is as it was
+  What to do: end what has it open, and give each node of the cluster a part
+    of its own
+|V6 NotRecorded
+  Of a node that is served
+  Because: the part can't be begun, or its first points couldn't be recorded,
+    as on a full disk
+  What to do: see to where it is written, and start the node again
 |A1 TooLong
   Of an action text
   Because: it has more than 1,024 bytes

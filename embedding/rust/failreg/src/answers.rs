@@ -1,6 +1,6 @@
 //! Requests of HTTP at a registry, whoever received them.
 
-use crate::error::Error;
+use crate::error::{Error, ErrorKind};
 use crate::kept::Kept;
 use crate::registry::Registry;
 
@@ -15,6 +15,14 @@ pub struct Reply {
 
 /// How the text of a refusal begins that says that the node has accepted as many calls as its cap.
 const CAP_REACHED: &[u8] = b"N1 ";
+
+/// The error that a reply tells which refuses a message since others know more of the node that gave
+/// it than it does, if it does.
+pub(crate) fn forgotten_in(status: u16, body: &[u8]) -> Option<Error> {
+    let text = std::str::from_utf8(body).ok()?;
+    let is_told = text.starts_with("N18 ") || text.starts_with("N19 ");
+    (status == 400 && is_told).then(|| Error::new(ErrorKind::Forgotten, text.to_string()))
+}
 
 impl Registry {
     /// Answers a request of HTTP as a served node does: for a program that has a server of its own,
@@ -63,6 +71,9 @@ impl Registry {
         drop(state);
         // Without the lock: what a closure holds may call the registry when it is dropped.
         drop(over);
+        if let Some(error) = forgotten_in(status, &told) {
+            self.meet_forgotten(&error);
+        }
         Ok(Reply { status, body: told })
     }
 }

@@ -57,6 +57,38 @@ impl fmt::Debug for OnRefusal {
     }
 }
 
+/// What is done where a message of another node shows that others know more of this node than it does
+/// itself: it was started again under its number, and has forgotten what it did.
+#[derive(Clone, Default)]
+#[non_exhaustive]
+pub enum OnForgotten {
+    /// Its points do nothing from then on, so that no right is spent twice, and a line on standard
+    /// error says so, once.
+    #[default]
+    Stop,
+    /// Nothing: such messages are refused, and the points go on.
+    Ignore,
+    /// A call of this, each time, by the thread that was given the message; and the points go on.
+    Call(Arc<dyn Fn(&Error) + Send + Sync>),
+}
+
+impl OnForgotten {
+    /// A call of this closure.
+    pub fn call(told: impl Fn(&Error) + Send + Sync + 'static) -> OnForgotten {
+        OnForgotten::Call(Arc::new(told))
+    }
+}
+
+impl fmt::Debug for OnForgotten {
+    fn fmt(&self, f: &mut fmt::Formatter<'_>) -> fmt::Result {
+        f.write_str(match self {
+            OnForgotten::Stop => "Stop",
+            OnForgotten::Ignore => "Ignore",
+            OnForgotten::Call(_) => "Call",
+        })
+    }
+}
+
 /// What becomes of the calls that are accepted: `true` keeps a receipt of each, and a path is that of
 /// the node's part, to which each is written ([`Builder::recording`]).
 #[derive(Clone, Debug)]
@@ -105,6 +137,7 @@ pub struct Builder {
     pub(crate) is_synced: bool,
     pub(crate) is_buffered: bool,
     pub(crate) on_refusal: OnRefusal,
+    pub(crate) on_forgotten: OnForgotten,
 }
 
 impl Default for Builder {
@@ -119,6 +152,7 @@ impl Default for Builder {
             is_synced: false,
             is_buffered: false,
             on_refusal: OnRefusal::default(),
+            on_forgotten: OnForgotten::default(),
         }
     }
 }
@@ -230,6 +264,14 @@ impl Builder {
     /// What is done about a pass that is refused; else [`OnRefusal::Print`].
     pub fn on_refusal(self, on_refusal: OnRefusal) -> Builder {
         Builder { on_refusal, ..self }
+    }
+
+    /// What is done where others know more of this node than it does; else [`OnForgotten::Stop`].
+    pub fn on_forgotten(self, on_forgotten: OnForgotten) -> Builder {
+        Builder {
+            on_forgotten,
+            ..self
+        }
     }
 
     /// Makes the registry.

@@ -1,5 +1,6 @@
 //! A registry that tells its peers what they haven't heard, in a thread of its own.
 
+use crate::answers::forgotten_in;
 use crate::error::{Error, ErrorKind};
 use crate::http;
 use crate::registry::Registry;
@@ -17,6 +18,9 @@ const POST_TIME: Duration = Duration::from_secs(2);
 
 /// The longest rest while a peer is gone, unless that between two rounds is longer.
 const LONGEST_REST: Duration = Duration::from_secs(5);
+
+/// How often it is said at most that a peer has forgotten what it did.
+const SAID_EVERY: Duration = Duration::from_secs(60);
 
 /// The shortest rest between two rounds.
 const SHORTEST_REST: Duration = Duration::from_millis(1);
@@ -95,6 +99,8 @@ struct Pace {
     has_failed: bool,
     rest: Duration,
     next: Instant,
+    /// When it was said last that the peer has forgotten what it did.
+    said: Option<Instant>,
 }
 
 impl Pace {
@@ -105,6 +111,7 @@ impl Pace {
             has_failed: false,
             rest: every,
             next: Instant::now(),
+            said: None,
         }
     }
 
@@ -130,6 +137,18 @@ impl Pace {
         self.rest_longer();
     }
 
+    // Says that the peer has forgotten what it did, unless that was said a moment ago.
+    fn say_forgotten(&mut self, node: u8, fault: &str) {
+        if self.said.is_some_and(|said| said.elapsed() < SAID_EVERY) {
+            return;
+        }
+        self.said = Some(Instant::now());
+        eprintln!(
+            "failreg: node {node} has forgotten what it did (it answers {fault}): it was started again \
+             without its part: end it, and start it from its part, or under a number that was never used"
+        );
+    }
+
     // The rest doubles each time.
     fn rest_longer(&mut self) {
         self.rest = (self.rest * 2).min(LONGEST_REST.max(self.every));
@@ -152,6 +171,8 @@ enum Outcome {
     NoNews,
     Told,
     Failed(String),
+    /// The peer answers that others know more of it than it does.
+    Forgotten(String),
 }
 
 impl PeerNews {
@@ -165,6 +186,11 @@ impl PeerNews {
         }
     }
 
+    fn fail(&mut self, at: SystemTime, what: String) {
+        self.failure = Some(Failure { at, what });
+        self.failures += 1;
+    }
+
     fn take(&mut self, outcome: Outcome) {
         let at = SystemTime::now();
         match outcome {
@@ -173,10 +199,8 @@ impl PeerNews {
                 self.told = Some(at);
                 self.messages += 1;
             }
-            Outcome::Failed(what) => {
-                self.failure = Some(Failure { at, what });
-                self.failures += 1;
-            }
+            Outcome::Failed(what) => self.fail(at, what),
+            Outcome::Forgotten(_) => self.fail(at, "it answered with status 400".into()),
         }
     }
 }
@@ -192,8 +216,11 @@ fn post(registry: &Registry, peer: Peer) -> Result<Outcome, Error> {
     };
     let message = registry.emit(peer.node)?;
     match http::post(&stream, peer.addr, &message, end) {
-        Ok(200) => Ok(Outcome::Told),
-        Ok(status) => Ok(Outcome::Failed(format!("it answered with status {status}"))),
+        Ok((200, _)) => Ok(Outcome::Told),
+        Ok((status, body)) => Ok(match forgotten_in(status, &body) {
+            Some(error) => Outcome::Forgotten(error.fault().to_string()),
+            None => Outcome::Failed(format!("it answered with status {status}")),
+        }),
         Err(error) => failed(error),
     }
 }
@@ -211,6 +238,9 @@ fn tell(registry: &Registry, peer: Peer, pace: &mut Pace) -> Result<Outcome, Err
     match outcome {
         Ok(Outcome::Told) => pace.has_told(news),
         _ => pace.has_failed(),
+    }
+    if let Ok(Outcome::Forgotten(fault)) = &outcome {
+        pace.say_forgotten(peer.node, fault);
     }
     outcome
 }

@@ -486,7 +486,12 @@ fn reason(status: u16) -> &'static str {
 }
 
 /// Posts a message to a node that is served at this address, and answers the status of the reply.
-pub fn post(stream: &TcpStream, addr: SocketAddr, message: &[u8], end: Instant) -> io::Result<u16> {
+pub fn post(
+    stream: &TcpStream,
+    addr: SocketAddr,
+    message: &[u8],
+    end: Instant,
+) -> io::Result<(u16, Vec<u8>)> {
     let length = message.len();
     let head = format!(
         "POST /gossip HTTP/1.1\r\nhost: {addr}\r\nconnection: close\r\n\
@@ -501,7 +506,23 @@ pub fn post(stream: &TcpStream, addr: SocketAddr, message: &[u8], end: Instant) 
             read => line.extend_from_slice(&piece[..read]),
         }
     }
-    status_of(&line).ok_or_else(|| io::Error::new(ErrorKind::InvalidData, "no reply of HTTP"))
+    let no_reply = || io::Error::new(ErrorKind::InvalidData, "no reply of HTTP");
+    let status = status_of(&line).ok_or_else(no_reply)?;
+    // Why the message is refused, as far as it can be had.
+    while status == 400 && line.len() < MAX_HEAD {
+        match read_by(stream, &mut piece, end) {
+            Ok(0) | Err(_) => break,
+            Ok(read) => line.extend_from_slice(&piece[..read]),
+        }
+    }
+    Ok((status, body_of(line)))
+}
+
+// What stands behind the head of a reply.
+fn body_of(reply: Vec<u8>) -> Vec<u8> {
+    const END: &[u8] = b"\r\n\r\n";
+    let place = reply.windows(END.len()).position(|bytes| bytes == END);
+    place.map_or(Vec::new(), |place| reply[place + END.len()..].to_vec())
 }
 
 // The status of a reply that begins so.

@@ -57,7 +57,7 @@ mod serving;
 mod told;
 
 pub use answers::Reply;
-pub use builder::{Builder, OnRefusal, Recording};
+pub use builder::{Builder, OnForgotten, OnRefusal, Recording};
 pub use environment::{Program, from_env};
 pub use error::{Error, ErrorKind};
 #[doc(hidden)]

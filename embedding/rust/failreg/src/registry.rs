@@ -1,6 +1,6 @@
 //! A node that threads share.
 
-use crate::builder::{Builder, How};
+use crate::builder::{Builder, How, OnForgotten};
 use crate::error::{Error, ErrorKind};
 use crate::kept::Kept;
 use crate::node::Node;
@@ -54,6 +54,8 @@ pub(crate) struct State {
     turns: u32,
     /// Whether no setting changes any more.
     pub(crate) is_over: bool,
+    /// Whether it was said that the node has forgotten what it did.
+    has_forgotten: bool,
 }
 
 /// How many calls a node keeps at most, so that its memory doesn't grow with its passes.
@@ -78,6 +80,7 @@ impl State {
             kept,
             turns: 0,
             is_over: false,
+            has_forgotten: false,
         })
     }
 
@@ -286,7 +289,12 @@ impl Registry {
     pub(crate) fn settings_changed(&self, state: &mut State) -> Vec<Callback> {
         let list = state.node.list().ok();
         state.kept.learn(list.as_deref());
-        self.show(state, list.map(|list| names_in(&list)));
+        // Of a node whose points do nothing any more none is shown, whatever it learns.
+        let names = match state.is_over {
+            true => Some(HashSet::new()),
+            false => list.map(|list| names_in(&list)),
+        };
+        self.show(state, names);
         self.changed.notify_all();
         state.callbacks_over()
     }
@@ -437,11 +445,43 @@ impl Registry {
     /// Takes in a message of another node; answers whether this one learnt anything.
     pub fn deliver(&self, message: &[u8]) -> Result<bool, Error> {
         let mut state = self.lock();
-        let changed = self.call(&mut state, |node| node.deliver(message))?;
-        let over = changed.then(|| self.settings_changed(&mut state));
+        let made = self.call(&mut state, |node| node.deliver(message));
+        let over = matches!(made, Ok(true)).then(|| self.settings_changed(&mut state));
         drop(state);
         drop(over);
-        Ok(changed)
+        if let Err(error) = &made {
+            self.meet_forgotten(error);
+        }
+        made
+    }
+
+    /// Does what is to be done where a message is refused since others know more of this node than it
+    /// does. The lock isn't held: a closure may call the registry.
+    pub(crate) fn meet_forgotten(&self, error: &Error) {
+        if error.kind() != ErrorKind::Forgotten {
+            return;
+        }
+        match &self.made.on_forgotten {
+            OnForgotten::Stop => self.stop_forgotten(error),
+            OnForgotten::Ignore => {}
+            OnForgotten::Call(told) => told(error),
+        }
+    }
+
+    fn stop_forgotten(&self, error: &Error) {
+        let mut state = self.lock();
+        if std::mem::replace(&mut state.has_forgotten, true) {
+            return;
+        }
+        self.end(&mut state);
+        drop(state);
+        let number = self.made.number;
+        let fault = error.fault();
+        eprintln!(
+            "failreg: others know more of node {number} than it does ({fault}): it was started again \
+             and has forgotten what it did; its failpoints do nothing from now on: start it from its \
+             part, or under a number that was never used"
+        );
     }
 
     /// The points that are set, as a text for `load`.

@@ -1,0 +1,112 @@
+//! A node whose part is kept: a request is answered once what it did is written.
+
+ghost use Rattle.std.specs.Prelude.{◌≡◌, ◌<◌, ℕ, List, length};
+ghost use Rattle.message_format.specs.Spelling.{max_message};
+ghost use Rattle.node_calls.specs.Told.{ask_told};
+ghost use Rattle.http_paths.specs.Paths.{target_of};
+ghost use Rattle.http_routes.specs.Replies.{http_value};
+ghost use Rattle.http_routes.specs.Requests.{wanted};
+ghost use Rattle.http_routes.specs.Requests as requests;
+ghost use Rattle.http_serve.specs.Labels.{labels_of};
+ghost use Rattle.http_serve.specs.Recorded.{IsServedRecording};
+ghost use Rattle.http_serve.specs.Served.{IsServed};
+ghost use Rattle.http_serve.specs.declared.handler.recording.TheConstants.{NOT_RECORDED, RECORDING_FAILED};
+
+use super::{Handler, NodeHandler};
+use crate::labels::Labels;
+use http_paths::Routes;
+use http_routes::{HttpReply, ReplyRoom, Wanted, route_owned};
+use node_core::Ask;
+use node_registry::{Label, Registry, Seat};
+use part_keeper::{CallFault, Recorder};
+use std::alloc::{AllocError, Global};
+use std::sync::{Arc, Mutex, Wait};
+
+/// What a call is answered that was made and couldn't be recorded.
+const NOT_RECORDED: &str = "the call was made and could not be recorded: see to where the part is \
+    written, and start the node again from it";
+
+/// What a call is answered that isn't made, since an earlier one couldn't be recorded.
+const RECORDING_FAILED: &str = "no call is made since one could not be recorded: see to where the \
+    part is written, and start the node again from it";
+
+/// A node whose calls are written to its part before they are answered.
+#[derive(Drop)]
+pub struct RecordingHandler<L: Label> {
+    handler: NodeHandler<L>,
+    recorder: Arc<Recorder<L>>,
+}
+
+impl<L: Label> RecordingHandler<L> {
+    /// The only error is out of memory. The seat makes no call.
+    pub fn new(
+        alloc: Global,
+        registry: &Arc<Registry<L>>,
+        recorder: &Arc<Recorder<L>>,
+        seat: Seat<L>,
+    ) -> Result<Arc<RecordingHandler<L>>, AllocError> {
+        let handler = NodeHandler {
+            routes: Routes::new(alloc)?,
+            registry: Arc::try_clone(registry)?,
+            seat: Mutex::new(seat),
+        };
+        let recorder = Arc::try_clone(recorder)?;
+        Ok(Arc::new(alloc, RecordingHandler { handler, recorder })?)
+    }
+
+    // The reply to a call, which is made once there is room for it, and recorded before it is there.
+    fn call<R: Wait>(&self, rt: &R, alloc: Global, ask: Ask) -> HttpReply
+        ensures { IsServedRecording L.config L.seed (requests.call (ask_told ask))
+            (http_value result) }
+    {
+        let Ok(room) = ReplyRoom::new(alloc) else {
+            return HttpReply::no_memory(alloc);
+        };
+        match self.recorder.submit(rt, alloc, &self.handler.registry, ask) {
+            Ok(reply) => room.reply(&Ok(reply)),
+            Err(CallFault::Refused(fault)) => room.reply(&Err(fault)),
+            Err(CallFault::NotRecorded) => HttpReply::text(alloc, 503, NOT_RECORDED),
+            Err(CallFault::RecordingFailed) => HttpReply::text(alloc, 503, RECORDING_FAILED),
+        }
+    }
+
+    // What a reply tells of the node is written before it is there, if anything is written any more.
+    fn recorded<R: Wait>(&self, rt: &R, alloc: Global, reply: HttpReply) -> HttpReply
+        ensures { result ≡ reply }
+    {
+        let _ = self.recorder.keep(rt, alloc, &self.handler.registry);
+        reply
+    }
+}
+
+impl<L: Label> Handler for RecordingHandler<L> {
+    ghost answers = { λ _ method path body.
+        IsServedRecording L.config L.seed (wanted method path body) };
+
+    fn reply<R: Wait>(
+        &self,
+        rt: &R,
+        alloc: Global,
+        method: &str,
+        path: &str,
+        body: Vec<u8>,
+    ) -> HttpReply {
+        match route_owned(alloc, &self.handler.routes, method, path, body) {
+            Wanted::Do(ask) => self.call(rt, alloc, ask),
+            Wanted::List => self.recorded(rt, alloc, self.handler.list(rt, alloc)),
+            Wanted::Report => self.recorded(rt, alloc, self.handler.report(rt, alloc)),
+            Wanted::Status => self.recorded(rt, alloc, self.handler.status(rt, alloc)),
+            Wanted::Answered(reply) => reply,
+        }
+    }
+
+    fn reply_too_long(&self, alloc: Global, method: &str, path: &str) -> HttpReply {
+        self.handler.answer_too_long(alloc, method, path)
+    }
+
+    ghost labelled = { λ path status. labels_of (target_of path) status };
+
+    fn labels(&self, path: &str, status: u16) -> Labels {
+        self.handler.labels(path, status)
+    }
+}

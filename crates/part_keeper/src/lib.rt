@@ -1,0 +1,17 @@
+//! The part of a node that threads call: its lines are written before anybody is told of its calls,
+//! and a node goes on from it.
+#![tactic(auto)]
+
+mod fault;
+mod lines;
+mod part_file;
+mod recorder;
+mod recording;
+mod repeating;
+
+pub use fault::{CallFault, LineFault, NotRecorded, PartFault};
+pub use lines::{PartLines, lines_of};
+pub use part_file::PartFile;
+pub use recorder::Recorder;
+pub use recording::Recording;
+pub use repeating::{MOST_OF_LINE, Repeated, repeat_call, repeat_calls};

@@ -1,0 +1,141 @@
+//! A node's calls, each of which is written before its caller is told.
+
+ghost use Rattle.std.specs.Prelude.{◌≡◌, ◌≢◌, ◌↔◌, ◌-◌, ◌+◌, true, false, not, IsTrue, IfOk, IfErr, OnOk, Err};
+ghost use Rattle.std.specs.Prelude.{OnErr, IsErr, Some, option_map, slice_get};
+ghost use Rattle.node_calls.specs.Told.{told};
+ghost use Rattle.packed_trace.specs.Packed.{seen_told};
+ghost use Rattle.node_registry.specs.Cells.{Cell, IsCellSince};
+ghost use Rattle.node_registry.specs.Pieces.{IsPieceOf};
+ghost use Rattle.node_registry.specs.Receipts.{IsAnswered};
+ghost use Rattle.part_keeper.specs.Kept.{IsRecorded, IsUnanswered, Records};
+
+use crate::fault::{CallFault, NotRecorded};
+use crate::lines::PartLines;
+use node_core::{Ask, Entry, Receipt, Reply, Seen};
+use node_registry::{Label, Piece, Registry, Seat};
+use std::alloc::Global;
+use std::io::Write;
+use std::sync::Wait;
+
+// The random draws of a call.
+fn words_of<'a>(seen: &'a Seen<'_>) -> &'a [u32]
+    ensures { result.now ≡ (seen_told seen.now).words }
+{
+    match seen {
+        Seen::Pass { word, .. } => word.as_slice(),
+        Seen::Entry(entry) => entry.words.as_slice(),
+    }
+}
+
+// Whether a call tells what an entry tells.
+fn is_told(seen: Seen<'_>, entry: &Entry) -> bool
+    ensures { IsTrue result ↔ (seen_told seen.entry ≡ told entry.now) }
+{
+    seen.ask().is_same(entry.ask.as_ref())
+        && words_of(&seen) == entry.words.as_slice()
+        && seen.reply().is_same(entry.reply.as_ref())
+}
+
+// Whether a piece has the call of a receipt at its place.
+fn has_call(piece: &Piece, receipt: &Receipt) -> bool
+    ensures { IsTrue result → slice_get piece.now.trace.calls (receipt.now.index - piece.now.from)
+        ≡ Some (told receipt.now.entry) }
+{
+    let place = receipt.index.saturating_sub(piece.from);
+    match piece.trace.at(place as usize) {
+        Some(call) => is_told(call, &receipt.entry),
+        None => false,
+    }
+}
+
+/// What a recorder's lock guards: the seat from which a node is called, and the lines of its part.
+#[derive(Drop)]
+pub struct Recording<L: Label, W> {
+    seat: Seat<L>,
+    lines: PartLines<W>,
+    ghost forgets: { L.keeps ≡ false },
+}
+
+impl<L: Label, W: Write> Recording<L, W> {
+    /// Of a node whose calls so far are written, and forgotten.
+    pub fn new(seat: Seat<L>, lines: PartLines<W>) -> Recording<L, W>
+        requires { L.keeps ≡ false }
+        ensures { (result.seat ≡ seat) × (result.lines ≡ lines) }
+    {
+        Recording { seat, lines }
+    }
+
+    /// Whether calls are still made: until one couldn't be recorded.
+    pub fn goes_on(&self) -> bool
+        ensures { result ≡ not self.now.lines.has_failed }
+    {
+        self.lines.goes_on()
+    }
+
+    // Writes the lines of a piece, and answers what a receipt of one of its calls tells.
+    fn told(&mut self, alloc: Global, piece: &Piece, receipt: Receipt) -> Result<Reply, NotRecorded>
+        ensures ok { IfOk result (λ reply. IsRecorded W.contents self.old.lines.out
+            self.new.lines.out receipt.entry.ask reply) }
+        ensures reply { IfOk result (λ reply. reply ≡ receipt.entry.reply) }
+        ensures seat { self.new.seat ≡ self.old.seat }
+    {
+        let is_there = has_call(piece, &receipt);
+        self.lines.keep(alloc, &piece.trace)?;
+        if is_there {
+            let Receipt { entry, .. } = receipt;
+            let Entry { reply, .. } = entry;
+            Ok(reply)
+        } else {
+            Err(NotRecorded)
+        }
+    }
+
+    /// Makes a call, writes its line behind those of the calls that were made before, and then answers
+    /// its reply. Where that can't be written, it says so, and no call is made from then on.
+    pub fn submit<R: Wait>(
+        &mut self,
+        rt: &R,
+        alloc: Global,
+        registry: &Registry<L>,
+        ask: Ask,
+    ) -> Result<Reply, CallFault>
+        ensures answered { IfOk result (IsAnswered L.config L.seed ask) }
+        ensures recorded { IfOk result
+            (IsRecorded W.contents self.old.lines.out self.new.lines.out ask) }
+        ensures counted { OnOk result (self.new.seat ≡ self.old.seat + 1) }
+        ensures unanswered { IfErr result (IsUnanswered L.config L.seed ask) }
+        ensures unmade { IfErr result (λ fault. fault ≢ CallFault.NotRecorded
+            → (self.new.seat ≡ self.old.seat) × (self.new.lines ≡ self.old.lines)) }
+        ensures after { self.old.lines.has_failed ≡ true → result ≡ Err CallFault.RecordingFailed }
+    {
+        if !self.lines.goes_on() {
+            return Err(CallFault::RecordingFailed);
+        }
+        let receipt = match registry.enter_owned(rt, alloc, &mut self.seat, ask) {
+            Ok(receipt) => receipt,
+            Err(fault) => return Err(CallFault::Refused(fault)),
+        };
+        let piece = registry.give(rt, alloc, &mut self.seat);
+        match self.told(alloc, &piece, receipt) {
+            Ok(reply) => Ok(reply),
+            Err(_) => Err(CallFault::NotRecorded),
+        }
+    }
+
+    /// Writes the lines of all calls that were made so far and aren't written yet.
+    pub fn keep<R: Wait>(
+        &mut self,
+        rt: &R,
+        alloc: Global,
+        registry: &Registry<L>,
+    ) -> Result<(), NotRecorded>
+        ensures kept { OnOk result ((c : Cell) × (piece : Piece)
+            × IsCellSince L.config L.seed L.keeps L.parts self.old.seat c × IsPieceOf c piece
+            × Records W.contents self.old.lines.out self.new.lines.out piece.trace.calls) }
+        ensures failed { IsErr result ↔ (self.new.lines.has_failed ≡ true) }
+        ensures seat { self.new.seat ≡ self.old.seat }
+    {
+        let piece = registry.give(rt, alloc, &mut self.seat);
+        self.lines.keep(alloc, &piece.trace)
+    }
+}

@@ -1,0 +1,140 @@
+//! A node that goes on from a part: each of its calls is made again.
+
+ghost use Rattle.std.specs.Prelude.{◌≡◌, ◌↔◌, ◌+◌, IfOk, IsTrue, OnOk, false};
+ghost use Rattle.node_calls.specs.Told.{reply_told};
+ghost use Rattle.part_keeper.specs.Repeated.{IsRepeated};
+
+use crate::fault::{LineFault, PartFault};
+use drills::entry_in;
+use node_core::{Entry, NodeFault, Reply};
+use node_registry::{Label, Registry, Seat};
+use std::alloc::Global;
+use std::io::{BufRead, BufReader, Read};
+use std::sync::Wait;
+use streams::Watched;
+
+/// The most bytes of the line of a call: what `failreg audit` reads too.
+pub const MOST_OF_LINE: u64 = 268_435_456;
+
+/// How many calls are made again before the node forgets them.
+const MOST_KEPT: u64 = 1024;
+
+/// What a node that goes on has of its part: how many calls, and how many bytes their lines have.
+#[derive(Clone, Copy, Debug, PartialEq, Eq)]
+pub struct Repeated {
+    pub calls: u64,
+    pub bytes: u64,
+}
+
+// Whether an entry has these random draws, and this reply, to the byte.
+fn is_answered(entry: &Entry, words: &[u32], reply: &Reply) -> bool
+    ensures { IsTrue result ↔ ((entry.now.words.items ≡ words.now)
+        × (reply_told entry.now.reply ≡ reply_told reply.now)) }
+{
+    entry.words.as_slice() == words && entry.reply.as_ref().is_same(reply.as_ref())
+}
+
+/// Makes the call of a line again: where the line is that of a call, which the node accepts, and answers,
+/// to the byte, as the line says. Else it says why not; the node may have made another call then.
+pub fn repeat_call<L: Label, R: Wait>(
+    rt: &R,
+    alloc: Global,
+    registry: &Registry<L>,
+    seat: &mut Seat<L>,
+    line: &[u8],
+) -> Result<(), LineFault>
+    ensures { OnOk result (IsRepeated L.config L.seed seat.old seat.new line.now) }
+{
+    let Some(entry) = entry_in(alloc, line)? else {
+        return Err(LineFault::NoCall);
+    };
+    let Entry { ask, words, reply } = entry;
+    let made = match registry.enter_owned(rt, alloc, seat, ask) {
+        Ok(made) => made,
+        Err(NodeFault::OutOfMemory) => return Err(LineFault::OutOfMemory),
+        Err(_) => return Err(LineFault::Differs),
+    };
+    if is_answered(&made.entry, words.as_slice(), &reply) {
+        Ok(())
+    } else {
+        Err(LineFault::Differs)
+    }
+}
+
+// The same of the line of this number.
+fn in_line(fault: LineFault, line: u64) -> PartFault {
+    match fault {
+        LineFault::NoCall => PartFault::NoCall { line },
+        LineFault::Differs => PartFault::Differs { line },
+        LineFault::OutOfMemory => PartFault::OutOfMemory,
+    }
+}
+
+/// What a reader of lines gives next.
+enum Next {
+    /// A line, without the newline that ended it.
+    Line,
+    /// No line that a newline ends.
+    End,
+    TooLong,
+}
+
+fn next_of(line: &mut Vec<u8>) -> Next {
+    if line.last() == Some(&b'\n') {
+        line.pop();
+        Next::Line
+    } else if line.len() as u64 >= MOST_OF_LINE {
+        Next::TooLong
+    } else {
+        Next::End
+    }
+}
+
+// Takes the next line.
+fn take_line<I: Read>(
+    reader: &mut BufReader<Watched<I>>,
+    line: &mut Vec<u8>,
+) -> Result<Next, PartFault> {
+    line.clear();
+    let taken = reader.by_ref().take(MOST_OF_LINE).read_until(b'\n', line);
+    if reader.get_ref().failed() {
+        return Err(PartFault::ReadFailed);
+    }
+    match taken {
+        Ok(_) => Ok(next_of(line)),
+        Err(_) => Err(PartFault::OutOfMemory),
+    }
+}
+
+/// Makes the calls again whose lines a reader gives, which stand behind the first line of a part. A last
+/// line that no newline ends isn't one. Nothing of a line is kept.
+pub fn repeat_calls<L: Label, I: Read, R: Wait>(
+    rt: &R,
+    alloc: Global,
+    registry: &Registry<L>,
+    seat: &mut Seat<L>,
+    reader: &mut BufReader<Watched<I>>,
+) -> Result<Repeated, PartFault>
+    requires { L.keeps ≡ false }
+    ensures { IfOk result (λ r. seat.new ≡ seat.old + r.calls) }
+{
+    let mut line = Vec::new(alloc);
+    let mut bytes: u64 = 0;
+    for calls in 0..u64::MAX {
+        let number = calls.saturating_add(2);
+        match take_line(reader, &mut line)? {
+            Next::Line => {}
+            Next::End => return Ok(Repeated { calls, bytes }),
+            Next::TooLong => return Err(PartFault::TooLong { line: number }),
+        }
+        if let Err(fault) = repeat_call(rt, alloc, registry, seat, line.as_slice()) {
+            return Err(in_line(fault, number));
+        }
+        bytes = bytes.saturating_add(line.len() as u64).saturating_add(1);
+        if calls % MOST_KEPT == 0 {
+            drop(registry.give(rt, alloc, seat));
+        }
+    }
+    // No reader has so many lines.
+    Err(PartFault::OutOfMemory)
+}
