@@ -1,29 +1,47 @@
-//! Links the archive that `embedding/build` leaves in `embedding/lib`, or in the folder that
-//! FAILREG_LIB names: the proved library, with the memory functions that it calls.
+//! Links `libfailreg.a`, the proved library with the memory functions that it calls. It is looked
+//! for in the folder that FAILREG_LIB names, and without that in `lib` beside this file, where an
+//! installed package has it; then in `lib` beside the crates' folder, where a package has it that
+//! was only unpacked, and where `embedding/build` leaves it.
 //!
-//! Where it isn't there it says so and goes on: what links nothing (`cargo check`, `cargo doc`)
-//! needs none, and the linker stops at what does.
+//! Where it isn't there, or is for another target, this says so and goes on: what links nothing
+//! (`cargo check`, `cargo doc`) needs none, and the linker stops at what does.
 
 use std::env;
 use std::path::{Path, PathBuf};
 
+const ARCHIVE: &str = "libfailreg.a";
+
+fn places() -> Vec<PathBuf> {
+    let here = Path::new(env!("CARGO_MANIFEST_DIR"));
+    match env::var_os("FAILREG_LIB") {
+        Some(folder) => vec![folder.into()],
+        None => vec![here.join("lib"), here.join("../../lib")],
+    }
+}
+
+/// The first place that has the archive; where none has, the last one.
 fn folder() -> PathBuf {
-    env::var_os("FAILREG_LIB").map_or_else(
-        || Path::new(env!("CARGO_MANIFEST_DIR")).join("../../lib"),
-        PathBuf::from,
-    )
+    let mut places = places();
+    let found = places
+        .iter()
+        .position(|place| place.join(ARCHIVE).is_file());
+    places.swap_remove(found.unwrap_or(places.len() - 1))
 }
 
 fn main() {
     println!("cargo::rerun-if-env-changed=FAILREG_LIB");
     let folder = folder();
-    let archive = folder.join("libfailreg.a");
+    let archive = folder.join(ARCHIVE);
     if !archive.is_file() {
         println!(
-            "cargo::warning={} isn't there: run embedding/build, or let FAILREG_LIB name the \
-             folder that has it",
+            "cargo::warning={} isn't there: run embedding/build, put the library of a package there, \
+             or let FAILREG_LIB name the folder that has it",
             archive.display()
         );
+    }
+    let target = env::var("TARGET").unwrap_or_default();
+    if !(target.starts_with("x86_64-") && target.contains("-linux-")) {
+        println!("cargo::warning={ARCHIVE} is for x86_64 Linux, and this is built for {target}");
     }
     println!("cargo::rerun-if-changed={}", archive.display());
     println!("cargo::rustc-link-lib=static=failreg");

@@ -125,7 +125,7 @@ impl ErrorKind {
 
 /// Why a call is refused. Nothing has changed then, unless it is
 /// [`NotRecorded`](ErrorKind::NotRecorded).
-#[derive(Clone, Debug, PartialEq, Eq)]
+#[derive(Clone, PartialEq, Eq)]
 pub struct Error {
     kind: ErrorKind,
     code: Option<u32>,
@@ -254,6 +254,13 @@ impl fmt::Display for Error {
             write!(f, "{at}: ")?;
         }
         write!(f, "{}: {}", self.fault, self.kind.advice())
+    }
+}
+
+/// Its text and its kind, since this is what `unwrap`, `expect` and a `main` that fails print.
+impl fmt::Debug for Error {
+    fn fmt(&self, f: &mut fmt::Formatter<'_>) -> fmt::Result {
+        write!(f, "{self} ({:?})", self.kind)
     }
 }
 

@@ -48,6 +48,7 @@ fn what_would_set_a_point_is_refused() {
          `failpoints` of the crate failreg"
     );
     assert_eq!(told.code(), None);
+    assert_eq!(format!("{told:?}"), format!("{told} (Disabled)"));
 }
 
 #[test]
