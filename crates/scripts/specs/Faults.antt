@@ -18,14 +18,15 @@ use Rattle.scripts.specs.Commands.{CommandValue, nodes, event, question, Questio
 abbrev pub first_word : List ℕ → List ℕ
 first_word text = option_map_or (λ parts. parts.0) (cut_of text) text
 
--- how a line of this question is written, or that no line begins so
+-- how a line of this question is written, or what only a script that is checked has, or that no line begins so
 abbrev pub question_form : List ℕ → List ℕ
 question_form word =
     if bytes_eq word (codes "list") then codes "list <node>" else
     (if bytes_eq word (codes "report") then codes "report <node>" else
     (if bytes_eq word (codes "rights") then codes "rights <node> <name> <term> <of>" else
     (if bytes_eq word (codes "spent") then codes "spent <node> <name> <term>" else
-    (if bytes_eq word (codes "hits") then codes "hits <node> <name>" else codes "no line begins so"))))
+    (if bytes_eq word (codes "hits") then codes "hits <node> <name>" else
+    (if bytes_eq word (codes "expect") then codes "expect <text> wants --check" else codes "no line begins so")))))
 
 -- the same of any line
 abbrev pub form_of : List ℕ → List ℕ

@@ -318,3 +318,13 @@ pub(crate) fn checked_output_of(
         said: check.said,
     })
 }
+
+/// What is said of the lines of a script that fail, as `run_script_checked` says it: nothing, where none
+/// does.
+pub fn checked_text_of(alloc: Global, script: &[u8]) -> Result<Vec<u8>, AllocError>
+    requires { length script.now ≤ MOST_BYTES }
+    ensures { IfOk result (λ said. said.items ≡ checked_text script.now) }
+{
+    let checked = checked_output_of(alloc, script, false)?;
+    Ok(checked.said)
+}

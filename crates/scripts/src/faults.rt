@@ -36,7 +36,8 @@ fn first_word(text: &str) -> &str
     }
 }
 
-// How a line of this question is written, or that no line begins so.
+// How a line of this question is written, or what only a script that is checked has, or that no line
+// begins so.
 fn question_form(word: &str) -> &'static str
     ensures { result.now ≡ question_form word.now }
 {
@@ -46,6 +47,7 @@ fn question_form(word: &str) -> &'static str
         "rights" => "rights <node> <name> <term> <of>",
         "spent" => "spent <node> <name> <term>",
         "hits" => "hits <node> <name>",
+        "expect" => "expect <text> wants --check",
         _ => "no line begins so",
     }
 }
@@ -186,12 +188,7 @@ pub(crate) fn why_missing(
 }
 
 /// Says something of a line, by its number.
-pub(crate) fn say_of(
-    alloc: Global,
-    number: u32,
-    what: &[u8],
-    out: &mut Vec<u8>,
-) -> Result<(), AllocError>
+pub fn say_of(alloc: Global, number: u32, what: &[u8], out: &mut Vec<u8>) -> Result<(), AllocError>
     ensures { OnOk result (out.new.items ≡ out.old.items ++ said_of number what.now) }
 {
     let front = format!(in alloc; "line {number}: ")?;

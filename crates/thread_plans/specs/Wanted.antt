@@ -15,7 +15,13 @@ first_word text = option_map_or (λ parts. parts.0) (cut_of text) text
 abbrev pub later_words : List ℕ → List ℕ
 later_words text = option_map_or (λ parts. parts.1) (cut_of text) []
 
--- how a call of a worker is written, or that no line begins so
+-- what of a line that only a script that is checked has, or that no line begins so
+abbrev pub checked_form : List ℕ → List ℕ
+checked_form word =
+    if bytes_eq word (codes "await") then codes "await <name>[ <stamp>] wants --check" else
+    (if bytes_eq word (codes "expect") then codes "expect <text> wants --check" else codes "no line begins so")
+
+-- how a call of a worker is written, or what else
 abbrev pub call_form : List ℕ → List ℕ
 call_form word =
     if bytes_eq word (codes "set") then codes "set <name> <actions>" else
@@ -23,7 +29,7 @@ call_form word =
     (if bytes_eq word (codes "load") then codes "load <entries>" else
     (if bytes_eq word (codes "shift") then codes "shift <name> <term> <to> <amount>" else
     (if bytes_eq word (codes "grant") then codes "grant <name> <term> <amount>" else
-    (if bytes_eq word (codes "pass") then codes "pass <name> <times>" else codes "no line begins so")))))
+    (if bytes_eq word (codes "pass") then codes "pass <name> <times>" else checked_form word)))))
 
 -- how a line is written whose second word this is, behind `start`
 abbrev pub start_form : List ℕ → List ℕ

@@ -3,7 +3,7 @@
 ghost use Rattle.std.specs.Prelude.{◌≡◌, option_map};
 ghost use Rattle.thread_plans.specs.Lines.{line_value};
 ghost use Rattle.thread_plans.specs.Plans.{plan_value, stage_value};
-ghost use Rattle.thread_plans.specs.Wanted.{call_form, ends_with_return, first_word, form_of};
+ghost use Rattle.thread_plans.specs.Wanted.{call_form, checked_form, ends_with_return, first_word, form_of};
 ghost use Rattle.thread_plans.specs.Wanted.{later_words, line_form, start_form, wanted};
 ghost use Rattle.thread_plans.specs.Wanted.{wanted_at_end, wanted_first, wanted_in};
 ghost use Rattle.thread_plans.specs.Wanted.{wanted_of_started, wanted_of_worker};
@@ -36,7 +36,18 @@ fn later_words(text: &str) -> &str
     }
 }
 
-// How a call of a worker is written, or that no line begins so.
+// What of a line that only a script that is checked has, or that no line begins so.
+fn checked_form(word: &str) -> &'static str
+    ensures { result.now ≡ checked_form word.now }
+{
+    match word {
+        "await" => "await <name>[ <stamp>] wants --check",
+        "expect" => "expect <text> wants --check",
+        _ => "no line begins so",
+    }
+}
+
+// How a call of a worker is written, or what else.
 fn call_form(word: &str) -> &'static str
     ensures { result.now ≡ call_form word.now }
 {
@@ -47,7 +58,7 @@ fn call_form(word: &str) -> &'static str
         "shift" => "shift <name> <term> <to> <amount>",
         "grant" => "grant <name> <term> <amount>",
         "pass" => "pass <name> <times>",
-        _ => "no line begins so",
+        _ => checked_form(word),
     }
 }
 

@@ -10,3 +10,4 @@ pub mod Unfits
 pub mod UnfitCalls
 pub mod Shorts
 pub mod ShortStarts
+pub mod Started

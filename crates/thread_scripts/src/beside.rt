@@ -1,37 +1,24 @@
 //! Workers of a node, and its gossip beside them.
 
-ghost use Rattle.std.specs.Prelude.{◌≡◌, ◌≤◌, ◌<◌, ◌^◌, map, vec_len, All, IfOk};
+ghost use Rattle.std.specs.Prelude.{◌≡◌, ◌≤◌, ◌<◌, ◌^◌, map, vec_len, All, IfOk, MatchResult};
 ghost use Rattle.std.specs.List.{AllZip};
 ghost use Rattle.node_calls.specs.Told.{ask_told};
 ghost use Rattle.node_registry.specs.Receipts.{AreGivenSince};
 ghost use Rattle.thread_scripts.specs.Calls.{HandsBack};
 ghost use Rattle.thread_scripts.specs.Gossips.{AreRounds, IsGossip};
 
+use crate::steps::StepWire;
+use crate::turns::Turns;
+use crate::waits::Waits;
 use gossip::{GossipReport, MailWire, gossip_rounds};
-use node_registry::{Done, Gate, Job, Label, Registry, Seat, run_workers};
+use node_registry::{Done, Job, Label, Registry, Seat, run_workers};
 use std::alloc::{AllocError, Global};
 use std::marker::PhantomData;
 use std::snapshot::Snapshot;
 use std::sync::Wait;
 use std::sync::atomic::{AtomicBool, Ordering};
 use std::thread;
-use std::thread::{Promise, Scope, Threads};
-
-// A gate that is always open.
-#[derive(Drop)]
-struct Open;
-
-impl Gate for Open {
-    ghost use Rattle.std.specs.Prelude.{◌≡◌, true};
-
-    ghost says = { λ _ _ _ answer. answer ≡ true };
-
-    fn turn(&self, _worker: u16, _index: u32) -> bool {
-        true
-    }
-
-    fn answered(&self, _worker: u16, _index: u32) {}
-}
+use std::thread::{Promise, PromisedHandle, Scope, Threads};
 
 /// The gossip of a node: so many rounds over its wire.
 #[derive(Drop)]
@@ -61,6 +48,8 @@ fn do_gossip<L: Label, R: Wait>(
     rt: &R,
     alloc: Global,
     registry: &Registry<L>,
+    waits: &Waits,
+    node: u8,
     mut seat: Seat<L>,
     gossip: Gossip,
 ) -> Gossiped<L>
@@ -69,9 +58,16 @@ fn do_gossip<L: Label, R: Wait>(
     ensures rounds { AreRounds L.config L.seed gossip.wire result.wire gossip.rounds
         result.report }
 {
-    let Gossip { mut wire, rounds } = gossip;
+    let Gossip { wire, rounds } = gossip;
+    let mut wire = StepWire::over(wire, waits.steps(), node);
     let report = gossip_rounds(rt, alloc, registry, &mut seat, &mut wire, rounds);
-    Gossiped { seat, wire, report }
+    waits.leave(node);
+    let StepWire { mail, .. } = wire;
+    Gossiped {
+        seat,
+        wire: mail,
+        report,
+    }
 }
 
 // What the gossip's thread runs. Where it couldn't start, no round is done.
@@ -79,6 +75,8 @@ fn run_gossip<L: Label, R: Wait>(
     rt: &R,
     alloc: Global,
     registry: &Registry<L>,
+    waits: &Waits,
+    node: u8,
     refused: &AtomicBool,
     seat: Seat<L>,
     gossip: Gossip,
@@ -88,9 +86,10 @@ fn run_gossip<L: Label, R: Wait>(
 {
     if refused.load(Ordering::SeqCst) {
         let Gossip { wire, rounds: _ } = gossip;
-        do_gossip(rt, alloc, registry, seat, Gossip { wire, rounds: 0 })
+        let none = Gossip { wire, rounds: 0 };
+        do_gossip(rt, alloc, registry, waits, node, seat, none)
     } else {
-        do_gossip(rt, alloc, registry, seat, gossip)
+        do_gossip(rt, alloc, registry, waits, node, seat, gossip)
     }
 }
 
@@ -98,6 +97,9 @@ fn run_gossip<L: Label, R: Wait>(
 pub(crate) fn work<L: Label + Send + Sync, R: Threads + Wait + Sync>(
     rt: &R,
     alloc: Global,
+    registry: &Registry<L>,
+    waits: &Waits,
+    node: u8,
     jobs: Vec<Job<'_, L>>,
 ) -> Result<Vec<Done<L>>, AllocError>
     requires number { vec_len jobs ≤ 65536 }
@@ -111,7 +113,13 @@ pub(crate) fn work<L: Label + Send + Sync, R: Threads + Wait + Sync>(
         AllZip (λ j d. HandsBack L.config L.seed (map ask_told j.asks.items) d)
         jobs.entry.items dones.items) }
 {
-    match run_workers(rt, alloc, jobs, &Open) {
+    let turns = Turns {
+        rt,
+        registry,
+        waits,
+        node,
+    };
+    match run_workers(rt, alloc, jobs, &turns) {
         Ok(dones) => Ok(dones),
         Err(_) => Err(AllocError),
     }
@@ -141,12 +149,67 @@ impl<L: Label> Promise<Gossiped<L>> for Gossips<L> {
     ghost kept_by = { λ p g. IsGossip L.config L.seed (p.wire.value, p.rounds) g.wire g.report };
 }
 
+// A gossip's thread, or what gossip came to where it couldn't start: no round.
+type Gossiping<L> = Result<PromisedHandle<Gossiped<L>, Gossips<L>>, Gossiped<L>>;
+
+// Starts the gossip of a node. Where its thread can't start, no worker waits for its rounds.
+fn start_gossip<'s, E, L: Label + Send + Sync + 's, R: Wait + Sync>(
+    scope: &Scope<'s, E>,
+    rt: &'s R,
+    alloc: Global,
+    registry: &'s Registry<L>,
+    waits: &'s Waits,
+    node: u8,
+    refused: &'s AtomicBool,
+    seat: Seat<L>,
+    gossip: Gossip,
+) -> Gossiping<L>
+    requires { seat ≡ 0 }
+    ensures { MatchResult result
+        (λ h. (h.promise.wire.value ≡ gossip.wire) × (h.promise.rounds ≡ gossip.rounds))
+        (λ g. IsGossip L.config L.seed (gossip.wire, gossip.rounds) g.wire g.report) }
+{
+    let promise = Gossips {
+        wire: Snapshot::of(&gossip.wire),
+        rounds: gossip.rounds,
+        of: PhantomData,
+    };
+    let started = scope.spawn_with(
+        promise,
+        move || -> Gossiped<L>
+            requires { seat ≡ 0 }
+            ensures { IsGossip L.config L.seed (gossip.wire, gossip.rounds) result.wire
+                result.report }
+        { run_gossip(rt, alloc, registry, waits, node, refused, seat, gossip) },
+    );
+    match started {
+        Ok(thread) => Ok(thread),
+        Err(back) => {
+            refused.store(true, Ordering::SeqCst);
+            Err((back.value)())
+        }
+    }
+}
+
+fn join_gossip<L: Label, R: Threads>(rt: &R, gossiping: Gossiping<L>) -> Gossiped<L>
+    ensures { MatchResult gossiping (λ h. IsGossip L.config L.seed
+        (h.promise.wire.value, h.promise.rounds) result.wire result.report)
+        (λ g. result ≡ g) }
+{
+    match gossiping {
+        Ok(thread) => thread.join(rt),
+        Err(gossiped) => gossiped,
+    }
+}
+
 // Lets all of them call beside each other.
 fn work_in<'s, E, L: Label + Send + Sync + 's, R: Threads + Wait + Sync>(
     scope: &Scope<'s, E>,
     rt: &'s R,
     alloc: Global,
     registry: &'s Registry<L>,
+    waits: &'s Waits,
+    node: u8,
     refused: &'s AtomicBool,
     crew: Crew<'s, L>,
 ) -> Result<Both<L>, AllocError>
@@ -163,27 +226,11 @@ fn work_in<'s, E, L: Label + Send + Sync + 's, R: Threads + Wait + Sync>(
         both.gossiped.report) }
 {
     let Crew { seat, gossip, jobs } = crew;
-    let promise = Gossips {
-        wire: Snapshot::of(&gossip.wire),
-        rounds: gossip.rounds,
-        of: PhantomData,
-    };
-    let gossiping = scope.spawn_with(
-        promise,
-        move || -> Gossiped<L>
-            requires { seat ≡ 0 }
-            ensures { IsGossip L.config L.seed (gossip.wire, gossip.rounds) result.wire
-                result.report }
-        { run_gossip(rt, alloc, registry, refused, seat, gossip) },
+    let gossiping = start_gossip(
+        scope, rt, alloc, registry, waits, node, refused, seat, gossip,
     );
-    let dones = work(rt, alloc, jobs);
-    let gossiped = match gossiping {
-        Ok(thread) => thread.join(rt),
-        Err(back) => {
-            refused.store(true, Ordering::SeqCst);
-            (back.value)()
-        }
-    };
+    let dones = work(rt, alloc, registry, waits, node, jobs);
+    let gossiped = join_gossip(rt, gossiping);
     Ok(Both {
         dones: dones?,
         gossiped,
@@ -195,6 +242,8 @@ pub(crate) fn work_and_gossip<L: Label + Send + Sync, R: Threads + Wait + Sync>(
     rt: &R,
     alloc: Global,
     registry: &Registry<L>,
+    waits: &Waits,
+    node: u8,
     seat: Seat<L>,
     gossip: Gossip,
     jobs: Vec<Job<'_, L>>,
@@ -232,6 +281,6 @@ pub(crate) fn work_and_gossip<L: Label + Send + Sync, R: Threads + Wait + Sync>(
             ensures gossiped { IfOk result (λ both. IsGossip L.config L.seed
                 (crew.entry.gossip.wire, crew.entry.gossip.rounds) both.gossiped.wire
                 both.gossiped.report) }
-        { work_in(scope, rt, alloc, registry, refused, crew) },
+        { work_in(scope, rt, alloc, registry, waits, node, refused, crew) },
     )
 }

@@ -13,11 +13,15 @@ mod run;
 mod short;
 mod short_starts;
 mod starts;
+mod steps;
+mod turns;
 mod unfit;
+mod waits;
 mod warnings;
 
 pub use output::{judged_output_of, output_of};
-pub use played::{Played, play};
+pub use played::{Played, play, play_waiting};
 pub use run::{run_threads, run_threads_warning};
 pub use thread_plans::{Block, CallLine, Size, Start, StartLine, ThreadPlan, read_plan};
+pub use waits::{Await, Waits};
 pub use warnings::{read_plan_saying, warnings_of};

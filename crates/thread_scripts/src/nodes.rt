@@ -13,6 +13,7 @@ use crate::asks::jobs_of;
 use crate::beside::{Gossip, work, work_and_gossip};
 use crate::finished::Finished;
 use crate::starts::make_starts;
+use crate::waits::Waits;
 use node_core::{Config, Receipt, Trace};
 use node_registry::{Closed, Label, Registry, Seat};
 use std::alloc::{AllocError, Global};
@@ -46,6 +47,7 @@ fn make_calls_beside<L: Label + Send + Sync, R: Threads + Wait + Sync>(
     finished: Finished<L>,
     mut seats: Vec<Seat<L>>,
     plan: &ThreadPlan<'_>,
+    waits: &Waits,
     node: u8,
     gossip: Option<Gossip>,
 ) -> Result<Finished<L>, AllocError>
@@ -63,13 +65,13 @@ fn make_calls_beside<L: Label + Send + Sync, R: Threads + Wait + Sync>(
 {
     let Some(gossip) = gossip else {
         let jobs = jobs_of(alloc, registry, seats, &plan.blocks, node)?;
-        return finished.with_workers(work(rt, alloc, jobs)?);
+        return finished.with_workers(work(rt, alloc, registry, waits, node, jobs)?);
     };
     let Some(seat) = seats.pop() else {
         unreachable!();
     };
     let jobs = jobs_of(alloc, registry, seats, &plan.blocks, node)?;
-    let both = work_and_gossip(rt, alloc, registry, seat, gossip, jobs)?;
+    let both = work_and_gossip(rt, alloc, registry, waits, node, seat, gossip, jobs)?;
     let finished = finished.with_workers(both.dones)?;
     finished.with_gossip(both.gossiped)
 }
@@ -82,6 +84,7 @@ fn make_calls<L: Label + Send + Sync, R: Threads + Wait + Sync>(
     registry: &Registry<L>,
     mut seats: Vec<Seat<L>>,
     plan: &ThreadPlan<'_>,
+    waits: &Waits,
     node: u8,
     gossip: Option<Gossip>,
 ) -> Result<Finished<L>, AllocError>
@@ -100,7 +103,9 @@ fn make_calls<L: Label + Send + Sync, R: Threads + Wait + Sync>(
     };
     let (seat, receipts) = make_starts(rt, alloc, registry, seat, &plan.starts, node)?;
     let finished = finished.with(seat, receipts)?;
-    make_calls_beside(rt, alloc, registry, finished, seats, plan, node, gossip)
+    make_calls_beside(
+        rt, alloc, registry, finished, seats, plan, waits, node, gossip,
+    )
 }
 
 // Runs the node of the registry that `L` names: what that is, the caller picks.
@@ -111,6 +116,7 @@ fn run_registry<L: Label + Send + Sync, R: Threads + Wait + Sync>(
     job: NodeJob,
     seats: u8,
     plan: &ThreadPlan<'_>,
+    waits: &Waits,
 ) -> Result<NodePlayed, AllocError>
     requires name { blank.name ≡ L.name }
     requires parts { (blank.parts ≡ L.parts) × (L.parts ≡ seats) × (0 < seats) }
@@ -130,7 +136,9 @@ fn run_registry<L: Label + Send + Sync, R: Threads + Wait + Sync>(
     let Ok((registry, seats)) = started else {
         return Err(AllocError);
     };
-    let finished = make_calls(rt, alloc, &registry, seats, plan, config.node, gossip)?;
+    let node = config.node;
+    let finished = make_calls(rt, alloc, &registry, seats, plan, waits, node, gossip)?;
+    waits.settle(rt, &registry, node);
     let Finished { seats, lists } = finished;
     let Closed {
         from: _,
@@ -153,6 +161,7 @@ pub(crate) fn run_node<R: Threads + Wait + Sync>(
     rt: &R,
     alloc: Global,
     plan: &ThreadPlan<'_>,
+    waits: &Waits,
     job: NodeJob,
 ) -> Result<NodePlayed, AllocError>
     ensures trace { IfOk result (λ played. IsTraceOf job.config plan.now.seed played.trace) }
@@ -162,5 +171,5 @@ pub(crate) fn run_node<R: Threads + Wait + Sync>(
 {
     let seats = seats_at(plan, &job);
     let blank = Blank::new(u64::from(seats));
-    run_registry::<Brand, R>(rt, alloc, blank, job, seats, plan)
+    run_registry::<Brand, R>(rt, alloc, blank, job, seats, plan, waits)
 }

@@ -9,6 +9,7 @@ ghost use Rattle.thread_scripts.specs.Plays.{IsTraceOf, config_at, gossip_at};
 
 use crate::beside::Gossip;
 use crate::nodes::{NodeJob, NodePlayed, run_node};
+use crate::waits::Waits;
 use gossip::MailWire;
 use node_core::{Config, Receipt, Trace};
 use std::alloc::{AllocError, Global};
@@ -109,6 +110,7 @@ fn run_all<R: Threads + Wait + Sync>(
     rt: &R,
     alloc: Global,
     plan: &ThreadPlan<'_>,
+    waits: &Waits,
 ) -> Result<Vec<Result<NodePlayed, AllocError>>, AllocError>
     ensures len { IfOk result (λ runs. vec_len runs ≡ plan.now.size.nodes) }
     ensures each { IfOk result (λ runs. AllFrom (λ node run. IfOk run (λ played.
@@ -125,7 +127,7 @@ fn run_all<R: Threads + Wait + Sync>(
         ensures lists { IfOk result (λ played. AreOfNode job.config plan.entry.now.seed
             (plan_value plan.entry.now) (option_map (λ g. (g.wire, g.rounds)) job.gossip)
             played.lists.items) }
-    { run_node(rt, alloc, plan, job) };
+    { run_node(rt, alloc, plan, waits, job) };
     thread::map_vec(rt, jobs, &run)
 }
 
@@ -142,8 +144,23 @@ pub fn play<R: Threads + Wait + Sync>(
         AreTracesOf (plan_value plan.now) played.traces.items) }
     ensures lists { IfOk result (λ played. AreListsOf (plan_value plan.now) played.lists.items) }
 {
+    play_waiting(rt, alloc, plan, &Waits::none(alloc))
+}
+
+/// Plays a plan as `play` does, with workers that wait.
+pub fn play_waiting<R: Threads + Wait + Sync>(
+    rt: &R,
+    alloc: Global,
+    plan: &ThreadPlan<'_>,
+    waits: &Waits,
+) -> Result<Played, AllocError>
+    ensures len { IfOk result (λ played. vec_len played.traces ≡ plan.now.size.nodes) }
+    ensures traces { IfOk result (λ played.
+        AreTracesOf (plan_value plan.now) played.traces.items) }
+    ensures lists { IfOk result (λ played. AreListsOf (plan_value plan.now) played.lists.items) }
+{
     let mut played = Played::new(alloc);
-    for run in run_all(rt, alloc, plan)? {
+    for run in run_all(rt, alloc, plan, waits)? {
         played = played.with(run?)?;
     }
     Ok(played)

@@ -6,7 +6,7 @@ use Rattle.thread_scripts.specs.Plays.{AllFrom, AreListsBelow, AreOfNode, IsTrac
 use Rattle.thread_scripts.specs.declared.nodes.NodePlayed.{NodePlayed}
 use Rattle.thread_scripts.proofs.NodeLists.{below_more, below_none}
 use Rattle.thread_scripts.proofs.Numbered.{AllFrom-push}
-use Rattle.thread_scripts.proofs.played.play.Goals as goal
+use Rattle.thread_scripts.proofs.played.play_waiting.Goals as goal
 
 pub loop-run-init : goal.loop-run-init
 loop-run-init g c =

@@ -3,7 +3,7 @@ use Rattle.std.specs.Prelude.{IfOk}
 use Rattle.std.specs.Vec.Iter.{into_iter_items, into_iter_len}
 use Rattle.thread_plans.specs.Plans.{plan_value}
 use Rattle.thread_scripts.specs.Plays.{AllFrom, AreListsBelow, AreOfNode, AreTracesOf, IsTraceOf, config_at, gossip_at}
-use Rattle.thread_scripts.proofs.played.play.Given as goal
+use Rattle.thread_scripts.proofs.played.play_waiting.Given as goal
 
 abbrev pub invariant-loop-run : goal.invariant-loop-run
 invariant-loop-run g l =

@@ -1,0 +1,14 @@
+use Rattle.std.proofs.Common.{◌≡◌}
+use Rattle.thread_scripts.specs.Gossips.{IsGossip}
+use Rattle.thread_scripts.proofs.Started.{either_is}
+use Rattle.thread_scripts.proofs.beside.work_in.Goals as goal
+
+pub returns-clause-gossiped : goal.returns-clause-gossiped
+returns-clause-gossiped g c =
+    let config = g.L.Label.config in
+    let seed = g.L.Label.seed in
+    let gossip = c.args.crew.gossip in
+    either_is _ (λ h x. IsGossip config seed (h.promise.wire.value, h.promise.rounds) x.wire x.report)
+    (λ x. IsGossip config seed (gossip.wire, gossip.rounds) x.wire x.report)
+    c.start_gossip-gossiping.result c.join_gossip-gossiped.result c.start_gossip-gossiping.ensures
+    c.join_gossip-gossiped.ensures (λ h same is. rw (same.0, same.1) at is)

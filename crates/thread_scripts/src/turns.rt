@@ -1,0 +1,70 @@
+//! When workers may call.
+
+use crate::waits::{Await, Waits, is_known_at};
+use node_registry::{Gate, Label, Registry};
+use std::sync::Wait;
+use std::thread;
+
+/// How often a thread that waits lets others run before it looks at its node again.
+const YIELDS: u32 = 64;
+
+/// Lets the workers of a node wait before calls, and then make them.
+#[derive(Drop)]
+pub(crate) struct Turns<'a, L: Label, R: Wait> {
+    pub rt: &'a R,
+    pub registry: &'a Registry<L>,
+    pub waits: &'a Waits,
+    pub node: u8,
+}
+
+fn let_others_run() {
+    for _time in 0..YIELDS {
+        thread::yield_now();
+    }
+}
+
+impl<L: Label, R: Wait> Turns<'_, L, R> {
+    // Waits until the first rounds are done.
+    fn wait_first(&self) {
+        for _ in self.rt.forever() {
+            if self.waits.are_first_done(self.node) {
+                return;
+            }
+            let_others_run();
+        }
+    }
+
+    // Waits until the node knows the setting, or its gossip is over. Whether that is so is looked at
+    // before: what the last round brought is known then.
+    fn wait_for(&self, wait: &Await) {
+        for _ in self.rt.forever() {
+            let is_over = self.waits.is_over(self.node);
+            let is_known = is_known_at(self.rt, self.registry, wait);
+            if is_known || is_over {
+                wait.come(is_known);
+                return;
+            }
+            let_others_run();
+        }
+    }
+}
+
+impl<L: Label, R: Wait> Gate for Turns<'_, L, R> {
+    ghost use Rattle.std.specs.Prelude.{◌≡◌, true};
+
+    ghost says = { λ _ _ _ answer. answer ≡ true };
+
+    fn turn(&self, worker: u16, index: u32) -> bool {
+        if index == 0 {
+            self.wait_first();
+        }
+        for wait in self.waits.awaits() {
+            if wait.is_before(self.node, worker, index) {
+                self.wait_for(wait);
+            }
+        }
+        true
+    }
+
+    fn answered(&self, _worker: u16, _index: u32) {}
+}
