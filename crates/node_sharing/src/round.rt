@@ -21,7 +21,11 @@ fn make(node: &mut NodeCore, alloc: Global, shift: &Shift) -> Result<(), NodeFau
 }
 
 /// Makes shifts, one after another, up to the first that is refused.
-fn make_all(node: &mut NodeCore, alloc: Global, shifts: &[Shift]) -> Result<(), NodeFault>
+pub(crate) fn make_all(
+    node: &mut NodeCore,
+    alloc: Global,
+    shifts: &[Shift],
+) -> Result<(), NodeFault>
     ensures ok { OnOk result (AreMade node.old shifts.now node.new) }
     ensures refused { IfErr result (IsStopped node.old shifts.now node.new) }
 {

@@ -1,20 +1,24 @@
 -- How much a node gives of a term, and what it gives where nobody passed.
-use Rattle.std.proofs.Common.{◌≡◌, ◌≢◌, ℕ, zero, suc, ◌-◌, ◌*◌, ◌/◌, ◌^◌, ◌≤◌, Bool, false, cond, List, [], ◌∷◌, ◌++◌, length, take, map, refl, ◌∙◌, ap, arith}
-use Rattle.std.specs.Prelude.{min, max, nat_lt, ◌==◌, ◌&&◌, not, flat_map, pos}
+use Rattle.std.proofs.Common.{◌≡◌, ◌≢◌, ℕ, zero, suc, ◌-◌, ◌*◌, ◌/◌, ◌^◌, ◌≤◌, Bool, false, cond, List, [], ◌∷◌, ◌++◌, length, take, map, None, refl, ◌∙◌, ap, subst, arith}
+use Rattle.std.specs.Prelude.{min, max, nat_lt, ◌==◌, ◌&&◌, not, flat_map, ℤ, pos, ◌≤ℤ◌}
+use Rattle.std.specs.Option.{option_map_or}
 use Rattle.std.specs.Int.{int_gap}
 use Rattle.std.specs.List.{All, filter, range_with_len}
 use Rattle.std.proofs.Math.Nat.{mul-le-mul_left, mul_comm}
 use Rattle.std.proofs.Math.Seq.{take-nil}
+use Rattle.std.proofs.lemmas.Int.{ints}
 use Rattle.std.proofs.lemmas.Nat.{div-add-mod'}
 use Rattle.std.proofs.lemmas.Bool.Decides.{nat_tests}
 use Rattle.std.proofs.lemmas.List.{length-take, length-map}
 use Rattle.std.proofs.lemmas.List.Elements.{All-map}
 use Rattle.std.proofs.lemmas.List.Sums.{sum_by-le}
 use Rattle.actions.specs.Limits.{max_terms}
-use Rattle.replica_state.specs.States.{State, rights_of}
+use Rattle.counters.specs.Budgets.{rights}
+use Rattle.replica_state.specs.States.{State, budget_under, rights_of}
 use Rattle.sharing.specs.declared.shift.Shift.{Shift}
 use Rattle.sharing.specs.Memory.{Recalled, recall, seen}
 use Rattle.sharing.specs.Laws.{moved_in}
+use Rattle.sharing.proofs.Lines.{none_spared}
 use Rattle.sharing.specs.Shares.{kept, line_of, passers, point_shifts, share_of, shares_in, shifts_of, spare_of, still_now, term_shifts, waiting}
 
 -- half of something, divided among some, and at least one each, is no more than it in all
@@ -68,6 +72,30 @@ unfolding term_shifts
 none_to_nobody v name node still term =
     let spare = spare_of (rights_of v name term node) still in
     ap (map (λ to. record { name = name; term = term; to = to; amount = share_of spare 0 })) (take-nil spare)
+
+-- of a term to which the node has no right nothing is given
+no_gap : (k : ℕ) (r : ℤ) → (pos 1 ≤ℤ r → ⊥) → int_gap (pos k) r ≡ 0
+no_gap k r h = grind (arith, ints)
+
+pub none_without_rights : (v : State) (name : List ℕ) (node still : ℕ) (others : List ℕ) (term : ℕ) →
+    (pos 1 ≤ℤ rights_of v name term node → ⊥) → term_shifts v name node still others term ≡ []
+unfolding term_shifts
+none_without_rights v name node still others term h =
+    let line = line_of (v.execs name term) (waiting v name term others) in
+    let spare = spare_of (rights_of v name term node) still in
+    none_spared name term spare line
+    (ap (λ n. min n (2 ^ 64 - 1)) (no_gap (kept still) (rights_of v name term node) h))
+
+pub none_without_key : (v : State) (name : List ℕ) (node still : ℕ) (others : List ℕ) (term : ℕ) →
+    v.key name ≡ None → term_shifts v name node still others term ≡ []
+none_without_key v name node still others term h =
+    none_without_rights v name node still others term
+    (λ one. let none : rights_of v name term node ≡ pos 0 =
+    ap (λ key. option_map_or (λ b. rights b node) (budget_under v name term key) (pos 0)) h in
+    no_one (subst (λ r. pos 1 ≤ℤ r) none one))
+  where
+    no_one : pos 1 ≤ℤ pos 0 → ⊥
+    no_one e = grind (arith, ints)
 
 pub none_flat : {X Y : Type 0} (f : X → List Y) → ((x : X) → f x ≡ []) → (xs : List X) → flat_map f xs ≡ []
 none_flat f none [] = refl

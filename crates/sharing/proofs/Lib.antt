@@ -3,3 +3,5 @@ pub mod Lines
 pub mod Given
 pub mod Due
 pub mod Once
+pub mod Recalling
+pub mod Dealt

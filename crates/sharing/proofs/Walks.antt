@@ -1,7 +1,7 @@
 -- What a walk finds and tells with one element more.
 use Rattle.std.proofs.Common.{◌≡◌, ℕ, zero, suc, ◌+◌, Bool, true, false, cond, List, [], ◌∷◌, ◌++◌, map, Option, None, Some, option_map, refl, sym, ◌∙◌, ap, arith, append_assoc, add-one}
-use Rattle.std.specs.List.{filter, find, flat_map, range_with_len}
-use Rattle.std.proofs.lemmas.Grind.{flat_map-append}
+use Rattle.std.specs.List.{filter, find, flat_map, fold, range_with_len}
+use Rattle.std.proofs.lemmas.Grind.{flat_map-append, fold-append}
 use Rattle.std.proofs.lemmas.List.{append-nil}
 use Rattle.std.proofs.lemmas.List.Elements.{filter-append}
 
@@ -28,7 +28,7 @@ range_more a (suc n) =
     let same : a + 1 + n ≡ a + suc n = omega arith in
     ap (λ ms. a ∷ ms) (range_more (a + 1) n ∙ ap (λ m. range_with_len (a + 1) n ++ m ∷ []) same)
 
-first_more : (n : ℕ) → range_with_len 0 (n + 1) ≡ range_with_len 0 n ++ n ∷ []
+pub first_more : (n : ℕ) → range_with_len 0 (n + 1) ≡ range_with_len 0 n ++ n ∷ []
 first_more n =
     let same : 0 + n ≡ n = omega arith in
     rw add-one (range_more 0 n ∙ ap (λ m. range_with_len 0 n ++ m ∷ []) same)
@@ -42,6 +42,10 @@ pub flat_of_next : {X : Type 0} (f : ℕ → List X) (n : ℕ) →
 flat_of_next f n =
     ap (flat_map f) (first_more n) ∙ flat_map-append f (range_with_len 0 n) (n ∷ []) ∙
     ap (λ xs. flat_map f (range_with_len 0 n) ++ xs) (append-nil (f n))
+
+pub fold_of_next : {X : Type 0} (f : X → ℕ → X) (a : X) (n : ℕ) →
+    fold f a (range_with_len 0 (n + 1)) ≡ f (fold f a (range_with_len 0 n)) n
+fold_of_next f a n = ap (fold f a) (first_more n) ∙ fold-append f a (range_with_len 0 n) (n ∷ [])
 
 -- what a step adds behind what was there before
 pub added : {A : Type 0} {new old after : List A} (start before part : List A) → new ≡ old ++ part →

@@ -2,6 +2,7 @@
 
 ghost use Rattle.sharing.specs.Laws.{GivesOfItsRights, GivesWhatIsDue, GivesOnce};
 ghost use Rattle.sharing.specs.Laws.{GivesNothingToTheQuiet, LineIsInOrder};
+ghost use Rattle.sharing.specs.Spreads.{DealsAll};
 
 /// Of a term a node never gives more rights than it has, and where it passed lately itself, it keeps
 /// one.
@@ -28,4 +29,9 @@ pub fn gives_nothing_to_the_quiet()
 /// A line has those that wait, each once, and who executed the term less often comes first.
 pub fn line_is_in_order()
     ensures { LineIsInOrder }
+{}
+
+/// The equal shares of all nodes, with those that are one more, are all the rights that are dealt.
+pub fn deals_all()
+    ensures { DealsAll }
 {}

@@ -13,7 +13,7 @@ use replica_state::Replica;
 use std::alloc::{AllocError, Global};
 
 /// The rights to a term that a node can spare, where it has been still for so many rounds.
-fn spare<R: Replica>(replica: &R, name: &Name, term: u8, node: u8, still: u8) -> u64
+pub(crate) fn spare<R: Replica>(replica: &R, name: &Name, term: u8, node: u8, still: u8) -> u64
     ensures { result ≡ spare_of (rights_of (R.state replica.now) name.now term node) still }
 {
     let rights = replica.rights(name, term, node);
@@ -87,7 +87,7 @@ fn first(line: &[u8], most: u64) -> &[u8]
 }
 
 /// Adds a shift of so many rights.
-fn push_shift(
+pub(crate) fn push_shift(
     alloc: Global,
     name: &Name,
     term: u8,

@@ -5,7 +5,7 @@ ghost use Rattle.sharing.specs.Shares.{memory_after, shifts_of};
 ghost use Rattle.sharing.specs.Remembered.{recalled_all};
 
 use crate::point::push_point;
-use crate::remembered::{Remembered, recall};
+use crate::remembered::{Remembered, from_name, recall};
 use crate::shift::Shift;
 use replica_state::Replica;
 use std::alloc::{AllocError, Global};
@@ -73,8 +73,11 @@ fn round_of<R: Replica>(
 {
     let mut shifts = Vec::new(alloc);
     let mut points = Vec::new(alloc);
+    // Both stand in byte order of the names, so that one is walked beside the other.
+    let mut rest = memory;
     for (name, _) in replica.points() {
-        let remembered = recall(memory, name);
+        rest = from_name(rest, name);
+        let remembered = recall(rest, name);
         let after = push_point(alloc, replica, name, remembered, node, nodes, &mut shifts)?;
         points.push(after)?;
     }

@@ -79,8 +79,15 @@ fn push_terms<R: Replica>(
     if others.is_empty() {
         return Ok(());
     }
+    // Of all terms at once, since most have nothing to give.
+    let Some(found) = replica.key_and_rights(name, node) else {
+        return Ok(());
+    };
+    let has = found.1;
     for term in 0..MAX_TERMS {
-        push_term(alloc, replica, name, node, still, others, term, shifts)?;
+        if has[usize::from(term)] {
+            push_term(alloc, replica, name, node, still, others, term, shifts)?;
+        }
     }
     Ok(())
 }

@@ -1,8 +1,12 @@
 use Rattle.std.proofs.Common.{◌≡◌, ◌++◌, map}
 use Rattle.std.specs.List.{flat_map}
+use Rattle.std.specs.List.Sorted.{IsStrictlySortedBy}
+use Rattle.std.specs.Ordering.{nat_cmp}
+use Rattle.std.specs.Cmp.Lexicographic.{slice_cmp}
 use Rattle.sharing.specs.Memory.{recall}
 use Rattle.sharing.specs.Remembered.{recalled_all}
 use Rattle.sharing.specs.Shares.{memory_after, point_shifts, recalled_after, shifts_of}
+use Rattle.sharing.proofs.Recalling.{RecallsAll}
 use Rattle.sharing.proofs.memory.round_of.Given as goal
 
 abbrev pub invariant-loop-name : goal.invariant-loop-name
@@ -16,4 +20,6 @@ invariant-loop-name g l =
       after : recalled_all l.points.items
           ++ map (λ name. recalled_after v l.node l.nodes (recall memory name) name) left
           ≡ memory_after v l.node l.nodes memory;
+      ascending : IsStrictlySortedBy (slice_cmp nat_cmp) left;
+      recalls : RecallsAll (recalled_all l.rest) memory left;
     }
