@@ -1,0 +1,11 @@
+pub mod Calls
+pub mod Placing
+pub mod Boards
+pub mod Signs
+pub mod Units
+pub mod Scale
+pub mod Escaped
+pub mod Arrows
+pub mod Marks
+pub mod Bars
+pub mod Picture
