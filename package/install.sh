@@ -41,6 +41,8 @@ install_all() {
     done
     ln -sfn ../../../../lib "$to/$link"
     echo "failreg is installed below $prefix"
+    "$here/bin/failreg" --version >/dev/null 2>&1 ||
+        echo "  bin/failreg doesn't run here: it is for Linux of x86_64, with glibc 2.34 or later"
     case ":$PATH:" in *":$prefix/bin:"*) ;; *) echo "  PATH lacks $prefix/bin" ;; esac
     echo "  Rust: failreg = { path = \"$prefix/share/failreg/rust/failreg\" }"
     echo "  C: pkg-config --cflags --libs failreg, with PKG_CONFIG_PATH=$prefix/lib/pkgconfig where that is looked for"
