@@ -216,6 +216,26 @@ uint32_t failreg_shift(failreg *node, const char *name, size_t name_len, uint8_t
 uint32_t failreg_grant(failreg *node, const char *name, size_t name_len, uint8_t term,
                        uint64_t amount, uint64_t *total);
 
+/* [entry for each shift] Moves rights of the node to where passes happen: to nodes whose passes grew
+ * since the last call and that have no right, as far as this node knows. Who passed in the last ten
+ * rounds keeps one (docs/sharing.md). Tells how many shifts it made: none where no other node passed.
+ * Call it before each round of messages, or never: it moves rights that an operator placed. Where it is
+ * refused, as FAILREG_E_TRACE_FULL, the shifts before are made, and the next call goes on from there. */
+uint32_t failreg_share(failreg *node, uint64_t *shifts);
+
+/* [entry for each shift] Deals the node's rights to a point out: each other node gets an equal share,
+ * the first ones behind this node one more where some are left over, and the node keeps its own. Tells
+ * how many it keeps, of all terms. Where the cap leaves no room for all the shifts, none is made
+ * (FAILREG_E_TRACE_FULL); where memory is refused, those before are made. */
+uint32_t failreg_spread(failreg *node, const char *name, size_t name_len, uint64_t *kept);
+
+/* [entry, and one for each shift] Sets a point and deals the rights to it out, so that no pass comes
+ * between. The cap leaves room for the setting and a shift of each of 16 terms to each other node, or
+ * nothing is done (FAILREG_E_TRACE_FULL). Where it is FAILREG_E_NO_MEMORY, the point may be set, and a
+ * part of the shifts made: set it again. */
+uint32_t failreg_set_spread(failreg *node, const char *name, size_t name_len, const char *actions,
+                            size_t actions_len, failreg_stamp *stamp);
+
 /* [entry] Makes a message to another node: fetch its bytes, and take them there. It tells what that
  * node isn't known to have. */
 uint32_t failreg_emit(failreg *node, uint8_t to);
@@ -255,10 +275,12 @@ uint32_t failreg_forget(failreg *node);
  * tells the status of the reply: fetch its body. It is 0, whatever the status, unless the method or
  * the path isn't UTF-8, or the node is closed. `path` has no `?` and what follows it. What the
  * request asks for is [entry] where that is so of the call (failreg_set, failreg_remove,
- * failreg_load, failreg_shift, failreg_grant, failreg_deliver), and it was accepted: the status is
- * 200 then. Of a refusal the body says why; failreg_fault doesn't. Where memory is refused the
- * status is 503, nothing has changed, and there may be no body; what asks nothing of the node, as a
- * path that isn't there, is answered as such all the same. GET /status is answered with what the node
+ * failreg_load, failreg_shift, failreg_grant, failreg_deliver, failreg_spread, failreg_set_spread), and
+ * it was accepted: the status is 200 then. Of a refusal the body says why; failreg_fault doesn't. Where
+ * memory is refused the status is 503, nothing has changed (but as those two calls say), and there may
+ * be no body; what asks nothing of the node, as a path that isn't there, is answered as such all the
+ * same. PUT and POST /spread/<name> are failreg_set_spread and failreg_spread, which a served node
+ * doesn't have. GET /status is answered with what the node
  * knows, an object whose one member is "node": a program that knows more puts its own members in the
  * place of the last brace. */
 uint32_t failreg_answer(failreg *node, const char *method, size_t method_len, const char *path,

@@ -70,6 +70,14 @@ static const request REQUESTS[] = {
     { "POST", "/status", "", 405, "bad method", false, false },
     { "GET", "/status", "", 200, NULL, false, true },
     { "DELETE", "/fail/a!", "", 400, "N2 BadName", false, false },
+    { "GET", "/spread/a", "", 405, "bad method", false, true },
+    { "PUT", "/spread/a", "\xff", 400, "bad text", false, true },
+    { "PUT", "/spread/a", "fly", 400, "N3 BadActions A7 UnknownTask term=0", false, true },
+    { "POST", "/spread/none", "", 409, "N6 NotSet", false, true },
+    { "POST", "/spread/a!", "", 400, "N2 BadName", false, true },
+    { "POST", "/spread/", "", 404, "not found", false, false },
+    { "POST", "/spread/a/0", "", 404, "not found", false, false },
+    { "POST", "/spread", "", 404, "not found", false, false },
 };
 
 typedef struct reply {
@@ -164,6 +172,30 @@ static void refuse_what_is_none(failreg *node)
     CHECK(status == 0 && calls_of(node) == before);
 }
 
+/* A point that is set and spread, whatever is refused under way: set anew, it is set and spread. */
+static void spread_a_point(failreg *node)
+{
+    static const request SET = { "PUT", "/spread/s", "5*return", 200, NULL, true, true };
+    static const request KEPT = { "POST", "/spread/s", "", 200, "2", true, true };
+    int64_t rights;
+    tried = "a spread";
+    for (long growths = 0; growths >= 0; growths = refused.met ? growths + 1 : -1) {
+        refused.left = growths;
+        refused.met = false;
+        reply got = asked(node, &SET);
+        refused.left = -1;
+        CHECK(got.status == (refused.met ? got.status : 200));
+        CHECK(got.status == 200 || got.status == 503);
+        reply again = asked(node, &SET);
+        CHECK(again.status == 200);
+        CHECK(failreg_rights(node, "s", 1, 0, 0, &rights) == FAILREG_OK && rights == 3);
+        CHECK(failreg_rights(node, "s", 1, 0, 1, &rights) == FAILREG_OK && rights == 2);
+    }
+    uint64_t before = calls_of(node);
+    reply kept = asked(node, &KEPT);
+    CHECK(is_as_wanted(&KEPT, &kept) && calls_of(node) == before + 1);
+}
+
 /* A node whose trace is full says so, whether there is memory or not. */
 static void refuse_at_a_full_node(void)
 {
@@ -187,13 +219,14 @@ int main(void)
     static const uint8_t seed[32] = { 1 };
     failreg node = FAILREG_CLOSED_NODE;
     long growths = 0;
-    CHECK(failreg_open(&node, 0, 2, 100, seed) == FAILREG_OK);
+    CHECK(failreg_open(&node, 0, 2, 1000, seed) == FAILREG_OK);
     refuse_what_is_none(&node);
     for (size_t i = 0; i < sizeof REQUESTS / sizeof REQUESTS[0]; i++) {
         tried = REQUESTS[i].path;
         growths += try_each_growth(&node, &REQUESTS[i]);
     }
     CHECK(growths > 0);
+    spread_a_point(&node);
     take_a_message(&node);
     failreg_close(&node);
     refuse_at_a_full_node();

@@ -111,6 +111,59 @@ static void *pass_often(void *given)
     return (void *)ran;
 }
 
+/* Rights go to the node that passes, which keeps one; and they are dealt out where that is asked for. */
+static void rights_follow_passes(void)
+{
+    failreg first = opened(0), second = opened(1);
+    uint64_t shifts, kept, calls, later;
+    failreg_stamp stamp;
+    int64_t left;
+    set(&first, "5*return->off");
+    CHECK(failreg_share(&first, &shifts) == FAILREG_OK && shifts == 0);
+    CHECK(tell(&first, 1, &second));
+    CHECK(pass(&second).term == 1 && tell(&second, 0, &first));
+    CHECK(failreg_share(&first, &shifts) == FAILREG_OK && shifts == 1);
+    CHECK(failreg_rights(&first, TEXT("p"), 0, 0, &left) == FAILREG_OK && left == 3);
+    CHECK(failreg_share(&first, &shifts) == FAILREG_OK && shifts == 0);
+    CHECK(tell(&first, 1, &second) && pass(&second).term == 0);
+    /* Of three one goes, since the other share is the greater one. */
+    CHECK(failreg_spread(&first, TEXT("p"), &kept) == FAILREG_OK && kept == 2);
+    CHECK(failreg_set_spread(&first, TEXT("p"), TEXT("5*return->2*panic"), &stamp) == FAILREG_OK);
+    CHECK(stamp.clock == 2 && stamp.node == 0);
+    CHECK(failreg_rights(&first, TEXT("p"), 0, 0, &left) == FAILREG_OK && left == 3);
+    CHECK(failreg_rights(&first, TEXT("p"), 1, 1, &left) == FAILREG_OK && left == 1);
+    CHECK(failreg_calls(&first, &calls) == FAILREG_OK);
+    CHECK(failreg_spread(&first, TEXT("q"), &kept) == FAILREG_E_NOT_SET && kept == 0);
+    CHECK(failreg_spread(&first, TEXT(""), &kept) == FAILREG_E_BAD_NAME);
+    CHECK(failreg_spread(&first, TEXT("\xff"), &kept) == FAILREG_E_NOT_UTF8);
+    CHECK(failreg_set_spread(&first, TEXT("p"), TEXT("no"), &stamp) == FAILREG_E_BAD_ACTIONS);
+    CHECK(stamp.clock == 0 && failreg_calls(&first, &later) == FAILREG_OK && later == calls);
+    failreg_close(&first);
+    failreg_close(&second);
+    CHECK(failreg_share(&first, &shifts) == FAILREG_E_CLOSED && shifts == 0);
+    CHECK(failreg_spread(&first, TEXT("p"), &kept) == FAILREG_E_CLOSED);
+    CHECK(failreg_set_spread(&first, TEXT("p"), TEXT("off"), &stamp) == FAILREG_E_CLOSED);
+}
+
+/* Nothing is half done where the cap leaves no room for it. */
+static void a_spread_has_room(void)
+{
+    failreg node = FAILREG_CLOSED_NODE;
+    failreg_stamp stamp;
+    uint64_t kept, calls;
+    CHECK(failreg_open(&node, 1, 3, 34, SEED) == FAILREG_OK);
+    set(&node, "7*return->off");
+    CHECK(failreg_set_spread(&node, TEXT("p"), TEXT("7*return"), &stamp) == FAILREG_OK);
+    CHECK(failreg_calls(&node, &calls) == FAILREG_OK && calls == 4);
+    CHECK(failreg_set_spread(&node, TEXT("p"), TEXT("7*return"), &stamp) == FAILREG_E_TRACE_FULL);
+    for (; calls < 33; calls++)
+        pass(&node);
+    set(&node, "7*return->off");
+    CHECK(failreg_spread(&node, TEXT("p"), &kept) == FAILREG_E_TRACE_FULL && kept == 0);
+    CHECK(failreg_calls(&node, &calls) == FAILREG_OK && calls == 34);
+    failreg_close(&node);
+}
+
 /* Two nodes share the 1000 of a count, and four threads at each use up just those. */
 static void a_count_is_shared_over_threads(void)
 {
@@ -558,6 +611,8 @@ static void words_and_versions(void)
 
 int main(void)
 {
+    rights_follow_passes();
+    a_spread_has_room();
     a_count_is_shared_over_threads();
     looks_end();
     tasks_are_told_and_carried_out();

@@ -7,6 +7,7 @@ use Rattle.http_routes.proofs.room.KeptRoom.TheSendSync as room
 use Rattle.node_calls.proofs.fault.NodeFault.TheSendSync as fault
 use Rattle.node_core.proofs.generator.Generator.TheSendSync as generator
 use Rattle.node_core.proofs.node.NodeCore.TheSendSync as core
+use Rattle.sharing.proofs.memory.Memory.TheSendSync as memory
 use Rattle.failreg_c.proofs.points.Points.TheSendSync as points
 use Rattle.failreg_c.proofs.registry.Said.TheSendSync as said
 use Rattle.failreg_c.specs.contracts.registry.Registry as Registry
@@ -24,7 +25,7 @@ registry_send =
             room.the_send,
             (
               said.the_field_send,
-              (search (crosses, sendable) depth 30, (points.the_send, (search (crosses, sendable, fault.the_send) depth 30, tt))),
+              (search (crosses, sendable) depth 30, (points.the_send, (search (crosses, sendable, fault.the_send) depth 30, (memory.the_send, tt)))),
             ),
           ),
         ),

@@ -3,6 +3,7 @@ use Rattle.std.specs.Prelude.{◌≡◌, ◌≢◌, ◌⊎◌, ℕ, List, [], �
 use Rattle.rand_chacha.specs.ChaCha.{key_of}
 use Rattle.actions.specs.Names.{is_name}
 use Rattle.node_core.specs.declared.config.Config.{Config}
+use Rattle.node_calls.specs.declared.fault.NodeFault.{NodeFault}
 use Rattle.node_calls.specs.declared.fault.NodeFault.TheVariants.{BadConfig, BadName}
 use Rattle.node_calls.specs.Asks.{Asked, Answered}
 use Rattle.node_calls.specs.Asks as asks
@@ -15,7 +16,11 @@ use Rattle.node_core.specs.Passes.{words_for}
 use Rattle.node_core.specs.Refusals.{is_bad_config}
 use Rattle.node_core.specs.Traces.{Kept, Accepts, Emits, IsRefusalOf, after_call, call_kept, new_kept, refusal, reply_to, state_known}
 use Rattle.node_core.specs.Words.{place_after, words_next}
-use Rattle.failreg_c.specs.Numbers.{no_memory, no_point, not_text, number}
+use Rattle.sharing.specs.Shares.{memory_after}
+use Rattle.stamp_register.specs.declared.key.Stamp.{Stamp}
+use Rattle.node_sharing.specs.Made.{AreMade, IsStopped, shifts_due}
+use Rattle.node_sharing.specs.Spread.{IsNotSetSpread, IsNotSpread, IsSetSpread, rights_kept, spread_due}
+use Rattle.failreg_c.specs.Numbers.{closed, no_memory, no_point, not_text, number}
 use Rattle.failreg_c.specs.Told.{IsPassTold, passed_text, text_or_none}
 use Rattle.failreg_c.specs.declared.act.Act.{Act}
 use Rattle.failreg_c.specs.declared.registry.Registry.{Registry}
@@ -34,6 +39,14 @@ Stays (Some k) (Some l) f = f k l
 Stays (Some k) None f = ⊥
 Stays None (Some l) f = ⊥
 Stays None None f = Unit {0}
+
+-- a fact of a registry before and after a call that isn't answered by 0; or there is none before and after, and the
+-- answer is that
+abbrev pub IsClosedOr : {R : Type 0} → ℕ → Option R → Option R → (R → R → Type 0) → Type 0
+IsClosedOr status (Some k) (Some l) f = f k l
+IsClosedOr status (Some k) None f = ⊥
+IsClosedOr status None (Some l) f = ⊥
+IsClosedOr status None None f = status ≡ closed
 
 -- what is to be fetched: these bytes, the text of the task that the pass at this place came to, or what stands in the
 -- room for replies
@@ -58,7 +71,8 @@ abbrev pub IsOpened : Config → List ℕ → Registry → Type 0
 IsOpened config seed k =
     (k.core ≡ new_kept config) ×
     (k.generator ≡ record { key = key_of seed; stream = config.node; word_pos = 0 }) ×
-    (k.room ≡ []) × (said_of k ≡ []) × (k.words.items ≡ []) × (k.points ≡ []) × (k.fault ≡ None)
+    (k.room ≡ []) × (said_of k ≡ []) × (k.words.items ≡ []) × (k.points ≡ []) × (k.fault ≡ None) ×
+    (k.memory ≡ [])
 
 -- why a closed node isn't opened
 abbrev pub IsNotOpened : Config → ℕ → Type 0
@@ -69,6 +83,48 @@ IsNotOpened config status =
 -- an accepted call that draws no words: it changes the node, and nothing else
 abbrev pub IsMade : Asked → Answered → Registry → Registry → Type 0
 IsMade ask answer k l = Accepts k.core l.core ask [] answer × (l ≡ record k { core = l.core })
+
+-- a round of sharing: so many shifts were due, each is made by a call that the node accepts, and the round is
+-- remembered; nothing else changed
+abbrev pub IsShared : ℕ → Registry → Registry → Type 0
+IsShared count k l =
+    (count ≡ length (shifts_due k.core k.memory)) × AreMade k.core (shifts_due k.core k.memory) l.core ×
+    (l.memory ≡ memory_after (state_known k.core) k.core.config.node k.core.config.nodes k.memory) ×
+    (l ≡ record k { core = l.core; memory = l.memory })
+
+-- calls that changed the node were made up to one that was refused so, which is kept, and nothing else changed
+abbrev pub IsLeftBy : (NodeFault → Type 0) → ℕ → Registry → Registry → Type 0
+IsLeftBy refused status k l =
+    MatchOption l.fault ⊥ (λ f. (status ≡ number f) × refused f) × (l ≡ record k { core = l.core; fault = l.fault })
+
+-- a shift of a round is refused, or memory was: those before it are made
+abbrev pub IsShareStopped : ℕ → Registry → Registry → Type 0
+IsShareStopped status k l =
+    IsLeftBy (IsStopped k.core (shifts_due k.core k.memory) l.core) status k l
+
+-- the rights to a point are spread, and the node keeps so many
+abbrev pub IsSpread : List ℕ → ℕ → Registry → Registry → Type 0
+IsSpread name kept k l =
+    (kept ≡ rights_kept l.core name) × AreMade k.core (spread_due k.core name) l.core ×
+    (l ≡ record k { core = l.core })
+
+-- a point is set, and the rights to it are spread
+abbrev pub IsSpreadSet : List ℕ → List ℕ → Stamp → Registry → Registry → Type 0
+IsSpreadSet name text stamp k l = IsSetSpread k.core name text stamp l.core × (l ≡ record k { core = l.core })
+
+-- a text isn't UTF-8, and all is as it was but that no fault is kept; or it is refused otherwise
+abbrev pub IsNoText : Type 0 → ℕ → Registry → Registry → Type 0
+IsNoText texts status k l = (status ≡ not_text) × (texts → ⊥) × (l ≡ record k { fault = None })
+
+abbrev pub IsNotSpreadBy : List ℕ → ℕ → Registry → Registry → Type 0
+IsNotSpreadBy name status k l =
+    IsNoText (IsUtf8 name) status k l
+    ⊎ (IsUtf8 name × IsLeftBy (IsNotSpread k.core name l.core) status k l)
+
+abbrev pub IsNotSpreadSet : List ℕ → List ℕ → ℕ → Registry → Registry → Type 0
+IsNotSpreadSet name text status k l =
+    IsNoText (IsUtf8 name × IsUtf8 text) status k l
+    ⊎ ((IsUtf8 name × IsUtf8 text) × IsLeftBy (IsNotSetSpread k.core name text l.core) status k l)
 
 -- an accepted emit, whose message is to be fetched
 abbrev pub IsEmitted : ℕ → Registry → Registry → Type 0
@@ -99,7 +155,7 @@ abbrev pub IsPassedDrawing : List ℕ → Act → Registry → Registry → Type
 IsPassedDrawing name act k l =
     IsPassedWith name (words_drawn k name) act k l × (l.words.items ≡ words_drawn k name) ×
     (l.generator ≡ place_after k.generator (words_needed k name)) × (l.points ≡ k.points) × (l.fault ≡ k.fault) ×
-    (l.routes ≡ k.routes) × (l.room ≡ k.room)
+    (l.routes ≡ k.routes) × (l.room ≡ k.room) × (l.memory ≡ k.memory)
 
 -- a text is to be fetched, and nothing else changed
 abbrev pub IsSaid : List ℕ → Registry → Registry → Type 0

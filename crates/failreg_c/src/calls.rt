@@ -76,6 +76,7 @@ fn boxed(alloc: Global, core: NodeCore, generator: Generator) -> Result<Box<Regi
     ensures words { IfOk result (λ b. b.value.words.items ≡ []) }
     ensures points { IfOk result (λ b. b.value.points ≡ []) }
     ensures fault { IfOk result (λ b. b.value.fault ≡ None) }
+    ensures memory { IfOk result (λ b. b.value.memory ≡ []) }
 {
     Ok(Box::new(alloc, Registry::new(alloc, core, generator)?)?)
 }

@@ -14,6 +14,7 @@ mod points;
 mod readers;
 mod recording;
 mod registry;
+mod spreading;
 mod version;
 
 pub use act::Act;

@@ -16,6 +16,8 @@ ghost use Rattle.failreg_c.specs.Calls.{FillsFront, IsEmitted, IsLeft, IsMade, I
 ghost use Rattle.failreg_c.specs.Calls.{IsPassedDrawing, IsPassedGiven, IsRefused, IsRefusedOf};
 ghost use Rattle.failreg_c.specs.Calls.{AtPoint, HasNumber, IsLeftAt, IsRefusedAt, IsSaid};
 ghost use Rattle.failreg_c.specs.Calls.{fault_said, said_of, words_drawn};
+ghost use Rattle.failreg_c.specs.Calls.{IsNotSpreadBy, IsNotSpreadSet, IsShared, IsShareStopped};
+ghost use Rattle.failreg_c.specs.Calls.{IsSpread, IsSpreadSet};
 ghost use Rattle.failreg_c.specs.Answered.{IsAnswered, IsNoRequest, MayLackMemory};
 
 use crate::act::{Act, UNSET, act_of, into_text, text_of};
@@ -25,12 +27,15 @@ use actions::{Name, NameFault};
 use http_paths::Routes;
 use http_routes::{KeptRoom, RoomReply, answer_in};
 use node_core::{Generator, NodeCore, NodeFault};
+use node_sharing::{set_spread, share, spread};
+use sharing::Memory;
+use spread_routes::{answer_spread, spread_name};
 use stamp_register::Stamp;
 use std::alloc::{AllocError, Global};
 
 /// A node with the generator of its random draws, the routes of requests and the room for replies to
 /// them, what of the last answer is to be fetched, the random draws that the last pass drew, the
-/// points that have numbers, and the last refusal.
+/// points that have numbers, the last refusal, and what the node remembers of its rounds of sharing.
 #[derive(Drop)]
 pub struct Registry {
     pub core: NodeCore,
@@ -41,6 +46,7 @@ pub struct Registry {
     pub words: Vec<u32>,
     pub points: Points,
     pub fault: Option<NodeFault>,
+    pub memory: Memory,
 }
 
 /// What is to be fetched: these bytes, the text of the task that the pass at this place of the trace
@@ -142,6 +148,7 @@ impl Registry {
         ensures words { IfOk result (λ k. k.words.items ≡ []) }
         ensures points { IfOk result (λ k. k.points ≡ []) }
         ensures fault { IfOk result (λ k. k.fault ≡ None) }
+        ensures memory { IfOk result (λ k. k.memory ≡ []) }
     {
         Ok(Registry {
             core,
@@ -152,6 +159,7 @@ impl Registry {
             words: Vec::new(alloc),
             points: Points::new(alloc),
             fault: None,
+            memory: Memory::new(alloc),
         })
     }
 
@@ -365,6 +373,52 @@ impl Registry {
         }
     }
 
+    /// A round of sharing: makes the shifts that are due, and answers how many they are.
+    pub(crate) fn share(&mut self, alloc: Global) -> (u32, u64)
+        ensures ok { result.0 ≡ 0 → IsShared result.1 self.old self.new }
+        ensures left { result.0 ≢ 0 → IsShareStopped result.0 self.old self.new }
+        ensures none { result.0 ≢ 0 → result.1 ≡ 0 }
+    {
+        match share(&mut self.core, alloc, &mut self.memory) {
+            Ok(count) => (0, count as u64),
+            Err(fault) => (self.refuse(fault), 0),
+        }
+    }
+
+    /// Spreads the rights to a point, and answers how many the node keeps.
+    pub(crate) fn spread(&mut self, alloc: Global, name: &[u8]) -> (u32, u64)
+        ensures ok { result.0 ≡ 0 → IsSpread name.now result.1 self.old self.new }
+        ensures left { result.0 ≢ 0 → IsNotSpreadBy name.now result.0 self.old self.new }
+        ensures none { result.0 ≢ 0 → result.1 ≡ 0 }
+    {
+        let Ok(name) = str::from_utf8(name) else {
+            return (self.refuse_text(), 0);
+        };
+        match spread(&mut self.core, alloc, name) {
+            Ok(kept) => (0, kept),
+            Err(fault) => (self.refuse(fault), 0),
+        }
+    }
+
+    /// Sets a point and spreads the rights to it.
+    pub(crate) fn set_spread(&mut self, alloc: Global, name: &[u8], text: &[u8]) -> (u32, Stamp)
+        ensures ok { result.0 ≡ 0 → IsSpreadSet name.now text.now result.1 self.old self.new }
+        ensures left { result.0 ≢ 0
+            → IsNotSpreadSet name.now text.now result.0 self.old self.new }
+        ensures none { result.0 ≢ 0 → result.1 ≡ record { clock = 0; node = 0 } }
+    {
+        let Ok(name) = str::from_utf8(name) else {
+            return (self.refuse_text(), NO_STAMP);
+        };
+        let Ok(text) = str::from_utf8(text) else {
+            return (self.refuse_text(), NO_STAMP);
+        };
+        match set_spread(&mut self.core, alloc, name, text) {
+            Ok(stamp) => (0, stamp),
+            Err(fault) => (self.refuse(fault), NO_STAMP),
+        }
+    }
+
     pub(crate) fn emit(&mut self, alloc: Global, to: u8) -> u32
         ensures ok { result ≡ 0 → IsEmitted to self.old self.new }
         ensures refused { result ≢ 0 → IsRefused self.old.core (bare_emit to) []
@@ -418,6 +472,11 @@ impl Registry {
         let Ok(path) = str::from_utf8(path) else {
             return (NOT_TEXT, 0);
         };
+        if let Some(name) = spread_name(path) {
+            let reply = answer_spread(&mut self.core, alloc, method, name, body);
+            self.said = Said::Bytes(reply.body);
+            return (0, reply.status);
+        }
         let (core, room) = (&mut self.core, &mut self.room);
         match answer_in(core, alloc, &self.routes, room, method, path, body) {
             RoomReply::Kept(status) => {

@@ -270,6 +270,30 @@ unsafe extern "C" {
         total: &mut u64,
     ) -> u32;
 
+    /// `[entry for each shift]` Moves rights of the node to where passes happen, and tells by how
+    /// many shifts. To be called before each round of messages.
+    pub safe fn failreg_share(node: &mut failreg, shifts: &mut u64) -> u32;
+
+    /// `[entry for each shift]` Deals the node's rights to a point out to all nodes, and tells how
+    /// many it keeps.
+    ///
+    /// # Safety
+    /// `name` leads to `name_len` bytes.
+    pub fn failreg_spread(node: &mut failreg, name: Bytes, name_len: usize, kept: &mut u64) -> u32;
+
+    /// `[entry, and one for each shift]` Sets a point, and deals the rights to it out to all nodes.
+    ///
+    /// # Safety
+    /// `name` and `actions` lead to as many bytes as the lengths beside them say.
+    pub fn failreg_set_spread(
+        node: &mut failreg,
+        name: Bytes,
+        name_len: usize,
+        actions: Bytes,
+        actions_len: usize,
+        stamp: &mut failreg_stamp,
+    ) -> u32;
+
     /// `[entry]` Makes a message to another node, to be fetched.
     pub safe fn failreg_emit(node: &mut failreg, to: u8) -> u32;
 
