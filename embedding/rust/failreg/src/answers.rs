@@ -1,7 +1,6 @@
 //! Requests of HTTP at a registry, whoever received them.
 
 use crate::error::{Error, ErrorKind};
-use crate::kept::Kept;
 use crate::registry::Registry;
 
 /// The reply to a request of HTTP.
@@ -37,6 +36,8 @@ impl Registry {
     /// | `POST /load` | a setting text | how many entries were set |
     /// | `POST /shift/<name>/<term>/<to>/<amount>` | | how many were moved there in all |
     /// | `POST /grant/<name>/<term>/<amount>` | | how many were granted in all |
+    /// | `PUT /spread/<name>` | an action text | the stamp of the setting, whose rights are dealt out to all nodes ([`set_spread`](Registry::set_spread)) |
+    /// | `POST /spread/<name>` | | how many rights the node keeps of those that it had, which are dealt out ([`spread`](Registry::spread)) |
     /// | `GET /report` | | what the node knows, as JSON |
     /// | `GET /status` | | the node, its calls and what each node has of each count, as JSON: an object with the one member `node`, behind which a program may tell more |
     /// | `POST /gossip` | a message of another node | `changed` or `same` |
@@ -61,11 +62,11 @@ impl Registry {
         let (status, told) = state.node.reply_to(method, path, body)?;
         let mut over = Vec::new();
         if state.node.calls()? > before {
-            self.keep(&mut state, Kept::keep)?;
+            self.keep(&mut state, |kept, node| kept.keep_since(node, before))?;
             if changes_settings(path, &told) {
                 over = self.settings_changed(&mut state);
             }
-        } else if status == 503 && told.starts_with(CAP_REACHED) {
+        } else if status == 503 && told.starts_with(CAP_REACHED) && before >= self.made.cap {
             self.end(&mut state);
         }
         drop(state);

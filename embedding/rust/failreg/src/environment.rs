@@ -23,6 +23,7 @@ const SYNC: &str = "FAILREG_SYNC";
 const BUFFER: &str = "FAILREG_BUFFER";
 const LISTEN: &str = "FAILREG_LISTEN";
 const PEERS: &str = "FAILREG_PEERS";
+const SHARE: &str = "FAILREG_SHARE";
 
 /// How long to rest between two rounds in which peers are told.
 const EVERY: Duration = Duration::from_millis(100);
@@ -48,6 +49,7 @@ const EVERY: Duration = Duration::from_millis(100);
 /// | `FAILREG_BUFFER` | 1 where lines of passes that took no right may share a write ([`Builder::buffered`]) | 0 |
 /// | `FAILREG_LISTEN` | the address at which the node is served, as [`serve`](crate::serve) does, as `127.0.0.1:7071` | it isn't served |
 /// | `FAILREG_PEERS` | where other nodes are served that are told, as [`gossip`] does, every 100 ms: each as a node and a port of 127.0.0.1, `0:7070,2:7072`, or with an address, `0@[::1]:7070` | nobody is told |
+/// | `FAILREG_SHARE` | 1 where each round in which peers are told begins by moving rights of the node to where passes happen ([`Gossip::share`]) | 0 |
 ///
 /// # Errors
 /// A value that isn't one of these is refused, and so is an address at which nobody can be served.
@@ -73,7 +75,11 @@ pub fn from_env() -> Result<Program, Error> {
         program.serving = Some(serve_at(registry, listener)?);
     }
     if !wanted.peers.is_empty() {
-        program.gossip = Some(gossip(registry, &wanted.peers, EVERY)?);
+        let gossip = gossip(registry, &wanted.peers, EVERY)?;
+        program.gossip = Some(match wanted.is_sharing {
+            true => gossip.share(),
+            false => gossip,
+        });
     }
     Ok(program)
 }
@@ -152,6 +158,7 @@ struct Wanted {
     is_buffered: bool,
     listen: Option<SocketAddr>,
     peers: Vec<Peer>,
+    is_sharing: bool,
 }
 
 fn bad(kind: ErrorKind, name: &str, value: &OsStr, fault: &'static str) -> Error {
@@ -197,6 +204,7 @@ impl Wanted {
             is_buffered: read(var, BUFFER, SWITCH_WANTED, switch_of)?.unwrap_or(false),
             listen: read(var, LISTEN, LISTEN_WANTED, listen_of)?,
             peers: others(&peers, number, nodes).map_err(|error| error.of_variable(PEERS))?,
+            is_sharing: read(var, SHARE, SWITCH_WANTED, switch_of)?.unwrap_or(false),
         })
     }
 }
@@ -322,7 +330,11 @@ mod tests {
         let caps = caps.map(|value| (CAP, value, CAP_WANTED));
         let switches = ["", "2", "yes", "01"].map(|value| (SYNC, value, SWITCH_WANTED));
         let all = nodes.into_iter().chain(caps).chain(switches);
-        for (name, value, fault) in all.chain([(BUFFER, "true", SWITCH_WANTED)]) {
+        let more = [
+            (BUFFER, "true", SWITCH_WANTED),
+            (SHARE, "on", SWITCH_WANTED),
+        ];
+        for (name, value, fault) in all.chain(more) {
             let error = wanted(&[(name, value)]).unwrap_err();
             assert_eq!(error.kind(), ErrorKind::BadVariable, "{name}={value}");
             let text = format!("{name}={value:?}: {fault}: give it such a value, or unset it");
@@ -337,6 +349,7 @@ mod tests {
         assert_eq!((all.run.as_str(), all.is_synced), ("night 7", true));
         assert!(!all.is_buffered && all.record.is_none());
         assert!(wanted(&[(BUFFER, "1")]).unwrap().is_buffered);
+        assert!(!all.is_sharing && wanted(&[(SHARE, "1")]).unwrap().is_sharing);
         let with_part = wanted(&[(RECORD, "part1"), (NODE, "1/2")]);
         match has_failpoints() {
             true => assert_eq!(with_part.unwrap().record, Some(PathBuf::from("part1"))),

@@ -9,6 +9,7 @@ use std::fmt;
 use std::net::{SocketAddr, TcpStream};
 use std::ops::Deref;
 use std::sync::mpsc::{self, Receiver, RecvTimeoutError, Sender};
+use std::sync::atomic::{AtomicBool, Ordering};
 use std::sync::{Arc, Mutex, MutexGuard};
 use std::thread::{self, JoinHandle};
 use std::time::{Duration, Instant, SystemTime};
@@ -271,10 +272,22 @@ fn round(registry: &Registry, paces: &mut [Pace], known: &Known) -> bool {
     true
 }
 
+// Moves rights to where passes happen, if that is asked for, and answers whether to go on.
+fn share(registry: &Registry, is_sharing: &AtomicBool) -> bool {
+    !is_sharing.load(Ordering::Relaxed) || !registry.share().as_ref().is_err_and(is_end)
+}
+
 // The rounds, until the end is told, or no message is made any more.
-fn rounds(registry: &Registry, every: Duration, known: &Known, end: &Receiver<()>) {
+fn rounds(
+    registry: &Registry,
+    every: Duration,
+    known: &Known,
+    is_sharing: &AtomicBool,
+    end: &Receiver<()>,
+) {
     let mut paces: Vec<Pace> = shown(known).iter().map(|_| Pace::new(every)).collect();
-    while round(registry, &mut paces, known) {
+    // What a round shares goes out with its messages.
+    while share(registry, is_sharing) && round(registry, &mut paces, known) {
         if end.recv_timeout(every) != Err(RecvTimeoutError::Timeout) {
             return;
         }
@@ -285,6 +298,8 @@ fn rounds(registry: &Registry, every: Duration, known: &Known, end: &Receiver<()
 #[must_use = "nobody is told any more when it is dropped: keep it as long as the node lives"]
 pub struct Gossip {
     known: Arc<Known>,
+    /// Whether each round begins by moving rights. It orders nothing else.
+    is_sharing: Arc<AtomicBool>,
     /// The thread rests by waiting for the sender, and ends once that is dropped.
     thread: Option<(Sender<()>, JoinHandle<()>)>,
 }
@@ -293,6 +308,25 @@ impl Gossip {
     /// What is known of telling each peer: when it was last told, and what its last failure was.
     pub fn peers(&self) -> Vec<PeerNews> {
         shown(&self.known).clone()
+    }
+
+    /// Has each round begin by moving rights of the node to where passes happen
+    /// ([`Registry::share`]), from now on. Else they stay where an operator or the program put them.
+    ///
+    /// ```
+    /// # if failreg::has_failpoints() {
+    /// use failreg::{Registry, gossip};
+    /// use std::{sync::Arc, time::Duration};
+    ///
+    /// let node = Arc::new(Registry::open(0, 2, 1_000_000)?);
+    /// let gossip = gossip(node, &[], Duration::from_millis(100))?.share();
+    /// # drop(gossip);
+    /// # }
+    /// # Ok::<(), failreg::Error>(())
+    /// ```
+    pub fn share(self) -> Gossip {
+        self.is_sharing.store(true, Ordering::Relaxed);
+        self
     }
 
     /// Ends it, as a drop does. A message that is under way has 2 seconds at most, and is waited
@@ -390,13 +424,15 @@ pub fn gossip(
     let known: Known = Mutex::new(others.into_iter().map(PeerNews::new).collect());
     let (known, every) = (Arc::new(known), every.max(SHORTEST_REST));
     let (sender, end) = mpsc::channel();
-    let its = known.clone();
+    let is_sharing = Arc::new(AtomicBool::new(false));
+    let (its, shares) = (known.clone(), is_sharing.clone());
     let thread = thread::Builder::new()
         .name("failreg-gossip".into())
-        .spawn(move || rounds(&registry, every, &its, &end))
+        .spawn(move || rounds(&registry, every, &its, &shares, &end))
         .map_err(|error| Error::new(ErrorKind::NoThread, error.to_string()))?;
     Ok(Gossip {
         known,
+        is_sharing,
         thread: Some((sender, thread)),
     })
 }

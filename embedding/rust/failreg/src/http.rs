@@ -112,6 +112,7 @@ fn methods_at(path: &str) -> Option<&'static str> {
     match parts[..] {
         ["fail"] | ["report"] | ["status"] => Some("GET"),
         ["fail", _] => Some("PUT, DELETE"),
+        ["spread", _] => Some("PUT, POST"),
         ["load"] | ["gossip"] | ["grant", _, _, _] | ["shift", _, _, _, _] => Some("POST"),
         _ => None,
     }
@@ -657,6 +658,10 @@ mod tests {
             ("GET /report", 413),
             ("GET /status", 413),
             ("POST /status", 405),
+            ("PUT /spread/a", 413),
+            ("POST /spread/a", 413),
+            ("DELETE /spread/a", 405),
+            ("PUT /spread/", 404),
             ("PUT /fail/", 404),
             ("GET /", 404),
             ("PUT /fail/a/b", 404),

@@ -129,6 +129,26 @@ impl Kept {
         kept
     }
 
+    /// Keeps the calls of the node from this number on, of which none is a pass.
+    pub fn keep_since(&mut self, node: &mut Node, first: u64) -> Result<(), Error> {
+        if matches!(self.place, Place::Nowhere) {
+            return Ok(());
+        }
+        let kept = self.put_since(node, first);
+        self.has_failed |= kept.is_err();
+        kept
+    }
+
+    fn put_since(&mut self, node: &mut Node, first: u64) -> Result<(), Error> {
+        for index in first..node.calls()? {
+            let line = node
+                .entry(index)
+                .map_err(|error| not_recorded(error.fault()))?;
+            self.place.put(&(line + "\n"), false)?;
+        }
+        Ok(())
+    }
+
     /// Keeps the newest call of the node, which is a pass of a point.
     pub fn keep_pass(&mut self, node: &mut Node, name: &str, pass: &Passed) -> Result<(), Error> {
         if matches!(self.place, Place::Nowhere) {

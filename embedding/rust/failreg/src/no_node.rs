@@ -36,6 +36,10 @@ impl Node {
         disabled()
     }
 
+    pub fn entry(&mut self, _index: u64) -> Result<String, Error> {
+        disabled()
+    }
+
     pub fn last_entry(&mut self) -> Result<String, Error> {
         disabled()
     }
@@ -97,6 +101,18 @@ impl Node {
     }
 
     pub fn grant(&mut self, _name: &str, _term: u8, _amount: u64) -> Result<u64, Error> {
+        disabled()
+    }
+
+    pub fn share(&mut self) -> Result<u64, Error> {
+        self.tell(0)
+    }
+
+    pub fn spread(&mut self, _name: &str) -> Result<u64, Error> {
+        disabled()
+    }
+
+    pub fn set_spread(&mut self, _name: &str, _actions: &str) -> Result<Stamp, Error> {
         disabled()
     }
 

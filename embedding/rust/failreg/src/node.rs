@@ -133,13 +133,18 @@ impl Node {
         Ok(self.fetch_text())
     }
 
-    /// The line of the newest call, without a newline.
+    /// The line of a call that is kept, by its number from 0, without a newline.
+    pub fn entry(&mut self, index: u64) -> Result<String, Error> {
+        let status = sys::failreg_entry(&mut self.handle, index);
+        self.answer(status, ())?;
+        Ok(self.fetch_text())
+    }
+
+    /// The line of the newest call.
     pub fn last_entry(&mut self) -> Result<String, Error> {
         let calls = self.calls()?;
         // Where there is no call, no call has this number.
-        let status = sys::failreg_entry(&mut self.handle, calls.wrapping_sub(1));
-        self.answer(status, ())?;
-        Ok(self.fetch_text())
+        self.entry(calls.wrapping_sub(1))
     }
 
     /// Makes the call of a line again.
@@ -279,6 +284,34 @@ impl Node {
         let status =
             unsafe { sys::failreg_grant(h, name.as_ptr(), name.len(), term, amount, &mut total) };
         self.answer(status, total)
+    }
+
+    /// Moves rights to where passes happen; answers by how many shifts.
+    pub fn share(&mut self) -> Result<u64, Error> {
+        let mut shifts = 0;
+        let status = sys::failreg_share(&mut self.handle, &mut shifts);
+        self.answer(status, shifts)
+    }
+
+    /// Deals the rights to a point out; answers how many are kept.
+    pub fn spread(&mut self, name: &str) -> Result<u64, Error> {
+        let mut kept = 0;
+        let h = &mut self.handle;
+        // SAFETY: a text and its length.
+        let status = unsafe { sys::failreg_spread(h, name.as_ptr(), name.len(), &mut kept) };
+        self.answer(status, kept)
+    }
+
+    /// Sets a point, and deals the rights to it out.
+    pub fn set_spread(&mut self, name: &str, actions: &str) -> Result<Stamp, Error> {
+        let mut stamp = sys::failreg_stamp::default();
+        let (at, len) = (actions.as_ptr(), actions.len());
+        let h = &mut self.handle;
+        // SAFETY: two texts, each with its length.
+        let status = unsafe {
+            sys::failreg_set_spread(h, name.as_ptr(), name.len(), at, len, &mut stamp)
+        };
+        self.answer(status, stamp.into())
     }
 
     pub fn emit(&mut self, to: u8) -> Result<Vec<u8>, Error> {

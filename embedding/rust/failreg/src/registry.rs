@@ -260,6 +260,22 @@ impl Registry {
         self.flush(&mut self.lock())
     }
 
+    // Makes calls that are no passes, and keeps each of them, also where a later one is refused.
+    fn make_several<T>(
+        &self,
+        state: &mut State,
+        make: impl FnOnce(&mut Node) -> Result<T, Error>,
+    ) -> Result<T, Error> {
+        self.may_be_called(state)?;
+        let before = state.node.calls()?;
+        let answer = make(&mut state.node);
+        self.keep(state, |kept, node| kept.keep_since(node, before))?;
+        if answer.is_err() && state.node.calls()? >= self.made.cap {
+            self.end(state);
+        }
+        answer
+    }
+
     // Makes a call that changes which points are set, and shows that.
     fn change<T>(&self, make: impl FnOnce(&mut Node) -> Result<T, Error>) -> Result<T, Error> {
         let mut state = self.lock();
@@ -435,6 +451,36 @@ impl Registry {
         let make = |node: &mut Node| node.grant(name, term, amount);
         let total = self.call(&mut self.lock(), make);
         total.map_err(|error| error.at_point(name))
+    }
+
+    /// Deals the rights that the node has to a point out: each other node gets an equal share, the first
+    /// ones behind this node one more where some are left over, and the node keeps its own. Answers how
+    /// many it keeps, of all terms. Where the cap leaves no room for all the shifts, none is made; where
+    /// memory is refused, those before are made.
+    pub fn spread(&self, name: &str) -> Result<u64, Error> {
+        let kept = self.make_several(&mut self.lock(), |node| node.spread(name));
+        kept.map_err(|error| error.at_point(name))
+    }
+
+    /// Sets a point, as [`set`](Registry::set) does, and deals the rights to it out at once, as
+    /// [`spread`](Registry::spread) does: no pass comes between. The cap leaves room for that and for a
+    /// shift of each of 16 terms to each other node, or nothing is done.
+    pub fn set_spread(&self, name: &str, actions: &str) -> Result<Stamp, Error> {
+        let mut state = self.lock();
+        let set = self.make_several(&mut state, |node| node.set_spread(name, actions));
+        let over = self.settings_changed(&mut state);
+        drop(state);
+        // Without the lock: what a closure holds may call the registry when it is dropped.
+        drop(over);
+        set.map_err(|error| error.at_point(name))
+    }
+
+    /// Moves rights of the node to where passes happen: to nodes that passed since the last call and
+    /// have no right, as far as this node knows. Who passed in the last ten rounds keeps one. Answers how
+    /// many shifts it made. A program that carries messages itself calls it before each round of them;
+    /// one that has [`gossip`](crate::gossip) asks that to ([`Gossip::share`](crate::Gossip::share)).
+    pub fn share(&self) -> Result<u64, Error> {
+        self.make_several(&mut self.lock(), Node::share)
     }
 
     /// A message to another node, which tells what that one isn't known to have.

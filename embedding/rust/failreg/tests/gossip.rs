@@ -2,7 +2,7 @@
 
 mod clients;
 
-use clients::{ask, comes};
+use clients::{ask, comes, raw};
 use failreg::{ErrorKind, Gossip, Peer, PeerNews, Registry, Serving, gossip, serve};
 use std::io::{Read, Write};
 use std::net::{Ipv4Addr, SocketAddr, TcpListener};
@@ -92,6 +92,53 @@ fn nodes_share_a_count_and_fall_silent() {
     assert!(reports.iter().all(|it| *it == reports[0] && it.0 == 200));
     // The node itself is no peer of its own.
     assert!(cluster.gossips.iter().all(|it| it.peers().len() == 2));
+}
+
+#[test]
+fn rights_that_are_spread_are_at_each_node() {
+    let cluster = Cluster::of(3);
+    let (nodes, first) = (&cluster.nodes, cluster.served[0].addr());
+    let asked = |method, path, body| ask(first, method, path, body);
+    let told = |status, text: &str| (status, text.to_string());
+    assert_eq!(asked("PUT", "/spread/p", "5*return->off"), told(200, "1.0"));
+    let rights = |of: u8| nodes[usize::from(of)].rights("p", 0, of);
+    let all = || [rights(0), rights(1), rights(2)];
+    assert!(comes(|| all() == [Ok(2), Ok(2), Ok(1)]));
+    let ran = |node: &Arc<Registry>| (0..9).filter(|_| node.eval("p").is_some()).count();
+    assert_eq!(nodes.iter().map(ran).collect::<Vec<_>>(), [2, 2, 1]);
+    // What was spread is spread again as far as the node has some.
+    assert_eq!(asked("POST", "/spread/p", ""), told(200, "0"));
+    assert_eq!(nodes[1].set_spread("p", "1*return->2*panic").unwrap().clock, 2);
+    assert_eq!(nodes[1].spread("p"), Ok(2));
+    assert_eq!(asked("POST", "/spread/q", ""), told(409, "N6 NotSet"));
+    assert_eq!(asked("POST", "/spread/p!", ""), told(400, "N2 BadName"));
+    assert_eq!(asked("PUT", "/spread/p", "x"), ask(first, "PUT", "/fail/p", "x"));
+    assert_eq!(asked("DELETE", "/spread/p", ""), told(405, "bad method"));
+    let head = format!("DELETE /spread/p HTTP/1.1\r\nHost: {first}\r\n\r\n");
+    assert!(raw(first, head.as_bytes()).contains("\r\nallow: PUT, POST\r\n"));
+}
+
+#[test]
+fn rights_go_to_who_passes_where_that_is_asked_for() {
+    let mut cluster = Cluster::of(3);
+    cluster.nodes[0].set("p", "5*return->off").unwrap();
+    let last = cluster.nodes[2].clone();
+    assert!(comes(|| last.is_set("p")));
+    let mut ran = 0;
+    let mut passes = |count: usize| {
+        for _ in 0..count {
+            ran += usize::from(last.eval("p").is_some());
+            thread::sleep(EVERY / 2);
+        }
+        ran
+    };
+    assert_eq!(passes(40), 0, "an operator's rights stay where they are");
+    let gossips = cluster.gossips.drain(..).map(Gossip::share);
+    cluster.gossips = gossips.collect();
+    assert!(comes(|| passes(1) == 5));
+    assert_eq!(passes(9), 5);
+    // Nobody passes, and nobody makes a call.
+    assert!(comes(|| cluster.is_silent()));
 }
 
 #[test]
