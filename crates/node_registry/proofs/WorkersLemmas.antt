@@ -10,46 +10,52 @@ use Rattle.node_calls.specs.declared.fault.NodeFault.{NodeFault}
 use Rattle.node_calls.specs.declared.receipt.Receipt.{Receipt}
 use Rattle.node_calls.specs.Asks.{ask_value_first}
 use Rattle.node_registry.specs.Receipts.{IsRefused}
+use Rattle.node_registry.specs.Refusals.{Refusal}
 use Rattle.node_registry.specs.Workers.{AllNumbered, AreAnswered, IsDone}
 use Rattle.node_registry.specs.Workers as workers
 
 module _ (config : Config) (seed : List ℕ) (says : ℕ → Bool → Type 0) (hears : ℕ → Type 0) where
-  pub at_the_end : (n : ℕ) (asks : List Ask) → asks ≡ [] → AreAnswered config seed says hears n asks [] []
-  at_the_end n asks none = subst (λ xs. AreAnswered config seed says hears n xs [] []) (sym none) workers.ended
+  pub at_the_end : (n : ℕ) (asks : List Ask) → asks ≡ [] → AreAnswered config seed says hears n asks [] [] []
+  at_the_end n asks none = subst (λ xs. AreAnswered config seed says hears n xs [] [] []) (sym none) workers.ended
 
 module _ (config : Config) (seed : List ℕ) (says : ℕ → Bool → Type 0) (hears : ℕ → Type 0) (all : List Ask) where
   -- however the others are answered, from that of this number on, all are answered then
-  abbrev pub SoFar : ℕ → List Ask → List Receipt → List (ℕ × NodeFault) → Type 0
-  SoFar n asks rs fs =
-      (more : List Receipt) (faults : List (ℕ × NodeFault)) → AreAnswered config seed says hears n asks more faults
-      → AreAnswered config seed says hears 0 all (rs ++ more) (fs ++ faults)
+  abbrev pub SoFar : ℕ → List Ask → List Receipt → List (ℕ × NodeFault) → List Refusal → Type 0
+  SoFar n asks rs fs ns =
+      (more : List Receipt) (faults : List (ℕ × NodeFault)) (refusals : List Refusal)
+      → AreAnswered config seed says hears n asks more faults refusals
+      → AreAnswered config seed says hears 0 all (rs ++ more) (fs ++ faults) (ns ++ refusals)
 
   pub next_accepted : (n : ℕ) (asks rest : List Ask) (ask : Ask) (r : Receipt) (rs new : List Receipt)
-      (fs : List (ℕ × NodeFault))
-      → SoFar n asks rs fs → asks ≡ ask ∷ rest → r.entry.ask ≡ ask → says n true → hears n → new ≡ rs ++ r ∷ [] →
-      SoFar (n + 1) rest new fs
-  next_accepted n asks rest ask r rs new fs so_far is of may heard pushed more faults h =
-      let here : AreAnswered config seed says hears n asks (r ∷ more) faults =
-      subst (λ xs. AreAnswered config seed says hears n xs (r ∷ more) faults) (ap (λ a. a ∷ rest) of ∙ sym is)
-      (workers.accepted may heard h) in
-      rw (pushed, append_assoc rs (r ∷ []) more) (so_far (r ∷ more) faults here)
+      (fs : List (ℕ × NodeFault)) (ns now : List Refusal)
+      → SoFar n asks rs fs ns → asks ≡ ask ∷ rest → r.entry.ask ≡ ask → says n true → hears n → new ≡ rs ++ r ∷ [] →
+      now ≡ ns → SoFar (n + 1) rest new fs now
+  next_accepted n asks rest ask r rs new fs ns now so_far is of may heard pushed same more faults refusals h =
+      let here : AreAnswered config seed says hears n asks (r ∷ more) faults refusals =
+      subst (λ xs. AreAnswered config seed says hears n xs (r ∷ more) faults refusals)
+      (ap (λ a. a ∷ rest) of ∙ sym is) (workers.accepted may heard h) in
+      rw (pushed, same, append_assoc rs (r ∷ []) more) (so_far (r ∷ more) faults refusals here)
 
   pub next_refused : (n : ℕ) (asks rest : List Ask) (ask : Ask) (f : NodeFault) (rs : List Receipt)
-      (fs new : List (ℕ × NodeFault))
-      → SoFar n asks rs fs → asks ≡ ask ∷ rest → IsRefused config seed (ask_value_first config.nodes ask) f →
-      says n true → hears n → new ≡ fs ++ (n, f) ∷ [] → SoFar (n + 1) rest rs new
-  next_refused n asks rest ask f rs fs new so_far is why may heard pushed more faults h =
-      let here : AreAnswered config seed says hears n asks more ((n, f) ∷ faults) =
-      subst (λ xs. AreAnswered config seed says hears n xs more ((n, f) ∷ faults)) (sym is)
+      (fs new : List (ℕ × NodeFault)) (ns now : List Refusal)
+      → SoFar n asks rs fs ns → asks ≡ ask ∷ rest → IsRefused config seed (ask_value_first config.nodes ask) f →
+      says n true → hears n → new ≡ fs ++ (n, f) ∷ [] → now ≡ ns ++ (ask, f) ∷ [] → SoFar (n + 1) rest rs new now
+  next_refused n asks rest ask f rs fs new ns now so_far is why may heard pushed noted more faults refusals h =
+      let here : AreAnswered config seed says hears n asks more ((n, f) ∷ faults) ((ask, f) ∷ refusals) =
+      subst (λ xs. AreAnswered config seed says hears n xs more ((n, f) ∷ faults) ((ask, f) ∷ refusals)) (sym is)
       (workers.refused may heard why h) in
-      rw (pushed, append_assoc fs ((n, f) ∷ []) faults) (so_far more ((n, f) ∷ faults) here)
+      rw (pushed, noted, append_assoc fs ((n, f) ∷ []) faults, append_assoc ns ((ask, f) ∷ []) refusals)
+      (so_far more ((n, f) ∷ faults) ((ask, f) ∷ refusals) here)
 
   -- no others are
-  pub whole : (n : ℕ) (asks : List Ask) (rs : List Receipt) (fs : List (ℕ × NodeFault)) → SoFar n asks rs fs →
-      AreAnswered config seed says hears n asks [] [] → AreAnswered config seed says hears 0 all rs fs
-  whole n asks rs fs so_far none =
-      subst (λ l. AreAnswered config seed says hears 0 all l fs) (append-nil rs)
-      (subst (λ l. AreAnswered config seed says hears 0 all (rs ++ []) l) (append-nil fs) (so_far [] [] none))
+  pub whole : (n : ℕ) (asks : List Ask) (rs : List Receipt) (fs : List (ℕ × NodeFault)) (ns : List Refusal)
+      → SoFar n asks rs fs ns → AreAnswered config seed says hears n asks [] [] []
+      → AreAnswered config seed says hears 0 all rs fs ns
+  whole n asks rs fs ns so_far none =
+      subst (λ l. AreAnswered config seed says hears 0 all l fs ns) (append-nil rs)
+      (subst (λ l. AreAnswered config seed says hears 0 all (rs ++ []) l ns) (append-nil fs)
+      (subst (λ l. AreAnswered config seed says hears 0 all (rs ++ []) (fs ++ []) l) (append-nil ns)
+      (so_far [] [] [] none)))
 
 -- the last of the first list becomes the last of the second, which is read from its end
 pub moved : {J T : Type 0} (job : T → J) (js rest : List J) (ts : List T) (t : T) (j : J) → js ≡ rest ++ j ∷ [] →

@@ -2,4 +2,5 @@ pub mod Words
 pub mod Cells
 pub mod Receipts
 pub mod Pieces
+pub mod Refusals
 pub mod Workers

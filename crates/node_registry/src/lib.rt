@@ -6,6 +6,7 @@ mod drawing;
 mod guarded;
 mod label;
 mod pass_receipt;
+mod refusals;
 mod registry;
 mod workers;
 
@@ -13,5 +14,6 @@ pub use cell::NodeCell;
 pub use guarded::{Closed, Guarded, Piece, Seat};
 pub use label::Label;
 pub use pass_receipt::{PassOutcome, PassReceipt};
+pub use refusals::Refusals;
 pub use registry::Registry;
 pub use workers::{Done, Gate, Job, run_workers};

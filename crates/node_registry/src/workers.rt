@@ -8,6 +8,7 @@ ghost use Rattle.node_registry.specs.Workers.{AllNumbered, IsDone};
 
 use crate::guarded::Seat;
 use crate::label::Label;
+use crate::refusals::Refusals;
 use crate::registry::Registry;
 use node_core::{Ask, NodeFault, Receipt};
 use std::alloc::{AllocError, Global};
@@ -49,13 +50,14 @@ pub struct Job<'a, L: Label> {
 
 /// What a worker hands back: its seat; whether its thread could start; the receipts of the calls that
 /// were accepted, in their order; and why others were refused, each with its place among the asks,
-/// counted from 0.
+/// counted from 0. For contracts alone: what those asked that were refused.
 #[derive(Drop)]
 pub struct Done<L: Label> {
     pub seat: Seat<L>,
     pub started: bool,
     pub receipts: Vec<Receipt>,
     pub faults: Vec<(u32, NodeFault)>,
+    pub refusals: Refusals,
 }
 
 // A job with room for its answers.
@@ -92,12 +94,13 @@ fn work<L: Label, G: Gate, R: Wait>(
         mut seat,
         asks,
     } = job;
+    let mut refusals = Refusals::new();
     let mut index = 0u32;
     for ask in asks {
         if !gate.turn(worker, index) {
             break;
         }
-        match registry.enter_owned(rt, alloc, &mut seat, ask) {
+        match registry.enter_noting(rt, alloc, &mut seat, ask, &mut refusals) {
             Ok(receipt) => receipts.push_reserved(receipt),
             Err(fault) => faults.push_reserved((index, fault)),
         }
@@ -109,6 +112,7 @@ fn work<L: Label, G: Gate, R: Wait>(
         started: true,
         receipts,
         faults,
+        refusals,
     }
 }
 
@@ -116,7 +120,8 @@ fn work<L: Label, G: Gate, R: Wait>(
 fn idle<L: Label>(task: Task<'_, L>) -> Done<L>
     ensures started { result.started ≡ false }
     ensures seat { result.seat ≡ task.entry.job.seat }
-    ensures none { (result.receipts.items ≡ []) × (result.faults.items ≡ []) }
+    ensures none { (result.receipts.items ≡ []) × (result.faults.items ≡ [])
+        × (result.refusals ≡ []) }
 {
     let Task {
         job,
@@ -133,6 +138,7 @@ fn idle<L: Label>(task: Task<'_, L>) -> Done<L>
         started: false,
         receipts,
         faults,
+        refusals: Refusals::new(),
     }
 }
 

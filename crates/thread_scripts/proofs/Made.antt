@@ -1,8 +1,7 @@
 -- What workers were to call, and what they handed back.
 use Rattle.std.proofs.Common.{◌≡◌, ◌≢◌, ◌∙◌, ℕ, ◌+◌, ◌<◌, ◌≤◌, Bool, true, false, ◌||◌, cond, true≢false, List, [], ◌∷◌, ◌++◌, length, map, ap, sym, refl, subst, inl, inr, arith, take, suc}
-use Rattle.std.specs.Prelude.{All, MatchBool, count_by, ◌==◌, slice_index_or, Vec}
+use Rattle.std.specs.Prelude.{All, MatchBool, count_by, ◌==◌, slice_index_or}
 use Rattle.std.specs.List.{AllZip, filter, range_with_len, sum_by}
-use Rattle.std.specs.declared.alloc.Global.{Global}
 use Rattle.std.proofs.Math.Seq.{take-suc}
 use Rattle.std.proofs.lemmas.List.{map-append, map_push, take-map}
 use Rattle.std.proofs.lemmas.List.Elements.{All-head, All-tail, filter-append}
@@ -13,6 +12,7 @@ use Rattle.node_calls.specs.declared.fault.NodeFault.{NodeFault}
 use Rattle.node_calls.specs.declared.fault.NodeFault.TheVariants as faults
 use Rattle.node_calls.specs.declared.receipt.Receipt.{Receipt}
 use Rattle.node_calls.specs.Told.{AskTold, ask_told}
+use Rattle.node_registry.specs.Refusals.{Refusal}
 use Rattle.node_registry.specs.Workers.{AllNumbered, AreAnswered, IsDone}
 use Rattle.node_registry.specs.Workers as workers
 use Rattle.node_registry.specs.declared.workers.Done.{Done}
@@ -21,6 +21,7 @@ use Rattle.thread_plans.specs.declared.plan.Block.{Block}
 use Rattle.thread_plans.specs.Plans.{BlockValue, block_value}
 use Rattle.thread_scripts.specs.Asks.{asks_of_block}
 use Rattle.thread_scripts.specs.Calls.{AreMade, AreOfThread, HandsBack, is_memory, lack_memory, no_call, accepted, refused}
+use Rattle.thread_scripts.specs.Plays.{IsOfBlock}
 
 both_false : (a b : Bool) → (a || b) ≡ false → (a ≡ false) × (b ≡ false)
 both_false true b is = absurd (true≢false is)
@@ -31,9 +32,9 @@ not_memory f is e = true≢false (sym (ap is_memory e) ∙ is)
 
 -- what was answered behind a gate that is never closed was made
 answered_made : {config : Config} {seed : List ℕ} {says : ℕ → Bool → Type 0} {hears : ℕ → Type 0} {n : ℕ}
-    {asks : List Ask} {receipts : List Receipt} {refusals : List (ℕ × NodeFault)} → ((k : ℕ) → says k false → ⊥) →
-    AreAnswered config seed says hears n asks receipts refusals → lack_memory refusals ≡ false →
-    AreMade config seed (map ask_told asks) receipts
+    {asks : List Ask} {receipts : List Receipt} {why : List (ℕ × NodeFault)} {refusals : List Refusal}
+    → ((k : ℕ) → says k false → ⊥) → AreAnswered config seed says hears n asks receipts why refusals
+    → lack_memory why ≡ false → AreMade config seed (map ask_told asks) receipts refusals
 answered_made unclosed workers.ended none = no_call
 answered_made unclosed (workers.stopped {n = n} closed) none = absurd (unclosed n closed)
 answered_made unclosed (workers.accepted may heard rest) none = accepted (answered_made unclosed rest none)
@@ -42,13 +43,13 @@ answered_made unclosed (workers.refused {ask = ask} {fault = fault} {faults = mo
     refused ask is (not_memory fault both.0) (answered_made unclosed rest both.1)
 
 handed_back : (config : Config) (seed : List ℕ) (says : ℕ → Bool → Type 0) (hears : ℕ → Type 0)
-    → ((k : ℕ) → says k false → ⊥) → (asks : List Ask) (receipts : List Receipt) (refusals : List (ℕ × NodeFault))
-    (started : Bool)
-    → MatchBool started (AreAnswered config seed says hears 0 asks receipts refusals)
-    ((receipts ≡ []) × (refusals ≡ [])) → lack_memory refusals ≡ false →
-    AreOfThread config seed (map ask_told asks) receipts
-handed_back config seed says hears unclosed asks receipts refusals true h none = inl (answered_made unclosed h none)
-handed_back config seed says hears unclosed asks receipts refusals false h none = inr h.0
+    → ((k : ℕ) → says k false → ⊥) → (asks : List Ask) (receipts : List Receipt) (why : List (ℕ × NodeFault))
+    (refusals : List Refusal) (started : Bool)
+    → MatchBool started (AreAnswered config seed says hears 0 asks receipts why refusals)
+    ((receipts ≡ []) × (why ≡ []) × (refusals ≡ [])) → lack_memory why ≡ false →
+    AreOfThread config seed (map ask_told asks) receipts refusals
+handed_back config seed says hears unclosed asks receipts why refusals true h none = inl (answered_made unclosed h none)
+handed_back config seed says hears unclosed asks receipts why refusals false h none = inr h.0
 
 -- what workers hand back, behind such a gate
 pub each_made : {L : Type 0} (config : Config) (seed : List ℕ) (says : ℕ → ℕ → Bool → Type 0)
@@ -60,8 +61,8 @@ each_made config seed says hears unclosed n [] [] h = tt
 each_made config seed says hears unclosed n [] (d ∷ ds) h = absurd h
 each_made config seed says hears unclosed n (j ∷ js) [] h = absurd h
 each_made config seed says hears unclosed n (j ∷ js) (d ∷ ds) h = (
-  handed_back config seed (says n) (hears n) (unclosed n) j.asks.items d.receipts.items d.faults.items d.started
-      h.0.answered,
+  handed_back config seed (says n) (hears n) (unclosed n) j.asks.items d.receipts.items d.faults.items d.refusals
+      d.started h.0.answered,
   each_made config seed says hears unclosed (n + 1) js ds h.1,
 )
 
@@ -139,8 +140,7 @@ pub of_blocks : {L : Type 0} (config : Config) (seed : List ℕ) (blocks : List 
     → map (λ (j : Job L). map ask_told j.asks.items) jobs ≡ map asks_of_block blocks
     → AllZip (λ (j : Job L) (d : Done L). HandsBack config seed (map ask_told j.asks.items) d) jobs dones
     → All (λ (d : Done L). lack_memory d.faults.items ≡ false) dones
-    → AllZip (λ block (list : Vec Receipt Global). AreOfThread config seed (asks_of_block block) list.items) blocks
-    (map (λ (d : Done L). d.receipts) dones)
+    → AllZip (IsOfBlock config seed) blocks (map (λ (d : Done L). d.receipts) dones)
 of_blocks config seed [] [] [] same back memory = tt
 of_blocks config seed [] [] (d ∷ ds) same back memory = absurd back
 of_blocks config seed [] (j ∷ js) dones same back memory = absurd (nil_not_cons (sym same))
@@ -148,8 +148,11 @@ of_blocks config seed (b ∷ bs) [] dones same back memory = absurd (nil_not_con
 of_blocks config seed (b ∷ bs) (j ∷ js) [] same back memory = absurd back
 of_blocks {L = L} config seed (b ∷ bs) (j ∷ js) (d ∷ ds) same back memory =
     let here : map ask_told j.asks.items ≡ asks_of_block b = ap (first_or (asks_of_block b)) same in (
-      subst (λ asks. AreOfThread config seed asks d.receipts.items) here
-          (back.0 (All-head (λ (d : Done L). lack_memory d.faults.items ≡ false) d ds memory)),
+      (
+        d.refusals,
+        subst (λ asks. AreOfThread config seed asks d.receipts.items d.refusals) here
+            (back.0 (All-head (λ (d : Done L). lack_memory d.faults.items ≡ false) d ds memory)),
+      ),
       of_blocks config seed bs js ds (ap rest_of same) back.1
           (All-tail (λ (d : Done L). lack_memory d.faults.items ≡ false) d ds memory),
     )

@@ -10,24 +10,30 @@ use Rattle.node_calls.specs.Asks.{ask_value_first}
 use Rattle.node_calls.specs.Told.{AskTold, ask_told}
 use Rattle.node_registry.specs.declared.workers.Done.{Done}
 use Rattle.node_registry.specs.Receipts.{IsRefused}
+use Rattle.node_registry.specs.Refusals.{Refusal}
 use Rattle.gossip.specs.declared.report.GossipReport.{GossipReport}
 use Rattle.gossip.specs.declared.report.Ended.TheVariants as ends
 use Rattle.gossip.specs.Spreads.{Spreads, SpreadsNothing}
 use Rattle.thread_plans.specs.Lines.{StartValue, makes, spreads}
 
--- Calls that were asked in this order: each was accepted, and has the next receipt, or the node refused it, otherwise
--- than as out of memory
-pub data AreMade (config : Config) (seed : List ℕ) : List AskTold → List Receipt → Type 0 where
-  no_call : AreMade config seed [] []
-  accepted : {r : Receipt} {asks : List AskTold} {receipts : List Receipt} → AreMade config seed asks receipts
-      → AreMade config seed (ask_told r.entry.ask ∷ asks) (r ∷ receipts)
-  refused : (ask : Ask) {fault : NodeFault} {asks : List AskTold} {receipts : List Receipt}
+-- Calls that were asked in this order: each was accepted, and has the next receipt; or the node refused it, otherwise
+-- than as out of memory, and it is the next of the refusals, which a registry alone notes
+pub data AreMade (config : Config) (seed : List ℕ) : List AskTold → List Receipt → List Refusal → Type 0 where
+  no_call : AreMade config seed [] [] []
+  accepted : {r : Receipt} {asks : List AskTold} {receipts : List Receipt} {refusals : List Refusal}
+      → AreMade config seed asks receipts refusals
+      → AreMade config seed (ask_told r.entry.ask ∷ asks) (r ∷ receipts) refusals
+  refused : (ask : Ask) {fault : NodeFault} {asks : List AskTold} {receipts : List Receipt} {refusals : List Refusal}
       → IsRefused config seed (ask_value_first config.nodes ask) fault → fault ≢ faults.OutOfMemory
-      → AreMade config seed asks receipts → AreMade config seed (ask_told ask ∷ asks) receipts
+      → AreMade config seed asks receipts refusals
+      → AreMade config seed (ask_told ask ∷ asks) receipts ((ask, fault) ∷ refusals)
 
--- receipts were added behind others
-abbrev pub Adds : (List Receipt → Type 0) → List Receipt → List Receipt → Type 0
-Adds Are was now = (more : List Receipt) × (now ≡ was ++ more) × Are more
+-- receipts were added behind others, and refusals behind others
+abbrev pub Adds : (List Receipt → List Refusal → Type 0) → List Receipt → List Receipt → List Refusal → List Refusal
+    → Type 0
+Adds Are was now noted noted_now =
+    (more : List Receipt) × (refusals : List Refusal) × (now ≡ was ++ more) × (noted_now ≡ noted ++ refusals)
+    × Are more refusals
 
 -- ---- what a node does before its workers start
 
@@ -37,21 +43,25 @@ AreOfSpread config seed name receipts =
     (r : GossipReport) × (r.receipts.items ≡ receipts) × (r.ended ≡ ends.Done)
     × (Spreads config seed name r ⊎ SpreadsNothing name r)
 
-abbrev pub AreOfStart : Config → List ℕ → StartValue → List Receipt → Type 0
-AreOfStart config seed (makes ask) receipts = AreMade config seed (ask ∷ []) receipts
-AreOfStart config seed (spreads name) receipts = AreOfSpread config seed name receipts
+-- a spread notes no refusal
+abbrev pub AreOfStart : Config → List ℕ → StartValue → List Receipt → List Refusal → Type 0
+AreOfStart config seed (makes ask) receipts refusals = AreMade config seed (ask ∷ []) receipts refusals
+AreOfStart config seed (spreads name) receipts refusals = AreOfSpread config seed name receipts × (refusals ≡ [])
 
 -- a line of another node does nothing here
-abbrev pub AreOfLine : Config → List ℕ → ℕ × StartValue → List Receipt → Type 0
-AreOfLine config seed line receipts =
-    MatchBool (line.0 == config.node) (AreOfStart config seed line.1 receipts) (receipts ≡ [])
+abbrev pub AreOfLine : Config → List ℕ → ℕ × StartValue → List Receipt → List Refusal → Type 0
+AreOfLine config seed line receipts refusals =
+    MatchBool (line.0 == config.node) (AreOfStart config seed line.1 receipts refusals)
+    ((receipts ≡ []) × (refusals ≡ []))
 
 -- lines, in their order
-pub data AreOfStarts (config : Config) (seed : List ℕ) : List (ℕ × StartValue) → List Receipt → Type 0 where
-  no_line : AreOfStarts config seed [] []
+pub data AreOfStarts (config : Config) (seed : List ℕ)
+    : List (ℕ × StartValue) → List Receipt → List Refusal → Type 0 where
+  no_line : AreOfStarts config seed [] [] []
   next_line : {line : ℕ × StartValue} {lines : List (ℕ × StartValue)} (first rest : List Receipt)
-      → AreOfLine config seed line first → AreOfStarts config seed lines rest
-      → AreOfStarts config seed (line ∷ lines) (first ++ rest)
+      (refused others : List Refusal)
+      → AreOfLine config seed line first refused → AreOfStarts config seed lines rest others
+      → AreOfStarts config seed (line ∷ lines) (first ++ rest) (refused ++ others)
 
 -- ---- what workers do
 
@@ -64,11 +74,11 @@ is_memory _ = false
 abbrev pub lack_memory : List (ℕ × NodeFault) → Bool
 lack_memory refusals = list_any (λ f. is_memory f.1) refusals
 
--- of a thread that was to make these calls; of none, where it couldn't start
-abbrev pub AreOfThread : Config → List ℕ → List AskTold → List Receipt → Type 0
-AreOfThread config seed asks receipts = AreMade config seed asks receipts ⊎ (receipts ≡ [])
+-- of a thread that was to make these calls, and what it was refused; of none, where it couldn't start
+abbrev pub AreOfThread : Config → List ℕ → List AskTold → List Receipt → List Refusal → Type 0
+AreOfThread config seed asks receipts refusals = AreMade config seed asks receipts refusals ⊎ (receipts ≡ [])
 
 -- what a worker handed back that was to make these calls, where none lacked memory
 abbrev pub HandsBack : {L : Type 0} → Config → List ℕ → List AskTold → Done L → Type 0
 HandsBack config seed asks d =
-    lack_memory d.faults.items ≡ false → AreOfThread config seed asks d.receipts.items
+    lack_memory d.faults.items ≡ false → AreOfThread config seed asks d.receipts.items d.refusals

@@ -9,6 +9,7 @@ use Rattle.packed_trace.specs.Packed.{Packed}
 use Rattle.node_core.specs.Traces.{IsLegal}
 use Rattle.node_registry.specs.Cells.{IsDrawnBy}
 use Rattle.node_registry.specs.Receipts.{AreGivenSince}
+use Rattle.node_registry.specs.Refusals.{Refusal}
 use Rattle.audit.specs.Receipts.{Lists}
 use Rattle.audit.specs.Traces.{Traces}
 use Rattle.gossip.specs.Mailboxes.{Place, new_place}
@@ -47,13 +48,18 @@ blocks_of plan node = filter (λ b. b.node == node) plan.blocks
 abbrev pub gossip_at : PlanValue → ℕ → Option (Place × ℕ)
 gossip_at plan node = gossip_over (new_place plan.nodes node) plan.gossip
 
+-- a list of what a thread was given that was to do what a block asks
+abbrev pub IsOfBlock : Config → List ℕ → BlockValue → Vec Receipt Global → Type 0
+IsOfBlock config seed block list =
+    (refusals : List Refusal) × AreOfThread config seed (asks_of_block block) list.items refusals
+
 -- behind lists that were there before: a list for each of a node's blocks, in their order, and that of its gossip
 pub record AreOfWork (config : Config) (seed : List ℕ) (blocks : List BlockValue) (gossip : Option (Place × ℕ))
     (was lists : Lists) : Type 0 where
   pub workers : Lists
   pub gossiped : Lists
   pub all : lists ≡ was ++ (workers ++ gossiped)
-  pub worked : AllZip (λ block list. AreOfThread config seed (asks_of_block block) list.items) blocks workers
+  pub worked : AllZip (IsOfBlock config seed) blocks workers
   pub told : AreOfGossip config seed gossip gossiped
 
 -- The lists of a node of a plan: of what it does before its workers, of each of its blocks, and of its gossip. It gave
@@ -61,8 +67,9 @@ pub record AreOfWork (config : Config) (seed : List ℕ) (blocks : List BlockVal
 pub record AreOfNode (config : Config) (seed : List ℕ) (plan : PlanValue) (gossip : Option (Place × ℕ)) (lists : Lists)
     : Type 0 where
   pub starts : Vec Receipt Global
+  pub refused : List Refusal
   pub given : AreListsAt config seed lists
-  pub started : AreOfStarts config seed plan.starts starts.items
+  pub started : AreOfStarts config seed plan.starts starts.items refused
   pub beside : AreOfWork config seed (blocks_of plan config.node) gossip (starts ∷ []) lists
 
 -- the lists of so many nodes of a plan, from 0 on

@@ -86,6 +86,7 @@ impl<L: Label> Finished<L> {
                 started: _,
                 receipts,
                 faults,
+                refusals: _,
             } = done;
             if lack_memory(&faults) {
                 return Err(AllocError);

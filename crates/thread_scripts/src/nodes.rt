@@ -101,7 +101,7 @@ fn make_calls<L: Label + Send + Sync, R: Threads + Wait + Sync>(
     let Some(seat) = seats.pop() else {
         unreachable!();
     };
-    let (seat, receipts) = make_starts(rt, alloc, registry, seat, &plan.starts, node)?;
+    let (seat, receipts, _) = make_starts(rt, alloc, registry, seat, &plan.starts, node)?;
     let finished = finished.with(seat, receipts)?;
     make_calls_beside(
         rt, alloc, registry, finished, seats, plan, waits, node, gossip,

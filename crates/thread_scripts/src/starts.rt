@@ -1,6 +1,6 @@
 //! What a node does before its workers start.
 
-ghost use Rattle.std.specs.Prelude.{◌≡◌, ◌≢◌, ◌∷◌, [], map, vec_len, IfOk, OnOk};
+ghost use Rattle.std.specs.Prelude.{◌≡◌, ◌≢◌, ◌++◌, ◌∷◌, [], map, vec_len, IfOk, OnOk};
 ghost use Rattle.node_calls.specs.Told.{ask_ref_told};
 ghost use Rattle.node_registry.specs.Receipts.{AreGivenSince};
 ghost use Rattle.thread_plans.specs.Plans.{start_line_value};
@@ -8,7 +8,7 @@ ghost use Rattle.thread_scripts.specs.Calls.{Adds, AreMade, AreOfLine, AreOfSpre
 
 use gossip::{Ended, spread};
 use node_core::{AskRef, NodeFault, Receipt};
-use node_registry::{Label, Registry, Seat};
+use node_registry::{Label, Refusals, Registry, Seat};
 use std::alloc::{AllocError, Global};
 use std::sync::Wait;
 use thread_plans::{Start, StartLine};
@@ -23,7 +23,7 @@ fn pass_over(fault: NodeFault) -> Result<(), AllocError>
     Ok(())
 }
 
-// Makes a call, and keeps its receipt.
+// Makes a call, and keeps its receipt, or notes that it was refused.
 fn make_call<L: Label, R: Wait>(
     rt: &R,
     alloc: Global,
@@ -31,16 +31,17 @@ fn make_call<L: Label, R: Wait>(
     seat: &mut Seat<L>,
     call: AskRef<'_>,
     receipts: &mut Vec<Receipt>,
+    refusals: &mut Refusals,
 ) -> Result<(), AllocError>
     requires counted { seat.old ≡ vec_len receipts.old }
     requires given { AreGivenSince L.config L.seed 0 receipts.old.items }
     ensures counted { OnOk result (seat.new ≡ vec_len receipts.new) }
     ensures given { OnOk result (AreGivenSince L.config L.seed 0 receipts.new.items) }
     ensures made { OnOk result (Adds (AreMade L.config L.seed (ask_ref_told call.entry ∷ []))
-        receipts.old.items receipts.new.items) }
+        receipts.old.items receipts.new.items refusals.old refusals.new) }
 {
     let ask = call.copied(alloc)?;
-    match registry.enter_owned(rt, alloc, seat, ask) {
+    match registry.enter_noting(rt, alloc, seat, ask, refusals) {
         Ok(receipt) => {
             receipts.push(receipt)?;
             Ok(())
@@ -62,8 +63,8 @@ fn spread_rights<L: Label, R: Wait>(
     requires given { AreGivenSince L.config L.seed 0 receipts.old.items }
     ensures counted { OnOk result (seat.new ≡ vec_len receipts.new) }
     ensures given { OnOk result (AreGivenSince L.config L.seed 0 receipts.new.items) }
-    ensures spread { OnOk result (Adds (AreOfSpread L.config L.seed name.now)
-        receipts.old.items receipts.new.items) }
+    ensures spread { OnOk result ((more : _) × (receipts.new.items ≡ receipts.old.items ++ more)
+        × AreOfSpread L.config L.seed name.now more) }
 {
     let report = spread(rt, alloc, registry, seat, name);
     if report.ended == Ended::OutOfMemory {
@@ -82,6 +83,7 @@ fn do_start<L: Label, R: Wait>(
     line: &StartLine<'_>,
     node: u8,
     receipts: &mut Vec<Receipt>,
+    refusals: &mut Refusals,
 ) -> Result<(), AllocError>
     requires node { node ≡ L.config.node }
     requires counted { seat.old ≡ vec_len receipts.old }
@@ -89,19 +91,19 @@ fn do_start<L: Label, R: Wait>(
     ensures counted { OnOk result (seat.new ≡ vec_len receipts.new) }
     ensures given { OnOk result (AreGivenSince L.config L.seed 0 receipts.new.items) }
     ensures done { OnOk result (Adds (AreOfLine L.config L.seed (start_line_value line.now))
-        receipts.old.items receipts.new.items) }
+        receipts.old.items receipts.new.items refusals.old refusals.new) }
 {
     if line.node != node {
         return Ok(());
     }
     match line.start {
-        Start::Call(call) => make_call(rt, alloc, registry, seat, call, receipts),
+        Start::Call(call) => make_call(rt, alloc, registry, seat, call, receipts, refusals),
         Start::Spread { name } => spread_rights(rt, alloc, registry, seat, name, receipts),
     }
 }
 
 /// Does what a node does before its workers start, in its order, from a seat that has made no call.
-/// Answers the seat and the receipts.
+/// Answers the seat, the receipts, and what was refused.
 pub(crate) fn make_starts<L: Label, R: Wait>(
     rt: &R,
     alloc: Global,
@@ -109,17 +111,27 @@ pub(crate) fn make_starts<L: Label, R: Wait>(
     mut seat: Seat<L>,
     starts: &[StartLine<'_>],
     node: u8,
-) -> Result<(Seat<L>, Vec<Receipt>), AllocError>
+) -> Result<(Seat<L>, Vec<Receipt>, Refusals), AllocError>
     requires node { node ≡ L.config.node }
     requires fresh { seat ≡ 0 }
     ensures counted { IfOk result (λ done. done.0 ≡ vec_len done.1) }
     ensures given { IfOk result (λ done. AreGivenSince L.config L.seed 0 done.1.items) }
     ensures done { IfOk result (λ done. AreOfStarts L.config L.seed
-        (map start_line_value starts.now) done.1.items) }
+        (map start_line_value starts.now) done.1.items done.2) }
 {
     let mut receipts = Vec::new(alloc);
+    let mut refusals = Refusals::new();
     for line in starts {
-        do_start(rt, alloc, registry, &mut seat, line, node, &mut receipts)?;
+        do_start(
+            rt,
+            alloc,
+            registry,
+            &mut seat,
+            line,
+            node,
+            &mut receipts,
+            &mut refusals,
+        )?;
     }
-    Ok((seat, receipts))
+    Ok((seat, receipts, refusals))
 }

@@ -23,7 +23,9 @@ loop-ask-preserved g c =
     let rest = into_iter_items c.next.new.self in
     let rs = c.loop-ask.receipts.items in
     let fs = c.loop-ask.faults.items in
-    elim c.match-enter_owned.branch [
+    let ns = c.loop-ask.refusals in
+    let now = c.enter_noting.new.refusals in
+    elim c.match-enter_noting.branch [
       | in-Ok w ↦
           let pushed = w.push_reserved.ensures in
           let told = w.in-Ok.ensures in
@@ -43,8 +45,8 @@ loop-ask-preserved g c =
             given = given_more config seed c.args.task.job.seat c.loop-ask.seat rs new w.in-Ok.receipt was.given
                 was.counted told.given told.since pushed.items;
             answered = next_accepted config seed says hears all c.loop-ask.index left rest c.in-Some.ask w.in-Ok.receipt
-                rs new fs
-                was.answered steps.0 told.asked may c.answered.ensures pushed.items;
+                rs new fs ns now
+                was.answered steps.0 told.asked may c.answered.ensures pushed.items told.unnoted;
           }
       | in-Err w ↦
           let pushed = w.push_reserved-in-Err.ensures in
@@ -56,8 +58,8 @@ loop-ask-preserved g c =
             counted = told.err ∙ was.counted;
             given = was.given;
             answered = next_refused config seed says hears all c.loop-ask.index left rest c.in-Some.ask w.in-Err.fault
-                rs fs w.push_reserved-in-Err.new.self.items
-                was.answered steps.0 told.refused may c.answered.ensures pushed.items;
+                rs fs w.push_reserved-in-Err.new.self.items ns now
+                was.answered steps.0 told.refused may c.answered.ensures pushed.items told.noted;
           }
     ]
 
@@ -69,7 +71,7 @@ returns g c =
     let says = g.G.Gate.says c.args.gate.now c.args.worker in
     let hears = g.G.Gate.hears c.args.gate.now c.args.worker in
     let left = into_iter_items c.loop-ask.ask-iterator in
-    let none_more : AreAnswered config seed says hears c.loop-ask.index left [] [] =
+    let none_more : AreAnswered config seed says hears c.loop-ask.index left [] [] [] =
     elim c.match-next.branch [
       | in-None w ↦ at_the_end config seed says hears c.loop-ask.index left
           (nil_from_length left (sym c.loop-ask.ask-iterator.rest.ok.0 ∙ w.in-None.ensures.steps.0))
@@ -78,5 +80,5 @@ returns g c =
       counted = was.counted;
       given = was.given;
       answered = whole config seed says hears c.args.task.job.asks.items c.loop-ask.index left c.loop-ask.receipts.items
-          c.loop-ask.faults.items was.answered none_more;
+          c.loop-ask.faults.items c.loop-ask.refusals was.answered none_more;
     }

@@ -15,5 +15,5 @@ invariant-loop-ask g l =
       given : AreGivenSince config g.L.Label.seed l.fn.task.job.seat l.receipts.items;
       answered : SoFar config g.L.Label.seed (g.G.Gate.says l.gate l.worker) (g.G.Gate.hears l.gate l.worker)
           l.fn.task.job.asks.items
-          l.index (into_iter_items l.ask-iterator) l.receipts.items l.faults.items;
+          l.index (into_iter_items l.ask-iterator) l.receipts.items l.faults.items l.refusals;
     }

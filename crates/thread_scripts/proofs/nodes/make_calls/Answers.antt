@@ -17,6 +17,7 @@ returns-clause-calls g c =
     IfOk-both c.make_calls_beside.result _ _ _
     (λ all given calls. record {
       starts = starts;
+      refused = c.in_ok-seat.field-0-2;
       given = given;
       started = rw c.deref.ensures.value at c.in_ok-seat.ensures.done;
       beside = subst (λ node. AreOfWork config seed (blocks_of plan node) gossip (starts ∷ []) all.lists.items)

@@ -1,4 +1,4 @@
-use Rattle.std.proofs.Common.{◌∷◌, [], arith, sym}
+use Rattle.std.proofs.Common.{◌∙◌, ◌∷◌, [], arith, sym}
 use Rattle.std.proofs.lemmas.List.{append-nil}
 use Rattle.node_registry.proofs.SeatReceipts.{given_more}
 use Rattle.thread_scripts.proofs.StartLines.{made_one, refused_one}
@@ -15,7 +15,9 @@ returns-in_ok-push-in-Ok-clause-given g c =
 pub returns-in_ok-push-in-Ok-clause-made : goal.returns-in_ok-push-in-Ok-clause-made
 returns-in_ok-push-in-Ok-clause-made g c = (
   c.in-Ok.receipt ∷ [],
+  [],
   c.in_ok-push-in-Ok.ensures.items,
+  c.in-Ok.ensures.unnoted ∙ sym (append-nil c.args.refusals.now),
   made_one g.L.Label.config g.L.Label.seed c.in-Ok.receipt _ _ c.in-Ok.ensures.asked c.in_ok-ask.ensures,
 )
 
@@ -24,6 +26,8 @@ returns-in-Err-clause-made g c =
     OnOk-map c.pass_over.result _ _
     (λ memory. (
       [],
+      (c.in_ok-ask.ask, c.in-Err.fault) ∷ [],
       sym (append-nil c.args.receipts.now.items),
+      c.in-Err.ensures.noted,
       refused_one g.L.Label.config g.L.Label.seed c.in-Err.fault _ _ c.in-Err.ensures.refused memory c.in_ok-ask.ensures,
     )) c.pass_over.ensures

@@ -7,7 +7,7 @@ pub loop-line-init : goal.loop-line-init
 loop-line-init g c = record {
   counted = search rules;
   given = rw c.new-receipts.ensures.items tt;
-  done = rw c.new-receipts.ensures.items no_line;
+  done = rw (c.new-receipts.ensures.items, c.new-refusals.ensures) no_line;
 }
 
 pub loop-line-preserved : goal.loop-line-preserved
@@ -18,5 +18,5 @@ loop-line-preserved g c =
       counted = more.counted;
       given = more.given;
       done = lines_more g.L.Label.config g.L.Label.seed c.args.starts.now c.loop-line.line-index
-          _ c.loop-line-test.true _ _ was.done more.done;
+          _ c.loop-line-test.true _ _ _ _ was.done more.done;
     }

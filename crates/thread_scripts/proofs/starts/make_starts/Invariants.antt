@@ -9,5 +9,5 @@ invariant-loop-line g l = record {
   counted : l.seat ≡ vec_len l.receipts;
   given : AreGivenSince g.L.Label.config g.L.Label.seed 0 l.receipts.items;
   done : AreOfStarts g.L.Label.config g.L.Label.seed (take l.line-index (map start_line_value l.starts))
-      l.receipts.items;
+      l.receipts.items l.refusals;
 }
