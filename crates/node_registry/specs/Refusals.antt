@@ -1,7 +1,7 @@
 -- The calls that a node refused.
 use Rattle.node_calls.specs.declared.ask.Ask.{Ask}
 use Rattle.node_calls.specs.declared.fault.NodeFault.{NodeFault}
-use Rattle.node_registry.specs.declared.refusals.Refused.{Refused}
+use Rattle.node_registry.specs.declared.noted.Refused.{Refused}
 
 -- what was asked, and why it was refused
 abbrev pub Refusal : Type 0

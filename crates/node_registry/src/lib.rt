@@ -5,15 +5,15 @@ mod cell;
 mod drawing;
 mod guarded;
 mod label;
+mod noted;
 mod pass_receipt;
-mod refusals;
 mod registry;
 mod workers;
 
 pub use cell::NodeCell;
 pub use guarded::{Closed, Guarded, Piece, Seat};
 pub use label::Label;
+pub use noted::Refusals;
 pub use pass_receipt::{PassOutcome, PassReceipt};
-pub use refusals::Refusals;
 pub use registry::Registry;
 pub use workers::{Done, Gate, Job, run_workers};

@@ -8,7 +8,7 @@ ghost use Rattle.node_registry.specs.Workers.{AllNumbered, IsDone};
 
 use crate::guarded::Seat;
 use crate::label::Label;
-use crate::refusals::Refusals;
+use crate::noted::Refusals;
 use crate::registry::Registry;
 use node_core::{Ask, NodeFault, Receipt};
 use std::alloc::{AllocError, Global};

@@ -1,7 +1,7 @@
 use Rattle.std.proofs.Common.{◌∙◌, ◌++◌, ◌∷◌, [], ap, map}
 use Rattle.std.proofs.lemmas.List.{map_push}
 use Rattle.node_registry.specs.Refusals.{refusal_of}
-use Rattle.node_registry.proofs.refusals.Refusals.note.Goals as goal
+use Rattle.node_registry.proofs.noted.Refusals.note.Goals as goal
 
 pub returns : goal.returns
 returns c =
