@@ -308,9 +308,8 @@ impl Node {
         let (at, len) = (actions.as_ptr(), actions.len());
         let h = &mut self.handle;
         // SAFETY: two texts, each with its length.
-        let status = unsafe {
-            sys::failreg_set_spread(h, name.as_ptr(), name.len(), at, len, &mut stamp)
-        };
+        let status =
+            unsafe { sys::failreg_set_spread(h, name.as_ptr(), name.len(), at, len, &mut stamp) };
         self.answer(status, stamp.into())
     }
 

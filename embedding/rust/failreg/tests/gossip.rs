@@ -108,11 +108,17 @@ fn rights_that_are_spread_are_at_each_node() {
     assert_eq!(nodes.iter().map(ran).collect::<Vec<_>>(), [2, 2, 1]);
     // What was spread is spread again as far as the node has some.
     assert_eq!(asked("POST", "/spread/p", ""), told(200, "0"));
-    assert_eq!(nodes[1].set_spread("p", "1*return->2*panic").unwrap().clock, 2);
+    assert_eq!(
+        nodes[1].set_spread("p", "1*return->2*panic").unwrap().clock,
+        2
+    );
     assert_eq!(nodes[1].spread("p"), Ok(2));
     assert_eq!(asked("POST", "/spread/q", ""), told(409, "N6 NotSet"));
     assert_eq!(asked("POST", "/spread/p!", ""), told(400, "N2 BadName"));
-    assert_eq!(asked("PUT", "/spread/p", "x"), ask(first, "PUT", "/fail/p", "x"));
+    assert_eq!(
+        asked("PUT", "/spread/p", "x"),
+        ask(first, "PUT", "/fail/p", "x")
+    );
     assert_eq!(asked("DELETE", "/spread/p", ""), told(405, "bad method"));
     let head = format!("DELETE /spread/p HTTP/1.1\r\nHost: {first}\r\n\r\n");
     assert!(raw(first, head.as_bytes()).contains("\r\nallow: PUT, POST\r\n"));
