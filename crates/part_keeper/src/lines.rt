@@ -2,6 +2,7 @@
 
 ghost use Rattle.std.specs.Prelude.{◌≡◌, ◌↔◌, ◌∷◌, [], true, false, not, map, IsErr, IfOk, OnOk};
 ghost use Rattle.std.specs.Io.KnownBytes.{Appends};
+ghost use Rattle.streams.specs.Watched.{has_unflushed, inner_of};
 ghost use Rattle.packed_trace.specs.Packed.{seen_told};
 ghost use Rattle.drills.specs.Lines.{entry as entry_line};
 ghost use Rattle.part_keeper.specs.Kept.{AddsLines, Records};
@@ -12,6 +13,7 @@ use node_core::{Seen, Trace};
 use std::alloc::{AllocError, Global};
 use std::io;
 use std::io::Write;
+use streams::Watched;
 
 // Puts the line of a call behind lines, with the newline that ends it.
 fn put_line(alloc: Global, call: Seen<'_>, lines: &mut Vec<u8>) -> Result<(), AllocError>
@@ -41,17 +43,18 @@ pub fn lines_of(alloc: Global, trace: &Trace) -> Result<Vec<u8>, AllocError>
 /// Where the lines of a part go, until one couldn't be written.
 #[derive(Drop)]
 pub struct PartLines<W> {
-    out: W,
+    out: Watched<W>,
     has_failed: bool,
 }
 
 impl<W: Write> PartLines<W> {
     /// Lines go behind what a writer has.
     pub fn new(out: W) -> PartLines<W>
-        ensures { result ≡ record { out = out; has_failed = false } }
+        ensures out { inner_of result.out ≡ out }
+        ensures goes_on { result.has_failed ≡ false }
     {
         PartLines {
-            out,
+            out: Watched::new(out),
             has_failed: false,
         }
     }
@@ -65,8 +68,9 @@ impl<W: Write> PartLines<W> {
 
     // Writes bytes in one write, and flushes them.
     fn put(&mut self, bytes: &[u8]) -> io::Result<()>
-        ensures ok { OnOk result (Appends (W.contents self.old.out)
-            (W.contents self.new.out) bytes.now) }
+        ensures ok { OnOk result (Appends (W.contents (inner_of self.old.out))
+            (W.contents (inner_of self.new.out)) bytes.now) }
+        ensures flushed { OnOk result (has_unflushed self.new.out ≡ false) }
         ensures same { self.new.has_failed ≡ self.old.has_failed }
     {
         self.out.write_all(bytes)?;
@@ -75,7 +79,9 @@ impl<W: Write> PartLines<W> {
     }
 
     fn put_lines(&mut self, alloc: Global, trace: &Trace) -> Result<(), NotRecorded>
-        ensures ok { OnOk result (Records W.contents self.old.out self.new.out trace.now.calls) }
+        ensures ok { OnOk result (Records W.contents (inner_of self.old.out)
+            (inner_of self.new.out) trace.now.calls) }
+        ensures flushed { OnOk result (has_unflushed self.new.out ≡ false) }
         ensures same { self.new.has_failed ≡ self.old.has_failed }
     {
         let Ok(lines) = lines_of(alloc, trace) else {
@@ -90,7 +96,9 @@ impl<W: Write> PartLines<W> {
     /// Writes the line of each call of a trace, all in one write, and flushes them. Once that fails
     /// nothing is written any more.
     pub fn keep(&mut self, alloc: Global, trace: &Trace) -> Result<(), NotRecorded>
-        ensures ok { OnOk result (Records W.contents self.old.out self.new.out trace.now.calls) }
+        ensures ok { OnOk result (Records W.contents (inner_of self.old.out)
+            (inner_of self.new.out) trace.now.calls) }
+        ensures flushed { OnOk result (has_unflushed self.new.out ≡ false) }
         ensures failed { IsErr result ↔ (self.new.has_failed ≡ true) }
         ensures after { self.old.has_failed ≡ true → self.new ≡ self.old }
     {

@@ -10,7 +10,7 @@ use crate::recording::Recording;
 use node_core::{Ask, Reply};
 use node_registry::{Label, Registry};
 use std::alloc::Global;
-use std::sync::{Mutex, Wait};
+use std::sync::{Mutex, MutexGuard, Wait};
 
 /// Keeps the part of a node that threads call. Whoever finds the lock taken waits for it, so the lines
 /// stand in the order of the calls.
@@ -29,6 +29,11 @@ impl<L: Label> Recorder<L> {
     /// Whether calls are still made, as `Recording::goes_on`.
     pub fn goes_on<R: Wait>(&self, rt: &R) -> bool {
         self.lock.lock(rt).goes_on()
+    }
+
+    /// The recording, which nobody else has as long as this is held.
+    pub fn lock<R: Wait>(&self, rt: &R) -> MutexGuard<'_, Recording<L, PartFile>> {
+        self.lock.lock(rt)
     }
 
     /// Makes a call as `Recording::submit` does.

@@ -57,6 +57,8 @@ pub struct Recording<L: Label, W> {
 }
 
 impl<L: Label, W: Write> Recording<L, W> {
+    ghost use Rattle.part_keeper.specs.Outs.{out_of};
+
     /// Of a node whose calls so far are written, and forgotten.
     pub fn new(seat: Seat<L>, lines: PartLines<W>) -> Recording<L, W>
         requires { L.keeps ≡ false }
@@ -74,8 +76,8 @@ impl<L: Label, W: Write> Recording<L, W> {
 
     // Writes the lines of a piece, and answers what a receipt of one of its calls tells.
     fn told(&mut self, alloc: Global, piece: &Piece, receipt: Receipt) -> Result<Reply, NotRecorded>
-        ensures ok { IfOk result (λ reply. IsRecorded W.contents self.old.lines.out
-            self.new.lines.out receipt.entry.ask reply) }
+        ensures ok { IfOk result (λ reply. IsRecorded W.contents (out_of self.old)
+            (out_of self.new) receipt.entry.ask reply) }
         ensures reply { IfOk result (λ reply. reply ≡ receipt.entry.reply) }
         ensures seat { self.new.seat ≡ self.old.seat }
     {
@@ -101,7 +103,7 @@ impl<L: Label, W: Write> Recording<L, W> {
     ) -> Result<Reply, CallFault>
         ensures answered { IfOk result (IsAnswered L.config L.seed ask) }
         ensures recorded { IfOk result
-            (IsRecorded W.contents self.old.lines.out self.new.lines.out ask) }
+            (IsRecorded W.contents (out_of self.old) (out_of self.new) ask) }
         ensures counted { OnOk result (self.new.seat ≡ self.old.seat + 1) }
         ensures unanswered { IfErr result (IsUnanswered L.config L.seed ask) }
         ensures unmade { IfErr result (λ fault. fault ≢ CallFault.NotRecorded
@@ -131,7 +133,7 @@ impl<L: Label, W: Write> Recording<L, W> {
     ) -> Result<(), NotRecorded>
         ensures kept { OnOk result ((c : Cell) × (piece : Piece)
             × IsCellSince L.config L.seed L.keeps L.parts self.old.seat c × IsPieceOf c piece
-            × Records W.contents self.old.lines.out self.new.lines.out piece.trace.calls) }
+            × Records W.contents (out_of self.old) (out_of self.new) piece.trace.calls) }
         ensures failed { IsErr result ↔ (self.new.lines.has_failed ≡ true) }
         ensures seat { self.new.seat ≡ self.old.seat }
     {

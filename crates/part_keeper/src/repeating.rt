@@ -1,8 +1,11 @@
 //! A node that goes on from a part: each of its calls is made again.
 
-ghost use Rattle.std.specs.Prelude.{◌≡◌, ◌↔◌, ◌+◌, IfOk, IsTrue, OnOk, false};
+ghost use Rattle.std.specs.Prelude.{◌≡◌, ◌↔◌, ◌⊎◌, ◌<◌, ◌+◌, ◌-◌, ◌^◌, IfOk, IsTrue, OnOk, false, Err};
+ghost use Rattle.std.specs.Prelude.{None};
+ghost use Rattle.std.specs.Io.BufRead.{strip_last};
 ghost use Rattle.node_calls.specs.Told.{reply_told};
-ghost use Rattle.part_keeper.specs.Repeated.{IsRepeated};
+ghost use Rattle.drills.specs.Reading.{entry_in as entry_read};
+ghost use Rattle.part_keeper.specs.Repeated.{IsOtherwise, IsRepeated, next_in, with_line};
 
 use crate::fault::{LineFault, PartFault};
 use drills::entry_in;
@@ -34,6 +37,18 @@ fn is_answered(entry: &Entry, words: &[u32], reply: &Reply) -> bool
     entry.words.as_slice() == words && entry.reply.as_ref().is_same(reply.as_ref())
 }
 
+// What a refusal of a line's call is told as.
+fn refused(fault: NodeFault) -> LineFault
+    ensures memory { (result ≡ LineFault.OutOfMemory) ↔ (fault ≡ NodeFault.OutOfMemory) }
+    ensures only { (result ≡ LineFault.OutOfMemory) ⊎ (result ≡ LineFault.Differs) }
+{
+    if fault == NodeFault::OutOfMemory {
+        LineFault::OutOfMemory
+    } else {
+        LineFault::Differs
+    }
+}
+
 /// Makes the call of a line again: where the line is that of a call, which the node accepts, and answers,
 /// to the byte, as the line says. Else it says why not; the node may have made another call then.
 pub fn repeat_call<L: Label, R: Wait>(
@@ -43,7 +58,9 @@ pub fn repeat_call<L: Label, R: Wait>(
     seat: &mut Seat<L>,
     line: &[u8],
 ) -> Result<(), LineFault>
-    ensures { OnOk result (IsRepeated L.config L.seed seat.old seat.new line.now) }
+    ensures given { OnOk result (IsRepeated L.config L.seed seat.old seat.new line.now) }
+    ensures no_call { result ≡ Err LineFault.NoCall → entry_read line.now ≡ None }
+    ensures differs { result ≡ Err LineFault.Differs → IsOtherwise L.config L.seed line.now }
 {
     let Some(entry) = entry_in(alloc, line)? else {
         return Err(LineFault::NoCall);
@@ -51,8 +68,7 @@ pub fn repeat_call<L: Label, R: Wait>(
     let Entry { ask, words, reply } = entry;
     let made = match registry.enter_owned(rt, alloc, seat, ask) {
         Ok(made) => made,
-        Err(NodeFault::OutOfMemory) => return Err(LineFault::OutOfMemory),
-        Err(_) => return Err(LineFault::Differs),
+        Err(fault) => return Err(refused(fault)),
     };
     if is_answered(&made.entry, words.as_slice(), &reply) {
         Ok(())
@@ -70,6 +86,22 @@ fn in_line(fault: LineFault, line: u64) -> PartFault {
     }
 }
 
+impl Repeated {
+    // With the call of a line more, and the bytes of that and of the newline that ends it.
+    fn with(self, line: &[u8]) -> Repeated
+        requires { self.calls < 2 ^ 64 - 1 }
+        ensures { result ≡ with_line line.now self }
+    {
+        Repeated {
+            calls: self.calls + 1,
+            bytes: self
+                .bytes
+                .saturating_add(line.len() as u64)
+                .saturating_add(1),
+        }
+    }
+}
+
 /// What a reader of lines gives next.
 enum Next {
     /// A line, without the newline that ended it.
@@ -79,7 +111,11 @@ enum Next {
     TooLong,
 }
 
-fn next_of(line: &mut Vec<u8>) -> Next {
+// What was taken up to a newline, the end, or the most bytes of a line, without the newline.
+fn next_of(line: &mut Vec<u8>) -> Next
+    ensures next { result ≡ next_in line.old.items }
+    ensures line { line.new.items ≡ strip_last 10 line.old.items }
+{
     if line.last() == Some(&b'\n') {
         line.pop();
         Next::Line
@@ -119,19 +155,19 @@ pub fn repeat_calls<L: Label, I: Read, R: Wait>(
     ensures { IfOk result (λ r. seat.new ≡ seat.old + r.calls) }
 {
     let mut line = Vec::new(alloc);
-    let mut bytes: u64 = 0;
-    for calls in 0..u64::MAX {
-        let number = calls.saturating_add(2);
+    let mut had = Repeated { calls: 0, bytes: 0 };
+    // The first line of the part was read before.
+    for number in 2..u64::MAX {
         match take_line(reader, &mut line)? {
             Next::Line => {}
-            Next::End => return Ok(Repeated { calls, bytes }),
+            Next::End => return Ok(had),
             Next::TooLong => return Err(PartFault::TooLong { line: number }),
         }
         if let Err(fault) = repeat_call(rt, alloc, registry, seat, line.as_slice()) {
             return Err(in_line(fault, number));
         }
-        bytes = bytes.saturating_add(line.len() as u64).saturating_add(1);
-        if calls % MOST_KEPT == 0 {
+        had = had.with(line.as_slice());
+        if had.calls % MOST_KEPT == 0 {
             drop(registry.give(rt, alloc, seat));
         }
     }
