@@ -8,7 +8,7 @@ ghost use Rattle.http_routes.specs.Replies.{http_value};
 ghost use Rattle.http_routes.specs.Requests.{wanted};
 ghost use Rattle.http_routes.specs.Requests as requests;
 ghost use Rattle.http_serve.specs.Labels.{labels_of};
-ghost use Rattle.part_keeper.specs.Outs.{out_of};
+ghost use Rattle.part_keeper.specs.Outs.{calls_of, out_of};
 ghost use Rattle.http_serve.specs.Recorded.{IsServedRecording, IsServedWriting};
 ghost use Rattle.http_serve.specs.Served.{IsServed};
 ghost use Rattle.http_serve.specs.declared.handler.recording.TheConstants.{NOT_RECORDED, RECORDING_FAILED};
@@ -75,7 +75,8 @@ impl<L: Label> RecordingHandler<L> {
         ask: Ask,
     ) -> HttpReply
         ensures { IsServedWriting W.contents (out_of recording.old) (out_of recording.new)
-            L.config L.seed (ask_told ask) (http_value result) }
+            (calls_of recording.old) (calls_of recording.new) L.config L.seed (ask_told ask)
+            (http_value result) }
     {
         let Ok(room) = ReplyRoom::new(alloc) else {
             return HttpReply::no_memory(alloc);
