@@ -1,7 +1,11 @@
--- Where the lines of a recording go.
+-- Where the lines of a recording go, and how many calls its seat made.
+use Rattle.std.specs.Prelude.{ℕ}
 use Rattle.streams.specs.Watched.{inner_of}
 use Rattle.node_registry.specs.declared.label.Label.{Ghosts}
 use Rattle.part_keeper.specs.declared.recording.Recording.{Recording}
 
 abbrev pub out_of : {L W : Type 0} {g : Ghosts L} → Recording L W g → W
 out_of r = inner_of r.lines.out
+
+abbrev pub calls_of : {L W : Type 0} {g : Ghosts L} → Recording L W g → ℕ
+calls_of r = r.seat

@@ -8,7 +8,8 @@ ghost use Rattle.http_routes.specs.Replies.{http_value};
 ghost use Rattle.http_routes.specs.Requests.{wanted};
 ghost use Rattle.http_routes.specs.Requests as requests;
 ghost use Rattle.http_serve.specs.Labels.{labels_of};
-ghost use Rattle.http_serve.specs.Recorded.{IsServedRecording};
+ghost use Rattle.part_keeper.specs.Outs.{calls_of, out_of};
+ghost use Rattle.http_serve.specs.Recorded.{IsServedRecording, IsServedWriting};
 ghost use Rattle.http_serve.specs.Served.{IsServed};
 ghost use Rattle.http_serve.specs.declared.handler.recording.TheConstants.{NOT_RECORDED, RECORDING_FAILED};
 
@@ -18,8 +19,9 @@ use http_paths::Routes;
 use http_routes::{HttpReply, ReplyRoom, Wanted, route_owned};
 use node_core::Ask;
 use node_registry::{Label, Registry, Seat};
-use part_keeper::{CallFault, Recorder};
+use part_keeper::{CallFault, Recorder, Recording};
 use std::alloc::{AllocError, Global};
+use std::io::Write;
 use std::sync::{Arc, Mutex, Wait};
 
 /// What a call is answered that was made and couldn't be recorded.
@@ -54,15 +56,32 @@ impl<L: Label> RecordingHandler<L> {
         Ok(Arc::new(alloc, RecordingHandler { handler, recorder })?)
     }
 
-    // The reply to a call, which is made once there is room for it, and recorded before it is there.
+    // The reply to a call, from the recorder's recording.
     fn call<R: Wait>(&self, rt: &R, alloc: Global, ask: Ask) -> HttpReply
         ensures { IsServedRecording L.config L.seed (requests.call (ask_told ask))
+            (http_value result) }
+    {
+        let mut recording = self.recorder.lock(rt);
+        self.call_from(rt, alloc, &mut recording, ask)
+    }
+
+    // The reply to a call from a recording. The call is made once there is room for its reply, and its
+    // line is written before the reply is there.
+    fn call_from<W: Write, R: Wait>(
+        &self,
+        rt: &R,
+        alloc: Global,
+        recording: &mut Recording<L, W>,
+        ask: Ask,
+    ) -> HttpReply
+        ensures { IsServedWriting W.contents (out_of recording.old) (out_of recording.new)
+            (calls_of recording.old) (calls_of recording.new) L.config L.seed (ask_told ask)
             (http_value result) }
     {
         let Ok(room) = ReplyRoom::new(alloc) else {
             return HttpReply::no_memory(alloc);
         };
-        match self.recorder.submit(rt, alloc, &self.handler.registry, ask) {
+        match recording.submit(rt, alloc, &self.handler.registry, ask) {
             Ok(reply) => room.reply(&Ok(reply)),
             Err(CallFault::Refused(fault)) => room.reply(&Err(fault)),
             Err(CallFault::NotRecorded) => HttpReply::text(alloc, 503, NOT_RECORDED),

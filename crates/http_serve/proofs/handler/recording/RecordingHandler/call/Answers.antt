@@ -1,14 +1,9 @@
 use Rattle.http_routes.specs.Replies.{http_value}
-use Rattle.http_serve.proofs.Recorded.{accepted_so, refused_so}
+use Rattle.node_calls.specs.Told.{ask_told}
+use Rattle.http_serve.proofs.Recorded.{as_recording}
 use Rattle.http_serve.proofs.handler.recording.RecordingHandler.call.Goals as goal
 
-pub returns-in-Ok-submit : goal.returns-in-Ok-submit
-returns-in-Ok-submit g c =
-    accepted_so g.L.Label.config g.L.Label.seed c.args.ask (http_value c.reply.result) c.in-Ok-submit.reply
-    c.in-Ok-submit.ensures.answered c.reply.ensures.accepted
-
-pub returns-in-Err-Refused : goal.returns-in-Err-Refused
-returns-in-Err-Refused g c =
-    refused_so g.L.Label.config g.L.Label.seed c.args.ask (http_value c.reply-in-Err-Refused.result)
-    c.in-Err-Refused.fault (rw c.in-Err-Refused.field-0-is at c.in-Err-Refused.ensures.unanswered)
-    c.reply-in-Err-Refused.ensures.refused
+pub returns : goal.returns
+returns g c =
+    as_recording _ _ _ _ _ g.L.Label.config g.L.Label.seed (ask_told c.args.ask) (http_value c.call_from.result)
+    c.call_from.ensures
