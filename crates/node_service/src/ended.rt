@@ -1,0 +1,39 @@
+//! How a node was served.
+
+ghost use Rattle.std.specs.Prelude.{ℕ, IfSome, ◌≡◌};
+ghost use Rattle.std.specs.Arc.{arc_value};
+ghost use Rattle.http_serve.specs.Endings.{IsServedTo};
+ghost use Rattle.node_service.specs.Endings.{IsNodeServed};
+
+use http_serve::{Ending, Reason, Served};
+use std::sync::Arc;
+
+/// How the service of a node ended.
+#[derive(Clone, Copy, Debug, PartialEq, Eq)]
+pub struct NodeServed {
+    /// How many clients were let in.
+    pub clients: u32,
+    /// Why that was before as many were as are wanted, if it was.
+    pub early: Option<Reason>,
+}
+
+impl NodeServed {
+    /// Of a service that ended so.
+    pub(crate) fn of(ending: &Arc<Ending>, served: Served<'_>) -> NodeServed
+        requires { IfSome served.early (λ token. token.of ≡ (arc_value ending.now).reason.id) }
+        ensures { (wanted : ℕ) → IsServedTo wanted (arc_value ending.now).reason.id served
+            → IsNodeServed wanted result }
+    {
+        let Served { clients, early } = served;
+        match early {
+            Some(ended) => NodeServed {
+                clients,
+                early: Some(ending.reason(&ended)),
+            },
+            None => NodeServed {
+                clients,
+                early: None,
+            },
+        }
+    }
+}
