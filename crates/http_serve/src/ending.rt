@@ -87,7 +87,7 @@ impl Ending {
     }
 
     /// Why it is ended.
-    pub fn reason(&self, ended: &OnceToken<'_, Reason>) -> Reason
+    pub fn reason<'a>(&'a self, ended: &OnceToken<'a, Reason>) -> Reason
         requires { ended.now.of ≡ self.now.reason.id }
         ensures { result ≡ ended.now.value }
     {

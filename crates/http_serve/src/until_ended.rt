@@ -27,20 +27,15 @@ pub enum LetIn {
     Ended(Clients),
 }
 
-// Who is still served when a service is ended, and how long they are waited for.
-#[derive(Drop)]
-struct Last<'a, F: ConnectionFactory> {
-    tasks: &'a TaskSet<F::Task>,
-    back: Timeout<AllBack>,
-}
-
 /// Accepts connections until as many have come as are wanted, or the service is ended. Then it waits
 /// for those that are still served, for so long at most, and drops them.
 #[derive(Drop)]
 pub struct UntilEnded<'a, F: ConnectionFactory> {
     // There is none once the service is ended: its listener is closed then.
     accepting: Option<Accepting<'a, F>>,
-    last: Option<Last<'a, F>>,
+    // What those are waited for by then who are still served, unless there was no memory for it.
+    last: Option<Timeout<AllBack>>,
+    tasks: &'a TaskSet<F::Task>,
     ending: &'a Ending,
     bell: OwnedNotified,
     wanted: u32,
@@ -54,16 +49,17 @@ impl<'a, F: ConnectionFactory> UntilEnded<'a, F> {
         accepting: Accepting<'a, F>,
         ending: &'a Ending,
     ) -> Result<UntilEnded<'a, F>, AllocError>
-        requires { IfSome accepting.permits.waiting CanAcquire }
+        requires waiting { IfSome accepting.permits.waiting CanAcquire }
         requires few { accepting.clients.let_in ≤ accepting.wanted }
         ensures can_poll { IfOk result (λ u. ⟦<UntilEnded<'a, F> as Future>⟧.can_poll u) }
-        ensures wanted { IfOk result (λ u. u.wanted ≡ accepting.wanted) }
+        ensures wanted { IfOk result (λ u. u.wanted ≡ accepting.entry.wanted) }
     {
-        let wanted = accepting.wanted;
+        let (tasks, wanted) = (accepting.tasks, accepting.wanted);
         Ok(UntilEnded {
             bell: ending.listen()?,
             accepting: Some(accepting),
             last: None,
+            tasks,
             ending,
             wanted,
             clients: Clients::none(),
@@ -71,49 +67,19 @@ impl<'a, F: ConnectionFactory> UntilEnded<'a, F> {
     }
 }
 
-// What those are waited for by who are still served. `None` where there is no memory, or the clock
-// can't be read.
-fn back_of<F: ConnectionFactory>(accepting: &Accepting<'_, F>) -> Option<Timeout<AllBack>>
-    ensures { IfSome result (λ back. CanAcquire (timeout_future back).waiting) }
-{
-    let back = accepting.permits.all_back()?;
-    accepting.factory.last(back)
-}
-
-// Who is still served. Where they can't be waited for, they are dropped.
-fn last_of<'a, F: ConnectionFactory>(accepting: &Accepting<'a, F>) -> Option<Last<'a, F>>
-    ensures { IfSome result (λ last. CanAcquire (timeout_future last.back).waiting) }
-{
-    match back_of(accepting) {
-        Some(back) => Some(Last {
-            tasks: accepting.tasks,
-            back,
-        }),
-        None => {
-            accepting.tasks.shut_down();
-            None
-        }
-    }
-}
-
-// Ends once nobody is served any more, or the time for that is over.
-fn poll_last<F: ConnectionFactory>(
-    last: &mut Option<Last<'_, F>>,
-    cx: &mut Context<'_>,
-) -> Poll<()>
-    requires { IfSome last.old (λ last. CanAcquire (timeout_future last.back).waiting) }
+// Whether the time of those is over who are still served. Where they can't be waited for, it is.
+fn poll_last(last: &mut Option<Timeout<AllBack>>, cx: &mut Context<'_>) -> Poll<bool>
+    requires { IfSome last.old (λ last. CanAcquire (timeout_future last).waiting) }
     ensures again { OnPending result
-        (IfSome last.new (λ last. CanAcquire (timeout_future last.back).waiting)) }
+        (IfSome last.new (λ last. CanAcquire (timeout_future last).waiting)) }
     ensures armed { OnPending result (IsArmed cx.new) }
     ensures kept { Keeps cx.old cx.new }
 {
-    let Some(Last { tasks, back }) = last else {
-        return Poll::Ready(());
+    let Some(back) = last else {
+        return Poll::Ready(true);
     };
-    if ready!(back.poll(cx)).is_err() {
-        tasks.shut_down();
-    }
-    Poll::Ready(())
+    let back = ready!(back.poll(cx));
+    Poll::Ready(back.is_err())
 }
 
 impl<'a, F: ConnectionFactory> Future for UntilEnded<'a, F> {
@@ -121,7 +87,7 @@ impl<'a, F: ConnectionFactory> Future for UntilEnded<'a, F> {
 
     ghost can_poll = { λ u. IfSome u.accepting (λ a. IfSome a.permits.waiting CanAcquire
         × (a.clients.let_in ≤ a.wanted) × (a.wanted ≡ u.wanted))
-        × IfSome u.last (λ last. CanAcquire (timeout_future last.back).waiting)
+        × IfSome u.last (λ last. CanAcquire (timeout_future last).waiting)
         × (u.clients.let_in ≤ u.wanted) };
 
     ghost gives = { λ u. AreLetInOrEnded u.wanted };
@@ -142,9 +108,14 @@ impl<'a, F: ConnectionFactory> Future for UntilEnded<'a, F> {
                 };
             }
             self.clients = accepting.clients;
-            self.last = last_of(&accepting);
+            self.last = match accepting.permits.all_back() {
+                Some(back) => accepting.factory.last(back),
+                None => None,
+            };
         }
-        ready!(poll_last(&mut self.last, cx));
+        if ready!(poll_last(&mut self.last, cx)) {
+            self.tasks.shut_down();
+        }
         Poll::Ready(Ok(LetIn::Ended(self.clients)))
     }
 }

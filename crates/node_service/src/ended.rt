@@ -21,7 +21,7 @@ impl NodeServed {
     /// Of a service that ended so.
     pub(crate) fn of(ending: &Arc<Ending>, served: Served<'_>) -> NodeServed
         requires { IfSome served.early (λ token. token.of ≡ (arc_value ending.now).reason.id) }
-        ensures { (wanted : ℕ) → IsServedTo wanted (arc_value ending.now).reason.id served
+        ensures { (wanted : ℕ) → IsServedTo wanted (arc_value ending.now).reason.id served.entry
             → IsNodeServed wanted result }
     {
         let Served { clients, early } = served;

@@ -54,9 +54,8 @@ impl Said {
     // Whether it was said of a node a moment ago.
     fn is_fresh(&self, node: u8, now: Instant) -> bool {
         let every = Duration::from_secs(SAID_EVERY_SECONDS);
-        self.last
-            .iter()
-            .any(|said| said.node == node && now.saturating_duration_since(said.at) < every)
+        self.last.iter().any(|said| said.node == node
+            && now.saturating_duration_since(said.at) < every)
     }
 
     // Notes that it is said of a node now.
