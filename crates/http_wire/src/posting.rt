@@ -137,7 +137,7 @@ where
 
 /// What was posted, and what was answered.
 #[derive(Drop)]
-pub(crate) struct Answered {
+pub(crate) struct Exchanged {
     pub(crate) posted: Posted,
     pub(crate) status: StatusCode,
     /// What the reply says of the peer.
@@ -151,7 +151,7 @@ fn answered<R>(
     runtime: &mut LocalRuntime,
     connection: Connection,
     request: Request<Full<Bytes>>,
-) -> Result<Answered, WireError>
+) -> Result<Exchanged, WireError>
 where
     R: Wait + Clock + Net + RandomSource + AllocGlobal,
     ensures to { IfOk result (λ answered. answered.posted.peer ≡ connection.peer) }
@@ -178,7 +178,7 @@ where
         return Err(WireError::Failed);
     };
     let status = reply.status();
-    Ok(Answered {
+    Ok(Exchanged {
         posted,
         status,
         says: said_in(rt, runtime, reply, deadline),
@@ -227,7 +227,7 @@ pub(crate) fn post<R>(
     runtime: &mut LocalRuntime,
     connection: Connection,
     message: &[u8],
-) -> Result<Answered, WireError>
+) -> Result<Exchanged, WireError>
 where
     R: Wait + Clock + Net + RandomSource + AllocGlobal,
     ensures to { IfOk result (λ answered. answered.posted.peer ≡ connection.peer) }

@@ -11,7 +11,7 @@ ghost use Rattle.http_wire.specs.Reached.{is_ready_for};
 ghost use Rattle.http_wire.specs.Sent.{IsSentTo, traffic_of};
 
 use crate::forgetting::{Forgetful, Forgetting};
-use crate::posting::{Answered, Connection, Posted, connect, failed, post, taken_in};
+use crate::posting::{Connection, Posted, connect, failed, post, taken_in};
 use gossip::{Log, Reach, Wire, WireError};
 use std::alloc::{AllocGlobal, Global};
 use std::mem;
@@ -58,7 +58,7 @@ impl<R> HttpWire<R> {
 
     // Keeps what the answer of a node says of it, unless that is kept already.
     fn hear(&mut self, node: u8, says: Option<Forgetting>)
-        ensures { self.new ≡ record self.old { forgetful = self.new.forgetful } }
+        ensures stays { (self.new.peers ≡ self.old.peers) × (self.new.sent ≡ self.old.sent) }
         ensures heard { HasHeardOf node self.old.forgetful.items self.new.forgetful.items }
     {
         let Some(fault) = says else {
@@ -72,7 +72,7 @@ impl<R> HttpWire<R> {
 
     /// Which nodes have answered since the last time that they have forgotten what they did.
     pub fn take_forgetful(&mut self, alloc: Global) -> Vec<Forgetful>
-        ensures { result ≡ self.old.forgetful }
+        ensures value { result ≡ self.old.forgetful }
         ensures taken { self.new.forgetful.items ≡ [] }
         ensures stays { (self.new.peers ≡ self.old.peers) × (self.new.sent ≡ self.old.sent)
             × (self.new.ready ≡ self.old.ready) }
@@ -149,14 +149,10 @@ impl<R: Wait + Clock + Net + RandomSource + AllocGlobal + Drop> Wire for HttpWir
         };
         let peer = Peer { node: to, port };
         let connection = self.connection_to(peer)?;
-        let Answered {
-            posted,
-            status,
-            says,
-        } = post(&self.rt, alloc, &mut self.runtime, connection, message)?;
-        self.hear(to, says);
-        taken_in(status)?;
-        self.sent.add(&posted);
+        let told = post(&self.rt, alloc, &mut self.runtime, connection, message)?;
+        self.hear(to, told.says);
+        taken_in(told.status)?;
+        self.sent.add(&told.posted);
         Ok(())
     }
 
