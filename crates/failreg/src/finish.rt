@@ -1,6 +1,6 @@
 //! How the program ends: what it says last, and its exit status.
 
-ghost use Rattle.std.specs.Prelude.{◌≡◌, ◌↔◌, ◌⊎◌, true, false, IfOk, IfErr, IsOk, IsErr, Ok};
+ghost use Rattle.std.specs.Prelude.{◌≡◌, ◌↔◌, ◌⊎◌, true, false, IfOk, IfErr, IfSome, IsOk, IsErr, Ok, None};
 ghost use Rattle.std.specs.Process.{exit_status};
 ghost use Rattle.clap.specs.Values.{kind_of};
 ghost use Rattle.failreg.specs.Statuses.{HasStatus, early_status, unread_status};
@@ -106,22 +106,33 @@ pub fn finish_serve<R: Print + Eprint>(
 ) -> anyhow::Result<ExitCode>
     ensures done { IfOk served (λ s. HasStatus result (early_status s.early)) }
     ensures refused { IfErr served (λ _. HasStatus result 1) }
+    ensures status { IfOk result (λ code.
+        (exit_status code ≡ 0) ⊎ (exit_status code ≡ 1) ⊎ (exit_status code ≡ 4)) }
 {
     let NodeServed { clients, early } = match served {
         Ok(served) => served,
         Err(ServiceFault::Output(error)) => return Err(error.into()),
         Err(fault) => return refuse(rt, fault, advice),
     };
-    let fault = match early {
-        None | Some(Reason::Asked) => {
-            println!(rt; "served {clients}")?;
-            return Ok(ExitCode::SUCCESS);
-        }
-        Some(Reason::OwnAhead) => NodeFault::OwnAhead,
-        Some(Reason::AckAhead) => NodeFault::AckAhead,
-    };
-    say_forgotten(rt, node, fault)?;
-    Ok(ExitCode::from(4))
+    if let Some(fault) = forgotten(early) {
+        say_forgotten(rt, node, fault)?;
+        return Ok(ExitCode::from(4));
+    }
+    println!(rt; "served {clients}")?;
+    Ok(ExitCode::SUCCESS)
+}
+
+// The fault that showed that a node has forgotten what it did, where its service ended by that.
+fn forgotten(early: Option<Reason>) -> Option<NodeFault>
+    ensures none { result ≡ None → early_status early ≡ 0 }
+    ensures some { IfSome result (λ _. early_status early ≡ 4) }
+{
+    match early {
+        None => None,
+        Some(Reason::Asked) => None,
+        Some(Reason::OwnAhead) => Some(NodeFault::OwnAhead),
+        Some(Reason::AckAhead) => Some(NodeFault::AckAhead),
+    }
 }
 
 // Says that a node has forgotten what it did, and what to do.

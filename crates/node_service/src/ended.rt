@@ -19,21 +19,19 @@ pub struct NodeServed {
 
 impl NodeServed {
     /// Of a service that ended so.
-    pub(crate) fn of(ending: &Arc<Ending>, served: Served<'_>) -> NodeServed
+    pub(crate) fn of<'a>(ending: &'a Arc<Ending>, served: Served<'a>) -> NodeServed
         requires { IfSome served.early (λ token. token.of ≡ (arc_value ending.now).reason.id) }
         ensures { (wanted : ℕ) → IsServedTo wanted (arc_value ending.now).reason.id served.entry
             → IsNodeServed wanted result }
     {
-        let Served { clients, early } = served;
-        match early {
-            Some(ended) => NodeServed {
-                clients,
-                early: Some(ending.reason(&ended)),
-            },
-            None => NodeServed {
-                clients,
-                early: None,
-            },
+        let ending: &'a Ending = ending;
+        let early = match &served.early {
+            Some(ended) => Some(ending.reason(ended)),
+            None => None,
+        };
+        NodeServed {
+            clients: served.clients,
+            early,
         }
     }
 }
