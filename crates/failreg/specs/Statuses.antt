@@ -1,7 +1,9 @@
 -- Exit statuses.
-use Rattle.std.specs.Prelude.{◌≡◌, ◌⊎◌, ℕ, List, [], Result, IfOk}
+use Rattle.std.specs.Prelude.{◌≡◌, ◌⊎◌, ℕ, List, [], Option, Some, None, Result, IfOk}
 use Rattle.std.specs.declared.process.ExitCode.{ExitCode}
 use Rattle.std.specs.Process.{exit_status}
+use Rattle.http_serve.specs.declared.ending.Reason.{Reason}
+use Rattle.http_serve.specs.declared.ending.Reason.TheVariants.{Asked, OwnAhead, AckAhead}
 use Rattle.clap.specs.declared.error.kind.ErrorKind.{ErrorKind}
 use Rattle.clap.specs.declared.error.kind.ErrorKind.TheVariants.{DisplayHelp, DisplayVersion}
 
@@ -22,3 +24,11 @@ abbrev pub unread_status : ErrorKind → ℕ
 unread_status DisplayHelp = 0
 unread_status DisplayVersion = 0
 unread_status _ = 2
+
+-- of a node that was served: 0 where as many clients came as were wanted, or one ended the service, and 4 where it was
+-- ended since the node has forgotten what it did
+abbrev pub early_status : Option Reason → ℕ
+early_status None = 0
+early_status (Some Asked) = 0
+early_status (Some OwnAhead) = 4
+early_status (Some AckAhead) = 4

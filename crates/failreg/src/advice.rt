@@ -6,7 +6,7 @@ use command_line::quoted;
 use drills::{DrillFault, JoinFault};
 use http_serve::ServeFault;
 use node_core::NodeFault;
-use node_service::ServiceFault;
+use node_service::{NodeServed, ServiceFault};
 use std::alloc::{AllocError, Global};
 use std::fs;
 use std::fs::Files;
@@ -76,7 +76,7 @@ pub fn advice_on_service(
     node: u8,
     nodes: u8,
     port: u16,
-    served: &Result<u32, ServiceFault>,
+    served: &Result<NodeServed, ServiceFault>,
 ) -> String {
     let advice = match served {
         Err(ServiceFault::Node(NodeFault::BadConfig)) => {

@@ -1,13 +1,14 @@
 //! How the program ends: what it says last, and its exit status.
 
-ghost use Rattle.std.specs.Prelude.{◌≡◌, ◌↔◌, ◌⊎◌, true, false, IfOk, IsOk, IsErr, Ok};
+ghost use Rattle.std.specs.Prelude.{◌≡◌, ◌↔◌, ◌⊎◌, true, false, IfOk, IfErr, IfSome, IsOk, IsErr, Ok, None};
 ghost use Rattle.std.specs.Process.{exit_status};
 ghost use Rattle.clap.specs.Values.{kind_of};
-ghost use Rattle.failreg.specs.Statuses.{HasStatus, unread_status};
+ghost use Rattle.failreg.specs.Statuses.{HasStatus, early_status, unread_status};
 
 use crate::audit_refused::AuditRefused;
 use actions::{ActionFault, Actions};
-use node_service::ServiceFault;
+use node_core::NodeFault;
+use node_service::{NodeServed, Reason, ServiceFault};
 use scripts::ScriptFault;
 use std::fmt::Display;
 use std::io;
@@ -94,23 +95,53 @@ pub fn finish_audit<R: Eprint>(
     }
 }
 
-/// After a node was served: prints how many clients were, or why no more are. That it can't be said
-/// where it listens is the program's own error.
+/// After a node was served: prints how many clients were, or why no more are. Where others know more of
+/// the node than it does, it says so, and what to do, and ends with 4. That it can't be said where it
+/// listens is the program's own error.
 pub fn finish_serve<R: Print + Eprint>(
     rt: &R,
-    served: Result<u32, ServiceFault>,
+    node: u8,
+    served: Result<NodeServed, ServiceFault>,
     advice: &str,
 ) -> anyhow::Result<ExitCode>
-    ensures done { IfOk result (λ code. exit_status code ≡ 0 ↔ IsOk served) }
-    ensures refused { IfOk result (λ code. exit_status code ≡ 1 ↔ IsErr served) }
+    ensures done { IfOk served (λ s. HasStatus result (early_status s.early)) }
+    ensures refused { IfErr served (λ _. HasStatus result 1) }
+    ensures status { IfOk result (λ code.
+        (exit_status code ≡ 0) ⊎ (exit_status code ≡ 1) ⊎ (exit_status code ≡ 4)) }
 {
-    let served = match served {
+    let NodeServed { clients, early } = match served {
         Ok(served) => served,
         Err(ServiceFault::Output(error)) => return Err(error.into()),
         Err(fault) => return refuse(rt, fault, advice),
     };
-    println!(rt; "served {served}")?;
+    if let Some(fault) = forgotten(early) {
+        say_forgotten(rt, node, fault)?;
+        return Ok(ExitCode::from(4));
+    }
+    println!(rt; "served {clients}")?;
     Ok(ExitCode::SUCCESS)
+}
+
+// The fault that showed that a node has forgotten what it did, where its service ended by that.
+fn forgotten(early: Option<Reason>) -> Option<NodeFault>
+    ensures none { result ≡ None → early_status early ≡ 0 }
+    ensures some { IfSome result (λ _. early_status early ≡ 4) }
+{
+    match early {
+        None => None,
+        Some(Reason::Asked) => None,
+        Some(Reason::OwnAhead) => Some(NodeFault::OwnAhead),
+        Some(Reason::AckAhead) => Some(NodeFault::AckAhead),
+    }
+}
+
+// Says that a node has forgotten what it did, and what to do.
+fn say_forgotten<R: Eprint>(rt: &R, node: u8, fault: NodeFault) -> io::Result<()> {
+    eprintln!(rt;
+        "failreg: others know more of node {node} than it does ({fault}): it was started again and has \
+         forgotten what it did; it is served no more: start it from its part, or under a number that was \
+         never used"
+    )
 }
 
 /// Where the words of the command line can't be read: one isn't UTF-8, which is a mistake in it, or

@@ -219,7 +219,8 @@ where
         + Drop
         + Print
         + Eprint,
-    ensures status { IfOk result (λ code. (exit_status code ≡ 0) ⊎ (exit_status code ≡ 1)) }
+    ensures status { IfOk result (λ code.
+        (exit_status code ≡ 0) ⊎ (exit_status code ≡ 1) ⊎ (exit_status code ≡ 4)) }
     ensures bad { IsTrue (is_bad_config (record {
       node = options.entry.node;
       nodes = options.entry.nodes;
@@ -233,12 +234,12 @@ where
     let Some(part) = part else {
         let served = serve_node(rt, options);
         let advice = advice_on_service(rt.alloc(), node, nodes, port, &served);
-        return finish_serve(rt, served, &advice);
+        return finish_serve(rt, node, served, &advice);
     };
     let served = serve_recorded(rt, options, part);
     let advice = match &served {
         Err(ServiceFault::Part(fault)) => advice_on_recorded(rt.alloc(), part.path, fault),
         _ => advice_on_service(rt.alloc(), node, nodes, port, &served),
     };
-    finish_serve(rt, served, &advice)
+    finish_serve(rt, node, served, &advice)
 }

@@ -13,23 +13,34 @@ use Rattle.node_registry.proofs.guarded.Seat.TheSendSync as seat
 use Rattle.http_paths.proofs.Crossing.{routes_send, routes_sync}
 use Rattle.http_serve.specs.contracts.handler.ForgettingHandler as ForgettingHandler
 use Rattle.http_serve.specs.contracts.handler.NodeHandler as NodeHandler
+use Rattle.http_serve.specs.contracts.handler.NodeReader as NodeReader
 use Rattle.http_serve.specs.contracts.handler.recording.RecordingHandler as RecordingHandler
 use Rattle.part_keeper.specs.contracts.recorder.Recorder as Recorder
 use Rattle.part_keeper.proofs.recorder.Recorder.TheSendSync as recorder
 
+reader_fields_send : (L : RattleType) (g : label.Ghosts L.Denot) (g' : ledger.Ghosts L.Denot) →
+    IsSend (NodeReader.the_field L g g').row
+reader_fields_send L g g' =
+    let shared = Arc-send (Registry.the_row L g g') (registry.the_send L g g') (registry.the_sync L g g') in
+    struct_send (shape (NodeReader.the_type L g g')) (routes_send, (shared, tt))
+
+reader_fields_sync : (L : RattleType) (g : label.Ghosts L.Denot) (g' : ledger.Ghosts L.Denot) →
+    IsSync (NodeReader.the_field L g g').row
+reader_fields_sync L g g' =
+    let shared = Arc-sync (Registry.the_row L g g') (registry.the_send L g g') (registry.the_sync L g g') in
+    struct_sync (shape (NodeReader.the_type L g g')) (routes_sync, (shared, tt))
+
 handler_fields_send : (L : RattleType) (g : label.Ghosts L.Denot) (g' : ledger.Ghosts L.Denot) →
     IsSend (NodeHandler.the_field L g g').row
 handler_fields_send L g g' =
-    let shared = Arc-send (Registry.the_row L g g') (registry.the_send L g g') (registry.the_sync L g g') in
     let behind = mutex.the_send (Seat.the_row L g g') (seat.the_send L g g') in
-    struct_send (shape (NodeHandler.the_type L g g')) (routes_send, (shared, (behind, tt)))
+    struct_send (shape (NodeHandler.the_type L g g')) (reader_fields_send L g g', (behind, tt))
 
 handler_fields_sync : (L : RattleType) (g : label.Ghosts L.Denot) (g' : ledger.Ghosts L.Denot) →
     IsSync (NodeHandler.the_field L g g').row
 handler_fields_sync L g g' =
-    let shared = Arc-sync (Registry.the_row L g g') (registry.the_send L g g') (registry.the_sync L g g') in
     let behind = mutex.the_sync (Seat.the_row L g g') (seat.the_send L g g') in
-    struct_sync (shape (NodeHandler.the_type L g g')) (routes_sync, (shared, (behind, tt)))
+    struct_sync (shape (NodeHandler.the_type L g g')) (reader_fields_sync L g g', (behind, tt))
 
 pub handler_send : (L : RattleType) (g : label.Ghosts L.Denot) (g' : ledger.Ghosts L.Denot) →
     IsSend (NodeHandler.the_row L g g')
@@ -59,13 +70,13 @@ recording_fields_send : (L : RattleType) (g : label.Ghosts L.Denot) (g' : ledger
     IsSend (RecordingHandler.the_field L g g').row
 recording_fields_send L g g' =
     let shared = Arc-send (Recorder.the_row L g g') (recorder.the_send L g g') (recorder.the_sync L g g') in
-    struct_send (shape (RecordingHandler.the_type L g g')) (handler_fields_send L g g', (shared, tt))
+    struct_send (shape (RecordingHandler.the_type L g g')) (reader_fields_send L g g', (shared, tt))
 
 recording_fields_sync : (L : RattleType) (g : label.Ghosts L.Denot) (g' : ledger.Ghosts L.Denot) →
     IsSync (RecordingHandler.the_field L g g').row
 recording_fields_sync L g g' =
     let shared = Arc-sync (Recorder.the_row L g g') (recorder.the_send L g g') (recorder.the_sync L g g') in
-    struct_sync (shape (RecordingHandler.the_type L g g')) (handler_fields_sync L g g', (shared, tt))
+    struct_sync (shape (RecordingHandler.the_type L g g')) (reader_fields_sync L g g', (shared, tt))
 
 pub recording_send : (L : RattleType) (g : label.Ghosts L.Denot) (g' : ledger.Ghosts L.Denot) →
     IsSend (RecordingHandler.the_row L g g')

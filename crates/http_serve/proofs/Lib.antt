@@ -1,5 +1,6 @@
 mod Calls
 mod Crossing
+mod Endings
 mod Exchanges
 mod Methods
 mod Ports

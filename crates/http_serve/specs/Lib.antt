@@ -1,4 +1,5 @@
 pub mod Clients
+pub mod Endings
 pub mod Exchanges
 pub mod FaultText
 pub mod Heads

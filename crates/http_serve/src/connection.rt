@@ -6,7 +6,7 @@ ghost use Rattle.tokio.specs.Locks.{CanAcquire};
 ghost use Rattle.http_serve.specs.Clients.{AreLetIn, IsGone, LetsIn};
 
 use crate::fault::ServeFault;
-use crate::permits::Permits;
+use crate::permits::{AllBack, Permits};
 use futures::executor::TaskSet;
 use futures::task::{Context, Poll};
 use futures::{Future, Stream, ready};
@@ -32,6 +32,11 @@ pub trait ConnectionFactory: Drop {
     /// How long to wait where no connection could be accepted. `None` where there is no memory, or
     /// the clock can't be read.
     fn rest(&self) -> Option<Sleep>;
+
+    /// Waits for those that are still served once no more are let in, as long as they have then. `None`
+    /// where there is no memory, or the clock can't be read.
+    fn last(&self, back: AllBack) -> Option<Timeout<AllBack>>
+        ensures { IfSome result (λ timed. timeout_future timed ≡ back) };
 }
 
 /// A connection under way, which has so long to end, whatever it ends with.
@@ -109,6 +114,31 @@ pub struct Accepting<'a, F: ConnectionFactory> {
     pub rest: Option<Sleep>,
     pub wanted: u32,
     pub clients: Clients,
+}
+
+impl<'a, F: ConnectionFactory> Accepting<'a, F> {
+    /// Where none was accepted yet.
+    pub fn new(
+        tasks: &'a TaskSet<F::Task>,
+        listener: TcpListener,
+        factory: F,
+        permits: Permits,
+        wanted: u32,
+    ) -> Accepting<'a, F>
+        ensures { (result.permits ≡ permits) × (result.wanted ≡ wanted)
+            × (result.clients.let_in ≡ 0) }
+    {
+        Accepting {
+            tasks,
+            listener,
+            factory,
+            permits,
+            permit: None,
+            rest: None,
+            wanted,
+            clients: Clients::none(),
+        }
+    }
 }
 
 // Whether only the connection is gone that was to be accepted. The next one can be.

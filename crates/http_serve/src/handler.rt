@@ -10,9 +10,11 @@ ghost use Rattle.http_paths.specs.Paths.{target_of};
 ghost use Rattle.http_serve.specs.Labels.{labels_of};
 ghost use Rattle.http_serve.specs.Served.{IsServed, IsServedFrom};
 
+mod ending;
 mod recording;
 
 use crate::labels::Labels;
+pub(crate) use ending::EndingHandler;
 use http_paths::Routes;
 use http_routes::{HttpReply, ReplyRoom, Wanted, node_status, route_owned, too_long};
 use node_core::Ask;
@@ -53,11 +55,67 @@ pub trait Handler: Drop {
         ensures { result ≡ Self.labelled path.now status };
 }
 
-/// A node with the seat from which requests call it, and the routes of their paths.
+/// What reads a node for its clients, with the routes of their paths. Without a seat it makes no call.
 #[derive(Drop)]
-pub struct NodeHandler<L: Label> {
+pub struct NodeReader<L: Label> {
     routes: Routes,
     registry: Arc<Registry<L>>,
+}
+
+impl<L: Label> NodeReader<L> {
+    // The only error is out of memory.
+    fn new(alloc: Global, registry: &Arc<Registry<L>>) -> Result<NodeReader<L>, AllocError> {
+        Ok(NodeReader {
+            routes: Routes::new(alloc)?,
+            registry: Arc::try_clone(registry)?,
+        })
+    }
+
+    fn list<R: Wait>(&self, rt: &R, alloc: Global) -> HttpReply
+        ensures { IsServed L.config L.seed requests.list (http_value result) }
+    {
+        let list = self.registry.with(rt, |core| core.list(alloc));
+        HttpReply::written(alloc, 200, list)
+    }
+
+    fn report<R: Wait>(&self, rt: &R, alloc: Global) -> HttpReply
+        ensures { IsServed L.config L.seed requests.report (http_value result) }
+    {
+        let report = self.registry.with(
+            rt,
+            |core| report_json(alloc, core.state(), core.config().nodes),
+        );
+        HttpReply::written(alloc, 200, report)
+    }
+
+    fn status<R: Wait>(&self, rt: &R, alloc: Global) -> HttpReply
+        ensures { IsServed L.config L.seed requests.status (http_value result) }
+    {
+        let status = self.registry.with(rt, |core| node_status(alloc, core));
+        HttpReply::written(alloc, 200, status)
+    }
+
+    // The reply to a request whose body is longer than the longest, however it goes on.
+    fn answer_too_long(&self, alloc: Global, method: &str, path: &str) -> HttpReply
+        ensures { (body : List ℕ) → max_message < length body
+            → IsWanted (wanted method.now path.now body)
+            (requests.answered (http_value result)) }
+    {
+        too_long(alloc, &self.routes, method, path)
+    }
+
+    // What a reply with this status to a request of this path is labelled as.
+    fn labels(&self, path: &str, status: u16) -> Labels
+        ensures { result ≡ labels_of (target_of path.now) status }
+    {
+        Labels::of(&self.routes.target(path), status)
+    }
+}
+
+/// A node with the seat from which requests call it.
+#[derive(Drop)]
+pub struct NodeHandler<L: Label> {
+    reader: NodeReader<L>,
     seat: Mutex<Seat<L>>,
 }
 
@@ -69,8 +127,7 @@ impl<L: Label> NodeHandler<L> {
         seat: Seat<L>,
     ) -> Result<Arc<NodeHandler<L>>, AllocError> {
         let handler = NodeHandler {
-            routes: Routes::new(alloc)?,
-            registry: Arc::try_clone(registry)?,
+            reader: NodeReader::new(alloc, registry)?,
             seat: Mutex::new(seat),
         };
         Ok(Arc::new(alloc, handler)?)
@@ -107,11 +164,11 @@ impl<L: Label> NodeHandler<L> {
         ensures { IsServedFrom L.config L.seed seat.old seat.new
             (wanted method.now path.now body.items) (http_value result) }
     {
-        match route_owned(alloc, &self.routes, method, path, body) {
+        match route_owned(alloc, &self.reader.routes, method, path, body) {
             Wanted::Do(ask) => self.call(rt, alloc, seat, ask),
-            Wanted::List => self.list(rt, alloc),
-            Wanted::Report => self.report(rt, alloc),
-            Wanted::Status => self.status(rt, alloc),
+            Wanted::List => self.reader.list(rt, alloc),
+            Wanted::Report => self.reader.report(rt, alloc),
+            Wanted::Status => self.reader.status(rt, alloc),
             Wanted::Answered(reply) => reply,
         }
     }
@@ -123,41 +180,8 @@ impl<L: Label> NodeHandler<L> {
         let Ok(room) = ReplyRoom::new(alloc) else {
             return HttpReply::no_memory(alloc);
         };
-        let outcome = self.registry.submit(rt, alloc, seat, ask);
+        let outcome = self.reader.registry.submit(rt, alloc, seat, ask);
         room.reply(&outcome)
-    }
-
-    fn list<R: Wait>(&self, rt: &R, alloc: Global) -> HttpReply
-        ensures { IsServed L.config L.seed requests.list (http_value result) }
-    {
-        let list = self.registry.with(rt, |core| core.list(alloc));
-        HttpReply::written(alloc, 200, list)
-    }
-
-    fn report<R: Wait>(&self, rt: &R, alloc: Global) -> HttpReply
-        ensures { IsServed L.config L.seed requests.report (http_value result) }
-    {
-        let report = self.registry.with(
-            rt,
-            |core| report_json(alloc, core.state(), core.config().nodes),
-        );
-        HttpReply::written(alloc, 200, report)
-    }
-
-    fn status<R: Wait>(&self, rt: &R, alloc: Global) -> HttpReply
-        ensures { IsServed L.config L.seed requests.status (http_value result) }
-    {
-        let status = self.registry.with(rt, |core| node_status(alloc, core));
-        HttpReply::written(alloc, 200, status)
-    }
-
-    /// The reply to a request whose body is longer than the longest, however it goes on.
-    pub fn answer_too_long(&self, alloc: Global, method: &str, path: &str) -> HttpReply
-        ensures { (body : List ℕ) → max_message < length body
-            → IsWanted (wanted method.now path.now body)
-            (requests.answered (http_value result)) }
-    {
-        too_long(alloc, &self.routes, method, path)
     }
 }
 
@@ -176,13 +200,13 @@ impl<L: Label> Handler for NodeHandler<L> {
     }
 
     fn reply_too_long(&self, alloc: Global, method: &str, path: &str) -> HttpReply {
-        self.answer_too_long(alloc, method, path)
+        self.reader.answer_too_long(alloc, method, path)
     }
 
     ghost labelled = { λ path status. labels_of (target_of path) status };
 
     fn labels(&self, path: &str, status: u16) -> Labels {
-        Labels::of(&self.routes.target(path), status)
+        self.reader.labels(path, status)
     }
 }
 
@@ -204,8 +228,7 @@ impl<L: Label> ForgettingHandler<L> {
         requires { L.keeps ≡ false }
     {
         let handler = NodeHandler {
-            routes: Routes::new(alloc)?,
-            registry: Arc::try_clone(registry)?,
+            reader: NodeReader::new(alloc, registry)?,
             seat: Mutex::new(seat),
         };
         Ok(Arc::new(alloc, ForgettingHandler { handler })?)
@@ -223,22 +246,22 @@ impl<L: Label> Handler for ForgettingHandler<L> {
         path: &str,
         body: Vec<u8>,
     ) -> HttpReply {
-        let NodeHandler { registry, seat, .. } = &self.handler;
+        let NodeHandler { reader, seat } = &self.handler;
         let mut seat = seat.lock(rt);
         let reply = self
             .handler
             .answer_from(rt, alloc, &mut seat, method, path, body);
-        drop(registry.give(rt, alloc, &mut seat));
+        drop(reader.registry.give(rt, alloc, &mut seat));
         reply
     }
 
     fn reply_too_long(&self, alloc: Global, method: &str, path: &str) -> HttpReply {
-        self.handler.answer_too_long(alloc, method, path)
+        self.handler.reader.answer_too_long(alloc, method, path)
     }
 
     ghost labelled = { λ path status. labels_of (target_of path) status };
 
     fn labels(&self, path: &str, status: u16) -> Labels {
-        self.handler.labels(path, status)
+        self.handler.reader.labels(path, status)
     }
 }

@@ -9,9 +9,14 @@
 //!
 //! No page of a browser is let in: a request whose `Host` is no name of this machine, or whose
 //! `Origin` isn't the address at which the node is served, is 403, and nothing is asked of the node.
+//!
+//! A service that has an `Ending` is ended by `POST /stop`, by whoever else has that ending, and by a
+//! message that shows that the node has forgotten what it did: then no client is let in any more, and
+//! those that are being served have two seconds.
 #![tactic(auto)]
 
 mod connection;
+mod ending;
 mod exchange;
 mod fault;
 mod handler;
@@ -20,6 +25,8 @@ mod labels;
 pub mod laws;
 mod permits;
 mod serving;
+mod until_ended;
 
+pub use ending::{Ending, Reason, Served};
 pub use fault::ServeFault;
 pub use serving::{serve, serve_forgetting, serve_recording};

@@ -5,7 +5,7 @@ ghost use Rattle.std.specs.Arc.{arc_value};
 ghost use Rattle.tokio.specs.Locks.{CanAcquire};
 
 use futures::task::{Context, Poll};
-use futures::{Future, Stream};
+use futures::{Future, Stream, ready};
 use std::alloc::{AllocError, Global};
 use std::sync::Arc;
 use tokio::sync::{AcquireOwned, OwnedSemaphorePermit, Semaphore};
@@ -46,6 +46,33 @@ impl Permits {
             count: self.count,
             waiting: None,
         })
+    }
+
+    /// Waits until each of them is back. `None` where there is no memory.
+    pub fn all_back(&self) -> Option<AllBack>
+        ensures { IfSome result (λ all. CanAcquire all.waiting) }
+    {
+        let free = Arc::try_clone(&self.free).ok()?;
+        Some(AllBack {
+            waiting: Semaphore::acquire_many_owned(free, self.count),
+        })
+    }
+}
+
+/// Ends once each permit is back, or where there is no memory to wait.
+#[derive(Drop)]
+pub struct AllBack {
+    waiting: AcquireOwned,
+}
+
+impl Future for AllBack {
+    type Output = ();
+
+    ghost can_poll = { λ all. CanAcquire all.waiting };
+
+    fn poll(&mut self, cx: &mut Context<'_>) -> Poll<()> {
+        let _ = ready!(self.waiting.poll(cx));
+        Poll::Ready(())
     }
 }
 

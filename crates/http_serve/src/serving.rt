@@ -1,20 +1,24 @@
 //! Many connections at once.
 
-ghost use Rattle.std.specs.Prelude.{◌≡◌, ◌⊎◌, ◌*◌, IfOk, IfErr, IfSome, IsFalse, IsSomeAnd, false};
+ghost use Rattle.std.specs.Prelude.{◌≡◌, ◌⊎◌, ◌*◌, ℕ, IfOk, IfErr, IfSome, IsFalse, IsSomeAnd, None, Ok, false};
 ghost use Rattle.std.specs.Arc.{arc_value};
 ghost use Rattle.std.specs.Duration.{as_nanos};
 ghost use Rattle.http_serve.specs.declared.fault.ServeFault.TheVariants.{AcceptFailed, OutOfMemory};
 ghost use Rattle.http_serve.specs.Clients.{AreLetIn};
+ghost use Rattle.http_serve.specs.Endings.{AreLetInOrEnded, IsServedTo};
 ghost use Rattle.tokio.specs.Locks.{CanAcquire};
-ghost use Rattle.tokio.specs.Timers.{IsDelayedBy, sleep_deadline, timeout_delay};
+ghost use Rattle.tokio.specs.Timers.{IsDelayedBy, sleep_deadline, timeout_delay, timeout_future};
 
 use crate::connection::{Accepting, Clients, ConnectionFactory, ConnectionTask};
+use crate::ending::{Ending, Served};
 use crate::exchange::ConnectionService;
 use crate::fault::ServeFault;
-use crate::handler::{ForgettingHandler, Handler, NodeHandler, RecordingHandler};
-use crate::permits::Permits;
+use crate::handler::{EndingHandler, ForgettingHandler, Handler, NodeHandler, RecordingHandler};
+use crate::permits::{AllBack, Permits};
+use crate::until_ended::{LetIn, UntilEnded};
 use bytes::Bytes;
 use futures::Future;
+use futures::executor::TaskSet;
 use futures::task::{Context, Poll};
 use http_body_util::Full;
 use hyper::rt::TokioTimer;
@@ -31,7 +35,7 @@ use std::time::{Clock, Duration};
 use tokio::net::{TcpListener, TcpStream};
 use tokio::runtime::Runtime;
 use tokio::sync::OwnedSemaphorePermit;
-use tokio::time::{Handle, Sleep};
+use tokio::time::{Handle, Sleep, Timeout};
 
 /// How long the head of a request may take.
 const HEAD_SECONDS: u64 = 2;
@@ -41,6 +45,9 @@ const WHOLE_SECONDS: u64 = 10;
 
 /// How long nothing is accepted where no connection could be, as for want of descriptors.
 const REST_MILLISECONDS: u64 = 100;
+
+/// How long clients that are being served have once their service is ended.
+const LAST_SECONDS: u64 = 2;
 
 /// How many connections are served at once. Each has a descriptor, of which a process mostly may
 /// have 1024 or more.
@@ -53,20 +60,20 @@ const READ_AT_ONCE: usize = 65_536;
 const LONG_AT_ONCE: u32 = 4;
 
 // What hyper makes of a socket and of the service of its requests.
-type Served<H, R> = Connection<TcpStream, ConnectionService<H, R>, Full<Bytes>, TokioTimer<R>>;
+type HttpServed<H, R> = Connection<TcpStream, ConnectionService<H, R>, Full<Bytes>, TokioTimer<R>>;
 
 /// A connection over HTTP. Who runs it needn't know of what it is made.
 #[derive(Drop)]
 struct HttpConnection<H: Handler, R: Wait + Clock + Copy> {
-    served: Served<H, R>,
+    served: HttpServed<H, R>,
 }
 
 impl<H: Handler, R: Wait + Clock + Copy> Future for HttpConnection<H, R> {
     type Output = hyper::Result<()>;
 
-    ghost can_poll = { λ c. ⟦<Served<H, R> as Future>⟧.can_poll c.served };
+    ghost can_poll = { λ c. ⟦<HttpServed<H, R> as Future>⟧.can_poll c.served };
 
-    ghost gives = { λ c. ⟦<Served<H, R> as Future>⟧.gives c.served };
+    ghost gives = { λ c. ⟦<HttpServed<H, R> as Future>⟧.gives c.served };
 
     fn poll(&mut self, cx: &mut Context<'_>) -> Poll<hyper::Result<()>> {
         self.served.poll(cx)
@@ -142,6 +149,16 @@ where
         let rest = Duration::from_millis(REST_MILLISECONDS);
         self.timers.sleep(&self.rt, rest).ok()
     }
+
+    fn last(&self, back: AllBack) -> Option<Timeout<AllBack>>
+        ensures waited { IfSome result (λ timed. timeout_future timed ≡ back) }
+        ensures last { IfSome result (λ timed. (last : _)
+            × (as_nanos last ≡ LAST_SECONDS * 1_000_000_000)
+            × IsDelayedBy last (sleep_deadline (timeout_delay timed))) }
+    {
+        let last = Duration::from_secs(LAST_SECONDS);
+        self.timers.timeout(&self.rt, last, back).ok()
+    }
 }
 
 /// Serves so many connections beside each other, with one request each, and answers how many, once
@@ -167,8 +184,9 @@ where
     Ok(clients.count())
 }
 
-/// Serves connections as `serve` does, and has the node forget its calls with each reply.
-pub fn serve_forgetting<L, R>(
+/// Serves connections as `serve` does, until the service is ended, and has the node forget its calls
+/// with each reply.
+pub fn serve_forgetting<'e, L, R>(
     rt: &R,
     alloc: Global,
     runtime: &mut Runtime,
@@ -176,40 +194,108 @@ pub fn serve_forgetting<L, R>(
     seat: Seat<L>,
     listener: TcpListener,
     requests: u32,
-) -> Result<u32, ServeFault>
+    ending: &'e Arc<Ending>,
+) -> Result<Served<'e>, ServeFault>
 where
     L: Label + Send + Sync,
     R: Wait + Threads + Clock + RandomSource + AllocGlobal + Send + Sync + Copy,
     requires { L.keeps ≡ false }
-    ensures ok { IfOk result (λ served. served ≡ requests) }
+    ensures ok { IfOk result (IsServedTo requests (arc_value ending.now).reason.id) }
     ensures err { IfErr result (λ f. (f ≡ AcceptFailed) ⊎ (f ≡ OutOfMemory)) }
 {
     let handler = ForgettingHandler::new(alloc, registry, seat)?;
-    let served = serve_handler(rt, alloc, runtime, handler, listener, requests)?;
-    Ok(served.count())
+    serve_ending(rt, alloc, runtime, handler, listener, requests, ending)
 }
 
-/// Serves connections as `serve` does, and has each call written to the node's part before it is
-/// answered. The seat makes no call.
-pub fn serve_recording<L, R>(
+/// Serves connections as `serve` does, until the service is ended, and has each call written to the
+/// node's part before it is answered.
+pub fn serve_recording<'e, L, R>(
     rt: &R,
     alloc: Global,
     runtime: &mut Runtime,
     registry: &Arc<Registry<L>>,
     recorder: &Arc<Recorder<L>>,
-    seat: Seat<L>,
     listener: TcpListener,
     requests: u32,
-) -> Result<u32, ServeFault>
+    ending: &'e Arc<Ending>,
+) -> Result<Served<'e>, ServeFault>
 where
     L: Label + Send + Sync,
     R: Wait + Threads + Clock + RandomSource + AllocGlobal + Send + Sync + Copy,
-    ensures ok { IfOk result (λ served. served ≡ requests) }
+    ensures ok { IfOk result (IsServedTo requests (arc_value ending.now).reason.id) }
     ensures err { IfErr result (λ f. (f ≡ AcceptFailed) ⊎ (f ≡ OutOfMemory)) }
 {
-    let handler = RecordingHandler::new(alloc, registry, recorder, seat)?;
-    let answered = serve_handler(rt, alloc, runtime, handler, listener, requests)?;
-    Ok(answered.count())
+    let handler = RecordingHandler::new(alloc, registry, recorder)?;
+    serve_ending(rt, alloc, runtime, handler, listener, requests, ending)
+}
+
+// Serves clients whose requests go to a handler, until the service is ended.
+fn serve_ending<'e, H, R>(
+    rt: &R,
+    alloc: Global,
+    runtime: &mut Runtime,
+    handler: Arc<H>,
+    listener: TcpListener,
+    requests: u32,
+    ending: &'e Arc<Ending>,
+) -> Result<Served<'e>, ServeFault>
+where
+    H: Handler + Send + Sync,
+    R: Wait + Threads + Clock + RandomSource + AllocGlobal + Send + Sync + Copy,
+    ensures ok { IfOk result (IsServedTo requests (arc_value ending.now).reason.id) }
+    ensures err { IfErr result (λ f. (f ≡ AcceptFailed) ⊎ (f ≡ OutOfMemory)) }
+{
+    let handler = EndingHandler::new(alloc, handler, ending)?;
+    let (factory, permits) = opened(rt, alloc, runtime, handler, &listener)?;
+    let let_in = admit_until(rt, runtime, listener, factory, permits, requests, ending)?;
+    served_by(ending, let_in)
+}
+
+// How a service ended that let these clients in.
+fn served_by(ending: &Ending, let_in: LetIn) -> Result<Served<'_>, ServeFault>
+    ensures ok { (wanted : ℕ) → AreLetInOrEnded wanted (Ok let_in)
+        → IfOk result (IsServedTo wanted ending.now.reason.id) }
+    ensures err { IfErr result (λ f. f ≡ AcceptFailed) }
+{
+    match let_in {
+        LetIn::All(clients) => Ok(Served {
+            clients: clients.count(),
+            early: None,
+        }),
+        LetIn::Ended(clients) => match ending.ended() {
+            Some(ended) => Ok(Served {
+                clients: clients.count(),
+                early: Some(ended),
+            }),
+            // Nobody has ended it.
+            None => Err(ServeFault::AcceptFailed),
+        },
+    }
+}
+
+// Makes connections whose requests go to a handler that is served by a listener, and the permits of as
+// many as are served at once.
+fn opened<H, R>(
+    rt: &R,
+    alloc: Global,
+    runtime: &Runtime,
+    handler: Arc<H>,
+    listener: &TcpListener,
+) -> Result<(HttpConnections<H, R>, Permits), ServeFault>
+where
+    H: Handler,
+    R: Clock + RandomSource + Copy,
+    ensures none_waits { IfOk result (λ r. r.1.waiting ≡ None) }
+    ensures count { IfOk result (λ r. r.1.count ≡ AT_ONCE) }
+    ensures handler { IfOk result (λ r. arc_value r.0.handler ≡ arc_value handler) }
+    ensures err { IfErr result (λ f. (f ≡ AcceptFailed) ⊎ (f ≡ OutOfMemory)) }
+{
+    let permits = Permits::new(alloc, AT_ONCE)?;
+    let Ok(address) = listener.local_addr() else {
+        return Err(ServeFault::AcceptFailed);
+    };
+    let factory = connections_to(rt, alloc, runtime, handler, address.port())?;
+    Ok((factory, permits))
 }
 
 // Serves clients whose requests go to a handler.
@@ -226,11 +312,7 @@ where
     R: Wait + Threads + Clock + RandomSource + AllocGlobal + Send + Sync + Copy,
     ensures { AreLetIn requests result }
 {
-    let permits = Permits::new(alloc, AT_ONCE)?;
-    let Ok(address) = listener.local_addr() else {
-        return Err(ServeFault::AcceptFailed);
-    };
-    let factory = connections_to(rt, alloc, runtime, handler, address.port())?;
+    let (factory, permits) = opened(rt, alloc, runtime, handler, &listener)?;
     admit(rt, runtime, listener, factory, permits, requests)
 }
 
@@ -273,6 +355,21 @@ where
     })
 }
 
+// A set for the tasks of connections.
+fn task_set<R, T>(rt: &R, runtime: &Runtime) -> Result<TaskSet<T>, ServeFault>
+where
+    R: RandomSource + AllocGlobal,
+    T: Future<Output = ()>,
+    ensures { IfErr result (λ f. (f ≡ AcceptFailed) ⊎ (f ≡ OutOfMemory)) }
+{
+    match runtime.task_set(rt) {
+        Ok(tasks) => Ok(tasks),
+        Err(error) if error.kind() == ErrorKind::OutOfMemory => Err(ServeFault::OutOfMemory),
+        // It takes a descriptor.
+        Err(_) => Err(ServeFault::AcceptFailed),
+    }
+}
+
 /// Accepts so many connections, and returns once the task of each has ended.
 fn admit<R, F>(
     rt: &R,
@@ -288,26 +385,36 @@ where
     requires { IfSome permits.waiting CanAcquire }
     ensures { AreLetIn requests result }
 {
-    let tasks = match runtime.task_set(rt) {
-        Ok(tasks) => tasks,
-        Err(error) if error.kind() == ErrorKind::OutOfMemory => {
-            return Err(ServeFault::OutOfMemory);
-        }
-        // It takes a descriptor.
-        Err(_) => return Err(ServeFault::AcceptFailed),
-    };
-    let accepting = Accepting {
-        tasks: &tasks,
-        listener,
-        factory,
-        permits,
-        permit: None,
-        rest: None,
-        wanted: requests,
-        clients: Clients::none(),
-    };
+    let tasks = task_set(rt, runtime)?;
+    let accepting = Accepting::new(&tasks, listener, factory, permits, requests);
     match runtime.block_on_with(rt, &tasks, accepting) {
         Ok(ended) => ended,
+        Err(_) => Err(ServeFault::AcceptFailed),
+    }
+}
+
+/// Accepts so many connections as `admit` does, until the service is ended. Then the tasks that are
+/// left have as long to end as the factory gives them.
+fn admit_until<R, F>(
+    rt: &R,
+    runtime: &mut Runtime,
+    listener: TcpListener,
+    factory: F,
+    permits: Permits,
+    requests: u32,
+    ending: &Ending,
+) -> Result<LetIn, ServeFault>
+where
+    R: Wait + Threads + Clock + RandomSource + AllocGlobal + Sync,
+    F: ConnectionFactory,
+    requires { IfSome permits.waiting CanAcquire }
+    ensures { AreLetInOrEnded requests result }
+{
+    let tasks = task_set(rt, runtime)?;
+    let accepting = Accepting::new(&tasks, listener, factory, permits, requests);
+    let until_ended = UntilEnded::new(accepting, ending)?;
+    match runtime.block_on_with(rt, &tasks, until_ended) {
+        Ok(let_in) => let_in,
         Err(_) => Err(ServeFault::AcceptFailed),
     }
 }

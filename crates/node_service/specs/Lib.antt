@@ -1,3 +1,4 @@
 pub mod FaultText
 pub mod Caps
+pub mod Endings
 pub mod Rounds

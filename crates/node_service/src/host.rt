@@ -8,7 +8,7 @@ use std::sync::Wait;
 use std::thread::Threads;
 use std::time::Clock;
 
-/// A system on which a node can be served: with threads, sockets and a clock.
+/// A system on which a node can be served: with threads, sockets, a clock and standard error.
 pub trait Host: Wait
     + Threads
     + Clock
@@ -18,7 +18,8 @@ pub trait Host: Wait
     + Send
     + Sync
     + Copy
-    + Drop {}
+    + Drop
+    + Eprint {}
 
 impl<R> Host for R
 where
@@ -31,5 +32,6 @@ where
         + Send
         + Sync
         + Copy
-        + Drop,
+        + Drop
+        + Eprint,
 {}

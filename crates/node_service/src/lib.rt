@@ -1,7 +1,9 @@
 //! A node as a service: it is served over HTTP, and its gossip runs beside it.
 #![tactic(auto)]
 
+mod ended;
 mod fault;
+mod forgetful;
 mod host;
 mod part_file;
 mod recording;
@@ -9,7 +11,9 @@ mod recording_wire;
 mod serving;
 mod telling;
 
+pub use ended::NodeServed;
 pub use fault::ServiceFault;
+pub use http_serve::Reason;
 pub use part_file::OpenFault;
 pub use recording::serve_recorded;
 pub use serving::serve_node;

@@ -5,9 +5,11 @@ ghost use Rattle.std.specs.Prelude.{false, replicate};
 ghost use Rattle.http_serve.specs.declared.fault.ServeFault.TheVariants.{AcceptFailed, OutOfMemory};
 ghost use Rattle.node_core.specs.Refusals.{is_bad_config};
 ghost use Rattle.node_service.specs.Caps.{cap_of};
+ghost use Rattle.node_service.specs.Endings.{IsNodeServed};
 ghost use Rattle.node_service.specs.Rounds.{most_calls};
 ghost use Rattle.node_service.specs.declared.fault.ServiceFault.TheVariants.{Node};
 
+use crate::ended::NodeServed;
 use crate::fault::ServiceFault;
 use crate::host::Host;
 use crate::part_file::open_part;
@@ -15,7 +17,7 @@ use crate::recording_wire::RecordingWire;
 use crate::serving::{config_of, listen, say_where};
 use crate::telling::{Service, first_paces, keep_telling, wire_to};
 use command_line::{GossipOptions, PartOptions, ServeOptions};
-use http_serve::{ServeFault, serve_recording};
+use http_serve::{Ending, ServeFault, serve_recording};
 use node_core::{Ask, Config, NodeFault};
 use node_registry::{Label, Registry, Seat};
 use part_keeper::{CallFault, PartLines, Recorder, Recording};
@@ -39,7 +41,7 @@ pub fn serve_recorded<R>(
     rt: &R,
     options: ServeOptions<'_>,
     part: PartOptions<'_>,
-) -> Result<u32, ServiceFault>
+) -> Result<NodeServed, ServiceFault>
 where
     R: Wait
         + Threads
@@ -52,8 +54,9 @@ where
         + Sync
         + Copy
         + Drop
-        + Print,
-    ensures ok { IfOk result (λ served. served ≡ options.entry.requests) }
+        + Print
+        + Eprint,
+    ensures ok { IfOk result (IsNodeServed options.entry.requests) }
     ensures bad { IsTrue (is_bad_config (record {
       node = options.entry.node;
       nodes = options.entry.nodes;
@@ -61,14 +64,13 @@ where
     })) → IsErrAnd result (λ f. (f ≡ Node NodeFault.OutOfMemory) ⊎ (f ≡ Node NodeFault.BadConfig)) }
 {
     let config = config_of(options.node, options.nodes, options.cap);
-    record_registry::<Brand, R>(rt, Blank::new(3), config, options, part)
+    record_registry::<Brand, R>(rt, Blank::new(2), config, options, part)
 }
 
-// The three seats of a registry: of its recorder, of who answers requests, and of gossip.
+// The two seats of a registry: of its recorder, and of gossip.
 #[derive(Drop)]
 struct Seats<L: Label> {
     recording: Seat<L>,
-    answering: Seat<L>,
     telling: Seat<L>,
 }
 
@@ -80,24 +82,17 @@ fn opened<L: Label, R: Wait>(
     config: Config,
 ) -> Result<(Arc<Registry<L>>, Seats<L>), NodeFault>
     requires name { blank.name ≡ L.name }
-    requires parts { (blank.parts ≡ L.parts) × (L.parts ≡ 3) }
+    requires parts { (blank.parts ≡ L.parts) × (L.parts ≡ 2) }
     requires config { config ≡ L.config }
     requires seed { replicate 32 0 ≡ L.seed }
     ensures good { OnOk result (is_bad_config config ≡ false) }
     ensures err { IfErr result (λ f. (f ≡ NodeFault.OutOfMemory)
         ⊎ ((f ≡ NodeFault.BadConfig) × IsTrue (is_bad_config config))) }
 {
-    let (registry, mut seats) = Registry::<L>::start(rt, alloc, blank, config, [0; 32], 3)?;
+    let (registry, mut seats) = Registry::<L>::start(rt, alloc, blank, config, [0; 32], 2)?;
     let registry = Arc::new(alloc, registry)?;
-    match (seats.pop(), seats.pop(), seats.pop()) {
-        (Some(recording), Some(answering), Some(telling)) => {
-            let seats = Seats {
-                recording,
-                answering,
-                telling,
-            };
-            Ok((registry, seats))
-        }
+    match (seats.pop(), seats.pop()) {
+        (Some(recording), Some(telling)) => Ok((registry, Seats { recording, telling })),
         _ => Err(NodeFault::OutOfMemory),
     }
 }
@@ -109,16 +104,16 @@ fn record_registry<L, R>(
     config: Config,
     options: ServeOptions<'_>,
     part: PartOptions<'_>,
-) -> Result<u32, ServiceFault>
+) -> Result<NodeServed, ServiceFault>
 where
     L: Label + Send + Sync,
     R: Host + Files<File = File> + Print,
     requires name { blank.name ≡ L.name }
-    requires parts { (blank.parts ≡ L.parts) × (L.parts ≡ 3) }
+    requires parts { (blank.parts ≡ L.parts) × (L.parts ≡ 2) }
     requires config { config ≡ L.config }
     requires seed { replicate 32 0 ≡ L.seed }
     requires forgets { L.keeps ≡ false }
-    ensures ok { IfOk result (λ served. served ≡ options.entry.requests) }
+    ensures ok { IfOk result (IsNodeServed options.entry.requests) }
     ensures bad { IsTrue (is_bad_config config)
         → IsErrAnd result (λ f. (f ≡ Node NodeFault.OutOfMemory) ⊎ (f ≡ Node NodeFault.BadConfig)) }
 {
@@ -132,9 +127,9 @@ struct Recorded<'a, L: Label> {
     runtime: &'a mut Runtime,
     registry: &'a Arc<Registry<L>>,
     recorder: &'a Arc<Recorder<L>>,
-    seat: Seat<L>,
     listener: TcpListener,
     requests: u32,
+    ending: &'a Arc<Ending>,
 }
 
 // Has the node go on from its part, and serves it.
@@ -144,16 +139,15 @@ fn record_opened<L, R>(
     seats: Seats<L>,
     options: ServeOptions<'_>,
     part: PartOptions<'_>,
-) -> Result<u32, ServiceFault>
+) -> Result<NodeServed, ServiceFault>
 where
     L: Label + Send + Sync,
     R: Host + Files<File = File> + Print,
     requires { L.keeps ≡ false }
-    ensures { IfOk result (λ served. served ≡ options.entry.requests) }
+    ensures { IfOk result (IsNodeServed options.entry.requests) }
 {
     let Seats {
         mut recording,
-        answering,
         telling,
     } = seats;
     let (file, calls) = open_part(rt, rt.alloc(), registry, &mut recording, part)?;
@@ -167,13 +161,14 @@ where
     if let Some(text) = first_points {
         set_first(rt, rt.alloc(), registry, &recorder, text)?;
     }
+    let ending = Ending::new(rt.alloc()).map_err(NodeFault::from)?;
     let recorded = Recorded {
         runtime: &mut runtime,
         registry,
         recorder: &recorder,
-        seat: answering,
         listener,
         requests: options.requests,
+        ending: &ending,
     };
     Ok(serve_and_record(rt, recorded, telling, options.telling)?)
 }
@@ -218,31 +213,26 @@ where
 }
 
 // Serves a node whose part is kept.
-fn serve_alone<L, R>(rt: &R, recorded: Recorded<'_, L>) -> Result<u32, ServeFault>
+fn serve_alone<L, R>(rt: &R, recorded: Recorded<'_, L>) -> Result<NodeServed, ServeFault>
 where
     L: Label + Send + Sync,
     R: Host,
-    ensures ok { IfOk result (λ served. served ≡ recorded.entry.requests) }
+    ensures ok { IfOk result (IsNodeServed recorded.entry.requests) }
     ensures err { IfErr result (λ f. (f ≡ AcceptFailed) ⊎ (f ≡ OutOfMemory)) }
 {
     let Recorded {
         runtime,
         registry,
         recorder,
-        seat,
         listener,
         requests,
+        ending,
     } = recorded;
-    serve_recording(
-        rt,
-        rt.alloc(),
-        runtime,
-        registry,
-        recorder,
-        seat,
-        listener,
-        requests,
-    )
+    let alloc = rt.alloc();
+    let served = serve_recording(
+        rt, alloc, runtime, registry, recorder, listener, requests, ending,
+    )?;
+    Ok(NodeServed::of(ending, served))
 }
 
 // Serves a node, with its gossip in a thread of the scope.
@@ -253,11 +243,11 @@ fn serve_in<'s, E, L, R>(
     mut seat: Seat<L>,
     telling: GossipOptions,
     service: &'s Service,
-) -> Result<u32, ServeFault>
+) -> Result<NodeServed, ServeFault>
 where
     L: Label + Send + Sync + 's,
     R: Host,
-    ensures ok { IfOk result (λ served. served ≡ recorded.entry.requests) }
+    ensures ok { IfOk result (IsNodeServed recorded.entry.requests) }
     ensures err { IfErr result (λ f. (f ≡ AcceptFailed) ⊎ (f ≡ OutOfMemory)) }
 {
     let registry: &'s Registry<L> = recorded.registry;
@@ -279,11 +269,11 @@ fn serve_and_record<L, R>(
     recorded: Recorded<'_, L>,
     seat: Seat<L>,
     telling: GossipOptions,
-) -> Result<u32, ServeFault>
+) -> Result<NodeServed, ServeFault>
 where
     L: Label + Send + Sync,
     R: Host,
-    ensures ok { IfOk result (λ served. served ≡ recorded.entry.requests) }
+    ensures ok { IfOk result (IsNodeServed recorded.entry.requests) }
     ensures err { IfErr result (λ f. (f ≡ AcceptFailed) ⊎ (f ≡ OutOfMemory)) }
 {
     if telling.peers.is_empty() || telling.rounds == 0 {
@@ -294,8 +284,8 @@ where
     thread::scope(
         thread::scope_env(),
         rt,
-        |scope| -> Result<u32, ServeFault>
-            ensures ok { IfOk result (λ served. served ≡ recorded.entry.requests) }
+        |scope| -> Result<NodeServed, ServeFault>
+            ensures ok { IfOk result (IsNodeServed recorded.entry.requests) }
             ensures err { IfErr result (λ f. (f ≡ AcceptFailed) ⊎ (f ≡ OutOfMemory)) }
         { serve_in(scope, rt, recorded, seat, telling, service) },
     )

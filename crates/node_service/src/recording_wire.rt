@@ -34,6 +34,11 @@ impl<'a, L: Label, W> RecordingWire<'a, L, W> {
             goes_on: true,
         }
     }
+
+    /// The wire that it sends over.
+    pub(crate) fn wire_mut(&mut self) -> &mut W {
+        &mut self.wire
+    }
 }
 
 impl<'a, L: Label, W: Wire> Wire for RecordingWire<'a, L, W> {

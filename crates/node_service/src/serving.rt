@@ -4,13 +4,15 @@ ghost use Rattle.std.specs.Prelude.{◌≡◌, ◌⊎◌, IfOk, IfErr, IsErrAnd,
 ghost use Rattle.node_core.specs.Refusals.{is_bad_config};
 ghost use Rattle.http_wire.specs.Posts.{IsLoopback};
 ghost use Rattle.node_service.specs.Caps.{cap_of};
+ghost use Rattle.node_service.specs.Endings.{IsNodeServed};
 ghost use Rattle.node_service.specs.declared.fault.ServiceFault.TheVariants.{Node};
 
+use crate::ended::NodeServed;
 use crate::fault::ServiceFault;
 use crate::host::Host;
 use crate::telling::{Serving, serve_and_tell};
 use command_line::ServeOptions;
-use http_serve::ServeFault;
+use http_serve::{Ending, ServeFault};
 use node_core::{Config, MAX_TRACE_CAP, NodeFault};
 use node_registry::{Label, Registry, Seat};
 use std::alloc::{AllocGlobal, Global};
@@ -27,9 +29,10 @@ use tokio::net::TcpListener;
 use tokio::runtime::{Builder, Runtime};
 
 /// Serves a node over HTTP, as it is told to: first the node is made, then its port is listened on
-/// and said on standard output, then its first points are set, and then clients are let in. Meanwhile
-/// the node tells its peers what it knows. Answers how many clients were served.
-pub fn serve_node<R>(rt: &R, options: ServeOptions<'_>) -> Result<u32, ServiceFault>
+/// and said on standard output, then its first points are set, and then clients are let in, until as
+/// many were as are wanted, or one ends the service, or a message shows that the node has forgotten what
+/// it did. Meanwhile the node tells its peers what it knows. Answers how it was served.
+pub fn serve_node<R>(rt: &R, options: ServeOptions<'_>) -> Result<NodeServed, ServiceFault>
 where
     R: Wait
         + Threads
@@ -41,8 +44,9 @@ where
         + Sync
         + Copy
         + Drop
-        + Print,
-    ensures ok { IfOk result (λ served. served ≡ options.entry.requests) }
+        + Print
+        + Eprint,
+    ensures ok { IfOk result (IsNodeServed options.entry.requests) }
     ensures bad { IsTrue (is_bad_config (record {
       node = options.entry.node;
       nodes = options.entry.nodes;
@@ -70,7 +74,7 @@ fn serve_registry<L, R>(
     blank: Blank,
     config: Config,
     options: ServeOptions<'_>,
-) -> Result<u32, ServiceFault>
+) -> Result<NodeServed, ServiceFault>
 where
     L: Label + Send + Sync,
     R: Host + Print,
@@ -79,7 +83,7 @@ where
     requires config { config ≡ L.config }
     requires seed { replicate 32 0 ≡ L.seed }
     requires forgets { L.keeps ≡ false }
-    ensures ok { IfOk result (λ served. served ≡ options.entry.requests) }
+    ensures ok { IfOk result (IsNodeServed options.entry.requests) }
     ensures bad { IsTrue (is_bad_config config)
         → IsErrAnd result (λ f. (f ≡ Node NodeFault.OutOfMemory) ⊎ (f ≡ Node NodeFault.BadConfig)) }
 {
@@ -94,20 +98,22 @@ fn serve_opened<L, R>(
     mut seat: Seat<L>,
     telling_seat: Seat<L>,
     options: ServeOptions<'_>,
-) -> Result<u32, ServiceFault>
+) -> Result<NodeServed, ServiceFault>
 where
     L: Label + Send + Sync,
     R: Host + Print,
     requires { L.keeps ≡ false }
-    ensures { IfOk result (λ served. served ≡ options.entry.requests) }
+    ensures { IfOk result (IsNodeServed options.entry.requests) }
 {
     let (mut runtime, listener) = begun(rt, registry, &mut seat, options.port, options.failpoints)?;
+    let ending = Ending::new(rt.alloc()).map_err(NodeFault::from)?;
     let serving = Serving {
         runtime: &mut runtime,
         registry,
         seat,
         listener,
         requests: options.requests,
+        ending: &ending,
     };
     Ok(serve_and_tell(rt, serving, telling_seat, options.telling)?)
 }

@@ -2,14 +2,17 @@
 
 ghost use Rattle.std.specs.Prelude.{◌≡◌, ◌≤◌, ◌<◌, ◌^◌, ◌+◌, ◌*◌, ◌⊎◌, false, length, map, IfOk, IfErr};
 ghost use Rattle.http_serve.specs.declared.fault.ServeFault.TheVariants.{AcceptFailed, OutOfMemory};
+ghost use Rattle.node_service.specs.Endings.{IsNodeServed};
 ghost use Rattle.node_service.specs.Rounds.{first_pace, is_named, is_told, most_calls, most_peers};
 ghost use Rattle.node_service.specs.Rounds.{peer_of};
 ghost use Rattle.node_service.specs.Rounds.{told_below};
 
+use crate::ended::NodeServed;
+use crate::forgetful::{Hearing, Said};
 use crate::host::Host;
 use command_line::{GossipOptions, NamedPeer};
 use gossip::{Pace, Reach, WireError, gossip_news};
-use http_serve::{ServeFault, serve_forgetting};
+use http_serve::{Ending, ServeFault, serve_forgetting};
 use http_wire::{HttpWire, Peer};
 use node_core::Config;
 use node_registry::{Label, Registry, Seat};
@@ -18,11 +21,12 @@ use std::sync::atomic::{AtomicBool, Ordering};
 use std::sync::{Arc, Wait};
 use std::thread;
 use std::thread::{Parker, Scope};
-use std::time::Duration;
+use std::time::{Clock, Duration};
 use tokio::net::TcpListener;
 use tokio::runtime::Runtime;
 
-/// A node whose port is listened on, and that needn't keep its calls, and how many clients are let in.
+/// A node whose port is listened on, and that needn't keep its calls, how many clients are let in, and
+/// where the service is ended.
 #[derive(Drop)]
 pub struct Serving<'a, L: Label> {
     pub runtime: &'a mut Runtime,
@@ -30,6 +34,7 @@ pub struct Serving<'a, L: Label> {
     pub seat: Seat<L>,
     pub listener: TcpListener,
     pub requests: u32,
+    pub ending: &'a Arc<Ending>,
     ghost forgets: { L.keeps ≡ false },
 }
 
@@ -134,7 +139,8 @@ pub(crate) fn first_paces<L: Label, R: Wait + AllocGlobal>(
 }
 
 // Does one round after the other over a wire, with a rest between two, until all are done or the
-// service has ended. A round tells only news, and only who is reached.
+// service has ended. A round tells only news, and only who is reached; of who answers that it has
+// forgotten what it did that is said.
 pub(crate) fn keep_telling<L, R, W>(
     rt: &R,
     registry: &Registry<L>,
@@ -146,12 +152,13 @@ pub(crate) fn keep_telling<L, R, W>(
 )
 where
     L: Label,
-    R: Wait + AllocGlobal,
-    W: Reach,
+    R: Wait + AllocGlobal + Clock + Eprint,
+    W: Reach + Hearing,
     requires peers { length paces.old ≤ most_peers L.config }
     requires few { length paces.old < 2 ^ 8 }
     ensures { seat.new ≤ seat.old + telling.now.rounds * most_calls L.config }
 {
+    let mut said = Said::new(rt.alloc());
     for round in 0..telling.rounds {
         if round > 0 {
             service.rest(rt, telling.every);
@@ -160,6 +167,8 @@ where
             return;
         }
         gossip_news(rt, rt.alloc(), registry, seat, wire, paces);
+        let forgetful = wire.forgetful(rt.alloc());
+        said.say(rt, &forgetful);
     }
 }
 
@@ -183,11 +192,11 @@ where
 }
 
 // Serves a node.
-fn serve_alone<L, R>(rt: &R, serving: Serving<'_, L>) -> Result<u32, ServeFault>
+fn serve_alone<L, R>(rt: &R, serving: Serving<'_, L>) -> Result<NodeServed, ServeFault>
 where
     L: Label + Send + Sync,
     R: Host,
-    ensures ok { IfOk result (λ served. served ≡ serving.entry.requests) }
+    ensures ok { IfOk result (IsNodeServed serving.entry.requests) }
     ensures err { IfErr result (λ f. (f ≡ AcceptFailed) ⊎ (f ≡ OutOfMemory)) }
 {
     let Serving {
@@ -196,8 +205,13 @@ where
         seat,
         listener,
         requests,
+        ending,
     } = serving;
-    serve_forgetting(rt, rt.alloc(), runtime, registry, seat, listener, requests)
+    let alloc = rt.alloc();
+    let served = serve_forgetting(
+        rt, alloc, runtime, registry, seat, listener, requests, ending,
+    )?;
+    Ok(NodeServed::of(ending, served))
 }
 
 // Serves a node, with its gossip in a thread of the scope.
@@ -208,11 +222,11 @@ fn serve_in<'s, E, L, R>(
     mut seat: Seat<L>,
     telling: GossipOptions,
     service: &'s Service,
-) -> Result<u32, ServeFault>
+) -> Result<NodeServed, ServeFault>
 where
     L: Label + Send + Sync + 's,
     R: Host,
-    ensures ok { IfOk result (λ served. served ≡ serving.entry.requests) }
+    ensures ok { IfOk result (IsNodeServed serving.entry.requests) }
     ensures err { IfErr result (λ f. (f ≡ AcceptFailed) ⊎ (f ≡ OutOfMemory)) }
 {
     let registry: &'s Registry<L> = serving.registry;
@@ -233,11 +247,11 @@ pub fn serve_and_tell<L, R>(
     serving: Serving<'_, L>,
     seat: Seat<L>,
     telling: GossipOptions,
-) -> Result<u32, ServeFault>
+) -> Result<NodeServed, ServeFault>
 where
     L: Label + Send + Sync,
     R: Host,
-    ensures ok { IfOk result (λ served. served ≡ serving.entry.requests) }
+    ensures ok { IfOk result (IsNodeServed serving.entry.requests) }
     ensures err { IfErr result (λ f. (f ≡ AcceptFailed) ⊎ (f ≡ OutOfMemory)) }
 {
     if telling.peers.is_empty() || telling.rounds == 0 {
@@ -248,8 +262,8 @@ where
     thread::scope(
         thread::scope_env(),
         rt,
-        |scope| -> Result<u32, ServeFault>
-            ensures ok { IfOk result (λ served. served ≡ serving.entry.requests) }
+        |scope| -> Result<NodeServed, ServeFault>
+            ensures ok { IfOk result (IsNodeServed serving.entry.requests) }
             ensures err { IfErr result (λ f. (f ≡ AcceptFailed) ⊎ (f ≡ OutOfMemory)) }
         { serve_in(scope, rt, serving, seat, telling, service) },
     )

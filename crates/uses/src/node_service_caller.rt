@@ -1,9 +1,9 @@
 //! A caller of `node_service`.
 
-ghost use Rattle.std.specs.Prelude.{◌≡◌, IfOk};
+ghost use Rattle.std.specs.Prelude.{◌≡◌, None, IfOk};
 
 use command_line::{GossipOptions, ServeOptions};
-use node_service::{ServiceFault, serve_node};
+use node_service::{NodeServed, ServiceFault, serve_node};
 use std::alloc::AllocGlobal;
 use std::net;
 use std::net::Net;
@@ -13,7 +13,7 @@ use std::thread::Threads;
 use std::time::{Clock, Duration};
 
 /// Serves a node that is a cluster by itself to so many clients, on a port that the system picks.
-pub fn lone_node_served<R>(rt: &R, clients: u32) -> Result<u32, ServiceFault>
+pub fn lone_node_served<R>(rt: &R, clients: u32) -> Result<NodeServed, ServiceFault>
 where
     R: Wait
         + Threads
@@ -25,8 +25,9 @@ where
         + Sync
         + Copy
         + Drop
-        + Print,
-    ensures { IfOk result (λ served. served ≡ clients) }
+        + Print
+        + Eprint,
+    ensures { IfOk result (λ served. served.early ≡ None → served.clients ≡ clients) }
 {
     let options = ServeOptions {
         node: 0,

@@ -13,16 +13,15 @@ ghost use Rattle.http_serve.specs.Recorded.{IsServedRecording, IsServedWriting};
 ghost use Rattle.http_serve.specs.Served.{IsServed};
 ghost use Rattle.http_serve.specs.declared.handler.recording.TheConstants.{NOT_RECORDED, RECORDING_FAILED};
 
-use super::{Handler, NodeHandler};
+use super::{Handler, NodeReader};
 use crate::labels::Labels;
-use http_paths::Routes;
 use http_routes::{HttpReply, ReplyRoom, Wanted, route_owned};
 use node_core::Ask;
-use node_registry::{Label, Registry, Seat};
+use node_registry::{Label, Registry};
 use part_keeper::{CallFault, Recorder, Recording};
 use std::alloc::{AllocError, Global};
 use std::io::Write;
-use std::sync::{Arc, Mutex, Wait};
+use std::sync::{Arc, Wait};
 
 /// What a call is answered that was made and couldn't be recorded.
 const NOT_RECORDED: &str = "the call was made and could not be recorded: see to where the part is \
@@ -32,28 +31,24 @@ const NOT_RECORDED: &str = "the call was made and could not be recorded: see to 
 const RECORDING_FAILED: &str = "no call is made since one could not be recorded: see to where the \
     part is written, and start the node again from it";
 
-/// A node whose calls are written to its part before they are answered.
+/// A node whose calls are written to its part before they are answered. It has no seat: only the
+/// recorder, which has one, makes a call.
 #[derive(Drop)]
 pub struct RecordingHandler<L: Label> {
-    handler: NodeHandler<L>,
+    reader: NodeReader<L>,
     recorder: Arc<Recorder<L>>,
 }
 
 impl<L: Label> RecordingHandler<L> {
-    /// The only error is out of memory. The seat makes no call.
+    /// The only error is out of memory.
     pub fn new(
         alloc: Global,
         registry: &Arc<Registry<L>>,
         recorder: &Arc<Recorder<L>>,
-        seat: Seat<L>,
     ) -> Result<Arc<RecordingHandler<L>>, AllocError> {
-        let handler = NodeHandler {
-            routes: Routes::new(alloc)?,
-            registry: Arc::try_clone(registry)?,
-            seat: Mutex::new(seat),
-        };
+        let reader = NodeReader::new(alloc, registry)?;
         let recorder = Arc::try_clone(recorder)?;
-        Ok(Arc::new(alloc, RecordingHandler { handler, recorder })?)
+        Ok(Arc::new(alloc, RecordingHandler { reader, recorder })?)
     }
 
     // The reply to a call, from the recorder's recording.
@@ -81,7 +76,7 @@ impl<L: Label> RecordingHandler<L> {
         let Ok(room) = ReplyRoom::new(alloc) else {
             return HttpReply::no_memory(alloc);
         };
-        match recording.submit(rt, alloc, &self.handler.registry, ask) {
+        match recording.submit(rt, alloc, &self.reader.registry, ask) {
             Ok(reply) => room.reply(&Ok(reply)),
             Err(CallFault::Refused(fault)) => room.reply(&Err(fault)),
             Err(CallFault::NotRecorded) => HttpReply::text(alloc, 503, NOT_RECORDED),
@@ -93,7 +88,7 @@ impl<L: Label> RecordingHandler<L> {
     fn recorded<R: Wait>(&self, rt: &R, alloc: Global, reply: HttpReply) -> HttpReply
         ensures { result ≡ reply }
     {
-        let _ = self.recorder.keep(rt, alloc, &self.handler.registry);
+        let _ = self.recorder.keep(rt, alloc, &self.reader.registry);
         reply
     }
 }
@@ -110,22 +105,22 @@ impl<L: Label> Handler for RecordingHandler<L> {
         path: &str,
         body: Vec<u8>,
     ) -> HttpReply {
-        match route_owned(alloc, &self.handler.routes, method, path, body) {
+        match route_owned(alloc, &self.reader.routes, method, path, body) {
             Wanted::Do(ask) => self.call(rt, alloc, ask),
-            Wanted::List => self.recorded(rt, alloc, self.handler.list(rt, alloc)),
-            Wanted::Report => self.recorded(rt, alloc, self.handler.report(rt, alloc)),
-            Wanted::Status => self.recorded(rt, alloc, self.handler.status(rt, alloc)),
+            Wanted::List => self.recorded(rt, alloc, self.reader.list(rt, alloc)),
+            Wanted::Report => self.recorded(rt, alloc, self.reader.report(rt, alloc)),
+            Wanted::Status => self.recorded(rt, alloc, self.reader.status(rt, alloc)),
             Wanted::Answered(reply) => reply,
         }
     }
 
     fn reply_too_long(&self, alloc: Global, method: &str, path: &str) -> HttpReply {
-        self.handler.answer_too_long(alloc, method, path)
+        self.reader.answer_too_long(alloc, method, path)
     }
 
     ghost labelled = { λ path status. labels_of (target_of path) status };
 
     fn labels(&self, path: &str, status: u16) -> Labels {
-        self.handler.labels(path, status)
+        self.reader.labels(path, status)
     }
 }

@@ -1,0 +1,37 @@
+//! How a node was served.
+
+ghost use Rattle.std.specs.Prelude.{ℕ, IfSome, ◌≡◌};
+ghost use Rattle.std.specs.Arc.{arc_value};
+ghost use Rattle.http_serve.specs.Endings.{IsServedTo};
+ghost use Rattle.node_service.specs.Endings.{IsNodeServed};
+
+use http_serve::{Ending, Reason, Served};
+use std::sync::Arc;
+
+/// How the service of a node ended.
+#[derive(Clone, Copy, Debug, PartialEq, Eq)]
+pub struct NodeServed {
+    /// How many clients were let in.
+    pub clients: u32,
+    /// Why that was before as many were as are wanted, if it was.
+    pub early: Option<Reason>,
+}
+
+impl NodeServed {
+    /// Of a service that ended so.
+    pub(crate) fn of<'a>(ending: &'a Arc<Ending>, served: Served<'a>) -> NodeServed
+        requires { IfSome served.early (λ token. token.of ≡ (arc_value ending.now).reason.id) }
+        ensures { (wanted : ℕ) → IsServedTo wanted (arc_value ending.now).reason.id served.entry
+            → IsNodeServed wanted result }
+    {
+        let ending: &'a Ending = ending;
+        let early = match &served.early {
+            Some(ended) => Some(ending.reason(ended)),
+            None => None,
+        };
+        NodeServed {
+            clients: served.clients,
+            early,
+        }
+    }
+}

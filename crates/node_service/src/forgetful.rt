@@ -1,0 +1,89 @@
+//! What is said of peers that have forgotten what they did.
+
+use crate::recording_wire::RecordingWire;
+use http_wire::{Forgetful, Forgetting, HttpWire};
+use node_registry::Label;
+use std::alloc::{AllocGlobal, Global};
+use std::io;
+use std::net::Net;
+use std::random::RandomSource;
+use std::sync::Wait;
+use std::time::{Clock, Duration, Instant};
+
+/// How often it is said at most of a peer that it has forgotten what it did.
+const SAID_EVERY_SECONDS: u64 = 60;
+
+/// A wire that knows whose answers say that they have forgotten what they did.
+pub(crate) trait Hearing {
+    /// Who has answered so since the last time.
+    fn forgetful(&mut self, alloc: Global) -> Vec<Forgetful>;
+}
+
+impl<R: Wait + Clock + Net + RandomSource + AllocGlobal + Drop> Hearing for HttpWire<R> {
+    fn forgetful(&mut self, alloc: Global) -> Vec<Forgetful> {
+        self.take_forgetful(alloc)
+    }
+}
+
+impl<'a, L: Label, W: Hearing> Hearing for RecordingWire<'a, L, W> {
+    fn forgetful(&mut self, alloc: Global) -> Vec<Forgetful> {
+        self.wire_mut().forgetful(alloc)
+    }
+}
+
+// When it was last said of a node.
+#[derive(Clone, Copy)]
+struct SaidOf {
+    node: u8,
+    at: Instant,
+}
+
+/// When it was last said of each peer.
+#[derive(Drop)]
+pub(crate) struct Said {
+    last: Vec<SaidOf>,
+}
+
+impl Said {
+    pub(crate) fn new(alloc: Global) -> Said {
+        Said {
+            last: Vec::new(alloc),
+        }
+    }
+
+    // Whether it was said of a node a moment ago.
+    fn is_fresh(&self, node: u8, now: Instant) -> bool {
+        let every = Duration::from_secs(SAID_EVERY_SECONDS);
+        self.last.iter().any(|said| said.node == node
+            && now.saturating_duration_since(said.at) < every)
+    }
+
+    // Notes that it is said of a node now.
+    fn note(&mut self, node: u8, at: Instant) {
+        self.last.retain(|said| said.node != node);
+        // Without memory for it, it is said again.
+        let _ = self.last.push(SaidOf { node, at });
+    }
+
+    /// Says of each node that answered so that it has forgotten what it did, once a minute at most.
+    pub(crate) fn say<R: Clock + Eprint>(&mut self, rt: &R, forgetful: &[Forgetful]) {
+        let Ok(now) = Instant::now(rt) else {
+            return;
+        };
+        for peer in forgetful {
+            let Forgetful { node, fault } = *peer;
+            if !self.is_fresh(node, now) {
+                self.note(node, now);
+                let _ = say_forgotten(rt, node, fault);
+            }
+        }
+    }
+}
+
+// Says that a node has forgotten what it did, and what to do.
+fn say_forgotten<R: Eprint>(rt: &R, node: u8, fault: Forgetting) -> io::Result<()> {
+    eprintln!(rt;
+        "failreg: node {node} has forgotten what it did (it answers {fault}): it was started again \
+         without its part: end it, and start it from its part, or under a number that was never used"
+    )
+}
