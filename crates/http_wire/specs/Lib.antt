@@ -1,4 +1,5 @@
 pub mod Failures
+pub mod Forgetting
 pub mod Peers
 pub mod Posts
 pub mod Reached

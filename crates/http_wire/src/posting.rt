@@ -5,6 +5,7 @@ ghost use Rattle.http_wire.specs.Failures.{IsFailure};
 ghost use Rattle.http_wire.specs.Posts.{IsLoopback, Posts};
 ghost use Rattle.std.specs.IoError.{error_kind};
 
+use crate::forgetting::{FirstPiece, Forgetting, forgetting_in};
 use crate::wire::Peer;
 use bytes::Bytes;
 use futures::Future;
@@ -134,18 +135,27 @@ where
     })
 }
 
-// Hands a request to a connection, and waits for the reply's status.
+/// What was posted, and what was answered.
+#[derive(Drop)]
+pub(crate) struct Exchanged {
+    pub(crate) posted: Posted,
+    pub(crate) status: StatusCode,
+    /// What the reply says of the peer.
+    pub(crate) says: Option<Forgetting>,
+}
+
+// Hands a request to a connection, and waits for the reply.
 fn answered<R>(
     rt: &R,
     alloc: Global,
     runtime: &mut LocalRuntime,
     connection: Connection,
     request: Request<Full<Bytes>>,
-) -> Result<(StatusCode, Posted), WireError>
+) -> Result<Exchanged, WireError>
 where
     R: Wait + Clock + Net + RandomSource + AllocGlobal,
-    ensures to { IfOk result (λ r. r.1.peer ≡ connection.peer) }
-    ensures request { IfOk result (λ r. r.1.request.value ≡ request) }
+    ensures to { IfOk result (λ answered. answered.posted.peer ≡ connection.peer) }
+    ensures request { IfOk result (λ answered. answered.posted.request.value ≡ request) }
     ensures err { IfErr result IsFailure }
 {
     let Connection {
@@ -164,21 +174,41 @@ where
     let reply = sender.send_request(request);
     drop(sender);
     let (reply, _connection) = output_of(rt, runtime, join(reply, connection), deadline)?;
-    Ok((status_of(reply)?, posted))
+    let Ok(reply) = reply else {
+        return Err(WireError::Failed);
+    };
+    let status = reply.status();
+    Ok(Exchanged {
+        posted,
+        status,
+        says: said_in(rt, runtime, reply, deadline),
+    })
 }
 
-// The status of a reply, if there was one.
-fn status_of(reply: hyper::Result<Response<Incoming<TcpStream>>>) -> Result<StatusCode, WireError>
-    ensures { IfErr result IsFailure }
+// What a reply says of the peer. The connection is over by then, and what came of the body is there.
+fn said_in<R>(
+    rt: &R,
+    runtime: &mut LocalRuntime,
+    reply: Response<Incoming<TcpStream>>,
+    deadline: Instant,
+) -> Option<Forgetting>
+where
+    R: Wait + Clock + RandomSource + AllocGlobal,
 {
-    match reply {
-        Ok(reply) => Ok(reply.status()),
-        Err(_) => Err(WireError::Failed),
+    let status = reply.status().as_u16();
+    // The body of any other says nothing of it.
+    if status != 400 {
+        return None;
     }
+    let first = FirstPiece {
+        body: reply.into_body(),
+    };
+    let piece = output_of(rt, runtime, first, deadline).ok()??;
+    forgetting_in(status, piece.as_slice())
 }
 
-// What the status of a reply says of a message: that it was taken in is only 200.
-fn taken_in(status: StatusCode) -> Result<(), WireError>
+/// What the status of a reply says of a message: that it was taken in is only 200.
+pub(crate) fn taken_in(status: StatusCode) -> Result<(), WireError>
     ensures ok { IsOk result ↔ (status ≡ 200) }
     ensures err { IfErr result (λ e. e ≡ WireError.Failed) }
 {
@@ -189,23 +219,21 @@ fn taken_in(status: StatusCode) -> Result<(), WireError>
     }
 }
 
-/// Posts a message to the server of a peer over a connection to it, and answers what was posted. Any
-/// reply but 200, and none within the connection's time, is a failure.
+/// Posts a message to the server of a peer over a connection to it, and answers what was posted and
+/// answered. No reply within the connection's time is a failure.
 pub(crate) fn post<R>(
     rt: &R,
     alloc: Global,
     runtime: &mut LocalRuntime,
     connection: Connection,
     message: &[u8],
-) -> Result<Posted, WireError>
+) -> Result<Exchanged, WireError>
 where
     R: Wait + Clock + Net + RandomSource + AllocGlobal,
-    ensures to { IfOk result (λ posted. posted.peer ≡ connection.peer) }
-    ensures posts { IfOk result (λ posted. Posts message.now posted.request.value) }
+    ensures to { IfOk result (λ answered. answered.posted.peer ≡ connection.peer) }
+    ensures posts { IfOk result (λ answered. Posts message.now answered.posted.request.value) }
     ensures err { IfErr result IsFailure }
 {
     let request = request(alloc, message)?;
-    let (status, posted) = answered(rt, alloc, runtime, connection, request)?;
-    taken_in(status)?;
-    Ok(posted)
+    answered(rt, alloc, runtime, connection, request)
 }

@@ -5,13 +5,16 @@ ghost use Rattle.std.specs.Prelude.{OnOk};
 ghost use Rattle.std.specs.Bool.{OnTrue};
 ghost use Rattle.gossip.specs.Traffic.{sends, takes};
 ghost use Rattle.http_wire.specs.Failures.{IsFailure};
+ghost use Rattle.http_wire.specs.Forgetting.{HasHeardOf};
 ghost use Rattle.http_wire.specs.Peers.{has_peer, port_of};
 ghost use Rattle.http_wire.specs.Reached.{is_ready_for};
 ghost use Rattle.http_wire.specs.Sent.{IsSentTo, traffic_of};
 
-use crate::posting::{Connection, Posted, connect, failed, post};
+use crate::forgetting::{Forgetful, Forgetting};
+use crate::posting::{Connection, Posted, connect, failed, post, taken_in};
 use gossip::{Log, Reach, Wire, WireError};
 use std::alloc::{AllocGlobal, Global};
+use std::mem;
 use std::net::Net;
 use std::random::RandomSource;
 use std::sync::Wait;
@@ -41,6 +44,7 @@ pub struct HttpWire<R> {
     // To the node that was reached last, if nothing was sent to it yet.
     ready: Option<Connection>,
     sent: Log<Posted>,
+    forgetful: Vec<Forgetful>,
 }
 
 impl<R> HttpWire<R> {
@@ -51,6 +55,30 @@ impl<R> HttpWire<R> {
         let peer = self.peers.iter().find(|peer| peer.node == node)?;
         Some(peer.port)
     }
+
+    // Keeps what the answer of a node says of it, unless that is kept already.
+    fn hear(&mut self, node: u8, says: Option<Forgetting>)
+        ensures stays { (self.new.peers ≡ self.old.peers) × (self.new.sent ≡ self.old.sent) }
+        ensures heard { HasHeardOf node self.old.forgetful.items self.new.forgetful.items }
+    {
+        let Some(fault) = says else {
+            return;
+        };
+        if !self.forgetful.iter().any(|other| other.node == node) {
+            // Without memory for it it isn't heard.
+            let _ = self.forgetful.push(Forgetful { node, fault });
+        }
+    }
+
+    /// Which nodes have answered since the last time that they have forgotten what they did.
+    pub fn take_forgetful(&mut self, alloc: Global) -> Vec<Forgetful>
+        ensures value { result ≡ self.old.forgetful }
+        ensures taken { self.new.forgetful.items ≡ [] }
+        ensures stays { (self.new.peers ≡ self.old.peers) × (self.new.sent ≡ self.old.sent)
+            × (self.new.ready ≡ self.old.ready) }
+    {
+        mem::replace(&mut self.forgetful, Vec::new(alloc))
+    }
 }
 
 impl<R: Wait + Clock + Net + RandomSource + AllocGlobal + Drop> HttpWire<R> {
@@ -59,16 +87,19 @@ impl<R: Wait + Clock + Net + RandomSource + AllocGlobal + Drop> HttpWire<R> {
         ensures ok { IfOk result (λ wire. wire.peers ≡ peers) }
         ensures ready { IfOk result (λ wire. wire.ready ≡ None) }
         ensures sent { IfOk result (λ wire. wire.sent.items ≡ []) }
+        ensures forgetful { IfOk result (λ wire. wire.forgetful.items ≡ []) }
         ensures err { IfErr result IsFailure }
     {
         let runtime = LocalRuntime::new(&rt).map_err(failed)?;
         let sent = Log::new();
+        let forgetful = Vec::new(rt.alloc());
         Ok(HttpWire {
             rt,
             runtime,
             peers,
             ready: None,
             sent,
+            forgetful,
         })
     }
 
@@ -76,7 +107,8 @@ impl<R: Wait + Clock + Net + RandomSource + AllocGlobal + Drop> HttpWire<R> {
     fn connection_to(&mut self, peer: Peer) -> Result<Connection, WireError>
         ensures ok { IfOk result (λ connection. connection.peer ≡ peer) }
         ensures err { IfErr result IsFailure }
-        ensures stays { (self.new.peers ≡ self.old.peers) × (self.new.sent ≡ self.old.sent) }
+        ensures stays { (self.new.peers ≡ self.old.peers) × (self.new.sent ≡ self.old.sent)
+            × (self.new.forgetful ≡ self.old.forgetful) }
     {
         if let Some(connection) = self.ready.take() {
             if connection.is_to(peer) {
@@ -106,6 +138,7 @@ impl<R: Wait + Clock + Net + RandomSource + AllocGlobal + Drop> Wire for HttpWir
         ensures posted { OnOk result (IsSentTo self.old.peers.items to message.now
             self.old.sent.items self.new.sent.items) }
         ensures unsent { OnErr result (self.new.sent.items ≡ self.old.sent.items) }
+        ensures heard { HasHeardOf to self.old.forgetful.items self.new.forgetful.items }
         ensures ok { OnOk result (traffic_of self.new.sent.items
             ≡ sends to message.now (traffic_of self.old.sent.items)) }
         ensures err { OnErr result
@@ -116,8 +149,10 @@ impl<R: Wait + Clock + Net + RandomSource + AllocGlobal + Drop> Wire for HttpWir
         };
         let peer = Peer { node: to, port };
         let connection = self.connection_to(peer)?;
-        let posted = post(&self.rt, alloc, &mut self.runtime, connection, message)?;
-        self.sent.add(&posted);
+        let told = post(&self.rt, alloc, &mut self.runtime, connection, message)?;
+        self.hear(to, told.says);
+        taken_in(told.status)?;
+        self.sent.add(&told.posted);
         Ok(())
     }
 

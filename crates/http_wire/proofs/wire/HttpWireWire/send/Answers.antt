@@ -4,14 +4,14 @@ use Rattle.http_wire.proofs.wire.HttpWireWire.send.Goals as goal
 
 pub returns-clause-posted : goal.returns-clause-posted
 returns-clause-posted g c =
-    let posted = c.in_ok-posted.ensures in
-    let to = posted.to ∙ c.in_ok-connection.ensures.ok in
+    let told = c.in_ok-told.ensures in
+    let to = told.to ∙ c.in_ok-connection.ensures.ok in
     record {
-      last = c.in_ok-posted.posted;
+      last = c.in_ok-told.told.posted;
       more = c.add.ensures
-          ∙ ap (λ (items : List Posted). items ++ c.in_ok-posted.posted ∷ [])
-          (ap (λ sent. sent.items) c.connection_to.ensures.stays.1);
+          ∙ ap (λ (items : List Posted). items ++ c.in_ok-told.told.posted ∷ [])
+          (ap (λ sent. sent.items) (c.hear.ensures.stays.1 ∙ c.connection_to.ensures.stays.1));
       node = ap (λ p. p.node) to;
       port = sym c.port_of.ensures ∙ c.in-Some.is ∙ ap (λ p. Some p.port) (sym to);
-      posts = posted.posts;
+      posts = told.posts;
     }
