@@ -131,6 +131,10 @@ all lines run, and the status is 3: another answer than expected; a bad line; a
 refusal or an `unset` that no line expects, or a part of an answer; a question
 about a point, a counted term or a node that isn't there.
 
+With --json each answer is an object of JSON on a line of its own, as
+`{\"answer\":\"set\",\"stamp\":\"1.0\"}`, and so is what is said of lines that go wrong
+(docs/json.md); it isn't given with --echo.
+
 Example:
   $ printf 'nodes 1 9\\nset 0 a 1*panic->off\\npass 0 a\\npass 0 a\\nhits 0 a\\n' | failreg sim
   set 1.0
@@ -204,8 +208,19 @@ ones; where the seed is missing, it is the one behind the last. The reason
 stands on standard error, and behind it what was wanted of each bad line, of 20
 at most, unless --quiet is given.
 
-With --check the status is 3 where any of this is said, of bad lines too, and
+With --check a script may have more lines: `expect <text>` behind a `start`
+line, which is answered just this; or behind the first worker, where a line
+that is printed is just this; `await <name>[ <stamp>]` in a worker, which goes
+on once its node knows the setting, or its gossip is over, and fails then; and
+`gossip <rounds> first`, for rounds before the workers. All rounds are in step.
+The status is 3 where a line fails, a `start` line is refused that isn't
+expected to be, a call of a worker isn't accepted, a pass meets a point that
+isn't set, a line is bad, or the audit says no; standard error says which, and
 --quiet ends nothing. All of the script runs, unless a line is bad.
+
+With --json each line that is printed is an object of JSON, as
+`{\"answer\":\"workers\",\"number\":\"1\"}`, and so is what is said of lines that go
+wrong (docs/json.md).
 
 Example:
   $ printf 'nodes 1 9\\nseed %064d\\nstart set 0 a 2*off\\nworker 0\\npass a 4\\n' 0 | failreg threads
@@ -236,6 +251,9 @@ The status is 0 after a yes. It is 1 after a no, and where a file can't be read
 its place (`P5 BadLine line=6`), parts are of several runs (`P6`), a node has
 two or none (`P7`, `P8`), or memory is refused; the reason then stands on
 standard error.
+
+With --json each line that is printed is an object of JSON, as
+`{\"answer\":\"audit\",\"verdict\":\"yes\"}` (docs/json.md).
 
 Example:
   $ printf 'nodes 1 9\\nseed %064d\\nstart set 0 a 2*off\\n' 0 | failreg threads --record /tmp/drill

@@ -16,6 +16,6 @@ mod words;
 pub use peers::{NamedPeer, PeerFault, PeersFault, read_peer, read_peers};
 pub use quoting::quoted;
 pub use reading::{
-    GossipOptions, Invocation, PartOptions, ServeOptions, SimOptions, ThreadOptions,
+    AuditOptions, GossipOptions, Invocation, PartOptions, ServeOptions, SimOptions, ThreadOptions,
     read_command_line,
 };

@@ -22,7 +22,7 @@ pub enum Invocation<'a> {
     /// To run the script of threads on standard input.
     Threads(ThreadOptions<'a>),
     /// To audit the drill in a file, or that of the parts in files.
-    Audit(Vec<&'a str>),
+    Audit(AuditOptions<'a>),
     /// To serve a node over HTTP, and to keep its part, if that is wanted.
     Serve(ServeOptions<'a>, Option<PartOptions<'a>>),
     /// To say what the codes in a text mean, or, without one, to list all codes.
@@ -38,6 +38,8 @@ pub struct SimOptions {
     pub check: bool,
     /// Whether nothing is said of lines that go wrong, where they aren't checked.
     pub quiet: bool,
+    /// Whether answers are written as objects of JSON.
+    pub json: bool,
 }
 
 /// How a script of threads is run.
@@ -53,6 +55,17 @@ pub struct ThreadOptions<'a> {
     pub check: bool,
     /// Whether nothing is said of what goes wrong, where it doesn't count.
     pub quiet: bool,
+    /// Whether answers are written as objects of JSON.
+    pub json: bool,
+}
+
+/// What is audited.
+#[derive(Debug, Drop)]
+pub struct AuditOptions<'a> {
+    /// The file of a drill, or those of its parts.
+    pub files: Vec<&'a str>,
+    /// Whether answers are written as objects of JSON.
+    pub json: bool,
 }
 
 /// Whom a served node tells what it knows, and how often.
@@ -186,6 +199,7 @@ fn read_matches<'a>(alloc: Global, matches: &ArgMatches<'a>) -> Result<Invocatio
             echo: matches.get_flag("echo"),
             check: matches.get_flag("check"),
             quiet: matches.get_flag("quiet"),
+            json: matches.get_flag("json"),
         }),
         Subcommand::Threads => Invocation::Threads(ThreadOptions {
             record: matches.get_str("record"),
@@ -193,10 +207,14 @@ fn read_matches<'a>(alloc: Global, matches: &ArgMatches<'a>) -> Result<Invocatio
             force: matches.get_flag("force"),
             check: matches.get_flag("check"),
             quiet: matches.get_flag("quiet"),
+            json: matches.get_flag("json"),
         }),
         Subcommand::Audit => {
             let files = matches.get_strs("file").unwrap_or(&[]);
-            Invocation::Audit(Vec::from_slice(alloc, files)?)
+            Invocation::Audit(AuditOptions {
+                files: Vec::from_slice(alloc, files)?,
+                json: matches.get_flag("json"),
+            })
         }
         Subcommand::Serve => {
             let part = part_options(alloc, matches)?;

@@ -100,6 +100,18 @@ const SIM: &[Argument] = &[
         takes_hyphens: false,
         excludes: &[],
     },
+    Argument {
+        name: "json",
+        by_name: true,
+        value: "json",
+        help: "Writes each answer as an object of JSON, on a line of its own",
+        required: false,
+        default: &[],
+        values: (0, 0),
+        most: None,
+        takes_hyphens: false,
+        excludes: &["echo"],
+    },
 ];
 
 const THREADS: &[Argument] = &[
@@ -143,7 +155,7 @@ const THREADS: &[Argument] = &[
         name: "check",
         by_name: true,
         value: "check",
-        help: "Ends with 3 where something goes wrong",
+        help: "Reads `expect` and `await` lines, and ends with 3 where a line fails",
         required: false,
         default: &[],
         values: (0, 0),
@@ -163,20 +175,46 @@ const THREADS: &[Argument] = &[
         takes_hyphens: false,
         excludes: &[],
     },
+    Argument {
+        name: "json",
+        by_name: true,
+        value: "json",
+        help: "Writes each answer as an object of JSON, on a line of its own",
+        required: false,
+        default: &[],
+        values: (0, 0),
+        most: None,
+        takes_hyphens: false,
+        excludes: &[],
+    },
 ];
 
-const AUDIT: &[Argument] = &[Argument {
-    name: "file",
-    by_name: false,
-    value: "file",
-    help: "A drill that was kept, or each part of one, or `-` for standard input",
-    required: true,
-    default: &[],
-    values: (1, usize::MAX),
-    most: None,
-    takes_hyphens: false,
-    excludes: &[],
-}];
+const AUDIT: &[Argument] = &[
+    Argument {
+        name: "file",
+        by_name: false,
+        value: "file",
+        help: "A drill that was kept, or each part of one, or `-` for standard input",
+        required: true,
+        default: &[],
+        values: (1, usize::MAX),
+        most: None,
+        takes_hyphens: false,
+        excludes: &[],
+    },
+    Argument {
+        name: "json",
+        by_name: true,
+        value: "json",
+        help: "Writes each answer as an object of JSON, on a line of its own",
+        required: false,
+        default: &[],
+        values: (0, 0),
+        most: None,
+        takes_hyphens: false,
+        excludes: &[],
+    },
+];
 
 const SERVE: &[Argument] = &[
     Argument {

@@ -1,3 +1,4 @@
 mod Parts
 pub mod Recorded
 pub mod Warned
+pub mod CheckedRuns

@@ -1,5 +1,5 @@
 -- What a run of a script of threads comes to and says, by how the program ends.
-use Rattle.std.proofs.Common.{◌≡◌, ℕ, true, false, List, [], Option, Some, None, Result, Ok, Err, refl, sym, subst, ap, ◌∙◌, inl, inr}
+use Rattle.std.proofs.Common.{◌≡◌, ℕ, true, false, List, [], Option, Some, None, Result, Ok, Err, refl, subst, ap, ◌∙◌, inl, inr}
 use Rattle.std.specs.Prelude.{◌≢◌, ◌↔◌, IfErr, IfOk, IfSome, IsErr, IsOk, OnOk, Vec}
 use Rattle.std.specs.declared.alloc.Global.{Global}
 use Rattle.std.specs.Process.{exit_status}
@@ -9,7 +9,6 @@ use Rattle.streams.specs.declared.fault.ScriptFault.TheVariants as faults
 use Rattle.thread_plans.specs.BadLines.{bad_text}
 use Rattle.thread_scripts.specs.Outputs.{PlaysSaying, PlaysTo}
 use Rattle.thread_scripts.proofs.Runs.{plays_of_saying}
-use Rattle.failreg.specs.Checked.{FailsSaying}
 use Rattle.failreg.specs.Statuses.{OnStatus, SaysOrNothing}
 
 -- what holds of a run that was done holds with status 0
@@ -46,7 +45,7 @@ pub on_refused_saying : {T E F : Type 0} (result : Result ExitCode E) (run : Res
 on_refused_saying (Err e) run said fact h s k = tt
 on_refused_saying (Ok code) run said fact h s k = λ z. k (h.0 z) s
 
-items_of : (said was : Vec ℕ Global) → said ≡ was → was.items ≡ [] → said.items ≡ []
+pub items_of : (said was : Vec ℕ Global) → said ≡ was → was.items ≡ [] → said.items ≡ []
 items_of said was same none = ap (λ (v : Vec ℕ Global). v.items) same ∙ none
 
 -- what is said of a script that is refused: what was wanted of its bad lines, or nothing
@@ -68,47 +67,3 @@ said_where_refused (Err faults.WriteFailed) warnings said was (Some bytes) none 
     inr (subst warnings (items_of said was (other (λ line e. cc)) none) s)
 said_where_refused (Err faults.OutOfMemory) warnings said was (Some bytes) none bad other refused s =
     inr (subst warnings (items_of said was (other (λ line e. cc)) none) s)
-
--- ---- where it is checked
-
--- nothing was said
-silent : (input : Option (List ℕ)) (written : List ℕ → Type 0) (said : List ℕ) → said ≡ [] →
-    IfSome input (λ bytes. PlaysSaying bytes written (λ warned. said ≡ warned)) →
-    IfSome input (λ bytes. PlaysSaying bytes written (λ warned. warned ≡ []))
-silent None written said none h = tt
-silent (Some bytes) written said none h = (h.0, h.1, h.2, h.3, sym h.4 ∙ none)
-
-pub silent_where_good : {T E F : Type 0} (result : Result ExitCode E) (run : Result T F) (written : List ℕ → Type 0)
-    (said : List ℕ) (input : Option (List ℕ)) → OnStatus result 0 (IsOk run × (said ≡ [])) →
-    OnOk run (IfSome input (λ bytes. PlaysSaying bytes written (λ warned. said ≡ warned))) →
-    OnStatus result 0 (IfSome input (λ bytes. PlaysSaying bytes written (λ warned. warned ≡ [])))
-silent_where_good (Err e) run written said input good h = tt
-silent_where_good (Ok code) (Ok x) written said input good h = λ z. silent input written said ((good z).1) h
-silent_where_good (Ok code) (Err e) written said input good h =
-    λ z. (let done : false ≡ true = (good z).0 in absurd cc)
-
--- something was said
-pub fails : {T : Type 0} (run : Result T ScriptFault) (written warnings : List ℕ → Type 0) (said was : Vec ℕ Global)
-    (input : Option (List ℕ)) → was.items ≡ [] →
-    OnOk run (IfSome input (λ bytes. PlaysSaying bytes written (λ warned. said.items ≡ warned))) →
-    ((line : ℕ) → run ≡ Err (faults.BadLine line) → IfSome input (λ bytes. said.items ≡ bad_text bytes)) →
-    IfErr run (λ fault. ((line : ℕ) → fault ≢ faults.BadLine line) → said ≡ was) → said.items ≢ [] →
-    warnings said.items → IfSome input (λ bytes. FailsSaying bytes written warnings)
-fails run written warnings said was None none h bad other some s = tt
-fails (Ok done) written warnings said was (Some bytes) none h bad other some s = (said.items, some, s, inl h)
-fails (Err (faults.BadLine line)) written warnings said was (Some bytes) none h bad other some s =
-    (said.items, some, s, inr (bad line refl))
-fails (Err faults.TooLong) written warnings said was (Some bytes) none h bad other some s =
-    absurd (some (items_of said was (other (λ line e. cc)) none))
-fails (Err faults.ReadFailed) written warnings said was (Some bytes) none h bad other some s =
-    absurd (some (items_of said was (other (λ line e. cc)) none))
-fails (Err faults.WriteFailed) written warnings said was (Some bytes) none h bad other some s =
-    absurd (some (items_of said was (other (λ line e. cc)) none))
-fails (Err faults.OutOfMemory) written warnings said was (Some bytes) none h bad other some s =
-    absurd (some (items_of said was (other (λ line e. cc)) none))
-
-pub on_failed : {E : Type 0} (result : Result ExitCode E) (some said fact : Type 0) →
-    IfOk result (λ code. (exit_status code ≡ 3) ↔ some) → IfOk result (λ code. said) → (some → said → fact) →
-    OnStatus result 3 fact
-on_failed (Err e) some said fact h s k = tt
-on_failed (Ok code) some said fact h s k = λ z. k (h.0 z) s

@@ -1,5 +1,5 @@
 -- What of a recorded drill is written, and what an audit of one says, or of parts.
-use Rattle.std.specs.Prelude.{◌≡◌, ◌≢◌, ◌<◌, ◌⊎◌, ◌==◌, ◌&&◌, ◌||◌, ◌++◌, ◌∷◌, ℕ, zero, suc, Bool, false, List, [], codes, decimal, if◌then◌else◌, length, min, is_ok, slice_index_or, IfSome, Option, Some, None, Result, Ok, Err}
+use Rattle.std.specs.Prelude.{◌≡◌, ◌≢◌, ◌<◌, ◌⊎◌, ◌==◌, ◌&&◌, ◌||◌, ◌++◌, ◌∷◌, ℕ, zero, suc, Bool, false, List, [], codes, decimal, if◌then◌else◌, length, min, is_ok, slice_index_or, IfSome, Option, None, Result, Ok, Err}
 use Rattle.audit.specs.declared.auditing.AuditYes.{AuditYes}
 use Rattle.audit.specs.declared.fault.AuditFault.{AuditFault}
 use Rattle.audit.specs.declared.fault.AuditFault.TheVariants.{OutOfMemory}
@@ -41,23 +41,23 @@ KeepsDrill kept old new traces lists =
     Writes kept old new (drill_text (drill_told traces lists))
     × (drill_in (drill_text (drill_told traces lists)) ≡ Ok (drill_told traces lists))
 
--- the head of a node's part in a run of a plan, which has no name
-abbrev pub head_at : PlanValue → ℕ → HeadTold
-head_at plan node = record { node = node; nodes = plan.nodes; cap = plan.cap; run = [] }
+-- the head of a node's part in a run at so many nodes with this cap, which has no name
+abbrev pub head_at : ℕ → ℕ → ℕ → HeadTold
+head_at nodes cap node = record { node = node; nodes = nodes; cap = cap; run = [] }
 
 -- the part of a node, of the trace at its place, was written to the writer at that place, and flushed
-abbrev pub KeepsPart : {D : Type 0} → (D → Option (List ℕ)) → PlanValue → Traces → List (Watched D) → List (Watched D)
-    → ℕ → Type 0
-KeepsPart {D = D} kept plan traces old new node =
+abbrev pub KeepsPart : {D : Type 0} → (D → Option (List ℕ)) → ℕ → ℕ → Traces → List (Watched D) → List (Watched D) → ℕ
+    → Type 0
+KeepsPart {D = D} kept nodes cap traces old new node =
     (w : Watched D) (t : Packed)
     → Writes kept (slice_index_or old node w) (slice_index_or new node w)
-    (part_text (head_at plan node) (slice_index_or traces node t).calls)
+    (part_text (head_at nodes cap node) (slice_index_or traces node t).calls)
     × (has_unflushed (slice_index_or new node w) ≡ false)
 
 -- so was that of each node
-abbrev pub KeepsParts : {D : Type 0} → (D → Option (List ℕ)) → PlanValue → Traces → List (Watched D) → List (Watched D)
+abbrev pub KeepsParts : {D : Type 0} → (D → Option (List ℕ)) → ℕ → ℕ → Traces → List (Watched D) → List (Watched D)
     → Type 0
-KeepsParts kept plan traces old new = (node : ℕ) → node < plan.nodes → KeepsPart kept plan traces old new node
+KeepsParts kept nodes cap traces old new = (node : ℕ) → node < nodes → KeepsPart kept nodes cap traces old new node
 
 -- what an audit says of a drill was written, of the one that the bytes are where these are known; more than 255 traces
 -- are as few as those, and too many; out of memory is no verdict

@@ -22,6 +22,7 @@ mod auditing;
 mod checking;
 mod explaining;
 mod finish;
+mod objects;
 mod part_advice;
 mod part_recording;
 mod recording;
@@ -34,7 +35,9 @@ use actions::parse_actions;
 use advice::{advice_on_audit, advice_on_parse, advice_on_service, is_missing};
 use audited_files::audit_files;
 use checking::check_threads;
-use command_line::{Invocation, PartOptions, ServeOptions, SimOptions, quoted, read_command_line};
+use command_line::{
+    AuditOptions, Invocation, PartOptions, ServeOptions, SimOptions, quoted, read_command_line,
+};
 use drills::DrillFault;
 use explaining::explain_codes;
 use finish::{
@@ -42,6 +45,7 @@ use finish::{
     finish_unreadable, refuse,
 };
 use node_service::{ServiceFault, serve_node, serve_recorded};
+use objects::finish_objects;
 use part_advice::advice_on_recorded;
 use scripts::{
     MOST_BYTES, Watched, run_script, run_script_checked, run_script_echoing, run_script_warning,
@@ -58,6 +62,7 @@ use std::thread::Threads;
 use std::time::Clock;
 use std::{io, net};
 use thread_runs::threads;
+use warning::say;
 
 fn main(rt: HostRuntime) -> anyhow::Result<ExitCode> {
     // They are held to the end.
@@ -68,25 +73,76 @@ fn main(rt: HostRuntime) -> anyhow::Result<ExitCode> {
         Err(error) => return finish_unreadable(&rt, error),
     };
     let words: Vec<String> = words.collect(alloc)?;
-    let mut reader = Watched::new(rt.reader());
+    let invocation = match read_command_line(alloc, words.as_slice()) {
+        Ok(invocation) => invocation,
+        Err(error) => return finish_unread(&rt, &error),
+    };
     let mut writer = Watched::new(io::writer(&rt));
     let mut errors = Watched::new(rt.stderr());
-    match read_command_line(alloc, words.as_slice()) {
-        Ok(Invocation::Parse(text)) => parse(&rt, text),
-        Ok(Invocation::Sim(options)) if options.check => {
-            check(&rt, options.echo, &mut reader, &mut writer, &mut errors)
+    if !wants_objects(&invocation) {
+        return run(&rt, invocation, &mut writer, &mut errors);
+    }
+    let mut answers = Vec::new(alloc);
+    let mut said = Vec::new(alloc);
+    let ended = run(
+        &rt,
+        invocation,
+        &mut Watched::new(&mut answers),
+        &mut Watched::new(&mut said),
+    )?;
+    say(&mut errors, &said);
+    finish_objects(&rt, ended, &answers, &said, &mut writer)
+}
+
+// Whether answers are to be written as objects of JSON.
+fn wants_objects(invocation: &Invocation<'_>) -> bool {
+    match invocation {
+        Invocation::Sim(options) => options.json,
+        Invocation::Threads(options) => options.json,
+        Invocation::Audit(options) => options.json,
+        Invocation::Parse(_) | Invocation::Serve(..) | Invocation::Explain(_) => false,
+    }
+}
+
+// Does what a command line asks for.
+fn run<R, O: Write, E: Write>(
+    rt: &R,
+    invocation: Invocation<'_>,
+    writer: &mut Watched<O>,
+    errors: &mut Watched<E>,
+) -> anyhow::Result<ExitCode>
+where
+    R: Wait
+        + Threads
+        + Clock
+        + RandomSource
+        + AllocGlobal
+        + Net<Listener = net::TcpListener, Stream = net::TcpStream>
+        + Files<File = File>
+        + Send
+        + Sync
+        + Copy
+        + Drop
+        + Input
+        + Print
+        + Eprint,
+    requires writer { has_failed writer.old ≡ false }
+    requires errors { has_failed errors.old ≡ false }
+{
+    let mut reader = Watched::new(rt.reader());
+    match invocation {
+        Invocation::Parse(text) => parse(rt, text),
+        Invocation::Sim(options) if options.check => {
+            check(rt, options.echo, &mut reader, writer, errors)
         }
-        Ok(Invocation::Sim(options)) => { sim(&rt, options, &mut reader, &mut writer, &mut errors) }
-        Ok(Invocation::Threads(options)) if options.check => {
-            check_threads(&rt, options, &mut reader, &mut writer, &mut errors)
+        Invocation::Sim(options) => sim(rt, options, &mut reader, writer, errors),
+        Invocation::Threads(options) if options.check => {
+            check_threads(rt, options, &mut reader, writer, errors)
         }
-        Ok(Invocation::Threads(options)) => {
-            threads(&rt, options, &mut reader, &mut writer, &mut errors)
-        }
-        Ok(Invocation::Audit(paths)) => audit(&rt, &paths, &mut writer),
-        Ok(Invocation::Serve(options, part)) => serve(&rt, options, part),
-        Ok(Invocation::Explain(text)) => explain_codes(&rt, &text, &mut writer, &mut errors),
-        Err(error) => finish_unread(&rt, &error),
+        Invocation::Threads(options) => threads(rt, options, &mut reader, writer, errors),
+        Invocation::Audit(AuditOptions { files, .. }) => audit(rt, &files, writer),
+        Invocation::Serve(options, part) => serve(rt, options, part),
+        Invocation::Explain(text) => explain_codes(rt, &text, writer, errors),
     }
 }
 

@@ -13,7 +13,7 @@ ghost use Rattle.thread_plans.specs.Plans.{plan_in, plan_value};
 ghost use Rattle.drills.specs.Parts.{part_text};
 ghost use Rattle.failreg.specs.Recordings.{IsKept, KeepsParts, head_at};
 
-use crate::recording::{is_kept, unwritten};
+use crate::recording::{file_at, is_kept, unwritten};
 use drills::{PartHead, write_part};
 use node_core::Trace;
 use scripts::{MOST_BYTES, ScriptFault, Watched, read_script, write_text};
@@ -23,7 +23,7 @@ use std::fs::Files;
 use std::io::{BufWriter, Read, Write};
 use std::sync::Wait;
 use std::thread::Threads;
-use thread_scripts::{ThreadPlan, judged_output_of, play, read_plan_saying, warnings_of};
+use thread_scripts::{Size, ThreadPlan, judged_output_of, play, read_plan_saying, warnings_of};
 
 /// The most nodes of a cluster.
 const MOST_NODES: u8 = 32;
@@ -48,8 +48,8 @@ pub fn kept_part<R: Files>(
     Ok(None)
 }
 
-// Writes to the files of the parts, one of each node, in a folder that is made where it isn't there.
-fn part_files<R: Files>(
+/// Writes to the files of the parts, one of each node, in a folder that is made where it isn't there.
+pub fn part_files<R: Files>(
     rt: &R,
     alloc: Global,
     folder: &str,
@@ -63,48 +63,31 @@ fn part_files<R: Files>(
     let _made = fs::create_dir(rt, folder);
     let mut files = Vec::new(alloc);
     for node in 0..nodes {
-        let file = part_file(rt, alloc, &part_path(alloc, folder, node)?)?;
+        let file = file_at(rt, alloc, &part_path(alloc, folder, node)?)?;
         files.reserve(1)?;
         files.push_reserved(file);
     }
     Ok(files)
 }
 
-fn part_file<R: Files>(
-    rt: &R,
-    alloc: Global,
-    path: &str,
-) -> Result<Watched<BufWriter<R::File>>, ScriptFault>
-    ensures sound { IfOk result (λ file. has_failed file ≡ false) }
-    ensures only { IfErr result (λ fault. (fault ≡ WriteFailed) ⊎ (fault ≡ OutOfMemory)) }
-{
-    let Ok(file) = fs::create(rt, path) else {
-        return Err(ScriptFault::WriteFailed);
-    };
-    let Ok(file) = BufWriter::new(alloc, file) else {
-        return Err(ScriptFault::OutOfMemory);
-    };
-    Ok(Watched::new(file))
-}
-
 // Writes the part of a node of a run.
 fn keep_part<D: Write>(
     alloc: Global,
-    plan: &ThreadPlan<'_>,
+    size: Size,
     node: u8,
     trace: &Trace,
     file: &mut Watched<D>,
 ) -> Result<(), ScriptFault>
     requires { has_failed file.old ≡ false }
     ensures kept { OnOk result (Writes D.contents file.old file.new
-        (part_text (head_at (plan_value plan.now) node) trace.now.calls)) }
+        (part_text (head_at size.nodes size.trace_cap node) trace.now.calls)) }
     ensures flushed { OnOk result (has_unflushed file.new ≡ false) }
     ensures only { IfErr result (λ fault. (fault ≡ WriteFailed) ⊎ (fault ≡ OutOfMemory)) }
 {
     let head = PartHead {
         node,
-        nodes: plan.size.nodes,
-        cap: plan.size.trace_cap as u64,
+        nodes: size.nodes,
+        cap: size.trace_cap as u64,
         run: String::new(alloc),
     };
     match write_part(alloc, &head, trace, file) {
@@ -113,23 +96,23 @@ fn keep_part<D: Write>(
     }
 }
 
-// Writes the part of each node of a run.
-fn keep_parts<D: Write>(
+/// Writes the part of each node of a run.
+pub fn keep_parts<D: Write>(
     alloc: Global,
-    plan: &ThreadPlan<'_>,
+    size: Size,
     traces: &[Trace],
     files: &mut [Watched<D>],
 ) -> Result<(), ScriptFault>
-    requires traces { length traces.now ≡ plan.now.size.nodes }
-    requires files { length files.old ≡ plan.now.size.nodes }
+    requires traces { length traces.now ≡ size.nodes }
+    requires files { length files.old ≡ size.nodes }
     requires sound { All (λ file. has_failed file ≡ false) files.old }
-    ensures kept { OnOk result (KeepsParts D.contents (plan_value plan.now) traces.now
+    ensures kept { OnOk result (KeepsParts D.contents size.nodes size.trace_cap traces.now
         files.old files.new) }
     ensures only { IfErr result (λ fault. (fault ≡ WriteFailed) ⊎ (fault ≡ OutOfMemory)) }
 {
-    for node in 0..plan.size.nodes {
+    for node in 0..size.nodes {
         let at = usize::from(node);
-        keep_part(alloc, plan, node, &traces[at], &mut files[at])?;
+        keep_part(alloc, size, node, &traces[at], &mut files[at])?;
     }
     Ok(())
 }
@@ -150,9 +133,9 @@ fn play_in_parts<R: Threads + Wait + Sync, D: Write, O: Write>(
     requires sound { All (λ file. has_failed file ≡ false) files.old }
     requires writer { has_failed writer.old ≡ false }
     // The parts that were kept are those of the run whose output was written.
-    ensures ok { OnOk result (IsKept (λ traces lists. KeepsParts D.contents (plan_value plan.now) traces
-        files.old files.new) script.now (plan_value plan.now) said.new.items
-        O.contents writer.old writer.new) }
+    ensures ok { OnOk result (IsKept (λ traces lists. KeepsParts D.contents plan.now.size.nodes
+        plan.now.size.trace_cap traces files.old files.new) script.now (plan_value plan.now)
+        said.new.items O.contents writer.old writer.new) }
     ensures unsaid { OnErr result (said.new ≡ said.old) }
     ensures flushed { OnOk result (has_unflushed writer.new ≡ false) }
     ensures only { IfErr result (λ fault. (fault ≡ WriteFailed) ⊎ (fault ≡ OutOfMemory)) }
@@ -160,7 +143,7 @@ fn play_in_parts<R: Threads + Wait + Sync, D: Write, O: Write>(
     ensures write_failed { has_failed writer.new ≡ true → result ≡ Err WriteFailed }
 {
     let played = play(rt, alloc, plan)?;
-    keep_parts(alloc, plan, &played.traces, files)?;
+    keep_parts(alloc, plan.size, &played.traces, files)?;
     let (text, yes) = judged_output_of(alloc, plan, &played)?;
     let warned = warnings_of(alloc, script, plan, &played, yes)?;
     write_text(writer, text.as_bytes())?;

@@ -1,7 +1,7 @@
 //! Recorded drills: a script of threads whose drill is kept.
 
 ghost use Rattle.std.specs.Prelude.{◌≡◌, ◌≢◌, ◌↔◌, ◌<◌, ◌≤◌, ◌⊎◌, ℕ, length, true, false, Err};
-ghost use Rattle.std.specs.Prelude.{IfErr, OnErr, OnOk};
+ghost use Rattle.std.specs.Prelude.{IfErr, IfOk, OnErr, OnOk};
 ghost use Rattle.streams.specs.declared.fault.ScriptFault.TheVariants.{BadLine, OutOfMemory};
 ghost use Rattle.streams.specs.declared.fault.ScriptFault.TheVariants.{ReadFailed, TooLong};
 ghost use Rattle.streams.specs.declared.fault.ScriptFault.TheVariants.{WriteFailed};
@@ -20,7 +20,7 @@ use std::fs::Files;
 use std::io::{BufWriter, Read, Write};
 use std::sync::Wait;
 use std::thread::Threads;
-use thread_scripts::{ThreadPlan, judged_output_of, play, read_plan_saying, warnings_of};
+use thread_scripts::{Played, ThreadPlan, judged_output_of, play, read_plan_saying, warnings_of};
 
 /// Why a drill wasn't written, as scripts tell it.
 pub fn unwritten(fault: DrillFault) -> ScriptFault
@@ -32,6 +32,25 @@ pub fn unwritten(fault: DrillFault) -> ScriptFault
         DrillFault::ReadFailed | DrillFault::OutOfMemory | DrillFault::BadLine { .. } => {
             ScriptFault::OutOfMemory
         }
+    }
+}
+
+/// Writes the drill of a run.
+pub fn keep_drill<D: Write>(
+    alloc: Global,
+    played: &Played,
+    recorder: &mut Watched<D>,
+) -> Result<(), ScriptFault>
+    requires { has_failed recorder.old ≡ false }
+    ensures kept { OnOk result (KeepsDrill D.contents recorder.old recorder.new
+        played.now.traces.items played.now.lists.items) }
+    ensures flushed { OnOk result (has_unflushed recorder.new ≡ false) }
+    ensures write_failed { (result ≡ Err WriteFailed) ↔ (has_failed recorder.new ≡ true) }
+    ensures only { IfErr result (λ fault. (fault ≡ WriteFailed) ⊎ (fault ≡ OutOfMemory)) }
+{
+    match write_drill(alloc, &played.traces, &played.lists, recorder) {
+        Ok(()) => Ok(()),
+        Err(fault) => Err(unwritten(fault)),
     }
 }
 
@@ -61,14 +80,30 @@ fn play_recorded<R: Threads + Wait + Sync, D: Write, O: Write>(
     ensures unwritten { result ≡ Err OutOfMemory → writer.new ≡ writer.old }
 {
     let played = play(rt, alloc, plan)?;
-    if let Err(fault) = write_drill(alloc, &played.traces, &played.lists, recorder) {
-        return Err(unwritten(fault));
-    }
+    keep_drill(alloc, &played, recorder)?;
     let (text, yes) = judged_output_of(alloc, plan, &played)?;
     let warned = warnings_of(alloc, script, plan, &played, yes)?;
     write_text(writer, text.as_bytes())?;
     *said = warned;
     Ok(())
+}
+
+/// Writes to a file, from its beginning on.
+pub fn file_at<R: Files>(
+    rt: &R,
+    alloc: Global,
+    path: &str,
+) -> Result<Watched<BufWriter<R::File>>, ScriptFault>
+    ensures sound { IfOk result (λ file. has_failed file ≡ false) }
+    ensures only { IfErr result (λ fault. (fault ≡ WriteFailed) ⊎ (fault ≡ OutOfMemory)) }
+{
+    let Ok(file) = fs::create(rt, path) else {
+        return Err(ScriptFault::WriteFailed);
+    };
+    let Ok(file) = BufWriter::new(alloc, file) else {
+        return Err(ScriptFault::OutOfMemory);
+    };
+    Ok(Watched::new(file))
 }
 
 /// Whether a file is there that holds what is written, unlike a pipe or a device.
@@ -116,13 +151,7 @@ pub fn run_recorded<R: Threads + Wait + Sync + Files, I: Read, O: Write>(
 {
     let script = read_script(alloc, reader)?;
     let plan = read_plan_saying(alloc, script.as_slice(), said)?;
-    let Ok(file) = fs::create(rt, path) else {
-        return Err(ScriptFault::WriteFailed);
-    };
-    let Ok(file) = BufWriter::new(alloc, file) else {
-        return Err(ScriptFault::OutOfMemory);
-    };
-    let mut recorder = Watched::new(file);
+    let mut recorder = file_at(rt, alloc, path)?;
     play_recorded(
         rt,
         alloc,

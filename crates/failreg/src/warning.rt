@@ -11,8 +11,8 @@ use scripts::{ScriptFault, Watched, write_text};
 use std::io::Write;
 use std::process::ExitCode;
 
-// Says what there is to say: that it can't be written is no fault.
-fn say<E: Write>(errors: &mut Watched<E>, said: &[u8])
+/// Says what there is to say: that it can't be written is no fault.
+pub fn say<E: Write>(errors: &mut Watched<E>, said: &[u8])
     requires { has_failed errors.old ≡ false }
     ensures { has_failed errors.new ≡ false →
         Writes E.contents errors.old errors.new said.now }

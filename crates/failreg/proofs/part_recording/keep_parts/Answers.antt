@@ -1,6 +1,5 @@
 use Rattle.std.proofs.Common.{◌<◌, length, refl, ap, ◌∙◌, arith}
 use Rattle.streams.specs.Watched.{has_failed}
-use Rattle.thread_plans.specs.Plans.{plan_value}
 use Rattle.failreg.proofs.Parts.{one_more, rest_more}
 use Rattle.failreg.proofs.part_recording.keep_parts.Goals as goal
 
@@ -21,7 +20,7 @@ loop-node-preserved g c =
     let within : c.loop-node.node < length c.args.traces.now =
     omega (arith, c.loop-node-test.true, c.requires.traces) in
     rw c.from-at.ensures (record {
-      kept = one_more g.D.Write.contents (plan_value c.args.plan.now) c.args.traces.now c.args.files.now c.loop-node.files
+      kept = one_more g.D.Write.contents c.args.size.nodes c.args.size.trace_cap c.args.traces.now c.args.files.now c.loop-node.files
           c.loop-node.node c.index-files-at.result c.keep_part.new.file c.index-traces-at.result inside within
           (rw c.from-at.ensures at c.index-traces-at.is)
           c.loop-node.invariant.kept c.loop-node.invariant.rest (rw c.from-at.ensures at c.in_ok-keep_part.ensures.kept)

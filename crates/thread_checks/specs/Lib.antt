@@ -1,0 +1,5 @@
+pub mod Lines
+pub mod Views
+pub mod Scans
+pub mod Scanned
+pub mod Checked

@@ -1,0 +1,59 @@
+//! What is said of a script that is checked, behind its run.
+
+ghost use Rattle.std.specs.Prelude.{◌≡◌, ◌≤◌, length, IfOk};
+ghost use Rattle.thread_plans.specs.Plans.{plan_value};
+ghost use Rattle.thread_checks.specs.Checked.{failed_text, without_starts};
+
+use crate::scan::scan_text;
+use crate::views::{View, view_of};
+use scripts::checked_text_of;
+use std::alloc::{AllocError, Global};
+use streams::MOST_BYTES;
+use thread_scripts::{Played, ThreadPlan, warnings_of};
+
+fn without_starts<'a>(alloc: Global, plan: ThreadPlan<'a>) -> ThreadPlan<'a>
+    ensures { plan_value result ≡ without_starts (plan_value plan.entry) }
+{
+    let ThreadPlan {
+        size,
+        seed,
+        starts: _,
+        gossip,
+        blocks,
+    } = plan;
+    ThreadPlan {
+        size,
+        seed,
+        starts: Vec::new(alloc),
+        gossip,
+        blocks,
+    }
+}
+
+/// What is said of the lines of a script that fail, whose plan came to this, where waits in the lines of
+/// these numbers were in vain, this was printed and the audit says yes or no. Nothing, where none fails.
+///
+/// The lines before the workers are answered as those of a script of calls that is checked.
+pub fn failures_of(
+    alloc: Global,
+    script: &[u8],
+    plan: ThreadPlan<'_>,
+    played: &Played,
+    vain: &[u32],
+    printed: &[u8],
+    yes: bool,
+) -> Result<Vec<u8>, AllocError>
+    requires { length script.now ≤ MOST_BYTES }
+    ensures { IfOk result (λ said. said.items ≡ failed_text script.now (plan_value plan.entry)
+        played.now.lists.items vain.now printed.now yes) }
+{
+    let starts = view_of(alloc, View::Starts, script)?;
+    let mut said = checked_text_of(alloc, &starts)?;
+    let workers = view_of(alloc, View::Workers, script)?;
+    let plan = without_starts(alloc, plan);
+    let warned = warnings_of(alloc, &workers, &plan, played, yes)?;
+    said.extend_from_slice(&warned)?;
+    let scanned = scan_text(alloc, script, vain, printed)?;
+    said.extend_from_slice(&scanned)?;
+    Ok(said)
+}
