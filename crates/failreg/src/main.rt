@@ -24,6 +24,7 @@ mod explaining;
 mod finish;
 mod part_advice;
 mod part_recording;
+mod picturing;
 mod recording;
 mod short_lines;
 mod standard;
@@ -43,6 +44,7 @@ use finish::{
 };
 use node_service::{ServiceFault, serve_node, serve_recorded};
 use part_advice::advice_on_recorded;
+use picturing::draw_drill;
 use scripts::{
     MOST_BYTES, Watched, run_script, run_script_checked, run_script_echoing, run_script_warning,
 };
@@ -84,6 +86,7 @@ fn main(rt: HostRuntime) -> anyhow::Result<ExitCode> {
             threads(&rt, options, &mut reader, &mut writer, &mut errors)
         }
         Ok(Invocation::Audit(paths)) => audit(&rt, &paths, &mut writer),
+        Ok(Invocation::Picture(paths)) => draw_drill(&rt, &paths, &mut writer),
         Ok(Invocation::Serve(options, part)) => serve(&rt, options, part),
         Ok(Invocation::Explain(text)) => explain_codes(&rt, &text, &mut writer, &mut errors),
         Err(error) => finish_unread(&rt, &error),
