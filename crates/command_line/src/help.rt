@@ -265,6 +265,32 @@ Example:
   audit yes
   budget a 1.0 0 count=2 executed=0";
 
+/// Behind the short help of `picture`.
+pub const PICTURE_SHORT: &str = "`failreg picture --help` says what is drawn, and has an example.";
+
+/// Behind the help of `picture`.
+pub const PICTURE: &str = "\
+The files have a drill or the parts of one, as `failreg audit` takes them. What
+is written is a picture of it, an SVG without a script: a lane for each node,
+its calls from left to right by columns, and each message as an arrow from where
+it was made to where it was taken. A call stands as far left as the calls before
+it let it, so that no arrow goes to the left. A pointer that rests on a call is
+told what was asked. Of more than 270 columns several are drawn as one, with
+bars for their calls. The heading says what `failreg audit` says of the drill;
+a call that waits for a message which was never made is marked, as is the first
+call that a node wouldn't have answered so. docs/drills.md shows some.
+
+The status is 0 where the picture was written, whatever it shows, and 1 where a
+file can't be read or has no drill, as for `failreg audit`.
+
+Example:
+  $ printf 'nodes 1 9\\nseed %064d\\nstart set 0 a 2*off\\n' 0 | failreg threads --record /tmp/drill
+  workers 0
+  calls 1
+  audit yes
+  budget a 1.0 0 count=2 executed=0
+  $ failreg picture /tmp/drill > /tmp/drill.svg";
+
 /// Behind the short help of `serve`.
 pub const SERVE_SHORT: &str =
     "`failreg serve --help` has requests to try first, and says how the node tells its peers.";

@@ -23,6 +23,8 @@ pub enum Invocation<'a> {
     Threads(ThreadOptions<'a>),
     /// To audit the drill in a file, or that of the parts in files.
     Audit(AuditOptions<'a>),
+    /// To draw the drill in a file, or that of the parts in files.
+    Picture(Vec<&'a str>),
     /// To serve a node over HTTP, and to keep its part, if that is wanted.
     Serve(ServeOptions<'a>, Option<PartOptions<'a>>),
     /// To say what the codes in a text mean, or, without one, to list all codes.
@@ -215,6 +217,10 @@ fn read_matches<'a>(alloc: Global, matches: &ArgMatches<'a>) -> Result<Invocatio
                 files: Vec::from_slice(alloc, files)?,
                 json: matches.get_flag("json"),
             })
+        }
+        Subcommand::Picture => {
+            let files = matches.get_strs("file").unwrap_or(&[]);
+            Invocation::Picture(Vec::from_slice(alloc, files)?)
         }
         Subcommand::Serve => {
             let part = part_options(alloc, matches)?;

@@ -216,6 +216,19 @@ const AUDIT: &[Argument] = &[
     },
 ];
 
+const PICTURE: &[Argument] = &[Argument {
+    name: "file",
+    by_name: false,
+    value: "file",
+    help: "A drill that was kept, or each part of one, or `-` for standard input",
+    required: true,
+    default: &[],
+    values: (1, usize::MAX),
+    most: None,
+    takes_hyphens: false,
+    excludes: &[],
+}];
+
 const SERVE: &[Argument] = &[
     Argument {
         name: "node",
@@ -395,16 +408,18 @@ pub enum Subcommand {
     Sim,
     Threads,
     Audit,
+    Picture,
     Serve,
     Explain,
 }
 
 /// In the order in which the help has them.
-pub const SUBCOMMANDS: [Subcommand; 6] = [
+pub const SUBCOMMANDS: [Subcommand; 7] = [
     Subcommand::Parse,
     Subcommand::Sim,
     Subcommand::Threads,
     Subcommand::Audit,
+    Subcommand::Picture,
     Subcommand::Serve,
     Subcommand::Explain,
 ];
@@ -423,6 +438,7 @@ impl Subcommand {
             Subcommand::Sim => "sim",
             Subcommand::Threads => "threads",
             Subcommand::Audit => "audit",
+            Subcommand::Picture => "picture",
             Subcommand::Serve => "serve",
             Subcommand::Explain => "explain",
         }
@@ -436,6 +452,7 @@ impl Subcommand {
             Subcommand::Threads =>
                 "Runs the script on standard input with workers in threads, and counts their calls",
             Subcommand::Audit => "Audits a drill that `threads --record` kept, or parts of one",
+            Subcommand::Picture => "Draws a drill, or parts of one, as an SVG",
             Subcommand::Serve => "Serves a node over HTTP on 127.0.0.1",
             Subcommand::Explain => "Says what codes of refusals mean, and what to do",
         }
@@ -448,6 +465,7 @@ impl Subcommand {
             Subcommand::Sim => extent.pick(help::SIM_SHORT, help::SIM),
             Subcommand::Threads => extent.pick(help::THREADS_SHORT, help::THREADS),
             Subcommand::Audit => extent.pick(help::AUDIT_SHORT, help::AUDIT),
+            Subcommand::Picture => extent.pick(help::PICTURE_SHORT, help::PICTURE),
             Subcommand::Serve => extent.pick(help::SERVE_SHORT, help::SERVE),
             Subcommand::Explain => extent.pick(help::EXPLAIN_SHORT, help::EXPLAIN),
         }
@@ -460,6 +478,7 @@ impl Subcommand {
             Subcommand::Sim => SIM,
             Subcommand::Threads => THREADS,
             Subcommand::Audit => AUDIT,
+            Subcommand::Picture => PICTURE,
             Subcommand::Serve => SERVE,
             Subcommand::Explain => EXPLAIN,
         }

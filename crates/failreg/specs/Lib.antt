@@ -4,3 +4,4 @@ pub mod Checked
 pub mod RefusedText
 pub mod ShortLines
 pub mod Explaining
+pub mod Drawn

@@ -17,7 +17,7 @@ use std::fs::Files;
 use std::io::{BufRead, BufReader, Read, Write};
 
 // The first line of a reader, with the newline that ends it, if one does.
-fn first_line<I: Read>(
+pub fn first_line<I: Read>(
     alloc: Global,
     reader: &mut BufReader<Watched<I>>,
 ) -> Result<Vec<u8>, DrillFault>
@@ -35,13 +35,13 @@ fn first_line<I: Read>(
 }
 
 // Whether a part begins with this line.
-fn begins_part(alloc: Global, line: &[u8]) -> Result<bool, AllocError> {
+pub fn begins_part(alloc: Global, line: &[u8]) -> Result<bool, AllocError> {
     let line = line.strip_suffix(b"\n").unwrap_or(line);
     Ok(part_head_in(alloc, line)?.is_some())
 }
 
 // The part that a reader gives.
-fn part_from<I: Read + Drop>(alloc: Global, input: I) -> Result<Part, DrillFault> {
+pub fn part_from<I: Read + Drop>(alloc: Global, input: I) -> Result<Part, DrillFault> {
     let Ok(mut reader) = BufReader::new(alloc, Watched::new(input)) else {
         return Err(DrillFault::OutOfMemory);
     };
@@ -162,7 +162,7 @@ fn part_in_file<R: Files + Input>(rt: &R, alloc: Global, path: &str) -> Result<P
 }
 
 // The parts in files, in their order.
-fn parts_in_files<R: Files + Input>(
+pub fn parts_in_files<R: Files + Input>(
     rt: &R,
     alloc: Global,
     paths: &[&str],

@@ -30,7 +30,7 @@ fn nodes_of(traces: usize) -> u8
 }
 
 // The verdict of an audit of a drill. Out of memory is none.
-fn judged(alloc: Global, drill: &Drill) -> Result<Result<AuditYes, AuditFault>, DrillFault>
+pub fn judged(alloc: Global, drill: &Drill) -> Result<Result<AuditYes, AuditFault>, DrillFault>
     ensures audited { IfOk result (IsAudited (min (length drill.now.traces.items) 255)
         drill.now.traces.items drill.now.lists.items) }
     ensures ended { IfOk result (λ verdict. verdict ≢ Err AuditFault.OutOfMemory) }

@@ -25,6 +25,7 @@ mod finish;
 mod objects;
 mod part_advice;
 mod part_recording;
+mod picturing;
 mod recording;
 mod short_lines;
 mod standard;
@@ -47,6 +48,7 @@ use finish::{
 use node_service::{ServiceFault, serve_node, serve_recorded};
 use objects::finish_objects;
 use part_advice::advice_on_recorded;
+use picturing::draw_drill;
 use scripts::{
     MOST_BYTES, Watched, run_script, run_script_checked, run_script_echoing, run_script_warning,
 };
@@ -100,7 +102,10 @@ fn wants_objects(invocation: &Invocation<'_>) -> bool {
         Invocation::Sim(options) => options.json,
         Invocation::Threads(options) => options.json,
         Invocation::Audit(options) => options.json,
-        Invocation::Parse(_) | Invocation::Serve(..) | Invocation::Explain(_) => false,
+        Invocation::Parse(_)
+        | Invocation::Picture(_)
+        | Invocation::Serve(..)
+        | Invocation::Explain(_) => false,
     }
 }
 
@@ -141,6 +146,7 @@ where
         }
         Invocation::Threads(options) => threads(rt, options, &mut reader, writer, errors),
         Invocation::Audit(AuditOptions { files, .. }) => audit(rt, &files, writer),
+        Invocation::Picture(paths) => draw_drill(rt, &paths, writer),
         Invocation::Serve(options, part) => serve(rt, options, part),
         Invocation::Explain(text) => explain_codes(rt, &text, writer, errors),
     }
