@@ -307,6 +307,8 @@ What to try first, where <port> is the one that it prints:
                                       sets a point, and prints the stamp
   curl localhost:<port>/fail          the points that are set, as one text
   curl localhost:<port>/report        what the node knows, as JSON
+  curl localhost:<port>/status        which node it is, how many calls it made,
+                                      and what each node has of each count
   curl -X POST localhost:<port>/grant/a/0/3
                                       adds 3 rights beyond the count of the
                                       point's first term
@@ -319,6 +321,7 @@ What to try first, where <port> is the one that it prints:
   curl --data-binary @message localhost:<port>/gossip
                                       delivers a message of another node, and
                                       prints `changed` or `same`
+  curl -X POST localhost:<port>/stop  ends the service
 An answer has status 200. It is 404 where there is no such route, 405 where the
 route has another method, 413 where the body is longer than 67108864 bytes, 400
 where what was sent is wrong, 409 where it doesn't go with what the node holds,
@@ -344,13 +347,16 @@ line of the file before anybody is told of it. Where the file is there, those
 calls are made again first, and --failpoints only where there are none. Where a
 line can't be written, as on a full disk, that call and all later ones are 503.
 
-The status is 0 once all were served. It is 2 where a peer isn't the number of
-a node of the cluster and a port, round a `:`. It is 1 where the node can't be
-made (`refused N21 BadConfig`: n isn't below m, or m isn't 1 to 32), where the
-port can't be listened on (`refused V1 BindFailed`), where the node refuses the
-FAILPOINTS text, where the file isn't this node's part (`refused V4 BadPart`) or
-another process has it open (`refused V5 PartInUse`), and where no more clients
-can be let in; the reason stands on standard error.
+The status is 0 once all were served, or a client has ended the service; those
+who are being served then have 2 seconds. It is 4 where a message shows that
+others know more of the node than it does (`N18`, `N19`): it was started again
+without its part. It is 2 where a peer isn't the number of a node of the cluster
+and a port, round a `:`. It is 1 where the node can't be made (`refused N21
+BadConfig`: n isn't below m, or m isn't 1 to 32), where the port can't be
+listened on (`refused V1 BindFailed`), where the node refuses the FAILPOINTS
+text, where the file isn't this node's part (`refused V4 BadPart`) or another
+process has it open (`refused V5 PartInUse`), and where no more clients can be
+let in; the reason stands on standard error.
 
 Example:
   $ failreg serve --node 0 --nodes 2 --port 17070 --requests 0
