@@ -153,13 +153,25 @@ const NO_MEMORY: &[Row] = &[
     (Fails::Send(OutOfMemory, 1), 2, [2, 1, 0]),
 ];
 
-// The wire of the first of three nodes, for which a message waits twice.
-fn filled<R: Wait>(rt: &R, alloc: Global, message: &[u8]) -> Result<MailWire, Fail> {
+/// A message that waits for a node so many times.
+#[derive(Clone, Copy)]
+struct Waiting {
+    message: &'static [u8],
+    times: u8,
+}
+
+const TWO_EMPTY: Waiting = Waiting {
+    message: EMPTY,
+    times: 2,
+};
+
+// The wire of the first of three nodes, for which this waits.
+fn filled<R: Wait>(rt: &R, alloc: Global, waiting: Waiting) -> Result<MailWire, Fail> {
     let mut wires = MailWire::all(alloc, 3)?;
     wires.truncate(1);
     let mut wire = wires.pop().ok_or("a wire")?;
-    for _ in 0..2 {
-        wire.send(rt, alloc, 0, message)?;
+    for _ in 0..waiting.times {
+        wire.send(rt, alloc, 0, waiting.message)?;
     }
     Ok(wire)
 }
@@ -169,7 +181,7 @@ fn counts_at<L: Label, R: Wait>(
     rt: &R,
     alloc: Global,
     blank: Blank,
-    message: &[u8],
+    waiting: Waiting,
     fails: Fails,
     rounds: u32,
 ) -> Result<Counts, Fail>
@@ -179,7 +191,7 @@ fn counts_at<L: Label, R: Wait>(
     requires seed { replicate 32 0 ≡ L.seed }
 {
     let (registry, mut seat) = opened::<L, R>(rt, alloc, blank, FIRST_OF_THREE)?;
-    let inner = filled(rt, alloc, message)?;
+    let inner = filled(rt, alloc, waiting)?;
     let mut wire = Failing { inner, fails };
     let report = rounds_of(rt, alloc, &registry, &mut seat, &mut wire, rounds);
     Ok(counted(&report))
@@ -188,11 +200,11 @@ fn counts_at<L: Label, R: Wait>(
 fn counts_of<R: Wait>(
     rt: &R,
     alloc: Global,
-    message: &[u8],
+    waiting: Waiting,
     fails: Fails,
     rounds: u32,
 ) -> Result<Counts, Fail> {
-    counts_at::<Brand, R>(rt, alloc, Blank::new(1), message, fails, rounds)
+    counts_at::<Brand, R>(rt, alloc, Blank::new(1), waiting, fails, rounds)
 }
 
 fn wanted([emitted, lost, delivered]: [u64; 3], ended: Ended) -> Counts {
@@ -213,7 +225,7 @@ fn expect_rounds<R: Abort + Wait>(
     ended: Ended,
 ) -> Result<(), Fail> {
     for (fails, rounds, numbers) in rows {
-        let counts = counts_of(rt, alloc, EMPTY, *fails, *rounds)?;
+        let counts = counts_of(rt, alloc, TWO_EMPTY, *fails, *rounds)?;
         expect(rt, &counts, &wanted(*numbers, ended));
     }
     Ok(())
@@ -225,17 +237,24 @@ fn rounds_over_wires_that_fail(rt: HostRuntime) -> Result<(), Fail> {
     expect_rounds(&rt, rt.alloc(), NO_MEMORY, Ended::OutOfMemory)
 }
 
+// A round takes in all that a mailbox holds.
 #[test]
 fn what_is_no_message_is_refused(rt: HostRuntime) -> Result<(), Fail> {
-    let wanted = Counts {
-        emitted: 2,
-        lost: 0,
-        delivered: 0,
-        refused: 2,
-        receipts: 2,
-        ended: Ended::Done,
-    };
-    let counts = counts_of(&rt, rt.alloc(), &[0; 31], Fails::Never, 1)?;
-    expect(&rt, &counts, &wanted);
+    for times in [2u8, 64] {
+        let waiting = Waiting {
+            message: &[0; 31],
+            times,
+        };
+        let wanted = Counts {
+            emitted: 2,
+            lost: 0,
+            delivered: 0,
+            refused: u64::from(times),
+            receipts: 2,
+            ended: Ended::Done,
+        };
+        let counts = counts_of(&rt, rt.alloc(), waiting, Fails::Never, 1)?;
+        expect(&rt, &counts, &wanted);
+    }
     Ok(())
 }
