@@ -2,6 +2,7 @@
 
 ghost use Rattle.std.specs.Prelude.{IfOk, IfSome};
 ghost use Rattle.part_keeper.specs.Kept.{IsRecorded};
+ghost use Rattle.part_keeper.specs.Outs.{out_of};
 
 use node_core::{Ask, Reply};
 use node_registry::{Label, Registry};
@@ -19,7 +20,7 @@ pub fn recorded<L: Label, W: Write, R: Wait>(
     ask: Ask,
 ) -> Result<Option<Reply>, NotRecorded>
     ensures { IfOk result (λ made. IfSome made
-        (IsRecorded W.contents recording.old.lines.out recording.new.lines.out ask)) }
+        (IsRecorded W.contents (out_of recording.old) (out_of recording.new) ask)) }
 {
     match recording.submit(rt, alloc, registry, ask) {
         Ok(reply) => Ok(Some(reply)),
