@@ -7,11 +7,13 @@ use Rattle.replica_state.specs.States.{State, with_key}
 use Rattle.replica_state.specs.Folds.{fold, clock_of}
 use Rattle.node_calls.specs.Asks.{Asked, Call}
 use Rattle.node_calls.specs.Asks as asks
-use Rattle.node_core.specs.Nodes.{Node, start, state_shown}
-use Rattle.node_core.specs.Outcomes.{state_set}
-use Rattle.node_core.specs.Steps.{after, operations_added, settings, new_key, shift_under, message_in}
+use Rattle.node_steps.specs.Nodes.{Node, start, state_shown}
+use Rattle.node_steps.specs.Outcomes.{state_set}
+use Rattle.node_core.specs.Steps.{after, operations_added, shift_under}
+use Rattle.node_steps.specs.Settings.{settings, new_key}
+use Rattle.node_steps.specs.Refusals.{message_in}
 use Rattle.node_core.specs.Traces.{replay_from, replay}
-use Rattle.node_core.proofs.Overspent.{clock-append}
+use Rattle.node_steps.proofs.Overspent.{clock-append}
 use Rattle.node_core.proofs.SettingSteps.{issued_clock, Issues, issues_load}
 use Rattle.node_core.proofs.TraceLemmas.{held_clock}
 use Rattle.cluster_model.proofs.Passes.{Outcome, NotSet, Nothing, Triggered, IsOutcome, ops_of, outcome_of}

@@ -16,9 +16,9 @@ use Rattle.actions.specs.Reading.{reading}
 use Rattle.stamp_register.specs.declared.key.Stamp.{Stamp}
 use Rattle.stamp_register.specs.Keys.{KeyValue, stamp_of, terms_in_text, terms_read, terms_set}
 use Rattle.operations.specs.Operations.{Operation, Set, IsIn, count_of, count_in, count_under}
-use Rattle.node_core.specs.Steps.{new_key, operations_issued, settings_of}
+use Rattle.node_steps.specs.Settings.{new_key, operations_issued, settings_of}
 use Rattle.operations.proofs.Members.{IsIn-append_left, IsIn-append_right, IsIn-append_cases}
-use Rattle.node_core.proofs.LoadSteps.{issued-more}
+use Rattle.node_steps.proofs.LoadSteps.{issued-more}
 use Rattle.audit.specs.declared.counts.Counts.{Counts}
 use Rattle.audit.specs.Counts.{count_kept, is_counted_at, IsCounted, AreCountsOf, AddsKeys}
 use Rattle.audit.proofs.SumsKept.{same_number}

@@ -4,14 +4,14 @@ use Rattle.std.specs.Prelude.{nat_le}
 use Rattle.std.specs.Bool.{then_some}
 use Rattle.std.proofs.lemmas.Bool.Decides.{nat_tests}
 use Rattle.refusals.specs.Refusals.{first_fault}
-use Rattle.node_core.specs.declared.config.Config.{Config}
+use Rattle.node_steps.specs.declared.config.Config.{Config}
 use Rattle.node_calls.specs.declared.fault.NodeFault.{NodeFault}
 use Rattle.node_calls.specs.declared.fault.NodeFault.TheVariants as faults
 use Rattle.node_calls.specs.Asks.{Asked, Call}
 use Rattle.node_calls.specs.Asks as asks
-use Rattle.node_core.specs.Nodes.{Node}
+use Rattle.node_steps.specs.Nodes.{Node}
 use Rattle.node_core.specs.Steps.{after}
-use Rattle.node_core.specs.Refusals.{refusal_at, is_full}
+use Rattle.node_steps.specs.Refusals.{refusal_at, is_full}
 use Rattle.node_core.specs.Resumed.{IsLegalCall}
 use Rattle.node_core.specs.Traces.{IsLegalFrom, replay_from}
 use Rattle.cluster_model.specs.Worlds.{cluster_of, config_of}

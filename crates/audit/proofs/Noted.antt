@@ -17,16 +17,17 @@ use Rattle.stamp_register.specs.Keys.{KeyValue, stamp_of, key_le, terms_set}
 use Rattle.operations.specs.Operations.{Operation, Set, count_of, count_under}
 use Rattle.replica_state.specs.States.{State, with_name}
 use Rattle.replica_state.specs.Folds.{fold, greater}
-use Rattle.node_core.specs.declared.config.Config.{Config}
+use Rattle.node_steps.specs.declared.config.Config.{Config}
 use Rattle.node_calls.specs.declared.fault.NodeFault.TheVariants as faults
 use Rattle.node_calls.specs.Told.{Told}
 use Rattle.node_calls.specs.Told as tells
 use Rattle.node_calls.specs.Asks.{Asked, Call, asked_from, call_from}
 use Rattle.node_calls.specs.Asks as asks
-use Rattle.node_core.specs.Nodes.{Node, start, state_shown}
-use Rattle.node_core.specs.Outcomes.{state_set}
-use Rattle.node_core.specs.Refusals.{refusal_at, no_entry, no_name, no_place, no_clock, bad_actions, grant_refusal, spare_words}
-use Rattle.node_core.specs.Steps.{after, operations_issued, settings, settings_of, body_read, new_key, shift_under}
+use Rattle.node_steps.specs.Nodes.{Node, start, state_shown}
+use Rattle.node_steps.specs.Outcomes.{state_set}
+use Rattle.node_steps.specs.Refusals.{refusal_at, no_entry, no_name, no_place, no_clock, bad_actions, grant_refusal, spare_words}
+use Rattle.node_core.specs.Steps.{after, shift_under}
+use Rattle.node_steps.specs.Settings.{operations_issued, settings, settings_of, body_read, new_key}
 use Rattle.node_core.specs.Traces.{Kept, node_of, state_known}
 use Rattle.node_core.proofs.SettingSteps.{fold_issued, Issues, issues_load}
 use Rattle.node_core.proofs.TraceLemmas.{replay_more}

@@ -4,10 +4,10 @@ use Rattle.std.proofs.lemmas.List.{length-map, length-take-le, length-append, ma
 use Rattle.std.proofs.lemmas.List.Sums.{sum_by-cons}
 use Rattle.std.specs.Map.{lookup}
 use Rattle.stamp_register.specs.declared.key.Stamp.{Stamp}
-use Rattle.node_core.specs.declared.config.Config.{Config}
+use Rattle.node_steps.specs.declared.config.Config.{Config}
 use Rattle.node_calls.specs.Told.{Told}
 use Rattle.node_calls.specs.Asks.{Call, call_from}
-use Rattle.node_core.specs.Nodes.{Node, start}
+use Rattle.node_steps.specs.Nodes.{Node, start}
 use Rattle.node_core.specs.Traces.{Kept, node_of, replay_from}
 use Rattle.cluster_model.specs.Histories.{keys_by, acts}
 use Rattle.cluster_model.specs.Worlds.{config_of}

@@ -1,10 +1,10 @@
 -- How many entries are replayed, and where all are legal.
 use Rattle.std.proofs.Common.{◌≡◌, inl, inr, ℕ, zero, suc, ◌+◌, ◌<◌, ◌≤◌, List, [], ◌∷◌, length, map, take, Some, refl, sym, subst, arith, slice_get}
 use Rattle.std.proofs.lemmas.Bool.Decides.{leb_tells}
-use Rattle.node_core.specs.declared.config.Config.{Config}
+use Rattle.node_steps.specs.declared.config.Config.{Config}
 use Rattle.node_calls.specs.Told.{Told}
 use Rattle.node_calls.specs.Asks.{Call, call_from}
-use Rattle.node_core.specs.Nodes.{start}
+use Rattle.node_steps.specs.Nodes.{start}
 use Rattle.node_core.specs.Resumed.{IsLegalAlone, IsLegalKept}
 use Rattle.node_core.specs.Traces.{IsLegal, Kept}
 use Rattle.node_core.proofs.LegalTraces.{legal_prefix, nothing_legal}

@@ -7,15 +7,14 @@ use Rattle.refusals.specs.Refusals.{first_fault}
 use Rattle.counters.specs.Sums.{node_numbers}
 use Rattle.operations.specs.Operations.{IsIn}
 use Rattle.message_format.specs.declared.fault.WireFault.{WireFault}
-use Rattle.node_core.specs.declared.config.Config.{Config}
+use Rattle.node_steps.specs.declared.config.Config.{Config}
 use Rattle.node_calls.specs.declared.fault.NodeFault.{NodeFault}
 use Rattle.node_calls.specs.Told.{Told, AskTold, ReplyTold}
 use Rattle.node_calls.specs.Told as tells
 use Rattle.node_calls.specs.Asks.{Asked, Answered, Call, Message, answered_from, asked_from, call_from, emit_asked_by, emit_of, message_read}
 use Rattle.node_calls.specs.Asks as asks
-use Rattle.node_core.specs.Nodes.{Node, start}
-use Rattle.node_core.specs.Steps.{message_in}
-use Rattle.node_core.specs.Refusals.{refusal_at, no_entry, too_many_told, spare_words, faults_of_message}
+use Rattle.node_steps.specs.Nodes.{Node, start}
+use Rattle.node_steps.specs.Refusals.{message_in, refusal_at, no_entry, too_many_told, spare_words, faults_of_message}
 use Rattle.node_core.specs.Traces.{Kept, replay, SendsDelta, IsLegal}
 use Rattle.cluster_model.specs.Worlds.{Cluster, World, Event, cluster_of, config_of, accepted, world}
 use Rattle.cluster_model.specs.Schedules.{AllowsDelta, IsDeltaSchedule}

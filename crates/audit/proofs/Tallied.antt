@@ -11,7 +11,7 @@ use Rattle.operations.specs.Operations.{Operation, Set, IsIn}
 use Rattle.operations.proofs.Members.{IsIn-append_left, IsIn-append_right, IsIn-append_cases}
 use Rattle.node_calls.specs.Asks.{Asked, Call, call}
 use Rattle.node_calls.specs.Asks as asks
-use Rattle.node_core.specs.Nodes.{Node, start, state_shown}
+use Rattle.node_steps.specs.Nodes.{Node, start, state_shown}
 use Rattle.node_core.specs.Steps.{after, reply}
 use Rattle.node_core.specs.Traces.{replay_from}
 use Rattle.cluster_model.specs.Worlds.{Cluster, Event, accepted, world, trace_after}

@@ -6,7 +6,7 @@ use Rattle.actions.specs.Reading.{reading}
 use Rattle.actions.specs.declared.fault.ActionFault.{ActionFault}
 use Rattle.node_calls.specs.Asks.{Asked}
 use Rattle.node_calls.specs.Asks as asks
-use Rattle.node_core.specs.Steps.{points_in}
+use Rattle.node_steps.specs.Settings.{points_in}
 
 abbrev pub Points : Type 0
 Points = List (List ℕ × List TermValue)

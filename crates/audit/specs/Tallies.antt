@@ -7,7 +7,7 @@ use Rattle.operations.specs.Operations.{Operation}
 use Rattle.node_calls.specs.Told.{Told}
 use Rattle.node_calls.specs.Asks.{Asked, Call, call_from}
 use Rattle.node_calls.specs.Asks as asks
-use Rattle.node_core.specs.Nodes.{Node, start, state_shown}
+use Rattle.node_steps.specs.Nodes.{Node, start, state_shown}
 use Rattle.node_core.specs.Steps.{after}
 use Rattle.node_core.specs.Traces.{Kept, with_call}
 use Rattle.cluster_model.specs.Histories.{keys_by, acts}

@@ -7,7 +7,7 @@ ghost use Rattle.actions.specs.Reading.{reading};
 ghost use Rattle.stamp_register.specs.declared.key.Stamp.{Stamp};
 ghost use Rattle.stamp_register.specs.Keys.{KeyValue, stamp_of};
 ghost use Rattle.operations.specs.Operations.{Set, count_of};
-ghost use Rattle.node_core.specs.Steps.{operations_issued, settings_of};
+ghost use Rattle.node_steps.specs.Settings.{operations_issued, settings_of};
 ghost use Rattle.audit.specs.Counts.{AddsKeys, count_kept, is_counted_at};
 
 use actions::{Actions, Name};

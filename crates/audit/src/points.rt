@@ -4,7 +4,7 @@ ghost use Rattle.std.specs.Prelude.{◌≡◌, ℕ, true, false, [], IfOk, IfSom
 ghost use Rattle.actions.specs.Names.{is_name};
 ghost use Rattle.node_calls.specs.Asks.{asked_from};
 ghost use Rattle.node_calls.specs.Told.{ReplyTold, ask_ref_told};
-ghost use Rattle.node_core.specs.Steps.{points_in};
+ghost use Rattle.node_steps.specs.Settings.{points_in};
 ghost use Rattle.audit.specs.Points.{point_in, points_set};
 
 use actions::{ActionFault, Actions, Name, NameFault, SettingFault, parse_actions, parse_setting};

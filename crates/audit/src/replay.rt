@@ -4,7 +4,7 @@ ghost use Rattle.std.specs.Prelude.{◌≡◌, ℕ, ◌^◌, ◌<◌, ◌≤◌,
 ghost use Rattle.stamp_register.specs.declared.key.Stamp.{Stamp};
 ghost use Rattle.message_format.specs.Limits.{max_nodes};
 ghost use Rattle.node_calls.specs.Asks.{call_from};
-ghost use Rattle.node_core.specs.Nodes.{start};
+ghost use Rattle.node_steps.specs.Nodes.{start};
 ghost use Rattle.node_core.specs.Resumed.{IsFirstWrong, IsLegalAlone};
 ghost use Rattle.audit.specs.declared.tally.Tally.{Tally};
 ghost use Rattle.audit.specs.Sums.{sum_of};

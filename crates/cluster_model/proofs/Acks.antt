@@ -7,9 +7,9 @@ use Rattle.message_format.specs.declared.fault.WireFault.{WireFault}
 use Rattle.delta_exchange.specs.Versions.{known_raised}
 use Rattle.node_calls.specs.Asks.{Asked, Message}
 use Rattle.node_calls.specs.Asks as asks
-use Rattle.node_core.specs.Nodes.{Node}
-use Rattle.node_core.specs.Steps.{after, message_in}
-use Rattle.node_core.specs.Refusals.{faults_of}
+use Rattle.node_steps.specs.Nodes.{Node}
+use Rattle.node_core.specs.Steps.{after}
+use Rattle.node_steps.specs.Refusals.{message_in, faults_of}
 use Rattle.cluster_model.specs.Worlds.{Cluster, World, Event, config_of, accepted, node_after, sent, happens, world}
 use Rattle.cluster_model.specs.Schedules.{Allows, IsSchedule}
 use Rattle.cluster_model.proofs.Steps.{asked_is, delivered_was_sent}

@@ -9,7 +9,7 @@ use Rattle.counters.proofs.SumLemmas.{sum-le, sum-add, sum-one, sum_others-le, s
 use Rattle.stamp_register.specs.Keys.{KeyValue}
 use Rattle.operations.specs.Operations.{Execs, Shifts}
 use Rattle.replica_state.specs.States.{State, budget}
-use Rattle.node_core.proofs.UptoStates.{upto_below}
+use Rattle.node_steps.proofs.UptoStates.{upto_below}
 use Rattle.cluster_model.specs.Histories.{is_key}
 use Rattle.cluster_model.specs.Views.{IsAsOf}
 use Rattle.cluster_model.proofs.Rights.{is_key-of}

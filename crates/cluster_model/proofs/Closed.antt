@@ -12,8 +12,10 @@ use Rattle.operations.proofs.Members.{IsIn-append_cases}
 use Rattle.replica_state.proofs.KnownSets.{own_name}
 use Rattle.node_calls.specs.Asks.{Asked, Message}
 use Rattle.node_calls.specs.Asks as asks
-use Rattle.node_core.specs.Nodes.{Node, Marks, state_shown}
-use Rattle.node_core.specs.Steps.{settings, operations_issued, shift_under, message_in}
+use Rattle.node_steps.specs.Nodes.{Node, Marks, state_shown}
+use Rattle.node_steps.specs.Settings.{settings, operations_issued}
+use Rattle.node_core.specs.Steps.{shift_under}
+use Rattle.node_steps.specs.Refusals.{message_in}
 use Rattle.node_core.specs.Traces.{versions_told}
 use Rattle.cluster_model.specs.Worlds.{Cluster, World, Event, accepted, node_after, sent, world}
 use Rattle.cluster_model.specs.Schedules.{MaySend, MayTell, Allows, AllowsDelta, IsSchedule, IsDeltaSchedule}

@@ -12,7 +12,7 @@ use Rattle.replica_state.proofs.Sets.{number_at-is_in, KeyUpto, KeyUpto-trans, K
 use Rattle.operations.proofs.Members.{IsIn-append_left}
 use Rattle.replica_state.proofs.Names.{HoldsName, names_same, key_named, hit_named}
 use Rattle.replica_state.proofs.KnownSets.{own_name, keys_only, union_above_right}
-use Rattle.node_core.proofs.UptoStates.{IsUptoAt, cases_key, upto_below, below_upto}
+use Rattle.node_steps.proofs.UptoStates.{IsUptoAt, cases_key, upto_below, below_upto}
 
 -- ---- states of sets that are below each other are one
 

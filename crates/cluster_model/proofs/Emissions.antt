@@ -4,7 +4,7 @@ use Rattle.operations.specs.Operations.{Operation}
 use Rattle.message_format.specs.declared.fault.WireFault.{WireFault}
 use Rattle.node_calls.specs.Asks.{Asked, Message, Versions, message_of, message_read, emit_of}
 use Rattle.node_calls.specs.Asks as asks
-use Rattle.node_core.specs.Nodes.{Node}
+use Rattle.node_steps.specs.Nodes.{Node}
 use Rattle.node_core.specs.Steps.{message_to}
 use Rattle.node_core.specs.Traces.{emission_of, versions_told, SendsDelta}
 use Rattle.node_core.specs.Deliveries.{TellsDelta}

@@ -17,9 +17,9 @@ use Rattle.replica_state.proofs.FoldSteps.{fold_key}
 use Rattle.replica_state.proofs.Orders.{bytes_eq-refl, bytes_eq-true}
 use Rattle.node_calls.specs.Asks.{Message}
 use Rattle.node_calls.specs.Asks as asks
-use Rattle.node_core.specs.Nodes.{Node, start}
+use Rattle.node_steps.specs.Nodes.{Node, start}
 use Rattle.node_core.specs.Steps.{after}
-use Rattle.node_core.specs.Refusals.{refusal_at}
+use Rattle.node_steps.specs.Refusals.{refusal_at}
 use Rattle.cluster_model.specs.Worlds.{Event, config_of, world}
 use Rattle.cluster_model.specs.Schedules.{IsDeltaSchedule}
 use Rattle.cluster_model.specs.Histories.{state_of}

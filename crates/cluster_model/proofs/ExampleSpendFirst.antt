@@ -19,7 +19,7 @@ use Rattle.node_calls.specs.Asks.{Message}
 use Rattle.node_calls.specs.Told.{Act}
 use Rattle.node_calls.specs.Asks as asks
 use Rattle.node_core.specs.Steps.{after}
-use Rattle.node_core.proofs.UptoStates.{upto_below}
+use Rattle.node_steps.proofs.UptoStates.{upto_below}
 use Rattle.cluster_model.specs.Worlds.{Event, world}
 use Rattle.cluster_model.specs.Schedules.{IsSchedule}
 use Rattle.cluster_model.specs.Histories.{state_of}

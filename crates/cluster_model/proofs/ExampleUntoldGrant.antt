@@ -17,7 +17,7 @@ use Rattle.node_calls.specs.Asks.{Message}
 use Rattle.node_calls.specs.Told.{Act}
 use Rattle.node_calls.specs.Asks as asks
 use Rattle.node_core.specs.Steps.{after}
-use Rattle.node_core.specs.Refusals.{refusal_at}
+use Rattle.node_steps.specs.Refusals.{refusal_at}
 use Rattle.cluster_model.specs.Worlds.{Event, config_of, world}
 use Rattle.cluster_model.specs.Schedules.{IsSchedule}
 use Rattle.cluster_model.specs.Histories.{state_of}

@@ -12,7 +12,7 @@ use Rattle.replica_state.proofs.Orders.{bytes_eq-true, same_key-true, same_cell-
 use Rattle.replica_state.proofs.Sets.{key_of-found}
 use Rattle.replica_state.proofs.Telling.{all_differs}
 use Rattle.node_calls.specs.Asks.{Asked, Answered, Message, Versions}
-use Rattle.node_core.specs.Nodes.{Marks}
+use Rattle.node_steps.specs.Nodes.{Marks}
 use Rattle.node_core.specs.Steps.{reply}
 use Rattle.cluster_model.specs.Worlds.{Cluster, World, Event, accepted, world}
 use Rattle.cluster_model.specs.Schedules.{MaySend, MayTell}

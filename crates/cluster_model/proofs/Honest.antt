@@ -22,11 +22,11 @@ use Rattle.node_calls.specs.declared.fault.NodeFault.{NodeFault}
 use Rattle.node_calls.specs.declared.fault.NodeFault.TheVariants as faults
 use Rattle.node_calls.specs.Asks.{Asked, Message}
 use Rattle.node_calls.specs.Asks as asks
-use Rattle.node_core.specs.Nodes.{setting_of, terms_in}
+use Rattle.node_steps.specs.Nodes.{setting_of, terms_in}
 use Rattle.refusals.specs.Refusals.{first_fault}
 use Rattle.std.specs.Bool.{then_some}
-use Rattle.node_core.specs.Refusals.{is_full, is_ahead, exceeds_count, any_below, is_overspent, overspends, too_many, faults_of_message, refusal_at}
-use Rattle.node_core.proofs.Rights.{setting_parts}
+use Rattle.node_steps.specs.Refusals.{is_full, is_ahead, exceeds_count, any_below, is_overspent, overspends, too_many, faults_of_message, refusal_at}
+use Rattle.node_steps.proofs.Rights.{setting_parts}
 use Rattle.cluster_model.specs.Worlds.{Cluster, Event, config_of, accepted, world}
 use Rattle.cluster_model.specs.Schedules.{IsSchedule}
 use Rattle.cluster_model.specs.Histories.{state_of, executions, IsIssued, all_granted}

@@ -4,8 +4,8 @@ use Rattle.counters.specs.Sums.{node_numbers}
 use Rattle.operations.specs.Operations.{IsIn}
 use Rattle.node_calls.specs.Asks.{Message, message_read}
 use Rattle.node_calls.specs.Asks as asks
-use Rattle.node_core.specs.Nodes.{Node}
-use Rattle.node_core.specs.Refusals.{refusal_at}
+use Rattle.node_steps.specs.Nodes.{Node}
+use Rattle.node_steps.specs.Refusals.{refusal_at}
 use Rattle.node_core.specs.Traces.{refusal, delivery_of}
 use Rattle.cluster_model.specs.Worlds.{Cluster, Event, config_of, world}
 use Rattle.cluster_model.specs.Schedules.{Allows, IsSchedule}

@@ -10,12 +10,12 @@ use Rattle.replica_state.specs.Deltas.{IsDelta}
 use Rattle.operations.proofs.Members.{IsIn-append_cases}
 use Rattle.replica_state.proofs.KnownSets.{union_above_right}
 use Rattle.message_format.specs.declared.fault.WireFault.{WireFault}
-use Rattle.node_core.specs.declared.config.Config.{Config}
+use Rattle.node_steps.specs.declared.config.Config.{Config}
 use Rattle.node_calls.specs.Asks.{Asked, Message, Versions}
 use Rattle.node_calls.specs.Asks as asks
-use Rattle.node_core.specs.Nodes.{Node, state_shown}
-use Rattle.node_core.specs.Steps.{after, operations_added, message_in, message_to}
-use Rattle.node_core.specs.Refusals.{faults_of, refusal_at}
+use Rattle.node_steps.specs.Nodes.{Node, state_shown}
+use Rattle.node_core.specs.Steps.{after, operations_added, message_to}
+use Rattle.node_steps.specs.Refusals.{message_in, faults_of, refusal_at}
 use Rattle.node_core.specs.Traces.{SendsDelta}
 use Rattle.node_core.proofs.Pasts.{HasHistory, has_history, history_after, past_after}
 use Rattle.cluster_model.specs.Worlds.{Cluster, World, Event, config_of, accepted, node_after, sent, happens, world}

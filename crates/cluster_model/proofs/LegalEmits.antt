@@ -3,8 +3,8 @@ use Rattle.std.proofs.Common.{◌≡◌, ℕ, ◌+◌, ◌≤◌, ◌^◌, List,
 use Rattle.message_format.specs.declared.fault.WireFault.{WireFault}
 use Rattle.message_format.proofs.Fields.{IsBytes}
 use Rattle.node_calls.specs.Asks.{Message, bare_emit, emit_of, message_read}
-use Rattle.node_core.specs.Nodes.{start}
-use Rattle.node_core.specs.Refusals.{refusal_at}
+use Rattle.node_steps.specs.Nodes.{start}
+use Rattle.node_steps.specs.Refusals.{refusal_at}
 use Rattle.node_core.specs.Traces.{Kept, node_of, refusal, emission_of, IsLegal}
 use Rattle.node_core.specs.Deliveries.{TellsDelta}
 use Rattle.node_core.proofs.LegalTraces.{legal_more, legal_parts}

@@ -7,7 +7,7 @@ use Rattle.counters.proofs.SumLemmas.{sum-same}
 use Rattle.stamp_register.specs.Keys.{KeyValue}
 use Rattle.node_calls.specs.Asks.{Asked}
 use Rattle.node_calls.specs.Asks as asks
-use Rattle.node_core.specs.Nodes.{state_shown}
+use Rattle.node_steps.specs.Nodes.{state_shown}
 use Rattle.cluster_model.specs.Worlds.{Cluster, World, Event, accepted, world}
 use Rattle.cluster_model.specs.Histories.{is_key, amount_moved, moved}
 use Rattle.cluster_model.proofs.Steps.{IsAgreed, agreed, asked_is}

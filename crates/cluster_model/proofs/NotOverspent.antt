@@ -9,7 +9,7 @@ use Rattle.replica_state.specs.States.{State, budget, granted_in}
 use Rattle.replica_state.specs.Folds.{fold}
 use Rattle.replica_state.proofs.Changes.{false_any}
 use Rattle.node_calls.specs.Asks.{Message}
-use Rattle.node_core.specs.Refusals.{overspends}
+use Rattle.node_steps.specs.Refusals.{overspends}
 use Rattle.cluster_model.specs.Worlds.{Cluster, Event, accepted, world}
 use Rattle.cluster_model.specs.Schedules.{IsSchedule, IsDeltaSchedule}
 use Rattle.cluster_model.specs.Histories.{state_of}

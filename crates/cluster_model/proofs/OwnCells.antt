@@ -13,9 +13,11 @@ use Rattle.replica_state.proofs.Orders.{same_cell-refl, same_cell-true}
 use Rattle.replica_state.proofs.Sets.{number_at-mono, number_at-append}
 use Rattle.node_calls.specs.Asks.{Asked, Answered, Call}
 use Rattle.node_calls.specs.Asks as asks
-use Rattle.node_core.specs.Nodes.{Node, state_shown, setting_of}
-use Rattle.node_core.specs.Passes.{ops_of_pass}
-use Rattle.node_core.specs.Steps.{after, reply, settings, operations_issued, shift_under, message_in}
+use Rattle.node_steps.specs.Nodes.{Node, state_shown, setting_of}
+use Rattle.node_steps.specs.Passes.{ops_of_pass}
+use Rattle.node_core.specs.Steps.{after, reply, shift_under}
+use Rattle.node_steps.specs.Settings.{settings, operations_issued}
+use Rattle.node_steps.specs.Refusals.{message_in}
 use Rattle.cluster_model.specs.Worlds.{Cluster, World, Event, accepted, node_after, trace_after, world}
 use Rattle.cluster_model.specs.Schedules.{Allows, IsSchedule}
 use Rattle.cluster_model.specs.Histories.{state_of, ops_delivered, is_act_of, acts, executions, is_key, amount_moved, moved, amount_granted, granted}

@@ -6,16 +6,16 @@ use Rattle.actions.specs.Value.{TaskValue, TermValue}
 use Rattle.stamp_register.specs.Keys.{KeyValue, stamp_of}
 use Rattle.operations.specs.Operations.{Operation, count_at, count_of, count_under}
 use Rattle.replica_state.specs.States.{State}
-use Rattle.node_core.specs.declared.config.Config.{Config}
+use Rattle.node_steps.specs.declared.config.Config.{Config}
 use Rattle.node_calls.specs.declared.fault.NodeFault.{NodeFault}
 use Rattle.node_calls.specs.Told.{Passed, Unset, NoTerm, Act}
 use Rattle.node_calls.specs.Asks as asks
-use Rattle.node_core.specs.Nodes.{Node, state_shown, setting_of}
-use Rattle.node_core.specs.Passes.{has_rights_of, may_run, task_in, triggered_term, next_hit, next_exec, execs_of_choice, execs_of_term, reply_of_choice, ops_of_pass, reply_of_pass}
+use Rattle.node_steps.specs.Nodes.{Node, state_shown, setting_of}
+use Rattle.node_steps.specs.Passes.{has_rights_of, may_run, task_in, triggered_term, next_hit, next_exec, execs_of_choice, execs_of_term, reply_of_choice, ops_of_pass, reply_of_pass}
 use Rattle.refusals.specs.Refusals.{first_fault}
 use Rattle.std.specs.Bool.{then_some}
-use Rattle.node_core.specs.Refusals.{too_few, faults_of_shift, faults_of, refusal_at}
-use Rattle.node_core.proofs.Rights.{IsSetting, setting_parts, chosen_may}
+use Rattle.node_steps.specs.Refusals.{too_few, faults_of_shift, faults_of, refusal_at}
+use Rattle.node_steps.proofs.Rights.{IsSetting, setting_parts, chosen_may}
 
 -- ---- passes
 

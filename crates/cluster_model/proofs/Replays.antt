@@ -9,16 +9,16 @@ use Rattle.replica_state.specs.States.{State}
 use Rattle.replica_state.specs.Folds.{fold}
 use Rattle.replica_state.specs.StateOrder.{IsBelow}
 use Rattle.replica_state.proofs.KnownSets.{union_least, union_above_left, union_above_right}
-use Rattle.node_core.specs.declared.config.Config.{Config}
+use Rattle.node_steps.specs.declared.config.Config.{Config}
 use Rattle.node_calls.specs.declared.fault.NodeFault.{NodeFault}
 use Rattle.node_calls.specs.Asks.{Asked, Message, Call}
 use Rattle.node_calls.specs.Asks as asks
-use Rattle.node_core.specs.Nodes.{Node, start}
+use Rattle.node_steps.specs.Nodes.{Node, start}
 use Rattle.node_core.specs.Steps.{after, reply}
 use Rattle.node_core.specs.Traces.{Kept, replay, replay_from, SendsDelta, IsLegal}
 use Rattle.node_core.proofs.TraceLemmas.{replay_more}
 use Rattle.node_core.proofs.LegalTraces.{legal_more, nothing_legal}
-use Rattle.node_core.specs.Refusals.{refusal_at}
+use Rattle.node_steps.specs.Refusals.{refusal_at}
 use Rattle.cluster_model.specs.Worlds.{Cluster, World, Event, config_of, accepted, node_after, trace_after, sent, world}
 use Rattle.cluster_model.specs.Schedules.{AllowsDelta, IsDeltaSchedule}
 use Rattle.cluster_model.specs.Histories.{state_of}

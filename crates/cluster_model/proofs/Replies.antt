@@ -14,10 +14,10 @@ use Rattle.operations.proofs.Members.{IsIn-append_left, IsIn-append_right, IsIn-
 use Rattle.node_calls.specs.Asks.{Asked, Answered, Message, Call, Versions}
 use Rattle.node_calls.specs.Told.{Unset, NoTerm, Act}
 use Rattle.node_calls.specs.Asks as asks
-use Rattle.node_core.specs.Nodes.{Node, state_shown, setting_of}
-use Rattle.node_core.specs.Passes.{may_run, task_in, triggered_term, reply_of_choice, reply_of_pass}
+use Rattle.node_steps.specs.Nodes.{Node, state_shown, setting_of}
+use Rattle.node_steps.specs.Passes.{may_run, task_in, triggered_term, reply_of_choice, reply_of_pass}
 use Rattle.node_core.specs.Steps.{reply, message_to}
-use Rattle.node_core.proofs.Rights.{setting_parts}
+use Rattle.node_steps.proofs.Rights.{setting_parts}
 use Rattle.cluster_model.specs.Worlds.{Cluster, World, Event, accepted, trace_after, sent, world}
 use Rattle.cluster_model.specs.Schedules.{IsSchedule}
 use Rattle.cluster_model.specs.Laws.{IsToldBy, IsExecution}

@@ -4,7 +4,7 @@ use Rattle.std.specs.Prelude.{◌==◌, if◌then◌else◌}
 use Rattle.std.proofs.lemmas.Bool.Decides.{eqb_tells}
 use Rattle.node_calls.specs.Asks.{call_from}
 use Rattle.node_calls.specs.Told.{Told}
-use Rattle.node_core.specs.Nodes.{start}
+use Rattle.node_steps.specs.Nodes.{start}
 use Rattle.node_core.specs.Resumed.{IsFirstWrong}
 use Rattle.node_core.specs.Traces.{IsLegal, replay}
 use Rattle.node_core.proofs.LegalTraces.{legal_prefix}

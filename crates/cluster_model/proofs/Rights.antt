@@ -17,8 +17,8 @@ use Rattle.operations.proofs.Members.{IsIn-append_cases}
 use Rattle.node_calls.specs.Asks.{Asked}
 use Rattle.node_calls.specs.Told.{Passed}
 use Rattle.node_calls.specs.Asks as asks
-use Rattle.node_core.specs.Nodes.{Node, state_shown}
-use Rattle.node_core.specs.Passes.{has_rights_of}
+use Rattle.node_steps.specs.Nodes.{Node, state_shown}
+use Rattle.node_steps.specs.Passes.{has_rights_of}
 use Rattle.node_core.specs.Steps.{after}
 use Rattle.cluster_model.specs.Worlds.{Cluster, World, Event, accepted, node_after, world}
 use Rattle.cluster_model.specs.Schedules.{IsSchedule}

@@ -13,7 +13,7 @@ use Rattle.node_calls.specs.declared.fault.NodeFault.{NodeFault}
 use Rattle.node_calls.specs.declared.fault.NodeFault.TheVariants.{OutOfMemory}
 use Rattle.node_calls.specs.Asks.{Asked, Answered, Message, Call}
 use Rattle.node_calls.specs.Asks as asks
-use Rattle.node_core.specs.Nodes.{state_shown}
+use Rattle.node_steps.specs.Nodes.{state_shown}
 use Rattle.node_core.specs.Traces.{Kept, after_call, refusal, reply_to, state_known}
 use Rattle.cluster_model.specs.declared.fault.WorldFault.TheVariants.{Refused}
 use Rattle.cluster_model.specs.Worlds.{Cluster, Event}

@@ -10,8 +10,9 @@ use Rattle.replica_state.proofs.Sets.{key_of-found}
 use Rattle.replica_state.proofs.KnownSets.{union_above_right}
 use Rattle.node_calls.specs.Asks.{Asked, Message}
 use Rattle.node_calls.specs.Asks as asks
-use Rattle.node_core.specs.Nodes.{Node, state_shown}
-use Rattle.node_core.specs.Steps.{after, operations_added, message_in}
+use Rattle.node_steps.specs.Nodes.{Node, state_shown}
+use Rattle.node_core.specs.Steps.{after, operations_added}
+use Rattle.node_steps.specs.Refusals.{message_in}
 use Rattle.cluster_model.specs.Worlds.{Cluster, World, Event, accepted, node_after, happens, world}
 use Rattle.cluster_model.specs.Schedules.{Allows, IsDeltaSchedule}
 use Rattle.cluster_model.specs.Histories.{ops_issued}

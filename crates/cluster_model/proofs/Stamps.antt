@@ -15,8 +15,9 @@ use Rattle.replica_state.proofs.Sets.{Carries, key_of-found}
 use Rattle.operations.proofs.Members.{IsIn-append_left, IsIn-append_right, IsIn-append_cases}
 use Rattle.node_calls.specs.Asks.{Asked, Message}
 use Rattle.node_calls.specs.Asks as asks
-use Rattle.node_core.specs.Nodes.{Node, state_shown}
-use Rattle.node_core.specs.Steps.{after, settings, operations_issued, new_key, points_in, shift_under}
+use Rattle.node_steps.specs.Nodes.{Node, state_shown}
+use Rattle.node_core.specs.Steps.{after, shift_under}
+use Rattle.node_steps.specs.Settings.{settings, operations_issued, new_key, points_in}
 use Rattle.cluster_model.specs.Worlds.{Cluster, World, Event, accepted, node_after, world}
 use Rattle.cluster_model.specs.Schedules.{Allows, IsSchedule}
 use Rattle.cluster_model.specs.Histories.{state_of, ops_issued, keys_by, keys_issued, IsIssued}

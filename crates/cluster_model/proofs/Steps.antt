@@ -13,10 +13,11 @@ use Rattle.message_format.specs.declared.fault.WireFault.{WireFault}
 use Rattle.node_calls.specs.declared.fault.NodeFault.{NodeFault}
 use Rattle.node_calls.specs.Asks.{Asked, Message, Versions}
 use Rattle.node_calls.specs.Asks as asks
-use Rattle.node_core.specs.Nodes.{Node, state_shown, setting_of}
-use Rattle.node_core.specs.Passes.{ops_of_pass, triggered_term, execs_of_choice, execs_of_term, next_hit}
-use Rattle.node_core.specs.Steps.{after, operations_added, settings, operations_issued, shift_under, message_in}
-use Rattle.node_core.specs.Refusals.{refusal_at}
+use Rattle.node_steps.specs.Nodes.{Node, state_shown, setting_of}
+use Rattle.node_steps.specs.Passes.{ops_of_pass, triggered_term, execs_of_choice, execs_of_term, next_hit}
+use Rattle.node_core.specs.Steps.{after, operations_added, shift_under}
+use Rattle.node_steps.specs.Settings.{settings, operations_issued}
+use Rattle.node_steps.specs.Refusals.{message_in, refusal_at}
 use Rattle.cluster_model.specs.Worlds.{Cluster, World, Event, config_of, is_accepted, accepted, node_after, sent, happens, world}
 use Rattle.cluster_model.specs.Schedules.{MaySend, MayTell, Allows, IsSchedule}
 use Rattle.cluster_model.specs.Histories.{ops_issued, ops_delivered, all_issued, all_delivered, all_learnt}

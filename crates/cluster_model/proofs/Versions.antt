@@ -5,8 +5,9 @@ use Rattle.operations.specs.Operations.{IsIn}
 use Rattle.operations.proofs.Members.{IsIn-append_cases}
 use Rattle.node_calls.specs.Asks.{Asked, Message}
 use Rattle.node_calls.specs.Asks as asks
-use Rattle.node_core.specs.Nodes.{Node}
-use Rattle.node_core.specs.Steps.{after, message_in}
+use Rattle.node_steps.specs.Nodes.{Node}
+use Rattle.node_core.specs.Steps.{after}
+use Rattle.node_steps.specs.Refusals.{message_in}
 use Rattle.cluster_model.specs.Worlds.{Cluster, World, Event, accepted, node_after, sent, happens, world}
 use Rattle.cluster_model.specs.Schedules.{Allows, IsSchedule}
 use Rattle.cluster_model.proofs.Steps.{delivered_was_sent}

@@ -10,7 +10,7 @@ use Rattle.replica_state.specs.Deltas.{HasNumber, IsTold, IsDelta}
 use Rattle.replica_state.proofs.Sets.{number_at-is_in, number_at-mono, KeyUpto, KeyUpto-antisym, key_of-is_in, key_of-mono, key_of-found}
 use Rattle.operations.proofs.Members.{IsIn-append_left, IsIn-append_right, IsIn-append_cases}
 use Rattle.replica_state.proofs.KnownSets.{keys_only, own_name}
-use Rattle.node_core.proofs.UptoStates.{upto_below}
+use Rattle.node_steps.proofs.UptoStates.{upto_below}
 use Rattle.cluster_model.specs.Histories.{is_key}
 use Rattle.cluster_model.specs.Views.{IsAsOf}
 use Rattle.cluster_model.proofs.Rights.{is_key-of, is_key-some}

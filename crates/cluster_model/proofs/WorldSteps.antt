@@ -5,11 +5,11 @@ use Rattle.std.proofs.lemmas.List.{length-set}
 use Rattle.std.specs.Prelude.{slice_get, slice_set, option_map}
 use Rattle.operations.specs.Operations.{IsIn}
 use Rattle.node_calls.specs.declared.fault.NodeFault.{NodeFault}
-use Rattle.node_core.specs.Refusals.{refusal_at}
+use Rattle.node_steps.specs.Refusals.{refusal_at}
 use Rattle.node_calls.specs.Asks.{Asked, Answered, Message, emit_of}
 use Rattle.node_calls.specs.Asks as asks
 use Rattle.node_calls.specs.Told as told
-use Rattle.node_core.specs.Nodes.{Node}
+use Rattle.node_steps.specs.Nodes.{Node}
 use Rattle.node_core.specs.Traces.{Kept, after_call, node_of, refusal, reply_to, SendsDelta}
 use Rattle.cluster_model.specs.declared.fault.WorldFault.TheVariants.{NoNode, NoMessage, Refused}
 use Rattle.cluster_model.specs.Worlds.{Cluster, Event, config_of, accepted, sent, world}

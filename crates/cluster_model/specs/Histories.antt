@@ -11,8 +11,10 @@ use Rattle.replica_state.specs.States.{State, budget}
 use Rattle.node_calls.specs.Asks.{Asked, Answered, Call}
 use Rattle.node_calls.specs.Told.{Passed, Act}
 use Rattle.node_calls.specs.Asks as asks
-use Rattle.node_core.specs.Nodes.{Node, state_shown}
-use Rattle.node_core.specs.Steps.{operations_added, settings, operations_issued, message_in}
+use Rattle.node_steps.specs.Nodes.{Node, state_shown}
+use Rattle.node_core.specs.Steps.{operations_added}
+use Rattle.node_steps.specs.Settings.{settings, operations_issued}
+use Rattle.node_steps.specs.Refusals.{message_in}
 use Rattle.cluster_model.specs.Worlds.{Cluster, Event, accepted, world}
 
 -- the state of node i

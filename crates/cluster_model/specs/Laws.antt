@@ -16,11 +16,11 @@ use Rattle.node_calls.specs.declared.fault.NodeFault.TheVariants as faults
 use Rattle.node_calls.specs.Asks.{Asked, Message, Call, message_read, bare_emit}
 use Rattle.node_calls.specs.Asks as asks
 use Rattle.node_calls.specs.Told.{Act}
-use Rattle.node_core.specs.Nodes.{state_shown}
+use Rattle.node_steps.specs.Nodes.{state_shown}
 use Rattle.node_core.specs.Steps.{message_to}
 use Rattle.node_core.specs.Traces.{Kept, replay, refusal, after_call, delivery_of, emission_of, versions_told, IsLegal}
 use Rattle.node_core.specs.Deliveries.{TellsDelta}
-use Rattle.node_core.specs.Refusals.{is_ahead, overspends}
+use Rattle.node_steps.specs.Refusals.{is_ahead, overspends}
 use Rattle.cluster_model.specs.Worlds.{Cluster, Event, config_of, accepted, world}
 use Rattle.cluster_model.specs.Schedules.{MaySend, Allows, IsSchedule, AllowsDelta, IsDeltaSchedule}
 use Rattle.cluster_model.specs.Views.{SeesWhole}

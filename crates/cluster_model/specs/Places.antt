@@ -1,7 +1,7 @@
 -- Where the messages of a world stand: each is the reply of a call in the trace of the node that made it.
 use Rattle.std.specs.Prelude.{◌≡◌, ℕ, List, length, map, Option, Some, None, option_and_then, Ok, slice_get}
 use Rattle.node_calls.specs.Asks.{Answered, Message, Call, IsEmitted}
-use Rattle.node_core.specs.Steps.{message_in, nothing_told}
+use Rattle.node_steps.specs.Refusals.{message_in, nothing_told}
 use Rattle.node_core.specs.Traces.{Kept}
 use Rattle.cluster_model.specs.declared.world.Place.{Place}
 use Rattle.cluster_model.specs.Events.{WorldValue}

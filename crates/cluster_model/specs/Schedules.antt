@@ -5,8 +5,8 @@ use Rattle.operations.specs.Operations.{Cell, Hits, Operation, Set, Count, IsIn}
 use Rattle.replica_state.specs.Folds.{key_in}
 use Rattle.node_calls.specs.Asks.{Asked, Versions}
 use Rattle.node_calls.specs.Asks as asks
-use Rattle.node_core.specs.Nodes.{Marks}
-use Rattle.node_core.specs.Steps.{message_in}
+use Rattle.node_steps.specs.Nodes.{Marks}
+use Rattle.node_steps.specs.Refusals.{message_in}
 use Rattle.node_core.specs.Traces.{SendsDelta}
 use Rattle.cluster_model.specs.Worlds.{Cluster, World, Event, accepted, world}
 

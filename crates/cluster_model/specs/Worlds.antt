@@ -1,12 +1,12 @@
 -- A cluster of nodes: what each of them holds, what was sent, and what an event changes.
 use Rattle.std.specs.Prelude.{ℕ, ◌==◌, ◌&&◌, Bool, nat_lt, nat_le, List, [], ◌∷◌, ◌++◌, length, if◌then◌else◌, Option, Some, None, is_none}
 use Rattle.message_format.specs.Limits.{max_nodes}
-use Rattle.node_core.specs.declared.config.Config.{Config}
+use Rattle.node_steps.specs.declared.config.Config.{Config}
 use Rattle.node_calls.specs.Asks.{Asked, Call, Message}
 use Rattle.node_calls.specs.Asks as asks
-use Rattle.node_core.specs.Nodes.{Node, start}
+use Rattle.node_steps.specs.Nodes.{Node, start}
 use Rattle.node_core.specs.Steps.{after, reply, message_to}
-use Rattle.node_core.specs.Refusals.{refusal_at}
+use Rattle.node_steps.specs.Refusals.{refusal_at}
 
 -- how many nodes there are, and how many calls each of them accepts in its life
 pub record Cluster : Type 0 where

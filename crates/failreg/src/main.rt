@@ -5,7 +5,7 @@ ghost use Rattle.std.specs.Prelude.{◌≡◌, ◌≢◌, ◌<◌, ◌⊎◌, tr
 ghost use Rattle.std.specs.Prelude.{None, IsOk, IfOk, IsTrue};
 ghost use Rattle.std.specs.Process.{exit_status};
 ghost use Rattle.actions.specs.Reading.{reading};
-ghost use Rattle.node_core.specs.Refusals.{is_bad_config};
+ghost use Rattle.node_steps.specs.Refusals.{is_bad_config};
 ghost use Rattle.node_service.specs.Caps.{cap_of};
 ghost use Rattle.scripts.specs.Checks.{answered_text, checked_status, checked_text};
 ghost use Rattle.scripts.specs.Script.{echoed_text, script_text};

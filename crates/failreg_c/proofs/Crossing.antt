@@ -5,7 +5,7 @@ use Rattle.std.proofs.Crossing.{crosses}
 use Rattle.http_paths.proofs.Crossing.{routes_send}
 use Rattle.http_routes.proofs.room.KeptRoom.TheSendSync as room
 use Rattle.node_calls.proofs.fault.NodeFault.TheSendSync as fault
-use Rattle.node_core.proofs.generator.Generator.TheSendSync as generator
+use Rattle.node_steps.proofs.generator.Generator.TheSendSync as generator
 use Rattle.node_core.proofs.node.NodeCore.TheSendSync as core
 use Rattle.sharing.proofs.memory.Memory.TheSendSync as memory
 use Rattle.failreg_c.proofs.points.Points.TheSendSync as points

@@ -2,7 +2,7 @@
 use Rattle.std.specs.Prelude.{◌≡◌, ◌≢◌, ◌⊎◌, ℕ, List, [], ◌∷◌, ◌++◌, length, take, drop, slice_get, option_map, MatchOption, Option, Some, None, true, false, IsTrue, IsUtf8}
 use Rattle.rand_chacha.specs.ChaCha.{key_of}
 use Rattle.actions.specs.Names.{is_name}
-use Rattle.node_core.specs.declared.config.Config.{Config}
+use Rattle.node_steps.specs.declared.config.Config.{Config}
 use Rattle.node_calls.specs.declared.fault.NodeFault.{NodeFault}
 use Rattle.node_calls.specs.declared.fault.NodeFault.TheVariants.{BadConfig, BadName}
 use Rattle.node_calls.specs.Asks.{Asked, Answered}
@@ -12,10 +12,10 @@ use Rattle.node_calls.specs.Told.{Passed}
 use Rattle.node_core.specs.Deliveries.{TellsDelta}
 use Rattle.node_core.specs.Lasts.{passed_at}
 use Rattle.node_core.specs.Memory.{NameNeedsMemory}
-use Rattle.node_core.specs.Passes.{words_for}
-use Rattle.node_core.specs.Refusals.{is_bad_config}
+use Rattle.node_steps.specs.Passes.{words_for}
+use Rattle.node_steps.specs.Refusals.{is_bad_config}
 use Rattle.node_core.specs.Traces.{Kept, Accepts, Emits, IsRefusalOf, after_call, call_kept, new_kept, refusal, reply_to, state_known}
-use Rattle.node_core.specs.Words.{place_after, words_next}
+use Rattle.node_steps.specs.Words.{place_after, words_next}
 use Rattle.sharing.specs.Shares.{memory_after}
 use Rattle.stamp_register.specs.declared.key.Stamp.{Stamp}
 use Rattle.node_sharing.specs.Made.{AreMade, IsStopped, shifts_due}

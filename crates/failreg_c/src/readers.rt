@@ -1,8 +1,8 @@
 //! The calls that read a node and leave it as it is.
 
 ghost use Rattle.std.specs.Prelude.{◌≡◌, ◌≢◌, ◌↔◌, pos, false, length, IsSome, IsTrue, MatchOption};
-ghost use Rattle.node_core.specs.Nodes.{setting_of};
-ghost use Rattle.node_core.specs.Texts.{list_text};
+ghost use Rattle.node_steps.specs.Nodes.{setting_of};
+ghost use Rattle.node_steps.specs.Texts.{list_text};
 ghost use Rattle.node_core.specs.Traces.{node_of, state_known};
 ghost use Rattle.replica_state.specs.States.{rights_of, spent_of, total_hits};
 ghost use Rattle.failreg_c.specs.Numbers.{IsNearest, closed, no_memory, whole};

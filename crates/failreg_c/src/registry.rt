@@ -8,7 +8,7 @@ ghost use Rattle.node_calls.specs.Asks.{bare_emit};
 ghost use Rattle.node_core.specs.Lasts.{passed_at};
 ghost use Rattle.node_core.specs.Memory.{DeliveryNeedsMemory, EmitNeedsMemory, LoadNeedsMemory};
 ghost use Rattle.node_core.specs.Memory.{NameNeedsMemory, SetNeedsMemory};
-ghost use Rattle.node_core.specs.Texts.{list_text};
+ghost use Rattle.node_steps.specs.Texts.{list_text};
 ghost use Rattle.node_core.specs.Traces.{call_kept, delivery_of, state_known};
 ghost use Rattle.failreg_c.specs.Numbers.{IsNumbered, no_memory, not_text, number};
 ghost use Rattle.failreg_c.specs.Told.{IsTold, no_act};

@@ -2,7 +2,7 @@
 use Rattle.std.proofs.Common.{◌≡◌, ◌≢◌, ℕ, ◌+◌, List, [], ◌∷◌, ◌++◌, length-append, append_assoc, Result, Ok, Err, OnOk, OnErr, IsErr, ◌↔◌, true≢false, ap, sym, ◌∙◌, refl, subst, arith}
 use Rattle.std.proofs.lemmas.List.{append-nil}
 use Rattle.std.proofs.lemmas.Grind.{flat_map-append}
-use Rattle.node_core.specs.declared.config.Config.{Config}
+use Rattle.node_steps.specs.declared.config.Config.{Config}
 use Rattle.node_calls.specs.declared.fault.NodeFault.{NodeFault}
 use Rattle.node_calls.specs.declared.fault.NodeFault.TheVariants as faults
 use Rattle.node_calls.specs.declared.receipt.Receipt.{Receipt}

@@ -1,7 +1,7 @@
 -- Peers that are looked at, one after the other.
 use Rattle.std.proofs.Common.{◌≡◌, ◌≤◌, ◌<◌, ℕ, ◌+◌, zero, suc, Bool, true, false, inl, inr, List, [], ◌∷◌, ◌++◌, length, map, take, drop, set, get_or, append_assoc, length-append, subst, ap, sym, ◌∙◌, refl, arith}
 use Rattle.std.proofs.lemmas.List.{map-append, append-nil}
-use Rattle.node_core.specs.declared.config.Config.{Config}
+use Rattle.node_steps.specs.declared.config.Config.{Config}
 use Rattle.node_calls.specs.Asks.{bare_emit}
 use Rattle.gossip.specs.declared.news.News.{News}
 use Rattle.gossip.specs.declared.news.Pace.{Pace}

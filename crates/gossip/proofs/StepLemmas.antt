@@ -4,7 +4,7 @@ use Rattle.std.specs.List.{filter, flat_map, range_with_len}
 use Rattle.std.proofs.lemmas.List.{map-append, append-nil}
 use Rattle.std.proofs.lemmas.List.Elements.{filter-append}
 use Rattle.std.proofs.lemmas.List.Sums.{sum_by-append}
-use Rattle.node_core.specs.declared.config.Config.{Config}
+use Rattle.node_steps.specs.declared.config.Config.{Config}
 use Rattle.node_calls.specs.declared.receipt.Receipt.{Receipt}
 use Rattle.message_format.specs.declared.fault.WireFault.{WireFault}
 use Rattle.node_calls.specs.Asks.{Asked, Message, Shift, Deliver, ask_value, bare_emit, emit_asked}

@@ -1,6 +1,6 @@
 -- What a node has to tell a peer, and when it tells it.
 use Rattle.std.specs.Prelude.{◌≡◌, ◌≤◌, ◌==◌, ◌&&◌, ◌||◌, ◌-◌, ◌*◌, ℕ, Bool, true, false, not, nat_lt, if◌then◌else◌, List, [], ◌∷◌, length}
-use Rattle.node_core.specs.declared.config.Config.{Config}
+use Rattle.node_steps.specs.declared.config.Config.{Config}
 use Rattle.node_core.specs.Traces.{Kept, node_of}
 use Rattle.node_registry.specs.Cells.{Cell, IsLawfulAt}
 use Rattle.gossip.specs.declared.news.News.{News}

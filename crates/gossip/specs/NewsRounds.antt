@@ -1,6 +1,6 @@
 -- What a round comes to that tells only news.
 use Rattle.std.specs.Prelude.{◌≡◌, ◌⊎◌, ◌≤◌, ℕ, ◌+◌, Bool, true, List, [], ◌∷◌, ◌++◌, length, map}
-use Rattle.node_core.specs.declared.config.Config.{Config}
+use Rattle.node_steps.specs.declared.config.Config.{Config}
 use Rattle.node_calls.specs.Asks.{bare_emit}
 use Rattle.gossip.specs.declared.news.News.{News}
 use Rattle.gossip.specs.declared.news.Pace.{Pace}

@@ -1,7 +1,7 @@
 -- What a report tells of the calls that were made.
 use Rattle.std.specs.Prelude.{◌≡◌, ℕ, ◌+◌, ◌==◌, Bool, true, false, not, List, length, map, count_by}
 use Rattle.std.specs.List.{filter, flat_map, range_with_len}
-use Rattle.node_core.specs.declared.config.Config.{Config}
+use Rattle.node_steps.specs.declared.config.Config.{Config}
 use Rattle.node_calls.specs.declared.receipt.Receipt.{Receipt}
 use Rattle.node_calls.specs.Asks as asks
 use Rattle.node_calls.specs.Asks.{Asked, ask_value_first, bare_emit}

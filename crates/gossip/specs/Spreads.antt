@@ -3,7 +3,7 @@ use Rattle.std.specs.Prelude.{◌≡◌, ◌⊎◌, ℕ, ◌+◌, ◌/◌, ◌-�
 use Rattle.std.specs.List.{flat_map, range_with_len}
 use Rattle.actions.specs.Names.{is_name}
 use Rattle.replica_state.specs.States.{rights_of}
-use Rattle.node_core.specs.declared.config.Config.{Config}
+use Rattle.node_steps.specs.declared.config.Config.{Config}
 use Rattle.node_calls.specs.Asks.{Asked, Shift}
 use Rattle.node_core.specs.Traces.{Kept, state_known}
 use Rattle.node_registry.specs.Cells.{Cell, IsLawfulAt}

@@ -4,7 +4,7 @@ use Rattle.node_calls.specs.declared.fault.NodeFault.{NodeFault}
 use Rattle.node_calls.specs.Told.{AskTold, ReplyTold}
 use Rattle.node_calls.specs.Asks.{answered_from, asked_first, asked_from}
 use Rattle.node_core.specs.Traces.{Kept, Accepts, IsRefusalOf, state_known}
-use Rattle.node_core.specs.Texts.{list_text}
+use Rattle.node_steps.specs.Texts.{list_text}
 use Rattle.report_text.specs.Json.{report_json_text}
 use Rattle.report_text.specs.Status.{status_json_text}
 use Rattle.report_text.specs.declared.node_json.NodeHead.{NodeHead}

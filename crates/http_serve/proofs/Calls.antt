@@ -2,7 +2,7 @@
 use Rattle.std.proofs.Common.{◌≡◌, ℕ, ◌+◌, List, Result, Ok, Err, inl, inr, refl, ◌∙◌, ap, sym, subst, IfOk, IfErr, OnErr}
 use Rattle.std.specs.Prelude.{OnOk}
 use Rattle.node_calls.specs.declared.ask.Ask.{Ask}
-use Rattle.node_core.specs.declared.config.Config.{Config}
+use Rattle.node_steps.specs.declared.config.Config.{Config}
 use Rattle.node_calls.specs.declared.fault.NodeFault.{NodeFault}
 use Rattle.node_calls.specs.declared.reply.Reply.{Reply}
 use Rattle.node_calls.specs.Told.{ask_told}

@@ -5,7 +5,7 @@ use Rattle.node_calls.specs.declared.fault.NodeFault.{NodeFault}
 use Rattle.node_calls.specs.declared.reply.Reply.{Reply}
 use Rattle.node_calls.specs.Told.{AskTold, ask_told}
 use Rattle.node_calls.specs.Asks.{ask_value, ask_value_first, reply_value}
-use Rattle.node_core.specs.declared.config.Config.{Config}
+use Rattle.node_steps.specs.declared.config.Config.{Config}
 use Rattle.node_registry.specs.Receipts.{IsAnswered}
 use Rattle.node_registry.specs.Receipts as registry
 use Rattle.part_keeper.specs.Kept.{IsRecorded}

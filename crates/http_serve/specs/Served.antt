@@ -1,12 +1,12 @@
 -- What a served node answers to a request.
 use Rattle.std.specs.Prelude.{◌≡◌, ◌⊎◌, ℕ, ◌+◌, List}
-use Rattle.node_core.specs.declared.config.Config.{Config}
+use Rattle.node_steps.specs.declared.config.Config.{Config}
 use Rattle.node_calls.specs.declared.fault.NodeFault.{NodeFault}
 use Rattle.node_calls.specs.declared.receipt.Receipt.{Receipt}
 use Rattle.node_calls.specs.Told.{AskTold, reply_told}
 use Rattle.node_calls.specs.Asks.{asked_first, asked_from, reply_value}
 use Rattle.node_core.specs.Traces.{state_known}
-use Rattle.node_core.specs.Texts.{list_text}
+use Rattle.node_steps.specs.Texts.{list_text}
 use Rattle.node_registry.specs.Cells.{Cell, IsLawfulAt}
 use Rattle.node_registry.specs.Receipts.{IsGiven, IsReceiptOf}
 use Rattle.node_registry.specs.Receipts as registry

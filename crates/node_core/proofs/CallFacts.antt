@@ -7,10 +7,10 @@ use Rattle.message_format.specs.Messages.{MessageValue}
 use Rattle.message_format.specs.Spelling.{IsBody}
 use Rattle.node_calls.specs.Asks.{Asked, Call, Message, Load, Pass, Deliver, emit_of, message_of}
 use Rattle.node_core.specs.Deliveries.{IsDelivery}
-use Rattle.node_core.specs.Outcomes.{AreTellable, HasKey, ops_done, state_loaded}
-use Rattle.node_core.specs.Passes.{pass_ops}
-use Rattle.node_core.specs.Room.{HasRoom, HasClocks, HasPlace, HavePlaces}
-use Rattle.node_core.specs.Steps.{points_in, settings}
+use Rattle.node_steps.specs.Outcomes.{AreTellable, HasKey, ops_done}
+use Rattle.node_core.specs.Room.{state_loaded, HasRoom, HasClocks, HasPlace, HavePlaces}
+use Rattle.node_steps.specs.Passes.{pass_ops}
+use Rattle.node_steps.specs.Settings.{points_in, settings}
 use Rattle.node_core.specs.Traces.{Kept, node_of, state_known}
 use Rattle.node_core.proofs.ShiftSteps.{MovesAs, MayMove}
 

@@ -19,10 +19,10 @@ use Rattle.replica_state.proofs.Changes.{changes_is_change}
 use Rattle.delta_exchange.specs.Changes.{LastChanges, IsSameKey, IsSameCell, IsChangedAt, ChangesAt, TellsChanges, IsUnchangedSince, IsChangeSince}
 use Rattle.delta_exchange.specs.Versions.{no_changes}
 use Rattle.node_calls.specs.Asks.{Asked}
-use Rattle.node_core.specs.Nodes.{Node, start, state_shown}
+use Rattle.node_steps.specs.Nodes.{Node, start, state_shown}
 use Rattle.node_core.specs.Steps.{after, operations_added, past_with}
 use Rattle.node_core.proofs.Pasts.{IsHistory, HasHistory, next_version, past_now, past_same}
-use Rattle.node_core.proofs.UptoStates.{IsUptoAt, cases_key, upto_below}
+use Rattle.node_steps.proofs.UptoStates.{IsUptoAt, cases_key, upto_below}
 
 -- ---- one key, or one cell
 

@@ -14,16 +14,17 @@ use Rattle.message_format.specs.Spelling.{IsMessage}
 use Rattle.delta_exchange.specs.News.{Brings}
 use Rattle.delta_exchange.proofs.LawfulLemmas.{told_lawful}
 use Rattle.message_format.specs.declared.fault.WireFault.{WireFault}
-use Rattle.node_core.specs.declared.config.Config.{Config}
+use Rattle.node_steps.specs.declared.config.Config.{Config}
 use Rattle.node_calls.specs.declared.fault.NodeFault.{NodeFault}
 use Rattle.node_calls.specs.declared.fault.NodeFault.TheVariants as faults
 use Rattle.node_calls.specs.Asks.{Message, Deliver, message_of, message_read}
-use Rattle.node_core.specs.Nodes.{Node, state_shown}
-use Rattle.node_core.specs.Refusals.{is_ahead, overspends, too_many, refusal_at, bad_message}
+use Rattle.node_steps.specs.Nodes.{Node, state_shown}
+use Rattle.node_steps.specs.Refusals.{is_ahead, overspends, too_many, refusal_at, bad_message}
 use Rattle.node_core.specs.Room.{HasRoom}
 use Rattle.node_core.specs.Traces.{Kept, delivery_of, node_of, refusal}
 use Rattle.node_core.specs.Holds.{IsInStep}
-use Rattle.node_core.specs.Deliveries.{IsDelivery, is_overspent_below}
+use Rattle.node_core.specs.Deliveries.{IsDelivery}
+use Rattle.node_steps.specs.Received.{is_overspent_below}
 use Rattle.node_core.proofs.Merged.{merged_names, overspends_told}
 
 module _ (config : Config) (entries : ℕ) (n : Node) (room : entries < config.trace_cap)

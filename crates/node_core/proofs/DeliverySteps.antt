@@ -3,15 +3,16 @@ use Rattle.std.proofs.Common.{◌≡◌, ℕ, ◌+◌, ◌<◌, ◌≤◌, max, 
 use Rattle.replica_state.specs.States.{State}
 use Rattle.replica_state.specs.Folds.{fold, clock_of}
 use Rattle.message_format.specs.declared.fault.WireFault.{WireFault}
-use Rattle.node_core.specs.declared.config.Config.{Config}
+use Rattle.node_steps.specs.declared.config.Config.{Config}
 use Rattle.node_calls.specs.Asks.{Message, Deliver, emit_of}
-use Rattle.node_core.specs.Nodes.{Node}
-use Rattle.node_core.specs.Steps.{after, message_in}
+use Rattle.node_steps.specs.Nodes.{Node}
+use Rattle.node_core.specs.Steps.{after}
+use Rattle.node_steps.specs.Refusals.{message_in}
 use Rattle.node_core.specs.Holds.{Holds}
 use Rattle.node_core.specs.Deliveries.{IsDelivery}
-use Rattle.node_core.proofs.Overspent.{clock-append}
-use Rattle.node_core.proofs.OwnRights.{HasOwn}
-use Rattle.node_core.proofs.OwnDelivered.{own_hits_kept, own_execs_kept, own_delivered}
+use Rattle.node_steps.proofs.Overspent.{clock-append}
+use Rattle.node_steps.proofs.OwnRights.{HasOwn}
+use Rattle.node_steps.proofs.OwnDelivered.{own_hits_kept, own_execs_kept, own_delivered}
 
 -- a message that is made changes nothing of the state
 pub holds_emit : (config : Config) (clock : ℕ) (state : State) (len : ℕ) (n : Node) (to : ℕ)

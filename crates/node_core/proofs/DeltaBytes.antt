@@ -8,7 +8,7 @@ use Rattle.message_format.specs.Spelling.{message_bytes}
 use Rattle.delta_exchange.specs.Differences.{difference_of}
 use Rattle.delta_exchange.proofs.Differences.{is_difference}
 use Rattle.node_calls.specs.Asks.{Asked, Call, Versions}
-use Rattle.node_core.specs.Nodes.{Node, start}
+use Rattle.node_steps.specs.Nodes.{Node, start}
 use Rattle.node_core.specs.Steps.{after, operations_added, version_after}
 use Rattle.node_core.specs.Traces.{Kept, replay, replay_from, node_of, state_known}
 use Rattle.node_core.specs.Deliveries.{TellsDelta, versions_in}

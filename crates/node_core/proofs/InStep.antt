@@ -8,8 +8,10 @@ use Rattle.replica_state.specs.Knowledge.{changes}
 use Rattle.message_format.specs.declared.fault.WireFault.{WireFault}
 use Rattle.delta_exchange.specs.Told.{HasLearned}
 use Rattle.node_calls.specs.Asks.{Asked, Call, Message}
-use Rattle.node_core.specs.Outcomes.{state_done, state_loaded}
-use Rattle.node_core.specs.Steps.{message_in, new_key}
+use Rattle.node_steps.specs.Outcomes.{state_done}
+use Rattle.node_core.specs.Room.{state_loaded}
+use Rattle.node_steps.specs.Refusals.{message_in}
+use Rattle.node_steps.specs.Settings.{new_key}
 use Rattle.node_core.specs.Traces.{Kept, state_known, with_call}
 use Rattle.node_core.specs.Holds.{IsInStep}
 use Rattle.node_core.proofs.Kept.{issue_kept, load_kept, pass_kept, moved_kept, emit_kept, deliver_kept}

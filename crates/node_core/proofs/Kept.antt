@@ -9,12 +9,14 @@ use Rattle.operations.specs.Operations.{Operation}
 use Rattle.replica_state.specs.Folds.{fold}
 use Rattle.message_format.specs.declared.fault.WireFault.{WireFault}
 use Rattle.delta_exchange.specs.Told.{HasLearned}
-use Rattle.node_core.specs.declared.config.Config.{Config}
+use Rattle.node_steps.specs.declared.config.Config.{Config}
 use Rattle.node_calls.specs.Asks.{Asked, Call, Message, Load, Pass, Deliver, emit_of}
-use Rattle.node_core.specs.Nodes.{Node}
-use Rattle.node_core.specs.Outcomes.{state_done, state_loaded, state_set, IsHeld}
-use Rattle.node_core.specs.Steps.{after, new_key, operations_issued, settings, points_in, message_in}
-use Rattle.node_core.specs.Room.{HasRoom}
+use Rattle.node_steps.specs.Nodes.{Node}
+use Rattle.node_steps.specs.Outcomes.{state_done, state_set, IsHeld}
+use Rattle.node_core.specs.Room.{state_loaded, HasRoom}
+use Rattle.node_core.specs.Steps.{after}
+use Rattle.node_steps.specs.Settings.{new_key, operations_issued, settings, points_in}
+use Rattle.node_steps.specs.Refusals.{message_in}
 use Rattle.node_core.specs.Traces.{Kept, node_of, replay}
 use Rattle.node_core.specs.Holds.{Holds}
 use Rattle.node_core.proofs.TraceLemmas.{holds_grown, holds_pass}

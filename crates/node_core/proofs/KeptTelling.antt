@@ -17,12 +17,14 @@ use Rattle.message_format.specs.declared.fault.WireFault.{WireFault}
 use Rattle.message_format.specs.Spelling.{IsBody}
 use Rattle.delta_exchange.specs.Wholes.{AreLawful}
 use Rattle.delta_exchange.proofs.LawfulLemmas.{lawful_together}
-use Rattle.node_core.specs.declared.config.Config.{Config}
+use Rattle.node_steps.specs.declared.config.Config.{Config}
 use Rattle.node_calls.specs.Asks.{Asked, Call, Message, Load, Pass, Deliver, emit_of}
-use Rattle.node_core.specs.Nodes.{Node, state_shown, setting_of}
-use Rattle.node_core.specs.Passes.{ops_of_pass}
-use Rattle.node_core.specs.Outcomes.{ops_done, state_done, AreTellable, IsHeld}
-use Rattle.node_core.specs.Steps.{after, operations_added, operations_issued, settings, points_in, shift_under, message_in}
+use Rattle.node_steps.specs.Nodes.{Node, state_shown, setting_of}
+use Rattle.node_steps.specs.Passes.{ops_of_pass}
+use Rattle.node_steps.specs.Outcomes.{ops_done, state_done, AreTellable, IsHeld}
+use Rattle.node_core.specs.Steps.{after, operations_added, shift_under}
+use Rattle.node_steps.specs.Settings.{operations_issued, settings, points_in}
+use Rattle.node_steps.specs.Refusals.{message_in}
 use Rattle.node_core.specs.Traces.{Kept, node_of, replay}
 use Rattle.node_core.specs.Holds.{Holds, CanTell}
 use Rattle.node_core.proofs.SettingSteps.{Issues, issues_some, issues_load, fold_issued, names_set, names_loaded}

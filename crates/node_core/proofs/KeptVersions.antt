@@ -18,14 +18,14 @@ use Rattle.message_format.specs.Spelling.{SpellsMessage, message_bytes}
 use Rattle.delta_exchange.specs.Versions.{VersionedValue, nothing_known, known_raised, acked_raised, ChangesTo, LearnsAll, Issues, Receives}
 use Rattle.node_calls.specs.Asks.{Asked, Call, Message, message_of, emit_of}
 use Rattle.node_calls.specs.Asks as asks
-use Rattle.node_core.specs.Nodes.{Node, start, state_shown}
-use Rattle.node_core.specs.Passes.{pass_ops}
-use Rattle.node_core.specs.Steps.{after, operations_added, operations_issued, settings, new_key, shift_under, version_after, known_after, acked_after}
-use Rattle.node_core.specs.Traces.{Kept, node_of, state_known, replay, replay_from}
+use Rattle.node_steps.specs.Nodes.{Node, start, state_shown}
+use Rattle.node_steps.specs.Passes.{pass_ops}
+use Rattle.node_core.specs.Steps.{after, operations_added, shift_under, version_after, known_after, acked_after}
+use Rattle.node_steps.specs.Settings.{operations_issued, settings, new_key}
+use Rattle.node_core.specs.Traces.{Kept, node_of, state_known, replay, replay_from, with_call}
 use Rattle.node_core.specs.KeptVersions.{KeepsVersions}
 use Rattle.node_core.specs.Deliveries.{TellsDelta}
 use Rattle.node_core.proofs.Changed.{changes_kept, nothing_changes, changes_start, delta_is_changed}
-use Rattle.node_core.specs.Traces.{with_call}
 use Rattle.node_core.proofs.LawfulSteps.{set_changes, pass_changes, shift_changes}
 use Rattle.node_core.proofs.Pasts.{HasHistory, has_history}
 use Rattle.node_core.proofs.CallFacts.{SetsPoint, LoadsPoints, PassesPoint, MovesRights, TakesMessage, MakesMessage}

@@ -22,9 +22,10 @@ use Rattle.replica_state.proofs.FoldSteps.{is_later, all_later, later_some}
 use Rattle.message_format.specs.Spelling.{IsBody, IsKey}
 use Rattle.delta_exchange.specs.Wholes.{IsLawful, AreLawful}
 use Rattle.delta_exchange.proofs.LawfulLemmas.{keyed_with_more}
-use Rattle.node_core.specs.Outcomes.{execs_done, ops_done}
-use Rattle.node_core.specs.Passes.{next_hit, next_exec}
-use Rattle.node_core.specs.Steps.{new_key, operations_issued, shift_under}
+use Rattle.node_steps.specs.Outcomes.{execs_done, ops_done}
+use Rattle.node_steps.specs.Passes.{next_hit, next_exec}
+use Rattle.node_steps.specs.Settings.{new_key, operations_issued}
+use Rattle.node_core.specs.Steps.{shift_under}
 
 abbrev Settings : Type 0
 Settings = List (List ℕ × Option (List ℕ))

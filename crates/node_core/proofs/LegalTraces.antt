@@ -1,10 +1,10 @@
 -- Legal traces.
 use Rattle.std.proofs.Common.{◌≡◌, ℕ, zero, suc, ◌+◌, List, [], ◌∷◌, ◌++◌, length, take, None, refl, sym, subst, arith}
-use Rattle.node_core.specs.declared.config.Config.{Config}
+use Rattle.node_steps.specs.declared.config.Config.{Config}
 use Rattle.node_calls.specs.Asks.{Asked, Call}
-use Rattle.node_core.specs.Nodes.{Node}
+use Rattle.node_steps.specs.Nodes.{Node}
 use Rattle.node_core.specs.Steps.{after, reply}
-use Rattle.node_core.specs.Refusals.{refusal_at}
+use Rattle.node_steps.specs.Refusals.{refusal_at}
 use Rattle.node_core.specs.Resumed.{IsLegalCall}
 use Rattle.node_core.specs.Traces.{SendsDelta, IsLegal, IsLegalFrom, replay_from}
 

@@ -20,9 +20,9 @@ use Rattle.message_format.specs.Spelling.{IsBody}
 use Rattle.delta_exchange.specs.Wholes.{AreLawful}
 use Rattle.delta_exchange.proofs.LawfulStates.{lawful_state}
 use Rattle.node_calls.specs.Asks.{Load}
-use Rattle.node_core.specs.Nodes.{setting_in}
-use Rattle.node_core.specs.Steps.{points_read, settings, settings_of}
-use Rattle.node_core.specs.Texts.{list_entry, list_text, point_listed, points_listed, setting_listed, settings_listed}
+use Rattle.node_steps.specs.Nodes.{setting_in}
+use Rattle.node_steps.specs.Settings.{points_read, settings, settings_of}
+use Rattle.node_steps.specs.Texts.{list_entry, list_text, point_listed, points_listed, setting_listed, settings_listed}
 
 abbrev Point : Type 0
 Point = List ℕ × List TermValue

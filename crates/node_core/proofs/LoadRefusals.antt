@@ -9,13 +9,13 @@ use Rattle.replica_state.specs.Folds.{fold}
 use Rattle.replica_state.specs.Unions.{with_names}
 use Rattle.node_calls.specs.declared.fault.NodeFault.TheVariants as faults
 use Rattle.node_calls.specs.Asks.{Load}
-use Rattle.node_core.specs.Nodes.{Node, state_shown}
-use Rattle.node_core.specs.Outcomes.{state_loaded, state_set}
+use Rattle.node_steps.specs.Nodes.{Node, state_shown}
+use Rattle.node_core.specs.Room.{state_loaded, HasRoom, HavePlaces}
+use Rattle.node_steps.specs.Outcomes.{state_set}
 use Rattle.refusals.specs.Refusals.{first_fault}
 use Rattle.counters.specs.Cells.{most}
-use Rattle.node_core.specs.Refusals.{no_clock, no_place}
-use Rattle.node_core.specs.Room.{HasRoom, HavePlaces}
-use Rattle.node_core.specs.Steps.{points_read, settings_of}
+use Rattle.node_steps.specs.Refusals.{no_clock, no_place}
+use Rattle.node_steps.specs.Settings.{points_read, settings_of}
 use Rattle.node_core.specs.Traces.{Kept, last_clock, node_of, refusal}
 use Rattle.node_core.specs.Holds.{IsInStep}
 use Rattle.node_core.proofs.SettingSteps.{names_loaded, names_set}

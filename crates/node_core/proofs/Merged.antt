@@ -19,10 +19,10 @@ use Rattle.message_format.specs.declared.message.NameEntry.{NameEntry}
 use Rattle.message_format.specs.Messages.{EntryValue, entry_value, operations_of, hits_in, execs_in, shifts_in, grants_in}
 use Rattle.delta_exchange.specs.News.{Brings}
 use Rattle.delta_exchange.specs.Wholes.{IsLawful, AreLawful}
-use Rattle.node_core.specs.Nodes.{setting_of, setting_in, terms_in}
-use Rattle.node_core.specs.Refusals.{any_below, exceeds_count, is_overspent, overspends}
-use Rattle.node_core.specs.Deliveries.{terms_both, execs_both, granted_both, is_overspent_below}
-use Rattle.node_core.proofs.Ahead.{any_told}
+use Rattle.node_steps.specs.Nodes.{setting_of, setting_in, terms_in}
+use Rattle.node_steps.specs.Refusals.{any_below, exceeds_count, is_overspent, overspends}
+use Rattle.node_steps.specs.Received.{terms_both, execs_both, granted_both, is_overspent_below}
+use Rattle.node_steps.proofs.Ahead.{any_told}
 use Rattle.node_core.proofs.SettingSteps.{names_united, turned}
 
 -- ---- both states as one

@@ -13,10 +13,10 @@ use Rattle.actions.specs.Value.{TermValue}
 use Rattle.counters.specs.Cells.{is_too_great}
 use Rattle.replica_state.specs.States.{with_name}
 use Rattle.node_calls.specs.Asks.{Set, Remove, Load, Shift, Grant}
-use Rattle.node_core.specs.Refusals.{bad_actions, bad_setting, key_refusal, no_entry, no_name, no_place, no_clock, shift_refusal, grant_refusal}
+use Rattle.node_steps.specs.Refusals.{bad_actions, bad_setting, key_refusal, no_entry, no_name, no_place, no_clock, shift_refusal, grant_refusal}
 use Rattle.node_core.specs.Room.{HasClocks, HasPlace, HasRoom}
 use Rattle.node_core.specs.Traces.{IsRefusalOf, Kept, node_of, refusal, state_known}
-use Rattle.node_core.proofs.ShiftRefusals.{upto_most}
+use Rattle.node_steps.proofs.ShiftRefusals.{upto_most}
 
 -- a fault that is passed on
 pub passed_on : {A : Type 0} (P : NodeFault → Type 0) (r : Result A NodeFault) (f : NodeFault) → IsErr r →

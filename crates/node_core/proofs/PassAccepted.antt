@@ -8,8 +8,8 @@ use Rattle.node_calls.specs.declared.fault.NodeFault.{NodeFault}
 use Rattle.node_calls.specs.declared.fault.NodeFault.TheVariants as faults
 use Rattle.node_calls.specs.Asks.{IsPassed, Pass, call_from}
 use Rattle.node_calls.specs.Told.{Passed, passes, was_passed}
-use Rattle.node_core.specs.Passes.{pass_reply, words_for}
-use Rattle.node_core.specs.Refusals.{bad_words}
+use Rattle.node_steps.specs.Passes.{pass_reply, words_for}
+use Rattle.node_steps.specs.Refusals.{bad_words}
 use Rattle.node_core.specs.Room.{HasRoom}
 use Rattle.node_core.specs.Traces.{IsRefusalOf, Kept, entry_for, refusal, state_known}
 use Rattle.node_core.proofs.NamedRefusals.{first_is, later}

@@ -9,7 +9,7 @@ use Rattle.replica_state.specs.StateOrder.{IsBelow, below-refl, below-trans}
 use Rattle.replica_state.proofs.KnownSets.{union_above_right}
 use Rattle.replica_state.proofs.Changes.{changes_is_change}
 use Rattle.node_calls.specs.Asks.{Asked, Call}
-use Rattle.node_core.specs.Nodes.{Node, start}
+use Rattle.node_steps.specs.Nodes.{Node, start}
 use Rattle.node_core.specs.Steps.{after, operations_added, past_with}
 use Rattle.node_core.specs.Traces.{replay, replay_from}
 

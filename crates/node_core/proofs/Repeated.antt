@@ -18,12 +18,12 @@ use Rattle.node_calls.specs.Asks.{Answered, Call, Message, answered_from, asked_
 use Rattle.node_calls.specs.Asks as asks
 use Rattle.node_calls.specs.Told as tells_of
 use Rattle.node_calls.specs.Told.{Told, AskTold, Passed, ReplyTold, was_set, was_removed, was_loaded, was_passed, was_shifted, was_granted, was_emitted, was_delivered, reply_told}
-use Rattle.node_core.specs.declared.config.Config.{Config}
+use Rattle.node_steps.specs.declared.config.Config.{Config}
 use Rattle.node_core.specs.Applied.{TellsIfEmit}
 use Rattle.node_core.specs.Deliveries.{TellsDelta}
 use Rattle.node_core.specs.Lasts.{last_passed}
-use Rattle.node_core.specs.Nodes.{Node, start}
-use Rattle.node_core.specs.Refusals.{refusal_at}
+use Rattle.node_steps.specs.Nodes.{Node, start}
+use Rattle.node_steps.specs.Refusals.{refusal_at}
 use Rattle.node_core.specs.Resumed.{IsFirstWrong, IsLegalAlone, IsLegalCall, IsLegalKept, IsNext, lived}
 use Rattle.node_core.specs.Steps.{message_to, reply}
 use Rattle.node_core.specs.Traces.{Accepts, IsRefusalOf, Kept, SendsDelta, node_of, refusal, reply_to, state_known, with_call}

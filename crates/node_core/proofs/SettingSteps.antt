@@ -11,14 +11,15 @@ use Rattle.replica_state.proofs.FoldSteps.{fold_key}
 use Rattle.replica_state.proofs.KnownSets.{same_members}
 use Rattle.operations.proofs.Members.{IsIn-append_left, IsIn-append_right, IsIn-append_cases}
 use Rattle.replica_state.proofs.SetJoins.{fold-unites}
-use Rattle.node_core.specs.declared.config.Config.{Config}
+use Rattle.node_steps.specs.declared.config.Config.{Config}
 use Rattle.node_calls.specs.Asks.{Asked}
 use Rattle.node_calls.specs.Asks as asks
-use Rattle.node_core.specs.Nodes.{Node}
-use Rattle.node_core.specs.Outcomes.{state_set}
-use Rattle.node_core.specs.Steps.{after, operations_added, clock_after, settings, operations_issued, new_key, points_in}
+use Rattle.node_steps.specs.Nodes.{Node}
+use Rattle.node_steps.specs.Outcomes.{state_set}
+use Rattle.node_core.specs.Steps.{after, operations_added, clock_after}
+use Rattle.node_steps.specs.Settings.{settings, operations_issued, new_key, points_in}
 use Rattle.node_core.specs.Holds.{Holds}
-use Rattle.node_core.proofs.OwnRights.{HasOwn, own_key}
+use Rattle.node_steps.proofs.OwnRights.{HasOwn, own_key}
 
 abbrev Settings : Type 0
 Settings = List (List ℕ × Option (List ℕ))

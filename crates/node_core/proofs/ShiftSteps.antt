@@ -14,14 +14,14 @@ use Rattle.operations.specs.Operations.{Operation, Count, Shifts, count_of}
 use Rattle.replica_state.specs.States.{State, with_name, with_shifts, budget, budget_under, budget_of, rights_of}
 use Rattle.replica_state.specs.Folds.{fold, clock_of, names_of, key_of, number_at, at_key}
 use Rattle.replica_state.proofs.FoldSteps.{fold_shifts}
-use Rattle.node_core.specs.declared.config.Config.{Config}
+use Rattle.node_steps.specs.declared.config.Config.{Config}
 use Rattle.node_calls.specs.Asks.{Asked, Shift, Grant}
-use Rattle.node_core.specs.Nodes.{Node, state_shown}
-use Rattle.node_core.specs.Outcomes.{IsHeld}
+use Rattle.node_steps.specs.Nodes.{Node, state_shown}
+use Rattle.node_steps.specs.Outcomes.{IsHeld}
 use Rattle.node_core.specs.Steps.{after, operations_added, clock_after, known_after, acked_after, shift_under}
 use Rattle.node_core.specs.Holds.{Holds}
-use Rattle.node_core.proofs.OwnRights.{HasOwn}
-use Rattle.node_core.proofs.Rights.{counted_by_rights}
+use Rattle.node_steps.proofs.OwnRights.{HasOwn}
+use Rattle.node_steps.proofs.Rights.{counted_by_rights}
 use Rattle.node_core.proofs.TraceLemmas.{held_clock}
 
 -- ---- rights

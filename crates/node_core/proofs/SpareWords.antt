@@ -11,12 +11,12 @@ use Rattle.message_format.specs.declared.fault.WireFault.{WireFault}
 use Rattle.node_calls.specs.declared.fault.NodeFault.{NodeFault}
 use Rattle.node_calls.specs.declared.fault.NodeFault.TheVariants as faults
 use Rattle.node_calls.specs.Asks.{Message, Versions, Set, Remove, Load, Shift, Grant, Emit, Deliver}
-use Rattle.node_core.specs.Nodes.{state_shown}
-use Rattle.node_core.specs.Steps.{points_in, message_in}
+use Rattle.node_steps.specs.Nodes.{state_shown}
+use Rattle.node_steps.specs.Settings.{points_in}
+use Rattle.node_steps.specs.Refusals.{message_in, is_full, is_bad_node, bad_actions, bad_setting, bad_message, too_many, faults_of_shift, faults_of_grant, faults_of_message, spare_words}
 use Rattle.refusals.specs.Refusals.{first_fault}
 use Rattle.counters.specs.Cells.{most}
 use Rattle.std.specs.Bool.{then_some}
-use Rattle.node_core.specs.Refusals.{is_full, is_bad_node, bad_actions, bad_setting, bad_message, too_many, faults_of_shift, faults_of_grant, faults_of_message, spare_words}
 use Rattle.node_core.specs.Traces.{Kept, node_of, refusal}
 use Rattle.node_core.specs.Applied.{delivery_refused_with}
 

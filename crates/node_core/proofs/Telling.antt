@@ -7,10 +7,10 @@ use Rattle.replica_state.specs.Folds.{fold}
 use Rattle.replica_state.specs.Knowledge.{changes}
 use Rattle.delta_exchange.specs.Wholes.{AreLawful}
 use Rattle.delta_exchange.proofs.LawfulLemmas.{lawful_none}
-use Rattle.node_core.specs.declared.config.Config.{Config}
+use Rattle.node_steps.specs.declared.config.Config.{Config}
 use Rattle.node_calls.specs.Asks.{Asked, Call}
-use Rattle.node_core.specs.Nodes.{Node, start, state_shown}
-use Rattle.node_core.specs.Outcomes.{state_done}
+use Rattle.node_steps.specs.Nodes.{Node, start, state_shown}
+use Rattle.node_steps.specs.Outcomes.{state_done}
 use Rattle.node_core.specs.Steps.{after, operations_added}
 use Rattle.node_core.specs.Traces.{replay_from, replay}
 use Rattle.node_core.specs.Holds.{CanTell}

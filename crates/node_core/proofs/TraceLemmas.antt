@@ -9,15 +9,15 @@ use Rattle.replica_state.specs.States.{State, with_name, with_hits, with_execs, 
 use Rattle.replica_state.specs.Folds.{fold, clock_of, names_of, key_of, number_at, at_key}
 use Rattle.replica_state.proofs.FoldSteps.{fold_hits, fold_execs, max_zero, is_later, all_later, later_some, either_way}
 use Rattle.message_format.specs.Limits.{max_nodes}
-use Rattle.node_core.specs.declared.config.Config.{Config}
+use Rattle.node_steps.specs.declared.config.Config.{Config}
 use Rattle.node_calls.specs.Asks.{Call, Pass}
-use Rattle.node_core.specs.Nodes.{Node, max_trace_cap, start, state_shown, setting_of}
-use Rattle.node_core.specs.Passes.{next_hit, ops_of_pass}
-use Rattle.node_core.specs.Outcomes.{HasKey, execs_done, ops_done, state_done, IsHeld}
+use Rattle.node_steps.specs.Nodes.{Node, max_trace_cap, start, state_shown, setting_of}
+use Rattle.node_steps.specs.Passes.{next_hit, ops_of_pass}
+use Rattle.node_steps.specs.Outcomes.{HasKey, execs_done, ops_done, state_done, IsHeld}
 use Rattle.node_core.specs.Steps.{after}
 use Rattle.node_core.specs.Traces.{replay_from, replay}
 use Rattle.node_core.specs.Holds.{Holds}
-use Rattle.node_core.proofs.OwnRights.{HasOwn, own_start, own_done}
+use Rattle.node_steps.proofs.OwnRights.{HasOwn, own_start, own_done}
 
 pub replay_more : (i : ℕ) (n : Node) (cs : List Call) (c : Call) →
     replay_from i n (cs ++ c ∷ []) ≡ after i (replay_from i n cs) c.ask c.words

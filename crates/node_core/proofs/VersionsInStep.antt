@@ -14,21 +14,22 @@ use Rattle.message_format.specs.Messages.{MessageValue, operations_in}
 use Rattle.delta_exchange.specs.Since.{CanBeTold}
 use Rattle.delta_exchange.specs.Told.{HasLearned}
 use Rattle.delta_exchange.specs.Versions.{VersionedValue, nothing_known, ChangesTo, Issues, MayPass, Receives}
-use Rattle.node_core.specs.declared.config.Config.{Config}
+use Rattle.node_steps.specs.declared.config.Config.{Config}
 use Rattle.node_calls.specs.Told.{Told}
 use Rattle.node_calls.specs.Asks.{Asked, Call, Message, Load, call_from}
 use Rattle.node_core.specs.Holds.{IsInStep, CanTell}
 use Rattle.node_core.specs.KeptVersions.{KeepsVersions, IsInStepWith}
-use Rattle.node_core.specs.Nodes.{Node}
-use Rattle.node_core.specs.Outcomes.{HasKey, state_loaded}
-use Rattle.node_core.specs.Room.{HasRoom}
-use Rattle.node_core.specs.Steps.{message_in, new_key, operations_issued, settings}
+use Rattle.node_steps.specs.Nodes.{Node}
+use Rattle.node_steps.specs.Outcomes.{HasKey}
+use Rattle.node_core.specs.Room.{state_loaded, HasRoom}
+use Rattle.node_steps.specs.Refusals.{message_in}
+use Rattle.node_steps.specs.Settings.{new_key, operations_issued, settings}
 use Rattle.history.specs.Histories.{Calls, grown, no_calls}
 use Rattle.node_core.specs.Traces.{Kept, kept_of, node_of, state_known, with_call}
 use Rattle.node_core.proofs.InStep.{issue_in_step, load_in_step, pass_in_step, moved_in_step, deliver_in_step, emit_in_step}
 use Rattle.node_core.proofs.KeptVersions.{versions_start, set_versions, load_versions, pass_versions, unset_versions, moved_versions, emit_versions, deliver_versions}
 use Rattle.node_core.proofs.LawfulSteps.{unknown_key}
-use Rattle.node_core.proofs.Rights.{counted_by_rights}
+use Rattle.node_steps.proofs.Rights.{counted_by_rights}
 use Rattle.node_core.proofs.SettingSteps.{fold_alone, turned}
 use Rattle.node_core.proofs.CallFacts.{SetsPoint, LoadsPoints, PassesPoint, MovesRights, TakesMessage, MakesMessage}
 

@@ -2,10 +2,10 @@
 use Rattle.std.specs.Prelude.{◌≡◌, ℕ, ◌<◌, ◌≤◌, List, length, pos, ◌≤ℤ◌}
 use Rattle.replica_state.specs.States.{State, rights_of}
 use Rattle.replica_state.specs.Folds.{clock_of}
-use Rattle.node_core.specs.declared.config.Config.{Config}
+use Rattle.node_steps.specs.declared.config.Config.{Config}
 use Rattle.message_format.specs.Limits.{max_nodes, max_names}
 use Rattle.delta_exchange.specs.Wholes.{AreLawful}
-use Rattle.node_core.specs.Nodes.{Node, max_trace_cap, state_shown}
+use Rattle.node_steps.specs.Nodes.{Node, max_trace_cap, state_shown}
 use Rattle.node_core.specs.Traces.{Kept, node_of}
 
 -- the clock and the state are those of the node that the trace comes to; no cell that the node writes

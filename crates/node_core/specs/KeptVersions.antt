@@ -2,7 +2,7 @@
 use Rattle.std.specs.Prelude.{◌≡◌, ℕ, ◌≤◌}
 use Rattle.delta_exchange.specs.Changes.{TellsChanges}
 use Rattle.delta_exchange.specs.Versions.{VersionedValue}
-use Rattle.node_core.specs.Nodes.{Node, state_shown}
+use Rattle.node_steps.specs.Nodes.{Node, state_shown}
 use Rattle.node_core.specs.Traces.{Kept, node_of}
 use Rattle.node_core.specs.Holds.{IsInStep}
 

@@ -1,16 +1,12 @@
 -- Which calls need memory: those that no refusal stops before the first of it is taken. No other call
 -- that is made by its own name is refused for want of it. One that is given as a value may be: its ask
 -- and its words are copied first.
-use Rattle.std.specs.Prelude.{◌≡◌, ◌≢◌, ℕ, ◌≤◌, ◌<◌, List, length, position, true, IsOk, None}
+use Rattle.std.specs.Prelude.{◌≡◌, ◌≢◌, ℕ, ◌≤◌, ◌<◌, List, length, true, IsOk}
 use Rattle.actions.specs.Names.{is_name}
-use Rattle.actions.specs.Reading.{is_bad_byte}
 use Rattle.message_format.specs.Reading.{header_of}
+use Rattle.node_steps.specs.Refusals.{IsReadable}
 use Rattle.node_core.specs.Traces.{Kept}
 use Rattle.node_core.specs.Room.{HasRoom}
-
--- a text that is too long or has a bad byte is refused before its terms are read
-abbrev pub IsReadable : List ℕ → Type 0
-IsReadable text = (length text ≤ 1024) × (position is_bad_byte text ≡ None)
 
 abbrev pub SetNeedsMemory : Kept → List ℕ → List ℕ → Type 0
 SetNeedsMemory k name text = HasRoom k × (is_name name ≡ true) × IsReadable text

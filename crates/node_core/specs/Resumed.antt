@@ -1,11 +1,11 @@
 -- Calls that are made again, and the node that they come to.
 use Rattle.std.specs.Prelude.{◌≡◌, ℕ, ◌+◌, List, length, map, slice_get, take, None, Some}
-use Rattle.node_core.specs.declared.config.Config.{Config}
+use Rattle.node_steps.specs.declared.config.Config.{Config}
 use Rattle.node_calls.specs.Asks.{Call, call_from}
 use Rattle.node_calls.specs.Told.{Told}
-use Rattle.node_core.specs.Nodes.{Node}
+use Rattle.node_steps.specs.Nodes.{Node}
 use Rattle.node_core.specs.Steps.{reply}
-use Rattle.node_core.specs.Refusals.{refusal_at}
+use Rattle.node_steps.specs.Refusals.{refusal_at}
 use Rattle.node_core.specs.Traces.{Kept, IsLegal, SendsDelta, node_of}
 
 -- a call may come next: nothing refuses it, an emit sends what differs, and the reply is the step's

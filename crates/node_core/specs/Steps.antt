@@ -1,67 +1,17 @@
 -- The step of one node: what an accepted ask adds to its operations, its marks after it, and the reply.
-use Rattle.std.specs.Prelude.{ℕ, ◌+◌, max, ◌==◌, List, [], ◌∷◌, ◌++◌, length, map, if◌then◌else◌, Option, Some, None, Result, Ok, Err}
-use Rattle.actions.specs.Value.{TermValue}
-use Rattle.actions.specs.Canonical.{canonical}
-use Rattle.actions.specs.Reading.{reading}
-use Rattle.actions.specs.SettingReading.{setting_reading}
-use Rattle.actions.specs.declared.fault.ActionFault.{ActionFault}
-use Rattle.actions.specs.declared.fault.SettingFault.{SettingFault}
+use Rattle.std.specs.Prelude.{ℕ, ◌+◌, max, ◌==◌, List, [], ◌∷◌, ◌++◌, length, if◌then◌else◌, Option, Some, None, Ok}
 use Rattle.stamp_register.specs.Keys.{KeyValue}
-use Rattle.operations.specs.Operations.{Operation, Set, Count, Shifts}
+use Rattle.operations.specs.Operations.{Operation, Count, Shifts}
 use Rattle.replica_state.specs.States.{State, granted_in}
 use Rattle.replica_state.specs.Folds.{fold, clock_of}
 use Rattle.replica_state.specs.Knowledge.{changes}
-use Rattle.message_format.specs.declared.fault.WireFault.{WireFault}
 use Rattle.delta_exchange.specs.Versions.{known_raised, acked_raised}
 use Rattle.node_calls.specs.Asks.{Asked, Answered, Message, Versions}
 use Rattle.node_calls.specs.Asks as asks
-use Rattle.node_core.specs.Nodes.{Node, Marks, state_shown}
-use Rattle.node_core.specs.Passes.{pass_ops, pass_reply}
-
--- a key that node i issues at a clock, with the canonical text of what is set, or none
-abbrev pub new_key : ℕ → ℕ → Option (List ℕ) → KeyValue
-new_key i clock body = record { clock = clock + 1; node = i; body = body }
-
-abbrev pub body_read : Result (List TermValue) ActionFault → Option (List ℕ)
-body_read (Ok terms) = Some (canonical terms)
-body_read (Err fault) = None
-
--- the points that a setting text sets, and none where it is refused
-abbrev pub points_read : Result (List (List ℕ × List TermValue)) SettingFault → List (List ℕ × List TermValue)
-points_read (Ok points) = points
-points_read (Err fault) = []
-
-abbrev pub points_in : List ℕ → List (List ℕ × List TermValue)
-points_in text = points_read (setting_reading text)
-
--- points with their canonical texts
-abbrev pub settings_of : List (List ℕ × List TermValue) → List (List ℕ × Option (List ℕ))
-settings_of points = map (λ point. (point.0, Some (canonical point.1))) points
-
--- the names that an ask sets or removes, in order, with their bodies
-abbrev pub settings : Asked → List (List ℕ × Option (List ℕ))
-settings (asks.Set name text) = (name, body_read (reading text)) ∷ []
-settings (asks.Remove name) = (name, None) ∷ []
-settings (asks.Load text) = settings_of (points_in text)
-settings (asks.Pass name) = []
-settings (asks.Shift name term to amount) = []
-settings (asks.Grant name term amount) = []
-settings (asks.Emit to versions chosen) = []
-settings (asks.Deliver read) = []
-
--- what a delivery brings; bytes that are no message bring nothing
-abbrev pub nothing_told : Message
-nothing_told = record { from = 0; to = 0; base = 0; upto = 0; ack = 0; ops = [] }
-
-abbrev pub message_in : Result Message WireFault → Message
-message_in (Ok message) = message
-message_in (Err fault) = nothing_told
-
--- their keys have consecutive clocks
-abbrev pub operations_issued : ℕ → ℕ → List (List ℕ × Option (List ℕ)) → List Operation
-operations_issued i clock [] = []
-operations_issued i clock (setting ∷ rest) =
-    Set setting.0 (new_key i clock setting.1) ∷ operations_issued i (clock + 1) rest
+use Rattle.node_steps.specs.Nodes.{Node, Marks, state_shown}
+use Rattle.node_steps.specs.Passes.{pass_ops, pass_reply}
+use Rattle.node_steps.specs.Refusals.{message_in}
+use Rattle.node_steps.specs.Settings.{operations_issued, points_in, settings}
 
 -- a node moves so many rights more to another, or grants itself so many more where both are one
 abbrev pub shift_under : ℕ → State → List ℕ → ℕ → ℕ → ℕ → Option KeyValue → List Operation

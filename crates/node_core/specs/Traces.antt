@@ -3,15 +3,15 @@ use Rattle.std.specs.Prelude.{◌≡◌, ◌⊎◌, ℕ, ◌+◌, nat_lt, cond, 
 use Rattle.history.specs.Histories.{Calls}
 use Rattle.replica_state.specs.Deltas.{IsDelta}
 use Rattle.replica_state.specs.States.{State}
-use Rattle.node_core.specs.declared.config.Config.{Config}
+use Rattle.node_steps.specs.declared.config.Config.{Config}
 use Rattle.node_calls.specs.declared.fault.NodeFault.{NodeFault}
 use Rattle.node_calls.specs.declared.fault.NodeFault.TheVariants.{OutOfMemory}
 use Rattle.node_calls.specs.declared.trace.Entry.{Entry}
 use Rattle.node_calls.specs.Asks.{Asked, Answered, Call, Versions, bare_emit, call, call_from, emit_of, message_read}
 use Rattle.node_calls.specs.Asks as asks
-use Rattle.node_core.specs.Nodes.{Node, Marks, start, state_shown}
+use Rattle.node_steps.specs.Nodes.{Node, Marks, start, state_shown}
 use Rattle.node_core.specs.Steps.{after, reply}
-use Rattle.node_core.specs.Refusals.{refusal_at}
+use Rattle.node_steps.specs.Refusals.{refusal_at}
 
 -- what the calls of a trace come to, the first call first
 unfoldable pub replay_from : ℕ → Node → List Call → Node

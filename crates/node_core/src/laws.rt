@@ -3,8 +3,8 @@
 ghost use Rattle.std.specs.Prelude.{◌≡◌, ◌≤◌, length, Ok};
 ghost use Rattle.actions.specs.SettingReading.{setting_reading};
 ghost use Rattle.node_calls.specs.Asks.{Load, Message, message_read};
-ghost use Rattle.node_core.specs.Steps.{settings};
-ghost use Rattle.node_core.specs.Texts.{list_text, points_listed, settings_listed};
+ghost use Rattle.node_steps.specs.Settings.{settings};
+ghost use Rattle.node_steps.specs.Texts.{list_text, points_listed, settings_listed};
 ghost use Rattle.node_core.specs.Traces.{state_known};
 
 use crate::node::NodeCore;

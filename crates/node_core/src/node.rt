@@ -1,17 +1,16 @@
 //! A node: what it holds, and what it tells of it. Each call stands in a module of its own.
 
-ghost use Rattle.std.specs.Prelude.{◌≡◌, drop, length, ◌≤◌, ◌⊎◌, ◌↔◌, pos, ◌≤ℤ◌, map, IfOk, IfErr};
-ghost use Rattle.std.specs.Prelude.{OnOk, IsErrOf, IsTrue, option_map, string_bytes, true, false};
-ghost use Rattle.actions.specs.Names.{is_name};
-ghost use Rattle.node_core.specs.Replicas.{state_in};
+ghost use Rattle.std.specs.Prelude.{◌≡◌, drop, length, ◌≤◌, ◌↔◌, pos, ◌≤ℤ◌, map, IfOk, IfErr};
+ghost use Rattle.std.specs.Prelude.{OnOk, IsTrue, option_map, string_bytes, true, false};
+ghost use Rattle.node_steps.specs.Replicas.{state_in};
 ghost use Rattle.replica_state.specs.States.{rights_of, spent_of, total_hits};
 ghost use Rattle.delta_exchange.specs.Wholes.{AreLawful};
 ghost use Rattle.node_calls.specs.Asks.{call_from};
-ghost use Rattle.node_core.specs.Passes.{words_for};
-ghost use Rattle.node_core.specs.Refusals.{is_bad_config};
+ghost use Rattle.node_steps.specs.Passes.{words_for};
+ghost use Rattle.node_steps.specs.Refusals.{is_bad_config};
 ghost use Rattle.node_core.specs.Room.{HasRoom};
 ghost use Rattle.node_core.specs.Stamps.{HasStamp};
-ghost use Rattle.node_core.specs.Texts.{list_text};
+ghost use Rattle.node_steps.specs.Texts.{list_text};
 ghost use Rattle.node_core.specs.Traces.{call_kept, new_kept, node_of, state_known, without_kept};
 ghost use Rattle.packed_trace.specs.Packed.{seen_told};
 
@@ -25,14 +24,11 @@ mod repeat;
 mod set;
 mod shift;
 
-use crate::State;
-use crate::config::{Config, MAX_TRACE_CAP};
-use crate::list::list_of;
-use crate::setting::words_needed;
-use actions::{Name, NameFault};
+use actions::Name;
 use delta_exchange::{MAX_NODES, Versioned};
 use history::History;
 use node_calls::NodeFault;
+use node_steps::{Config, MAX_TRACE_CAP, State, list_of, words_needed};
 use packed_trace::{Seen, Trace};
 use replica_state::Replica;
 use stamp_register::Stamp;
@@ -246,20 +242,5 @@ impl NodeCore {
             return Err(NodeFault::TraceFull);
         }
         Ok(())
-    }
-}
-
-// The name that a text is.
-fn read_name(alloc: Global, text: &str) -> Result<Name, NodeFault>
-    ensures ok { IfOk result (λ n. (is_name text.now ≡ true) × (n ≡ text.now)) }
-    ensures refused { IfErr result (λ f. (f ≡ NodeFault.OutOfMemory)
-        ⊎ ((f ≡ NodeFault.BadName) × (is_name text.now ≡ false))) }
-    ensures bad { IsErrOf result NodeFault.BadName ↔ (is_name text.now ≡ false) }
-    ensures memory { IsErrOf result NodeFault.OutOfMemory → is_name text.now ≡ true }
-{
-    match Name::parse(alloc, text) {
-        Ok(name) => Ok(name),
-        Err(NameFault::BadName) => Err(NodeFault::BadName),
-        Err(NameFault::OutOfMemory) => Err(NodeFault::OutOfMemory),
     }
 }

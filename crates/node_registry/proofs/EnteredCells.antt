@@ -6,7 +6,7 @@ use Rattle.std.proofs.lemmas.Option.{none-some, same_Some}
 use Rattle.rand_chacha.specs.ChaCha.{ChaCha, key_of}
 use Rattle.node_calls.specs.declared.ask.Ask.{Ask}
 use Rattle.node_calls.specs.declared.ask.Ask.TheVariants as asked
-use Rattle.node_core.specs.declared.config.Config.{Config}
+use Rattle.node_steps.specs.declared.config.Config.{Config}
 use Rattle.node_calls.specs.declared.fault.NodeFault.{NodeFault}
 use Rattle.node_calls.specs.declared.reply.Reply.{Reply}
 use Rattle.node_calls.specs.declared.reply.Reply.TheVariants as replies
@@ -15,10 +15,10 @@ use Rattle.node_core.specs.Applied.{TellsIfEmit}
 use Rattle.node_calls.specs.Asks.{Asked, Call, IsPassed, Pass, ask_value, ask_value_first, reply_value}
 use Rattle.node_calls.specs.Told.{Passed, ask_told, is_pass}
 use Rattle.node_core.specs.Lasts.{passed_in}
-use Rattle.node_core.specs.Nodes.{max_trace_cap}
-use Rattle.node_core.specs.Refusals.{is_bad_config}
+use Rattle.node_steps.specs.Nodes.{max_trace_cap}
+use Rattle.node_steps.specs.Refusals.{is_bad_config}
 use Rattle.node_core.specs.Traces.{Kept, Accepts, IsRefusalOf, Records, after_call, call_of, refusal, reply_to, without_kept}
-use Rattle.node_core.specs.Words.{words_from, words_next, place_after}
+use Rattle.node_steps.specs.Words.{words_from, words_next, place_after}
 use Rattle.node_registry.specs.Words.{words_taken}
 use Rattle.node_registry.specs.Cells.{Cell, cell_of, next_words, Enters, Passes, IsRefusedBy, IsLawful, IsWithinBounds}
 use Rattle.node_registry.proofs.LawfulCells.{new_lawful, taken_first, lawful_after, bounds_after, stays_lawful, stays_within}

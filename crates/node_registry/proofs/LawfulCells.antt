@@ -5,7 +5,7 @@ use Rattle.std.specs.Bool.{then_some}
 use Rattle.refusals.specs.Refusals.{first_fault}
 use Rattle.node_calls.specs.declared.ask.Ask.{Ask}
 use Rattle.node_calls.specs.declared.ask.Ask.TheVariants as asked
-use Rattle.node_core.specs.declared.config.Config.{Config}
+use Rattle.node_steps.specs.declared.config.Config.{Config}
 use Rattle.node_calls.specs.declared.fault.NodeFault.{NodeFault}
 use Rattle.node_calls.specs.declared.fault.NodeFault.TheVariants as faults
 use Rattle.node_calls.specs.declared.reply.Reply.{Reply}
@@ -15,16 +15,16 @@ use Rattle.message_format.specs.declared.fault.WireFault.{WireFault}
 use Rattle.node_calls.specs.Asks.{Asked, Call, ask_value, ask_value_first, emit_asked, emit_of, message_read, Message}
 use Rattle.node_calls.specs.Asks as asks
 use Rattle.node_calls.specs.Told.{ask_told}
-use Rattle.node_core.specs.Nodes.{start}
+use Rattle.node_steps.specs.Nodes.{start}
 use Rattle.node_core.specs.Steps.{reply}
-use Rattle.node_core.specs.Refusals.{refusal_at, is_full}
+use Rattle.node_steps.specs.Refusals.{refusal_at, is_full}
 use Rattle.node_core.specs.Traces.{Kept, SendsDelta, node_of, refusal, entry_for, call_of}
 use Rattle.node_core.proofs.LegalTraces.{legal_more, nothing_legal}
 use Rattle.node_core.proofs.RepliedDelta.{call_sends}
-use Rattle.node_core.specs.Words.{words_from}
+use Rattle.node_steps.specs.Words.{words_from}
 use Rattle.node_registry.specs.Words.{words_of, words_taken}
 use Rattle.node_registry.specs.Cells.{Cell, cell_after, new_cell, next_words, Enters, IsLawful, IsWithinBounds}
-use Rattle.node_core.proofs.StreamWords.{words_from-add}
+use Rattle.node_steps.proofs.StreamWords.{words_from-add}
 
 -- the random draws of a trace with a call more
 words_of-push : (cs : List Call) (c : Call) → words_of (cs ++ c ∷ []) ≡ words_of cs ++ c.words

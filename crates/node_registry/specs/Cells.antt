@@ -1,7 +1,7 @@
 -- A node with its generator, as callers see it.
 use Rattle.std.specs.Prelude.{◌≡◌, ℕ, ◌+◌, ◌*◌, ◌≤◌, ◌^◌, Bool, true, List, length, None}
 use Rattle.rand_chacha.specs.ChaCha.{ChaCha, key_of}
-use Rattle.node_core.specs.declared.config.Config.{Config}
+use Rattle.node_steps.specs.declared.config.Config.{Config}
 use Rattle.node_calls.specs.declared.fault.NodeFault.{NodeFault}
 use Rattle.node_calls.specs.declared.ask.Ask.{Ask}
 use Rattle.node_calls.specs.declared.reply.Reply.{Reply}
@@ -9,10 +9,10 @@ use Rattle.node_calls.specs.declared.trace.Entry.{Entry}
 use Rattle.node_core.specs.Applied.{TellsIfEmit}
 use Rattle.node_calls.specs.Asks.{Asked, Call, Pass}
 use Rattle.node_calls.specs.Told.{Passed, ask_told}
-use Rattle.node_core.specs.Nodes.{max_trace_cap}
-use Rattle.node_core.specs.Passes.{pass_reply}
+use Rattle.node_steps.specs.Nodes.{max_trace_cap}
+use Rattle.node_steps.specs.Passes.{pass_reply}
 use Rattle.node_core.specs.Traces.{Kept, IsLegal, IsRefusalOf, Records, after_call, call_of, new_kept, refusal, state_known, without_kept}
-use Rattle.node_core.specs.Words.{words_from}
+use Rattle.node_steps.specs.Words.{words_from}
 use Rattle.node_registry.specs.Words.{words_of, words_taken}
 
 -- the node; the key of its generator, whose stream is that of the node's number; and the place of the

@@ -1,6 +1,6 @@
 -- What a registry hands out of its node's trace.
 use Rattle.std.specs.Prelude.{◌≡◌, ◌≤◌, ℕ, List, drop, length, map}
-use Rattle.node_core.specs.declared.config.Config.{Config}
+use Rattle.node_steps.specs.declared.config.Config.{Config}
 use Rattle.node_core.specs.Traces.{IsLegal}
 use Rattle.node_calls.specs.Asks.{Call, call_from}
 use Rattle.node_registry.specs.declared.guarded.Closed.{Closed}

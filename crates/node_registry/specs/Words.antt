@@ -2,7 +2,7 @@
 use Rattle.std.specs.Prelude.{ℕ, List, [], ◌∷◌, ◌++◌}
 use Rattle.node_calls.specs.Asks.{Asked, Call}
 use Rattle.node_calls.specs.Asks as asks
-use Rattle.node_core.specs.Passes.{words_for}
+use Rattle.node_steps.specs.Passes.{words_for}
 use Rattle.node_core.specs.Traces.{Kept, state_known}
 
 -- how many words a call takes: a pass as many as its point needs, and no other call any

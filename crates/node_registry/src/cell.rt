@@ -3,7 +3,7 @@
 ghost use Rattle.std.specs.Prelude.{◌≡◌, drop, map, IfOk, IfErr, OnErr, OnOk, IsTrue, false};
 ghost use Rattle.node_calls.specs.Asks as asks;
 ghost use Rattle.node_calls.specs.Asks.{ask_value_first, call_from};
-ghost use Rattle.node_core.specs.Refusals.{is_bad_config};
+ghost use Rattle.node_steps.specs.Refusals.{is_bad_config};
 ghost use Rattle.node_registry.specs.Cells.{Cell, Enters, IsLawful, IsRefusedBy, IsWithinBounds, Passes, Submits};
 ghost use Rattle.node_registry.specs.Cells.{cell_of, cell_without_kept, new_cell, next_passed};
 ghost use Rattle.node_registry.specs.Receipts.{IsEntryFor, outcome_of};

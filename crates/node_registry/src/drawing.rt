@@ -5,7 +5,7 @@ ghost use Rattle.node_core.specs.Applied.{TellsIfEmit};
 ghost use Rattle.node_calls.specs.Asks.{ask_value, ask_value_first, reply_value};
 ghost use Rattle.node_calls.specs.Told.{ask_told, is_pass};
 ghost use Rattle.node_core.specs.Traces.{Accepts, IsRefusalOf};
-ghost use Rattle.node_core.specs.Words.{words_next, place_after};
+ghost use Rattle.node_steps.specs.Words.{words_next, place_after};
 ghost use Rattle.node_registry.specs.Words.{words_taken};
 
 use node_core::{Ask, Generator, NodeCore, NodeFault, Reply};

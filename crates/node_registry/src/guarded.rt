@@ -5,7 +5,7 @@ ghost use Rattle.std.specs.Prelude.{IfOk, IfErr, OnErr, OnOk, MatchOption, IsTru
 ghost use Rattle.rand_chacha.specs.ChaCha.{key_of};
 ghost use Rattle.node_calls.specs.Asks as asks;
 ghost use Rattle.node_calls.specs.Asks.{ask_value_first, call_from};
-ghost use Rattle.node_core.specs.Refusals.{is_bad_config};
+ghost use Rattle.node_steps.specs.Refusals.{is_bad_config};
 ghost use Rattle.node_registry.specs.Cells.{Cell, Enters, IsCellSince, IsLawfulAt, IsRefusedBy};
 ghost use Rattle.node_registry.specs.Cells.{Passes, Submits, cell_without_kept, new_cell};
 ghost use Rattle.node_registry.specs.Pieces.{IsAllLeft, IsLeft, IsPieceOf};

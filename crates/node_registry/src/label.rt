@@ -8,7 +8,7 @@ use std::sync::ledger::Ledger;
 /// for life. So a seat belongs to its registry by its type.
 pub trait Label: Ledger {
     ghost use Rattle.std.specs.Prelude.{ℕ, Bool, List};
-    ghost use Rattle.node_core.specs.declared.config.Config.{Config};
+    ghost use Rattle.node_steps.specs.declared.config.Config.{Config};
 
     ghost config: { Config };
 

@@ -7,7 +7,7 @@ ghost use Rattle.node_calls.specs.Asks as asks;
 ghost use Rattle.node_calls.specs.Asks.{ask_value_first, bare_emit};
 ghost use Rattle.node_calls.specs.Told.{ask_told, bytes_of};
 ghost use Rattle.node_calls.specs.Asks.{emit_asked, message_read};
-ghost use Rattle.node_core.specs.Refusals.{is_bad_config};
+ghost use Rattle.node_steps.specs.Refusals.{is_bad_config};
 ghost use Rattle.node_registry.specs.Cells.{Cell, IsCellSince, IsLawfulAt};
 ghost use Rattle.node_registry.specs.Pieces.{IsAllLeft, IsLeft, IsPieceOf};
 ghost use Rattle.node_registry.specs.Receipts.{IsAnswered, IsEntryFor, IsGiven, IsReceiptOf};

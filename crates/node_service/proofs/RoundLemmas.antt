@@ -4,7 +4,7 @@ use Rattle.std.specs.List.{count_by, filter, range_with_len}
 use Rattle.std.proofs.lemmas.List.{append-nil, length-map, map-append}
 use Rattle.std.proofs.lemmas.List.Elements.{filter-append}
 use Rattle.std.proofs.lemmas.List.Sums.{sum_by-cons}
-use Rattle.node_core.specs.declared.config.Config.{Config}
+use Rattle.node_steps.specs.declared.config.Config.{Config}
 use Rattle.node_calls.specs.Asks.{Asked, bare_emit}
 use Rattle.command_line.specs.declared.peers.NamedPeer.{NamedPeer}
 use Rattle.gossip.specs.declared.news.Pace.{Pace}

@@ -1,7 +1,7 @@
 -- Whom rounds of gossip of a served node tell, and what they cost it.
 use Rattle.std.specs.Prelude.{ℕ, Bool, ◌+◌, ◌==◌, ◌&&◌, not, false, List, length}
 use Rattle.std.specs.List.{filter, list_any, range_with_len}
-use Rattle.node_core.specs.declared.config.Config.{Config}
+use Rattle.node_steps.specs.declared.config.Config.{Config}
 use Rattle.command_line.specs.declared.peers.NamedPeer.{NamedPeer}
 use Rattle.gossip.specs.declared.news.Pace.{Pace}
 use Rattle.gossip.specs.Reports.{others_below}

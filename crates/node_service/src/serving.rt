@@ -1,7 +1,7 @@
 //! A node that is served over HTTP.
 
 ghost use Rattle.std.specs.Prelude.{◌≡◌, ◌⊎◌, IfOk, IfErr, IsErrAnd, IsTrue, OnOk, true, false, replicate};
-ghost use Rattle.node_core.specs.Refusals.{is_bad_config};
+ghost use Rattle.node_steps.specs.Refusals.{is_bad_config};
 ghost use Rattle.http_wire.specs.Posts.{IsLoopback};
 ghost use Rattle.node_service.specs.Caps.{cap_of};
 ghost use Rattle.node_service.specs.Endings.{IsNodeServed};

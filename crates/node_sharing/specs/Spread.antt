@@ -7,7 +7,7 @@ use Rattle.node_calls.specs.Asks as asks
 use Rattle.node_calls.specs.declared.fault.NodeFault.{NodeFault}
 use Rattle.node_calls.specs.declared.fault.NodeFault.TheVariants.{BadName, NotSet, OutOfMemory, TraceFull}
 use Rattle.stamp_register.specs.declared.key.Stamp.{Stamp}
-use Rattle.node_core.specs.Nodes.{setting_of}
+use Rattle.node_steps.specs.Nodes.{setting_of}
 use Rattle.node_core.specs.Traces.{Accepts, IsRefusalOf, Kept, state_known}
 use Rattle.replica_state.specs.States.{rights_of}
 use Rattle.sharing.specs.declared.shift.Shift.{Shift}

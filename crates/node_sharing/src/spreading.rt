@@ -3,7 +3,7 @@
 ghost use Rattle.std.specs.Prelude.{◌≡◌, ◌⊎◌, ◌↔◌, false, length, IfErr, IfOk, IsSome, IsTrue, OnOk};
 ghost use Rattle.actions.specs.Names.{is_name};
 ghost use Rattle.node_calls.specs.declared.fault.NodeFault.TheVariants.{BadName, OutOfMemory};
-ghost use Rattle.node_core.specs.Nodes.{setting_of};
+ghost use Rattle.node_steps.specs.Nodes.{setting_of};
 ghost use Rattle.node_core.specs.Traces.{state_known};
 ghost use Rattle.node_sharing.specs.Made.{AreMade, IsStopped};
 ghost use Rattle.node_sharing.specs.Spread.{IsNotSetSpread, IsNotSpread, IsSetSpread};

@@ -7,7 +7,7 @@ use Rattle.node_calls.specs.declared.fault.NodeFault.TheVariants.{OutOfMemory}
 use Rattle.node_calls.specs.Asks.{ask_value_first}
 use Rattle.node_calls.specs.declared.trace.Entry.{Entry}
 use Rattle.node_calls.specs.Told.{AskTold, ReplyTold, Told, ask_told, reply_told, told}
-use Rattle.node_core.specs.declared.config.Config.{Config}
+use Rattle.node_steps.specs.declared.config.Config.{Config}
 use Rattle.drills.specs.Reading.{entry_in}
 use Rattle.node_registry.specs.Receipts.{IsGiven, IsRefused}
 use Rattle.part_keeper.specs.Repeated.{IsOtherwise, IsRepeated}

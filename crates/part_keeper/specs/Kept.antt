@@ -6,7 +6,7 @@ use Rattle.node_calls.specs.declared.reply.Reply.{Reply}
 use Rattle.node_calls.specs.declared.trace.Entry.{Entry}
 use Rattle.node_calls.specs.Asks.{ask_value_first}
 use Rattle.node_calls.specs.Told.{Told, told}
-use Rattle.node_core.specs.declared.config.Config.{Config}
+use Rattle.node_steps.specs.declared.config.Config.{Config}
 use Rattle.node_registry.specs.Receipts.{IsRefused}
 use Rattle.drills.specs.Drills.{ended}
 use Rattle.drills.specs.Lines.{LineTold, entry}

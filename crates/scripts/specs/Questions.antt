@@ -4,7 +4,7 @@ use Rattle.std.specs.Fmt.{signed_decimal}
 use Rattle.actions.specs.Names.{is_name}
 use Rattle.replica_state.specs.States.{State, rights_of, spent_of, total_hits}
 use Rattle.node_core.specs.Traces.{Kept, state_known}
-use Rattle.node_core.specs.Texts.{list_text}
+use Rattle.node_steps.specs.Texts.{list_text}
 use Rattle.report_text.specs.Lines.{report_lines_text}
 use Rattle.cluster_model.specs.declared.fault.WorldFault.TheVariants.{NoNode}
 use Rattle.cluster_model.specs.Events.{WorldValue}

@@ -1,9 +1,9 @@
 -- The traces of a plan are legal for an audit, which allows more calls.
 use Rattle.std.proofs.Common.{◌≡◌, ℕ, zero, suc, ◌+◌, ◌-◌, ◌<◌, ◌≤◌, ◌^◌, [], ◌∷◌, length, map, subst, arith}
-use Rattle.node_core.specs.declared.config.Config.{Config}
+use Rattle.node_steps.specs.declared.config.Config.{Config}
 use Rattle.node_calls.specs.Asks.{call_from}
 use Rattle.packed_trace.specs.Packed.{Packed}
-use Rattle.node_core.specs.Nodes.{start}
+use Rattle.node_steps.specs.Nodes.{start}
 use Rattle.node_core.proofs.LegalTraces.{nothing_legal}
 use Rattle.audit.specs.Traces.{Traces, trace_of}
 use Rattle.node_core.specs.Resumed.{IsLegalAlone}

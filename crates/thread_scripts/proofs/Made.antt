@@ -6,7 +6,7 @@ use Rattle.std.proofs.Math.Seq.{take-suc}
 use Rattle.std.proofs.lemmas.List.{map-append, map_push, take-map}
 use Rattle.std.proofs.lemmas.List.Elements.{All-head, All-tail, filter-append}
 use Rattle.std.proofs.lemmas.List.Sums.{sum_by-take-le, sum_by_more}
-use Rattle.node_core.specs.declared.config.Config.{Config}
+use Rattle.node_steps.specs.declared.config.Config.{Config}
 use Rattle.node_calls.specs.declared.ask.Ask.{Ask}
 use Rattle.node_calls.specs.declared.fault.NodeFault.{NodeFault}
 use Rattle.node_calls.specs.declared.fault.NodeFault.TheVariants as faults

@@ -2,7 +2,7 @@
 use Rattle.std.proofs.Common.{◌≡◌, ◌≢◌, ◌∙◌, ℕ, ◌+◌, ◌<◌, List, [], ◌∷◌, ◌++◌, length, map, ap, sym, refl, subst, take, append_assoc}
 use Rattle.std.specs.Prelude.{slice_index_or, ◌==◌, false}
 use Rattle.std.proofs.lemmas.List.{append-nil}
-use Rattle.node_core.specs.declared.config.Config.{Config}
+use Rattle.node_steps.specs.declared.config.Config.{Config}
 use Rattle.node_calls.specs.declared.ask.Ask.{Ask}
 use Rattle.node_calls.specs.declared.fault.NodeFault.{NodeFault}
 use Rattle.node_calls.specs.declared.fault.NodeFault.TheVariants as faults

@@ -7,11 +7,11 @@ use Rattle.node_calls.specs.Asks.{asked_first}
 use Rattle.node_calls.specs.Told.{AskTold, sets, removes, loads, passes, shifts, grants, emits, delivers}
 use Rattle.node_calls.specs.declared.fault.NodeFault.{NodeFault}
 use Rattle.node_calls.specs.declared.fault.NodeFault.TheVariants as faults
-use Rattle.node_core.specs.declared.config.Config.{Config}
-use Rattle.node_core.specs.Nodes.{Node, state_shown}
-use Rattle.node_core.specs.Passes.{words_for}
-use Rattle.node_core.specs.Refusals.{bad_actions, bad_setting, bad_words, grant_refusal, is_full, no_clock, no_entry, no_name, no_place, refusal_at, shift_refusal, spare_words}
-use Rattle.node_core.specs.Steps.{points_in}
+use Rattle.node_steps.specs.declared.config.Config.{Config}
+use Rattle.node_steps.specs.Nodes.{Node, state_shown}
+use Rattle.node_steps.specs.Passes.{words_for}
+use Rattle.node_steps.specs.Refusals.{bad_actions, bad_setting, bad_words, grant_refusal, is_full, no_clock, no_entry, no_name, no_place, refusal_at, shift_refusal, spare_words}
+use Rattle.node_steps.specs.Settings.{points_in}
 use Rattle.refusals.specs.Refusals.{first_fault}
 use Rattle.replica_state.specs.States.{with_name}
 use Rattle.replica_state.specs.Unions.{with_names}

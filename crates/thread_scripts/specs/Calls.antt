@@ -1,7 +1,7 @@
 -- Which calls receipts are of.
 use Rattle.std.specs.Prelude.{◌≡◌, ◌≢◌, ◌⊎◌, ◌==◌, ℕ, Bool, true, false, MatchBool, List, [], ◌∷◌, ◌++◌}
 use Rattle.std.specs.List.{list_any}
-use Rattle.node_core.specs.declared.config.Config.{Config}
+use Rattle.node_steps.specs.declared.config.Config.{Config}
 use Rattle.node_calls.specs.declared.ask.Ask.{Ask}
 use Rattle.node_calls.specs.declared.fault.NodeFault.{NodeFault}
 use Rattle.node_calls.specs.declared.fault.NodeFault.TheVariants as faults

@@ -1,6 +1,6 @@
 -- What the gossip of a node comes to.
 use Rattle.std.specs.Prelude.{◌≡◌, ◌⊎◌, ◌≤◌, ℕ, ◌+◌, ◌*◌, List, [], ◌∷◌, length, Option, Some, None, option_map}
-use Rattle.node_core.specs.declared.config.Config.{Config}
+use Rattle.node_steps.specs.declared.config.Config.{Config}
 use Rattle.node_registry.specs.Receipts.{AreGivenSince}
 use Rattle.audit.specs.Receipts.{Lists}
 use Rattle.gossip.specs.declared.report.GossipReport.{GossipReport}

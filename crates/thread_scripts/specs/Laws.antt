@@ -7,9 +7,9 @@ use Rattle.audit.specs.Traces.{Traces}
 use Rattle.node_calls.specs.Asks.{asked_first}
 use Rattle.node_calls.specs.Told.{AskTold}
 use Rattle.node_calls.specs.declared.fault.NodeFault.{NodeFault}
-use Rattle.node_core.specs.declared.config.Config.{Config}
-use Rattle.node_core.specs.Nodes.{Node}
-use Rattle.node_core.specs.Refusals.{is_full, refusal_at}
+use Rattle.node_steps.specs.declared.config.Config.{Config}
+use Rattle.node_steps.specs.Nodes.{Node}
+use Rattle.node_steps.specs.Refusals.{is_full, refusal_at}
 use Rattle.thread_plans.specs.Plans.{PlanValue}
 use Rattle.thread_scripts.specs.Plays.{AreTracesOf}
 use Rattle.thread_scripts.specs.Unfit.{why_refused}

@@ -2,7 +2,7 @@
 use Rattle.std.specs.Prelude.{◌≡◌, ℕ, ◌+◌, ◌==◌, List, [], ◌∷◌, ◌++◌, length, map, Option, All, Vec}
 use Rattle.std.specs.List.{AllZip, filter, flat_map}
 use Rattle.std.specs.declared.alloc.Global.{Global}
-use Rattle.node_core.specs.declared.config.Config.{Config}
+use Rattle.node_steps.specs.declared.config.Config.{Config}
 use Rattle.node_calls.specs.Asks.{call_from}
 use Rattle.node_calls.specs.declared.receipt.Receipt.{Receipt}
 use Rattle.packed_trace.specs.Packed.{Packed}

@@ -11,7 +11,7 @@ use Rattle.node_calls.specs.declared.receipt.Receipt.{Receipt}
 use Rattle.node_calls.specs.declared.reply.PassReply.TheVariants as replied
 use Rattle.node_calls.specs.declared.reply.Reply.{Reply}
 use Rattle.node_calls.specs.declared.reply.Reply.TheVariants as replies
-use Rattle.node_core.specs.Refusals.{bad_actions, bad_setting, no_name}
+use Rattle.node_steps.specs.Refusals.{bad_actions, bad_setting, no_name}
 use Rattle.refusals.specs.Refusals.{first_fault}
 use Rattle.streams.specs.Fields.{lines_of, output_line}
 use Rattle.streams.specs.Lines.{◌>>=◌}

@@ -4,7 +4,7 @@ ghost use Rattle.std.specs.Prelude.{◌≡◌, ◌+◌, ◌<◌, ◌^◌, ◌==�
 ghost use Rattle.std.specs.Prelude.{option_map, All, IfOk};
 ghost use Rattle.std.specs.List.{sum_by};
 ghost use Rattle.std.specs.Option.{is_some};
-ghost use Rattle.node_core.specs.Refusals.{is_bad_config};
+ghost use Rattle.node_steps.specs.Refusals.{is_bad_config};
 ghost use Rattle.thread_plans.specs.Plans.{plan_value};
 ghost use Rattle.thread_scripts.specs.Plays.{AreListsAt, AreOfNode, AreOfWork, IsTraceOf};
 ghost use Rattle.thread_scripts.specs.Plays.{blocks_of};

@@ -5,7 +5,7 @@ ghost use Rattle.std.specs.Prelude.{IfOk, OnOk};
 ghost use Rattle.actions.specs.Reading.{reading};
 ghost use Rattle.actions.specs.SettingReading.{setting_reading};
 ghost use Rattle.node_calls.specs.Told.{ask_ref_told};
-ghost use Rattle.node_core.specs.Refusals.{bad_actions, bad_setting, no_name};
+ghost use Rattle.node_steps.specs.Refusals.{bad_actions, bad_setting, no_name};
 ghost use Rattle.refusals.specs.Refusals.{first_fault};
 ghost use Rattle.thread_scripts.specs.Unfit.{is_unset, line_counted, line_said, none_unfit};
 ghost use Rattle.thread_scripts.specs.Unfit.{unfit_said, unfit_sum, unfit_text, unset_in, unset_sum};

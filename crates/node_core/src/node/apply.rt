@@ -7,8 +7,8 @@ ghost use Rattle.node_core.specs.Applied.{delivery_refused_with, TellsIfEmit};
 ghost use Rattle.node_core.specs.Traces.{Accepts, IsRefusalOf, Records, call_of};
 
 use super::NodeCore;
-use crate::delivery::Delivery;
 use node_calls::{Ask, AskRef, Entry, NodeFault, Reply};
+use node_steps::Delivery;
 use std::alloc::Global;
 
 // Why an ask that takes no random draws is refused with some: for what it is refused without them,

@@ -9,9 +9,9 @@ ghost use Rattle.node_core.specs.Room.{HasRoom};
 ghost use Rattle.node_core.specs.Traces.{Accepts, IsRefusalOf, after_call, delivery_of, refusal, reply_to};
 
 use super::NodeCore;
-use crate::delivery::{Delivery, is_any_overspent, is_message_ahead, latest_clock, read_message};
 use delta_exchange::MAX_NAMES;
 use node_calls::{Ask, Entry, NodeFault, Reply};
+use node_steps::{Delivery, is_any_overspent, is_message_ahead, latest_clock, read_message};
 use replica_state::Replica;
 use std::alloc::{AllocError, Global};
 

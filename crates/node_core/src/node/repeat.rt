@@ -8,14 +8,14 @@ ghost use Rattle.node_calls.specs.Told.{emits, passed_ref, reply_told, was_emitt
 ghost use Rattle.packed_trace.specs.Packed.{pass_value, seen_told};
 ghost use Rattle.node_core.specs.Deliveries.{TellsDelta};
 ghost use Rattle.node_core.specs.Lasts.{last_passed};
-ghost use Rattle.node_core.specs.Refusals.{is_bad_config};
+ghost use Rattle.node_steps.specs.Refusals.{is_bad_config};
 ghost use Rattle.node_core.specs.Resumed.{IsFirstWrong, IsLegalAlone, IsNext, lived};
 ghost use Rattle.node_core.specs.Traces.{Kept, with_call};
 
 use super::NodeCore;
-use crate::config::Config;
 use crate::resume_fault::ResumeFault;
 use node_calls::{Entry, NodeFault, PassReplyRef, Reply};
+use node_steps::Config;
 use packed_trace::{Pass, Seen, Trace};
 use std::alloc::Global;
 

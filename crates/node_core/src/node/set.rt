@@ -1,24 +1,24 @@
 //! Setting and removing a point.
 
-ghost use Rattle.std.specs.Prelude.{◌≡◌, ◌≢◌, [], ◌∷◌, ◌⊎◌, ◌+◌, IfOk, IfErr, OnOk, OnErr, IsErrOf};
+ghost use Rattle.std.specs.Prelude.{◌≡◌, [], ◌∷◌, ◌+◌, IfOk, IfErr, OnOk, OnErr, IsErrOf};
 ghost use Rattle.std.specs.Prelude.{IsTrue, Some, None, Ok};
 ghost use Rattle.actions.specs.Names.{is_name};
 ghost use Rattle.actions.specs.Reading.{reading};
 ghost use Rattle.stamp_register.specs.Keys.{body_value};
 ghost use Rattle.message_format.specs.Spelling.{IsBody};
 ghost use Rattle.node_calls.specs.Asks as asks;
-ghost use Rattle.node_core.specs.Memory.{IsReadable, SetNeedsMemory, NameNeedsMemory};
-ghost use Rattle.node_core.specs.Refusals.{bad_actions, key_refusal};
+ghost use Rattle.node_steps.specs.Refusals.{IsReadable, key_refusal};
+ghost use Rattle.node_core.specs.Memory.{SetNeedsMemory, NameNeedsMemory};
 ghost use Rattle.node_core.specs.Room.{HasRoom, HasClocks, HasPlace};
-ghost use Rattle.node_core.specs.Steps.{settings};
+ghost use Rattle.node_steps.specs.Settings.{settings};
 ghost use Rattle.node_core.specs.Traces.{Accepts, IsRefusalOf, after_call, call_of, last_clock};
 ghost use Rattle.node_core.specs.Traces.{node_of, refusal, reply_to};
 
-use super::load::set_to;
-use super::{NodeCore, read_name};
-use actions::{ActionFault, Actions, Name, parse_actions};
+use super::NodeCore;
+use actions::{Actions, Name};
 use delta_exchange::MAX_NAMES;
-use node_calls::{Ask, Entry, NodeFault, Reply, TextFault};
+use node_calls::{Ask, Entry, NodeFault, Reply};
+use node_steps::{read_actions, read_name, set_to, setting_refusal};
 use replica_state::Replica;
 use stamp_register::{Body, Key, Stamp};
 use std::alloc::{AllocError, Global};
@@ -159,37 +159,5 @@ impl NodeCore {
         self.clock += 1;
         self.history.push_entry(entry);
         Ok(())
-    }
-}
-
-// The actions that a text is.
-fn read_actions(alloc: Global, text: &str) -> Result<Actions, NodeFault>
-    ensures ok { IfOk result (λ a. reading text.now ≡ Ok a) }
-    ensures refused { IfErr result (λ f. (f ≡ NodeFault.OutOfMemory)
-        ⊎ (bad_actions (reading text.now) ≡ Some f)) }
-    ensures readable { OnOk result (IsReadable text.now) }
-    ensures memory { IsErrOf result NodeFault.OutOfMemory → IsReadable text.now }
-{
-    match parse_actions(alloc, text) {
-        Ok(actions) => Ok(actions),
-        Err(ActionFault::OutOfMemory) => Err(NodeFault::OutOfMemory),
-        Err(fault) => Err(NodeFault::BadActions(TextFault::Actions(fault))),
-    }
-}
-
-// Why a setting is refused whose name is refused so. What refuses the text stands before out of
-// memory at the name.
-fn setting_refusal(alloc: Global, fault: NodeFault, text: &str) -> NodeFault
-    ensures name { fault ≢ NodeFault.OutOfMemory → result ≡ fault }
-    ensures text { fault ≡ NodeFault.OutOfMemory
-        → (result ≡ NodeFault.OutOfMemory) ⊎ (bad_actions (reading text.now) ≡ Some result) }
-    ensures memory { result ≡ NodeFault.OutOfMemory → IsReadable text.now }
-{
-    if fault != NodeFault::OutOfMemory {
-        return fault;
-    }
-    match read_actions(alloc, text) {
-        Ok(_) => fault,
-        Err(refused) => refused,
     }
 }

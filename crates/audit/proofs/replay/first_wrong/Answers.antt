@@ -5,7 +5,7 @@ use Rattle.std.proofs.lemmas.Option.{slice_get_within}
 use Rattle.node_calls.specs.Told.{Told}
 use Rattle.node_calls.specs.Asks.{call_from}
 use Rattle.node_core.proofs.LegalTraces.{nothing_legal}
-use Rattle.node_core.specs.Nodes.{start}
+use Rattle.node_steps.specs.Nodes.{start}
 use Rattle.packed_trace.specs.Packed.{seen_told}
 use Rattle.node_core.specs.Resumed.{IsLegalKept}
 use Rattle.node_core.specs.Traces.{with_call}

@@ -1,6 +1,6 @@
 use Rattle.std.proofs.Common.{◌≡◌, ◌-◌, length, map, take}
 use Rattle.node_calls.specs.Asks.{call_from}
-use Rattle.node_core.specs.Nodes.{start}
+use Rattle.node_steps.specs.Nodes.{start}
 use Rattle.audit.specs.Tallies.{Notes}
 use Rattle.node_core.specs.Resumed.{IsLegalKept}
 use Rattle.node_core.proofs.Repeated.{alone}

@@ -7,7 +7,7 @@ use Rattle.audit.proofs.Runs.{trace_read}
 use Rattle.audit.proofs.Replayed.{legal_everywhere}
 use Rattle.message_format.specs.Limits.{max_nodes}
 use Rattle.node_calls.specs.Asks.{call_from}
-use Rattle.node_core.specs.Nodes.{start}
+use Rattle.node_steps.specs.Nodes.{start}
 use Rattle.audit.specs.Tallies.{Notes, IsTallied}
 use Rattle.audit.proofs.NotedAll.{node_tallied, one_short}
 use Rattle.audit.proofs.replay.least_wrong.Goals as goal

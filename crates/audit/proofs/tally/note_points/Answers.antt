@@ -2,7 +2,7 @@ use Rattle.std.proofs.Common.{◌≡◌, ◌-◌, length, sym, ◌∙◌, ap, su
 use Rattle.std.proofs.lemmas.Result.{on_ok_weaker}
 use Rattle.node_calls.specs.Asks.{asked_from}
 use Rattle.packed_trace.specs.Packed.{seen_told}
-use Rattle.node_core.specs.Steps.{operations_issued, settings_of}
+use Rattle.node_steps.specs.Settings.{operations_issued, settings_of}
 use Rattle.audit.specs.Counts.{AddsKeys}
 use Rattle.audit.specs.Points.{Points, points_set}
 use Rattle.audit.proofs.Noted.{found_stamp, is_last, points_added, none_added}

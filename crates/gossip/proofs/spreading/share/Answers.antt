@@ -6,7 +6,7 @@ use Rattle.std.specs.Result.{result_unwrap_or}
 use Rattle.std.proofs.Math.Nat.{div-zero}
 use Rattle.std.proofs.lemmas.Int.{to_z-of_z}
 use Rattle.replica_state.specs.States.{rights_of}
-use Rattle.node_core.specs.declared.config.Config.{Config}
+use Rattle.node_steps.specs.declared.config.Config.{Config}
 use Rattle.node_core.specs.Traces.{state_known}
 use Rattle.gossip.specs.Spreads.{share_of}
 use Rattle.gossip.proofs.spreading.share.Goals as goal

@@ -1,5 +1,5 @@
 use Rattle.std.proofs.Common.{◌≡◌, ◌≢◌, ◌≤◌, ℕ, ◌+◌, if◌then◌else◌, List, [], map, get_or, ◌∙◌, ap, sym, refl, arith}
-use Rattle.node_core.specs.declared.config.Config.{Config}
+use Rattle.node_steps.specs.declared.config.Config.{Config}
 use Rattle.node_calls.specs.Asks.{Asked, Shift}
 use Rattle.gossip.specs.Reports.{others_below}
 use Rattle.gossip.specs.Spreads.{shifts_below}

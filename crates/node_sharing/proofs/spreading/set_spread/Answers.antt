@@ -1,5 +1,5 @@
 use Rattle.std.proofs.Common.{◌≡◌, ℕ, List, ap, subst, sym, inr, ◌∙◌}
-use Rattle.node_core.specs.declared.config.Config.{Config}
+use Rattle.node_steps.specs.declared.config.Config.{Config}
 use Rattle.node_sharing.specs.Made.{IsStopped}
 use Rattle.node_sharing.specs.Spread.{LacksRoom, most_calls, spread_due}
 use Rattle.node_sharing.proofs.spreading.set_spread.Goals as goal

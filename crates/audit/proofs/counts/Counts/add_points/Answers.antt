@@ -3,7 +3,7 @@ use Rattle.actions.specs.Value.{TermValue}
 use Rattle.actions.specs.Canonical.{canonical}
 use Rattle.stamp_register.specs.Keys.{KeyValue}
 use Rattle.operations.specs.Operations.{Operation, Set}
-use Rattle.node_core.specs.Steps.{new_key, operations_issued, settings_of}
+use Rattle.node_steps.specs.Settings.{new_key, operations_issued, settings_of}
 use Rattle.audit.specs.Counts.{AddsKeys}
 use Rattle.audit.proofs.CountsKept.{adds_behind, issued_one_more}
 use Rattle.audit.proofs.counts.Counts.add_points.Goals as goal

@@ -1,5 +1,5 @@
 use Rattle.std.proofs.Common.{◌≡◌, ◌-◌, ◌+◌, length, take}
-use Rattle.node_core.specs.Steps.{operations_issued, settings_of}
+use Rattle.node_steps.specs.Settings.{operations_issued, settings_of}
 use Rattle.audit.specs.Counts.{AddsKeys}
 use Rattle.audit.proofs.counts.Counts.add_points.Given as goal
 

@@ -1,6 +1,7 @@
 use Rattle.std.proofs.Common.{List, inr, ap, ◌∙◌, refl, sym, subst, map}
 use Rattle.std.specs.List.{list_any, flat_map}
-use Rattle.node_core.specs.Replicas.{state_in, value_in}
+use Rattle.node_steps.specs.Replicas.{state_in}
+use Rattle.node_core.specs.Replicas.{value_in}
 use Rattle.replica_state.specs.Folds.{clock_of}
 use Rattle.message_format.specs.declared.message.NameEntry.{NameEntry}
 use Rattle.message_format.specs.Messages.{message_value, entry_value, operations_of, operations_in}

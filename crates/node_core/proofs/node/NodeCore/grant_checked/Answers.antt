@@ -1,7 +1,7 @@
 use Rattle.std.proofs.Common.{[], ℕ, ◌+◌, List, ap, inr, sym, ◌∙◌}
 use Rattle.replica_state.specs.States.{State, granted_in}
 use Rattle.node_calls.specs.Asks.{Grant}
-use Rattle.node_core.specs.Refusals.{grant_refusal}
+use Rattle.node_steps.specs.Refusals.{grant_refusal}
 use Rattle.node_core.specs.Replicas.{value_in}
 use Rattle.node_core.specs.Traces.{IsRefusalOf, Kept, kept_of, state_known}
 use Rattle.node_core.proofs.NamedRefusals.{passed_on, trace_refused, name_refused, grant_later}

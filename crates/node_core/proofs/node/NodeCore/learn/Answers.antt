@@ -5,7 +5,8 @@ use Rattle.delta_exchange.specs.News.{Brings}
 use Rattle.node_core.proofs.VersionsInStep.{entries_with, few_calls, deliver_with}
 use Rattle.node_calls.specs.Asks.{message_read}
 use Rattle.node_core.specs.Traces.{kept_of}
-use Rattle.node_core.specs.Replicas.{state_in, value_in}
+use Rattle.node_steps.specs.Replicas.{state_in}
+use Rattle.node_core.specs.Replicas.{value_in}
 use Rattle.node_core.proofs.node.NodeCore.learn.Goals as goal
 
 pub invariant_of-self-2 : goal.invariant_of-self-2

@@ -4,7 +4,7 @@ use Rattle.std.specs.Prelude.{IsTrue}
 use Rattle.operations.specs.Operations.{IsIn}
 use Rattle.message_format.specs.Spelling.{IsBody}
 use Rattle.node_calls.specs.Asks.{Load}
-use Rattle.node_core.specs.Steps.{settings}
+use Rattle.node_steps.specs.Settings.{settings}
 use Rattle.node_core.proofs.node.NodeCore.load.Goals as goal
 
 pub take_in-requires-clause-tellable : goal.take_in-requires-clause-tellable

@@ -1,13 +1,14 @@
 use Rattle.std.proofs.Common.{◌≡◌, ℕ, List, [], inr, arith, ap, sym, ◌∙◌, subst, length}
 use Rattle.actions.specs.Value.{TermValue}
 use Rattle.replica_state.specs.Unions.{with_names}
-use Rattle.node_core.specs.Replicas.{state_in, value_in}
-use Rattle.node_core.specs.Outcomes.{AreTellable}
-use Rattle.node_core.specs.Steps.{operations_issued, points_read, settings_of}
+use Rattle.node_steps.specs.Replicas.{state_in}
+use Rattle.node_core.specs.Replicas.{value_in}
+use Rattle.node_steps.specs.Outcomes.{AreTellable}
+use Rattle.node_steps.specs.Settings.{operations_issued, points_read, settings_of}
 use Rattle.node_calls.specs.Asks.{Load}
 use Rattle.node_core.specs.Traces.{IsRefusalOf, kept_of, last_clock}
 use Rattle.node_core.proofs.NamedRefusals.{load_text, passed_on, trace_refused}
-use Rattle.node_core.proofs.SettingNames.{settings_told}
+use Rattle.node_steps.proofs.SettingNames.{settings_told}
 use Rattle.node_core.proofs.LoadRefusals.{Loads, too_many_names, clock_full, no_refusal, have_places}
 use Rattle.node_core.proofs.node.NodeCore.load_checked.Goals as goal
 use Rattle.node_core.proofs.node.NodeCore.load_checked.Goals.{After-names_together}

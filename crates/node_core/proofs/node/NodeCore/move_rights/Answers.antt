@@ -1,7 +1,7 @@
 use Rattle.std.proofs.Common.{subst}
 use Rattle.std.specs.Option.{IsSome}
 use Rattle.replica_state.specs.States.{State, budget_of}
-use Rattle.node_core.proofs.Rights.{counted_by_rights}
+use Rattle.node_steps.proofs.Rights.{counted_by_rights}
 use Rattle.node_core.proofs.ShiftSteps.{shift_moves, may_shift}
 use Rattle.node_core.proofs.VersionsInStep.{entries_with, few_calls, moved_with}
 use Rattle.node_calls.specs.Asks.{Shift}

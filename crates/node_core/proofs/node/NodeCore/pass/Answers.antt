@@ -8,10 +8,10 @@ use Rattle.history.specs.Histories.{Calls, grown}
 use Rattle.node_calls.specs.Asks.{Pass}
 use Rattle.node_calls.specs.Told.{Told, passes, was_passed}
 use Rattle.packed_trace.specs.Packed.{pass_value, passed_by, setting_ref_told}
-use Rattle.node_core.specs.Traces.{with_call}
-use Rattle.node_core.specs.Passes.{pass_reply, words_for}
-use Rattle.node_core.specs.Traces.{IsRefusalOf, Kept, after_call, kept_of, state_known}
-use Rattle.node_core.specs.Replicas.{state_in, value_in}
+use Rattle.node_core.specs.Traces.{with_call, IsRefusalOf, Kept, after_call, kept_of, state_known}
+use Rattle.node_steps.specs.Passes.{pass_reply, words_for}
+use Rattle.node_steps.specs.Replicas.{state_in}
+use Rattle.node_core.specs.Replicas.{value_in}
 use Rattle.node_core.proofs.node.NodeCore.pass.Given.{Over}
 use Rattle.node_core.proofs.node.NodeCore.pass.Goals as goal
 

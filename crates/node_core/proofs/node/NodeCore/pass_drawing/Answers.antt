@@ -1,5 +1,5 @@
 use Rattle.node_calls.specs.Asks.{Pass}
-use Rattle.node_core.specs.Passes.{words_for}
+use Rattle.node_steps.specs.Passes.{words_for}
 use Rattle.node_core.specs.Traces.{IsRefusalOf, state_known}
 use Rattle.node_core.proofs.NamedRefusals.{passed_on, trace_refused, name_refused}
 use Rattle.node_core.proofs.node.NodeCore.pass_drawing.Goals as goal

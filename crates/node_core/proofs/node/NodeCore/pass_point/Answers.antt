@@ -2,7 +2,7 @@ use Rattle.std.specs.Prelude.{option_map}
 use Rattle.std.proofs.Common.{ap}
 use Rattle.node_calls.specs.Asks.{IsPassed, Pass}
 use Rattle.node_core.specs.Lasts.{passed_at}
-use Rattle.node_core.specs.Passes.{words_for}
+use Rattle.node_steps.specs.Passes.{words_for}
 use Rattle.node_core.specs.Traces.{IsRefusalOf, state_known}
 use Rattle.node_core.proofs.LastCalls.{last_after}
 use Rattle.node_core.proofs.NamedRefusals.{passed_on, trace_refused}

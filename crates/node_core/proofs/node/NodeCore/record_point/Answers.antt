@@ -3,7 +3,7 @@ use Rattle.std.proofs.Common.{◌∙◌, ap, rules}
 use Rattle.node_calls.specs.Asks.{IsPassed, Pass}
 use Rattle.node_core.specs.Lasts.{passed_at}
 use Rattle.node_core.proofs.LastCalls.{last_after}
-use Rattle.node_core.specs.Passes.{pass_reply}
+use Rattle.node_steps.specs.Passes.{pass_reply}
 use Rattle.node_core.specs.Traces.{IsRefusalOf, state_known}
 use Rattle.node_core.proofs.NamedRefusals.{passed_on, trace_refused}
 use Rattle.node_core.proofs.node.NodeCore.record_point.Goals as goal

@@ -3,7 +3,7 @@ use Rattle.std.proofs.lemmas.Bool.{OnTrue_from}
 use Rattle.std.proofs.lemmas.Result.{IfOk-weaker}
 use Rattle.node_calls.specs.Asks.{ask_value, ask_value_first, call_from, reply_value}
 use Rattle.node_calls.specs.Told.{Told, emits, told}
-use Rattle.node_core.specs.declared.config.Config.{Config}
+use Rattle.node_steps.specs.declared.config.Config.{Config}
 use Rattle.node_core.specs.Resumed.{IsNext}
 use Rattle.node_core.specs.Traces.{Accepts, IsRefusalOf}
 use Rattle.node_core.proofs.Repeated.{given_made, given_next, next_same, not_accepted}

@@ -4,7 +4,7 @@ use Rattle.std.specs.Bool.{OnTrue}
 use Rattle.std.proofs.lemmas.Option.{slice_get_within}
 use Rattle.node_calls.specs.Asks.{call_from}
 use Rattle.packed_trace.specs.Packed.{seen_told}
-use Rattle.node_core.specs.Nodes.{max_trace_cap}
+use Rattle.node_steps.specs.Nodes.{max_trace_cap}
 use Rattle.node_core.specs.Resumed.{IsFirstWrong, IsLegalKept}
 use Rattle.node_core.specs.Traces.{Kept, kept_of, with_call}
 use Rattle.node_core.proofs.LegalTraces.{nothing_legal}

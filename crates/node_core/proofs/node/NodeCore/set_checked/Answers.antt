@@ -1,6 +1,6 @@
 use Rattle.std.proofs.Common.{[], ℕ, List, ap, inl, inr, sym, subst, ◌∙◌, ⊎_elim}
 use Rattle.node_calls.specs.Asks.{Set}
-use Rattle.node_core.specs.Refusals.{key_refusal}
+use Rattle.node_steps.specs.Refusals.{key_refusal}
 use Rattle.node_core.specs.Room.{HasPlace}
 use Rattle.node_core.specs.Traces.{IsRefusalOf, node_of}
 use Rattle.node_core.proofs.NamedRefusals.{passed_on, trace_refused, set_text, set_later, set_fits}

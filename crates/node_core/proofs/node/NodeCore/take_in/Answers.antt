@@ -1,10 +1,10 @@
 use Rattle.std.proofs.Common.{refl, sym, subst, string_bytes, ◌∙◌, ap, List}
 use Rattle.std.specs.List.{AllByRecursion}
 use Rattle.operations.specs.Operations.{Operation, IsWellFormed}
-use Rattle.node_core.proofs.LoadSteps.{issued_formed, issued_stay}
+use Rattle.node_steps.proofs.LoadSteps.{issued_formed, issued_stay}
 use Rattle.node_core.proofs.VersionsInStep.{entries_with, few_calls, load_with}
 use Rattle.node_calls.specs.Asks.{Load}
-use Rattle.node_core.specs.Steps.{operations_issued, settings}
+use Rattle.node_steps.specs.Settings.{operations_issued, settings}
 use Rattle.node_core.specs.Traces.{kept_of, last_clock}
 use Rattle.node_core.specs.Replicas.{value_in}
 use Rattle.node_core.proofs.node.NodeCore.take_in.Goals as goal

@@ -2,7 +2,7 @@ use Rattle.std.proofs.Common.{List, ℕ, ◌∙◌, ap, sym}
 use Rattle.rand_chacha.specs.ChaCha.{ChaCha}
 use Rattle.std.specs.Prelude.{option_map}
 use Rattle.node_calls.specs.Told.{passed_ref}
-use Rattle.node_core.specs.Passes.{pass_reply}
+use Rattle.node_steps.specs.Passes.{pass_reply}
 use Rattle.node_core.specs.Traces.{Kept, state_known}
 use Rattle.node_registry.specs.Receipts.{outcome_of}
 use Rattle.node_registry.proofs.EnteredCells.{passes, passing_stays, same_passed}

@@ -1,6 +1,0 @@
-use Rattle.std.proofs.Common.{◌≡◌}
-use Rattle.node_core.proofs.Overspent.{clock_upto}
-use Rattle.node_core.proofs.delivery.latest_clock.Given as goal
-
-abbrev pub invariant-loop-entry : goal.invariant-loop-entry
-invariant-loop-entry l = l.clock ≡ clock_upto l.entries l.entry-index

@@ -1,6 +1,0 @@
-use Rattle.std.proofs.Common.{arith}
-use Rattle.std.proofs.lemmas.Grind.{common_steps}
-use Rattle.node_core.proofs.node.pass.spent_term.Goals as goal
-
-pub returns-in-Some-count-clause-value : goal.returns-in-Some-count-clause-value
-returns-in-Some-count-clause-value c = grind (arith, common_steps)

@@ -1,6 +1,0 @@
-use Rattle.std.proofs.Common.{arith}
-use Rattle.std.proofs.lemmas.Grind.{common_steps}
-use Rattle.node_core.proofs.node.set.setting_refusal.Goals as goal
-
-pub returns-clause-name : goal.returns-clause-name
-returns-clause-name c = grind (arith, common_steps)

@@ -1,0 +1,15 @@
+pub mod StreamWords
+pub mod OwnRights
+pub mod Rights
+pub mod Listing
+pub mod ShiftRefusals
+pub mod GrantRefusals
+pub mod PassReplies
+pub mod LoadSteps
+pub mod Ahead
+pub mod BadMessages
+pub mod Overspent
+pub mod SettingNames
+pub mod OwnDelivered
+pub mod MemoryLemmas
+pub mod UptoStates

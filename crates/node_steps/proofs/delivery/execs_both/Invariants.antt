@@ -1,0 +1,11 @@
+use Rattle.std.proofs.Common.{◌≡◌, ◌*◌, ◌≤◌, ◌^◌}
+use Rattle.node_steps.specs.Replicas.{point_held}
+use Rattle.node_steps.specs.Received.{execs_both}
+use Rattle.node_steps.proofs.delivery.execs_both.Given as goal
+
+abbrev pub invariant-loop-node : goal.invariant-loop-node
+invariant-loop-node l = record {
+  value : l.sum ≡ execs_both l.node l.order (point_held l.held) (point_held l.received)
+      l.term;
+  small : l.sum ≤ l.node * 2 ^ 64;
+}

@@ -1,0 +1,9 @@
+pub mod Replicas
+pub mod Nodes
+pub mod Passes
+pub mod Words
+pub mod Settings
+pub mod Outcomes
+pub mod Refusals
+pub mod Received
+pub mod Texts
