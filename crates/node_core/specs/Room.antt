@@ -1,5 +1,5 @@
 -- What an accepted call finds room for: an entry of the trace, clocks, and names.
-use Rattle.std.specs.Prelude.{◌≡◌, ℕ, ◌+◌, ◌^◌, ◌<◌, ◌≤◌, List, length, false}
+use Rattle.std.specs.Prelude.{◌≡◌, ℕ, ◌+◌, ◌^◌, ◌<◌, ◌≤◌, List, [], length, false}
 use Rattle.replica_state.specs.Folds.{fold}
 use Rattle.replica_state.specs.States.{State, with_name}
 use Rattle.replica_state.specs.Unions.{with_names}
