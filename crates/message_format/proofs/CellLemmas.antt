@@ -11,7 +11,7 @@ use Rattle.message_format.specs.Spelling.{hit_bytes, exec_bytes, shift_bytes, hi
 use Rattle.refusals.specs.Refusals.{◌>>=◌}
 use Rattle.message_format.specs.Reading.{wants, offset, is_above, byte_at, number_at, node_at, other_node_at, term_at, value_at, hit_at, exec_at, shift_at, each_at, hits_at, execs_at, shifts_at, grants_at}
 use Rattle.refusals.proofs.StepLemmas.{bind_ok}
-use Rattle.message_format.proofs.Steps.{wants_ok, at_ok}
+use Rattle.message_format.proofs.Steps.{given, wants_ok, at_ok}
 use Rattle.message_format.proofs.Fields.{IsBytes, Takes, Takes-then, byte_takes, byte_again, short_takes, short_again, node_takes, node_again, other_takes, other_again, term_takes, term_again, value_takes, value_again}
 use Rattle.message_format.proofs.Lists.{Above, each_takes, each_again, ascend_from_chain, chain_from_ascend}
 
@@ -23,18 +23,18 @@ hit_takes : (all nodes : ℕ) (last : Option (ℕ × ℕ)) (left : List ℕ) (c 
 unfolding hit_at
 hit_takes all nodes last left c rest fits e =
     let fault = faults.CellOrder (offset all left) in
-    let a = bind_ok (node_at all nodes left) (λ node. wants (is_above (option_map hit_place last) (node.0 ∷ [])) fault
-    node.1 >>= λ after. value_at all after >>= λ value. Ok ((node.0, value.0), value.1)) (c, rest) e in
-    let b = bind_ok (wants (is_above (option_map hit_place last) (a.0.0 ∷ [])) fault a.0.1)
-    (λ after. value_at all after >>= λ value. Ok ((a.0.0, value.0), value.1)) (c, rest) a.2 in
+    given (bind_ok (node_at all nodes left) (λ node. wants (is_above (option_map hit_place last) (node.0 ∷ [])) fault
+    node.1 >>= λ after. value_at all after >>= λ value. Ok ((node.0, value.0), value.1)) (c, rest) e) (λ a.
+    given (bind_ok (wants (is_above (option_map hit_place last) (a.0.0 ∷ [])) fault a.0.1)
+    (λ after. value_at all after >>= λ value. Ok ((a.0.0, value.0), value.1)) (c, rest) a.2) (λ b.
     let g = wants_ok (is_above (option_map hit_place last) (a.0.0 ∷ [])) fault a.0.1 b.0 b.1 in
-    let v = bind_ok (value_at all b.0) (λ value. Ok ((a.0.0, value.0), value.1)) (c, rest) b.2 in
+    given (bind_ok (value_at all b.0) (λ value. Ok ((a.0.0, value.0), value.1)) (c, rest) b.2) (λ v.
     let t = node_takes all nodes left a.0.0 a.0.1 fits a.1 in
     let u = subst (λ (x : List ℕ). Takes left (a.0.0 ∷ []) x) g.1 t.0 in
     let w = value_takes all b.0 v.0.0 v.0.1 u.rest_fits v.1 in
     at_ok (λ (p : (ℕ × ℕ) × List ℕ). Takes left (hit_bytes p.0) p.1 × Above hit_place (IsHit nodes) last p.0)
     ((a.0.0, v.0.0), v.0.1) (c, rest) v.2
-    (Takes-then left (a.0.0 ∷ []) b.0 (to_be_bytes w64 v.0.0) v.0.1 u w.0, ((t.1, w.1), g.0))
+    (Takes-then left (a.0.0 ∷ []) b.0 (to_be_bytes w64 v.0.0) v.0.1 u w.0, ((t.1, w.1), g.0)))))
 
 hit_again : (all nodes : ℕ) (last : Option (ℕ × ℕ)) (c : ℕ × ℕ) (rest : List ℕ) → Above hit_place (IsHit nodes) last c →
     hit_at all nodes last (hit_bytes c ++ rest) ≡ Ok (c, rest)
@@ -48,16 +48,16 @@ exec_takes : (all nodes : ℕ) (key : KeyValue) (last : Option (ℕ × ℕ × �
 unfolding exec_at
 exec_takes all nodes key last left c rest fits e =
     let fault = faults.CellOrder (offset all left) in
-    let a = bind_ok (term_at all key left) (λ term. node_at all nodes term.1 >>= λ node. wants
+    given (bind_ok (term_at all key left) (λ term. node_at all nodes term.1 >>= λ node. wants
     (is_above (option_map exec_place last) (term.0 ∷ node.0 ∷ [])) fault node.1 >>= λ after. value_at all after >>=
-    λ value. Ok ((term.0, node.0, value.0), value.1)) (c, rest) e in
-    let b = bind_ok (node_at all nodes a.0.1) (λ node. wants
+    λ value. Ok ((term.0, node.0, value.0), value.1)) (c, rest) e) (λ a.
+    given (bind_ok (node_at all nodes a.0.1) (λ node. wants
     (is_above (option_map exec_place last) (a.0.0 ∷ node.0 ∷ [])) fault node.1 >>= λ after. value_at all after >>=
-    λ value. Ok ((a.0.0, node.0, value.0), value.1)) (c, rest) a.2 in
-    let d = bind_ok (wants (is_above (option_map exec_place last) (a.0.0 ∷ b.0.0 ∷ [])) fault b.0.1)
-    (λ after. value_at all after >>= λ value. Ok ((a.0.0, b.0.0, value.0), value.1)) (c, rest) b.2 in
+    λ value. Ok ((a.0.0, node.0, value.0), value.1)) (c, rest) a.2) (λ b.
+    given (bind_ok (wants (is_above (option_map exec_place last) (a.0.0 ∷ b.0.0 ∷ [])) fault b.0.1)
+    (λ after. value_at all after >>= λ value. Ok ((a.0.0, b.0.0, value.0), value.1)) (c, rest) b.2) (λ d.
     let g = wants_ok (is_above (option_map exec_place last) (a.0.0 ∷ b.0.0 ∷ [])) fault b.0.1 d.0 d.1 in
-    let v = bind_ok (value_at all d.0) (λ value. Ok ((a.0.0, b.0.0, value.0), value.1)) (c, rest) d.2 in
+    given (bind_ok (value_at all d.0) (λ value. Ok ((a.0.0, b.0.0, value.0), value.1)) (c, rest) d.2) (λ v.
     let s = term_takes all key left a.0.0 a.0.1 fits a.1 in
     let t = node_takes all nodes a.0.1 b.0.0 b.0.1 s.0.rest_fits b.1 in
     let u = subst (λ (x : List ℕ). Takes a.0.1 (b.0.0 ∷ []) x) g.1 t.0 in
@@ -65,7 +65,7 @@ exec_takes all nodes key last left c rest fits e =
     let two = Takes-then a.0.1 (b.0.0 ∷ []) d.0 (to_be_bytes w64 v.0.0) v.0.1 u w.0 in
     at_ok (λ (p : (ℕ × ℕ × ℕ) × List ℕ). Takes left (exec_bytes p.0) p.1 × Above exec_place (IsExec nodes key) last p.0)
     ((a.0.0, b.0.0, v.0.0), v.0.1) (c, rest) v.2
-    (Takes-then left (a.0.0 ∷ []) a.0.1 (b.0.0 ∷ to_be_bytes w64 v.0.0) v.0.1 s.0 two, ((s.1, t.1, w.1), g.0))
+    (Takes-then left (a.0.0 ∷ []) a.0.1 (b.0.0 ∷ to_be_bytes w64 v.0.0) v.0.1 s.0 two, ((s.1, t.1, w.1), g.0))))))
 
 exec_again : (all nodes : ℕ) (key : KeyValue) (last : Option (ℕ × ℕ × ℕ)) (c : ℕ × ℕ × ℕ) (rest : List ℕ) →
     Above exec_place (IsExec nodes key) last c → exec_at all nodes key last (exec_bytes c ++ rest) ≡ Ok (c, rest)
@@ -84,19 +84,19 @@ shift_takes : (all nodes : ℕ) (key : KeyValue) (last : Option (ℕ × ℕ × �
 unfolding shift_at
 shift_takes all nodes key last left c rest fits e =
     let fault = faults.CellOrder (offset all left) in
-    let a = bind_ok (term_at all key left) (λ term. node_at all nodes term.1 >>= λ from. other_node_at all nodes from.0
+    given (bind_ok (term_at all key left) (λ term. node_at all nodes term.1 >>= λ from. other_node_at all nodes from.0
     from.1 >>= λ to. wants (is_above (option_map shift_place last) (term.0 ∷ from.0 ∷ to.0 ∷ [])) fault to.1 >>=
-    λ after. value_at all after >>= λ value. Ok ((term.0, from.0, to.0, value.0), value.1)) (c, rest) e in
-    let b = bind_ok (node_at all nodes a.0.1) (λ from. other_node_at all nodes from.0 from.1 >>= λ to. wants
+    λ after. value_at all after >>= λ value. Ok ((term.0, from.0, to.0, value.0), value.1)) (c, rest) e) (λ a.
+    given (bind_ok (node_at all nodes a.0.1) (λ from. other_node_at all nodes from.0 from.1 >>= λ to. wants
     (is_above (option_map shift_place last) (a.0.0 ∷ from.0 ∷ to.0 ∷ [])) fault to.1 >>= λ after. value_at all after
-    >>= λ value. Ok ((a.0.0, from.0, to.0, value.0), value.1)) (c, rest) a.2 in
-    let o = bind_ok (other_node_at all nodes b.0.0 b.0.1) (λ to. wants
+    >>= λ value. Ok ((a.0.0, from.0, to.0, value.0), value.1)) (c, rest) a.2) (λ b.
+    given (bind_ok (other_node_at all nodes b.0.0 b.0.1) (λ to. wants
     (is_above (option_map shift_place last) (a.0.0 ∷ b.0.0 ∷ to.0 ∷ [])) fault to.1 >>= λ after. value_at all after
-    >>= λ value. Ok ((a.0.0, b.0.0, to.0, value.0), value.1)) (c, rest) b.2 in
-    let d = bind_ok (wants (is_above (option_map shift_place last) (a.0.0 ∷ b.0.0 ∷ o.0.0 ∷ [])) fault o.0.1)
-    (λ after. value_at all after >>= λ value. Ok ((a.0.0, b.0.0, o.0.0, value.0), value.1)) (c, rest) o.2 in
+    >>= λ value. Ok ((a.0.0, b.0.0, to.0, value.0), value.1)) (c, rest) b.2) (λ o.
+    given (bind_ok (wants (is_above (option_map shift_place last) (a.0.0 ∷ b.0.0 ∷ o.0.0 ∷ [])) fault o.0.1)
+    (λ after. value_at all after >>= λ value. Ok ((a.0.0, b.0.0, o.0.0, value.0), value.1)) (c, rest) o.2) (λ d.
     let g = wants_ok (is_above (option_map shift_place last) (a.0.0 ∷ b.0.0 ∷ o.0.0 ∷ [])) fault o.0.1 d.0 d.1 in
-    let v = bind_ok (value_at all d.0) (λ value. Ok ((a.0.0, b.0.0, o.0.0, value.0), value.1)) (c, rest) d.2 in
+    given (bind_ok (value_at all d.0) (λ value. Ok ((a.0.0, b.0.0, o.0.0, value.0), value.1)) (c, rest) d.2) (λ v.
     let s = term_takes all key left a.0.0 a.0.1 fits a.1 in
     let t = node_takes all nodes a.0.1 b.0.0 b.0.1 s.0.rest_fits b.1 in
     let r = other_takes all nodes b.0.0 b.0.1 o.0.0 o.0.1 t.0.rest_fits o.1 in
@@ -108,7 +108,7 @@ shift_takes all nodes key last left c rest fits e =
     last p.0) ((a.0.0, b.0.0, o.0.0, v.0.0), v.0.1) (c, rest) v.2 (
       Takes-then left (a.0.0 ∷ []) a.0.1 (b.0.0 ∷ o.0.0 ∷ to_be_bytes w64 v.0.0) v.0.1 s.0 three,
       ((s.1, t.1, r.1, r.2, w.1), g.0),
-    )
+    ))))))
 
 shift_again : (all nodes : ℕ) (key : KeyValue) (last : Option (ℕ × ℕ × ℕ × ℕ)) (c : ℕ × ℕ × ℕ × ℕ) (rest : List ℕ) →
     Above shift_place (IsShift nodes key) last c → shift_at all nodes key last (shift_bytes c ++ rest) ≡ Ok (c, rest)
@@ -131,7 +131,7 @@ pub hits_take : (all nodes : ℕ) (left : List ℕ) (cs : List (ℕ × ℕ)) (re
     (map hit_place cs)
 unfolding hits_at
 hits_take all nodes left cs rest fits e =
-    let n = bind_ok (byte_at all left) (λ count. each_at (hit_at all nodes) count.0 None count.1) (cs, rest) e in
+    given (bind_ok (byte_at all left) (λ count. each_at (hit_at all nodes) count.0 None count.1) (cs, rest) e) (λ n.
     let t = byte_takes all left n.0.0 n.0.1 fits n.1 in
     let u = each_takes (hit_at all nodes) hit_bytes (Above hit_place (IsHit nodes)) (hit_takes all nodes) n.0.0 None
     n.0.1 cs rest t.0.rest_fits n.2 in
@@ -141,7 +141,7 @@ hits_take all nodes left cs rest fits e =
       omega (arith, u.1, t.1),
       chain.0,
       chain.1,
-    )
+    ))
 
 pub hits_again : (all nodes : ℕ) (cs : List (ℕ × ℕ)) (rest : List ℕ) → AllByRecursion (IsHit nodes) cs →
     Ascend (map hit_place cs) → hits_at all nodes (hits_bytes cs ++ rest) ≡ Ok (cs, rest)
@@ -157,8 +157,8 @@ pub execs_take : (all nodes : ℕ) (key : KeyValue) (left : List ℕ) (cs : List
     (map exec_place cs)
 unfolding execs_at
 execs_take all nodes key left cs rest fits e =
-    let n = bind_ok (number_at all w16 left) (λ count. each_at (exec_at all nodes key) count.0 None count.1) (cs, rest)
-    e in
+    given (bind_ok (number_at all w16 left) (λ count. each_at (exec_at all nodes key) count.0 None count.1) (cs, rest)
+    e) (λ n.
     let t = short_takes all left n.0.0 n.0.1 fits n.1 in
     let u = each_takes (exec_at all nodes key) exec_bytes (Above exec_place (IsExec nodes key))
     (exec_takes all nodes key) n.0.0 None n.0.1 cs rest t.0.rest_fits n.2 in
@@ -168,7 +168,7 @@ execs_take all nodes key left cs rest fits e =
       omega (arith, u.1, t.1),
       chain.0,
       chain.1,
-    )
+    ))
 
 pub execs_again : (all nodes : ℕ) (key : KeyValue) (cs : List (ℕ × ℕ × ℕ)) (rest : List ℕ) → length cs < 2 ^ 16 →
     AllByRecursion (IsExec nodes key) cs → Ascend (map exec_place cs)
@@ -186,8 +186,8 @@ pub shifts_take : (all nodes : ℕ) (key : KeyValue) (left : List ℕ) (cs : Lis
     (map shift_place cs)
 unfolding shifts_at
 shifts_take all nodes key left cs rest fits e =
-    let n = bind_ok (number_at all w16 left) (λ count. each_at (shift_at all nodes key) count.0 None count.1) (cs, rest)
-    e in
+    given (bind_ok (number_at all w16 left) (λ count. each_at (shift_at all nodes key) count.0 None count.1) (cs, rest)
+    e) (λ n.
     let t = short_takes all left n.0.0 n.0.1 fits n.1 in
     let u = each_takes (shift_at all nodes key) shift_bytes (Above shift_place (IsShift nodes key))
     (shift_takes all nodes key) n.0.0 None n.0.1 cs rest t.0.rest_fits n.2 in
@@ -197,7 +197,7 @@ shifts_take all nodes key left cs rest fits e =
       omega (arith, u.1, t.1),
       chain.0,
       chain.1,
-    )
+    ))
 
 pub shifts_again : (all nodes : ℕ) (key : KeyValue) (cs : List (ℕ × ℕ × ℕ × ℕ)) (rest : List ℕ) → length cs < 2 ^ 16 →
     AllByRecursion (IsShift nodes key) cs → Ascend (map shift_place cs)

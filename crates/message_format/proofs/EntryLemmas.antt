@@ -25,7 +25,7 @@ use Rattle.message_format.specs.Spelling.{name_bytes, body_bytes, key_bytes, hit
 use Rattle.refusals.specs.Refusals.{◌>>=◌}
 use Rattle.message_format.specs.Reading.{wants, offset, is_above, bytes_at, byte_at, number_at, node_at, each_at, hits_at, execs_at, shifts_at, grants_at, is_form_of, name_at, is_canonical, is_canonical_text, text_at, body_at, key_at, entry_at, entries_at}
 use Rattle.refusals.proofs.StepLemmas.{bind_ok}
-use Rattle.message_format.proofs.Steps.{wants_ok, at_ok}
+use Rattle.message_format.proofs.Steps.{given, wants_ok, at_ok}
 use Rattle.message_format.proofs.Fields.{IsBytes, Takes, Takes-then, bytes_take, bytes_again, byte_takes, byte_again, short_takes, short_again, long_takes, long_again, node_takes, node_again}
 use Rattle.message_format.proofs.Lists.{Above, each_takes, each_again, ascend_from_chain, chain_from_ascend}
 use Rattle.message_format.proofs.CellLemmas.{hits_take, hits_again, execs_take, execs_again, shifts_take, shifts_again, grants_take, grants_again}
@@ -37,17 +37,17 @@ name_takes : (all : ℕ) (last : Option (List ℕ)) (left name rest : List ℕ) 
     → Takes left (name_bytes name) rest × (is_name name ≡ true) × (is_above last name ≡ true)
 unfolding name_at
 name_takes all last left name rest fits e =
-    let a = bind_ok (byte_at all left) (λ n. wants (ltb 0 n.0 && leb n.0 max_name) (faults.BadName (offset all left)) n
+    given (bind_ok (byte_at all left) (λ n. wants (ltb 0 n.0 && leb n.0 max_name) (faults.BadName (offset all left)) n
     >>= λ len. bytes_at all len.0 len.1 >>= λ text. wants (is_name text.0) (faults.BadName (offset all len.1)) text
-    >>= λ good. wants (is_above last good.0) (faults.NameOrder (offset all len.1)) good) (name, rest) e in
-    let b = bind_ok (wants (ltb 0 a.0.0 && leb a.0.0 max_name) (faults.BadName (offset all left)) a.0)
+    >>= λ good. wants (is_above last good.0) (faults.NameOrder (offset all len.1)) good) (name, rest) e) (λ a.
+    given (bind_ok (wants (ltb 0 a.0.0 && leb a.0.0 max_name) (faults.BadName (offset all left)) a.0)
     (λ len. bytes_at all len.0 len.1 >>= λ text. wants (is_name text.0) (faults.BadName (offset all len.1)) text >>=
-    λ good. wants (is_above last good.0) (faults.NameOrder (offset all len.1)) good) (name, rest) a.2 in
+    λ good. wants (is_above last good.0) (faults.NameOrder (offset all len.1)) good) (name, rest) a.2) (λ b.
     let g = wants_ok (ltb 0 a.0.0 && leb a.0.0 max_name) (faults.BadName (offset all left)) a.0 b.0 b.1 in
-    let d = bind_ok (bytes_at all b.0.0 b.0.1) (λ text. wants (is_name text.0) (faults.BadName (offset all b.0.1)) text
-    >>= λ good. wants (is_above last good.0) (faults.NameOrder (offset all b.0.1)) good) (name, rest) b.2 in
-    let f = bind_ok (wants (is_name d.0.0) (faults.BadName (offset all b.0.1)) d.0)
-    (λ good. wants (is_above last good.0) (faults.NameOrder (offset all b.0.1)) good) (name, rest) d.2 in
+    given (bind_ok (bytes_at all b.0.0 b.0.1) (λ text. wants (is_name text.0) (faults.BadName (offset all b.0.1)) text
+    >>= λ good. wants (is_above last good.0) (faults.NameOrder (offset all b.0.1)) good) (name, rest) b.2) (λ d.
+    given (bind_ok (wants (is_name d.0.0) (faults.BadName (offset all b.0.1)) d.0)
+    (λ good. wants (is_above last good.0) (faults.NameOrder (offset all b.0.1)) good) (name, rest) d.2) (λ f.
     let i = wants_ok (is_name d.0.0) (faults.BadName (offset all b.0.1)) d.0 f.0 f.1 in
     let h = wants_ok (is_above last f.0.0) (faults.NameOrder (offset all b.0.1)) f.0 (name, rest) f.2 in
     let t = byte_takes all left a.0.0 a.0.1 fits a.1 in
@@ -58,7 +58,7 @@ name_takes all last left name rest fits e =
     let named = subst (λ (x : List ℕ × List ℕ). Takes left (name_bytes x.0) x.1 × (is_name x.0 ≡ true)) i.1
     (whole, i.0) in
     subst (λ (x : List ℕ × List ℕ). Takes left (name_bytes x.0) x.1 × (is_name x.0 ≡ true) × (is_above last x.0 ≡ true))
-    h.1 (named.0, named.1, h.0)
+    h.1 (named.0, named.1, h.0)))))
 
 name_again : (all : ℕ) (last : Option (List ℕ)) (name rest : List ℕ) → is_name name ≡ true → is_above last name ≡ true →
     name_at all last (name_bytes name ++ rest) ≡ Ok (name, rest)
@@ -92,15 +92,15 @@ text_takes : (all : ℕ) (left text rest : List ℕ) → IsBytes left → text_a
     Takes left (to_be_bytes w16 (length text) ++ text) rest × IsCanonicalText text
 unfolding text_at
 text_takes all left text rest fits e =
-    let a = bind_ok (number_at all w16 left) (λ n. wants (leb n.0 max_text) (faults.NotCanonical (offset all left)) n
+    given (bind_ok (number_at all w16 left) (λ n. wants (leb n.0 max_text) (faults.NotCanonical (offset all left)) n
     >>= λ len. bytes_at all len.0 len.1 >>= λ text. wants (is_canonical_text text.0)
-    (faults.NotCanonical (offset all len.1)) text) (text, rest) e in
-    let b = bind_ok (wants (leb a.0.0 max_text) (faults.NotCanonical (offset all left)) a.0)
+    (faults.NotCanonical (offset all len.1)) text) (text, rest) e) (λ a.
+    given (bind_ok (wants (leb a.0.0 max_text) (faults.NotCanonical (offset all left)) a.0)
     (λ len. bytes_at all len.0 len.1 >>= λ text. wants (is_canonical_text text.0)
-    (faults.NotCanonical (offset all len.1)) text) (text, rest) a.2 in
+    (faults.NotCanonical (offset all len.1)) text) (text, rest) a.2) (λ b.
     let g = wants_ok (leb a.0.0 max_text) (faults.NotCanonical (offset all left)) a.0 b.0 b.1 in
-    let d = bind_ok (bytes_at all b.0.0 b.0.1) (λ text. wants (is_canonical_text text.0)
-    (faults.NotCanonical (offset all b.0.1)) text) (text, rest) b.2 in
+    given (bind_ok (bytes_at all b.0.0 b.0.1) (λ text. wants (is_canonical_text text.0)
+    (faults.NotCanonical (offset all b.0.1)) text) (text, rest) b.2) (λ d.
     let h = wants_ok (is_canonical_text d.0.0) (faults.NotCanonical (offset all b.0.1)) d.0 (text, rest) d.2 in
     let t = short_takes all left a.0.0 a.0.1 fits a.1 in
     let u = subst (λ (x : ℕ × List ℕ). Takes left (to_be_bytes w16 x.0) x.1) g.1 t.0 in
@@ -108,7 +108,7 @@ text_takes all left text rest fits e =
     let both = Takes-then left (to_be_bytes w16 b.0.0) b.0.1 d.0.0 d.0.1 u v.0 in
     let whole = subst (λ (k : ℕ). Takes left (to_be_bytes w16 k ++ d.0.0) d.0.1) (sym v.1) both in
     subst (λ (x : List ℕ × List ℕ). Takes left (to_be_bytes w16 (length x.0) ++ x.0) x.1 × IsCanonicalText x.0) h.1
-    (whole, is_canonical_sound d.0.0 h.0)
+    (whole, is_canonical_sound d.0.0 h.0))))
 
 text_again : (all : ℕ) (text rest : List ℕ) → IsCanonicalText text →
     text_at all ((to_be_bytes w16 (length text) ++ text) ++ rest) ≡ Ok (text, rest)
@@ -137,8 +137,8 @@ body_takes all left body rest fits e =
     let set : List ℕ → Result (Option (List ℕ) × List ℕ) WireFault =
     λ after. text_at all after >>= λ text. Ok (Some text.0, text.1) in
     let d = faults.BadBody (offset all left) in
-    let a = bind_ok (byte_at all left) (λ tag. cond (eqb tag.0 0) (Ok (None, tag.1))
-    (cond (eqb tag.0 1) (set tag.1) (Err d))) (body, rest) e in
+    given (bind_ok (byte_at all left) (λ tag. cond (eqb tag.0 0) (Ok (None, tag.1))
+    (cond (eqb tag.0 1) (set tag.1) (Err d))) (body, rest) e) (λ a.
     let t = byte_takes all left a.0.0 a.0.1 fits a.1 in
     elim (tag_parts (eqb a.0.0 0) (eqb a.0.0 1) (Ok (None, a.0.1)) (set a.0.1) d (body, rest) a.2) [
       | inl h ↦ (let tagged = subst (λ (k : ℕ). Takes left (k ∷ []) a.0.1) (eqb-true _ _ h.0) t.0 in
@@ -150,7 +150,7 @@ body_takes all left body rest fits e =
           let both = Takes-then left (1 ∷ []) a.0.1 (to_be_bytes w16 (length b.0.0) ++ b.0.0) b.0.1 tagged u.0 in
           at_ok (λ (x : Option (List ℕ) × List ℕ). Takes left (body_bytes x.0) x.1 × IsBody x.0) (Some b.0.0, b.0.1)
           (body, rest) b.2 (both, u.1))
-    ]
+    ])
 
 body_again : (all : ℕ) (body : Option (List ℕ)) (rest : List ℕ) → IsBody body →
     body_at all (body_bytes body ++ rest) ≡ Ok (body, rest)
@@ -163,12 +163,12 @@ key_takes : (all nodes : ℕ) (left : List ℕ) (k : KeyValue) (rest : List ℕ)
     key_at all nodes left ≡ Ok (k, rest) → Takes left (key_bytes k) rest × IsKey nodes k
 unfolding key_at
 key_takes all nodes left k rest fits e =
-    let a = bind_ok (number_at all w64 left) (λ clock. node_at all nodes clock.1 >>= λ node. body_at all node.1 >>=
-    λ body. Ok (record { clock = clock.0; node = node.0; body = body.0 }, body.1)) (k, rest) e in
-    let b = bind_ok (node_at all nodes a.0.1) (λ node. body_at all node.1 >>= λ body. Ok
-    (record { clock = a.0.0; node = node.0; body = body.0 }, body.1)) (k, rest) a.2 in
-    let d = bind_ok (body_at all b.0.1) (λ body. Ok (record { clock = a.0.0; node = b.0.0; body = body.0 }, body.1))
-    (k, rest) b.2 in
+    given (bind_ok (number_at all w64 left) (λ clock. node_at all nodes clock.1 >>= λ node. body_at all node.1 >>=
+    λ body. Ok (record { clock = clock.0; node = node.0; body = body.0 }, body.1)) (k, rest) e) (λ a.
+    given (bind_ok (node_at all nodes a.0.1) (λ node. body_at all node.1 >>= λ body. Ok
+    (record { clock = a.0.0; node = node.0; body = body.0 }, body.1)) (k, rest) a.2) (λ b.
+    given (bind_ok (body_at all b.0.1) (λ body. Ok (record { clock = a.0.0; node = b.0.0; body = body.0 }, body.1))
+    (k, rest) b.2) (λ d.
     let t = long_takes all left a.0.0 a.0.1 fits a.1 in
     let u = node_takes all nodes a.0.1 b.0.0 b.0.1 t.0.rest_fits b.1 in
     let v = body_takes all b.0.1 d.0.0 d.0.1 u.0.rest_fits d.1 in
@@ -176,7 +176,7 @@ key_takes all nodes left k rest fits e =
     let three = Takes-then left (to_be_bytes w64 a.0.0) a.0.1 (b.0.0 ∷ body_bytes d.0.0) d.0.1 t.0 two in
     let made : KeyValue × List ℕ = (record { clock = a.0.0; node = b.0.0; body = d.0.0 }, d.0.1) in
     at_ok (λ (x : KeyValue × List ℕ). Takes left (key_bytes x.0) x.1 × IsKey nodes x.0) made (k, rest) d.2
-    (three, record { clock = t.1; node = u.1; body = v.1 })
+    (three, record { clock = t.1; node = u.1; body = v.1 }))))
 
 key_again : (all nodes : ℕ) (k : KeyValue) (rest : List ℕ) → IsKey nodes k →
     key_at all nodes (key_bytes k ++ rest) ≡ Ok (k, rest)
@@ -223,15 +223,15 @@ cells_take : (all nodes : ℕ) (form : Form) (key : KeyValue) (make : List (ℕ 
     (make hits.0 execs.0 shifts.0 grants.0, grants.1)) ≡ Ok made
     → IsMadeOf nodes form key make left made
 cells_take all nodes form key make left made fits e =
-    let d = bind_ok (hits_at all nodes left) (λ hits. execs_at all nodes key hits.1 >>= λ execs. shifts_at all nodes key
+    given (bind_ok (hits_at all nodes left) (λ hits. execs_at all nodes key hits.1 >>= λ execs. shifts_at all nodes key
     execs.1 >>= λ shifts. grants_at all nodes key form shifts.1 >>= λ grants. Ok
-    (make hits.0 execs.0 shifts.0 grants.0, grants.1)) made e in
-    let f = bind_ok (execs_at all nodes key d.0.1) (λ execs. shifts_at all nodes key execs.1 >>= λ shifts. grants_at all
-    nodes key form shifts.1 >>= λ grants. Ok (make d.0.0 execs.0 shifts.0 grants.0, grants.1)) made d.2 in
-    let g = bind_ok (shifts_at all nodes key f.0.1) (λ shifts. grants_at all nodes key form shifts.1 >>= λ grants. Ok
-    (make d.0.0 f.0.0 shifts.0 grants.0, grants.1)) made f.2 in
-    let i = bind_ok (grants_at all nodes key form g.0.1) (λ grants. Ok (make d.0.0 f.0.0 g.0.0 grants.0, grants.1)) made
-    g.2 in
+    (make hits.0 execs.0 shifts.0 grants.0, grants.1)) made e) (λ d.
+    given (bind_ok (execs_at all nodes key d.0.1) (λ execs. shifts_at all nodes key execs.1 >>= λ shifts. grants_at all
+    nodes key form shifts.1 >>= λ grants. Ok (make d.0.0 execs.0 shifts.0 grants.0, grants.1)) made d.2) (λ f.
+    given (bind_ok (shifts_at all nodes key f.0.1) (λ shifts. grants_at all nodes key form shifts.1 >>= λ grants. Ok
+    (make d.0.0 f.0.0 shifts.0 grants.0, grants.1)) made f.2) (λ g.
+    given (bind_ok (grants_at all nodes key form g.0.1) (λ grants. Ok (make d.0.0 f.0.0 g.0.0 grants.0, grants.1)) made
+    g.2) (λ i.
     let h = hits_take all nodes left d.0.0 d.0.1 fits d.1 in
     let x = execs_take all nodes key d.0.1 f.0.0 f.0.1 h.0.rest_fits f.1 in
     let s = shifts_take all nodes key f.0.1 g.0.0 g.0.1 x.0.rest_fits g.1 in
@@ -252,7 +252,7 @@ cells_take all nodes form key make left made fits e =
       are_shifts = (s.1, s.2, s.3);
       are_grants = (y.1, y.2, y.3);
       plain = y.4;
-    })
+    })))))
 
 entry_takes : (all nodes : ℕ) (form : Form) (last : Option EntryValue) (left : List ℕ) (v : EntryValue)
     (rest : List ℕ) → IsBytes left → entry_at all nodes form last left ≡ Ok (v, rest)
@@ -270,13 +270,13 @@ entry_takes all nodes form last left v rest fits e =
       shifts = shifts;
       grants = grants;
     } in
-    let a = bind_ok (name_at all before left) (λ name. key_at all nodes name.1 >>= λ key. hits_at all nodes key.1 >>=
+    given (bind_ok (name_at all before left) (λ name. key_at all nodes name.1 >>= λ key. hits_at all nodes key.1 >>=
     λ hits. execs_at all nodes key.0 hits.1 >>= λ execs. shifts_at all nodes key.0 execs.1 >>= λ shifts. grants_at
     all nodes key.0 form shifts.1 >>= λ grants. Ok (entry name.0 key.0 hits.0 execs.0 shifts.0 grants.0, grants.1))
-    (v, rest) e in
-    let b = bind_ok (key_at all nodes a.0.1) (λ key. hits_at all nodes key.1 >>= λ hits. execs_at all nodes key.0 hits.1
+    (v, rest) e) (λ a.
+    given (bind_ok (key_at all nodes a.0.1) (λ key. hits_at all nodes key.1 >>= λ hits. execs_at all nodes key.0 hits.1
     >>= λ execs. shifts_at all nodes key.0 execs.1 >>= λ shifts. grants_at all nodes key.0 form shifts.1 >>=
-    λ grants. Ok (entry a.0.0 key.0 hits.0 execs.0 shifts.0 grants.0, grants.1)) (v, rest) a.2 in
+    λ grants. Ok (entry a.0.0 key.0 hits.0 execs.0 shifts.0 grants.0, grants.1)) (v, rest) a.2) (λ b.
     let n = name_takes all before left a.0.0 a.0.1 fits a.1 in
     let k = key_takes all nodes a.0.1 b.0.0 b.0.1 n.0.rest_fits b.1 in
     let r = cells_take all nodes form b.0.0 (entry a.0.0 b.0.0) b.0.1 (v, rest) k.0.rest_fits b.2 in
@@ -300,7 +300,7 @@ entry_takes all nodes form last left v rest fits e =
       grants_ascend = r.are_grants.2;
     } in
     subst (λ (z : EntryValue). Takes left (entry_bytes form z) rest × EntryAbove form nodes last z) (sym r.is)
-    (taken, ((is_entry, r.plain), n.2))
+    (taken, ((is_entry, r.plain), n.2))))
 
 entry_again : (all nodes : ℕ) (form : Form) (last : Option EntryValue) (v : EntryValue) (rest : List ℕ) →
     EntryAbove form nodes last v → entry_at all nodes form last (entry_bytes form v ++ rest) ≡ Ok (v, rest)
@@ -337,8 +337,8 @@ pub entries_take : (all nodes : ℕ) (form : Form) (left : List ℕ) (es : List 
     (map (λ e. e.name) es)
 unfolding entries_at
 entries_take all nodes form left es rest fits e =
-    let n = bind_ok (number_at all w16 left) (λ count. each_at (entry_at all nodes form) count.0 None count.1)
-    (es, rest) e in
+    given (bind_ok (number_at all w16 left) (λ count. each_at (entry_at all nodes form) count.0 None count.1)
+    (es, rest) e) (λ n.
     let t = short_takes all left n.0.0 n.0.1 fits n.1 in
     let u = each_takes (entry_at all nodes form) (entry_bytes form) (EntryAbove form nodes) (entry_takes all nodes form)
     n.0.0 None n.0.1 es rest t.0.rest_fits n.2 in
@@ -348,7 +348,7 @@ entries_take all nodes form left es rest fits e =
       omega (arith, u.1, t.1),
       chain.0,
       chain.1,
-    )
+    ))
 
 pub entries_again : (all nodes : ℕ) (form : Form) (es : List EntryValue) (rest : List ℕ) → length es < 2 ^ 16 →
     AllByRecursion (IsEntryOf form nodes) es → Ascend (map (λ e. e.name) es)

@@ -1,4 +1,5 @@
 pub mod Steps
+pub mod Written
 pub mod Texts
 pub mod Loop
 pub mod Fields

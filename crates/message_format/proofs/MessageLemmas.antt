@@ -14,7 +14,7 @@ use Rattle.message_format.specs.Spelling.{max_message, magic, form_of, versions_
 use Rattle.refusals.specs.Refusals.{◌>>=◌}
 use Rattle.message_format.specs.Reading.{wants, offset, bytes_at, number_at, node_at, other_node_at, entries_at, is_form_of, magic_at, versions_at, fields_at, message_at}
 use Rattle.refusals.proofs.StepLemmas.{bind_ok}
-use Rattle.message_format.proofs.Steps.{wants_ok, at_ok}
+use Rattle.message_format.proofs.Steps.{given, wants_ok, at_ok}
 use Rattle.message_format.proofs.Fields.{IsBytes, Takes, Takes-then, bytes_take, bytes_again, long_takes, long_again, node_takes, node_again, other_takes, other_again}
 use Rattle.message_format.proofs.EntryLemmas.{entries_take, entries_again, form_is, are_entries, are_of_form}
 
@@ -30,8 +30,8 @@ magic_takes : (all : ℕ) (left : List ℕ) (form : Form) (rest : List ℕ) → 
 unfolding magic_at
 magic_takes all left form rest fits e =
     let d = faults.Magic (offset all left) in
-    let a = bind_ok (bytes_at all 4 left) (λ first. cond (bytes_eq first.0 (magic Plain)) (Ok (Plain, first.1))
-    (cond (bytes_eq first.0 (magic WithGrants)) (Ok (WithGrants, first.1)) (Err d))) (form, rest) e in
+    given (bind_ok (bytes_at all 4 left) (λ first. cond (bytes_eq first.0 (magic Plain)) (Ok (Plain, first.1))
+    (cond (bytes_eq first.0 (magic WithGrants)) (Ok (WithGrants, first.1)) (Err d))) (form, rest) e) (λ a.
     let t = bytes_take all 4 left a.0.0 a.0.1 fits a.1 in
     let said : (f : Form) → bytes_eq a.0.0 (magic f) ≡ true → (f, a.0.1) ≡ (form, rest) →
     Takes left (magic form) rest = λ f named same.
@@ -41,7 +41,7 @@ magic_takes all left form rest fits e =
     (WithGrants, a.0.1) d (form, rest) a.2) [
       | inl h ↦ said Plain h.0 h.1
       | inr h ↦ said WithGrants h.0 h.1
-    ]
+    ])
 
 magic_again : (all : ℕ) (form : Form) (rest : List ℕ) → magic_at all (magic form ++ rest) ≡ Ok (form, rest)
 unfolding magic_at
@@ -54,11 +54,11 @@ versions_take : (all : ℕ) (left : List ℕ) (v : ℕ × ℕ × ℕ) (rest : Li
     (v.1 < 2 ^ 64) × (v.2 < 2 ^ 64)
 unfolding versions_at
 versions_take all left v rest fits e =
-    let a = bind_ok (number_at all w64 left) (λ base. number_at all w64 base.1 >>= λ upto. number_at all w64 upto.1 >>=
-    λ ack. Ok ((base.0, upto.0, ack.0), ack.1)) (v, rest) e in
-    let b = bind_ok (number_at all w64 a.0.1) (λ upto. number_at all w64 upto.1 >>= λ ack. Ok
-    ((a.0.0, upto.0, ack.0), ack.1)) (v, rest) a.2 in
-    let d = bind_ok (number_at all w64 b.0.1) (λ ack. Ok ((a.0.0, b.0.0, ack.0), ack.1)) (v, rest) b.2 in
+    given (bind_ok (number_at all w64 left) (λ base. number_at all w64 base.1 >>= λ upto. number_at all w64 upto.1 >>=
+    λ ack. Ok ((base.0, upto.0, ack.0), ack.1)) (v, rest) e) (λ a.
+    given (bind_ok (number_at all w64 a.0.1) (λ upto. number_at all w64 upto.1 >>= λ ack. Ok
+    ((a.0.0, upto.0, ack.0), ack.1)) (v, rest) a.2) (λ b.
+    given (bind_ok (number_at all w64 b.0.1) (λ ack. Ok ((a.0.0, b.0.0, ack.0), ack.1)) (v, rest) b.2) (λ d.
     let t = long_takes all left a.0.0 a.0.1 fits a.1 in
     let u = long_takes all a.0.1 b.0.0 b.0.1 t.0.rest_fits b.1 in
     let w = long_takes all b.0.1 d.0.0 d.0.1 u.0.rest_fits d.1 in
@@ -68,7 +68,7 @@ versions_take all left v rest fits e =
     at_ok (λ (x : (ℕ × ℕ × ℕ) × List ℕ). Takes left (to_be_bytes w64 x.0.0 ++
     (to_be_bytes w64 x.0.1 ++ to_be_bytes w64 x.0.2)) x.1 × (x.0.0 < 2 ^ 64) × (x.0.1 < 2 ^ 64) × (x.0.2 < 2 ^ 64))
     ((a.0.0, b.0.0, d.0.0), d.0.1) (v, rest) d.2
-    (three, t.1, u.1, w.1)
+    (three, t.1, u.1, w.1))))
 
 versions_again : (all base upto ack : ℕ) (rest : List ℕ) → base < 2 ^ 64 → upto < 2 ^ 64 → ack < 2 ^ 64
     → versions_at all ((to_be_bytes w64 base ++ (to_be_bytes w64 upto ++ to_be_bytes w64 ack)) ++ rest) ≡ Ok
@@ -111,20 +111,20 @@ fields_take : (all nodes : ℕ) (left : List ℕ) (m : MessageValue) → nodes �
 unfolding fields_at after_entries message_with
 fields_take all nodes left m few fits e =
     let after = after_entries all nodes left in
-    let a = bind_ok (magic_at all left) (λ form. node_at all nodes form.1 >>= λ from. other_node_at all nodes from.0
+    given (bind_ok (magic_at all left) (λ form. node_at all nodes form.1 >>= λ from. other_node_at all nodes from.0
     from.1 >>= λ to. versions_at all to.1 >>= λ versions. entries_at all nodes form.0 versions.1 >>= λ read. after
-    form.0 (from.0, to.0, versions.0) read) m e in
-    let b = bind_ok (node_at all nodes a.0.1) (λ from. other_node_at all nodes from.0 from.1 >>= λ to. versions_at all
+    form.0 (from.0, to.0, versions.0) read) m e) (λ a.
+    given (bind_ok (node_at all nodes a.0.1) (λ from. other_node_at all nodes from.0 from.1 >>= λ to. versions_at all
     to.1 >>= λ versions. entries_at all nodes a.0.0 versions.1 >>= λ read. after a.0.0 (from.0, to.0, versions.0)
-    read) m a.2 in
-    let d = bind_ok (other_node_at all nodes b.0.0 b.0.1) (λ to. versions_at all to.1 >>= λ versions. entries_at all
-    nodes a.0.0 versions.1 >>= λ read. after a.0.0 (b.0.0, to.0, versions.0) read) m b.2 in
-    let f = bind_ok (versions_at all d.0.1) (λ versions. entries_at all nodes a.0.0 versions.1 >>= λ read. after a.0.0
-    (b.0.0, d.0.0, versions.0) read) m d.2 in
-    let g = bind_ok (entries_at all nodes a.0.0 f.0.1) (λ read. after a.0.0 (b.0.0, d.0.0, f.0.0) read) m f.2 in
-    let i = bind_ok (wants (eqb (length g.0.1) 0) (faults.Long (offset all g.0.1)) g.0)
+    read) m a.2) (λ b.
+    given (bind_ok (other_node_at all nodes b.0.0 b.0.1) (λ to. versions_at all to.1 >>= λ versions. entries_at all
+    nodes a.0.0 versions.1 >>= λ read. after a.0.0 (b.0.0, to.0, versions.0) read) m b.2) (λ d.
+    given (bind_ok (versions_at all d.0.1) (λ versions. entries_at all nodes a.0.0 versions.1 >>= λ read. after a.0.0
+    (b.0.0, d.0.0, versions.0) read) m d.2) (λ f.
+    given (bind_ok (entries_at all nodes a.0.0 f.0.1) (λ read. after a.0.0 (b.0.0, d.0.0, f.0.0) read) m f.2) (λ g.
+    given (bind_ok (wants (eqb (length g.0.1) 0) (faults.Long (offset all g.0.1)) g.0)
     (λ entries. wants (is_form_of a.0.0 entries.0) (faults.NoGrant (offset all left))
-    (message_with all nodes left b.0.0 d.0.0 f.0.0 entries.0)) m g.2 in
+    (message_with all nodes left b.0.0 d.0.0 f.0.0 entries.0)) m g.2) (λ i.
     let l = wants_ok (eqb (length g.0.1) 0) (faults.Long (offset all g.0.1)) g.0 i.0 i.1 in
     let tells : wants (is_form_of a.0.0 g.0.0) (faults.NoGrant (offset all left))
     (message_with all nodes left b.0.0 d.0.0 f.0.0 g.0.0) ≡ Ok m =
@@ -158,7 +158,7 @@ fields_take all nodes left m few fits e =
       ack = x.3;
       entries = record { few = y.1; each = are_entries a.0.0 nodes g.0.0 y.2; ascend = y.3 };
     } in
-    subst (λ (n : MessageValue). IsMessage nodes n × (left ≡ message_bytes n)) h.1 (is_message, whole)
+    subst (λ (n : MessageValue). IsMessage nodes n × (left ≡ message_bytes n)) h.1 (is_message, whole)))))))
 
 fields_again : (all nodes : ℕ) (m : MessageValue) → IsMessage nodes m → fields_at all nodes (message_bytes m) ≡ Ok m
 unfolding fields_at
@@ -184,12 +184,12 @@ pub message_takes : (nodes : ℕ) (bytes : List ℕ) (m : MessageValue) → node
     message_at nodes bytes ≡ Ok m → SpellsMessage nodes bytes m
 unfolding message_at
 message_takes nodes bytes m few fits e =
-    let a = bind_ok (wants (leb (length bytes) max_message) (faults.TooBig max_message) bytes)
-    (λ held. fields_at (length bytes) nodes held) m e in
+    given (bind_ok (wants (leb (length bytes) max_message) (faults.TooBig max_message) bytes)
+    (λ held. fields_at (length bytes) nodes held) m e) (λ a.
     let g = wants_ok (leb (length bytes) max_message) (faults.TooBig max_message) bytes a.0 a.1 in
     let read : fields_at (length bytes) nodes bytes ≡ Ok m = ap (fields_at (length bytes) nodes) g.1 ∙ a.2 in
     let t = fields_take (length bytes) nodes bytes m few fits read in
-    (t.0, t.1, leb-true _ _ g.0)
+    (t.0, t.1, leb-true _ _ g.0))
 
 -- what is spelled so is read
 pub message_again : (nodes : ℕ) (bytes : List ℕ) (m : MessageValue) → SpellsMessage nodes bytes m →

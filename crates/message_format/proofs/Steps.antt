@@ -12,3 +12,7 @@ wants_ok false d x y e = absurd cc
 -- what holds of the value that a reader is known to give
 pub at_ok : {A : Type 0} (P : A → Type 0) (x y : A) → gives WireFault x ≡ gives WireFault y → P x → P y
 at_ok P x y e h = subst P (ok_is x y e) h
+
+-- what follows from a value, where its own term needn't be seen
+pub given : {A P : Type 0} → A → (A → P) → P
+given x follows = follows x

@@ -1,10 +1,11 @@
 //! Cells: what was counted of a name, each behind the node or the nodes that it is counted of.
 
-ghost use Rattle.std.specs.Prelude.{◌≡◌, is_some};
+ghost use Rattle.std.specs.Prelude.{◌≡◌, ◌∷◌, [], is_some, option_map};
 ghost use Rattle.stamp_register.specs.Keys.{key_value};
 ghost use Rattle.operations.specs.Operations.{count_of};
-ghost use Rattle.message_format.specs.Reading.{Gives, value_at, term_at, hit_at, exec_at, shift_at};
-ghost use Rattle.message_format.specs.Reading.{hits_at, execs_at, shifts_at, grants_at};
+ghost use Rattle.message_format.specs.Spelling.{hit_place, exec_place, shift_place};
+ghost use Rattle.message_format.specs.Reading.{Gives, is_above, value_at, term_at, hit_at, exec_at};
+ghost use Rattle.message_format.specs.Reading.{shift_at, hits_at, execs_at, shifts_at, grants_at};
 
 use crate::fault::WireFault;
 use crate::wire::{Form, Whole, read_byte, read_node, read_other_node, read_u16, read_u64};
@@ -47,6 +48,13 @@ fn read_term<'a>(whole: Whole, key: &Key, rest: &'a [u8]) -> Result<(u8, &'a [u8
     Ok((term, after))
 }
 
+/// Whether a node is above that of the last hits, if there are some.
+fn is_hit_above(last: Option<(u8, u64)>, node: u8) -> bool
+    ensures { result ≡ is_above (option_map hit_place last) (node ∷ []) }
+{
+    last.is_none_or(|(last_node, _)| last_node < node)
+}
+
 /// The hits of a node, which is above the last one's.
 #[tactic(auto, unfolding(crate::specs::Reading::hit_at))]
 fn read_hit(
@@ -57,15 +65,20 @@ fn read_hit(
     ensures { Gives (λ x. (x.0, x.1.now)) result (hit_at whole.len whole.nodes last rest.now) }
 {
     let (node, after) = read_node(whole, rest)?;
-    if let Some((last_node, _)) = last
-        && node <= last_node
-    {
+    if !is_hit_above(last, node) {
         return Err(WireFault::CellOrder {
             offset: whole.offset(rest),
         });
     }
     let (value, after) = read_value(whole, after)?;
     Ok(((node, value), after))
+}
+
+/// Whether a term and a node are above those of the last executions, if there are some.
+fn is_exec_above(last: Option<(u8, u8, u64)>, term: u8, node: u8) -> bool
+    ensures { result ≡ is_above (option_map exec_place last) (term ∷ node ∷ []) }
+{
+    last.is_none_or(|(last_term, last_node, _)| (last_term, last_node) < (term, node))
 }
 
 /// The executions of a term by a node, of which the term or the node is above the last ones.
@@ -81,15 +94,22 @@ fn read_exec<'a>(
 {
     let (term, after) = read_term(whole, key, rest)?;
     let (node, after) = read_node(whole, after)?;
-    if let Some((last_term, last_node, _)) = last
-        && (term, node) <= (last_term, last_node)
-    {
+    if !is_exec_above(last, term, node) {
         return Err(WireFault::CellOrder {
             offset: whole.offset(rest),
         });
     }
     let (value, after) = read_value(whole, after)?;
     Ok(((term, node, value), after))
+}
+
+/// Whether a term and two nodes are above those of the last shift, if there is one.
+fn is_shift_above(last: Option<(u8, u8, u8, u64)>, term: u8, from: u8, to: u8) -> bool
+    ensures { result ≡ is_above (option_map shift_place last) (term ∷ from ∷ to ∷ []) }
+{
+    last.is_none_or(|(last_term, last_from, last_to, _)| {
+        (last_term, last_from, last_to) < (term, from, to)
+    })
 }
 
 /// The rights of a term that a node moved to another one, of which the term, the first or the
@@ -107,9 +127,7 @@ fn read_shift<'a>(
     let (term, after) = read_term(whole, key, rest)?;
     let (from, after) = read_node(whole, after)?;
     let (to, after) = read_other_node(whole, from, after)?;
-    if let Some((last_term, last_from, last_to, _)) = last
-        && (term, from, to) <= (last_term, last_from, last_to)
-    {
+    if !is_shift_above(last, term, from, to) {
         return Err(WireFault::CellOrder {
             offset: whole.offset(rest),
         });

@@ -2,6 +2,7 @@
 use Rattle.std.proofs.Common.{◌≡◌, ℕ, ◌<◌, ◌≤◌, ◌+◌, zero, suc, arith, List, [], ◌∷◌, ◌++◌, length, length-append, take, map, refl, sym, ◌∙◌, ap, subst, Some, None}
 use Rattle.std.specs.Prelude.{slice_get, slice_index_or}
 use Rattle.std.proofs.lemmas.List.{length-map, map-append}
+use Rattle.std.proofs.lemmas.List.Elements.{All-push}
 use Rattle.node_calls.specs.Told.{Told, told}
 use Rattle.node_calls.specs.declared.trace.Entry.{Entry}
 use Rattle.packed_trace.specs.declared.row.Row.{Row}
@@ -29,6 +30,20 @@ kept_more rows more entries kept le is = λ k d low. one (slice_index_or kept k 
     one (slots.NoTermDrawn row word) h = omega (arith, le, h)
     one (slots.TermDrawn term row word) h = omega (arith, le, h)
     one (slots.Entry index) h = h
+
+-- what is kept with an entry more, which comes last
+pub kept_with_entry : (rows entries : ℕ) (kept : List Slot) → AreKept rows entries kept →
+    AreKept rows (entries + 1) (kept ++ slots.Entry entries ∷ [])
+kept_with_entry rows entries kept is =
+    All-push (IsKept rows (entries + 1)) kept (slots.Entry entries)
+    (λ k d low. one (slice_index_or kept k d) (is k d low)) (omega arith)
+  where
+    one : (slot : Slot) → IsKept rows entries slot → IsKept rows (entries + 1) slot
+    one (slots.NoTerm row) h = h
+    one (slots.Term term row) h = h
+    one (slots.NoTermDrawn row word) h = h
+    one (slots.TermDrawn term row word) h = h
+    one (slots.Entry index) h = omega (arith, h)
 
 -- functions that agree on what is kept
 map_kept : (rows entries : ℕ) (f g : Slot → Told) (kept : List Slot) → AreKept rows entries kept →

@@ -1,19 +1,21 @@
 //! The report as JSON.
 
-ghost use Rattle.std.specs.Prelude.{◌≡◌, ◌≢◌, ◌++◌, ◌∷◌, [], decimal, map, IfOk, OnOk, string_bytes};
+ghost use Rattle.std.specs.Prelude.{◌≡◌, ◌++◌, ◌∷◌, [], decimal, map, IfOk, OnOk, string_bytes};
+ghost use Rattle.std.specs.Prelude.{◌==◌, if◌then◌else◌, codes};
 ghost use Rattle.std.specs.Fmt.{signed_decimal};
-ghost use Rattle.serde_json.specs.Data.{string};
-ghost use Rattle.serde_json.specs.View.{view};
+ghost use Rattle.serde_json.specs.Data.{put, string};
+ghost use Rattle.serde_json.specs.View.{members_view, view};
 ghost use Rattle.stamp_register.specs.Keys.{body_value, key_value};
-ghost use Rattle.replica_state.specs.States.{granted_of, rights_of};
+ghost use Rattle.replica_state.specs.States.{rights_of};
 ghost use Rattle.report_text.specs.Report.{by_node, counted_row, keyed_row, term_rows};
 ghost use Rattle.report_text.specs.Json.{actions_data, hits_data, list_data, point_data};
 ghost use Rattle.report_text.specs.Json.{report_data, report_json_text, rights_data, term_data};
 
+use crate::members::{Members, with_member, with_number, with_stamp, with_text};
 use actions::{MAX_TERMS, Name};
 use operations::count_of;
 use replica_state::Replica;
-use serde_json::{Value, json};
+use serde_json::{Map, Value};
 use stamp_register::{Body, Key};
 use std::alloc::{AllocError, Global};
 
@@ -102,47 +104,16 @@ pub(crate) fn rights_value<R: Replica>(
     Ok(list_value(values))
 }
 
-/// A counted term of which nothing was granted.
-fn plain_term_value<R: Replica>(
-    alloc: Global,
-    replica: &R,
-    nodes: u8,
-    name: &Name,
-    term: u8,
-    count: u64,
-) -> Result<Value, AllocError>
-    requires { granted_of (R.state replica.now) name.now term ≡ 0 }
-    ensures { IfOk result (λ value. view value
-        ≡ term_data (counted_row (R.state replica.now) nodes name.now term count)) }
+/// Members with what was granted of a term, if anything was.
+fn with_granted(alloc: Global, members: Members, granted: u128) -> Result<Members, AllocError>
+    ensures { IfOk result (λ all. members_view all.entries
+        ≡ (if granted == 0 then members_view members.entries
+        else put (codes "granted") (string (decimal granted)) (members_view members.entries))) }
 {
-    json!(in alloc; {
-        "count": number_value(alloc, u128::from(count))?,
-        "rights": rights_value(alloc, replica, nodes, name, term)?,
-        "spent": number_value(alloc, replica.spent(name, term))?,
-        "term": number_value(alloc, u128::from(term))?
-    })
-}
-
-/// A counted term of which some was granted.
-fn granted_term_value<R: Replica>(
-    alloc: Global,
-    replica: &R,
-    nodes: u8,
-    name: &Name,
-    term: u8,
-    count: u64,
-) -> Result<Value, AllocError>
-    requires { granted_of (R.state replica.now) name.now term ≢ 0 }
-    ensures { IfOk result (λ value. view value
-        ≡ term_data (counted_row (R.state replica.now) nodes name.now term count)) }
-{
-    json!(in alloc; {
-        "count": number_value(alloc, u128::from(count))?,
-        "granted": number_value(alloc, replica.total_granted(name, term))?,
-        "rights": rights_value(alloc, replica, nodes, name, term)?,
-        "spent": number_value(alloc, replica.spent(name, term))?,
-        "term": number_value(alloc, u128::from(term))?
-    })
+    if granted == 0 {
+        return Ok(members);
+    }
+    with_number(alloc, members, "granted", granted)
 }
 
 /// A counted term.
@@ -157,11 +128,13 @@ fn term_value<R: Replica>(
     ensures { IfOk result (λ value. view value
         ≡ term_data (counted_row (R.state replica.now) nodes name.now term count)) }
 {
-    if replica.total_granted(name, term) == 0 {
-        plain_term_value(alloc, replica, nodes, name, term, count)
-    } else {
-        granted_term_value(alloc, replica, nodes, name, term, count)
-    }
+    let rights = rights_value(alloc, replica, nodes, name, term)?;
+    let members = with_number(alloc, Map::new(alloc), "term", u128::from(term))?;
+    let members = with_number(alloc, members, "spent", replica.spent(name, term))?;
+    let members = with_member(alloc, members, "rights", rights)?;
+    let members = with_granted(alloc, members, replica.total_granted(name, term))?;
+    let members = with_number(alloc, members, "count", u128::from(count))?;
+    Ok(Value::Object(members))
 }
 
 /// Each term that a key counts.
@@ -208,13 +181,15 @@ fn point_value<R: Replica>(
     ensures { IfOk result (λ value. view value ≡ point_data
         (keyed_row (R.state replica.now) nodes name.now (key_value key.now))) }
 {
-    json!(in alloc; {
-        "actions": actions_value(alloc, &key.body)?,
-        "hits": hits_value(alloc, replica, nodes, name)?,
-        "name": name.text(),
-        "stamp": format!(in alloc; "{}", key.stamp())?,
-        "terms": terms_value(alloc, replica, nodes, name, key)?
-    })
+    let terms = terms_value(alloc, replica, nodes, name, key)?;
+    let members = with_member(alloc, Map::new(alloc), "terms", terms)?;
+    let members = with_stamp(alloc, members, key)?;
+    let members = with_text(alloc, members, "name", name.text())?;
+    let hits = hits_value(alloc, replica, nodes, name)?;
+    let members = with_member(alloc, members, "hits", hits)?;
+    let actions = actions_value(alloc, &key.body)?;
+    let members = with_member(alloc, members, "actions", actions)?;
+    Ok(Value::Object(members))
 }
 
 /// Each point that has a key.

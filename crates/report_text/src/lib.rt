@@ -5,6 +5,7 @@
 mod json_report;
 pub mod laws;
 mod lines_report;
+mod members;
 mod node_json;
 
 pub use json_report::report_json;

@@ -11,10 +11,11 @@ ghost use Rattle.report_text.specs.Status.{keyed_budgets, node_data, points_data
 ghost use Rattle.report_text.specs.Status.{number_data, status_data, status_json_text};
 
 use crate::json_report::{list_value, number_value, push_value, rights_value};
+use crate::members::{with_member, with_number, with_stamp, with_text};
 use actions::{MAX_TERMS, Name};
 use operations::count_of;
 use replica_state::Replica;
-use serde_json::{Value, json};
+use serde_json::{Map, Value};
 use stamp_register::Key;
 use std::alloc::{AllocError, Global};
 
@@ -110,13 +111,15 @@ fn budget_value<R: Replica>(
     ensures { IfOk result (λ value. view value
         ≡ budget_data (budget_row (R.state replica.now) nodes name.now term count)) }
 {
-    json!(in alloc; {
-        "count": number_value(alloc, u128::from(count))?,
-        "granted": granted_value(alloc, replica, nodes, name, term)?,
-        "rights": rights_value(alloc, replica, nodes, name, term)?,
-        "spent": spent_value(alloc, replica, nodes, name, term)?,
-        "term": number_value(alloc, u128::from(term))?
-    })
+    let granted = granted_value(alloc, replica, nodes, name, term)?;
+    let members = with_member(alloc, Map::new(alloc), "granted", granted)?;
+    let rights = rights_value(alloc, replica, nodes, name, term)?;
+    let members = with_member(alloc, members, "rights", rights)?;
+    let spent = spent_value(alloc, replica, nodes, name, term)?;
+    let members = with_member(alloc, members, "spent", spent)?;
+    let members = with_number(alloc, members, "term", u128::from(term))?;
+    let members = with_number(alloc, members, "count", u128::from(count))?;
+    Ok(Value::Object(members))
 }
 
 /// Each term that a key counts.
@@ -153,11 +156,11 @@ fn point_value<R: Replica>(
     ensures { IfOk result (λ value. view value ≡ budgets_data
         (keyed_budgets (R.state replica.now) nodes name.now (key_value key.now))) }
 {
-    json!(in alloc; {
-        "name": name.text(),
-        "stamp": format!(in alloc; "{}", key.stamp())?,
-        "terms": budgets_value(alloc, replica, nodes, name, key)?
-    })
+    let terms = budgets_value(alloc, replica, nodes, name, key)?;
+    let members = with_member(alloc, Map::new(alloc), "terms", terms)?;
+    let members = with_stamp(alloc, members, key)?;
+    let members = with_text(alloc, members, "name", name.text())?;
+    Ok(Value::Object(members))
 }
 
 /// Each point that has a key.
@@ -177,23 +180,22 @@ fn points_value<R: Replica>(alloc: Global, replica: &R, nodes: u8) -> Result<Val
 fn node_value<R: Replica>(alloc: Global, replica: &R, head: NodeHead) -> Result<Value, AllocError>
     ensures { IfOk result (λ value. view value ≡ node_data head (R.state replica.now)) }
 {
-    json!(in alloc; {
-        "calls": number_value(alloc, u128::from(head.calls))?,
-        "cap": number_value(alloc, u128::from(head.cap))?,
-        "nodes": number_value(alloc, u128::from(head.nodes))?,
-        "number": number_value(alloc, u128::from(head.number))?,
-        "points": points_value(alloc, replica, head.nodes)?,
-        "version": VERSION
-    })
+    let points = points_value(alloc, replica, head.nodes)?;
+    let members = with_member(alloc, Map::new(alloc), "points", points)?;
+    let members = with_number(alloc, members, "calls", u128::from(head.calls))?;
+    let members = with_number(alloc, members, "cap", u128::from(head.cap))?;
+    let members = with_number(alloc, members, "nodes", u128::from(head.nodes))?;
+    let members = with_number(alloc, members, "number", u128::from(head.number))?;
+    let members = with_text(alloc, members, "version", VERSION)?;
+    Ok(Value::Object(members))
 }
 
 /// An object of what a node knows.
 fn status_value<R: Replica>(alloc: Global, replica: &R, head: NodeHead) -> Result<Value, AllocError>
     ensures { IfOk result (λ value. view value ≡ status_data head (R.state replica.now)) }
 {
-    json!(in alloc; {
-        "node": node_value(alloc, replica, head)?
-    })
+    let node = node_value(alloc, replica, head)?;
+    Ok(Value::Object(with_member(alloc, Map::new(alloc), "node", node)?))
 }
 
 /// The status of a node as JSON with no spaces: an object whose one member, `node`, is what the node

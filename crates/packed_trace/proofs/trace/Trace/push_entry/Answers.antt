@@ -1,9 +1,9 @@
-use Rattle.std.proofs.Common.{◌≡◌, ◌∙◌, ℕ, List, [], ◌∷◌, ◌++◌, length, map, ap, rules}
+use Rattle.std.proofs.Common.{◌≡◌, ◌∙◌, ℕ, List, [], ◌∷◌, ◌++◌, length, length-append, map, ap, rules}
 use Rattle.node_calls.specs.Told.{told}
 use Rattle.node_calls.specs.declared.trace.Entry.{Entry as AnEntry}
 use Rattle.packed_trace.specs.declared.trace.Slot.TheVariants.{Entry}
 use Rattle.packed_trace.specs.Packed.{Packed, row_told, told_by}
-use Rattle.packed_trace.proofs.Stays.{entry_comes}
+use Rattle.packed_trace.proofs.Stays.{entry_comes, kept_with_entry}
 use Rattle.packed_trace.proofs.trace.Trace.push_entry.Goals as goal
 
 pub returns-clause-calls : goal.returns-clause-calls
@@ -18,3 +18,18 @@ returns-clause-calls c =
     ap (map (told_by rows (map told (entries ++ c.args.entry ∷ [])))) put ∙
     entry_comes c.self.inside.rows.items entries c.args.entry slots c.self.invariant.0 ∙
     ap (λ (p : Packed). p.calls ++ told c.args.entry ∷ []) c.self.view_is
+
+pub returns-clause-rows : goal.returns-clause-rows
+returns-clause-rows c = ap (λ (p : Packed). p.rows) c.self.view_is
+
+pub invariant_of-self : goal.invariant_of-self
+invariant_of-self c =
+    let entries = c.self.inside.entries.items in
+    let slots = c.self.inside.slots.items in
+    let index : c.len-index.result ≡ length entries = search rules in
+    let put = c.push_reserved-2.ensures.items ∙ ap (λ (n : ℕ). slots ++ Entry n ∷ []) index in
+    let grown = ap (λ (es : List AnEntry). length es) c.push_reserved.ensures.items ∙
+    length-append entries (c.args.entry ∷ []) in (
+      rw (put, grown) (kept_with_entry (length c.self.inside.rows.items) (length entries) slots c.self.invariant.0),
+      c.self.invariant.1,
+    )
