@@ -6,59 +6,16 @@ use Rattle.node_calls.specs.declared.ask.Ask.TheVariants as asks
 use Rattle.node_calls.specs.declared.reply.Reply.{Reply}
 use Rattle.node_calls.specs.declared.reply.Reply.TheVariants as replies
 use Rattle.node_calls.specs.Asks as asked
-use Rattle.node_calls.specs.Asks.{Asked, Message, ask_value, ask_value_first, bare_emit, emit_asked, emit_of, message_read}
+use Rattle.node_calls.specs.Asks.{Asked, Message, ask_value_first, bare_emit}
 use Rattle.node_calls.specs.Told.{ask_told, bytes_of, reply_told}
 use Rattle.node_core.specs.Applied.{TellsIfEmit}
 use Rattle.node_core.specs.Traces.{Kept}
 use Rattle.gossip.specs.Carried.{bytes_told, delivery_told, emit_told}
 use Rattle.gossip.specs.Reports.{is_delivery, is_emit}
 
-bare : Asked → Asked
-bare (asked.Emit to versions chosen) = bare_emit to
-bare ask = ask
-
-bare_of_emit : (to : ℕ) (read : Result Message WireFault) → bare (emit_of to read) ≡ bare_emit to
-unfolding bare
-bare_of_emit to (Ok m) = refl
-bare_of_emit to (Err fault) = refl
-
-bare_of_reply : (nodes to : ℕ) (reply : Reply) → bare (emit_asked nodes to reply) ≡ bare_emit to
-unfolding bare
-bare_of_reply nodes to (replies.Emit bytes) = bare_of_emit to (message_read nodes bytes.items)
-bare_of_reply nodes to (replies.Set s) = refl
-bare_of_reply nodes to (replies.Remove s) = refl
-bare_of_reply nodes to (replies.Load n) = refl
-bare_of_reply nodes to (replies.Pass p) = refl
-bare_of_reply nodes to (replies.Shift n) = refl
-bare_of_reply nodes to (replies.Grant n) = refl
-bare_of_reply nodes to (replies.Deliver b) = refl
-
-first_is_bare : (nodes : ℕ) (ask : Ask) (reply : Reply) → ask_value_first nodes ask ≡ bare (ask_value nodes ask reply)
-unfolding bare
-first_is_bare nodes (asks.Emit to) reply = sym (bare_of_reply nodes to reply)
-first_is_bare nodes (asks.Set name text) reply = refl
-first_is_bare nodes (asks.Remove name) reply = refl
-first_is_bare nodes (asks.Load text) reply = refl
-first_is_bare nodes (asks.Pass name) reply = refl
-first_is_bare nodes (asks.Shift name term to amount) reply = refl
-first_is_bare nodes (asks.Grant name term amount) reply = refl
-first_is_bare nodes (asks.Deliver message) reply = refl
-
--- what was asked first, of an emit, a delivery and a shift
-pub first_of_emit : (nodes to : ℕ) (ask : Ask) (reply : Reply) → ask_value nodes ask reply ≡ emit_asked nodes to reply →
-    ask_value_first nodes ask ≡ bare_emit to
-first_of_emit nodes to ask reply e = first_is_bare nodes ask reply ∙ ap bare e ∙ bare_of_reply nodes to reply
-
-pub first_of_delivery : (nodes : ℕ) (read : Result Message WireFault) (ask : Ask) (reply : Reply) →
-    ask_value nodes ask reply ≡ asked.Deliver read → ask_value_first nodes ask ≡ asked.Deliver read
-unfolding bare
-first_of_delivery nodes read ask reply e = first_is_bare nodes ask reply ∙ ap bare e
-
-pub first_of_shift : (nodes : ℕ) (name : List ℕ) (term to amount : ℕ) (ask : Ask) (reply : Reply) →
-    ask_value nodes ask reply ≡ asked.Shift name term to amount →
-    ask_value_first nodes ask ≡ asked.Shift name term to amount
-unfolding bare
-first_of_shift nodes name term to amount ask reply e = first_is_bare nodes ask reply ∙ ap bare e
+-- the same asks ask the same
+pub asked_as : (nodes : ℕ) {ask other : Ask} → ask ≡ other → ask_value_first nodes ask ≡ ask_value_first nodes other
+asked_as nodes e = ap (ask_value_first nodes) e
 
 to_of : Asked → ℕ
 to_of (asked.Emit to versions chosen) = to

@@ -87,7 +87,7 @@ looks_nobody config seed since says seat now report = record {
   tos = [];
   missed = [];
   looked = nobody;
-  adds = adds_none _ _ _ _ _ _ _ refl refl refl refl refl;
+  adds = adds_none _ _ _ _ _ _ _ refl refl refl refl refl refl refl;
   moves = moves_nothing refl refl refl refl;
   tried = omega arith;
   few = omega arith;
@@ -103,7 +103,7 @@ looks_away {config = config} {seed = seed} {since = since} {says = says} p after
   tos = [];
   missed = [];
   looked = subst (λ q. AreLooked config seed since says (p ∷ []) (q ∷ []) [] []) (sym is) (left_alone seen due nobody);
-  adds = adds_none _ _ _ _ _ _ _ refl refl refl refl refl;
+  adds = adds_none _ _ _ _ _ _ _ refl refl refl refl refl refl refl;
   moves = moves_nothing refl refl refl refl;
   tried = omega arith;
   few = omega arith;
@@ -119,7 +119,7 @@ looks_unreached {config = config} {seed = seed} {since = since} {says = says} p 
   tos = [];
   missed = [];
   looked = subst (λ q. AreLooked config seed since says (p ∷ []) (q ∷ []) [] []) (sym is) (not_reached seen due away nobody);
-  adds = adds_none _ _ _ _ _ _ _ refl refl refl refl refl;
+  adds = adds_none _ _ _ _ _ _ _ refl refl refl refl refl refl refl;
   moves = moves_nothing same refl refl refl;
   tried = omega arith;
   few = omega arith;
@@ -412,6 +412,7 @@ pub told_by_looks : {config : Config} {seed : List ℕ} {since : ℕ} {says : �
     Adds config seed between seat_now middle new [] →
     IsTold config seed seat_was seat_now new
 told_by_looks empty p adds = told_of (adds_then p.adds adds) empty.receipts empty.emitted empty.delivered
+    empty.refused empty.noted
 
 -- memory was refused at a peer
 pub news_broken : {config : Config} {seed : List ℕ} {since : ℕ} {says : ℕ → Bool → Type 0} {seat_was seat_now : ℕ}

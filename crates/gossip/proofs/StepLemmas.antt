@@ -7,15 +7,18 @@ use Rattle.std.proofs.lemmas.List.Sums.{sum_by-append}
 use Rattle.node_steps.specs.declared.config.Config.{Config}
 use Rattle.node_calls.specs.declared.receipt.Receipt.{Receipt}
 use Rattle.message_format.specs.declared.fault.WireFault.{WireFault}
-use Rattle.node_calls.specs.Asks.{Asked, Message, Shift, Deliver, ask_value, bare_emit, emit_asked}
+use Rattle.node_calls.specs.Asks.{Asked, Message, Shift, Deliver, ask_value_first, bare_emit, message_read}
 use Rattle.node_registry.specs.Receipts.{AreGivenSince, IsGiven}
+use Rattle.node_registry.specs.Refusals.{Refusal}
+use Rattle.node_calls.specs.declared.ask.Ask.{Ask}
+use Rattle.node_calls.specs.declared.fault.NodeFault.{NodeFault}
 use Rattle.node_registry.proofs.SeatReceipts.{given_on}
 use Rattle.gossip.specs.declared.report.GossipReport.{GossipReport}
 use Rattle.gossip.specs.Parts.{IsPartOf}
-use Rattle.gossip.specs.Reports.{IsTold, asked_in, asks_in, is_delivery, is_emit, own_asks_in}
+use Rattle.gossip.specs.Reports.{IsTold, asked_in, asks_in, is_delivery, is_emit, own_asks_in, own_refused_in}
+use Rattle.gossip.specs.Refused.{is_counted, refused_of}
 use Rattle.gossip.specs.Steps.{Adds}
 use Rattle.gossip.specs.Parts as parts
-use Rattle.gossip.proofs.AskLemmas.{first_of_delivery, first_of_emit, first_of_shift}
 use Rattle.gossip.proofs.PartLemmas.{nothing_of, joined_parts, part_of_more}
 use Rattle.gossip.proofs.RangeLemmas.{but, but_rest, but_another, but_itself, over_more, over_rest}
 
@@ -36,12 +39,19 @@ counts_both : (config : Config) (p : Asked → Bool) (xs ys : List Receipt) →
 counts_both config p xs ys = ap (count_by p) (map-append (asked_in config) xs ys) ∙
     count_both p (asks_in config xs) (asks_in config ys)
 
+own_refused_both : (config : Config) (xs ys : List Refusal) → own_refused_in config (xs ++ ys) ≡
+    own_refused_in config xs ++ own_refused_in config ys
+own_refused_both config xs ys =
+    ap (filter (λ ask. not (is_delivery ask))) (map-append (λ r. ask_value_first config.nodes r.0) xs ys)
+    ∙ filter-append (λ ask. not (is_delivery ask)) (map (λ r. ask_value_first config.nodes r.0) xs)
+        (map (λ r. ask_value_first config.nodes r.0) ys)
+
 -- no call
 pub adds_none : (config : Config) (seed : List ℕ) (was now : ℕ) (old new : GossipReport) (wanted : List Asked)
     → now ≡ was → new.receipts.items ≡ old.receipts.items → new.emitted ≡ old.emitted → new.delivered ≡ old.delivered →
-    new.ended ≡ old.ended
+    new.ended ≡ old.ended → new.refused ≡ old.refused → new.noted ≡ old.noted
     → Adds config seed was now old new wanted
-adds_none config seed was now old new wanted counted receipts emitted delivered ended = record {
+adds_none config seed was now old new wanted counted receipts emitted delivered ended refused noted = record {
   more = [];
   receipts = receipts ∙ sym (append-nil old.receipts.items);
   counted = omega arith;
@@ -49,8 +59,36 @@ adds_none config seed was now old new wanted counted receipts emitted delivered 
   emitted = omega arith;
   delivered = omega arith;
   part = nothing_of wanted;
+  noted = [];
+  refusals = noted ∙ sym (append-nil old.noted);
+  refused = omega (arith, refused);
+  refused_part = nothing_of wanted;
   ended = ended;
 }
+
+-- a call that was refused
+pub adds_refused : (config : Config) (seed : List ℕ) (was now : ℕ) (old new : GossipReport) (ask : Ask)
+    (fault : NodeFault) (wanted : List Asked)
+    → now ≡ was → new.receipts.items ≡ old.receipts.items → new.emitted ≡ old.emitted → new.delivered ≡ old.delivered →
+    new.ended ≡ old.ended
+    → new.refused ≡ old.refused + cond (is_counted fault) 1 0 → new.noted ≡ old.noted ++ (ask, fault) ∷ []
+    → IsPartOf (filter (λ a. not (is_delivery a)) (ask_value_first config.nodes ask ∷ [])) wanted
+    → Adds config seed was now old new wanted
+adds_refused config seed was now old new ask fault wanted counted receipts emitted delivered ended refused noted part =
+    record {
+      more = [];
+      receipts = receipts ∙ sym (append-nil old.receipts.items);
+      counted = omega arith;
+      given = tt;
+      emitted = omega arith;
+      delivered = omega arith;
+      part = nothing_of wanted;
+      noted = (ask, fault) ∷ [];
+      refusals = noted;
+      refused = omega (arith, refused, count_one {X = Refusal} (λ r. is_counted r.1) (ask, fault));
+      refused_part = part;
+      ended = ended;
+    }
 
 -- one call
 pub adds_one : (config : Config) (seed : List ℕ) (was now : ℕ) (old new : GossipReport) (r : Receipt) (ask : Asked)
@@ -60,9 +98,10 @@ pub adds_one : (config : Config) (seed : List ℕ) (was now : ℕ) (old new : Go
     → new.emitted ≡ old.emitted + cond (is_emit ask) 1 0
     → new.delivered ≡ old.delivered + cond (is_delivery ask) 1 0
     → IsPartOf (filter (λ a. not (is_delivery a)) (ask ∷ [])) wanted
-    → new.ended ≡ old.ended
+    → new.ended ≡ old.ended → new.refused ≡ old.refused → new.noted ≡ old.noted
     → Adds config seed was now old new wanted
-adds_one config seed was now old new r ask wanted asks given since counted receipts emitted delivered part ended =
+adds_one config seed was now old new r ask wanted asks given since counted receipts emitted delivered part ended refused
+    noted =
     record {
       more = r ∷ [];
       receipts = receipts;
@@ -73,46 +112,53 @@ adds_one config seed was now old new r ask wanted asks given since counted recei
       delivered = delivered ∙ ap (λ a. old.delivered + a) (sym (count_one is_delivery ask) ∙
           ap (λ a. count_by is_delivery (a ∷ [])) (sym asks));
       part = subst (λ a. IsPartOf (filter (λ a. not (is_delivery a)) (a ∷ [])) wanted) (sym asks) part;
+      noted = [];
+      refusals = noted ∙ sym (append-nil old.noted);
+      refused = omega (arith, refused);
+      refused_part = nothing_of wanted;
       ended = ended;
     }
 
 -- an emit, a delivery and a shift
 pub adds_emit : (config : Config) (seed : List ℕ) (was now to : ℕ) (old new : GossipReport) (between : List Receipt)
     (r : Receipt)
-    → ask_value config.nodes r.entry.ask r.entry.reply ≡ emit_asked config.nodes to r.entry.reply
+    → asked_in config r ≡ bare_emit to
     → IsGiven config seed r → was ≤ r.index → now ≡ was + 1
     → between ≡ old.receipts.items → new.receipts.items ≡ between ++ r ∷ []
     → new.emitted ≡ old.emitted + 1 → new.delivered ≡ old.delivered → new.ended ≡ old.ended
+    → new.refused ≡ old.refused → new.noted ≡ old.noted
     → Adds config seed was now old new (bare_emit to ∷ [])
-adds_emit config seed was now to old new between r asked given since counted kept more emitted delivered ended =
-    adds_one config seed was now old new r (bare_emit to) (bare_emit to ∷ [])
-    (first_of_emit config.nodes to r.entry.ask r.entry.reply asked)
-    given since counted (more ∙ ap (λ l. l ++ r ∷ []) kept) emitted (omega arith) (parts.kept parts.none) ended
+adds_emit config seed was now to old new between r asked given since counted kept more emitted delivered ended refused
+    noted =
+    adds_one config seed was now old new r (bare_emit to) (bare_emit to ∷ []) asked
+    given since counted (more ∙ ap (λ l. l ++ r ∷ []) kept) emitted (omega arith) (parts.kept parts.none) ended refused
+    noted
 
 pub adds_delivery : (config : Config) (seed : List ℕ) (was now : ℕ) (read : Result Message WireFault)
     (old new : GossipReport) (r : Receipt)
-    → ask_value config.nodes r.entry.ask r.entry.reply ≡ Deliver read
+    → asked_in config r ≡ Deliver read
     → IsGiven config seed r → was ≤ r.index → now ≡ was + 1
     → new.receipts.items ≡ old.receipts.items ++ r ∷ []
     → new.emitted ≡ old.emitted → new.delivered ≡ old.delivered + 1 → new.ended ≡ old.ended
+    → new.refused ≡ old.refused → new.noted ≡ old.noted
     → Adds config seed was now old new []
-adds_delivery config seed was now read old new r asked given since counted more emitted delivered ended =
-    adds_one config seed was now old new r (Deliver read) []
-    (first_of_delivery config.nodes read r.entry.ask r.entry.reply asked)
-    given since counted more (omega arith) delivered parts.none ended
+adds_delivery config seed was now read old new r asked given since counted more emitted delivered ended refused noted =
+    adds_one config seed was now old new r (Deliver read) [] asked
+    given since counted more (omega arith) delivered parts.none ended refused noted
 
 pub adds_shift : (config : Config) (seed : List ℕ) (was now : ℕ) (name : List ℕ) (term to amount : ℕ)
     (old new : GossipReport) (between : List Receipt) (r : Receipt)
-    → ask_value config.nodes r.entry.ask r.entry.reply ≡ Shift name term to amount
+    → asked_in config r ≡ Shift name term to amount
     → IsGiven config seed r → was ≤ r.index → now ≡ was + 1
     → between ≡ old.receipts.items → new.receipts.items ≡ between ++ r ∷ []
     → new.emitted ≡ old.emitted → new.delivered ≡ old.delivered → new.ended ≡ old.ended
+    → new.refused ≡ old.refused → new.noted ≡ old.noted
     → Adds config seed was now old new (Shift name term to amount ∷ [])
 adds_shift config seed was now name term to amount old new between r asked given since counted kept more emitted
-    delivered ended =
-    adds_one config seed was now old new r (Shift name term to amount) (Shift name term to amount ∷ [])
-    (first_of_shift config.nodes name term to amount r.entry.ask r.entry.reply asked)
+    delivered ended refused noted =
+    adds_one config seed was now old new r (Shift name term to amount) (Shift name term to amount ∷ []) asked
     given since counted (more ∙ ap (λ l. l ++ r ∷ []) kept) (omega arith) (omega arith) (parts.kept parts.none) ended
+    refused noted
 
 -- calls, and then more
 pub adds_then : {config : Config} {seed : List ℕ} {was between now : ℕ} {old middle new : GossipReport}
@@ -130,6 +176,16 @@ adds_then {config = config} {seed = seed} {was = was} {between = between} {now =
       delivered = omega (arith, p.delivered, q.delivered, counts_both config is_delivery p.more q.more);
       part = subst (λ l. IsPartOf l (first ++ second)) (sym (own_both config p.more q.more))
           (joined_parts p.part q.part);
+      noted = p.noted ++ q.noted;
+      refusals = q.refusals ∙ ap (λ l. l ++ q.noted) p.refusals ∙ append_assoc old.noted p.noted q.noted;
+      refused = omega (
+        arith,
+        p.refused,
+        q.refused,
+        count_both {X = Refusal} (λ r. is_counted r.1) p.noted q.noted,
+      );
+      refused_part = subst (λ l. IsPartOf l (first ++ second)) (sym (own_refused_both config p.noted q.noted))
+          (joined_parts p.refused_part q.refused_part);
       ended = q.ended ∙ p.ended;
     }
 
@@ -144,6 +200,10 @@ adds_of_more p rest = record {
   emitted = p.emitted;
   delivered = p.delivered;
   part = part_of_more p.part rest;
+  noted = p.noted;
+  refusals = p.refusals;
+  refused = p.refused;
+  refused_part = part_of_more p.refused_part rest;
   ended = p.ended;
 }
 
@@ -155,14 +215,16 @@ adds_as {config = config} {seed = seed} {was = was} {now = now} {old = old} {new
 -- a report of all calls
 pub told_of : {config : Config} {seed : List ℕ} {was now : ℕ} {old new : GossipReport} {wanted : List Asked}
     → Adds config seed was now old new wanted → old.receipts.items ≡ [] → old.emitted ≡ 0 → old.delivered ≡ 0 →
-    IsTold config seed was now new
-told_of {config = config} {seed = seed} {was = was} {now = now} {new = new} p empty none none_too =
+    old.refused ≡ 0 → old.noted ≡ []
+    → IsTold config seed was now new
+told_of {config = config} {seed = seed} {was = was} {now = now} {new = new} p empty none none_too unrefused unnoted =
     let e : new.receipts.items ≡ p.more = p.receipts ∙ ap (λ l. l ++ p.more) empty in
     record {
       counted = p.counted ∙ ap (λ l. was + length l) (sym e);
       given = subst (λ l. AreGivenSince config seed was l) (sym e) p.given;
       emitted = omega (arith, p.emitted, none, ap (λ l. count_by is_emit (asks_in config l)) e);
       delivered = omega (arith, p.delivered, none_too, ap (λ l. count_by is_delivery (asks_in config l)) e);
+      refused = omega (arith, p.refused, unrefused, ap refused_of (p.refusals ∙ ap (λ l. l ++ p.noted) unnoted));
     }
 
 pub part_of_all : {config : Config} {seed : List ℕ} {was now : ℕ} {old new : GossipReport} {wanted : List Asked}

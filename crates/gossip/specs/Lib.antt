@@ -4,6 +4,7 @@ pub mod NewsRounds
 pub mod FaultText
 pub mod Mailboxes
 pub mod Parts
+pub mod Refused
 pub mod Reports
 pub mod Spreads
 pub mod Steps

@@ -19,6 +19,7 @@ pub record IsEmpty (r : GossipReport) : Type 0 where
   pub delivered : r.delivered ≡ 0
   pub lost : r.lost ≡ 0
   pub refused : r.refused ≡ 0
+  pub noted : r.noted ≡ []
 
 -- these peers were looked at, and what was told them is in the report
 pub record Looks (config : Config) (seed : List ℕ) (since : ℕ) (says : ℕ → Bool → Type 0) (seat_was seat_now : ℕ)

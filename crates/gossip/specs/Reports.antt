@@ -6,7 +6,9 @@ use Rattle.node_calls.specs.declared.receipt.Receipt.{Receipt}
 use Rattle.node_calls.specs.Asks as asks
 use Rattle.node_calls.specs.Asks.{Asked, ask_value_first, bare_emit}
 use Rattle.node_registry.specs.Receipts.{AreGivenSince}
+use Rattle.node_registry.specs.Refusals.{Refusal}
 use Rattle.gossip.specs.declared.report.GossipReport.{GossipReport}
+use Rattle.gossip.specs.Refused.{refused_of}
 
 -- what receipts say was asked, of an emit only to whom
 abbrev pub asked_in : Config → Receipt → Asked
@@ -27,14 +29,21 @@ is_delivery _ = false
 abbrev pub own_asks_in : Config → List Receipt → List Asked
 own_asks_in config receipts = filter (λ ask. not (is_delivery ask)) (asks_in config receipts)
 
+-- what these refusals were asked, of an emit only to whom
+abbrev pub refused_asks_in : Config → List Refusal → List Asked
+refused_asks_in config refusals = map (λ refusal. ask_value_first config.nodes refusal.0) refusals
+
+abbrev pub own_refused_in : Config → List Refusal → List Asked
+own_refused_in config refusals = filter (λ ask. not (is_delivery ask)) (refused_asks_in config refusals)
+
 -- a seat that had made so many calls has made as many more as the report has receipts, which the node gave it since;
--- the
--- report counts the messages that they made and took in
+-- the report counts the messages that they made and took in, and the calls that the registry noted as refused
 pub record IsTold (config : Config) (seed : List ℕ) (was now : ℕ) (r : GossipReport) : Type 0 where
   pub counted : now ≡ was + length r.receipts.items
   pub given : AreGivenSince config seed was r.receipts.items
   pub emitted : r.emitted ≡ count_by is_emit (asks_in config r.receipts.items)
   pub delivered : r.delivered ≡ count_by is_delivery (asks_in config r.receipts.items)
+  pub refused : r.refused ≡ refused_of r.noted
 
 -- messages that were made or refused, and all calls
 abbrev pub tried_of : GossipReport → ℕ

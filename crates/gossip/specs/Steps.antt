@@ -4,14 +4,16 @@ use Rattle.node_steps.specs.declared.config.Config.{Config}
 use Rattle.node_calls.specs.declared.receipt.Receipt.{Receipt}
 use Rattle.node_calls.specs.Asks.{Asked}
 use Rattle.node_registry.specs.Receipts.{AreGivenSince}
+use Rattle.node_registry.specs.Refusals.{Refusal}
 use Rattle.gossip.specs.declared.report.GossipReport.{GossipReport}
 use Rattle.gossip.specs.Carried.{Begins, Carries}
 use Rattle.gossip.specs.Parts.{IsPartOf}
-use Rattle.gossip.specs.Reports.{asks_in, is_delivery, is_emit, own_asks_in}
+use Rattle.gossip.specs.Reports.{asks_in, is_delivery, is_emit, own_asks_in, own_refused_in}
+use Rattle.gossip.specs.Refused.{refused_of}
 use Rattle.gossip.specs.Traffic.{Traffic}
 
 -- calls of a seat that had made so many add their receipts, of which those that took in no message ask some
--- of these, in order
+-- of these, in order; and so do the refusals that were noted
 pub record Adds (config : Config) (seed : List ℕ) (was now : ℕ) (old new : GossipReport) (wanted : List Asked) :
     Type 0 where
   pub more : List Receipt
@@ -21,6 +23,10 @@ pub record Adds (config : Config) (seed : List ℕ) (was now : ℕ) (old new : G
   pub emitted : new.emitted ≡ old.emitted + count_by is_emit (asks_in config more)
   pub delivered : new.delivered ≡ old.delivered + count_by is_delivery (asks_in config more)
   pub part : IsPartOf (own_asks_in config more) wanted
+  pub noted : List Refusal
+  pub refusals : new.noted ≡ old.noted ++ noted
+  pub refused : new.refused ≡ old.refused + refused_of noted
+  pub refused_part : IsPartOf (own_refused_in config noted) wanted
   pub ended : new.ended ≡ old.ended
 
 -- between two states of a wire's traffic messages to these nodes were made, and others taken, of which these were left.

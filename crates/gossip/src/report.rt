@@ -2,8 +2,10 @@
 
 ghost use Rattle.std.specs.Prelude.{◌≡◌, ◌+◌, ◌<◌, ◌≤◌, ◌^◌, ◌++◌, ◌∷◌, [], ◌↔◌, cond, vec_len};
 ghost use Rattle.std.specs.Prelude.{vec_capacity, OnOk, OnErr, IsErr};
+ghost use Rattle.gossip.specs.Refused.{is_counted};
 
 use node_core::{NodeFault, Receipt};
+use node_registry::Refusals;
 use std::alloc::{AllocError, Global};
 
 /// How a call ended.
@@ -28,6 +30,9 @@ pub struct GossipReport {
     pub refused: u64,
     /// The receipts of the accepted calls, in the order of the calls.
     pub receipts: Vec<Receipt>,
+    /// What was asked in each call that the node refused, and why, in the order of the calls: contracts
+    /// alone read it, and it takes no memory.
+    pub noted: Refusals,
     pub ended: Ended,
     ghost few_lost: { lost ≤ emitted },
 }
@@ -41,6 +46,7 @@ impl GossipReport {
         ensures receipts { result.receipts.items ≡ [] }
         ensures ended { result.ended ≡ Ended.Done }
         ensures lost { result.lost ≡ 0 }
+        ensures noted { result.noted ≡ [] }
     {
         GossipReport {
             emitted: 0,
@@ -48,6 +54,7 @@ impl GossipReport {
             delivered: 0,
             refused: 0,
             receipts: Vec::new(alloc),
+            noted: Refusals::new(),
             ended: Ended::Done,
         }
     }
@@ -61,6 +68,7 @@ impl GossipReport {
         ensures lost { self.new.lost ≡ self.old.lost + cond is_lost 1 0 }
         ensures delivered { self.new.delivered ≡ self.old.delivered }
         ensures refused { self.new.refused ≡ self.old.refused }
+        ensures noted { self.new.noted ≡ self.old.noted }
         ensures ended { self.new.ended ≡ self.old.ended }
     {
         self.emitted += 1;
@@ -79,6 +87,7 @@ impl GossipReport {
         ensures lost { self.new.lost ≡ self.old.lost }
         ensures delivered { self.new.delivered ≡ self.old.delivered + 1 }
         ensures refused { self.new.refused ≡ self.old.refused }
+        ensures noted { self.new.noted ≡ self.old.noted }
         ensures ended { self.new.ended ≡ self.old.ended }
     {
         self.delivered += 1;
@@ -95,6 +104,8 @@ impl GossipReport {
         ensures delivered { self.new.delivered ≡ self.old.delivered }
         ensures ok { OnOk result (self.new.refused ≡ self.old.refused + 1) }
         ensures err { OnErr result (self.new.refused ≡ self.old.refused) }
+        ensures counted { self.new.refused ≡ self.old.refused + cond (is_counted fault) 1 0 }
+        ensures noted { self.new.noted ≡ self.old.noted }
         ensures ended { self.new.ended ≡ self.old.ended }
     {
         if fault == NodeFault::OutOfMemory {

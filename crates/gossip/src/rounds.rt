@@ -15,7 +15,7 @@ ghost use Rattle.gossip.specs.Traffic.{Traffic, sends, takes};
 use crate::caller::Caller;
 use crate::report::{Ended, GossipReport};
 use crate::wire::{Wire, WireError};
-use node_core::{Config, Receipt, Reply};
+use node_core::{Ask, Config, Receipt, Reply};
 use node_registry::{Label, Registry, Seat};
 use std::alloc::{AllocError, Global};
 use std::sync::Wait;
@@ -168,7 +168,7 @@ pub(crate) fn tell_one<L: Label, W: Wire, R: Wait>(
         (W.traffic wire.new) report.old report.new (to ∷ [])) }
 {
     report.receipts.reserve(1)?;
-    match caller.registry.emit(caller.rt, caller.alloc, seat, to) {
+    match caller.enter(seat, Ask::Emit { to }, &mut report.noted) {
         Ok(receipt) => {
             let sent = send(caller, wire, to, &receipt);
             report.record_emit(receipt, sent.is_err());
@@ -248,7 +248,7 @@ fn hear_one<L: Label, W: Wire, R: Wait>(
     report.receipts.reserve(1)?;
     match wire.take(caller.rt, caller.alloc) {
         Ok(Some(message)) => {
-            take_in(caller, seat, &message, report)?;
+            take_in(caller, seat, message, report)?;
             Ok(true)
         }
         Ok(None) => Ok(false),
@@ -261,7 +261,7 @@ fn hear_one<L: Label, W: Wire, R: Wait>(
 fn take_in<L: Label, R: Wait>(
     caller: &Caller<'_, L, R>,
     seat: &mut Seat<L>,
-    message: &[u8],
+    message: Vec<u8>,
     report: &mut GossipReport,
 ) -> Result<(), AllocError>
     requires room { vec_len report.old.receipts < vec_capacity report.old.receipts }
@@ -270,14 +270,11 @@ fn take_in<L: Label, R: Wait>(
     ensures tried { tried_of report.old ≤ tried_of report.new }
     ensures few { calls_of report.new ≤ calls_of report.old + 1 }
     ensures moves { (was : Traffic) → OnOk result (Moves L.config L.seed
-        was (takes (Some message.now) was) report.old report.new [] []) }
+        was (takes (Some message.items) was) report.old report.new [] []) }
     ensures stops { (was : Traffic) → OnErr result (Stops L.config L.seed
-        was (takes (Some message.now) was) report.old report.new []) }
+        was (takes (Some message.items) was) report.old report.new []) }
 {
-    match caller
-        .registry
-        .deliver(caller.rt, caller.alloc, seat, message)
-    {
+    match caller.enter(seat, Ask::Deliver { message }, &mut report.noted) {
         Ok(receipt) => {
             report.record_delivery(receipt);
             Ok(())

@@ -10,7 +10,7 @@ ghost use Rattle.gossip.specs.Steps.{Adds};
 use crate::caller::Caller;
 use crate::report::{Ended, GossipReport};
 use actions::{MAX_TERMS, Name, NameFault};
-use node_core::{Config, NodeCore};
+use node_core::{Ask, Config, NodeCore};
 use node_registry::{Label, Registry, Seat};
 use std::alloc::{AllocError, Global};
 use std::sync::Wait;
@@ -163,10 +163,13 @@ fn shift_one<L: Label, R: Wait>(
     ensures few { report.new.refused ≤ report.old.refused + 1 }
 {
     report.receipts.reserve(1)?;
-    match caller
-        .registry
-        .shift(caller.rt, caller.alloc, seat, name, term, to, amount)
-    {
+    let ask = Ask::Shift {
+        name: String::from_str(caller.alloc, name)?,
+        term,
+        to,
+        amount,
+    };
+    match caller.enter(seat, ask, &mut report.noted) {
         Ok(receipt) => {
             report.receipts.push_reserved(receipt);
             Ok(())

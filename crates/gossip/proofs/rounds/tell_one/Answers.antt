@@ -1,28 +1,29 @@
 use Rattle.std.proofs.Common.{◌≡◌, ℕ, ◌+◌, ◌∷◌, [], cond, false, ap, ◌∙◌, refl, arith}
 use Rattle.std.specs.Result.{is_err}
-use Rattle.gossip.proofs.AskLemmas.{emit_brings_none, emit_carries, first_of_emit}
-use Rattle.gossip.proofs.StepLemmas.{adds_emit, adds_none}
+use Rattle.gossip.specs.Parts as parts
+use Rattle.gossip.proofs.AskLemmas.{asked_as, emit_brings_none, emit_carries}
+use Rattle.gossip.proofs.StepLemmas.{adds_emit, adds_none, adds_refused}
 use Rattle.gossip.proofs.CarryLemmas.{emit_refused, err_at, moves_lost, moves_nothing, moves_sent, ok_at, on_err, stops_at_end, stops_at_once}
 use Rattle.gossip.proofs.rounds.tell_one.Goals as goal
 
 pub returns-in_err-reserve-clause-adds : goal.returns-in_err-reserve-clause-adds
-returns-in_err-reserve-clause-adds g c = adds_none _ _ _ _ _ _ _ refl c.reserve.ensures.items refl refl refl
+returns-in_err-reserve-clause-adds g c = adds_none _ _ _ _ _ _ _ refl c.reserve.ensures.items refl refl refl refl refl
 
 pub returns-in-Err-OutOfMemory-clause-adds : goal.returns-in-Err-OutOfMemory-clause-adds
 returns-in-Err-OutOfMemory-clause-adds g c =
     let told = c.in-Ok.ensures in
     let done = c.record_emit.ensures in
-    adds_emit _ _ _ _ _ _ _ _ c.in-Ok.receipt told.receipt.1 told.given told.since told.counted
-    c.reserve.ensures.items done.receipts done.emitted done.delivered done.ended
+    adds_emit _ _ _ _ _ _ _ _ c.in-Ok.receipt (asked_as g.L.Label.config.nodes told.asked) told.given told.since told.counted
+    c.reserve.ensures.items done.receipts done.emitted done.delivered done.ended done.refused (done.noted ∙ told.unnoted)
 
 pub returns-in-Err-sent : goal.returns-in-Err-sent
 returns-in-Err-sent g c =
     let told = c.in-Ok.ensures in
     let done = c.record_emit.ensures in
-    let first = first_of_emit _ _ _ _ told.receipt.1 in
+    let first = asked_as g.L.Label.config.nodes told.asked in
     record {
-      adds = adds_emit _ _ _ _ _ _ _ _ c.in-Ok.receipt told.receipt.1 told.given told.since told.counted
-          c.reserve.ensures.items done.receipts done.emitted done.delivered done.ended;
+      adds = adds_emit _ _ _ _ _ _ _ _ c.in-Ok.receipt (asked_as g.L.Label.config.nodes told.asked) told.given told.since told.counted
+          c.reserve.ensures.items done.receipts done.emitted done.delivered done.ended done.refused (done.noted ∙ told.unnoted);
       tried = omega (arith, done.emitted, done.refused);
       few = omega (arith, done.emitted, done.refused, done.delivered);
       moves = moves_lost c.args.to _ c.in-Ok.receipt c.reserve.ensures.items done.receipts
@@ -42,20 +43,22 @@ pub returns-in-Ok-sent-clause-adds : goal.returns-in-Ok-sent-clause-adds
 returns-in-Ok-sent-clause-adds g c =
     let told = c.in-Ok.ensures in
     let done = c.record_emit.ensures in
-    adds_emit _ _ _ _ _ _ _ _ c.in-Ok.receipt told.receipt.1 told.given told.since told.counted
-    c.reserve.ensures.items done.receipts done.emitted done.delivered done.ended
+    adds_emit _ _ _ _ _ _ _ _ c.in-Ok.receipt (asked_as g.L.Label.config.nodes told.asked) told.given told.since told.counted
+    c.reserve.ensures.items done.receipts done.emitted done.delivered done.ended done.refused (done.noted ∙ told.unnoted)
 
 pub returns-in_err-refuse-in-Err-clause-adds : goal.returns-in_err-refuse-in-Err-clause-adds
 returns-in_err-refuse-in-Err-clause-adds g c =
     let refused = c.refuse.ensures in
-    adds_none _ _ _ _ _ _ _ c.in-Err.ensures.err (refused.receipts ∙ c.reserve.ensures.items)
-    refused.emitted refused.delivered refused.ended
+    adds_refused _ _ _ _ _ _ _ c.in-Err.fault _ c.in-Err.ensures.err (refused.receipts ∙ c.reserve.ensures.items)
+    refused.emitted refused.delivered refused.ended refused.counted (refused.noted ∙ c.in-Err.ensures.noted)
+    (parts.kept parts.none)
 
 pub returns-in_ok-refuse-in-Err-clause-adds : goal.returns-in_ok-refuse-in-Err-clause-adds
 returns-in_ok-refuse-in-Err-clause-adds g c =
     let refused = c.refuse.ensures in
-    adds_none _ _ _ _ _ _ _ c.in-Err.ensures.err (refused.receipts ∙ c.reserve.ensures.items)
-    refused.emitted refused.delivered refused.ended
+    adds_refused _ _ _ _ _ _ _ c.in-Err.fault _ c.in-Err.ensures.err (refused.receipts ∙ c.reserve.ensures.items)
+    refused.emitted refused.delivered refused.ended refused.counted (refused.noted ∙ c.in-Err.ensures.noted)
+    (parts.kept parts.none)
 
 pub returns-in_err-reserve-clause-stops : goal.returns-in_err-reserve-clause-stops
 returns-in_err-reserve-clause-stops g c =
@@ -64,7 +67,7 @@ returns-in_err-reserve-clause-stops g c =
 pub returns-in-Err-OutOfMemory-clause-stops : goal.returns-in-Err-OutOfMemory-clause-stops
 returns-in-Err-OutOfMemory-clause-stops g c =
     let done = c.record_emit.ensures in
-    let first = first_of_emit _ _ _ _ c.in-Ok.ensures.receipt.1 in
+    let first = asked_as g.L.Label.config.nodes c.in-Ok.ensures.asked in
     stops_at_end (moves_lost c.args.to _ c.in-Ok.receipt c.reserve.ensures.items done.receipts
     (done.lost ∙ ap (λ b. c.args.report.now.lost + cond b 1 0) (c.is_err.ensures.value ∙ ap is_err c.in-Err-OutOfMemory.is))
     done.refused (emit_carries _ _ _ _ first) (emit_brings_none _ _ _ first)
@@ -73,7 +76,7 @@ returns-in-Err-OutOfMemory-clause-stops g c =
 pub returns-in-Ok-sent-clause-moves : goal.returns-in-Ok-sent-clause-moves
 returns-in-Ok-sent-clause-moves g c =
     let done = c.record_emit.ensures in
-    let first = first_of_emit _ _ _ _ c.in-Ok.ensures.receipt.1 in
+    let first = asked_as g.L.Label.config.nodes c.in-Ok.ensures.asked in
     let none : c.is_err.result ≡ false = c.is_err.ensures.value ∙ ap is_err c.in-Ok-sent.is in
     let unlost : c.record_emit.new.self.lost ≡ c.args.report.now.lost =
     omega (arith, done.lost, ap {B = ℕ} (λ b. cond b 1 0) none) in
