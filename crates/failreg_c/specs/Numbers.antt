@@ -66,9 +66,9 @@ no_entry = 34
 abbrev pub no_line : ℕ
 no_line = 35
 
--- version 0.1.0: its numbers times 10000, 100 and 1
+-- version 0.2.0: its numbers times 10000, 100 and 1
 abbrev pub library_version : ℕ
-library_version = 0 * 10000 + 1 * 100 + 0
+library_version = 0 * 10000 + 2 * 100 + 0
 
 -- a stamp as C has it, and what C is told where there is none
 abbrev pub stamp_in : Stamped → Stamp

@@ -3,8 +3,8 @@
 ghost use Rattle.std.specs.Prelude.{◌≡◌};
 ghost use Rattle.failreg_c.specs.Numbers.{library_version};
 
-/// Version 0.1.0.
-const VERSION: u32 = 100;
+/// Version 0.2.0.
+const VERSION: u32 = 200;
 
 /// Answers the version of the library: its first number times 10000, its second times 100, and its
 /// third, added up. A program compares it with the `FAILREG_VERSION` that it was compiled with.

@@ -82,7 +82,7 @@ points_data v nodes = list_data (map budgets_data (all_budgets v nodes))
 
 -- the version of the programs and the libraries that are made of this code
 abbrev pub version_text : List ℕ
-version_text = codes "0.1.0"
+version_text = codes "0.2.0"
 
 abbrev pub node_data : NodeHead → State → Data
 node_data head v =

@@ -20,7 +20,7 @@ use stamp_register::Key;
 use std::alloc::{AllocError, Global};
 
 /// The version of the programs and the libraries that are made of this code.
-const VERSION: &str = "0.1.0";
+const VERSION: &str = "0.2.0";
 
 /// What a node is, beside what it knows.
 #[derive(Clone, Copy, Debug, PartialEq, Eq)]

@@ -132,7 +132,7 @@ numbers! { TASKS: u8;
 
 /// The version of the declarations: 10000 times its first number, 100 times its second, and its
 /// third.
-pub const FAILREG_VERSION: u32 = 100;
+pub const FAILREG_VERSION: u32 = 200;
 
 // What a call only reads is lent to it by `&mut` all the same: it takes the node apart and puts it
 // together.

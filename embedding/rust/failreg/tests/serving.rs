@@ -106,7 +106,7 @@ fn each_request_is_answered() {
         told.contains("\"granted\":[\"2\",\"0\"],\"rights\":[\"1\",\"4\"],\"spent\":[\"0\",\"0\"]"),
         "{told}"
     );
-    assert!(told.ends_with(",\"version\":\"0.1.0\"}}"), "{told}");
+    assert!(told.ends_with(",\"version\":\"0.2.0\"}}"), "{told}");
     // Threads see what requests set.
     let told = |name| node.eval(name);
     assert_eq!(told("a"), Some(Some("x".into())));
