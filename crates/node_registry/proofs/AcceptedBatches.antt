@@ -1,5 +1,5 @@
 -- A cell whose node accepts calls without random draws stays lawful.
-use Rattle.std.proofs.Common.{◌≡◌, ◌+◌, ◌<◌, ◌^◌, List, [], ◌∷◌, ◌++◌, length, None, refl, sym, ap, subst, arith, length-append}
+use Rattle.std.proofs.Common.{◌≡◌, ◌+◌, ◌<◌, ◌^◌, List, [], ◌∷◌, ◌++◌, length, None, sym, ap, subst, arith, length-append}
 use Rattle.rand_chacha.specs.ChaCha.{ChaCha}
 use Rattle.node_calls.specs.Asks.{Asked}
 use Rattle.node_core.specs.Traces.{Kept, SendsDelta, after_call, entry_for, node_of, refusal}
