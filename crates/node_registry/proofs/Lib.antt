@@ -3,3 +3,4 @@ pub mod EnteredCells
 pub mod GivenReceipts
 pub mod WorkersLemmas
 pub mod SeatReceipts
+pub mod AcceptedBatches

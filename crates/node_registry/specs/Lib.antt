@@ -4,3 +4,4 @@ pub mod Receipts
 pub mod Pieces
 pub mod Refusals
 pub mod Workers
+pub mod Batches

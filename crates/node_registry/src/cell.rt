@@ -1,13 +1,15 @@
 //! A node with the generator of its random draws.
 
-ghost use Rattle.std.specs.Prelude.{◌≡◌, drop, map, IfOk, IfErr, OnErr, OnOk, IsTrue, false};
+ghost use Rattle.std.specs.Prelude.{◌≡◌, List, drop, map, IfOk, IfErr, OnErr, OnOk, IsTrue, false};
 ghost use Rattle.node_calls.specs.Asks as asks;
-ghost use Rattle.node_calls.specs.Asks.{ask_value_first, call_from};
+ghost use Rattle.node_calls.specs.Asks.{Asked, ask_value_first, call_from};
 ghost use Rattle.node_steps.specs.Refusals.{is_bad_config};
+ghost use Rattle.node_registry.specs.Batches.{AreEntered};
 ghost use Rattle.node_registry.specs.Cells.{Cell, Enters, IsLawful, IsRefusedBy, IsWithinBounds, Passes, Submits};
 ghost use Rattle.node_registry.specs.Cells.{cell_of, cell_without_kept, new_cell, next_passed};
 ghost use Rattle.node_registry.specs.Receipts.{IsEntryFor, outcome_of};
 
+use crate::batch::Batch;
 use crate::drawing::{call_with_words, submit_with_words};
 use crate::pass_receipt::PassOutcome;
 use actions::Name;
@@ -117,6 +119,15 @@ impl NodeCell {
             Some(reply) => Ok(PassOutcome::of(reply)),
             None => unreachable!(),
         }
+    }
+
+    /// Makes the calls of a batch, and answers what came of them. No random draw is made.
+    pub fn make_batch<T, B: Batch<T>>(&mut self, alloc: Global, batch: &mut B) -> T
+        ensures entered { (asks : List Asked) × AreEntered self.old asks self.new }
+        ensures comes { B.comes batch.old batch.new self.old.node self.new.node result }
+    {
+        let NodeCell { core, generator: _ } = self;
+        batch.make(alloc, core)
     }
 
     /// Hands out the accepted calls that are kept, and keeps none (`NodeCore::give`).

@@ -1,17 +1,20 @@
 //! What lies under a registry's lock, and the seats from which it is called.
 
-ghost use Rattle.std.specs.Prelude.{◌≡◌, ℕ, ◌+◌, ◌≤◌, ◌<◌, ◌⊎◌, drop, length, map, sum, vec_len, All};
+ghost use Rattle.std.specs.Prelude.{◌≡◌, ℕ, ◌+◌, ◌≤◌, ◌<◌, ◌⊎◌, List, drop, length, map, sum};
+ghost use Rattle.std.specs.Prelude.{vec_len, All};
 ghost use Rattle.std.specs.Prelude.{IfOk, IfErr, OnErr, OnOk, MatchOption, IsTrue, true, false};
 ghost use Rattle.rand_chacha.specs.ChaCha.{key_of};
 ghost use Rattle.node_calls.specs.Asks as asks;
-ghost use Rattle.node_calls.specs.Asks.{ask_value_first, call_from};
+ghost use Rattle.node_calls.specs.Asks.{Asked, ask_value_first, call_from};
 ghost use Rattle.node_steps.specs.Refusals.{is_bad_config};
+ghost use Rattle.node_registry.specs.Batches.{AreEntered};
 ghost use Rattle.node_registry.specs.Cells.{Cell, Enters, IsCellSince, IsLawfulAt, IsRefusedBy};
 ghost use Rattle.node_registry.specs.Cells.{Passes, Submits, cell_without_kept, new_cell};
 ghost use Rattle.node_registry.specs.Pieces.{IsAllLeft, IsLeft, IsPieceOf};
 ghost use Rattle.node_registry.specs.Receipts.{IsEntryFor, IsNoneAt, IsReceiptAt, pass_receipt_of};
 ghost use Rattle.node_registry.specs.Receipts.{receipt_of};
 
+use crate::batch::Batch;
 use crate::cell::NodeCell;
 use crate::label::Label;
 use crate::pass_receipt::PassReceipt;
@@ -219,6 +222,29 @@ impl<L: Label> Guarded<L> {
             index: place,
             outcome,
         })
+    }
+
+    /// Makes the calls of a batch as `NodeCell::make_batch` does, and counts each to the seat.
+    pub fn make_batch<T, B: Batch<T>>(
+        &mut self,
+        alloc: Global,
+        seat: &mut Seat<L>,
+        batch: &mut B,
+    ) -> T
+        ensures entered { (asks : List Asked) × AreEntered self.old asks self.new
+            × (seat.new ≡ seat.old + length asks) }
+        ensures comes { B.comes batch.old batch.new self.old.node self.new.node result }
+        ensures since { IsCellSince L.config L.seed L.keeps L.parts seat.old self.old }
+    {
+        self.audit(seat);
+        let Guarded { cell, book: sums } = self;
+        let Seat { calls, share } = seat;
+        let before = cell.core().calls();
+        let answer = cell.make_batch(alloc, batch);
+        let more = cell.core().calls() - before;
+        sums.add(share, more);
+        *calls += more;
+        answer
     }
 
     /// The receipt of an accepted call by its place in the trace of the node's whole life; none where

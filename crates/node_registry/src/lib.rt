@@ -1,6 +1,7 @@
 //! One lock per node: threads call a node in turn, and are given a receipt of each accepted call.
 #![tactic(auto)]
 
+mod batch;
 mod cell;
 mod drawing;
 mod guarded;
@@ -10,6 +11,7 @@ mod pass_receipt;
 mod registry;
 mod workers;
 
+pub use batch::Batch;
 pub use cell::NodeCell;
 pub use guarded::{Closed, Guarded, Piece, Seat};
 pub use label::Label;

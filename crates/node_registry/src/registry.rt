@@ -8,11 +8,13 @@ ghost use Rattle.node_calls.specs.Asks.{ask_value_first, bare_emit};
 ghost use Rattle.node_calls.specs.Told.{ask_told, bytes_of};
 ghost use Rattle.node_calls.specs.Asks.{emit_asked, message_read};
 ghost use Rattle.node_steps.specs.Refusals.{is_bad_config};
+ghost use Rattle.node_registry.specs.Batches.{IsBatch};
 ghost use Rattle.node_registry.specs.Cells.{Cell, IsCellSince, IsLawfulAt};
 ghost use Rattle.node_registry.specs.Pieces.{IsAllLeft, IsLeft, IsPieceOf};
 ghost use Rattle.node_registry.specs.Receipts.{IsAnswered, IsEntryFor, IsGiven, IsReceiptOf};
 ghost use Rattle.node_registry.specs.Receipts.{IsNoneAt, IsPassReceipt, IsReceiptAt, IsRefused};
 
+use crate::batch::Batch;
 use crate::guarded::{Closed, Guarded, Piece, Seat};
 use crate::label::Label;
 use crate::pass_receipt::PassReceipt;
@@ -330,6 +332,22 @@ impl<L: Label> Registry<L> {
     {
         let mut guarded = self.held(rt);
         guarded.pass_point(alloc, seat, point)
+    }
+
+    /// Makes the calls of a batch under the lock, so that no call of another seat comes between them,
+    /// counts each to the seat, and answers what came of them. None of them is a pass.
+    pub fn make_batch<R: Wait, T, B: Batch<T>>(
+        &self,
+        rt: &R,
+        alloc: Global,
+        seat: &mut Seat<L>,
+        batch: &mut B,
+    ) -> T
+        ensures { IsBatch L.config L.seed L.keeps L.parts seat.old seat.new
+            (λ was now. B.comes batch.old batch.new was now result) }
+    {
+        let mut guarded = self.held(rt);
+        guarded.make_batch(alloc, seat, batch)
     }
 
     /// The receipt of an accepted call by its place in the trace of the node's whole life, counted from
