@@ -3,7 +3,7 @@
 ghost use Rattle.std.specs.Prelude.{◌≡◌, ◌<◌, ℕ, List, false, length};
 ghost use Rattle.message_format.specs.Spelling.{max_message};
 ghost use Rattle.node_calls.specs.Told.{ask_told};
-ghost use Rattle.http_replies.specs.Replies.{ReplyValue, http_value};
+ghost use Rattle.http_replies.specs.Replies.{http_value};
 ghost use Rattle.http_routes.specs.Requests.{IsWanted, wanted};
 ghost use Rattle.http_routes.specs.Requests as requests;
 ghost use Rattle.http_paths.specs.Paths.{target_of};
