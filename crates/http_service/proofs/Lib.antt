@@ -1,3 +1,4 @@
 mod Endings
 mod Exchanges
+mod Fields
 mod Ports

@@ -4,3 +4,4 @@ pub mod Exchanges
 pub mod FaultText
 pub mod Heads
 pub mod Labels
+pub mod Pages

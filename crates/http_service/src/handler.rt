@@ -5,10 +5,12 @@ ghost use Rattle.message_format.specs.Spelling.{max_message};
 ghost use Rattle.http_replies.specs.Replies.{ReplyValue, http_value};
 
 mod ending;
+mod page;
 
 use crate::labels::Labels;
 pub(crate) use ending::EndingHandler;
 use http_replies::HttpReply;
+pub(crate) use page::PageHandler;
 use std::alloc::Global;
 use std::sync::Wait;
 

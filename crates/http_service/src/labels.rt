@@ -5,12 +5,15 @@ ghost use Rattle.http_header.specs.HeaderMap.{insert};
 ghost use Rattle.http_header.specs.FieldValue.{plain_value};
 ghost use Rattle.http_paths.specs.Targets.{target_value};
 ghost use Rattle.http_service.specs.Labels.{content_at, content_text, label_fields, labels_of};
-ghost use Rattle.http_service.specs.Labels.{methods_of, methods_text, plain_labels};
+ghost use Rattle.http_service.specs.Labels.{methods_of, methods_text, plain_labels, with_methods};
+ghost use Rattle.http_service.specs.Labels.{with_policy, with_policy_of};
 
 use http::header::{
-    ALLOW, CONTENT_TYPE, HeaderMap, HeaderName, HeaderValue, X_CONTENT_TYPE_OPTIONS,
+    ALLOW, CACHE_CONTROL, CONTENT_SECURITY_POLICY, CONTENT_TYPE, HeaderMap, HeaderName,
+    HeaderValue, REFERRER_POLICY, X_CONTENT_TYPE_OPTIONS,
 };
 use http_paths::Target;
+use operator_page::POLICY;
 use std::alloc::{AllocError, Global};
 
 /// What a body is.
@@ -18,6 +21,8 @@ use std::alloc::{AllocError, Global};
 pub enum Content {
     Text,
     Json,
+    /// The operator's page.
+    Page,
 }
 
 /// The methods of a path.
@@ -74,9 +79,8 @@ impl Labels {
         put(&mut fields, CONTENT_TYPE, self.content.value())?;
         let nosniff = HeaderValue::from_static("nosniff");
         put(&mut fields, X_CONTENT_TYPE_OPTIONS, nosniff)?;
-        if let Some(methods) = self.methods {
-            put(&mut fields, ALLOW, methods.value())?;
-        }
+        put_policy_of(&mut fields, self.content)?;
+        put_methods(&mut fields, self.methods)?;
         Ok(fields)
     }
 }
@@ -88,6 +92,7 @@ impl Content {
         match self {
             Content::Text => HeaderValue::from_static("text/plain; charset=utf-8"),
             Content::Json => HeaderValue::from_static("application/json"),
+            Content::Page => HeaderValue::from_static("text/html; charset=utf-8"),
         }
     }
 }
@@ -122,6 +127,37 @@ fn methods_at(target: &Target<'_>) -> Methods
         Target::Point { name: _ } => Methods::PutOrDelete,
         _ => Methods::Post,
     }
+}
+
+// The methods, if they are told. Out of memory is the only error.
+fn put_methods(fields: &mut HeaderMap, methods: Option<Methods>) -> Result<(), AllocError>
+    ensures { OnOk result (fields.new ≡ with_methods methods fields.old) }
+{
+    match methods {
+        None => Ok(()),
+        Some(methods) => put(fields, ALLOW, methods.value()),
+    }
+}
+
+// What a browser is to hold a body to. Out of memory is the only error.
+fn put_policy_of(fields: &mut HeaderMap, content: Content) -> Result<(), AllocError>
+    ensures { OnOk result (fields.new ≡ with_policy_of content fields.old) }
+{
+    match content {
+        Content::Text | Content::Json => Ok(()),
+        Content::Page => put_policy(fields),
+    }
+}
+
+// The same of a page. Out of memory is the only error.
+fn put_policy(fields: &mut HeaderMap) -> Result<(), AllocError>
+    ensures { OnOk result (fields.new ≡ with_policy fields.old) }
+{
+    let policy = HeaderValue::from_static(POLICY);
+    put(fields, CONTENT_SECURITY_POLICY, policy)?;
+    put(fields, CACHE_CONTROL, HeaderValue::from_static("no-store"))?;
+    let no_referrer = HeaderValue::from_static("no-referrer");
+    put(fields, REFERRER_POLICY, no_referrer)
 }
 
 // Out of memory is the only error.

@@ -7,12 +7,12 @@
 //! one and 64 times 64 KiB, twice over while a buffer grows. Of a body 64 KiB are taken in, and then
 //! others have their turn.
 //!
-//! No page of a browser is let in: a request whose `Host` is no name of this machine, or whose
+//! No page of a browser is let in but the operator's: a request whose `Host` is no name of this machine, or whose
 //! `Origin` isn't the address at which the handler is served, is 403, and nothing is asked of it.
 //!
 //! A service that has an `Ending` is ended by `POST /stop`, by whoever else has that ending, and by a
 //! reply that shows that a node has forgotten what it did: then no client is let in any more, and
-//! those that are being served have two seconds.
+//! those that are being served have two seconds. It answers `GET /` by the operator's page.
 #![tactic(auto)]
 
 mod connection;

@@ -13,7 +13,7 @@ use crate::connection::{Accepting, Clients, ConnectionFactory, ConnectionTask};
 use crate::ending::{Ending, Served};
 use crate::exchange::ConnectionService;
 use crate::fault::ServeFault;
-use crate::handler::{EndingHandler, Handler};
+use crate::handler::{EndingHandler, Handler, PageHandler};
 use crate::permits::{AllBack, Permits};
 use crate::until_ended::{LetIn, UntilEnded};
 use bytes::Bytes;
@@ -182,7 +182,7 @@ where
 }
 
 /// Serves connections as `serve_all` does, until the service is ended. `POST /stop` ends it too, and
-/// isn't asked of the handler.
+/// `GET /` is answered by the operator's page: neither is asked of the handler.
 pub fn serve_until_ended<'e, H, R>(
     rt: &R,
     alloc: Global,
@@ -198,6 +198,7 @@ where
     ensures ok { IfOk result (IsServedTo requests (arc_value ending.now).reason.id) }
     ensures err { IfErr result (λ f. (f ≡ AcceptFailed) ⊎ (f ≡ OutOfMemory)) }
 {
+    let handler = PageHandler::new(alloc, handler)?;
     let handler = EndingHandler::new(alloc, handler, ending)?;
     let (factory, permits) = opened(rt, alloc, runtime, handler, &listener)?;
     let let_in = admit_until(rt, runtime, listener, factory, permits, requests, ending)?;
