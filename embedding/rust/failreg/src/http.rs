@@ -2,6 +2,7 @@
 //! its head tells, or that comes in chunks.
 
 use crate::chunks::{ChunkFault, Chunks};
+use crate::page::POLICY;
 use std::io::{self, ErrorKind, Read, Write};
 use std::net::{Ipv4Addr, Ipv6Addr, Shutdown, SocketAddr, TcpStream};
 use std::time::{Duration, Instant};
@@ -105,6 +106,9 @@ impl Head {
 
 // The methods of a path, if there is one.
 fn methods_at(path: &str) -> Option<&'static str> {
+    if path == "/" {
+        return Some("GET");
+    }
     let parts: Vec<&str> = path.strip_prefix('/')?.split('/').collect();
     if parts.contains(&"") {
         return None;
@@ -420,9 +424,17 @@ fn reply_head(head: Option<&Head>, status: u16, length: usize) -> String {
         false => "HTTP/1.1",
     };
     let path = head.map_or("", |head| &head.path);
-    let content = match status == 200 && (path == "/report" || path == "/status") {
-        true => "application/json",
-        false => "text/plain; charset=utf-8",
+    let content = match path {
+        "/report" | "/status" if status == 200 => "application/json",
+        "/" if status == 200 => "text/html; charset=utf-8",
+        _ => "text/plain; charset=utf-8",
+    };
+    let page = match path == "/" && status == 200 {
+        true => format!(
+            "content-security-policy: {POLICY}\r\ncache-control: no-store\r\n\
+             referrer-policy: no-referrer\r\n"
+        ),
+        false => String::new(),
     };
     let allow = match methods_at(path) {
         Some(methods) if status == 405 => format!("allow: {methods}\r\n"),
@@ -431,7 +443,7 @@ fn reply_head(head: Option<&Head>, status: u16, length: usize) -> String {
     let reason = reason(status);
     format!(
         "{version} {status} {reason}\r\ncontent-type: {content}\r\n\
-         x-content-type-options: nosniff\r\n{allow}content-length: {length}\r\n\
+         x-content-type-options: nosniff\r\n{page}{allow}content-length: {length}\r\n\
          connection: close\r\n\r\n"
     )
 }
@@ -663,7 +675,9 @@ mod tests {
             ("DELETE /spread/a", 405),
             ("PUT /spread/", 404),
             ("PUT /fail/", 404),
-            ("GET /", 404),
+            ("GET /", 413),
+            ("POST /", 405),
+            ("GET //", 404),
             ("PUT /fail/a/b", 404),
         ] {
             let answered = read_line(&format!("{line} HTTP/1.1"), long);

@@ -46,6 +46,7 @@ mod node;
 #[cfg(not(feature = "failpoints"))]
 #[path = "no_node.rs"]
 mod node;
+mod page;
 mod part;
 mod passing;
 mod points;

@@ -4,6 +4,7 @@ use crate::answers::Reply;
 use crate::error::{Error, ErrorKind};
 use crate::fail_rs::has_failpoints;
 use crate::http::{Connection, Fault, Head};
+use crate::page::PAGE;
 use crate::registry::Registry;
 use std::collections::HashMap;
 use std::fmt;
@@ -164,11 +165,7 @@ impl<'a> Client<'a> {
             false => None,
         };
         let body = connection.read_body(&head)?;
-        let answered = registry.answer(&head.method, &head.path, &body);
-        let reply = answered.unwrap_or_else(|error| Reply {
-            status: 503,
-            body: error.fault().as_bytes().to_vec(),
-        });
+        let reply = page_reply(&head).unwrap_or_else(|| answered(registry, &head, &body));
         Ok((head, reply))
     }
 
@@ -186,6 +183,27 @@ impl<'a> Client<'a> {
             }
         })
     }
+}
+
+// The reply where the operator's page is, which isn't asked of the node.
+fn page_reply(head: &Head) -> Option<Reply> {
+    let (status, text) = match (&head.path[..], &head.method[..]) {
+        ("/", "GET") => (200, PAGE),
+        ("/", _) => (405, "bad method"),
+        _ => return None,
+    };
+    Some(Reply {
+        status,
+        body: text.as_bytes().to_vec(),
+    })
+}
+
+fn answered(registry: &Registry, head: &Head, body: &[u8]) -> Reply {
+    let answered = registry.answer(&head.method, &head.path, body);
+    answered.unwrap_or_else(|error| Reply {
+        status: 503,
+        body: error.fault().as_bytes().to_vec(),
+    })
 }
 
 // Lets a client in and serves it, in a thread of its own. Answers whether the service goes on.
@@ -345,7 +363,8 @@ pub(crate) fn serve_at(
 /// ```
 ///
 /// The registry is an `Arc<Registry>`, or the program's, a `&'static Registry`. What requests there
-/// are, and what each is answered, [`Registry::answer`] says. The address is one of this machine
+/// are, and what each is answered, [`Registry::answer`] says; besides, `GET /` is answered the page
+/// on which an operator sees the node and changes its points. The address is one of this machine
 /// alone: whoever can connect there may set points, and there is no password. A page of a browser
 /// may not: a request whose `Host` isn't this machine, or that has an `Origin` other than the
 /// service itself, is answered 403, and nothing is asked.

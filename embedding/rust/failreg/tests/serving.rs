@@ -30,7 +30,7 @@ fn status_of(reply: &str) -> u16 {
     reply.get(9..12).map_or(0, |digits| digits.parse().unwrap())
 }
 
-const REQUESTS: [(&str, &str, &str, u16, &str); 23] = [
+const REQUESTS: [(&str, &str, &str, u16, &str); 24] = [
     ("PUT", "/fail/a", "3*return(x)->off", 200, "1.0"),
     ("GET", "/fail", "", 200, "a=3*return(x)->off"),
     ("GET", "/fail/?all", "", 200, "a=3*return(x)->off"),
@@ -64,6 +64,7 @@ const REQUESTS: [(&str, &str, &str, u16, &str); 23] = [
     ("PUT", "/report", "", 405, "bad method"),
     ("POST", "/status", "", 405, "bad method"),
     ("GET", "/fail/a", "", 405, "bad method"),
+    ("POST", "/", "", 405, "bad method"),
     ("put", "/fail/a", "off", 405, "bad method"),
     ("HEAD", "/report", "", 405, ""),
 ];
@@ -117,6 +118,23 @@ fn each_request_is_answered() {
     );
     serving.stop();
     assert!(TcpStream::connect(addr).is_err(), "nobody listens any more");
+}
+
+#[test]
+fn an_operator_gets_the_page() {
+    let (_node, _serving, addr) = served(1);
+    let reply = raw(addr, b"GET / HTTP/1.1\r\nHost: localhost\r\n\r\n");
+    let (head, page) = reply.split_once("\r\n\r\n").unwrap();
+    for field in [
+        "content-type: text/html; charset=utf-8",
+        "content-security-policy: default-src 'none'; script-src 'sha256-",
+        "x-content-type-options: nosniff",
+        "cache-control: no-store",
+        "referrer-policy: no-referrer",
+    ] {
+        assert!(head.contains(&format!("\r\n{field}")), "{field}: {head}");
+    }
+    assert!(page.starts_with("<!DOCTYPE html>") && page.ends_with("</html>\n"));
 }
 
 // What an audit prints of a drill, whose file has this name.

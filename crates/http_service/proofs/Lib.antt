@@ -1,0 +1,4 @@
+mod Endings
+mod Exchanges
+mod Fields
+mod Ports
