@@ -278,7 +278,13 @@ it let it, so that no arrow goes to the left. A pointer that rests on a call is
 told what was asked. Of more than 270 columns several are drawn as one, with
 bars for their calls. The heading says what `failreg audit` says of the drill;
 a call that waits for a message which was never made is marked, as is the first
-call that a node wouldn't have answered so. docs/drills.md shows some.
+call that a node wouldn't have answered so. Below stand charts of the first six
+counted terms: column by column how many rights were spent, how many each node
+holds, and how many are on their way to it. docs/drills.md shows some.
+
+With `--text` what is written is text: from the top down a line for each column,
+with the calls of the nodes beside each other, each as the word for its answer
+and its point, and no charts.
 
 The status is 0 where the picture was written, whatever it shows, and 1 where a
 file can't be read or has no drill, as for `failreg audit`.

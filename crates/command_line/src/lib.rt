@@ -16,6 +16,6 @@ mod words;
 pub use peers::{NamedPeer, PeerFault, PeersFault, read_peer, read_peers};
 pub use quoting::quoted;
 pub use reading::{
-    AuditOptions, GossipOptions, Invocation, PartOptions, ServeOptions, SimOptions, ThreadOptions,
-    read_command_line,
+    AuditOptions, GossipOptions, Invocation, PartOptions, PictureOptions, ServeOptions, SimOptions,
+    ThreadOptions, read_command_line,
 };

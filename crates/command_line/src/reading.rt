@@ -24,7 +24,7 @@ pub enum Invocation<'a> {
     /// To audit the drill in a file, or that of the parts in files.
     Audit(AuditOptions<'a>),
     /// To draw the drill in a file, or that of the parts in files.
-    Picture(Vec<&'a str>),
+    Picture(PictureOptions<'a>),
     /// To serve a node over HTTP, and to keep its part, if that is wanted.
     Serve(ServeOptions<'a>, Option<PartOptions<'a>>),
     /// To say what the codes in a text mean, or, without one, to list all codes.
@@ -68,6 +68,15 @@ pub struct AuditOptions<'a> {
     pub files: Vec<&'a str>,
     /// Whether answers are written as objects of JSON.
     pub json: bool,
+}
+
+/// What is drawn.
+#[derive(Debug, Drop)]
+pub struct PictureOptions<'a> {
+    /// The file of a drill, or those of its parts.
+    pub files: Vec<&'a str>,
+    /// Whether it is drawn as text.
+    pub text: bool,
 }
 
 /// Whom a served node tells what it knows, and how often.
@@ -220,7 +229,10 @@ fn read_matches<'a>(alloc: Global, matches: &ArgMatches<'a>) -> Result<Invocatio
         }
         Subcommand::Picture => {
             let files = matches.get_strs("file").unwrap_or(&[]);
-            Invocation::Picture(Vec::from_slice(alloc, files)?)
+            Invocation::Picture(PictureOptions {
+                files: Vec::from_slice(alloc, files)?,
+                text: matches.get_flag("text"),
+            })
         }
         Subcommand::Serve => {
             let part = part_options(alloc, matches)?;

@@ -216,18 +216,32 @@ const AUDIT: &[Argument] = &[
     },
 ];
 
-const PICTURE: &[Argument] = &[Argument {
-    name: "file",
-    by_name: false,
-    value: "file",
-    help: "A drill that was kept, or each part of one, or `-` for standard input",
-    required: true,
-    default: &[],
-    values: (1, usize::MAX),
-    most: None,
-    takes_hyphens: false,
-    excludes: &[],
-}];
+const PICTURE: &[Argument] = &[
+    Argument {
+        name: "file",
+        by_name: false,
+        value: "file",
+        help: "A drill that was kept, or each part of one, or `-` for standard input",
+        required: true,
+        default: &[],
+        values: (1, usize::MAX),
+        most: None,
+        takes_hyphens: false,
+        excludes: &[],
+    },
+    Argument {
+        name: "text",
+        by_name: true,
+        value: "text",
+        help: "Draws lanes of text, for a terminal of 100 columns",
+        required: false,
+        default: &[],
+        values: (0, 0),
+        most: None,
+        takes_hyphens: false,
+        excludes: &[],
+    },
+];
 
 const SERVE: &[Argument] = &[
     Argument {

@@ -8,4 +8,11 @@ pub mod Escaped
 pub mod Arrows
 pub mod Marks
 pub mod Bars
+pub mod Budgets
+pub mod Knowing
+pub mod Rights
+pub mod Stories
+pub mod Charts
+pub mod Laws
 pub mod Picture
+pub mod Lines

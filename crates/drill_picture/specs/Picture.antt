@@ -4,7 +4,9 @@ use Rattle.packed_trace.specs.Packed.{Packed}
 use Rattle.drill_picture.specs.declared.place.Place.{Place}
 use Rattle.drill_picture.specs.Arrows.{arrows_of}
 use Rattle.drill_picture.specs.Bars.{all_bars_below, own_of}
+use Rattle.drill_picture.specs.Budgets.{BudgetTold}
 use Rattle.drill_picture.specs.Calls.{Traces}
+use Rattle.drill_picture.specs.Charts.{charts_end, charts_from}
 use Rattle.drill_picture.specs.Escaped.{escaped}
 use Rattle.drill_picture.specs.Marks.{arrows_text, at_text, marks_text, use_text}
 use Rattle.drill_picture.specs.Placing.{AreAllColumns}
@@ -106,22 +108,25 @@ foot_text legend top =
     codes "<g transform='translate(0 " ++ decimal top ++ codes ")'>\n" ++ legend ++ codes "</g>\n</svg>\n"
 
 -- from top to bottom, and what is drawn over other signs behind them
-abbrev pub body_text : Traces → ScaleTold → List Place → Option (ℕ × ℕ) → List ℕ
-body_text traces scale places wrong =
+abbrev pub body_text : Traces → ScaleTold → List Place → Option (ℕ × ℕ) → List BudgetTold → List ℕ
+body_text traces scale places wrong budgets =
     lanes_below scale scale.nodes ++ (calls_text traces scale places
-    ++ (waits_below traces scale places scale.nodes ++ wrong_text scale places wrong))
+    ++ (waits_below traces scale places scale.nodes ++ (wrong_text scale places wrong
+    ++ charts_from traces scale places (lanes_end scale) budgets)))
 
 -- with these shapes and this legend, of the places of so many columns
-unfoldable pub picture_of : List ℕ → List ℕ → Traces → List ℕ → Option (ℕ × ℕ) → ℕ → List Place → List ℕ
-picture_of shapes legend traces headline wrong columns places =
+unfoldable pub picture_of :
+    List ℕ → List ℕ → Traces → List ℕ → Option (ℕ × ℕ) → List BudgetTold → ℕ → List Place → List ℕ
+picture_of shapes legend traces headline wrong budgets columns places =
     let scale = scale_of (length traces) columns in
-    head_text shapes (lanes_end scale + 60) ++ (heading_text scale.nodes (length places) columns headline
-    ++ (body_text traces scale places wrong ++ foot_text legend (lanes_end scale)))
+    let end = charts_end (lanes_end scale) budgets in
+    head_text shapes (end + 76) ++ (heading_text scale.nodes (length places) columns headline
+    ++ (body_text traces scale places wrong budgets ++ foot_text legend end))
 
 -- the text is the picture of all columns that there are
 pub record IsPicture (shapes legend : List ℕ) (traces : Traces) (headline : List ℕ) (wrong : Option (ℕ × ℕ))
-    (text : List ℕ) : Type 0 where
+    (budgets : List BudgetTold) (text : List ℕ) : Type 0 where
   pub columns : ℕ
   pub places : List Place
   pub placed : AreAllColumns traces columns places
-  pub drawn : text ≡ picture_of shapes legend traces headline wrong columns places
+  pub drawn : text ≡ picture_of shapes legend traces headline wrong budgets columns places

@@ -1,6 +1,7 @@
 //! The whole picture.
 
-ghost use Rattle.std.specs.Prelude.{◌≡◌, ◌-◌, ◌≤◌, length, slice_get, IfOk, string_bytes};
+ghost use Rattle.std.specs.Prelude.{◌≡◌, ◌-◌, ◌≤◌, length, map, slice_get, IfOk, string_bytes};
+ghost use Rattle.drill_picture.specs.Budgets.{budget_told};
 ghost use Rattle.drill_picture.specs.Marks.{Adds};
 ghost use Rattle.drill_picture.specs.Picture.{IsPicture, body_text, calls_in, calls_text};
 ghost use Rattle.drill_picture.specs.Picture.{column_behind, missing_text, picture_of, wait_at, wait_of, wait_text};
@@ -8,6 +9,8 @@ ghost use Rattle.drill_picture.specs.Picture.{waits_below};
 
 use crate::arrow::arrows;
 use crate::bars::{own_of, push_all_bars};
+use crate::budget::Budget;
+use crate::charts::push_charts;
 use crate::heading::{push_foot, push_head, push_heading, push_lanes, push_wrong};
 use crate::marks::{push_arrows, push_at, push_marks, push_use};
 use crate::place::Place;
@@ -46,8 +49,8 @@ fn column_behind(own: &[Place]) -> u32
     }
 }
 
-// How many calls the trace of a node has.
-fn calls_in(traces: &[Trace], node: usize) -> usize
+/// How many calls the trace of a node has.
+pub(crate) fn calls_in(traces: &[Trace], node: usize) -> usize
     ensures { result ≡ calls_in (slice_get traces.now node) }
 {
     match traces.get(node) {
@@ -152,14 +155,18 @@ fn push_body(
     scale: &Scale,
     places: &[Place],
     wrong: Option<(u8, u32)>,
+    budgets: &[Budget<'_>],
 ) -> Result<(), AllocError>
-    ensures { Adds result out.old out.new
-        (body_text traces.now scale.now places.now wrong) }
+    requires { length budgets.now ≤ 256 }
+    ensures { Adds result out.old out.new (body_text traces.now scale.now places.now wrong
+        (map budget_told budgets.now)) }
 {
     push_lanes(out, scale)?;
     push_calls(out, alloc, traces, scale, places)?;
     push_waits(out, alloc, traces, scale, places)?;
-    push_wrong(out, scale, places, wrong)
+    push_wrong(out, scale, places, wrong)?;
+    let top = scale.lanes_end();
+    push_charts(out, alloc, traces, scale, places, top, budgets)
 }
 
 // The picture of calls that stand so.
@@ -169,16 +176,19 @@ fn drawn(
     traces: &[Trace],
     headline: &str,
     wrong: Option<(u8, u32)>,
+    budgets: &[Budget<'_>],
     placed: &Placed,
 ) -> Result<String, AllocError>
-    requires { length traces.now ≤ 256 }
+    requires traces { length traces.now ≤ 256 }
+    requires budgets { length budgets.now ≤ 256 }
     ensures { IfOk result (λ text. string_bytes text ≡ picture_of SHAPES.now LEGEND.now
-        traces.now headline.now wrong placed.now.columns placed.now.places.items) }
+        traces.now headline.now wrong (map budget_told budgets.now)
+        placed.now.columns placed.now.places.items) }
 {
     let scale = Scale::of(traces.len(), placed.columns);
-    let end = scale.lanes_end();
+    let end = scale.lanes_end() + 130 * budgets.len() as u64;
     let mut out = String::new(alloc);
-    push_head(&mut out, SHAPES, end + 60)?;
+    push_head(&mut out, SHAPES, end + 76)?;
     push_heading(
         &mut out,
         scale.nodes(),
@@ -186,7 +196,15 @@ fn drawn(
         placed.columns,
         headline,
     )?;
-    push_body(&mut out, alloc, traces, &scale, &placed.places, wrong)?;
+    push_body(
+        &mut out,
+        alloc,
+        traces,
+        &scale,
+        &placed.places,
+        wrong,
+        budgets,
+    )?;
     push_foot(&mut out, LEGEND, end)?;
     Ok(out)
 }
@@ -194,17 +212,20 @@ fn drawn(
 /// The picture of a drill's traces, which stand in the order of their nodes, as an SVG. Its heading
 /// ends with a line that says what was found of the drill, and where a node doesn't reply as its trace
 /// says, that call is marked: its node, and its index. What waits for a message that was never made is
-/// marked by itself, and not drawn further.
+/// marked by itself, and not drawn further. Below the lanes each of the budgets has a chart of where its
+/// rights are behind each column.
 pub fn picture(
     alloc: Global,
     traces: &[Trace],
     headline: &str,
     wrong: Option<(u8, u32)>,
+    budgets: &[Budget<'_>],
 ) -> Result<String, AllocError>
-    requires { length traces.now ≤ 256 }
+    requires traces { length traces.now ≤ 256 }
+    requires budgets { length budgets.now ≤ 256 }
     ensures { IfOk result (λ text. IsPicture SHAPES.now LEGEND.now
-        traces.now headline.now wrong (string_bytes text)) }
+        traces.now headline.now wrong (map budget_told budgets.now) (string_bytes text)) }
 {
     let placed = place_calls(alloc, traces)?;
-    drawn(alloc, traces, headline, wrong, &placed)
+    drawn(alloc, traces, headline, wrong, budgets, &placed)
 }

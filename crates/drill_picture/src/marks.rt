@@ -76,7 +76,7 @@ pub(crate) fn push_at(out: &mut String, x: u64, y: u64) -> Result<(), AllocError
 }
 
 #[tactic(auto, unfolding(crate::specs::Marks::point_text))]
-fn push_point(out: &mut String, x: u64, y: u64) -> Result<(), AllocError>
+pub(crate) fn push_point(out: &mut String, x: u64, y: u64) -> Result<(), AllocError>
     ensures { Adds result out.old out.new (point_text x y) }
 {
     write!(out, "{x} {y}")

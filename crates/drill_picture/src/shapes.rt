@@ -14,10 +14,17 @@ text{font:11px system-ui,-apple-system,'Segoe UI','DejaVu Sans',sans-serif;fill:
 .news{stroke:#1d2125;stroke-width:1.2;fill:none;marker-end:url(#head)}
 .same{stroke:#98a2ab;stroke-dasharray:2 2;fill:none}
 .calls{stroke:#c3c9cf;stroke-width:2;fill:none}.runs{stroke:#1d2125;stroke-width:2;fill:none}
+.own0{fill:#77AADD}.own1{fill:#EE8866}.own2{fill:#EEDD88}.own3{fill:#FFAABB}
+.own4{fill:#99DDFF}.own5{fill:#44BB99}.own6{fill:#BBCC33}.own7{fill:#AAAA00}
+.way0{fill:url(#h0)}.way1{fill:url(#h1)}.way2{fill:url(#h2)}.way3{fill:url(#h3)}
+.way4{fill:url(#h4)}.way5{fill:url(#h5)}.way6{fill:url(#h6)}.way7{fill:url(#h7)}
+[class^=own],[class^=way]{stroke:#fff;stroke-width:.5}.spent{fill:#66707a}
+.count{stroke:#1d2125;stroke-dasharray:4 3;fill:none}.end{text-anchor:end;fill:#59626b}.strong{font-weight:600}
 .stop{fill:#c8102e}.no{fill:#b00d28;font-weight:600;paint-order:stroke;stroke:#fff;stroke-width:3px}
 .mark{stroke:#fff;stroke-width:2;fill:none}
 @media (prefers-color-scheme:dark){
-text{fill:#e6e9ec}.soft{fill:#a3acb5}.bg{fill:#14171a}.lane{stroke:#59626b}.name,.no{stroke:#14171a}
+text{fill:#e6e9ec}.soft,.end{fill:#a3acb5}.bg{fill:#14171a}[class^=own],[class^=way]{stroke:#14171a}.count{stroke:#e6e9ec}
+.lane{stroke:#59626b}.name,.no{stroke:#14171a}
 .solid,.flag{fill:#e6e9ec}.flag,.cross,.news,.runs{stroke:#e6e9ec}.hollow{fill:#14171a;stroke:#e6e9ec}
 .same{stroke:#7a838c}.calls{stroke:#4b5259}.no{fill:#ff8a94}}
 </style>
@@ -31,6 +38,14 @@ text{fill:#e6e9ec}.soft{fill:#a3acb5}.bg{fill:#14171a}.lane{stroke:#59626b}.name
 <rect id='n5' x='-5' y='-5' width='10' height='10' fill='#44BB99'/>
 <rect id='n6' x='-5' y='-5' width='10' height='10' fill='#BBCC33'/>
 <rect id='n7' x='-5' y='-5' width='10' height='10' fill='#AAAA00'/>
+<pattern id='h0' width='5' height='5' patternUnits='userSpaceOnUse' patternTransform='rotate(45)'><rect class='bg' width='5' height='5'/><rect width='3' height='5' fill='#77AADD'/></pattern>
+<pattern id='h1' width='5' height='5' patternUnits='userSpaceOnUse' patternTransform='rotate(45)'><rect class='bg' width='5' height='5'/><rect width='3' height='5' fill='#EE8866'/></pattern>
+<pattern id='h2' width='5' height='5' patternUnits='userSpaceOnUse' patternTransform='rotate(45)'><rect class='bg' width='5' height='5'/><rect width='3' height='5' fill='#EEDD88'/></pattern>
+<pattern id='h3' width='5' height='5' patternUnits='userSpaceOnUse' patternTransform='rotate(45)'><rect class='bg' width='5' height='5'/><rect width='3' height='5' fill='#FFAABB'/></pattern>
+<pattern id='h4' width='5' height='5' patternUnits='userSpaceOnUse' patternTransform='rotate(45)'><rect class='bg' width='5' height='5'/><rect width='3' height='5' fill='#99DDFF'/></pattern>
+<pattern id='h5' width='5' height='5' patternUnits='userSpaceOnUse' patternTransform='rotate(45)'><rect class='bg' width='5' height='5'/><rect width='3' height='5' fill='#44BB99'/></pattern>
+<pattern id='h6' width='5' height='5' patternUnits='userSpaceOnUse' patternTransform='rotate(45)'><rect class='bg' width='5' height='5'/><rect width='3' height='5' fill='#BBCC33'/></pattern>
+<pattern id='h7' width='5' height='5' patternUnits='userSpaceOnUse' patternTransform='rotate(45)'><rect class='bg' width='5' height='5'/><rect width='3' height='5' fill='#AAAA00'/></pattern>
 <path id='set' class='flag' d='M0 0v-20l8 4l-8 3'/>
 <path id='removed' class='cross' d='M0 0v-20m-4 1l8 7m0 -7l-8 7'/>
 <path id='loaded' class='flag' d='M0 0v-20l8 4l-8 3m0 1l8 3l-8 3'/>
@@ -76,4 +91,8 @@ pub const LEGEND: &str = "\
 <path class='same' d='M411 28L425 34'/><text class='soft' x='430' y='36'>nothing new</text>
 <use href='#stuck' x='525' y='32'/><text class='soft' x='538' y='36'>waits for ever</text>
 <text class='soft' x='12' y='52'>Left to right is an order that the messages allow, not time: a call stands as far left as the calls before it let it. Dark bars: passes that ran a term.</text>
+<path class='spent' d='M12 60h12v9h-12z'/><text class='soft' x='30' y='68'>rights that were spent</text>
+<path class='own0' d='M160 60h12v9h-12z'/><text class='soft' x='178' y='68'>that the node of this colour holds</text>
+<path class='way0' d='M372 60h12v9h-12z'/><text class='soft' x='390' y='68'>that are on their way to it</text>
+<path class='count' d='M542 65h18'/><text class='soft' x='566' y='68'>the count; what is above was granted</text>
 ";

@@ -1,5 +1,5 @@
 -- What the picture of a drill shows.
-use Rattle.std.specs.Prelude.{◌≡◌, ℕ, List, ◌++◌, length, min, take, codes, Option, Some, None, Result, Ok, Err}
+use Rattle.std.specs.Prelude.{◌≡◌, ℕ, List, ◌++◌, length, min, take, codes, Bool, true, false, Option, Some, None, Result, Ok, Err}
 use Rattle.audit.specs.declared.auditing.AuditYes.{AuditYes}
 use Rattle.audit.specs.declared.fault.AuditFault.{AuditFault}
 use Rattle.audit.specs.declared.fault.AuditFault.TheVariants.{WrongReply}
@@ -7,8 +7,10 @@ use Rattle.audit.specs.Answers.{IsAudited}
 use Rattle.audit.specs.FaultText.{audit_fault_text}
 use Rattle.audit.specs.Receipts.{Lists}
 use Rattle.drill_picture.specs.Calls.{Traces}
+use Rattle.drill_picture.specs.Lines.{AreLines}
 use Rattle.drill_picture.specs.Picture.{IsPicture}
 use Rattle.drill_picture.specs.declared.shapes.TheConstants.{LEGEND, SHAPES}
+use Rattle.failreg.specs.Charted.{budgets_of}
 use Rattle.streams.specs.Streams.{Writes}
 use Rattle.streams.specs.declared.watched.Watched.{Watched}
 
@@ -25,13 +27,20 @@ abbrev pub wrong_of : Result AuditYes AuditFault → Option (ℕ × ℕ)
 wrong_of (Ok found) = None
 wrong_of (Err fault) = wrong_of_fault fault
 
+-- lanes of text, or an SVG
+abbrev pub Shows : Bool → Traces → Result AuditYes AuditFault → List ℕ → Type 0
+Shows true traces verdict text = AreLines traces (headline_text verdict) text
+Shows false traces verdict text =
+    IsPicture SHAPES.now LEGEND.now traces (headline_text verdict) (wrong_of verdict) (budgets_of verdict) text
+
 -- the text is the picture of a drill's traces, of which no cluster has 256, with what an audit says of the drill
-pub record DrawsDrill (traces : Traces) (lists : Lists) (text : List ℕ) : Type 0 where
+pub record DrawsDrill (as_text : Bool) (traces : Traces) (lists : Lists) (text : List ℕ) : Type 0 where
   pub verdict : Result AuditYes AuditFault
   pub judged : IsAudited (min (length traces) 255) traces lists verdict
-  pub drawn : IsPicture SHAPES.now LEGEND.now (take 256 traces) (headline_text verdict) (wrong_of verdict) text
+  pub drawn : Shows as_text (take 256 traces) verdict text
 
 -- the picture of some drill was written
-abbrev pub DrawsSome : {O : Type 0} → (O → Option (List ℕ)) → Watched O → Watched O → Type 0
-DrawsSome contents old new =
-    (traces : Traces) × (lists : Lists) × (text : List ℕ) × DrawsDrill traces lists text × Writes contents old new text
+abbrev pub DrawsSome : {O : Type 0} → Bool → (O → Option (List ℕ)) → Watched O → Watched O → Type 0
+DrawsSome as_text contents old new =
+    (traces : Traces) × (lists : Lists) × (text : List ℕ) × DrawsDrill as_text traces lists text
+    × Writes contents old new text

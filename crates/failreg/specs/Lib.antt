@@ -4,4 +4,5 @@ pub mod Checked
 pub mod RefusedText
 pub mod ShortLines
 pub mod Explaining
+pub mod Charted
 pub mod Drawn

@@ -19,6 +19,7 @@ mod advice;
 mod audit_refused;
 mod audited_files;
 mod auditing;
+mod charted;
 mod checking;
 mod explaining;
 mod finish;
@@ -37,7 +38,8 @@ use advice::{advice_on_audit, advice_on_parse, advice_on_service, is_missing};
 use audited_files::audit_files;
 use checking::check_threads;
 use command_line::{
-    AuditOptions, Invocation, PartOptions, ServeOptions, SimOptions, quoted, read_command_line,
+    AuditOptions, Invocation, PartOptions, PictureOptions, ServeOptions, SimOptions, quoted,
+    read_command_line,
 };
 use drills::DrillFault;
 use explaining::explain_codes;
@@ -146,7 +148,7 @@ where
         }
         Invocation::Threads(options) => threads(rt, options, &mut reader, writer, errors),
         Invocation::Audit(AuditOptions { files, .. }) => audit(rt, &files, writer),
-        Invocation::Picture(paths) => draw_drill(rt, &paths, writer),
+        Invocation::Picture(PictureOptions { files, text }) => draw_drill(rt, &files, text, writer),
         Invocation::Serve(options, part) => serve(rt, options, part),
         Invocation::Explain(text) => explain_codes(rt, &text, writer, errors),
     }

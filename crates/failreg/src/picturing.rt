@@ -12,11 +12,12 @@ use crate::advice::{advice_on_audit, is_missing};
 use crate::audit_refused::AuditRefused;
 use crate::audited_files::{begins_part, first_line, part_from, parts_in_files};
 use crate::auditing::judged;
+use crate::charted::budgets_of;
 use crate::finish::{finish_audit, refuse};
 use crate::short_lines::ShortLines;
 use audit::{AuditFault, AuditYes};
 use command_line::quoted;
-use drill_picture::picture;
+use drill_picture::{picture, picture_lines};
 use drills::{Drill, DrillFault, Part, joined, read_drill};
 use packed_trace::Trace;
 use scripts::{Watched, write_text};
@@ -74,15 +75,20 @@ fn drawn_traces(traces: &[Trace]) -> &[Trace]
 }
 
 // The picture of a drill, with what an audit says of it.
-fn picture_of(alloc: Global, drill: &Drill) -> Result<String, DrillFault>
+fn picture_of(alloc: Global, drill: &Drill, as_text: bool) -> Result<String, DrillFault>
     ensures drawn { IfOk result (λ text.
-        DrawsDrill drill.now.traces.items drill.now.lists.items (string_bytes text)) }
+        DrawsDrill as_text drill.now.traces.items drill.now.lists.items (string_bytes text)) }
     ensures err { IfErr result (λ fault. fault ≡ DrillFault.OutOfMemory) }
 {
     let verdict = judged(alloc, drill)?;
     let said = headline(alloc, &verdict)?;
     let traces = drawn_traces(&drill.traces);
-    Ok(picture(alloc, traces, &said, wrong_of(&verdict))?)
+    if as_text {
+        return Ok(picture_lines(alloc, traces, &said)?);
+    }
+    let budgets = budgets_of(alloc, &verdict)?;
+    let wrong = wrong_of(&verdict);
+    Ok(picture(alloc, traces, &said, wrong, &budgets)?)
 }
 
 // The drill that a reader gives.
@@ -169,11 +175,12 @@ fn picture_files<R: Files + Input, O: Write>(
     rt: &R,
     alloc: Global,
     paths: &[&str],
+    as_text: bool,
     writer: &mut Watched<O>,
 ) -> Result<bool, AuditRefused>
     requires { has_failed writer.old ≡ false }
     // Of a file's bytes nothing is known; it is the picture of some drill, and nothing else is written.
-    ensures ok { OnOk result (DrawsSome O.contents writer.old writer.new) }
+    ensures ok { OnOk result (DrawsSome as_text O.contents writer.old writer.new) }
     ensures flushed { OnOk result (has_unflushed writer.new ≡ false) }
     ensures write_failed { (result ≡ Err (AuditRefused.Drill WriteFailed)) ↔ (has_failed writer.new ≡ true) }
     // After any other fault the writer is as it was.
@@ -181,7 +188,7 @@ fn picture_files<R: Files + Input, O: Write>(
         → writer.new ≡ writer.old) }
 {
     let drill = drill_in_files(rt, alloc, paths)?;
-    let text = match picture_of(alloc, &drill) {
+    let text = match picture_of(alloc, &drill, as_text) {
         Ok(text) => text,
         Err(fault) => return Err(AuditRefused::Drill { fault }),
     };
@@ -194,14 +201,15 @@ fn picture_files<R: Files + Input, O: Write>(
 }
 
 /// Writes the picture of the drill or the part in a file, or of the parts in several, whatever an audit
-/// says of it. The path `-` is standard input.
+/// says of it: as lanes of text or as an SVG. The path `-` is standard input.
 pub fn draw_drill<R: Eprint + AllocGlobal + Files + Input, O: Write>(
     rt: &R,
     paths: &[&str],
+    as_text: bool,
     writer: &mut Watched<O>,
 ) -> anyhow::Result<ExitCode>
     requires { has_failed writer.old ≡ false }
-    ensures done { OnStatus result 0 (DrawsSome O.contents writer.old writer.new) }
+    ensures done { OnStatus result 0 (DrawsSome as_text O.contents writer.old writer.new) }
     ensures status { IfOk result (λ code. (exit_status code ≡ 0) ⊎ (exit_status code ≡ 1)) }
 {
     for path in paths {
@@ -211,7 +219,7 @@ pub fn draw_drill<R: Eprint + AllocGlobal + Files + Input, O: Write>(
             return refuse(rt, DrillFault::ReadFailed, &advice);
         }
     }
-    let drawn = picture_files(rt, rt.alloc(), paths, writer);
+    let drawn = picture_files(rt, rt.alloc(), paths, as_text, writer);
     let advice = advice_on_audit(rt.alloc(), paths, &drawn);
     finish_audit(rt, drawn, &advice)
 }
