@@ -86,6 +86,10 @@ pub told_before : {A : Type 0} {new left whole : List A} (old part rest : List A
 told_before old part rest h k l =
     ap (λ text. text ++ rest) h ∙ append_assoc old part rest ∙ ap (λ text. old ++ text) (sym l) ∙ k
 
+-- two steps
+pub and_then : {A : Type 0} {y z : List A} (x a b : List A) → y ≡ x ++ a → z ≡ y ++ b → z ≡ x ++ (a ++ b)
+and_then x a b first second = second ∙ ap (λ text. text ++ b) first ∙ append_assoc x a b
+
 -- what a step adds to what was told before it, from the start of the text or from where the walk began
 pub told : {A : Type 0} {new old before after : List A} (part : List A) → new ≡ old ++ part → old ≡ before →
     before ++ part ≡ after → new ≡ after
