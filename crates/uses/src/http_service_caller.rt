@@ -62,6 +62,8 @@ where
     ensures { IfOk result (λ served. served ≡ clients) }
 {
     let alloc: Global = rt.alloc();
-    let greeter = Arc::new(alloc, Greeter)?;
+    let Ok(greeter) = Arc::new(alloc, Greeter) else {
+        return Err(ServeFault::OutOfMemory);
+    };
     serve_all(rt, alloc, runtime, greeter, listener, clients)
 }
