@@ -1,6 +1,7 @@
 //! The file of a node's part: it is locked for this process, and the node goes on from what it has.
 
-ghost use Rattle.std.specs.Prelude.{◌≡◌, false};
+ghost use Rattle.std.specs.Prelude.{◌≡◌, ◌+◌, false, IfOk};
+ghost use Rattle.part_files.specs.Opened.{calls_of};
 
 use command_line::{PartOptions, quoted};
 use drills::{PartHead, part_head_in, part_head_text};
@@ -43,7 +44,7 @@ pub enum OpenFault {
 
 impl fmt::Display for OpenFault {
     ghost use Rattle.std.specs.Prelude.{Some};
-    ghost use Rattle.node_service.specs.FaultText.{open_fault_text};
+    ghost use Rattle.part_files.specs.FaultText.{open_fault_text};
 
     ghost output = { λ fault. Some (open_fault_text fault) };
 
@@ -211,6 +212,7 @@ fn gone_on<L: Label, I: Read + Drop, R: Wait>(
     own: &PartHead,
 ) -> Result<Option<Repeated>, OpenFault>
     requires { L.keeps ≡ false }
+    ensures { IfOk result (λ had. seat.new ≡ seat.old + calls_of had) }
 {
     let Ok(mut reader) = BufReader::new(alloc, Watched::new(input)) else {
         return Err(OpenFault::Lines(PartFault::OutOfMemory));
@@ -224,31 +226,56 @@ fn gone_on<L: Label, I: Read + Drop, R: Wait>(
     Ok(Some(had))
 }
 
+// How many calls a part has.
+fn calls_of(had: Option<Repeated>) -> u64
+    ensures { result ≡ calls_of had }
+{
+    had.map_or(0, |had| had.calls)
+}
+
+// Has a part end behind its last whole line, or begins it.
+fn make_ready<R: Files<File = File>>(
+    rt: &R,
+    file: &File,
+    options: PartOptions<'_>,
+    first: &[u8],
+    had: Option<Repeated>,
+) -> io::Result<()> {
+    match had {
+        Some(had) => file.set_len(had.bytes.saturating_add(first.len() as u64)),
+        None => begin(rt, file, options, first),
+    }
+}
+
+/// A part that is open: its file, behind which the next lines go, and how many calls it has.
+#[derive(Drop)]
+pub struct OpenPart {
+    pub file: PartFile,
+    pub calls: u64,
+}
+
 /// Opens the part of a node that has accepted no call, and locks it. The calls of its lines are made
-/// again; a cut last line is cut off; where there is no file, or an empty one, the part is begun. Answers
-/// its file, behind which the next lines go, and how many calls it has.
+/// again; a cut last line is cut off; where there is no file, or an empty one, the part is begun.
 pub fn open_part<L, R>(
     rt: &R,
     alloc: Global,
     registry: &Registry<L>,
     seat: &mut Seat<L>,
     options: PartOptions<'_>,
-) -> Result<(PartFile, u64), OpenFault>
+) -> Result<OpenPart, OpenFault>
 where
     L: Label,
     R: Wait + Clock + Files<File = File>,
     requires { L.keeps ≡ false }
+    ensures { IfOk result (λ part. seat.new ≡ seat.old + part.calls) }
 {
     let file = locked(rt, options.path)?;
     let own = head_of(alloc, registry.with(rt, |core| core.config()), options.run)?;
     let first = first_line(alloc, &own)?;
-    let (ready, calls) = match gone_on(rt, alloc, registry, seat, &file, &first, &own)? {
-        Some(had) => (
-            file.set_len(had.bytes.saturating_add(first.len() as u64)),
-            had.calls,
-        ),
-        None => (begin(rt, &file, options, &first), 0),
-    };
-    ready.map_err(OpenFault::NotBegun)?;
-    Ok((PartFile::new(file, options.is_synced), calls))
+    let had = gone_on(rt, alloc, registry, seat, &file, &first, &own)?;
+    make_ready(rt, &file, options, &first, had).map_err(OpenFault::NotBegun)?;
+    Ok(OpenPart {
+        file: PartFile::new(file, options.is_synced),
+        calls: calls_of(had),
+    })
 }

@@ -36,7 +36,9 @@ impl<'a, L: Label, W> RecordingWire<'a, L, W> {
     }
 
     /// The wire that it sends over.
-    pub(crate) fn wire_mut(&mut self) -> &mut W {
+    pub fn get_mut(&mut self) -> &mut W
+        ensures { result.now ≡ self.old.wire }
+    {
         &mut self.wire
     }
 }
