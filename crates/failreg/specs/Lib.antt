@@ -1,7 +1,1 @@
 pub mod Statuses
-pub mod Recordings
-pub mod Checked
-pub mod RefusedText
-pub mod ShortLines
-pub mod Explaining
-pub mod Drawn
