@@ -1,6 +1,6 @@
 -- What a run of a script of threads that is checked comes to and says, by how the program ends.
-use Rattle.std.proofs.Common.{◌≡◌, ℕ, true, false, List, [], Option, Some, None, Result, Ok, Err, refl, sym, subst, ◌∙◌, inl, inr}
-use Rattle.std.specs.Prelude.{◌≢◌, ◌↔◌, IfErr, IfOk, IfSome, IsOk, OnOk, Vec}
+use Rattle.std.proofs.Common.{◌≡◌, ◌<◌, ℕ, length, true, false, List, [], Option, Some, None, Result, Ok, Err, refl, sym, subst, ◌∙◌, inl, inr}
+use Rattle.std.specs.Prelude.{◌≢◌, ◌↔◌, ◌⊎◌, IfErr, IfOk, IfSome, IsErr, IsOk, OnOk, Vec}
 use Rattle.std.specs.declared.alloc.Global.{Global}
 use Rattle.std.specs.Process.{exit_status}
 use Rattle.std.specs.declared.process.ExitCode.{ExitCode}
@@ -71,3 +71,36 @@ pub on_failed : {E : Type 0} (result : Result ExitCode E) (some said fact : Type
     OnStatus result 3 fact
 on_failed (Err e) some said fact h s k = tt
 on_failed (Ok code) some said fact h s k = λ z. k (h.0 z) s
+
+-- a run that was refused otherwise than for a bad line ends with 1, since nothing was said
+refused_unsaid : {T E : Type 0} (result : Result ExitCode E) (run : Result T ScriptFault) (fault : ScriptFault)
+    (said was : Vec ℕ Global) → ((line : ℕ) → fault ≢ faults.BadLine line) → was.items ≡ [] →
+    IfErr run (λ f. ((line : ℕ) → f ≢ faults.BadLine line) → said ≡ was) →
+    (said.items ≡ [] → IfOk result (λ code. (exit_status code ≡ 1) ↔ IsErr run)) → run ≡ Err fault →
+    IfOk result (λ code. exit_status code ≡ 1)
+refused_unsaid (Err e) run fault said was other none unsaid refused is = tt
+refused_unsaid (Ok code) run fault said was other none unsaid refused is =
+    let same = subst (λ r. IfErr r (λ f. ((line : ℕ) → f ≢ faults.BadLine line) → said ≡ was)) is unsaid other in
+    let ends = subst (λ r. said.items ≡ [] → (exit_status code ≡ 1) ↔ IsErr r) is refused in
+    (ends (items_of said was same none)).1 refl
+
+-- so does one of a script that is too long
+pub too_long : {T E : Type 0} (result : Result ExitCode E) (run : Result T ScriptFault) (failed : Type 0)
+    (said was : Vec ℕ Global) (input : Option (List ℕ)) (most : ℕ) → was.items ≡ [] →
+    IfErr run (λ f. ((line : ℕ) → f ≢ faults.BadLine line) → said ≡ was) →
+    (said.items ≡ [] → IfOk result (λ code. (exit_status code ≡ 1) ↔ IsErr run)) →
+    (run ≡ Err faults.ReadFailed) ↔ failed →
+    IfSome input (λ bytes. most < length bytes →
+    (run ≡ Err faults.TooLong) ⊎ failed ⊎ (run ≡ Err faults.OutOfMemory)) →
+    IfSome input (λ bytes. most < length bytes → IfOk result (λ code. exit_status code ≡ 1))
+too_long result run failed said was None most none unsaid refused reads h = tt
+too_long result run failed said was (Some bytes) most none unsaid refused reads h = λ long. by_fault (h long)
+  where
+    by_fault : (run ≡ Err faults.TooLong) ⊎ failed ⊎ (run ≡ Err faults.OutOfMemory) →
+        IfOk result (λ code. exit_status code ≡ 1)
+    by_fault (inl is) =
+        refused_unsaid result run faults.TooLong said was (λ line e. cc) none unsaid refused is
+    by_fault (inr (inl met)) =
+        refused_unsaid result run faults.ReadFailed said was (λ line e. cc) none unsaid refused (reads.1 met)
+    by_fault (inr (inr is)) =
+        refused_unsaid result run faults.OutOfMemory said was (λ line e. cc) none unsaid refused is

@@ -192,9 +192,11 @@ where
     ensures failed { OnStatus result 3 (has_failed errors.new ≡ false →
         IfInput I.remaining reader.old (λ input. FailsSaying input
         (Writes O.contents writer.old writer.new) (Writes E.contents errors.old errors.new))) }
-    // A script that can't be read or answered has status 1.
+    // A script that is too long, or that can't be read or answered, has status 1.
     ensures read_failed { has_failed reader.new ≡ true → HasStatus result 1 }
     ensures write_failed { has_failed writer.new ≡ true → HasStatus result 1 }
+    ensures long { IfInput I.remaining reader.old (λ input.
+        MOST_BYTES < length input → HasStatus result 1) }
     ensures status { IfOk result (λ code.
         (exit_status code ≡ 0) ⊎ (exit_status code ≡ 1) ⊎ (exit_status code ≡ 3)) }
 {
