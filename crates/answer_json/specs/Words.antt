@@ -1,14 +1,9 @@
 -- What each word of an answer is called.
 use Rattle.std.specs.Prelude.{ℕ, ◌+◌, ◌==◌, Bool, ◌||◌, List, [], ◌++◌, nat_lt, if◌then◌else◌, Option, Some, None, codes}
 use Rattle.std.specs.List.{list_any}
-use Rattle.std.specs.Option.{option_map_or}
 use Rattle.std.specs.Str.{bytes_eq, is_utf8}
-use Rattle.streams.specs.Fields.{cut_of}
+use Rattle.streams.specs.Fields.{first_word}
 use Rattle.answer_json.specs.Strings.{pair_of, string_of}
-
--- what stands before the first space, or all
-abbrev pub first_word : List ℕ → List ℕ
-first_word text = option_map_or (λ parts. parts.0) (cut_of text) text
 
 -- the first word of an answer says of which kind it is
 abbrev pub kind_of : List ℕ → List ℕ

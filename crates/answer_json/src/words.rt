@@ -1,26 +1,16 @@
 //! What each word of an answer is called.
 
 ghost use Rattle.std.specs.Prelude.{◌≡◌, ◌++◌, option_map, OnOk};
-ghost use Rattle.answer_json.specs.Words.{first_word, fourth_name, has_value, is_paired, kind_of, name_at};
+ghost use Rattle.answer_json.specs.Words.{fourth_name, has_value, is_paired, kind_of, name_at};
 ghost use Rattle.answer_json.specs.Words.{place_after, second_name, third_name, told_named, told_pair};
 ghost use Rattle.answer_json.specs.Words.{told_rest, told_word};
 
 use crate::strings::{push_pair, push_string};
 use std::alloc::AllocError;
-use streams::{cut, text_of};
+use streams::{first_word, text_of};
 
 /// The name of a word; none where it has none of its own.
 type Named = Option<&'static str>;
-
-// What stands before the first space, or all.
-fn first_word(text: &str) -> &str
-    ensures { result.now ≡ first_word text.now }
-{
-    match cut(text) {
-        Some((word, _)) => word,
-        None => text,
-    }
-}
 
 /// The first word of an answer, which says of which kind it is.
 pub(crate) fn kind_of(line: &[u8]) -> &str

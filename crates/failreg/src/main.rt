@@ -1,63 +1,33 @@
 //! Action texts, and scripts that drive a cluster of failpoint registries.
 #![tactic(auto)]
 
-ghost use Rattle.std.specs.Prelude.{◌≡◌, ◌≢◌, ◌<◌, ◌⊎◌, true, false, length, if◌then◌else◌};
-ghost use Rattle.std.specs.Prelude.{None, IsOk, IfOk, IsTrue};
+ghost use Rattle.std.specs.Prelude.{◌≡◌, ◌⊎◌, false, IfOk, IsTrue};
 ghost use Rattle.std.specs.Process.{exit_status};
-ghost use Rattle.actions.specs.Reading.{reading};
 ghost use Rattle.node_steps.specs.Refusals.{is_bad_config};
 ghost use Rattle.node_service.specs.Caps.{cap_of};
-ghost use Rattle.scripts.specs.Checks.{answered_text, checked_status, checked_text};
-ghost use Rattle.scripts.specs.Script.{echoed_text, script_text};
-ghost use Rattle.scripts.specs.Warnings.{warned_text};
-ghost use Rattle.streams.specs.Streams.{IfInput, Writes};
-ghost use Rattle.streams.specs.Watched.{has_failed, has_unflushed};
-ghost use Rattle.failreg.specs.Recordings.{SaysOfAFile};
-ghost use Rattle.failreg.specs.Statuses.{HasStatus, OnStatus};
+ghost use Rattle.streams.specs.Watched.{has_failed};
+ghost use Rattle.commands.specs.Statuses.{HasStatus};
 
 mod advice;
-mod audit_refused;
-mod audited_files;
-mod auditing;
-mod charted;
-mod checking;
-mod explaining;
 mod finish;
-mod objects;
 mod part_advice;
-mod part_recording;
-mod picturing;
-mod recording;
-mod short_lines;
 mod standard;
-mod thread_runs;
-mod warning;
 
-use actions::parse_actions;
-use advice::{advice_on_audit, advice_on_parse, advice_on_service, is_missing};
-use audited_files::audit_files;
-use checking::check_threads;
+use advice::advice_on_service;
 use command_line::{
-    AuditOptions, Invocation, PartOptions, PictureOptions, ServeOptions, SimOptions, quoted,
-    read_command_line,
+    AuditOptions, Invocation, PartOptions, PictureOptions, ServeOptions, read_command_line,
 };
-use drills::DrillFault;
-use explaining::explain_codes;
-use finish::{
-    finish_audit, finish_checked, finish_parse, finish_script, finish_serve, finish_unread,
-    finish_unreadable, refuse,
+use commands::{
+    audit, check, check_threads, draw_drill, explain_codes, finish_objects, parse, say, sim,
+    threads,
 };
+use finish::{finish_serve, finish_unread, finish_unreadable};
 use node_service::{ServiceFault, serve_node, serve_recorded};
-use objects::finish_objects;
 use part_advice::advice_on_recorded;
-use picturing::draw_drill;
-use scripts::{
-    MOST_BYTES, Watched, run_script, run_script_checked, run_script_echoing, run_script_warning,
-};
 use standard::hold_standard;
 use std::alloc::AllocGlobal;
 use std::fs::{File, Files};
-use std::io::{Read, Write};
+use std::io::Write;
 use std::net::Net;
 use std::process::ExitCode;
 use std::random::RandomSource;
@@ -65,8 +35,7 @@ use std::sync::Wait;
 use std::thread::Threads;
 use std::time::Clock;
 use std::{io, net};
-use thread_runs::threads;
-use warning::say;
+use streams::Watched;
 
 fn main(rt: HostRuntime) -> anyhow::Result<ExitCode> {
     // They are held to the end.
@@ -152,115 +121,6 @@ where
         Invocation::Serve(options, part) => serve(rt, options, part),
         Invocation::Explain(text) => explain_codes(rt, &text, writer, errors),
     }
-}
-
-// Prints the canonical spelling of an action text.
-fn parse<R: Print + Eprint + AllocGlobal>(rt: &R, text: &str) -> anyhow::Result<ExitCode>
-    // Only a text that can be read has status 0; any other has status 1.
-    ensures done { OnStatus result 0 (IsOk (reading text.now)) }
-    ensures status { IfOk result (λ code. (exit_status code ≡ 0) ⊎ (exit_status code ≡ 1)) }
-{
-    let actions = parse_actions(rt.alloc(), text);
-    let advice = advice_on_parse(rt.alloc(), text, &actions);
-    finish_parse(rt, actions, &advice)
-}
-
-// Runs the script that a reader gives, and may echo its lines and say which go wrong.
-fn sim<R: Eprint + AllocGlobal, I: Read, O: Write, E: Write>(
-    rt: &R,
-    options: SimOptions,
-    reader: &mut Watched<I>,
-    writer: &mut Watched<O>,
-    errors: &mut Watched<E>,
-) -> anyhow::Result<ExitCode>
-    requires reader { has_failed reader.old ≡ false }
-    requires writer { has_failed writer.old ≡ false }
-    requires errors { has_failed errors.old ≡ false }
-    // With status 0 the whole text of what was read is written and flushed.
-    ensures done { OnStatus result 0 (IfInput I.remaining reader.old (λ input.
-        Writes O.contents writer.old writer.new
-        (if options.echo then echoed_text input else script_text input))) }
-    ensures flushed { OnStatus result 0 (has_unflushed writer.new ≡ false) }
-    // And what goes wrong in it is said, unless that isn't wanted.
-    ensures said { options.quiet ≡ false → OnStatus result 0 (
-        has_failed errors.new ≡ false → IfInput I.remaining reader.old (λ input.
-        Writes E.contents errors.old errors.new (warned_text input))) }
-    ensures quiet { options.quiet ≡ true → errors.new ≡ errors.old }
-    // A script that is too long, or that can't be read or answered, has status 1.
-    ensures read_failed { has_failed reader.new ≡ true → HasStatus result 1 }
-    ensures write_failed { has_failed writer.new ≡ true → HasStatus result 1 }
-    ensures long { IfInput I.remaining reader.old (λ input.
-        MOST_BYTES < length input → HasStatus result 1) }
-    ensures status { IfOk result (λ code. (exit_status code ≡ 0) ⊎ (exit_status code ≡ 1)) }
-{
-    let SimOptions { echo, quiet, .. } = options;
-    let run = if !quiet {
-        run_script_warning(rt.alloc(), echo, reader, writer, errors)
-    } else if echo {
-        run_script_echoing(rt.alloc(), reader, writer)
-    } else {
-        run_script(rt.alloc(), reader, writer)
-    };
-    finish_script(rt, run, "")
-}
-
-// Runs the script that a reader gives as one that is checked, and may echo its lines.
-fn check<R: Eprint + AllocGlobal, I: Read, O: Write, E: Write>(
-    rt: &R,
-    echo: bool,
-    reader: &mut Watched<I>,
-    writer: &mut Watched<O>,
-    errors: &mut Watched<E>,
-) -> anyhow::Result<ExitCode>
-    requires reader { has_failed reader.old ≡ false }
-    requires writer { has_failed writer.old ≡ false }
-    requires errors { has_failed errors.old ≡ false }
-    // The status is 1, or that of the script: 0 where nothing is said of its lines, and else 3.
-    ensures status { IfOk result (λ code. exit_status code ≢ 1 →
-        IfInput I.remaining reader.old (λ input. exit_status code ≡ checked_status input)) }
-    ensures only { IfOk result (λ code.
-        (exit_status code ≡ 0) ⊎ (exit_status code ≡ 1) ⊎ (exit_status code ≡ 3)) }
-    // Then what its lines print is written and flushed, and what is said of them.
-    ensures printed { IfOk result (λ code. exit_status code ≢ 1 →
-        IfInput I.remaining reader.old (λ input.
-        Writes O.contents writer.old writer.new (answered_text echo input))) }
-    ensures flushed { IfOk result (λ code. exit_status code ≢ 1 →
-        has_unflushed writer.new ≡ false) }
-    ensures said { IfOk result (λ code. exit_status code ≢ 1 → has_failed errors.new ≡ false →
-        IfInput I.remaining reader.old (λ input.
-        Writes E.contents errors.old errors.new (checked_text input))) }
-    // A script that is too long, or that can't be read or answered, has status 1.
-    ensures read_failed { has_failed reader.new ≡ true → HasStatus result 1 }
-    ensures write_failed { has_failed writer.new ≡ true → HasStatus result 1 }
-    ensures long { IfInput I.remaining reader.old (λ input.
-        MOST_BYTES < length input → HasStatus result 1) }
-{
-    finish_checked(
-        rt,
-        run_script_checked(rt.alloc(), echo, reader, writer, errors),
-    )
-}
-
-// Audits the drill or the part in a file, or the parts in several. The path `-` is standard input.
-fn audit<R: Eprint + AllocGlobal + Files + Input, O: Write>(
-    rt: &R,
-    paths: &[&str],
-    writer: &mut Watched<O>,
-) -> anyhow::Result<ExitCode>
-    requires { has_failed writer.old ≡ false }
-    ensures done { OnStatus result 0 (SaysOfAFile true O.contents writer.old writer.new) }
-    ensures status { IfOk result (λ code. (exit_status code ≡ 0) ⊎ (exit_status code ≡ 1)) }
-{
-    for path in paths {
-        if *path != "-" && is_missing(rt, path) {
-            let shown = quoted(rt.alloc(), path)?;
-            let advice = format!(in rt.alloc(); "{shown}: no such file")?;
-            return refuse(rt, DrillFault::ReadFailed, &advice);
-        }
-    }
-    let audited = audit_files(rt, rt.alloc(), paths, writer);
-    let advice = advice_on_audit(rt.alloc(), paths, &audited);
-    finish_audit(rt, audited, &advice)
 }
 
 // Serves the node that a command line names, and keeps its part where that is wanted.

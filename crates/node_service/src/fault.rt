@@ -1,8 +1,8 @@
 //! Why a node isn't served, or no longer.
 
-use crate::part_file::OpenFault;
 use http_serve::ServeFault;
 use node_core::NodeFault;
+use part_files::OpenFault;
 use std::error::Error;
 use std::{fmt, io};
 

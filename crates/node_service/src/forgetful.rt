@@ -1,8 +1,8 @@
 //! What is said of peers that have forgotten what they did.
 
-use crate::recording_wire::RecordingWire;
 use http_wire::{Forgetful, Forgetting, HttpWire};
 use node_registry::Label;
+use part_files::RecordingWire;
 use std::alloc::{AllocGlobal, Global};
 use std::io;
 use std::net::Net;
@@ -27,7 +27,7 @@ impl<R: Wait + Clock + Net + RandomSource + AllocGlobal + Drop> Hearing for Http
 
 impl<'a, L: Label, W: Hearing> Hearing for RecordingWire<'a, L, W> {
     fn forgetful(&mut self, alloc: Global) -> Vec<Forgetful> {
-        self.wire_mut().forgetful(alloc)
+        self.get_mut().forgetful(alloc)
     }
 }
 

@@ -5,15 +5,13 @@ mod ended;
 mod fault;
 mod forgetful;
 mod host;
-mod part_file;
 mod recording;
-mod recording_wire;
 mod serving;
 mod telling;
 
 pub use ended::NodeServed;
 pub use fault::ServiceFault;
 pub use http_serve::Reason;
-pub use part_file::OpenFault;
+pub use part_files::OpenFault;
 pub use recording::serve_recorded;
 pub use serving::serve_node;

@@ -12,14 +12,13 @@ ghost use Rattle.node_service.specs.declared.fault.ServiceFault.TheVariants.{Nod
 use crate::ended::NodeServed;
 use crate::fault::ServiceFault;
 use crate::host::Host;
-use crate::part_file::open_part;
-use crate::recording_wire::RecordingWire;
 use crate::serving::{config_of, listen, say_where};
 use crate::telling::{Service, first_paces, keep_telling, wire_to};
 use command_line::{GossipOptions, PartOptions, ServeOptions};
 use http_serve::{Ending, ServeFault, serve_recording};
 use node_core::{Ask, Config, NodeFault};
 use node_registry::{Label, Registry, Seat};
+use part_files::{OpenPart, RecordingWire, open_part};
 use part_keeper::{CallFault, PartLines, Recorder, Recording};
 use std::alloc::{AllocGlobal, Global};
 use std::fs::{File, Files};
@@ -150,7 +149,7 @@ where
         mut recording,
         telling,
     } = seats;
-    let (file, calls) = open_part(rt, rt.alloc(), registry, &mut recording, part)?;
+    let OpenPart { file, calls } = open_part(rt, rt.alloc(), registry, &mut recording, part)?;
     let recording = Recording::new(recording, PartLines::new(file));
     let recorder = Arc::new(rt.alloc(), Recorder::new(recording)).map_err(NodeFault::from)?;
     let Ok((mut runtime, listener, port)) = listen(rt, options.port) else {

@@ -1,6 +1,5 @@
 -- What is wrong with a line of a script, in words.
 use Rattle.std.specs.Prelude.{ℕ, ◌-◌, ◌==◌, Bool, List, [], ◌∷◌, ◌++◌, length, is_some, slice_get, slice_index, if◌then◌else◌, Option, Some, None, codes, decimal}
-use Rattle.std.specs.Option.{option_map_or}
 use Rattle.std.specs.Str.{bytes_eq, is_utf8}
 use Rattle.actions.specs.Names.{is_name}
 use Rattle.cluster_model.specs.Events.{WorldValue}
@@ -8,15 +7,11 @@ use Rattle.node_core.specs.Traces.{Kept, state_known}
 use Rattle.operations.specs.Operations.{count_of}
 use Rattle.replica_state.specs.States.{State}
 use Rattle.stamp_register.specs.Keys.{KeyValue}
-use Rattle.streams.specs.Fields.{cut_of, output_line}
+use Rattle.streams.specs.Fields.{first_word, output_line}
 use Rattle.scripts.specs.Script.{after_line}
 use Rattle.scripts.specs.Commands.{CommandValue, nodes, event, question, QuestionValue, list, report, rights, spent, hits}
 
 -- ---- a line that prints `bad line`
-
--- what stands before the first space, or all
-abbrev pub first_word : List ℕ → List ℕ
-first_word text = option_map_or (λ parts. parts.0) (cut_of text) text
 
 -- how a line of this question is written, or what only a script that is checked has, or that no line begins so
 abbrev pub question_form : List ℕ → List ℕ

@@ -8,7 +8,7 @@ ghost use Rattle.operations.specs.Operations.{count_of};
 ghost use Rattle.stamp_register.specs.Keys.{key_value};
 ghost use Rattle.streams.specs.Fields.{output_line};
 ghost use Rattle.scripts.specs.Commands.{command_value, question_value};
-ghost use Rattle.scripts.specs.Faults.{bad_said, ends_with_return, first_word, form_of};
+ghost use Rattle.scripts.specs.Faults.{bad_said, ends_with_return, form_of};
 ghost use Rattle.scripts.specs.Faults.{key_named, missing_at, missing_said, no_node, no_point};
 ghost use Rattle.scripts.specs.Faults.{no_term, question_form, said_of, wanted_in, why_bad};
 ghost use Rattle.scripts.specs.Faults.{why_missing};
@@ -21,20 +21,10 @@ use operations::count_of;
 use replica_state::Replica;
 use stamp_register::Key;
 use std::alloc::{AllocError, Global};
-use streams::{cut, text_of};
+use streams::{first_word, text_of};
 
 /// Why something is wrong, in words; none where nothing is.
 type Why = Option<&'static str>;
-
-// What stands before the first space, or all.
-fn first_word(text: &str) -> &str
-    ensures { result.now ≡ first_word text.now }
-{
-    match cut(text) {
-        Some((word, _)) => word,
-        None => text,
-    }
-}
 
 // How a line of this question is written, or what only a script that is checked has, or that no line
 // begins so.

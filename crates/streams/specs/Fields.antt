@@ -1,5 +1,6 @@
 -- Lines and their fields, as bytes.
 use Rattle.std.specs.Prelude.{ℕ, Bool, ◌==◌, List, [], ◌∷◌, ◌++◌, length, if◌then◌else◌, nat_lt, Option, Some, None}
+use Rattle.std.specs.Option.{option_map_or}
 use Rattle.std.specs.List.{slice_split, position_or_len, before_first, after_first}
 use Rattle.decimals.specs.Decimals.{byte_of}
 use Rattle.streams.specs.Lines.{◌>>=◌}
@@ -37,6 +38,10 @@ after_space text = after_first is_space text
 -- what stands before the first space, and what after it
 abbrev pub cut_of : List ℕ → Option (List ℕ × List ℕ)
 cut_of text = if has_space text then Some (before_space text, after_space text) else None
+
+-- what stands before the first space, or all
+abbrev pub first_word : List ℕ → List ℕ
+first_word text = option_map_or (λ parts. parts.0) (cut_of text) text
 
 -- a field: some bytes, none of which is a space
 abbrev pub field_of : List ℕ → Option (List ℕ)

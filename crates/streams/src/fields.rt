@@ -3,6 +3,7 @@
 ghost use Rattle.std.specs.Prelude.{◌≡◌, option_map};
 ghost use Rattle.std.specs.List.{position};
 ghost use Rattle.streams.specs.Fields.{is_space, cut_of, field_of, field_cut_of, byte_cut_of};
+ghost use Rattle.streams.specs.Fields.{first_word};
 
 use decimals::byte;
 
@@ -20,6 +21,16 @@ pub fn cut(text: &str) -> Option<(&str, &str)>
 {
     let space = first_space(text)?;
     Some((&text[..space], &text[space + 1..]))
+}
+
+/// What stands before the first space, or all.
+pub fn first_word(text: &str) -> &str
+    ensures { result.now ≡ first_word text.now }
+{
+    match cut(text) {
+        Some((word, _)) => word,
+        None => text,
+    }
 }
 
 /// A field: not empty, and with no space.

@@ -9,7 +9,7 @@ mod watched;
 mod whole;
 
 pub use fault::ScriptFault;
-pub use fields::{cut, cut_byte, cut_field, field};
+pub use fields::{cut, cut_byte, cut_field, field, first_word};
 pub use line::{is_skipped, text_of};
 pub use watched::Watched;
 pub use whole::{MOST_BYTES, read_script, write_text};

@@ -2,16 +2,13 @@
 use Rattle.std.specs.Prelude.{ℕ, ◌-◌, ◌==◌, Bool, List, [], length, slice_index, nat_lt, if◌then◌else◌, Option, Some, None, codes}
 use Rattle.std.specs.Option.{option_map_or}
 use Rattle.std.specs.Str.{bytes_eq, is_utf8}
-use Rattle.streams.specs.Fields.{cut_of}
+use Rattle.streams.specs.Fields.{cut_of, first_word}
 use Rattle.thread_plans.specs.Lines.{LineValue, nodes_line, seed_line, start_line, gossip_line, worker_line, calls_line, line_in}
 use Rattle.thread_plans.specs.Plans.{PlanValue, StageValue, empty, sized, started, working}
 
 -- ---- a line that has none of the forms
 
--- what stands before the first space, or all; and what stands behind it, or nothing
-abbrev pub first_word : List ℕ → List ℕ
-first_word text = option_map_or (λ parts. parts.0) (cut_of text) text
-
+-- what stands behind the first space, or nothing
 abbrev pub later_words : List ℕ → List ℕ
 later_words text = option_map_or (λ parts. parts.1) (cut_of text) []
 

@@ -3,7 +3,7 @@
 ghost use Rattle.std.specs.Prelude.{◌≡◌, option_map};
 ghost use Rattle.thread_plans.specs.Lines.{line_value};
 ghost use Rattle.thread_plans.specs.Plans.{plan_value, stage_value};
-ghost use Rattle.thread_plans.specs.Wanted.{call_form, checked_form, ends_with_return, first_word, form_of};
+ghost use Rattle.thread_plans.specs.Wanted.{call_form, checked_form, ends_with_return, form_of};
 ghost use Rattle.thread_plans.specs.Wanted.{later_words, line_form, start_form, wanted};
 ghost use Rattle.thread_plans.specs.Wanted.{wanted_at_end, wanted_first, wanted_in};
 ghost use Rattle.thread_plans.specs.Wanted.{wanted_of_started, wanted_of_worker};
@@ -12,19 +12,9 @@ ghost use Rattle.thread_plans.specs.Wanted.{wanted_of_working, wanted_there};
 use crate::line::{Line, read_line};
 use crate::plan::ThreadPlan;
 use crate::stage::Stage;
-use streams::{cut, text_of};
+use streams::{cut, first_word, text_of};
 
 const NODES_COME_FIRST: &str = "nodes <n> <cap> comes first";
-
-// What stands before the first space, or all.
-fn first_word(text: &str) -> &str
-    ensures { result.now ≡ first_word text.now }
-{
-    match cut(text) {
-        Some((word, _)) => word,
-        None => text,
-    }
-}
 
 // What stands behind the first space, or nothing.
 fn later_words(text: &str) -> &str

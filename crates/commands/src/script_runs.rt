@@ -1,0 +1,95 @@
+//! Scripts that are run, and checked where that is wanted.
+
+ghost use Rattle.std.specs.Prelude.{◌≡◌, ◌≢◌, ◌<◌, ◌⊎◌, true, false, length, if◌then◌else◌, IfOk};
+ghost use Rattle.std.specs.Process.{exit_status};
+ghost use Rattle.scripts.specs.Checks.{answered_text, checked_status, checked_text};
+ghost use Rattle.scripts.specs.Script.{echoed_text, script_text};
+ghost use Rattle.scripts.specs.Warnings.{warned_text};
+ghost use Rattle.streams.specs.Streams.{IfInput, Writes};
+ghost use Rattle.streams.specs.Watched.{has_failed, has_unflushed};
+ghost use Rattle.commands.specs.Statuses.{HasStatus, OnStatus};
+
+use crate::finish::{finish_checked, finish_script};
+use command_line::SimOptions;
+use scripts::{
+    MOST_BYTES, Watched, run_script, run_script_checked, run_script_echoing, run_script_warning,
+};
+use std::alloc::AllocGlobal;
+use std::io::{Read, Write};
+use std::process::ExitCode;
+
+/// Runs the script that a reader gives, and may echo its lines and say which go wrong.
+pub fn sim<R: Eprint + AllocGlobal, I: Read, O: Write, E: Write>(
+    rt: &R,
+    options: SimOptions,
+    reader: &mut Watched<I>,
+    writer: &mut Watched<O>,
+    errors: &mut Watched<E>,
+) -> anyhow::Result<ExitCode>
+    requires reader { has_failed reader.old ≡ false }
+    requires writer { has_failed writer.old ≡ false }
+    requires errors { has_failed errors.old ≡ false }
+    // With status 0 the whole text of what was read is written and flushed.
+    ensures done { OnStatus result 0 (IfInput I.remaining reader.old (λ input.
+        Writes O.contents writer.old writer.new
+        (if options.echo then echoed_text input else script_text input))) }
+    ensures flushed { OnStatus result 0 (has_unflushed writer.new ≡ false) }
+    // And what goes wrong in it is said, unless that isn't wanted.
+    ensures said { options.quiet ≡ false → OnStatus result 0 (
+        has_failed errors.new ≡ false → IfInput I.remaining reader.old (λ input.
+        Writes E.contents errors.old errors.new (warned_text input))) }
+    ensures quiet { options.quiet ≡ true → errors.new ≡ errors.old }
+    // A script that is too long, or that can't be read or answered, has status 1.
+    ensures read_failed { has_failed reader.new ≡ true → HasStatus result 1 }
+    ensures write_failed { has_failed writer.new ≡ true → HasStatus result 1 }
+    ensures long { IfInput I.remaining reader.old (λ input.
+        MOST_BYTES < length input → HasStatus result 1) }
+    ensures status { IfOk result (λ code. (exit_status code ≡ 0) ⊎ (exit_status code ≡ 1)) }
+{
+    let SimOptions { echo, quiet, .. } = options;
+    let run = if !quiet {
+        run_script_warning(rt.alloc(), echo, reader, writer, errors)
+    } else if echo {
+        run_script_echoing(rt.alloc(), reader, writer)
+    } else {
+        run_script(rt.alloc(), reader, writer)
+    };
+    finish_script(rt, run, "")
+}
+
+/// Runs the script that a reader gives as one that is checked, and may echo its lines.
+pub fn check<R: Eprint + AllocGlobal, I: Read, O: Write, E: Write>(
+    rt: &R,
+    echo: bool,
+    reader: &mut Watched<I>,
+    writer: &mut Watched<O>,
+    errors: &mut Watched<E>,
+) -> anyhow::Result<ExitCode>
+    requires reader { has_failed reader.old ≡ false }
+    requires writer { has_failed writer.old ≡ false }
+    requires errors { has_failed errors.old ≡ false }
+    // The status is 1, or that of the script: 0 where nothing is said of its lines, and else 3.
+    ensures status { IfOk result (λ code. exit_status code ≢ 1 →
+        IfInput I.remaining reader.old (λ input. exit_status code ≡ checked_status input)) }
+    ensures only { IfOk result (λ code.
+        (exit_status code ≡ 0) ⊎ (exit_status code ≡ 1) ⊎ (exit_status code ≡ 3)) }
+    // Then what its lines print is written and flushed, and what is said of them.
+    ensures printed { IfOk result (λ code. exit_status code ≢ 1 →
+        IfInput I.remaining reader.old (λ input.
+        Writes O.contents writer.old writer.new (answered_text echo input))) }
+    ensures flushed { IfOk result (λ code. exit_status code ≢ 1 →
+        has_unflushed writer.new ≡ false) }
+    ensures said { IfOk result (λ code. exit_status code ≢ 1 → has_failed errors.new ≡ false →
+        IfInput I.remaining reader.old (λ input.
+        Writes E.contents errors.old errors.new (checked_text input))) }
+    // A script that is too long, or that can't be read or answered, has status 1.
+    ensures read_failed { has_failed reader.new ≡ true → HasStatus result 1 }
+    ensures write_failed { has_failed writer.new ≡ true → HasStatus result 1 }
+    ensures long { IfInput I.remaining reader.old (λ input.
+        MOST_BYTES < length input → HasStatus result 1) }
+{
+    finish_checked(
+        rt,
+        run_script_checked(rt.alloc(), echo, reader, writer, errors),
+    )
+}

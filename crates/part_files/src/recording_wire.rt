@@ -1,0 +1,76 @@
+//! A wire of a node whose part is kept: a message leaves once its line is written.
+
+ghost use Rattle.std.specs.Prelude.{◌≡◌};
+
+use gossip::{Reach, Wire, WireError};
+use node_registry::{Label, Registry};
+use part_keeper::Recorder;
+use std::alloc::Global;
+use std::sync::Wait;
+
+/// Sends a message over a wire once all calls that were made are written, that of the message among
+/// them. Where they can't be written, none is sent, and no node is reached.
+#[derive(Drop)]
+pub struct RecordingWire<'a, L: Label, W> {
+    wire: W,
+    registry: &'a Registry<L>,
+    recorder: &'a Recorder<L>,
+    // Whether calls were still made when a node was looked for last.
+    goes_on: bool,
+}
+
+impl<'a, L: Label, W> RecordingWire<'a, L, W> {
+    pub fn new(
+        wire: W,
+        registry: &'a Registry<L>,
+        recorder: &'a Recorder<L>,
+    ) -> RecordingWire<'a, L, W>
+        ensures { result.wire ≡ wire }
+    {
+        RecordingWire {
+            wire,
+            registry,
+            recorder,
+            goes_on: true,
+        }
+    }
+
+    /// The wire that it sends over.
+    pub fn get_mut(&mut self) -> &mut W
+        ensures { result.now ≡ self.old.wire }
+    {
+        &mut self.wire
+    }
+}
+
+impl<'a, L: Label, W: Wire> Wire for RecordingWire<'a, L, W> {
+    ghost traffic = { λ w. W.traffic w.wire };
+
+    fn send<R: Wait>(
+        &mut self,
+        rt: &R,
+        alloc: Global,
+        to: u8,
+        message: &[u8],
+    ) -> Result<(), WireError> {
+        match self.recorder.keep(rt, alloc, self.registry) {
+            Ok(()) => self.wire.send(rt, alloc, to, message),
+            Err(_) => Err(WireError::Failed),
+        }
+    }
+
+    fn take<R: Wait>(&mut self, rt: &R, alloc: Global) -> Result<Option<Vec<u8>>, WireError> {
+        self.wire.take(rt, alloc)
+    }
+}
+
+impl<'a, L: Label, W: Reach> Reach for RecordingWire<'a, L, W> {
+    ghost use Rattle.std.specs.Prelude.{◌&&◌};
+
+    ghost reached = { λ w node. w.goes_on && W.reached w.wire node };
+
+    fn reaches<R: Wait>(&mut self, rt: &R, alloc: Global, to: u8) -> bool {
+        self.goes_on = self.recorder.goes_on(rt);
+        self.goes_on && self.wire.reaches(rt, alloc, to)
+    }
+}
