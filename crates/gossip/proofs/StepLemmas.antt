@@ -44,7 +44,7 @@ own_refused_both : (config : Config) (xs ys : List Refusal) → own_refused_in c
 own_refused_both config xs ys =
     ap (filter (λ ask. not (is_delivery ask))) (map-append (λ r. ask_value_first config.nodes r.0) xs ys)
     ∙ filter-append (λ ask. not (is_delivery ask)) (map (λ r. ask_value_first config.nodes r.0) xs)
-        (map (λ r. ask_value_first config.nodes r.0) ys)
+    (map (λ r. ask_value_first config.nodes r.0) ys)
 
 -- no call
 pub adds_none : (config : Config) (seed : List ℕ) (was now : ℕ) (old new : GossipReport) (wanted : List Asked)
