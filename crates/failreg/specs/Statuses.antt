@@ -2,8 +2,8 @@
 use Rattle.std.specs.Prelude.{◌≡◌, ◌⊎◌, ℕ, List, [], Option, Some, None, Result, IfOk}
 use Rattle.std.specs.declared.process.ExitCode.{ExitCode}
 use Rattle.std.specs.Process.{exit_status}
-use Rattle.http_serve.specs.declared.ending.Reason.{Reason}
-use Rattle.http_serve.specs.declared.ending.Reason.TheVariants.{Asked, OwnAhead, AckAhead}
+use Rattle.http_service.specs.declared.ending.Reason.{Reason}
+use Rattle.http_service.specs.declared.ending.Reason.TheVariants.{Asked, OwnAhead, AckAhead}
 use Rattle.clap.specs.declared.error.kind.ErrorKind.{ErrorKind}
 use Rattle.clap.specs.declared.error.kind.ErrorKind.TheVariants.{DisplayHelp, DisplayVersion}
 

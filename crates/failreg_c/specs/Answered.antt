@@ -4,7 +4,7 @@ use Rattle.node_core.specs.Traces.{Kept}
 use Rattle.http_routes.specs.Requests.{wanted}
 use Rattle.http_routes.specs.Answers.{Comes}
 use Rattle.http_routes.specs.Memory.{IsOutOfMemory, NeedsMemory}
-use Rattle.http_routes.specs.Replies.{ReplyValue, text_reply}
+use Rattle.http_replies.specs.Replies.{ReplyValue, text_reply}
 use Rattle.spread_routes.specs.Answers.{AnswersSpread}
 use Rattle.spread_routes.specs.Paths.{spread_name}
 use Rattle.spread_routes.specs.Wanted.{spread_wanted}

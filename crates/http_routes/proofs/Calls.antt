@@ -7,7 +7,8 @@ use Rattle.node_calls.specs.declared.reply.Reply.{Reply}
 use Rattle.node_calls.specs.Told.{AskTold, reply_told}
 use Rattle.node_calls.specs.Asks.{asked_first, asked_from, reply_value}
 use Rattle.node_core.specs.Traces.{Kept, Accepts, IsRefusalOf}
-use Rattle.http_routes.specs.Replies.{ReplyValue, IsReply, acceptance_value, refusal_value}
+use Rattle.http_replies.specs.Replies.{ReplyValue, IsReply}
+use Rattle.http_routes.specs.Replies.{acceptance_value, refusal_value}
 use Rattle.http_routes.specs.Requests.{WantedValue, IsWanted, call}
 use Rattle.http_routes.specs.Answers.{Comes}
 use Rattle.http_routes.specs.Memory.{AskNeedsMemory, IsOutOfMemory, NeedsMemory, holds_fault}

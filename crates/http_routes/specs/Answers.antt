@@ -8,7 +8,8 @@ use Rattle.node_core.specs.Texts.{list_text}
 use Rattle.report_text.specs.Json.{report_json_text}
 use Rattle.report_text.specs.Status.{status_json_text}
 use Rattle.report_text.specs.declared.node_json.NodeHead.{NodeHead}
-use Rattle.http_routes.specs.Replies.{ReplyValue, IsReply, acceptance_value, no_memory, refusal_value, text_reply}
+use Rattle.http_replies.specs.Replies.{ReplyValue, IsReply, no_memory, text_reply}
+use Rattle.http_routes.specs.Replies.{acceptance_value, refusal_value}
 use Rattle.http_routes.specs.Requests.{WantedValue}
 use Rattle.http_routes.specs.Requests as wants
 

@@ -7,7 +7,8 @@ use Rattle.node_calls.specs.Told.{AskTold}
 use Rattle.node_calls.specs.Asks.{asked_first}
 use Rattle.node_core.specs.Memory.{DeliveryNeedsMemory, LoadNeedsMemory, NameNeedsMemory, SetNeedsMemory}
 use Rattle.node_core.specs.Traces.{Kept, refusal}
-use Rattle.http_routes.specs.Replies.{ReplyValue, no_memory, refusal_value}
+use Rattle.http_replies.specs.Replies.{ReplyValue, no_memory}
+use Rattle.http_routes.specs.Replies.{refusal_value}
 use Rattle.http_routes.specs.Requests as wants
 use Rattle.http_routes.specs.Requests.{WantedValue}
 

@@ -1,30 +1,12 @@
--- Replies: a status and the bytes of a body.
-use Rattle.std.specs.Prelude.{◌≡◌, ◌⊎◌, ℕ, true, false, List, [], Result, Ok, Err, codes, decimal}
+-- Replies to calls.
+use Rattle.std.specs.Prelude.{ℕ, true, false, List, [], Result, Ok, Err, codes, decimal}
 use Rattle.stamp_register.specs.Keys.{stamp_text}
 use Rattle.node_calls.specs.Asks.{Answered, IsSet, IsRemoved, IsLoaded, IsPassed, IsShifted, IsGranted, IsEmitted, IsDelivered, reply_value}
 use Rattle.node_calls.specs.declared.fault.NodeFault.{NodeFault}
 use Rattle.node_calls.specs.declared.fault.NodeFault.TheVariants as faults
 use Rattle.node_calls.specs.declared.reply.Reply.{Reply}
 use Rattle.node_calls.specs.FaultText.{node_fault_text}
-use Rattle.http_routes.specs.declared.reply.HttpReply.{HttpReply}
-
-pub record ReplyValue : Type 0 where
-  pub status : ℕ
-  pub body : List ℕ
-
-abbrev pub http_value : HttpReply → ReplyValue
-http_value r = record { status = r.status; body = r.body.items }
-
-abbrev pub text_reply : ℕ → List ℕ → ReplyValue
-text_reply status text = record { status = status; body = text }
-
--- the reply where its own memory is refused
-abbrev pub no_memory : ReplyValue
-no_memory = text_reply 503 []
-
--- this reply, or the one where its memory was refused
-abbrev pub IsReply : ReplyValue → ReplyValue → Type 0
-IsReply wanted given = (given ≡ wanted) ⊎ (given ≡ no_memory)
+use Rattle.http_replies.specs.Replies.{ReplyValue, text_reply}
 
 -- 400: what was sent is wrong; 409: it doesn't go with what the node holds; 503: the node can't now
 abbrev pub status_of : NodeFault → ℕ

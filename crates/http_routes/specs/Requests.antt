@@ -6,7 +6,7 @@ use Rattle.node_calls.specs.Told.{AskTold, ask_told, sets, removes, loads, shift
 use Rattle.http_paths.specs.Paths.{TargetValue, target_of}
 use Rattle.http_paths.specs.Paths as paths
 use Rattle.decimals.specs.Decimals.{number_of}
-use Rattle.http_routes.specs.Replies.{ReplyValue, http_value, no_memory, text_reply}
+use Rattle.http_replies.specs.Replies.{ReplyValue, http_value, no_memory, text_reply}
 use Rattle.http_routes.specs.declared.wanted.Wanted.{Wanted}
 use Rattle.http_routes.specs.declared.wanted.Wanted.TheVariants as wants
 

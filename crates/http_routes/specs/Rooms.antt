@@ -1,6 +1,6 @@
 -- A reply whose body may stand in room that is kept.
 use Rattle.std.specs.Prelude.{ℕ, List}
-use Rattle.http_routes.specs.Replies.{ReplyValue, http_value, text_reply}
+use Rattle.http_replies.specs.Replies.{ReplyValue, http_value, text_reply}
 use Rattle.http_routes.specs.declared.room.RoomReply.{RoomReply}
 use Rattle.http_routes.specs.declared.room.RoomReply.TheVariants as replies
 

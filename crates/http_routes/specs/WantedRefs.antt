@@ -1,7 +1,7 @@
 -- What a request wants, where it lies in the request.
 use Rattle.std.specs.Prelude.{codes}
 use Rattle.node_calls.specs.Told.{ask_ref_told}
-use Rattle.http_routes.specs.Replies.{ReplyValue, text_reply}
+use Rattle.http_replies.specs.Replies.{ReplyValue, text_reply}
 use Rattle.http_routes.specs.Requests.{WantedValue, call, list, report, status, answered}
 use Rattle.http_routes.specs.declared.wanted_ref.RequestFault.{RequestFault}
 use Rattle.http_routes.specs.declared.wanted_ref.RequestFault.TheVariants as faults

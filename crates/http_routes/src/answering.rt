@@ -6,15 +6,15 @@ ghost use Rattle.node_calls.specs.Told.{ask_ref_told, reply_told};
 ghost use Rattle.node_core.specs.Traces.{Accepts, IsRefusalOf};
 ghost use Rattle.http_routes.specs.Answers.{Answers, Comes};
 ghost use Rattle.http_routes.specs.Memory.{AskNeedsMemory, IsOutOfMemory, NeedsMemory};
-ghost use Rattle.http_routes.specs.Replies.{http_value};
+ghost use Rattle.http_replies.specs.Replies.{http_value};
 ghost use Rattle.http_routes.specs.Requests.{call, wanted};
 ghost use Rattle.http_routes.specs.Rooms.{room_reply_value};
 
-use crate::reply::HttpReply;
 use crate::room::{KeptRoom, RoomReply};
 use crate::status::node_status;
 use crate::wanted_ref::{WantedRef, route_ref};
 use http_paths::Routes;
+use http_replies::HttpReply;
 use node_core::{AskRef, NodeCore, NodeFault, Reply};
 use report_text::report_json;
 use std::alloc::Global;

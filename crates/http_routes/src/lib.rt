@@ -32,7 +32,8 @@ mod wanted;
 mod wanted_ref;
 
 pub use answering::{answer, answer_in};
-pub use reply::{HttpReply, ReplyRoom, reply_of};
+pub use http_replies::HttpReply;
+pub use reply::{ReplyRoom, reply_of};
 pub use room::{KeptRoom, RoomReply};
 pub use status::node_status;
 pub use wanted::{MAX_BODY, Wanted, route, route_owned, too_long};

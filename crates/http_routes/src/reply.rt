@@ -1,12 +1,14 @@
-//! Replies.
+//! Replies to calls.
 
-ghost use Rattle.std.specs.Prelude.{◌≡◌, ◌≤◌, ◌+◌, ◌++◌, ℕ, [], length, decimal};
+ghost use Rattle.std.specs.Prelude.{◌≡◌, ◌≤◌, ◌+◌, ◌++◌, ℕ, length, decimal};
 ghost use Rattle.std.specs.Prelude.{IfOk, IfErr, string_bytes, string_len, string_capacity};
 ghost use Rattle.stamp_register.specs.Keys.{stamp_text};
 ghost use Rattle.node_calls.specs.Asks.{reply_value};
-ghost use Rattle.http_routes.specs.Replies.{acceptance_value, answered_text, http_value, no_memory};
-ghost use Rattle.http_routes.specs.Replies.{outcome_value, refusal_value, status_of, text_reply, IsReply};
+ghost use Rattle.http_replies.specs.Replies.{http_value, IsReply};
+ghost use Rattle.http_routes.specs.Replies.{acceptance_value, answered_text, outcome_value};
+ghost use Rattle.http_routes.specs.Replies.{refusal_value, status_of};
 
+use http_replies::HttpReply;
 use itoa::Buffer;
 use node_core::{Ask, NodeFault, Reply};
 use stamp_register::Stamp;
@@ -15,49 +17,6 @@ use std::fmt::Write;
 
 /// Room for the reply to any call, in bytes: that of an accepted one always fits.
 pub(crate) const ROOM: usize = 128;
-
-/// The status and the body of a reply.
-#[derive(Debug, Drop)]
-pub struct HttpReply {
-    pub status: u16,
-    pub body: Vec<u8>,
-}
-
-impl HttpReply {
-    /// The reply where its own memory is refused: 503 without a body.
-    pub fn no_memory(alloc: Global) -> HttpReply
-        ensures { http_value result ≡ no_memory }
-    {
-        HttpReply {
-            status: 503,
-            body: Vec::new(alloc),
-        }
-    }
-
-    /// A reply of a text.
-    pub fn text(alloc: Global, status: u16, text: &str) -> HttpReply
-        ensures { IsReply (text_reply status text.now) (http_value result) }
-    {
-        match Vec::from_slice(alloc, text.as_bytes()) {
-            Ok(body) => HttpReply { status, body },
-            Err(_) => HttpReply::no_memory(alloc),
-        }
-    }
-
-    /// A reply of a text that was written, if there was the memory for it.
-    pub fn written(alloc: Global, status: u16, text: Result<String, AllocError>) -> HttpReply
-        ensures ok { IfOk text (λ t. http_value result ≡ text_reply status (string_bytes t)) }
-        ensures err { IfErr text (λ _. http_value result ≡ no_memory) }
-    {
-        match text {
-            Ok(text) => HttpReply {
-                status,
-                body: text.into_bytes(),
-            },
-            Err(_) => HttpReply::no_memory(alloc),
-        }
-    }
-}
 
 /// Room for the reply to a call, which is made before the call: so an accepted call is never
 /// answered as out of memory.

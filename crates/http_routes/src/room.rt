@@ -5,12 +5,14 @@ ghost use Rattle.std.specs.Prelude.{IsTrue, MatchOption, option_map, unwrap_or, 
 ghost use Rattle.node_calls.specs.Asks.{reply_value};
 ghost use Rattle.node_calls.specs.FaultText.{node_fault_text};
 ghost use Rattle.http_routes.specs.Memory.{holds_fault};
-ghost use Rattle.http_routes.specs.Replies.{acceptance_value, http_value, refusal_value, IsReply};
+ghost use Rattle.http_replies.specs.Replies.{http_value, IsReply};
+ghost use Rattle.http_routes.specs.Replies.{acceptance_value, refusal_value};
 ghost use Rattle.http_routes.specs.Rooms.{room_reply_value};
 ghost use Rattle.http_routes.specs.WantedRefs.{request_fault_reply};
 
-use crate::reply::{HttpReply, ROOM, answered, append, append_number, status_of};
+use crate::reply::{ROOM, answered, append, append_number, status_of};
 use crate::wanted_ref::RequestFault;
+use http_replies::HttpReply;
 use node_core::{NodeFault, Reply};
 use std::alloc::{AllocError, Global};
 use std::marker::Model;

@@ -4,16 +4,16 @@ ghost use Rattle.std.specs.Prelude.{◌≡◌, ◌<◌, ℕ, List, length, IfOk,
 ghost use Rattle.message_format.specs.Spelling.{max_message};
 ghost use Rattle.http_paths.specs.Targets.{target_value};
 ghost use Rattle.decimals.specs.Decimals.{number_of};
-ghost use Rattle.http_routes.specs.Replies.{http_value, no_memory, text_reply};
+ghost use Rattle.http_replies.specs.Replies.{http_value, no_memory, text_reply};
 ghost use Rattle.node_calls.specs.Told.{ask_told, delivers, grants, loads, removes, sets, shifts};
 ghost use Rattle.http_routes.specs.Requests.{answered, call, wanted_value, IsWanted};
 ghost use Rattle.http_routes.specs.Requests.{grant_wanted, is_allowed, shift_wanted, text_in};
 ghost use Rattle.http_routes.specs.Requests.{max_amount, texted, wanted, wanted_at};
 
-use crate::reply::HttpReply;
 use decimals::byte;
 use delta_exchange::MAX_MESSAGE;
 use http_paths::{Routes, Target};
+use http_replies::HttpReply;
 use node_core::{Ask, AskRef};
 use std::alloc::{AllocError, Global};
 

@@ -7,7 +7,7 @@ ghost use Rattle.node_calls.specs.Told.{loads, sets};
 ghost use Rattle.http_routes.specs.Requests.{grant_wanted, max_amount, shift_wanted, text_in, texted};
 ghost use Rattle.http_routes.specs.Requests.{wanted, wanted_at};
 ghost use Rattle.http_routes.specs.WantedRefs.{request_fault_reply, wanted_ref_value};
-ghost use Rattle.http_routes.specs.Replies.{text_reply};
+ghost use Rattle.http_replies.specs.Replies.{text_reply};
 
 use crate::wanted::{MAX_BODY, is_allowed};
 use decimals::byte;

@@ -9,7 +9,8 @@ use Rattle.node_calls.specs.Told.{ask_told}
 use Rattle.node_calls.specs.Asks.{ask_value, ask_value_first, reply_value}
 use Rattle.node_registry.specs.Receipts.{IsAnswered}
 use Rattle.node_registry.specs.Receipts as registry
-use Rattle.http_routes.specs.Replies.{ReplyValue, IsReply, acceptance_value, refusal_value}
+use Rattle.http_replies.specs.Replies.{ReplyValue, IsReply}
+use Rattle.http_routes.specs.Replies.{acceptance_value, refusal_value}
 use Rattle.http_routes.specs.Requests.{WantedValue, IsWanted, call}
 use Rattle.http_routes.specs.Requests as wants
 use Rattle.http_serve.specs.Served.{Comes, IsServed, IsServedFrom}

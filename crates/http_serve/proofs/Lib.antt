@@ -1,7 +1,4 @@
 mod Calls
 mod Crossing
-mod Endings
-mod Exchanges
 mod Methods
-mod Ports
 mod Recorded

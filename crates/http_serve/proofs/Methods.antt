@@ -2,7 +2,7 @@
 use Rattle.std.proofs.Common.{◌≡◌, ℕ, List, refl}
 use Rattle.http_paths.specs.Paths.{TargetValue, points, point, load, shift, grant, gossip, report, status}
 use Rattle.http_routes.specs.Requests.{is_allowed}
-use Rattle.http_serve.specs.Labels.{has_method, methods_of}
+use Rattle.http_service.specs.Labels.{has_method, methods_of}
 
 pub allowed : (target : TargetValue) (method : List ℕ)
     → has_method (methods_of target) method ≡ is_allowed target method

@@ -10,7 +10,8 @@ use Rattle.node_registry.specs.Receipts.{IsAnswered}
 use Rattle.node_registry.specs.Receipts as registry
 use Rattle.part_keeper.specs.Kept.{IsRecorded}
 use Rattle.part_keeper.specs.declared.fault.CallFault.TheVariants as faults
-use Rattle.http_routes.specs.Replies.{ReplyValue, IsReply, acceptance_value, no_memory, refusal_value}
+use Rattle.http_replies.specs.Replies.{ReplyValue, IsReply, no_memory}
+use Rattle.http_routes.specs.Replies.{acceptance_value, refusal_value}
 use Rattle.http_routes.specs.Requests.{WantedValue, call}
 use Rattle.http_routes.specs.Requests as wants
 use Rattle.http_serve.specs.Recorded.{IsNotMade, IsServedRecording, IsServedWriting}

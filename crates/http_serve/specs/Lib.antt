@@ -1,8 +1,2 @@
-pub mod Clients
-pub mod Endings
-pub mod Exchanges
-pub mod FaultText
-pub mod Heads
-pub mod Labels
 pub mod Recorded
 pub mod Served

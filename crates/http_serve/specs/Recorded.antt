@@ -5,7 +5,8 @@ use Rattle.node_calls.specs.declared.reply.Reply.{Reply}
 use Rattle.node_calls.specs.Asks.{reply_value}
 use Rattle.node_calls.specs.Told.{AskTold, ask_told}
 use Rattle.node_core.specs.declared.config.Config.{Config}
-use Rattle.http_routes.specs.Replies.{ReplyValue, IsReply, acceptance_value, no_memory, text_reply}
+use Rattle.http_replies.specs.Replies.{ReplyValue, IsReply, no_memory, text_reply}
+use Rattle.http_routes.specs.Replies.{acceptance_value}
 use Rattle.http_routes.specs.Requests.{WantedValue}
 use Rattle.http_routes.specs.Requests as wants
 use Rattle.part_keeper.specs.Kept.{IsRecorded}

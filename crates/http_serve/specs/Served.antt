@@ -13,7 +13,8 @@ use Rattle.node_registry.specs.Receipts as registry
 use Rattle.report_text.specs.Json.{report_json_text}
 use Rattle.report_text.specs.Status.{status_json_text}
 use Rattle.http_routes.specs.Answers.{head_of}
-use Rattle.http_routes.specs.Replies.{ReplyValue, IsReply, acceptance_value, no_memory, refusal_value, text_reply}
+use Rattle.http_replies.specs.Replies.{ReplyValue, IsReply, no_memory, text_reply}
+use Rattle.http_routes.specs.Replies.{acceptance_value, refusal_value}
 use Rattle.http_routes.specs.Requests.{WantedValue}
 use Rattle.http_routes.specs.Requests as wants
 

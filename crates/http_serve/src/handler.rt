@@ -1,59 +1,26 @@
-//! Who answers the requests of all connections.
+//! A node that answers the requests of all connections.
 
 ghost use Rattle.std.specs.Prelude.{◌≡◌, ◌<◌, ℕ, List, false, length};
 ghost use Rattle.message_format.specs.Spelling.{max_message};
 ghost use Rattle.node_calls.specs.Told.{ask_told};
-ghost use Rattle.http_routes.specs.Replies.{ReplyValue, http_value};
+ghost use Rattle.http_replies.specs.Replies.{http_value};
 ghost use Rattle.http_routes.specs.Requests.{IsWanted, wanted};
 ghost use Rattle.http_routes.specs.Requests as requests;
 ghost use Rattle.http_paths.specs.Paths.{target_of};
-ghost use Rattle.http_serve.specs.Labels.{labels_of};
+ghost use Rattle.http_service.specs.Labels.{labels_of};
 ghost use Rattle.http_serve.specs.Served.{IsServed, IsServedFrom};
 
-mod ending;
 mod recording;
 
-use crate::labels::Labels;
-pub(crate) use ending::EndingHandler;
 use http_paths::Routes;
 use http_routes::{HttpReply, ReplyRoom, Wanted, node_status, route_owned, too_long};
+use http_service::{Handler, Labels};
 use node_core::Ask;
 use node_registry::{Label, Registry, Seat};
 pub(crate) use recording::RecordingHandler;
 use report_text::report_json;
 use std::alloc::{AllocError, Global};
 use std::sync::{Arc, Mutex, Wait};
-
-/// Answers requests.
-pub trait Handler: Drop {
-    /// What a request may be answered, by its method, its path and its body.
-    ghost answers: { Self → List ℕ → List ℕ → List ℕ → ReplyValue → Type 0 };
-
-    /// The reply to a request whose body came whole.
-    fn reply<R: Wait>(
-        &self,
-        rt: &R,
-        alloc: Global,
-        method: &str,
-        path: &str,
-        body: Vec<u8>,
-    ) -> HttpReply
-        ensures { answers self.now method.now path.now body.items (http_value result) };
-
-    /// The reply to a request whose body is longer than the longest, however it goes on.
-    fn reply_too_long(&self, alloc: Global, method: &str, path: &str) -> HttpReply
-        ensures { (body : List ℕ) → max_message < length body
-            → answers self.now method.now path.now body (http_value result) };
-
-    ghost use Rattle.http_serve.specs.declared.labels.Labels.{Labels};
-
-    /// What replies are labelled as, by the path and the status.
-    ghost labelled: { List ℕ → ℕ → Labels };
-
-    /// What a reply with this status to a request of this path is labelled as.
-    fn labels(&self, path: &str, status: u16) -> Labels
-        ensures { result ≡ Self.labelled path.now status };
-}
 
 /// What reads a node for its clients, with the routes of their paths. Without a seat it makes no call.
 #[derive(Drop)]

@@ -3,7 +3,7 @@
 ghost use Rattle.std.specs.Prelude.{◌≡◌, ℕ, List};
 ghost use Rattle.http_paths.specs.Paths.{TargetValue};
 ghost use Rattle.http_routes.specs.Requests.{is_allowed};
-ghost use Rattle.http_serve.specs.Labels.{has_method, methods_of};
+ghost use Rattle.http_service.specs.Labels.{has_method, methods_of};
 
 /// The methods that a reply names are just those that the route of its path has.
 pub fn methods_are_allowed()

@@ -1,32 +1,15 @@
-//! Serves a node over HTTP: many connections at once, with one request each.
+//! Serves a node over HTTP, by the routes of `http_routes` and the connections of `http_service`.
 //!
-//! No client can hold the others up. A connection has two seconds for the head of its request and
-//! ten in all, then it is ended; so a place is free again after ten seconds at most. At most 64 are
-//! served at once. Of bodies that are longer than 64 KiB, or that don't say how long they are, at
-//! most four are taken in at once, the others wait; so bodies hold at most four times the longest
-//! one and 64 times 64 KiB, twice over while a buffer grows. Of a body 64 KiB are taken in, and then
-//! others have their turn.
-//!
-//! No page of a browser is let in: a request whose `Host` is no name of this machine, or whose
-//! `Origin` isn't the address at which the node is served, is 403, and nothing is asked of the node.
+//! A node may be served as it is, with its calls forgotten with each reply, or with its part kept: then
+//! a call is answered once its line is written.
 //!
 //! A service that has an `Ending` is ended by `POST /stop`, by whoever else has that ending, and by a
-//! message that shows that the node has forgotten what it did: then no client is let in any more, and
-//! those that are being served have two seconds.
+//! message that shows that the node has forgotten what it did.
 #![tactic(auto)]
 
-mod connection;
-mod ending;
-mod exchange;
-mod fault;
 mod handler;
-mod heads;
-mod labels;
 pub mod laws;
-mod permits;
 mod serving;
-mod until_ended;
 
-pub use ending::{Ending, Reason, Served};
-pub use fault::ServeFault;
+pub use http_service::{Ending, Reason, ServeFault, Served};
 pub use serving::{serve, serve_forgetting, serve_recording};

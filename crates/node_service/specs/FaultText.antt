@@ -1,6 +1,6 @@
 -- The text of a fault.
 use Rattle.std.specs.Prelude.{ℕ, List, Option, Some, None, ◌++◌, codes, decimal}
-use Rattle.http_serve.specs.FaultText.{serve_fault_text}
+use Rattle.http_service.specs.FaultText.{serve_fault_text}
 use Rattle.node_calls.specs.FaultText.{node_fault_text}
 use Rattle.node_service.specs.declared.fault.ServiceFault.{ServiceFault}
 use Rattle.node_service.specs.declared.fault.ServiceFault.TheVariants as faults

@@ -2,7 +2,7 @@
 
 ghost use Rattle.std.specs.Prelude.{ℕ, IfSome, ◌≡◌};
 ghost use Rattle.std.specs.Arc.{arc_value};
-ghost use Rattle.http_serve.specs.Endings.{IsServedTo};
+ghost use Rattle.http_service.specs.Endings.{IsServedTo};
 ghost use Rattle.node_service.specs.Endings.{IsNodeServed};
 
 use http_serve::{Ending, Reason, Served};

@@ -2,7 +2,7 @@
 
 ghost use Rattle.std.specs.Prelude.{◌≡◌, ◌⊎◌, ◌+◌, ◌*◌, ◌≤◌, IfOk, IfErr, IsErrAnd, IsTrue, OnOk};
 ghost use Rattle.std.specs.Prelude.{false, replicate};
-ghost use Rattle.http_serve.specs.declared.fault.ServeFault.TheVariants.{AcceptFailed, OutOfMemory};
+ghost use Rattle.http_service.specs.declared.fault.ServeFault.TheVariants.{AcceptFailed, OutOfMemory};
 ghost use Rattle.node_core.specs.Refusals.{is_bad_config};
 ghost use Rattle.node_service.specs.Caps.{cap_of};
 ghost use Rattle.node_service.specs.Endings.{IsNodeServed};

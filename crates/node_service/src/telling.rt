@@ -1,7 +1,7 @@
 //! A node that is served, and its gossip beside it.
 
 ghost use Rattle.std.specs.Prelude.{◌≡◌, ◌≤◌, ◌<◌, ◌^◌, ◌+◌, ◌*◌, ◌⊎◌, false, length, map, IfOk, IfErr};
-ghost use Rattle.http_serve.specs.declared.fault.ServeFault.TheVariants.{AcceptFailed, OutOfMemory};
+ghost use Rattle.http_service.specs.declared.fault.ServeFault.TheVariants.{AcceptFailed, OutOfMemory};
 ghost use Rattle.node_service.specs.Endings.{IsNodeServed};
 ghost use Rattle.node_service.specs.Rounds.{first_pace, is_named, is_told, most_calls, most_peers};
 ghost use Rattle.node_service.specs.Rounds.{peer_of};

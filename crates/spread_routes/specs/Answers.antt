@@ -6,7 +6,8 @@ use Rattle.node_calls.specs.declared.fault.NodeFault.{NodeFault}
 use Rattle.node_core.specs.Traces.{Kept}
 use Rattle.node_sharing.specs.Made.{AreMade}
 use Rattle.node_sharing.specs.Spread.{IsNotSetSpread, IsNotSpread, IsSetSpread, rights_kept, spread_due}
-use Rattle.http_routes.specs.Replies.{ReplyValue, IsReply, no_memory, refusal_value, text_reply}
+use Rattle.http_replies.specs.Replies.{ReplyValue, IsReply, no_memory, text_reply}
+use Rattle.http_routes.specs.Replies.{refusal_value}
 use Rattle.http_routes.specs.WantedRefs.{request_fault_reply}
 use Rattle.spread_routes.specs.Wanted.{SpreadValue, sets, spreads, refused}
 

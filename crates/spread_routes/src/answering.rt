@@ -1,7 +1,7 @@
 //! Requests to spread, at a node.
 
 ghost use Rattle.std.specs.Prelude.{◌≡◌};
-ghost use Rattle.http_routes.specs.Replies.{http_value};
+ghost use Rattle.http_replies.specs.Replies.{http_value};
 ghost use Rattle.spread_routes.specs.Answers.{AnswersSpread};
 ghost use Rattle.spread_routes.specs.Wanted.{sets, spread_wanted, spreads};
 

@@ -4,10 +4,10 @@ use denote.Param.Send.{param_send, param_sync, arg_send, arg_sync}
 use Rattle.http_serve.proofs.Crossing.{handler_send, handler_sync}
 use Rattle.http_serve.proofs.serving.serve.Goals as goal
 
-pub serve_handler-requires-send-H : goal.serve_handler-requires-send-H
-serve_handler-requires-send-H g c κs within = param_send 0 _
+pub serve_all-requires-send-H : goal.serve_all-requires-send-H
+serve_all-requires-send-H g c κs within = param_send 0 _
     (arg_send _ yes _ (handler_send (param 0 g.row.L) g.L.Label g.L.Ledger))
 
-pub serve_handler-requires-sync-H : goal.serve_handler-requires-sync-H
-serve_handler-requires-sync-H g c κs within = param_sync 0 _
+pub serve_all-requires-sync-H : goal.serve_all-requires-sync-H
+serve_all-requires-sync-H g c κs within = param_sync 0 _
     (arg_sync _ yes _ (handler_sync (param 0 g.row.L) g.L.Label g.L.Ledger))

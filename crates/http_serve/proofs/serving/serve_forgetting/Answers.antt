@@ -4,10 +4,10 @@ use denote.Param.Send.{param_send, param_sync, arg_send, arg_sync}
 use Rattle.http_serve.proofs.Crossing.{forgetting_send, forgetting_sync}
 use Rattle.http_serve.proofs.serving.serve_forgetting.Goals as goal
 
-pub serve_ending-requires-send-H : goal.serve_ending-requires-send-H
-serve_ending-requires-send-H g c κs within = param_send 0 _
+pub serve_until_ended-requires-send-H : goal.serve_until_ended-requires-send-H
+serve_until_ended-requires-send-H g c κs within = param_send 0 _
     (arg_send _ yes _ (forgetting_send (param 0 g.row.L) g.L.Label g.L.Ledger))
 
-pub serve_ending-requires-sync-H : goal.serve_ending-requires-sync-H
-serve_ending-requires-sync-H g c κs within = param_sync 0 _
+pub serve_until_ended-requires-sync-H : goal.serve_until_ended-requires-sync-H
+serve_until_ended-requires-sync-H g c κs within = param_sync 0 _
     (arg_sync _ yes _ (forgetting_sync (param 0 g.row.L) g.L.Label g.L.Ledger))

@@ -1,6 +1,6 @@
 use Rattle.std.proofs.Common.{ℕ, inl, ap, ◌∙◌}
 use Rattle.std.specs.Prelude.{decimal}
-use Rattle.http_routes.specs.Replies.{text_reply}
+use Rattle.http_replies.specs.Replies.{text_reply}
 use Rattle.spread_routes.proofs.answering.spread_now.Goals as goal
 
 pub returns-in-Ok-spread : goal.returns-in-Ok-spread

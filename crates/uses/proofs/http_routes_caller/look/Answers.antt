@@ -2,7 +2,7 @@ use Rattle.std.proofs.Common.{◌≡◌, codes, [], Option, Some, None, inl, inr
 use Rattle.node_core.specs.Traces.{Kept}
 use Rattle.http_paths.specs.Paths.{TargetValue, target_of}
 use Rattle.http_paths.specs.Paths as paths
-use Rattle.http_routes.specs.Replies.{ReplyValue, http_value}
+use Rattle.http_replies.specs.Replies.{ReplyValue, http_value}
 use Rattle.http_routes.specs.Requests.{wanted_by}
 use Rattle.http_routes.specs.Answers.{Answers}
 use Rattle.uses.proofs.http_routes_caller.look.Goals as goal

@@ -1,4 +1,4 @@
-use Rattle.http_routes.specs.Replies.{http_value}
+use Rattle.http_replies.specs.Replies.{http_value}
 use Rattle.http_routes.specs.Requests.{wanted}
 use Rattle.http_serve.proofs.Calls.{served}
 use Rattle.http_serve.proofs.handler.ForgettingHandlerHandler.reply.Goals as goal

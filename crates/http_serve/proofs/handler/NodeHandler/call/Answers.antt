@@ -1,4 +1,4 @@
-use Rattle.http_routes.specs.Replies.{http_value}
+use Rattle.http_replies.specs.Replies.{http_value}
 use Rattle.http_serve.proofs.Calls.{called_by}
 use Rattle.http_serve.proofs.handler.NodeHandler.call.Goals as goal
 

@@ -1,5 +1,5 @@
 use Rattle.std.proofs.Common.{◌∙◌, sym}
-use Rattle.http_routes.specs.Replies.{http_value}
+use Rattle.http_replies.specs.Replies.{http_value}
 use Rattle.part_keeper.specs.Outs.{calls_of, out_of}
 use Rattle.http_serve.proofs.Recorded.{refused_so, was_recorded, written_so}
 use Rattle.http_serve.proofs.handler.recording.RecordingHandler.call_from.Goals as goal

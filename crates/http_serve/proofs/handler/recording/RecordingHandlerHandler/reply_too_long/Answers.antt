@@ -1,4 +1,4 @@
-use Rattle.http_routes.specs.Replies.{http_value}
+use Rattle.http_replies.specs.Replies.{http_value}
 use Rattle.http_routes.specs.Requests.{wanted}
 use Rattle.http_serve.proofs.Calls.{answered_so}
 use Rattle.http_serve.proofs.Recorded.{as_ever}

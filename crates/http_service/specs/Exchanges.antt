@@ -1,0 +1,170 @@
+-- What a request comes to whose body comes in frames.
+use Rattle.std.specs.Prelude.{◌≡◌, ◌⊎◌, ◌==◌, if◌then◌else◌, ◌<◌, ◌+◌, ◌++◌, ℕ, List, [], length, map, Option, Some, None, Result, Ok, Err, MatchOption, option_map, IsSomeAnd, IsTrue, IsFalse, ◌↔◌}
+use Rattle.std.specs.Arc.{arc_value}
+use Rattle.message_format.specs.Spelling.{max_message}
+use Rattle.futures.specs.Runs.{Runs}
+use Rattle.http.specs.StatusCode.{IsStatusCode}
+use Rattle.http.specs.declared.request.Request.{Request}
+use Rattle.http.specs.declared.response.Response.{Response}
+use Rattle.http.specs.Request as request
+use Rattle.http.specs.Response.{head_of, body_of}
+use Rattle.http_body.specs.declared.frame.Frame.{Frame}
+use Rattle.http_body.specs.Frame.{bytes_in, joined_data}
+use Rattle.http_body_util.specs.declared.full.Full.{Full}
+use Rattle.http_body_util.specs.declared.limited.Limited.{Limited}
+use Rattle.http_body_util.specs.declared.limited.LimitedError.{LimitedError}
+use Rattle.http_body_util.specs.declared.limited.LimitedError.TheVariants.{LengthLimit, Body}
+use Rattle.http_body_util.specs.Limited.{Limits}
+use Rattle.http_replies.specs.declared.reply.HttpReply.{HttpReply}
+use Rattle.http_replies.specs.Replies.{ReplyValue, IsReply, http_value, no_memory}
+use Rattle.http.specs.Uri.{uri_path}
+use Rattle.hyper.specs.declared.body.incoming.Incoming.{Incoming}
+use Rattle.hyper.specs.declared.error.Error.{Error}
+use Rattle.hyper.specs.declared.error.Kind.TheVariants as kinds
+use Rattle.hyper.specs.Error.{kind_of}
+use Rattle.hyper.specs.Incoming.{IncomingYields, size_left}
+use Rattle.http_service.specs.declared.exchange.ConnectionService.{ConnectionService}
+use Rattle.http_service.specs.declared.exchange.Exchange.{Exchange}
+use Rattle.http_service.specs.declared.exchange.Reading.{Reading}
+use Rattle.http_service.specs.declared.heads.Refusal.{Refusal}
+use Rattle.http_service.specs.declared.labels.Labels.{Labels}
+use Rattle.http_service.specs.Labels.{label_fields, plain_labels}
+use Rattle.http_service.specs.Heads.{refusal_of, refusal_reply}
+use Rattle.http_service.specs.declared.exchange.Reading.TheVariants as readings
+
+-- a frame of a body, or why there is none
+abbrev pub Piece : Type 0
+Piece = Result (Frame (List ℕ)) (LimitedError Error)
+
+-- what may come of a body, which ends in an error where it is longer than its limit
+abbrev pub pieces_of : {I : Type 0} → Limited (Incoming I) → Runs Piece
+pieces_of body = Limits (λ bytes. bytes) (IncomingYields body.inner) body.remaining
+
+-- By a frame the reading goes on with the frame's bytes added, or it ends as out of memory, but only where they didn't
+-- fit into the room that there was. By the body's end, or an error, it ends as that says.
+abbrev pub TakesIn : ℕ → Option Piece → List ℕ → List ℕ → Option Reading → Type 0
+TakesIn room None had has ended = (ended ≡ Some readings.Whole) × (has ≡ had)
+TakesIn room (Some (Ok frame)) had has ended =
+    ((ended ≡ None) × (has ≡ had ++ bytes_in frame.kind))
+    ⊎ ((ended ≡ Some readings.NoMemory) × (room < length had + length (bytes_in frame.kind)))
+TakesIn room (Some (Err LengthLimit)) had has ended = ended ≡ Some readings.TooLong
+TakesIn room (Some (Err (Body error))) had has ended = ended ≡ Some (readings.Broken error)
+
+-- some frames of the body came, whose bytes were added, and what may come of it now is what may follow them
+abbrev pub GoesOn : Runs Piece → List ℕ → Runs Piece → List ℕ → Type 0
+GoesOn source had rest has =
+    (frames : List (Frame (List ℕ))) × (has ≡ had ++ joined_data frames)
+    × ((xs : List Piece) (last : Option Piece) → rest xs last → source (map Ok frames ++ xs) last)
+
+-- how the reading of the body may end, and what was read then: whole is what came up to the body's end, each byte of it
+abbrev pub EndsSo : Runs Piece → List ℕ → Reading → List ℕ → Type 0
+EndsSo source had readings.Whole has =
+    (frames : List (Frame (List ℕ))) × (has ≡ had ++ joined_data frames) × source (map Ok frames) None
+EndsSo source had readings.TooLong has =
+    (frames : List (Frame (List ℕ))) × source (map Ok frames) (Some (Err LengthLimit))
+EndsSo source had (readings.Broken error) has =
+    (frames : List (Frame (List ℕ))) × source (map Ok frames) (Some (Err (Body error)))
+EndsSo source had readings.NoMemory has = Unit {0}
+
+-- its head tells that a body is longer than the longest
+abbrev pub TellsTooLong : {I : Type 0} → Incoming I → Type 0
+TellsTooLong body = IsSomeAnd (size_left body.kind) (λ told. max_message < told)
+
+-- what is asked beside the body, and whom: nobody where there was no memory
+pub record Asking (H : Type 0) : Type 0 where
+  pub handler : Option H
+  pub method : List ℕ
+  pub path : List ℕ
+
+module _ {H : Type 0} (answers : H → List ℕ → List ℕ → List ℕ → ReplyValue → Type 0) where
+  -- the reply is the handler's to a request with this body; where there is none, that there was no memory
+  abbrev pub IsAnswerTo : Asking H → List ℕ → ReplyValue → Type 0
+  IsAnswerTo asking body given =
+      MatchOption asking.handler (given ≡ no_memory) (λ handler. answers handler asking.method asking.path body given)
+
+  -- What a request comes to by how its body's reading ended. Of a body that is longer than the longest the reply is one
+  -- to any such body; a broken one has none.
+  abbrev pub ComesTo : Asking H → Reading → List ℕ → Result HttpReply Error → Type 0
+  ComesTo asking readings.Whole body (Ok reply) = IsAnswerTo asking body (http_value reply)
+  ComesTo asking readings.TooLong body (Ok reply) =
+      (longer : List ℕ) → max_message < length longer → IsAnswerTo asking longer (http_value reply)
+  ComesTo asking readings.NoMemory body (Ok reply) = http_value reply ≡ no_memory
+  ComesTo asking (readings.Broken error) body given = given ≡ Err error
+  ComesTo asking _ body (Err error) = ⊥
+
+-- the response has the reply's status, its body, and the fields that its labels say; where memory was refused, one
+-- without a body may have none
+pub record IsResponseTo (labels : Labels) (reply : ReplyValue) (response : Response (Full (List ℕ))) : Type 0 where
+  pub status : (head_of response).status ≡ reply.status
+  pub body : (body_of response).buf ≡ (if length reply.body == 0 then None else Some reply.body)
+  pub headers : ((head_of response).headers ≡ label_fields labels)
+      ⊎ ((length reply.body ≡ 0) × ((head_of response).headers ≡ []))
+
+-- a reply is given as a response with the labels of its status, if that is one and unless memory was refused; an error
+-- as it is
+abbrev pub Responds : (ℕ → Labels) → Result HttpReply Error → Result (Response (Full (List ℕ))) Error → Type 0
+Responds labels (Ok reply) (Ok response) =
+    IsStatusCode reply.status → IsResponseTo (labels reply.status) (http_value reply) response
+Responds labels (Ok reply) (Err error) = kind_of error ≡ kinds.OutOfMemory
+Responds labels (Err error) given = given ≡ Err error
+
+-- what a reply is labelled as: by the path where a handler was asked, and else as a text
+abbrev pub labels_asked : {H : Type 0} → (ℕ → Labels) → Option H → ℕ → Labels
+labels_asked labels None status = plain_labels
+labels_asked labels (Some handler) status = labels status
+
+abbrev pub labels_by : {H : Type 0} → (List ℕ → ℕ → Labels) → Asking H → ℕ → Labels
+labels_by labelled asking status = labels_asked (labelled asking.path) asking.handler status
+
+-- a head that is refused is answered so, unless memory was refused
+abbrev pub IsRefused : Refusal → Result (Response (Full (List ℕ))) Error → Type 0
+IsRefused refusal given =
+    (reply : HttpReply) × IsReply (refusal_reply refusal) (http_value reply)
+    × Responds (λ _. plain_labels) (Ok reply) given
+
+-- what a request asks of a handler
+abbrev pub asking_by : {I H : Type 0} → Request (Incoming I) → Option H → Asking H
+asking_by req handler =
+    record { handler = handler; method = (request.head_of req).method; path = uri_path (request.head_of req).uri }
+
+module _ {H : Type 0} (answers : H → List ℕ → List ℕ → List ℕ → ReplyValue → Type 0)
+    (labelled : List ℕ → ℕ → Labels) where
+  -- the request comes to that reply by how its body's reading ended, and it is what is given
+  pub record IsAnswered (asking : Asking H) (reading : Reading) (body : List ℕ)
+      (given : Result (Response (Full (List ℕ))) Error) : Type 0 where
+    pub reply : Result HttpReply Error
+    pub comes : ComesTo answers asking reading body reply
+    pub responds : Responds (labels_by labelled asking) reply given
+
+module _ {I H R : Type 0} where
+  abbrev pub asking_of : Exchange I H R → Asking H
+  asking_of e = record { handler = option_map arc_value e.handler; method = e.method; path = uri_path e.uri }
+
+  -- the exchange of a request: it asks the service's handler, or nobody where the head or memory was refused; the body
+  -- is the request's, up to the longest one, and nothing of it is read yet
+  pub record IsExchangeOf (service : ConnectionService H R) (req : Request (Incoming I)) (e : Exchange I H R) :
+      Type 0 where
+    pub refusal : e.refusal ≡ refusal_of service.port (request.head_of req).headers
+    pub asks : ((e.refusal ≡ None) × (asking_of e ≡ asking_by req (option_map arc_value service.handler)))
+        ⊎ (asking_of e ≡ asking_by req None)
+    pub told : IsTrue e.is_too_long ↔ TellsTooLong (request.body_of req)
+    pub body : e.body ≡ record { remaining = max_message; inner = request.body_of req }
+    pub read : e.read.items ≡ []
+
+  -- how the reading of what is left of the body ends: where its head tells that it is too long, nothing of it is read
+  abbrev pub ReadsSo : Exchange I H R → Reading → List ℕ → Type 0
+  ReadsSo e reading has =
+      (IsTrue e.is_too_long × (reading ≡ readings.TooLong))
+      ⊎ (IsFalse e.is_too_long × EndsSo (pieces_of e.body) e.read.items reading has)
+
+  module _ (answers : H → List ℕ → List ℕ → List ℕ → ReplyValue → Type 0) (labelled : List ℕ → ℕ → Labels) where
+    -- the reading of what is left of the body ends so, and what is given is by that
+    pub record GivesRead (e : Exchange I H R) (given : Result (Response (Full (List ℕ))) Error) : Type 0 where
+      pub reading : Reading
+      pub body : List ℕ
+      pub ends : ReadsSo e reading body
+      pub answered : IsAnswered answers labelled (asking_of e) reading body given
+
+    -- The same; where the head was refused, nobody is asked and nothing of the body is read: what is given says why.
+    abbrev pub Gives : Exchange I H R → Result (Response (Full (List ℕ))) Error → Type 0
+    Gives e given = MatchOption e.refusal (GivesRead e given) (λ refusal. IsRefused refusal given)

@@ -1,0 +1,6 @@
+pub mod Clients
+pub mod Endings
+pub mod Exchanges
+pub mod FaultText
+pub mod Heads
+pub mod Labels

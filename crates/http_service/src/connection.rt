@@ -1,0 +1,223 @@
+//! Connections beside each other, each in a task of its own.
+
+ghost use Rattle.std.specs.Prelude.{◌≡◌, ◌<◌, ◌≤◌, ◌↔◌, IsTrue, IfSome};
+ghost use Rattle.tokio.specs.Timers.{IsDelayedBy, sleep_deadline, timeout_delay, timeout_future};
+ghost use Rattle.tokio.specs.Locks.{CanAcquire};
+ghost use Rattle.http_service.specs.Clients.{AreLetIn, IsGone, LetsIn};
+
+use crate::fault::ServeFault;
+use crate::permits::{AllBack, Permits};
+use futures::executor::TaskSet;
+use futures::task::{Context, Poll};
+use futures::{Future, Stream, ready};
+use std::io;
+use std::io::ErrorKind;
+use std::net::SocketAddr;
+use std::time::{Clock, Duration};
+use tokio::net::{TcpListener, TcpStream};
+use tokio::sync::OwnedSemaphorePermit;
+use tokio::time::{Handle, Sleep, Timeout};
+
+// Connections that one poll accepts before it lets tasks run.
+const BUDGET: u32 = 128;
+
+/// Makes the task of a connection.
+pub trait ConnectionFactory: Drop {
+    type Task: Future<Output = ()> + Send;
+
+    /// `None` where there is no memory.
+    fn open(&self, socket: TcpStream, permit: OwnedSemaphorePermit) -> Option<Self::Task>
+        ensures { IfSome result Self.Task.can_poll };
+
+    /// How long to wait where no connection could be accepted. `None` where there is no memory, or
+    /// the clock can't be read.
+    fn rest(&self) -> Option<Sleep>;
+
+    /// Waits for those that are still served once no more are let in, as long as they have then. `None`
+    /// where there is no memory, or the clock can't be read.
+    fn last(&self, back: AllBack) -> Option<Timeout<AllBack>>
+        ensures { IfSome result (λ timed. timeout_future timed ≡ back) };
+}
+
+/// A connection under way, which has so long to end, whatever it ends with.
+#[derive(Drop)]
+pub struct ConnectionTask<C> {
+    timed: Timeout<C>,
+    // It is dropped after the connection.
+    permit: OwnedSemaphorePermit,
+}
+
+impl<C: Future> ConnectionTask<C> {
+    /// `None` where there is no memory, or the clock can't be read.
+    pub fn new(
+        clock: &impl Clock,
+        timers: &Handle,
+        whole: Duration,
+        connection: C,
+        permit: OwnedSemaphorePermit,
+    ) -> Option<ConnectionTask<C>>
+        requires { C.can_poll connection }
+        ensures ready { IfSome result (λ task. C.can_poll (timeout_future task.timed)) }
+        ensures connection { IfSome result (λ task. timeout_future task.timed ≡ connection) }
+        ensures whole { IfSome result (λ task.
+            IsDelayedBy whole (sleep_deadline (timeout_delay task.timed))) }
+    {
+        let timed = timers.timeout(clock, whole, connection).ok()?;
+        Some(ConnectionTask { timed, permit })
+    }
+}
+
+impl<C: Future> Future for ConnectionTask<C>
+where
+    C::Output: Drop,
+{
+    type Output = ();
+
+    ghost can_poll = { λ task. C.can_poll (timeout_future task.timed) };
+
+    fn poll(&mut self, cx: &mut Context<'_>) -> Poll<()> {
+        let _ = ready!(self.timed.poll(cx));
+        Poll::Ready(())
+    }
+}
+
+/// How many clients were let in.
+#[derive(Clone, Copy)]
+pub struct Clients {
+    let_in: u32,
+}
+
+impl Clients {
+    pub fn none() -> Clients
+        ensures { result.let_in ≡ 0 }
+    {
+        Clients { let_in: 0 }
+    }
+
+    pub fn count(&self) -> u32
+        ensures { result ≡ self.now.let_in }
+    {
+        self.let_in
+    }
+}
+
+/// Accepts so many connections, and starts the task of each.
+#[derive(Drop)]
+pub struct Accepting<'a, F: ConnectionFactory> {
+    pub tasks: &'a TaskSet<F::Task>,
+    pub listener: TcpListener,
+    pub factory: F,
+    pub permits: Permits,
+    /// The permit of the next connection.
+    pub permit: Option<OwnedSemaphorePermit>,
+    /// The rest since the last one couldn't be accepted.
+    pub rest: Option<Sleep>,
+    pub wanted: u32,
+    pub clients: Clients,
+}
+
+impl<'a, F: ConnectionFactory> Accepting<'a, F> {
+    /// Where none was accepted yet.
+    pub fn new(
+        tasks: &'a TaskSet<F::Task>,
+        listener: TcpListener,
+        factory: F,
+        permits: Permits,
+        wanted: u32,
+    ) -> Accepting<'a, F>
+        ensures { (result.permits ≡ permits) × (result.wanted ≡ wanted)
+            × (result.clients.let_in ≡ 0) }
+    {
+        Accepting {
+            tasks,
+            listener,
+            factory,
+            permits,
+            permit: None,
+            rest: None,
+            wanted,
+            clients: Clients::none(),
+        }
+    }
+}
+
+// Whether only the connection is gone that was to be accepted. The next one can be.
+fn is_gone(error: &io::Error) -> bool
+    ensures { IsTrue result ↔ IsGone error.now }
+{
+    matches!(
+        error.kind(),
+        ErrorKind::ConnectionAborted | ErrorKind::ConnectionReset
+    )
+}
+
+/// What comes of a connection that is to be accepted.
+#[derive(Drop)]
+enum Came {
+    Client(TcpStream),
+    Gone,
+    /// None can be accepted now, as for want of descriptors.
+    Later,
+}
+
+// What comes of a connection that was accepted, or that couldn't be.
+fn let_in(came: io::Result<(TcpStream, SocketAddr)>, clients: &mut Clients) -> Came
+    requires { clients.old.let_in < u32.MAX }
+    ensures { LetsIn came clients.old.let_in clients.new.let_in result }
+{
+    match came {
+        Ok((socket, _peer)) => {
+            clients.let_in += 1;
+            Came::Client(socket)
+        }
+        Err(error) if is_gone(&error) => Came::Gone,
+        Err(_) => Came::Later,
+    }
+}
+
+impl<F: ConnectionFactory> Future for Accepting<'_, F> {
+    type Output = Result<Clients, ServeFault>;
+
+    ghost can_poll = { λ accepting. IfSome accepting.permits.waiting CanAcquire
+        × (accepting.clients.let_in ≤ accepting.wanted) };
+
+    ghost gives = { λ accepting. AreLetIn accepting.wanted };
+
+    fn poll(&mut self, cx: &mut Context<'_>) -> Poll<Result<Clients, ServeFault>> {
+        for _ in 0..BUDGET {
+            if self.clients.count() == self.wanted {
+                return Poll::Ready(Ok(self.clients));
+            }
+            if let Some(rest) = &mut self.rest {
+                let _ = ready!(rest.poll(cx));
+                self.rest = None;
+            }
+            if self.permit.is_none() {
+                let Some(permit) = ready!(self.permits.poll_next(cx)) else {
+                    return Poll::Ready(Err(ServeFault::OutOfMemory));
+                };
+                self.permit = Some(permit);
+            }
+            let came = ready!(self.listener.poll_accept(cx));
+            let socket = match let_in(came, &mut self.clients) {
+                Came::Client(socket) => socket,
+                Came::Gone => continue,
+                // The permit stays for the next that can be.
+                Came::Later => match self.factory.rest() {
+                    Some(rest) => {
+                        self.rest = Some(rest);
+                        continue;
+                    }
+                    None => return cx.yield_now(),
+                },
+            };
+            // Without memory for its task the connection is closed, and counts as served.
+            if let Some(permit) = self.permit.take()
+                && let Some(task) = self.factory.open(socket, permit)
+            {
+                let _ = self.tasks.spawn(task);
+            }
+        }
+        cx.yield_now()
+    }
+}

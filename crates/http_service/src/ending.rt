@@ -1,0 +1,134 @@
+//! The end of a service before all clients were let in that it waits for.
+
+ghost use Rattle.std.specs.Prelude.{◌≡◌, take, length, bytes_eq, codes, is_some, IfSome};
+ghost use Rattle.http_replies.specs.Replies.{http_value, text_reply, IsReply};
+ghost use Rattle.http_service.specs.Endings.{reason_in};
+
+use http_replies::HttpReply;
+use std::alloc::{AllocError, Global};
+use std::sync::{Arc, OnceLock, OnceToken, Wait};
+use tokio::sync::{Notify, OwnedNotified};
+
+/// Why a service is ended early.
+#[derive(Clone, Copy, Debug, PartialEq, Eq)]
+pub enum Reason {
+    /// A client asked for it.
+    Asked,
+    /// The node refused a message that says more of it than it knows itself (`N18`): it has forgotten
+    /// what it did.
+    OwnAhead,
+    /// It refused one that knows a version of it that there isn't yet (`N19`): the same.
+    AckAhead,
+}
+
+/// The end of a service, which whoever has it may bring about. The first one's reason counts.
+#[derive(Drop)]
+pub struct Ending {
+    reason: OnceLock<Reason>,
+    bell: Arc<Notify>,
+}
+
+/// A reply that only a service gives which is ended.
+#[derive(Drop)]
+pub struct LastReply<'a> {
+    pub reply: HttpReply,
+    /// What shows that it is.
+    pub ended: OnceToken<'a, Reason>,
+}
+
+impl Ending {
+    /// Of a service that nobody has ended. The only error is out of memory.
+    pub fn new(alloc: Global) -> Result<Arc<Ending>, AllocError> {
+        let ending = Ending {
+            reason: OnceLock::new(),
+            bell: Arc::new(alloc, Notify::new(alloc)?)?,
+        };
+        Ok(Arc::new(alloc, ending)?)
+    }
+
+    /// Ends the service, unless it is ended already, and answers what shows that it is.
+    pub fn end<R: Wait>(&self, rt: &R, reason: Reason) -> OnceToken<'_, Reason>
+        ensures { result.of ≡ self.now.reason.id }
+    {
+        let ended = match self.reason.try_insert(rt, reason) {
+            Ok(ended) => ended,
+            Err((ended, _)) => ended,
+        };
+        self.bell.notify_waiters();
+        ended
+    }
+
+    /// Ends the service, and answers what the client is told that asked for it. Nothing is asked of a
+    /// node.
+    pub(crate) fn stop<R: Wait>(&self, rt: &R, alloc: Global) -> LastReply<'_>
+        ensures told { IsReply (text_reply 200 (codes "stopping")) (http_value result.reply) }
+        ensures ended { result.ended.of ≡ self.now.reason.id }
+    {
+        LastReply {
+            ended: self.end(rt, Reason::Asked),
+            reply: HttpReply::text(alloc, 200, "stopping"),
+        }
+    }
+
+    /// Ends the service where a reply shows that others know more of the node than it does.
+    pub(crate) fn meet<R: Wait>(&self, rt: &R, reply: &HttpReply) -> Option<OnceToken<'_, Reason>>
+        ensures ends { is_some result ≡ is_some (reason_in (http_value reply.now)) }
+        ensures ended { IfSome result (λ token. token.of ≡ self.now.reason.id) }
+    {
+        let reason = reason_in(reply)?;
+        Some(self.end(rt, reason))
+    }
+
+    /// What shows that the service is ended, if it is.
+    pub(crate) fn ended(&self) -> Option<OnceToken<'_, Reason>>
+        ensures { IfSome result (λ token. token.of ≡ self.now.reason.id) }
+    {
+        self.reason.witness()
+    }
+
+    /// Why it is ended.
+    pub fn reason<'a>(&'a self, ended: &OnceToken<'a, Reason>) -> Reason
+        requires { ended.now.of ≡ self.now.reason.id }
+        ensures { result ≡ ended.now.value }
+    {
+        *self.reason.value(ended)
+    }
+
+    /// Hears of the end from now on.
+    pub(crate) fn listen(&self) -> Result<OwnedNotified, AllocError> {
+        Ok(Notify::notified_owned(Arc::try_clone(&self.bell)?))
+    }
+}
+
+// Whether bytes begin with these.
+fn begins(bytes: &[u8], front: &[u8]) -> bool
+    ensures { result ≡ bytes_eq (take (length front.now) bytes.now) front.now }
+{
+    let (start, _) = bytes.split_at(front.len().min(bytes.len()));
+    start == front
+}
+
+// Why a reply of the node ends its service, if it does.
+fn reason_in(reply: &HttpReply) -> Option<Reason>
+    ensures { result ≡ reason_in (http_value reply.now) }
+{
+    if reply.status != 400 {
+        return None;
+    }
+    if begins(&reply.body, b"N18 ") {
+        return Some(Reason::OwnAhead);
+    }
+    if begins(&reply.body, b"N19 ") {
+        return Some(Reason::AckAhead);
+    }
+    None
+}
+
+/// How a service ended.
+#[derive(Drop)]
+pub struct Served<'a> {
+    /// How many clients were let in.
+    pub clients: u32,
+    /// Where it was ended early, what shows that.
+    pub early: Option<OnceToken<'a, Reason>>,
+}

@@ -1,0 +1,34 @@
+//! Serves any handler over HTTP: many connections at once, with one request each.
+//!
+//! No client can hold the others up. A connection has two seconds for the head of its request and
+//! ten in all, then it is ended; so a place is free again after ten seconds at most. At most 64 are
+//! served at once. Of bodies that are longer than 64 KiB, or that don't say how long they are, at
+//! most four are taken in at once, the others wait; so bodies hold at most four times the longest
+//! one and 64 times 64 KiB, twice over while a buffer grows. Of a body 64 KiB are taken in, and then
+//! others have their turn.
+//!
+//! No page of a browser is let in: a request whose `Host` is no name of this machine, or whose
+//! `Origin` isn't the address at which the handler is served, is 403, and nothing is asked of it.
+//!
+//! A service that has an `Ending` is ended by `POST /stop`, by whoever else has that ending, and by a
+//! reply that shows that a node has forgotten what it did: then no client is let in any more, and
+//! those that are being served have two seconds.
+#![tactic(auto)]
+
+mod connection;
+mod ending;
+mod exchange;
+mod fault;
+mod handler;
+mod heads;
+mod labels;
+mod permits;
+mod serving;
+mod until_ended;
+
+pub use ending::{Ending, Reason, Served};
+pub use fault::ServeFault;
+pub use handler::Handler;
+pub use http_replies::HttpReply;
+pub use labels::{Content, Labels, Methods};
+pub use serving::{serve_all, serve_until_ended};

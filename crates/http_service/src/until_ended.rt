@@ -1,0 +1,121 @@
+//! Clients that are let in until their service is ended.
+
+ghost use Rattle.std.specs.Prelude.{◌≡◌, ◌≤◌, IfOk, IfSome};
+ghost use Rattle.futures.specs.Poll.{OnPending};
+ghost use Rattle.futures.specs.Task.{IsArmed, Keeps};
+ghost use Rattle.tokio.specs.Locks.{CanAcquire};
+ghost use Rattle.tokio.specs.Timers.{timeout_future};
+ghost use Rattle.http_service.specs.Endings.{AreLetInOrEnded};
+
+use crate::connection::{Accepting, Clients, ConnectionFactory};
+use crate::ending::Ending;
+use crate::fault::ServeFault;
+use crate::permits::AllBack;
+use futures::executor::TaskSet;
+use futures::task::{Context, Poll};
+use futures::{Future, ready};
+use std::alloc::AllocError;
+use tokio::sync::OwnedNotified;
+use tokio::time::Timeout;
+
+/// Which clients were let in.
+#[derive(Clone, Copy)]
+pub enum LetIn {
+    /// As many as were wanted.
+    All(Clients),
+    /// So many when the service was ended.
+    Ended(Clients),
+}
+
+/// Accepts connections until as many have come as are wanted, or the service is ended. Then it waits
+/// for those that are still served, for so long at most, and drops them.
+#[derive(Drop)]
+pub struct UntilEnded<'a, F: ConnectionFactory> {
+    // There is none once the service is ended: its listener is closed then.
+    accepting: Option<Accepting<'a, F>>,
+    // What those are waited for by then who are still served, unless there was no memory for it.
+    last: Option<Timeout<AllBack>>,
+    tasks: &'a TaskSet<F::Task>,
+    ending: &'a Ending,
+    bell: OwnedNotified,
+    wanted: u32,
+    // How many were let in when it was ended.
+    clients: Clients,
+}
+
+impl<'a, F: ConnectionFactory> UntilEnded<'a, F> {
+    /// The only error is out of memory.
+    pub fn new(
+        accepting: Accepting<'a, F>,
+        ending: &'a Ending,
+    ) -> Result<UntilEnded<'a, F>, AllocError>
+        requires waiting { IfSome accepting.permits.waiting CanAcquire }
+        requires few { accepting.clients.let_in ≤ accepting.wanted }
+        ensures can_poll { IfOk result (λ u. ⟦<UntilEnded<'a, F> as Future>⟧.can_poll u) }
+        ensures wanted { IfOk result (λ u. u.wanted ≡ accepting.entry.wanted) }
+    {
+        let (tasks, wanted) = (accepting.tasks, accepting.wanted);
+        Ok(UntilEnded {
+            bell: ending.listen()?,
+            accepting: Some(accepting),
+            last: None,
+            tasks,
+            ending,
+            wanted,
+            clients: Clients::none(),
+        })
+    }
+}
+
+// Whether the time of those is over who are still served. Where they can't be waited for, it is.
+fn poll_last(last: &mut Option<Timeout<AllBack>>, cx: &mut Context<'_>) -> Poll<bool>
+    requires { IfSome last.old (λ last. CanAcquire (timeout_future last).waiting) }
+    ensures again { OnPending result
+        (IfSome last.new (λ last. CanAcquire (timeout_future last).waiting)) }
+    ensures armed { OnPending result (IsArmed cx.new) }
+    ensures kept { Keeps cx.old cx.new }
+{
+    let Some(back) = last else {
+        return Poll::Ready(true);
+    };
+    let back = ready!(back.poll(cx));
+    Poll::Ready(back.is_err())
+}
+
+impl<'a, F: ConnectionFactory> Future for UntilEnded<'a, F> {
+    type Output = Result<LetIn, ServeFault>;
+
+    ghost can_poll = { λ u. IfSome u.accepting (λ a. IfSome a.permits.waiting CanAcquire
+        × (a.clients.let_in ≤ a.wanted) × (a.wanted ≡ u.wanted))
+        × IfSome u.last (λ last. CanAcquire (timeout_future last).waiting)
+        × (u.clients.let_in ≤ u.wanted) };
+
+    ghost gives = { λ u. AreLetInOrEnded u.wanted };
+
+    fn poll(&mut self, cx: &mut Context<'_>) -> Poll<Result<LetIn, ServeFault>> {
+        // From now on it is polled again when the service is ended.
+        let _ = self.bell.poll(cx);
+        let is_ended = self.ending.ended().is_some();
+        if let Some(mut accepting) = self.accepting.take() {
+            if !is_ended {
+                return match accepting.poll(cx) {
+                    Poll::Ready(Ok(clients)) => Poll::Ready(Ok(LetIn::All(clients))),
+                    Poll::Ready(Err(fault)) => Poll::Ready(Err(fault)),
+                    Poll::Pending => {
+                        self.accepting = Some(accepting);
+                        Poll::Pending
+                    }
+                };
+            }
+            self.clients = accepting.clients;
+            self.last = match accepting.permits.all_back() {
+                Some(back) => accepting.factory.last(back),
+                None => None,
+            };
+        }
+        if ready!(poll_last(&mut self.last, cx)) {
+            self.tasks.shut_down();
+        }
+        Poll::Ready(Ok(LetIn::Ended(self.clients)))
+    }
+}

@@ -1,0 +1,67 @@
+//! A caller of `http_service`.
+
+ghost use Rattle.std.specs.Prelude.{◌≡◌, IfOk, codes};
+ghost use Rattle.http_replies.specs.Replies.{http_value, text_reply, IsReply};
+ghost use Rattle.http_service.specs.Labels.{plain_labels};
+
+use http_service::{Handler, HttpReply, Labels, ServeFault, serve_all};
+use std::alloc::{AllocGlobal, Global};
+use std::random::RandomSource;
+use std::sync::{Arc, Wait};
+use std::thread::Threads;
+use std::time::Clock;
+use tokio::net::TcpListener;
+use tokio::runtime::Runtime;
+
+/// Answers every request alike.
+#[derive(Drop)]
+struct Greeter;
+
+impl Greeter {
+    fn greet(&self, alloc: Global) -> HttpReply
+        ensures { IsReply (text_reply 200 (codes "hello")) (http_value result) }
+    {
+        HttpReply::text(alloc, 200, "hello")
+    }
+}
+
+impl Handler for Greeter {
+    ghost answers = { λ _ method path body. IsReply (text_reply 200 (codes "hello")) };
+
+    fn reply<R: Wait>(
+        &self,
+        _rt: &R,
+        alloc: Global,
+        _method: &str,
+        _path: &str,
+        _body: Vec<u8>,
+    ) -> HttpReply {
+        self.greet(alloc)
+    }
+
+    fn reply_too_long(&self, alloc: Global, _method: &str, _path: &str) -> HttpReply {
+        self.greet(alloc)
+    }
+
+    ghost labelled = { λ path status. plain_labels };
+
+    fn labels(&self, _path: &str, _status: u16) -> Labels {
+        Labels::plain()
+    }
+}
+
+/// Greets so many clients, whatever they ask for.
+pub fn greeted<R>(
+    rt: &R,
+    runtime: &mut Runtime,
+    listener: TcpListener,
+    clients: u32,
+) -> Result<u32, ServeFault>
+where
+    R: Wait + Threads + Clock + RandomSource + AllocGlobal + Send + Sync + Copy,
+    ensures { IfOk result (λ served. served ≡ clients) }
+{
+    let alloc: Global = rt.alloc();
+    let greeter = Arc::new(alloc, Greeter)?;
+    serve_all(rt, alloc, runtime, greeter, listener, clients)
+}
