@@ -1,9 +1,10 @@
 //! A node's calls, each of which is written before its caller is told.
 
 ghost use Rattle.std.specs.Prelude.{◌≡◌, ◌≢◌, ◌↔◌, ◌-◌, ◌+◌, true, false, not, IsTrue, IfOk, IfErr, OnOk, Err};
-ghost use Rattle.std.specs.Prelude.{OnErr, IsErr, Some, option_map, slice_get};
+ghost use Rattle.std.specs.Prelude.{◌⊎◌, OnErr, IsErr, Some, option_map, slice_get};
 ghost use Rattle.node_calls.specs.Told.{told};
 ghost use Rattle.packed_trace.specs.Packed.{seen_told};
+ghost use Rattle.node_registry.specs.Batches.{IsBatch};
 ghost use Rattle.node_registry.specs.Cells.{Cell, IsCellSince};
 ghost use Rattle.node_registry.specs.Pieces.{IsPieceOf};
 ghost use Rattle.node_registry.specs.Receipts.{IsAnswered};
@@ -12,7 +13,7 @@ ghost use Rattle.part_keeper.specs.Kept.{IsRecorded, IsUnanswered, Records};
 use crate::fault::{CallFault, NotRecorded};
 use crate::lines::PartLines;
 use node_core::{Ask, Entry, Receipt, Reply, Seen};
-use node_registry::{Label, Piece, Registry, Seat};
+use node_registry::{Batch, Label, Piece, Registry, Seat};
 use std::alloc::Global;
 use std::io::Write;
 use std::sync::Wait;
@@ -120,6 +121,37 @@ impl<L: Label, W: Write> Recording<L, W> {
         let piece = registry.give(rt, alloc, &mut self.seat);
         match self.told(alloc, &piece, receipt) {
             Ok(reply) => Ok(reply),
+            Err(_) => Err(CallFault::NotRecorded),
+        }
+    }
+
+    /// Makes the calls of a batch, writes their lines behind those of the calls that were made before,
+    /// and then answers what came of them. Where those can't be written, it says so, and no call is made
+    /// from then on.
+    pub fn make_batch<R: Wait, T: Drop, B: Batch<T>>(
+        &mut self,
+        rt: &R,
+        alloc: Global,
+        registry: &Registry<L>,
+        batch: &mut B,
+    ) -> Result<T, CallFault>
+        ensures made { IfOk result (λ answer. IsBatch L.config L.seed L.keeps L.parts
+            self.old.seat self.new.seat (λ was now. B.comes batch.old batch.new was now answer)) }
+        ensures kept { OnOk result ((c : Cell) × (piece : Piece)
+            × IsCellSince L.config L.seed L.keeps L.parts self.new.seat c × IsPieceOf c piece
+            × Records W.contents (out_of self.old) (out_of self.new) piece.trace.calls) }
+        ensures only { IfErr result (λ fault.
+            (fault ≡ CallFault.NotRecorded) ⊎ (fault ≡ CallFault.RecordingFailed)) }
+        ensures unmade { IfErr result (λ fault. fault ≢ CallFault.NotRecorded
+            → (self.new.seat ≡ self.old.seat) × (self.new.lines ≡ self.old.lines)) }
+        ensures after { self.old.lines.has_failed ≡ true → result ≡ Err CallFault.RecordingFailed }
+    {
+        if !self.goes_on() {
+            return Err(CallFault::RecordingFailed);
+        }
+        let answer = registry.make_batch(rt, alloc, &mut self.seat, batch);
+        match self.keep(rt, alloc, registry) {
+            Ok(()) => Ok(answer),
             Err(_) => Err(CallFault::NotRecorded),
         }
     }

@@ -30,7 +30,7 @@ shifts_go k shifts new (Ok x) made stopped = made_goes k shifts new made
 shifts_go k shifts new (Err fault) made stopped = stopped_goes k shifts new fault stopped
 
 -- a spread
-not_spread_goes : (k : Kept) (name : List ℕ) (new : Kept) (fault : NodeFault) → IsNotSpread k name new fault →
+pub not_spread_goes : (k : Kept) (name : List ℕ) (new : Kept) (fault : NodeFault) → IsNotSpread k name new fault →
     GoesOn k new
 not_spread_goes k name new fault (inl same) = ([], same.0)
 not_spread_goes k name new fault (inr stopped) = stopped_goes k (spread_due k name) new fault stopped.1
@@ -48,11 +48,11 @@ set_goes k set new name text stamp accepted more =
     subst (λ s. AreAccepted s more.0 new) accepted.2 more.1 in
     (asks.Set name text ∷ more.0, (refl, accepted.0, tt, from))
 
-is_set_goes : (k new : Kept) (name text : List ℕ) (stamp : Stamp) → IsSetSpread k name text stamp new → GoesOn k new
+pub is_set_goes : (k new : Kept) (name text : List ℕ) (stamp : Stamp) → IsSetSpread k name text stamp new → GoesOn k new
 is_set_goes k new name text stamp h =
     set_goes k h.set new name text stamp h.accepted (made_goes h.set (spread_due h.set name) new h.made)
 
-not_set_goes : (k new : Kept) (name text : List ℕ) (fault : NodeFault) → IsNotSetSpread k name text new fault →
+pub not_set_goes : (k new : Kept) (name text : List ℕ) (fault : NodeFault) → IsNotSetSpread k name text new fault →
     GoesOn k new
 not_set_goes k new name text fault (inl same) = ([], same.0)
 not_set_goes k new name text fault (inr h) =

@@ -1,12 +1,15 @@
 //! Requests to spread, at a node.
 
-ghost use Rattle.std.specs.Prelude.{◌≡◌};
-ghost use Rattle.http_replies.specs.Replies.{http_value};
+ghost use Rattle.std.specs.Prelude.{◌≡◌, ◌<◌, ℕ, List, length};
+ghost use Rattle.message_format.specs.Spelling.{max_message};
+ghost use Rattle.node_core.specs.Traces.{Kept};
+ghost use Rattle.http_replies.specs.Replies.{IsReply, http_value};
+ghost use Rattle.http_routes.specs.WantedRefs.{request_fault_reply};
 ghost use Rattle.spread_routes.specs.Answers.{AnswersSpread};
 ghost use Rattle.spread_routes.specs.Wanted.{sets, spread_wanted, spreads};
 
-use crate::wanted::{SpreadWanted, wanted};
-use http_routes::{HttpReply, ReplyRoom};
+use crate::wanted::{SpreadWanted, fault_of_long, wanted};
+use http_routes::{HttpReply, ReplyRoom, RequestFault};
 use node_core::{NodeCore, Reply};
 use node_sharing::{set_spread, spread};
 use std::alloc::Global;
@@ -38,6 +41,14 @@ fn spread_now(core: &mut NodeCore, alloc: Global, name: &str) -> HttpReply
     }
 }
 
+// The reply to a request with which this is wrong.
+fn refused(alloc: Global, fault: RequestFault) -> HttpReply
+    ensures { IsReply (request_fault_reply fault) (http_value result) }
+{
+    let (status, text) = fault.reply();
+    HttpReply::text(alloc, status, text)
+}
+
 /// Answers a request to spread the rights of a point: what it wants is done, or refused, and the reply
 /// says which. Nothing comes between the setting and its shifts. Room for the reply is made first, so
 /// that what was done is always answered as such.
@@ -54,9 +65,15 @@ pub fn answer_spread(
     match wanted(method, body) {
         SpreadWanted::Set(text) => set(core, alloc, name, text),
         SpreadWanted::Spread => spread_now(core, alloc, name),
-        SpreadWanted::Refused(fault) => {
-            let (status, text) = fault.reply();
-            HttpReply::text(alloc, status, text)
-        }
+        SpreadWanted::Refused(fault) => refused(alloc, fault),
     }
+}
+
+/// Answers a request to spread whose body is longer than the longest, however it goes on: at any node
+/// nothing is done.
+pub fn spread_too_long(alloc: Global, method: &str) -> HttpReply
+    ensures { (k : Kept) (name body : List ℕ) → max_message < length body
+        → AnswersSpread k name (spread_wanted method.now body) k (http_value result) }
+{
+    refused(alloc, fault_of_long(method))
 }

@@ -1,5 +1,5 @@
 //! Requests that spread the rights to a point over all nodes, beside those of `http_routes`: for a node
-//! that one request at a time is made at.
+//! at which nothing comes between the calls of one.
 //!
 //! | Path | Method | What is done | Body of a 200 |
 //! |---|---|---|---|
@@ -15,5 +15,5 @@ mod answering;
 mod paths;
 mod wanted;
 
-pub use answering::answer_spread;
+pub use answering::{answer_spread, spread_too_long};
 pub use paths::spread_name;

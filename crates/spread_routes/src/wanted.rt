@@ -1,7 +1,8 @@
 //! What a request to spread wants.
 
-ghost use Rattle.std.specs.Prelude.{◌≡◌};
-ghost use Rattle.spread_routes.specs.Wanted.{set_by, spread_value, spread_wanted};
+ghost use Rattle.std.specs.Prelude.{◌≡◌, ◌<◌, ℕ, List, length};
+ghost use Rattle.message_format.specs.Spelling.{max_message};
+ghost use Rattle.spread_routes.specs.Wanted.{is_method, refused, set_by, spread_value, spread_wanted};
 ghost use Rattle.http_routes.specs.Requests.{text_in};
 
 use crate::paths::text_of;
@@ -25,6 +26,25 @@ fn set_in(body: &[u8]) -> SpreadWanted<'_>
     match text_of(body) {
         Some(text) => SpreadWanted::Set(text),
         None => SpreadWanted::Refused(RequestFault::BadText),
+    }
+}
+
+// Whether a request to spread has this method.
+fn is_method(method: &str) -> bool
+    ensures { result ≡ is_method method.now }
+{
+    method == "PUT" || method == "POST"
+}
+
+/// What is wrong with a request whose body is longer than the longest.
+pub(crate) fn fault_of_long(method: &str) -> RequestFault
+    ensures { (body : List ℕ) → max_message < length body
+        → spread_wanted method.now body ≡ refused result }
+{
+    if is_method(method) {
+        RequestFault::TooLong
+    } else {
+        RequestFault::BadMethod
     }
 }
 
