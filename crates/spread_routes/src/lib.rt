@@ -1,5 +1,5 @@
 //! Requests that spread the rights to a point over all nodes, beside those of `http_routes`: for a node
-//! at which nothing comes between the calls of one.
+//! that one request at a time is made at.
 //!
 //! | Path | Method | What is done | Body of a 200 |
 //! |---|---|---|---|
