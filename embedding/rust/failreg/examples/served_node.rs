@@ -1,10 +1,11 @@
 //! A node that is served, by the words of `failreg serve`: `tools/serve_over_loopback` plays clients
 //! that misbehave at either.
 //!
-//!     served_node serve --node N --nodes M --port P [--requests R] [--cap C] [--every MS] [PEER..]
-//!         [--record PART] [--run TEXT] [--buffered 1] [--pass POINT]
+//!     served_node serve --node N --nodes M (--port P | --listen ADDRESS:P --key-file FILE) [PEER..]
+//!         [--requests R] [--cap C] [--every MS] [--record PART] [--run TEXT] [--buffered 1]
+//!         [--pass POINT]
 //!
-//! A peer is `N:PORT`, a node at a port of this machine. It prints `listening` and the port, and is
+//! A peer is `N:PORT`, a node at a port of this machine, or `N:ADDRESS:PORT`. It prints `listening` and the port, and is
 //! served until it is ended: how many requests are wanted is read, and not counted.
 //!
 //! With `--record` it writes its part, and goes on from it. With `--pass` it passes the point all the
@@ -14,7 +15,7 @@
 use failreg::{Builder, Peer, Registry, gossip, serve};
 use std::error::Error;
 use std::io::{self, Write};
-use std::net::Ipv4Addr;
+use std::net::{Ipv4Addr, SocketAddr};
 use std::sync::Arc;
 use std::thread;
 use std::time::Duration;
@@ -22,24 +23,25 @@ use std::time::Duration;
 /// What the words say.
 struct Wanted {
     builder: Builder,
-    port: u16,
+    listen: SocketAddr,
     every: Duration,
     peers: Vec<Peer>,
     passed: Option<String>,
 }
 
 fn peer(word: &str) -> Result<Peer, Box<dyn Error>> {
-    let (node, port) = word.split_once(':').ok_or("a peer is N:PORT")?;
-    Ok(Peer::new(
-        node.parse()?,
-        (Ipv4Addr::LOCALHOST, port.parse()?),
-    ))
+    let (node, place) = word.split_once(':').ok_or("a peer is N:PORT")?;
+    let addr = match place.parse() {
+        Ok(port) => (Ipv4Addr::LOCALHOST, port).into(),
+        Err(_) => place.parse::<SocketAddr>()?,
+    };
+    Ok(Peer::new(node.parse()?, addr))
 }
 
 fn wanted(mut words: impl Iterator<Item = String>) -> Result<Wanted, Box<dyn Error>> {
     let mut wanted = Wanted {
         builder: Registry::builder(),
-        port: 0,
+        listen: (Ipv4Addr::LOCALHOST, 0).into(),
         every: Duration::from_millis(100),
         peers: Vec::new(),
         passed: None,
@@ -54,7 +56,9 @@ fn wanted(mut words: impl Iterator<Item = String>) -> Result<Wanted, Box<dyn Err
             "--node" => wanted.builder = wanted.builder.node(value.parse()?),
             "--nodes" => wanted.builder = wanted.builder.nodes(value.parse()?),
             "--cap" => wanted.builder = wanted.builder.cap(value.parse()?),
-            "--port" => wanted.port = value.parse()?,
+            "--port" => wanted.listen.set_port(value.parse()?),
+            "--listen" => wanted.listen = value.parse()?,
+            "--key-file" => wanted.builder = wanted.builder.key_file(value),
             "--every" => wanted.every = Duration::from_millis(value.parse()?),
             "--record" => wanted.builder = wanted.builder.recording(value),
             "--run" => wanted.builder = wanted.builder.run(value),
@@ -81,7 +85,7 @@ fn pass_often(node: &Registry, point: &str) -> ! {
 fn main() -> Result<(), Box<dyn Error>> {
     let wanted = wanted(std::env::args().skip(2))?;
     let node = Arc::new(wanted.builder.build()?);
-    let serving = serve(node.clone(), (Ipv4Addr::LOCALHOST, wanted.port))?;
+    let serving = serve(node.clone(), wanted.listen)?;
     let _telling = gossip(node.clone(), &wanted.peers, wanted.every)?;
     println!("listening {}", serving.addr().port());
     io::stdout().flush()?;

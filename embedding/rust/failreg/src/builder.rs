@@ -3,8 +3,10 @@
 use crate::error::{Error, ErrorKind};
 use crate::recorder::Recorder;
 use crate::registry::Registry;
+use crate::serving::{Served, listen, serve_at};
 use std::fmt;
 use std::hash::{BuildHasher, Hasher, RandomState};
+use std::net::ToSocketAddrs;
 use std::path::{Path, PathBuf};
 use std::sync::Arc;
 
@@ -138,6 +140,7 @@ pub struct Builder {
     pub(crate) is_buffered: bool,
     pub(crate) on_refusal: OnRefusal,
     pub(crate) on_forgotten: OnForgotten,
+    pub(crate) key_file: Option<PathBuf>,
 }
 
 impl Default for Builder {
@@ -153,6 +156,7 @@ impl Default for Builder {
             is_buffered: false,
             on_refusal: OnRefusal::default(),
             on_forgotten: OnForgotten::default(),
+            key_file: None,
         }
     }
 }
@@ -274,9 +278,35 @@ impl Builder {
         }
     }
 
+    /// The file of the key that the nodes of the cluster and their clients share: 32 to 1,024 bytes,
+    /// which its owner alone may read. Where the registry is served a request without the key is
+    /// answered 401, before any of its body is read, and other nodes are told with it. With a key
+    /// they may be on other machines. Else there is none, and all are on this machine.
+    ///
+    /// A request has it as `Authorization: Bearer` and its bytes in lower-case hex. It keeps nobody
+    /// from reading what is sent: between machines that others listen on, a tunnel does.
+    pub fn key_file(self, path: impl Into<PathBuf>) -> Builder {
+        Builder {
+            key_file: Some(path.into()),
+            ..self
+        }
+    }
+
     /// Makes the registry.
     pub fn build(self) -> Result<Registry, Error> {
         Registry::built(self)
+    }
+
+    /// Makes the registry and serves it at this address, as [`serve`](crate::serve) does. Where it
+    /// can't be served there, none is made.
+    ///
+    /// # Errors
+    /// Those of [`build`](Builder::build) and of [`serve`](crate::serve).
+    pub fn listen(self, addr: impl ToSocketAddrs + fmt::Debug) -> Result<Served, Error> {
+        let listener = listen(addr, self.key_file.is_some())?;
+        let registry = Arc::new(self.build()?);
+        let serving = serve_at(registry.clone(), listener)?;
+        Ok(Served { registry, serving })
     }
 
     /// Makes it the program's registry, which `fail_point!` passes points of where it names none.

@@ -24,6 +24,7 @@ const BUFFER: &str = "FAILREG_BUFFER";
 const LISTEN: &str = "FAILREG_LISTEN";
 const PEERS: &str = "FAILREG_PEERS";
 const SHARE: &str = "FAILREG_SHARE";
+const KEY_FILE: &str = "FAILREG_KEY_FILE";
 
 /// How long to rest between two rounds in which peers are told.
 const EVERY: Duration = Duration::from_millis(100);
@@ -47,8 +48,9 @@ const EVERY: Duration = Duration::from_millis(100);
 /// | `FAILREG_RUN` | a text that the parts of one drill share ([`Builder::run`]) | an empty one |
 /// | `FAILREG_SYNC` | 1 where each write is to be with the disk ([`Builder::synced`]) | 0 |
 /// | `FAILREG_BUFFER` | 1 where lines of passes that took no right may share a write ([`Builder::buffered`]) | 0 |
-/// | `FAILREG_LISTEN` | the address at which the node is served, as [`serve`](crate::serve) does, as `127.0.0.1:7071` | it isn't served |
-/// | `FAILREG_PEERS` | where other nodes are served that are told, as [`gossip`] does, every 100 ms: each as a node and a port of 127.0.0.1, `0:7070,2:7072`, or with an address, `0@[::1]:7070` | nobody is told |
+/// | `FAILREG_LISTEN` | the address at which the node is served, as [`serve`](crate::serve) does, as `127.0.0.1:7071`, or with a key `10.0.0.2:7071` | it isn't served |
+/// | `FAILREG_PEERS` | where other nodes are served that are told, as [`gossip`] does, every 100 ms: each as a node and a port of 127.0.0.1, `0:7070,2:7072`, or an address with a port, `0:[::1]:7070` or `0@[::1]:7070`, with a key also `0:10.0.0.2:7070` | nobody is told |
+/// | `FAILREG_KEY_FILE` | the file of the key that clients and peers have to have ([`Builder::key_file`]) | there is none, and all are on this machine |
 /// | `FAILREG_SHARE` | 1 where each round in which peers are told begins by moving rights of the node to where passes happen ([`Gossip::share`]) | 0 |
 ///
 /// # Errors
@@ -60,7 +62,10 @@ pub fn from_env() -> Result<Program, Error> {
     let mut listener = None;
     let registry = first(|| {
         listener = match wanted.listen {
-            Some(addr) => Some(listen(addr).map_err(|error| error.of_variable(LISTEN))?),
+            Some(addr) => {
+                let listening = listen(addr, wanted.key_file.is_some());
+                Some(listening.map_err(|error| error.of_variable(LISTEN))?)
+            }
             None => None,
         };
         wanted.open()
@@ -158,6 +163,7 @@ struct Wanted {
     is_buffered: bool,
     listen: Option<SocketAddr>,
     peers: Vec<Peer>,
+    key_file: Option<PathBuf>,
     is_sharing: bool,
 }
 
@@ -171,13 +177,18 @@ impl Wanted {
         let builder = Registry::builder().node(self.number).nodes(self.nodes);
         let builder = builder.cap(self.cap).run(self.run.as_str());
         let builder = builder.synced(self.is_synced).buffered(self.is_buffered);
-        let registry = match &self.record {
-            Some(path) => builder.recording(path).build(),
-            None => builder.build(),
+        let builder = match &self.record {
+            Some(path) => builder.recording(path),
+            None => builder,
         };
-        let registry = registry.map_err(|error| match error.has_place() {
-            true => error.of_variable(RECORD),
-            false => error,
+        let builder = match &self.key_file {
+            Some(path) => builder.key_file(path),
+            None => builder,
+        };
+        let registry = builder.build().map_err(|error| match error.kind() {
+            ErrorKind::BadKey => error.of_variable(KEY_FILE),
+            _ if error.has_place() => error.of_variable(RECORD),
+            _ => error,
         })?;
         registry.begin_with_env()?;
         Ok(registry)
@@ -187,13 +198,15 @@ impl Wanted {
         let node = read(var, NODE, NODE_WANTED, node_of)?;
         let cap = read(var, CAP, CAP_WANTED, cap_of)?;
         let (number, nodes) = node.unwrap_or((0, 1));
-        for name in [RECORD, LISTEN, PEERS] {
+        for name in [RECORD, LISTEN, PEERS, KEY_FILE] {
             if let Some(value) = var(name).filter(|_| !has_failpoints()) {
                 let fault = "the program was built without failpoints";
                 return Err(bad(ErrorKind::Disabled, name, &value, fault));
             }
         }
         let peers = read(var, PEERS, PEERS_WANTED, peers_of)?.unwrap_or_default();
+        let key_file = var(KEY_FILE).map(PathBuf::from);
+        let others = others(&peers, number, nodes, key_file.is_some());
         Ok(Wanted {
             number,
             nodes,
@@ -203,7 +216,8 @@ impl Wanted {
             is_synced: read(var, SYNC, SWITCH_WANTED, switch_of)?.unwrap_or(false),
             is_buffered: read(var, BUFFER, SWITCH_WANTED, switch_of)?.unwrap_or(false),
             listen: read(var, LISTEN, LISTEN_WANTED, listen_of)?,
-            peers: others(&peers, number, nodes).map_err(|error| error.of_variable(PEERS))?,
+            peers: others.map_err(|error| error.of_variable(PEERS))?,
+            key_file,
             is_sharing: read(var, SHARE, SWITCH_WANTED, switch_of)?.unwrap_or(false),
         })
     }
@@ -228,29 +242,32 @@ fn switch_of(text: &str) -> Option<bool> {
     }
 }
 
-const LISTEN_WANTED: &str = "wanted is an address of this machine alone and a port, as \
-                             127.0.0.1:7071 or [::1]:7071";
+const LISTEN_WANTED: &str = "wanted is an address and a port, as 127.0.0.1:7071 or [::1]:7071, and \
+                             not a name";
 const PEERS_WANTED: &str = "wanted are other nodes, each its number, a `:` and the port of 127.0.0.1 \
-                            at which it is served, as 0:7070,2:7072, or a `@` and an address with \
-                            a port, as 0@[::1]:7070";
+                            at which it is served, as 0:7070,2:7072, or an address with a port, as \
+                            0:[::1]:7070, and not a name";
 
 fn listen_of(text: &str) -> Option<SocketAddr> {
-    text.parse()
-        .ok()
-        .filter(|addr: &SocketAddr| addr.ip().is_loopback())
+    text.parse().ok()
 }
 
 fn peers_of(text: &str) -> Option<Vec<Peer>> {
     text.split(',').map(peer_of).collect()
 }
 
-/// The peer of a text as `0:7070`, which is the form that `failreg serve` takes, or `0@[::1]:7070`.
+/// The peer of a text as `0:7070` or `0:[::1]:7070`, which are the forms that `failreg serve` takes, or
+/// `0@[::1]:7070`.
 fn peer_of(text: &str) -> Option<Peer> {
     let (node, addr) = match text.split_once('@') {
         Some((node, addr)) => (node, listen_of(addr)?),
         None => {
-            let (node, port) = text.split_once(':')?;
-            (node, (Ipv4Addr::LOCALHOST, number_of(port)?).into())
+            let (node, place) = text.split_once(':')?;
+            let addr = match number_of(place) {
+                Some(port) => (Ipv4Addr::LOCALHOST, port).into(),
+                None => listen_of(place)?,
+            };
+            (node, addr)
         }
     };
     Some(Peer::new(number_of(node)?, addr))
@@ -380,11 +397,13 @@ mod tests {
             assert_eq!((all.listen, all.peers), (Some(at(text)), vec![]));
         }
         // The node itself is left out.
-        let peers = "0:7070,1:7071,2@127.0.0.2:7072,31@[::1]:7073";
+        let peers = "0:7070,1:7071,2@127.0.0.2:7072,3:127.0.0.2:7074,30:[::1]:7075,31@[::1]:7073";
         let all = wanted(&[(NODE, "1/32"), (PEERS, peers)]).unwrap();
         let others = [
             Peer::new(0, at("127.0.0.1:7070")),
             Peer::new(2, at("127.0.0.2:7072")),
+            Peer::new(3, at("127.0.0.2:7074")),
+            Peer::new(30, at("[::1]:7075")),
             Peer::new(31, at("[::1]:7073")),
         ];
         assert_eq!((all.listen, all.peers.as_slice()), (None, &others[..]));
@@ -392,13 +411,39 @@ mod tests {
     }
 
     #[cfg(feature = "failpoints")]
-    const BAD_ADDRESSES: &str = "|7071|127.0.0.1|localhost:7071|127.0.0.1:65536|10.0.0.1:7071|\
-        0.0.0.0:7071|[::]:7071|127.0.0.1:7071,127.0.0.1:7072| 127.0.0.1:7071";
+    const BAD_ADDRESSES: &str = "|7071|127.0.0.1|localhost:7071|127.0.0.1:65536|\
+        127.0.0.1:7071,127.0.0.1:7072| 127.0.0.1:7071|[fe80::1%eth0]:7071";
 
     #[cfg(feature = "failpoints")]
     const BAD_PEERS: &str = "|7070|0|0:|:7070|0:65536|256:1|+0:7070|0:+7070|0:7070,|0:7070 2:7072|\
-        0:7070, 2:7072|0@7070|0@10.0.0.1:7070|@127.0.0.1:7070|0@localhost:7070|a@127.0.0.1:7070|\
-        0:127.0.0.1:7070";
+        0:7070, 2:7072|0@7070|@127.0.0.1:7070|0@localhost:7070|a@127.0.0.1:7070|\
+        0:127.0.0.1|0:localhost:7070|0:[fe80::1%eth0]:7070|0:::1:7070";
+
+    #[cfg(feature = "failpoints")]
+    #[test]
+    fn addresses_of_other_machines_take_a_key() {
+        let at = |text: &str| text.parse::<SocketAddr>().unwrap();
+        let far = "0:10.0.0.1:7070,2@[fe80::1%3]:7072";
+        let error = wanted(&[(PEERS, far), (NODE, "1/3")]).unwrap_err();
+        assert_eq!(error.kind(), ErrorKind::NotLocal);
+        let text =
+            "FAILREG_PEERS: address 10.0.0.1:7070: 10.0.0.1 can be reached by other machines";
+        assert!(error.to_string().starts_with(text), "{error}");
+        let set = [(PEERS, far), (NODE, "1/3"), (KEY_FILE, "key")];
+        let all = wanted(&set).unwrap();
+        assert_eq!(all.key_file, Some(PathBuf::from("key")));
+        let others = [
+            Peer::new(0, at("10.0.0.1:7070")),
+            Peer::new(2, at("[fe80::1%3]:7072")),
+        ];
+        assert_eq!(all.peers, others);
+        // Where nobody else reaches it a node may be served without one.
+        for text in ["10.0.0.1:7071", "0.0.0.0:7071", "[::]:7071"] {
+            assert_eq!(wanted(&[(LISTEN, text)]).unwrap().listen, Some(at(text)));
+            let error = listen(at(text), false).unwrap_err();
+            assert_eq!(error.kind(), ErrorKind::NotLocal, "{text}");
+        }
+    }
 
     #[cfg(feature = "failpoints")]
     #[test]

@@ -42,8 +42,10 @@ pub enum ErrorKind {
     AlreadyOpen,
     /// A variable of the environment has a value that isn't one of its own.
     BadVariable,
-    /// The address isn't one of this machine alone.
+    /// Other machines reach the address, and there is no key.
     NotLocal,
+    /// The file of a key can't be read, has too few or too many bytes, or others may use it.
+    BadKey,
     /// Nobody can be served at the address.
     CantListen,
     /// A peer isn't another node of the cluster, or is named twice.
@@ -99,7 +101,13 @@ impl ErrorKind {
             ErrorKind::Closed => "open another",
             ErrorKind::AlreadyOpen => "set it up before anything else uses the program's points",
             ErrorKind::BadVariable => "give it such a value, or unset it",
-            ErrorKind::NotLocal => "give one of this machine alone, as 127.0.0.1:7070",
+            ErrorKind::NotLocal => {
+                "give a key file too, or an address of this machine alone, as 127.0.0.1:7070"
+            }
+            ErrorKind::BadKey => {
+                "make it by `(umask 077; head -c 32 /dev/urandom >FILE)`: it has 32 to 1024 bytes, \
+                 and is its owner's alone"
+            }
             ErrorKind::CantListen => "give one where nobody listens, or port 0 for a free one",
             ErrorKind::BadPeer => "name each other node of the cluster once, by its number",
             ErrorKind::NoThread => "let the process have more threads, or more memory",
@@ -162,6 +170,13 @@ impl Error {
     pub(crate) fn at_address(self, addr: impl fmt::Debug) -> Error {
         Error {
             at: Some(format!("address {addr:?}")),
+            ..self
+        }
+    }
+
+    pub(crate) fn at_key(self, path: &Path) -> Error {
+        Error {
+            at: Some(format!("key {path:?}")),
             ..self
         }
     }

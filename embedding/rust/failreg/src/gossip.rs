@@ -2,9 +2,9 @@
 
 use crate::answers::forgotten_in;
 use crate::error::{Error, ErrorKind};
-use crate::http;
+use crate::posting;
 use crate::registry::Registry;
-use crate::serving::has_to_have_failpoints;
+use crate::serving::{has_to_have_failpoints, not_local};
 use std::fmt;
 use std::net::{SocketAddr, TcpStream};
 use std::ops::Deref;
@@ -31,7 +31,7 @@ const SHORTEST_REST: Duration = Duration::from_millis(1);
 pub struct Peer {
     /// Its number.
     pub node: u8,
-    /// Its address, which is one of this machine.
+    /// Its address, which is one of this machine, or there is a key.
     pub addr: SocketAddr,
 }
 
@@ -216,7 +216,7 @@ fn post(registry: &Registry, peer: Peer) -> Result<Outcome, Error> {
         Err(error) => return failed(error),
     };
     let message = registry.emit(peer.node)?;
-    match http::post(&stream, peer.addr, &message, end) {
+    match posting::post(&stream, peer.addr, registry.key.as_ref(), &message, end) {
         Ok((200, _)) => Ok(Outcome::Told),
         Ok((status, body)) => Ok(match forgotten_in(status, &body) {
             Some(error) => Outcome::Forgotten(error.fault().to_string()),
@@ -358,17 +358,19 @@ impl fmt::Debug for Gossip {
     }
 }
 
-// The peers but the node itself, each another node of the cluster that is served on this machine.
-pub(crate) fn others(peers: &[Peer], own: u8, nodes: u8) -> Result<Vec<Peer>, Error> {
+// The peers but the node itself, each another node of the cluster. Without a key they are on this
+// machine.
+pub(crate) fn others(
+    peers: &[Peer],
+    own: u8,
+    nodes: u8,
+    has_key: bool,
+) -> Result<Vec<Peer>, Error> {
     let mut others: Vec<Peer> = Vec::new();
     for peer in peers {
         let Peer { node, addr } = peer;
-        if !addr.ip().is_loopback() {
-            let fault = format!(
-                "{} isn't of this machine alone, and there is no password",
-                addr.ip()
-            );
-            return Err(Error::new(ErrorKind::NotLocal, fault).at_address(addr));
+        if !has_key && !addr.ip().is_loopback() {
+            return Err(not_local(addr).at_address(addr));
         }
         if *node >= nodes {
             let fault = format!("there is no node {node} in a cluster of {nodes}");
@@ -420,7 +422,8 @@ pub fn gossip(
     every: Duration,
 ) -> Result<Gossip, Error> {
     has_to_have_failpoints()?;
-    let others = others(peers, registry.made.number, registry.made.nodes)?;
+    let (made, has_key) = (&registry.made, registry.key.is_some());
+    let others = others(peers, made.number, made.nodes, has_key)?;
     let known: Known = Mutex::new(others.into_iter().map(PeerNews::new).collect());
     let (known, every) = (Arc::new(known), every.max(SHORTEST_REST));
     let (sender, end) = mpsc::channel();
@@ -469,16 +472,18 @@ mod tests {
     }
 
     #[test]
-    fn peers_are_other_nodes_on_this_machine() {
+    fn peers_are_other_nodes_on_this_machine_or_there_is_a_key() {
         let at = |node, text: &str| Peer::new(node, text.parse::<SocketAddr>().unwrap());
         let (zero, one) = (at(0, "127.0.0.1:7070"), at(1, "[::1]:7071"));
-        assert_eq!(others(&[zero, one], 0, 2), Ok(vec![one]));
-        assert_eq!(others(&[], 0, 1), Ok(vec![]));
+        assert_eq!(others(&[zero, one], 0, 2, false), Ok(vec![one]));
+        assert_eq!(others(&[], 0, 1, false), Ok(vec![]));
+        let far = at(1, "10.0.0.1:7070");
+        assert_eq!(others(&[far], 0, 2, true), Ok(vec![far]));
         for (peers, kind, text) in [
             (
-                vec![at(1, "10.0.0.1:7070")],
+                vec![far],
                 ErrorKind::NotLocal,
-                "address 10.0.0.1:7070: 10.0.0.1 isn't of this machine alone, and there is no password: ",
+                "address 10.0.0.1:7070: 10.0.0.1 can be reached by other machines, and there is no key: ",
             ),
             (
                 vec![at(2, "127.0.0.1:1")],
@@ -491,7 +496,7 @@ mod tests {
                 "address [::1]:7071: node 1 is named twice: ",
             ),
         ] {
-            let error = others(&peers, 0, 2).unwrap_err();
+            let error = others(&peers, 0, 2, false).unwrap_err();
             assert_eq!(error.kind(), kind);
             assert!(error.to_string().starts_with(text), "{error}");
         }

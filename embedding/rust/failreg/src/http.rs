@@ -2,13 +2,14 @@
 //! its head tells, or that comes in chunks.
 
 use crate::chunks::{ChunkFault, Chunks};
+use crate::key::Key;
 use crate::page::POLICY;
 use std::io::{self, ErrorKind, Read, Write};
 use std::net::{Ipv4Addr, Ipv6Addr, Shutdown, SocketAddr, TcpStream};
 use std::time::{Duration, Instant};
 
 /// The longest head, in bytes, and the most fields in it.
-const MAX_HEAD: usize = 8_192;
+pub(crate) const MAX_HEAD: usize = 8_192;
 const MAX_FIELDS: usize = 100;
 
 /// The longest body, in bytes: that of the longest message.
@@ -41,6 +42,7 @@ impl From<io::Error> for Fault {
 const BAD_LINE: Fault = Fault::Reply(400, "bad request line: send it as GET /fail HTTP/1.1");
 const BAD_FIELD: Fault = Fault::Reply(400, "bad field: send each as Name: value, ended by CR LF");
 const BAD_LENGTH: Fault = Fault::Reply(400, "bad Content-Length: send one, of digits alone");
+const NO_KEY: Fault = Fault::Reply(401, "no key: send Authorization: Bearer and the key in hex");
 const BAD_HOST: Fault = Fault::Reply(400, "bad Host: send one");
 const BARE_NEWLINE: Fault = Fault::Reply(400, "bad newline: end each line by CR LF");
 const FOREIGN_HOST: Fault = Fault::Reply(
@@ -191,9 +193,36 @@ struct Fields {
     codings: Vec<String>,
     has_host: bool,
     is_expecting: bool,
+    /// Whether a key says who may ask, and no name of this machine.
+    is_keyed: bool,
+    /// How often it says who asks, and whether it is always one who has the key.
+    credentials: usize,
+    has_key: bool,
 }
 
 impl Fields {
+    fn of(key: Option<&Key>) -> Fields {
+        Fields {
+            is_keyed: key.is_some(),
+            has_key: true,
+            ..Fields::default()
+        }
+    }
+
+    // Takes what says who asks.
+    fn take_credentials(&mut self, value: &[u8], key: Option<&Key>) {
+        self.credentials += 1;
+        self.has_key &= key.is_some_and(|key| key.is_in(value));
+    }
+
+    // Who doesn't have the key, and say so once, isn't let in where there is one.
+    fn let_in(&self) -> Result<(), Fault> {
+        match self.is_keyed && !(self.has_key && self.credentials == 1) {
+            true => Err(NO_KEY),
+            false => Ok(()),
+        }
+    }
+
     fn take(&mut self, name: &str, value: &[u8], addr: SocketAddr) -> Result<(), Fault> {
         match name {
             "content-length" => {
@@ -208,7 +237,7 @@ impl Fields {
                 self.codings.extend(codings);
             }
             "origin" if !is_served(value, addr) => return Err(FOREIGN_ORIGIN),
-            "host" if !is_this_machine(value) => return Err(FOREIGN_HOST),
+            "host" if !self.is_keyed && !is_this_machine(value) => return Err(FOREIGN_HOST),
             "host" if std::mem::replace(&mut self.has_host, true) => return Err(BAD_HOST),
             "expect" if !value.eq_ignore_ascii_case(b"100-continue") => return Err(NO_EXPECTATION),
             "expect" => self.is_expecting = true,
@@ -230,8 +259,37 @@ impl Fields {
     }
 }
 
-// A whole head, each line of it with its CR LF, at a node that is served at this address.
-fn head_of(bytes: &[u8], addr: SocketAddr) -> Result<Head, Fault> {
+// The fields of a head, of which each stands in a line. Who isn't let in learns nothing else of them.
+// The page is for all, since it asks for the key.
+fn fields_of<'a>(
+    lines: impl Iterator<Item = &'a [u8]>,
+    addr: SocketAddr,
+    key: Option<&Key>,
+    is_page: bool,
+) -> Result<Fields, Fault> {
+    let mut fields = Fields::of(key);
+    let mut taken = Ok(());
+    for (number, line) in lines.enumerate() {
+        if number == MAX_FIELDS {
+            return Err(MANY_FIELDS);
+        }
+        let line = line.strip_suffix(b"\r").unwrap_or(line);
+        let (name, value) = field(line).ok_or(BAD_FIELD)?;
+        match &*name {
+            "authorization" => fields.take_credentials(value, key),
+            _ if taken.is_ok() => taken = fields.take(&name, value, addr),
+            _ => {}
+        }
+    }
+    if !is_page {
+        fields.let_in()?;
+    }
+    taken.map(|()| fields)
+}
+
+// A whole head, each line of it with its CR LF, at a node that is served at this address, to who has
+// this key, if there is one.
+fn head_of(bytes: &[u8], addr: SocketAddr, key: Option<&Key>) -> Result<Head, Fault> {
     let mut lines = bytes
         .strip_suffix(b"\r\n")
         .ok_or(BAD_LINE)?
@@ -239,15 +297,8 @@ fn head_of(bytes: &[u8], addr: SocketAddr) -> Result<Head, Fault> {
     let first = lines.next().unwrap_or_default();
     let first = first.strip_suffix(b"\r").unwrap_or(first);
     let (method, path, version) = request_line(first).ok_or(BAD_LINE)?;
-    let mut fields = Fields::default();
-    for (number, line) in lines.enumerate() {
-        if number == MAX_FIELDS {
-            return Err(MANY_FIELDS);
-        }
-        let line = line.strip_suffix(b"\r").unwrap_or(line);
-        let (name, value) = field(line).ok_or(BAD_FIELD)?;
-        fields.take(&name, value, addr)?;
-    }
+    let is_page = (method, path) == ("GET", "/");
+    let fields = fields_of(lines, addr, key, is_page)?;
     if version == "HTTP/1.1" && !fields.has_host {
         return Err(BAD_HOST);
     }
@@ -318,8 +369,8 @@ impl<'a> Connection<'a> {
         }
     }
 
-    /// Reads the head of the request.
-    pub fn read_head(&mut self, addr: SocketAddr) -> Result<Head, Fault> {
+    /// Reads the head of the request, which has the key where there is one.
+    pub fn read_head(&mut self, addr: SocketAddr, key: Option<&Key>) -> Result<Head, Fault> {
         let (mut bytes, mut piece, mut looked) = (Vec::new(), [0; 4_096], 0);
         let end = loop {
             let read = self.read_by(&mut piece, self.begun + HEAD_TIME)?;
@@ -335,7 +386,7 @@ impl<'a> Connection<'a> {
             }
         };
         self.rest = bytes.split_off(end);
-        head_of(&bytes[..end - 2], addr)
+        head_of(&bytes[..end - 2], addr, key)
     }
 
     /// Reads the body that a head tells of. Memory grows as the body comes. What stands behind it is
@@ -416,8 +467,8 @@ impl<'a> Connection<'a> {
     }
 }
 
-// The head of a reply. It says what the body is, so that no browser guesses, and where another method
-// was sent, which the path has.
+// The head of a reply. It says what the body is, so that no browser guesses, where another method
+// was sent, which the path has, and where the key is missing, how it is sent.
 fn reply_head(head: Option<&Head>, status: u16, length: usize) -> String {
     let version = match head.is_some_and(|head| head.is_old) {
         true => "HTTP/1.0",
@@ -440,10 +491,14 @@ fn reply_head(head: Option<&Head>, status: u16, length: usize) -> String {
         Some(methods) if status == 405 => format!("allow: {methods}\r\n"),
         Some(_) | None => String::new(),
     };
+    let asks = match status {
+        401 => "www-authenticate: Bearer\r\n",
+        _ => "",
+    };
     let reason = reason(status);
     format!(
         "{version} {status} {reason}\r\ncontent-type: {content}\r\n\
-         x-content-type-options: nosniff\r\n{page}{allow}content-length: {length}\r\n\
+         x-content-type-options: nosniff\r\n{page}{allow}{asks}content-length: {length}\r\n\
          connection: close\r\n\r\n"
     )
 }
@@ -457,7 +512,11 @@ fn left_until(deadline: Instant) -> io::Result<Duration> {
 }
 
 // Reads once, by the deadline.
-fn read_by(mut stream: &TcpStream, into: &mut [u8], deadline: Instant) -> io::Result<usize> {
+pub(crate) fn read_by(
+    mut stream: &TcpStream,
+    into: &mut [u8],
+    deadline: Instant,
+) -> io::Result<usize> {
     loop {
         stream.set_read_timeout(Some(left_until(deadline)?))?;
         match stream.read(into) {
@@ -468,7 +527,11 @@ fn read_by(mut stream: &TcpStream, into: &mut [u8], deadline: Instant) -> io::Re
 }
 
 // Writes all of it, by the deadline.
-fn write_by(mut stream: &TcpStream, mut bytes: &[u8], deadline: Instant) -> io::Result<()> {
+pub(crate) fn write_by(
+    mut stream: &TcpStream,
+    mut bytes: &[u8],
+    deadline: Instant,
+) -> io::Result<()> {
     while !bytes.is_empty() {
         stream.set_write_timeout(Some(left_until(deadline)?))?;
         match stream.write(bytes) {
@@ -485,6 +548,7 @@ fn reason(status: u16) -> &'static str {
     match status {
         200 => "OK",
         400 => "Bad Request",
+        401 => "Unauthorized",
         403 => "Forbidden",
         404 => "Not Found",
         405 => "Method Not Allowed",
@@ -496,52 +560,6 @@ fn reason(status: u16) -> &'static str {
         501 => "Not Implemented",
         _ => "Service Unavailable",
     }
-}
-
-/// Posts a message to a node that is served at this address, and answers the status of the reply.
-pub fn post(
-    stream: &TcpStream,
-    addr: SocketAddr,
-    message: &[u8],
-    end: Instant,
-) -> io::Result<(u16, Vec<u8>)> {
-    let length = message.len();
-    let head = format!(
-        "POST /gossip HTTP/1.1\r\nhost: {addr}\r\nconnection: close\r\n\
-         content-length: {length}\r\n\r\n"
-    );
-    write_by(stream, head.as_bytes(), end)?;
-    write_by(stream, message, end)?;
-    let (mut line, mut piece) = (Vec::new(), [0; 256]);
-    while line.len() < 12 {
-        match read_by(stream, &mut piece, end)? {
-            0 => break,
-            read => line.extend_from_slice(&piece[..read]),
-        }
-    }
-    let no_reply = || io::Error::new(ErrorKind::InvalidData, "no reply of HTTP");
-    let status = status_of(&line).ok_or_else(no_reply)?;
-    // Why the message is refused, as far as it can be had.
-    while status == 400 && line.len() < MAX_HEAD {
-        match read_by(stream, &mut piece, end) {
-            Ok(0) | Err(_) => break,
-            Ok(read) => line.extend_from_slice(&piece[..read]),
-        }
-    }
-    Ok((status, body_of(line)))
-}
-
-// What stands behind the head of a reply.
-fn body_of(reply: Vec<u8>) -> Vec<u8> {
-    const END: &[u8] = b"\r\n\r\n";
-    let place = reply.windows(END.len()).position(|bytes| bytes == END);
-    place.map_or(Vec::new(), |place| reply[place + END.len()..].to_vec())
-}
-
-// The status of a reply that begins so.
-fn status_of(line: &[u8]) -> Option<u16> {
-    let digits = line.strip_prefix(b"HTTP/1.")?.get(2..5)?;
-    std::str::from_utf8(digits).ok()?.parse().ok()
 }
 
 #[cfg(test)]
@@ -556,10 +574,63 @@ mod tests {
     }
 
     fn read(text: &str) -> Result<Head, u16> {
-        head_of(text.as_bytes(), ADDR).map_err(|fault| match fault {
+        read_with(text, None)
+    }
+
+    fn read_with(text: &str, key: Option<&Key>) -> Result<Head, u16> {
+        head_of(text.as_bytes(), ADDR, key).map_err(|fault| match fault {
             Fault::Reply(status, _) => status,
             Fault::Gone => 0,
         })
+    }
+
+    #[test]
+    fn who_has_no_key_is_told_that_alone() {
+        let key = Key::of(&[0xab; 32]).unwrap();
+        let has = format!("Authorization: Bearer {}\r\n", "ab".repeat(32));
+        let near = format!("Authorization: Bearer {}ac\r\n", "ab".repeat(31));
+        let twice = format!("{has}{has}");
+        let read = |line: &str, fields: &str| {
+            let text = format!("{line} HTTP/1.1\r\n{fields}");
+            read_with(&text, Some(&key)).map(|head| head.path)
+        };
+        for host in ["localhost", "10.0.0.2:7070", "failreg.example.org"] {
+            let fields = format!("Host: {host}\r\n{has}");
+            assert_eq!(read("GET /fail", &fields), Ok("/fail".into()), "{host}");
+        }
+        for credentials in ["", &near, &twice, "Authorization: Bearer \r\n"] {
+            for (line, fields) in [
+                ("GET /fail", "Host: localhost\r\n"),
+                ("GET /nope", "Host: example.org\r\n"),
+                ("POST /load", "Host: a\r\nOrigin: http://example.org\r\n"),
+                ("POST /load", "Host: a\r\nContent-Length: 67108865\r\n"),
+                ("POST /load", "Content-Length: ?\r\n"),
+                ("POST /load", "Host: a\r\nExpect: a miracle\r\n"),
+            ] {
+                for fields in [
+                    format!("{fields}{credentials}"),
+                    format!("{credentials}{fields}"),
+                ] {
+                    assert_eq!(read(line, &fields), Err(401), "{line} {fields}");
+                }
+            }
+        }
+        // The page, which asks for the key, comes without it, and no other path or method of it.
+        assert_eq!(read("GET /", "Host: a\r\n"), Ok("/".into()));
+        let origin = "Host: a\r\nOrigin: http://example.org\r\n";
+        assert_eq!(read("GET /", origin), Err(403));
+        for line in ["GET //", "POST /", "HEAD /"] {
+            assert_eq!(read(line, "Host: a\r\n"), Err(401), "{line}");
+        }
+        // Who has it is judged as ever, but for the name that was asked for.
+        let origin = format!("Host: a\r\nOrigin: http://example.org\r\n{has}");
+        assert_eq!(read("POST /load", &origin), Err(403));
+        assert_eq!(read("GET /fail", &has), Err(400), "no Host");
+        // Where there is no key nobody is asked for one.
+        assert!(read_line("GET /fail HTTP/1.1", &near).is_ok());
+        let told = reply_head(None, 401, 0);
+        assert!(told.starts_with("HTTP/1.1 401 Unauthorized\r\n"));
+        assert!(told.contains("\r\nwww-authenticate: Bearer\r\n"));
     }
 
     #[test]
@@ -749,20 +820,5 @@ mod tests {
             );
         }
         assert_eq!(end_of_head(b"\r\n\r\n", 0), Ok(Some(4)));
-    }
-
-    #[test]
-    fn a_reply_has_a_status() {
-        assert_eq!(status_of(b"HTTP/1.1 200 OK"), Some(200));
-        assert_eq!(status_of(b"HTTP/1.0 409"), Some(409));
-        for none in [
-            "",
-            "HTTP/1.1 20",
-            "HTTP/2 200 OK",
-            "HTTP/1.1 abc",
-            "220 hello",
-        ] {
-            assert_eq!(status_of(none.as_bytes()), None, "{none:?}");
-        }
     }
 }

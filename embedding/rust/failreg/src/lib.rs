@@ -41,6 +41,7 @@ mod fail_rs;
 mod gossip;
 mod http;
 mod kept;
+mod key;
 #[cfg(feature = "failpoints")]
 mod node;
 #[cfg(not(feature = "failpoints"))]
@@ -50,6 +51,7 @@ mod page;
 mod part;
 mod passing;
 mod points;
+mod posting;
 mod program;
 mod receipts;
 mod recorder;
@@ -70,7 +72,7 @@ pub use points::Site;
 pub use program::{program, setup};
 pub use recorder::Recorder;
 pub use registry::{Registry, write_drill};
-pub use serving::{Serving, serve};
+pub use serving::{Served, Serving, serve};
 pub use told::{Passed, Stamp, Task};
 
 /// Passes a point, if it is set, and carries its task out. `fail_point!("name")` panics where the

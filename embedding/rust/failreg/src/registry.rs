@@ -3,6 +3,7 @@
 use crate::builder::{Builder, How, OnForgotten};
 use crate::error::{Error, ErrorKind};
 use crate::kept::Kept;
+use crate::key::Key;
 use crate::node::Node;
 use crate::points::{Shown, names_in};
 use crate::receipts;
@@ -34,6 +35,8 @@ pub struct Registry {
     /// Whether the node went on from a part that had calls.
     goes_on: bool,
     pub(crate) made: Builder,
+    /// What its clients have to have, and its peers ask for.
+    pub(crate) key: Option<Key>,
 }
 
 pub(crate) type Callback = Arc<dyn Fn() + Send + Sync>;
@@ -159,6 +162,10 @@ impl Registry {
     }
 
     pub(crate) fn built(made: Builder) -> Result<Registry, Error> {
+        let key = match &made.key_file {
+            Some(path) => Some(Key::read(path)?),
+            None => None,
+        };
         let mut state = State::of(&made)?;
         let goes_on = state.node.calls()? > 0;
         let registry = Registry {
@@ -167,6 +174,7 @@ impl Registry {
             changed: Condvar::new(),
             goes_on,
             made,
+            key,
         };
         if goes_on {
             drop(registry.settings_changed(&mut registry.lock()));

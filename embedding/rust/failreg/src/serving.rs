@@ -4,6 +4,7 @@ use crate::answers::Reply;
 use crate::error::{Error, ErrorKind};
 use crate::fail_rs::has_failpoints;
 use crate::http::{Connection, Fault, Head};
+use crate::key::Key;
 use crate::page::PAGE;
 use crate::registry::Registry;
 use std::collections::HashMap;
@@ -32,6 +33,8 @@ const REST: Duration = Duration::from_millis(10);
 /// A service: who is served, where.
 struct Service {
     addr: SocketAddr,
+    /// What a client has to have, if anything.
+    key: Option<Key>,
     /// Guards who is served, and what the service does.
     clients: Mutex<Clients>,
     /// Told of each change of what the lock guards.
@@ -159,7 +162,7 @@ impl<'a> Client<'a> {
         connection: &mut Connection<'_>,
         registry: &Registry,
     ) -> Result<(Head, Reply), Fault> {
-        let head = connection.read_head(self.service.addr)?;
+        let head = connection.read_head(self.service.addr, self.service.key.as_ref())?;
         let _place = match head.may_exceed(LONG) {
             true => Some(self.long_body(connection.end()).ok_or(Fault::Gone)?),
             false => None,
@@ -296,6 +299,35 @@ impl fmt::Debug for Serving {
     }
 }
 
+/// A registry that was made to be served ([`Builder::listen`](crate::Builder::listen)). The service
+/// ends when this is dropped.
+#[derive(Debug)]
+#[must_use = "the service ends when it is dropped: keep it as long as clients may come"]
+pub struct Served {
+    pub(crate) registry: Arc<Registry>,
+    pub(crate) serving: Serving,
+}
+
+impl Served {
+    /// The registry, also for [`gossip`](crate::gossip).
+    pub fn registry(&self) -> &Arc<Registry> {
+        &self.registry
+    }
+
+    /// The service.
+    pub fn serving(&self) -> &Serving {
+        &self.serving
+    }
+}
+
+impl Deref for Served {
+    type Target = Registry;
+
+    fn deref(&self) -> &Registry {
+        &self.registry
+    }
+}
+
 pub(crate) fn has_to_have_failpoints() -> Result<(), Error> {
     match has_failpoints() {
         true => Ok(()),
@@ -306,18 +338,27 @@ pub(crate) fn has_to_have_failpoints() -> Result<(), Error> {
     }
 }
 
-/// Binds an address of this machine alone.
-pub(crate) fn listen(addr: impl ToSocketAddrs + fmt::Debug) -> Result<TcpListener, Error> {
+/// That an address needs a key.
+pub(crate) fn not_local(addr: &SocketAddr) -> Error {
+    let fault = format!(
+        "{} can be reached by other machines, and there is no key",
+        addr.ip()
+    );
+    Error::new(ErrorKind::NotLocal, fault)
+}
+
+/// Binds an address, which is one of this machine alone, or there is a key.
+pub(crate) fn listen(
+    addr: impl ToSocketAddrs + fmt::Debug,
+    has_key: bool,
+) -> Result<TcpListener, Error> {
     has_to_have_failpoints()?;
     let cant = |error: io::Error| Error::new(ErrorKind::CantListen, error.to_string());
     let addrs = addr.to_socket_addrs().map_err(cant);
     let addrs: Vec<SocketAddr> = addrs.map_err(|e| e.at_address(&addr))?.collect();
-    if let Some(other) = addrs.iter().find(|addr| !addr.ip().is_loopback()) {
-        let fault = format!(
-            "{} isn't of this machine alone, and there is no password",
-            other.ip()
-        );
-        return Err(Error::new(ErrorKind::NotLocal, fault).at_address(&addr));
+    let other = addrs.iter().find(|addr| !addr.ip().is_loopback());
+    if let Some(other) = other.filter(|_| !has_key) {
+        return Err(not_local(other).at_address(&addr));
     }
     TcpListener::bind(&addrs[..])
         .map_err(cant)
@@ -334,6 +375,7 @@ pub(crate) fn serve_at(
         .map_err(|error| Error::new(ErrorKind::CantListen, error.to_string()))?;
     let service = Arc::new(Service {
         addr,
+        key: registry.key.clone(),
         clients: Mutex::default(),
         changed: Condvar::new(),
     });
@@ -364,10 +406,15 @@ pub(crate) fn serve_at(
 ///
 /// The registry is an `Arc<Registry>`, or the program's, a `&'static Registry`. What requests there
 /// are, and what each is answered, [`Registry::answer`] says; besides, `GET /` is answered the page
-/// on which an operator sees the node and changes its points. The address is one of this machine
-/// alone: whoever can connect there may set points, and there is no password. A page of a browser
-/// may not: a request whose `Host` isn't this machine, or that has an `Origin` other than the
-/// service itself, is answered 403, and nothing is asked.
+/// on which an operator sees the node and changes its points.
+///
+/// Without a key the address is one of this machine alone, and whoever can connect there may set
+/// points. A page of a browser may not: a request whose `Host` isn't this machine, or that has an
+/// `Origin` other than the service itself, is answered 403, and nothing is asked. With a key
+/// ([`Builder::key_file`](crate::Builder::key_file)) the address may be one that other machines
+/// reach, `Host` may be any name, and a request that doesn't have the key is answered 401 once its
+/// head is read: nothing is asked, and nothing of its body is looked at. The page alone comes
+/// without it: nothing of the node is in it, and it asks for the key.
 ///
 /// A connection has one request, whose head has at most 8,192 bytes, 2 seconds for the head and 10
 /// in all. 64 clients are served at once, 4 of them with a body of more than 65,536 bytes; the next
@@ -382,5 +429,6 @@ pub fn serve(
     registry: impl Deref<Target = Registry> + Send + 'static,
     addr: impl ToSocketAddrs + fmt::Debug,
 ) -> Result<Serving, Error> {
-    serve_at(registry, listen(addr)?)
+    let listener = listen(addr, registry.key.is_some())?;
+    serve_at(registry, listener)
 }

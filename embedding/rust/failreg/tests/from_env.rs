@@ -16,7 +16,7 @@ fn order() -> bool {
 }
 
 const CHILD: &str = "FAILREG_TEST_CHILD";
-const VARIABLES: [&str; 9] = [
+const VARIABLES: [&str; 10] = [
     "FAILREG_NODE",
     "FAILREG_CAP",
     "FAILREG_RECORD",
@@ -25,6 +25,7 @@ const VARIABLES: [&str; 9] = [
     "FAILREG_BUFFER",
     "FAILREG_LISTEN",
     "FAILREG_PEERS",
+    "FAILREG_KEY_FILE",
     "FAILPOINTS",
 ];
 
@@ -90,7 +91,7 @@ fn variables_make_the_registry() {
 }
 
 // A variable, a value, and how it is told of.
-const BAD_VALUES: [(&str, &str, &str); 7] = [
+const BAD_VALUES: [(&str, &str, &str); 10] = [
     (
         "FAILREG_NODE",
         "3/3",
@@ -105,6 +106,21 @@ const BAD_VALUES: [(&str, &str, &str); 7] = [
         "FAILREG_LISTEN",
         "",
         "BadVariable FAILREG_LISTEN=\"\": wanted is ",
+    ),
+    (
+        "FAILREG_LISTEN",
+        "0.0.0.0:0",
+        "NotLocal FAILREG_LISTEN: address 0.0.0.0:0: 0.0.0.0 can be reached by other machines",
+    ),
+    (
+        "FAILREG_PEERS",
+        "0:10.0.0.1:7070",
+        "NotLocal FAILREG_PEERS: address 10.0.0.1:7070: 10.0.0.1 can be reached by other machines",
+    ),
+    (
+        "FAILREG_KEY_FILE",
+        "/nowhere/at/all",
+        "BadKey FAILREG_KEY_FILE: key \"/nowhere/at/all\": No such file",
     ),
     (
         "FAILREG_PEERS",
@@ -134,6 +150,29 @@ fn a_bad_value_is_told_and_makes_no_registry() {
         let told = told(&[(name, value)]);
         assert!(told.contains(begin), "{name}: {told}");
     }
+}
+
+#[cfg(unix)]
+#[test]
+fn a_key_lets_other_machines_in() {
+    use std::os::unix::fs::PermissionsExt;
+    let path = file("key");
+    std::fs::write(&path, [7; 32]).unwrap();
+    std::fs::set_permissions(&path, PermissionsExt::from_mode(0o600)).unwrap();
+    let set = [
+        ("FAILREG_KEY_FILE", path.to_str().unwrap()),
+        ("FAILREG_LISTEN", "0.0.0.0:0"),
+        ("FAILREG_PEERS", "1:192.0.2.1:7070"),
+        ("FAILREG_NODE", "0/2"),
+    ];
+    let made = told(&set);
+    assert!(made.contains("lost 0, Registry { node: 0, "), "{made}");
+    std::fs::set_permissions(&path, PermissionsExt::from_mode(0o644)).unwrap();
+    let refused = told(&set);
+    assert!(
+        refused.contains("others than its owner may use it, its mode is 0644: "),
+        "{refused}"
+    );
 }
 
 const SERVED: &str = "FAILREG_TEST_SERVED";

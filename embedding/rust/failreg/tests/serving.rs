@@ -620,7 +620,7 @@ fn an_address_is_one_of_this_machine_and_free() {
         let error = serve(open(0, 1), addr).unwrap_err();
         assert_eq!(error.kind(), ErrorKind::NotLocal);
         let ip = addr.parse::<SocketAddr>().unwrap().ip();
-        let text = format!("address \"{addr}\": {ip} isn't of this machine alone, and ");
+        let text = format!("address \"{addr}\": {ip} can be reached by other machines, and ");
         assert!(error.to_string().starts_with(&text), "{error}");
     }
     let taken = TcpListener::bind("127.0.0.1:0").unwrap();

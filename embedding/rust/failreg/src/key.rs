@@ -1,0 +1,180 @@
+//! The key that the nodes of a cluster and their clients share.
+
+use crate::error::{Error, ErrorKind};
+use std::fmt::{self, Write};
+use std::fs::File;
+use std::hint::black_box;
+use std::io::{self, Read};
+use std::path::Path;
+use std::sync::Arc;
+
+/// How many bytes a key has: as many as nobody guesses, and no more than the head of a request has
+/// room for.
+const LEAST: usize = 32;
+const MOST: usize = 1_024;
+
+/// How a request says that it has a key.
+const SCHEME: &[u8] = b"Bearer ";
+
+/// A key, as requests have it: the bytes of its file in lower-case hex. It is shown nowhere.
+#[derive(Clone)]
+pub(crate) struct Key {
+    hex: Arc<str>,
+}
+
+impl Key {
+    /// The key of a file that nobody but its owner may read.
+    pub(crate) fn read(path: &Path) -> Result<Key, Error> {
+        let fault = |fault: String| Error::new(ErrorKind::BadKey, fault).at_key(path);
+        let file = File::open(path).map_err(|error| fault(error.to_string()))?;
+        if let Some(mode) = mode_for_others(&file).map_err(|error| fault(error.to_string()))? {
+            return Err(fault(format!(
+                "others than its owner may use it, its mode is {mode:04o}"
+            )));
+        }
+        let mut bytes = Vec::new();
+        // One byte more, so that it is seen where there is more.
+        let most = MOST as u64 + 1;
+        let read = file.take(most).read_to_end(&mut bytes);
+        read.map_err(|error| fault(error.to_string()))?;
+        Key::of(&bytes).ok_or_else(|| match bytes.len() {
+            short @ ..LEAST => fault(format!("it has {short} bytes")),
+            _ => fault(format!("it has more than {MOST} bytes")),
+        })
+    }
+
+    /// The key of these bytes, if one has so many.
+    pub(crate) fn of(bytes: &[u8]) -> Option<Key> {
+        if !(LEAST..=MOST).contains(&bytes.len()) {
+            return None;
+        }
+        let mut hex = String::with_capacity(2 * bytes.len());
+        for byte in bytes {
+            write!(hex, "{byte:02x}").ok()?;
+        }
+        Some(Key { hex: hex.into() })
+    }
+
+    /// Whether the value of an `Authorization` has this key. It takes as long for any value of the
+    /// same length.
+    pub(crate) fn is_in(&self, value: &[u8]) -> bool {
+        let Some((scheme, told)) = value.split_at_checked(SCHEME.len()) else {
+            return false;
+        };
+        scheme.eq_ignore_ascii_case(SCHEME) && is_same(told, self.hex.as_bytes())
+    }
+
+    /// The field of a request that has the key.
+    pub(crate) fn field(&self) -> String {
+        format!("authorization: Bearer {}\r\n", self.hex)
+    }
+}
+
+impl fmt::Debug for Key {
+    fn fmt(&self, f: &mut fmt::Formatter<'_>) -> fmt::Result {
+        f.write_str("Key(..)")
+    }
+}
+
+// Whether two texts are the same. It looks at all bytes, wherever the first other one stands.
+fn is_same(told: &[u8], wanted: &[u8]) -> bool {
+    let differ = |all: u8, (a, b): (&u8, &u8)| black_box(all | (a ^ b));
+    told.len() == wanted.len() && told.iter().zip(wanted).fold(0, differ) == 0
+}
+
+// The mode of a file, where it lets others than its owner use it.
+#[cfg(unix)]
+fn mode_for_others(file: &File) -> io::Result<Option<u32>> {
+    use std::os::unix::fs::PermissionsExt;
+    let mode = file.metadata()?.permissions().mode() & 0o7777;
+    Ok((mode & 0o077 != 0).then_some(mode))
+}
+
+// Another system tells no mode.
+#[cfg(not(unix))]
+fn mode_for_others(_: &File) -> io::Result<Option<u32>> {
+    Ok(None)
+}
+
+#[cfg(test)]
+mod tests {
+    use super::*;
+
+    #[test]
+    fn a_key_is_in_its_own_value_alone() {
+        let bytes: Vec<u8> = (0..32).map(|at| at * 8 + 7).collect();
+        let key = Key::of(&bytes).unwrap();
+        let hex: String = bytes.iter().map(|byte| format!("{byte:02x}")).collect();
+        assert_eq!(key.field(), format!("authorization: Bearer {hex}\r\n"));
+        let is_in = |value: &str| key.is_in(value.as_bytes());
+        assert!(is_in(&format!("Bearer {hex}")) && is_in(&format!("bearer {hex}")));
+        let upper = hex.to_ascii_uppercase();
+        let (half, twice) = (&hex[..32], format!("{hex}{hex}"));
+        for other in ["", half, &hex[1..], &twice, &upper, &format!("{hex} ")] {
+            assert!(!is_in(&format!("Bearer {other}")), "{other:?}");
+        }
+        for other in [
+            &hex,
+            &format!("Basic {hex}"),
+            &format!("Bearer{hex}"),
+            "Bearer",
+            "",
+        ] {
+            assert!(!is_in(other), "{other:?}");
+        }
+        // Each digit counts.
+        for at in 0..hex.len() {
+            let digit = if &hex[at..=at] == "0" { "1" } else { "0" };
+            let near = format!("{}{digit}{}", &hex[..at], &hex[at + 1..]);
+            assert!(!is_in(&format!("Bearer {near}")), "{at}");
+        }
+    }
+
+    #[test]
+    fn a_key_has_its_length_and_is_not_shown() {
+        for (length, is_one) in [
+            (0, false),
+            (31, false),
+            (32, true),
+            (1_024, true),
+            (1_025, false),
+        ] {
+            assert_eq!(Key::of(&vec![7; length]).is_some(), is_one, "{length}");
+        }
+        assert_eq!(format!("{:?}", Key::of(&[7; 32])), "Some(Key(..))");
+    }
+
+    #[cfg(unix)]
+    #[test]
+    fn a_file_that_others_may_use_has_no_key() {
+        use std::os::unix::fs::PermissionsExt;
+        let path = std::env::temp_dir().join(format!("failreg_key_{}", std::process::id()));
+        std::fs::write(&path, [7; 32]).unwrap();
+        for (mode, is_one) in [
+            (0o600, true),
+            (0o400, true),
+            (0o640, false),
+            (0o604, false),
+            (0o620, false),
+            (0o601, false),
+        ] {
+            std::fs::set_permissions(&path, PermissionsExt::from_mode(mode)).unwrap();
+            let read = Key::read(&path);
+            assert_eq!(read.is_ok(), is_one, "{mode:o}");
+            if let Err(error) = read {
+                let (kind, text) = (error.kind(), error.to_string());
+                assert_eq!(kind, ErrorKind::BadKey);
+                let told = format!("key {path:?}: others than its owner may use it, its mode is ");
+                assert!(text.starts_with(&format!("{told}{mode:04o}: ")), "{text}");
+            }
+        }
+        std::fs::set_permissions(&path, PermissionsExt::from_mode(0o600)).unwrap();
+        std::fs::write(&path, [7; 31]).unwrap();
+        assert_eq!(Key::read(&path).unwrap_err().fault(), "it has 31 bytes");
+        std::fs::write(&path, [7; 5_000]).unwrap();
+        let fault = "it has more than 1024 bytes";
+        assert_eq!(Key::read(&path).unwrap_err().fault(), fault);
+        std::fs::remove_file(&path).unwrap();
+        assert_eq!(Key::read(&path).unwrap_err().kind(), ErrorKind::BadKey);
+    }
+}
