@@ -73,7 +73,7 @@ fn who_has_no_key_is_not_let_in() {
         for fields in [
             String::new(),
             format!("Authorization: Bearer {}\r\n", &key[..63]),
-            format!("Authorization: Bearer {}0\r\n", &key[..63]),
+            format!("Authorization: Bearer {}1\r\n", &key[..63]),
             format!("Authorization: Basic {key}\r\n"),
             format!("Authorization: {key}\r\n"),
             format!("X-Authorization: Bearer {key}\r\n"),
