@@ -15,7 +15,7 @@ use crate::host::Host;
 use crate::serving::{config_of, listen, say_where};
 use crate::telling::{Service, first_paces, keep_telling, wire_to};
 use command_line::{GossipOptions, PartOptions, ServeOptions};
-use http_serve::{Ending, ServeFault, serve_recording};
+use http_serve::{Access, Ending, ServeFault, serve_recording};
 use node_core::{Ask, Config, NodeFault};
 use node_registry::{Label, Registry, Seat};
 use part_files::{OpenPart, RecordingWire, open_part};
@@ -228,8 +228,9 @@ where
         ending,
     } = recorded;
     let alloc = rt.alloc();
+    let access = Access::of_this_machine();
     let served = serve_recording(
-        rt, alloc, runtime, registry, recorder, listener, requests, ending,
+        rt, alloc, runtime, registry, recorder, access, listener, requests, ending,
     )?;
     Ok(NodeServed::of(ending, served))
 }

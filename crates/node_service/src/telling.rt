@@ -12,7 +12,7 @@ use crate::forgetful::{Hearing, Said};
 use crate::host::Host;
 use command_line::{GossipOptions, NamedPeer};
 use gossip::{Pace, Reach, WireError, gossip_news};
-use http_serve::{Ending, ServeFault, serve_forgetting};
+use http_serve::{Access, Ending, ServeFault, serve_forgetting};
 use http_wire::{HttpWire, Peer};
 use node_core::Config;
 use node_registry::{Label, Registry, Seat};
@@ -208,8 +208,9 @@ where
         ending,
     } = serving;
     let alloc = rt.alloc();
+    let access = Access::of_this_machine();
     let served = serve_forgetting(
-        rt, alloc, runtime, registry, seat, listener, requests, ending,
+        rt, alloc, runtime, registry, seat, access, listener, requests, ending,
     )?;
     Ok(NodeServed::of(ending, served))
 }
