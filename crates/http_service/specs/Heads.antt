@@ -68,7 +68,7 @@ refusal_of credentials needs_none port fields =
 -- what such a head is answered
 abbrev pub refusal_reply : Refusal → ReplyValue
 refusal_reply NoKey =
-    text_reply 401 (codes "no key, or another one: send Authorization: Bearer, and the key in hex digits")
+    text_reply 401 (codes "no key: send Authorization: Bearer and the key in hex")
 refusal_reply ForeignHost = text_reply 403 (codes "another machine's Host: ask for localhost, 127.0.0.1 or [::1]")
 refusal_reply ForeignOrigin =
     text_reply 403 (codes "a page of another Origin: no browser may ask for it, send no Origin")

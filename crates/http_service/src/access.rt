@@ -25,7 +25,10 @@ pub enum KeyFault {
 }
 
 impl From<AllocError> for KeyFault {
-    ghost from_gives = { λ _ e. e ≡ KeyFault.OutOfMemory };
+    ghost use Rattle.std.specs.Prelude.{◌≡◌};
+    ghost use Rattle.http_service.specs.declared.access.KeyFault.TheVariants.{OutOfMemory};
+
+    ghost from_gives = { λ _ e. e ≡ OutOfMemory };
 
     fn from(_e: AllocError) -> KeyFault {
         KeyFault::OutOfMemory

@@ -41,7 +41,7 @@ impl Refusal {
             Refusal::NoKey => HttpReply::text(
                 alloc,
                 401,
-                "no key, or another one: send Authorization: Bearer, and the key in hex digits",
+                "no key: send Authorization: Bearer and the key in hex",
             ),
             Refusal::ForeignHost => HttpReply::text(
                 alloc,
