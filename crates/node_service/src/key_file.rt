@@ -115,7 +115,9 @@ fn with_key(alloc: Global, bytes: &[u8]) -> Result<Keyed, ServiceFault>
             access,
             key: Some(key),
         }),
-        Err(http_serve::KeyFault::TooShort) => Err(KeyFault::TooShort(bytes.len()).into()),
-        Err(http_serve::KeyFault::OutOfMemory) => Err(NodeFault::OutOfMemory.into()),
+        Err(http_serve::KeyFault::TooShort) => {
+            Err(ServiceFault::Key(KeyFault::TooShort(bytes.len())))
+        }
+        Err(http_serve::KeyFault::OutOfMemory) => Err(ServiceFault::Node(NodeFault::OutOfMemory)),
     }
 }
