@@ -8,8 +8,9 @@ use http_serve::Access;
 use http_wire::Key;
 use node_core::NodeFault;
 use std::alloc::{AllocGlobal, Global};
-use std::fs::{File, Files, OpenOptions, PermissionsExt};
+use std::fs::{File, Files, OpenOptions};
 use std::io::Read;
+use std::os::unix::fs::PermissionsExt;
 use std::{fmt, io};
 
 /// The fewest bytes that a key has: as many as nobody guesses.
