@@ -94,7 +94,7 @@ pub(crate) fn keyed_by<R>(rt: &R, path: Option<&str>) -> Result<Keyed, ServiceFa
 where
     R: AllocGlobal + Files<File = File>,
     ensures alike { IfOk result AsksForWhatItSends }
-    ensures named { IfOk result (λ keyed. IsSome keyed.key ↔ IsSome path) }
+    ensures named { IfOk result (λ keyed. IsSome keyed.key ↔ IsSome path.entry) }
 {
     match path {
         Some(path) => with_key(rt.alloc(), &read_key(rt, rt.alloc(), path)?),
