@@ -1,4 +1,6 @@
 pub mod Peers
+pub mod Addresses
+pub mod Guarded
 pub mod Help
 pub mod Quoted
 pub mod Words

@@ -303,10 +303,21 @@ pub const SERVE_SHORT: &str =
 
 /// Behind the help of `serve`.
 pub const SERVE: &str = "\
-The node listens on 127.0.0.1 alone, asks for no password, and knows of other
-nodes only what messages tell it. It prints `listening <port>` once clients can
-connect, and `served <r>` when r of them have been served, each with one
-request. With port 0 the system picks one.
+The node listens on 127.0.0.1, or with --listen at an address of this machine,
+and knows of other nodes only what messages tell it. It prints `listening
+<port>` once clients can connect, and `served <r>` when r of them have been
+served, each with one request. With port 0 the system picks one.
+
+With --key-file clients and peers have to have the key: a request without it is
+401, and nothing is asked of the node. Without it nobody is asked for one, so
+an address that other machines reach is refused, and so is a peer on another
+machine. The file has 32 to 1024 bytes, which its owner alone may read, as
+  (umask 077; head -c 32 /dev/urandom >drill.key)
+makes one. A request has them as `Authorization: Bearer` and lower-case hex:
+  curl -H \"Authorization: Bearer $(od -An -v -tx1 drill.key | tr -d ' \\n')\" ..
+Nothing is encrypted. Addresses are those of IPv4, as 10.0.0.2:7070, and of
+IPv6, as [fd00::2]:7070 or [fe80::2%3]:7070, where 3 is the number of a scope;
+a name is none.
 
 What to try first, where <port> is the one that it prints:
   curl -X PUT --data '2*panic->off' localhost:<port>/fail/a
@@ -357,12 +368,13 @@ The status is 0 once all were served, or a client has ended the service; those
 who are being served then have 2 seconds. It is 4 where a message shows that
 others know more of the node than it does (`N18`, `N19`): it was started again
 without its part. It is 2 where a peer isn't the number of a node of the cluster
-and a port, round a `:`. It is 1 where the node can't be made (`refused N21
-BadConfig`: n isn't below m, or m isn't 1 to 32), where the port can't be
-listened on (`refused V1 BindFailed`), where the node refuses the FAILPOINTS
-text, where the file isn't this node's part (`refused V4 BadPart`) or another
-process has it open (`refused V5 PartInUse`), and where no more clients can be
-let in; the reason stands on standard error.
+and a port, or an address and a port, round a `:`, and where a key is needed. It
+is 1 where the node can't be made (`refused N21 BadConfig`: n isn't below m, or
+m isn't 1 to 32), where the key can't be had (`refused V7 BadKey`), where the
+port can't be listened on (`refused V1 BindFailed`), where the node refuses the
+FAILPOINTS text, where the file isn't this node's part (`refused V4 BadPart`) or
+another process has it open (`refused V5 PartInUse`), and where no more clients
+can be let in; the reason stands on standard error.
 
 Example:
   $ failreg serve --node 0 --nodes 2 --port 17070 --requests 0

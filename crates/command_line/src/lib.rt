@@ -6,6 +6,8 @@
 //! ```
 #![tactic(auto)]
 
+mod addresses;
+mod guarding;
 mod help;
 mod peers;
 mod quoting;
@@ -13,6 +15,8 @@ mod reading;
 mod subcommands;
 mod words;
 
+pub use addresses::{AddressFault, is_here, port_here, read_address};
+pub use guarding::{Unguarded, first_unguarded};
 pub use peers::{NamedPeer, PeerFault, PeersFault, read_peer, read_peers};
 pub use quoting::quoted;
 pub use reading::{

@@ -1,18 +1,20 @@
 //! Peers, as a command line names them.
 
-ghost use Rattle.std.specs.Prelude.{◌≡◌, map, Ok, IfOk};
-ghost use Rattle.command_line.specs.Peers.{IsFirstBad, peer_in};
+ghost use Rattle.std.specs.Prelude.{◌≡◌, map, IfOk};
+ghost use Rattle.command_line.specs.Peers.{AreNamed, IsFirstBad, SaysPeer, SaysPlace};
 
+use crate::addresses::{AddressFault, has_byte, port_here, read_address};
 use decimals::{byte, number};
 use std::alloc::{AllocFailed, Global};
 use std::error::Error;
 use std::fmt;
+use std::net::SocketAddr;
 
-/// Where a word says that a node is served: at a port of this machine.
+/// Where a word says that a node is served.
 #[derive(Clone, Copy, Debug, PartialEq, Eq)]
 pub struct NamedPeer {
     pub node: u8,
-    pub port: u16,
+    pub address: SocketAddr,
 }
 
 /// Why a word names no peer. `Display` says it in words.
@@ -22,8 +24,10 @@ pub enum PeerFault {
     NoColon,
     /// What stands before the first `:` is no number of a node.
     BadNode,
-    /// What stands behind it is no number of a port.
+    /// What stands behind it is no number of a port, and has no `:`.
     BadPort,
+    /// What stands behind it has a `:`, and is no address with a port.
+    BadAddress(AddressFault),
     /// The cluster has no node of this number.
     NoSuchNode,
 }
@@ -35,12 +39,14 @@ impl fmt::Display for PeerFault {
     ghost output = { λ e. Some (peer_fault_text e) };
 
     fn fmt<W: fmt::Write>(&self, f: &mut fmt::Formatter<W>) -> fmt::Result {
-        f.write_str(match self {
+        let text = match *self {
             PeerFault::NoColon => "no `:` between a node and its port",
             PeerFault::BadNode => "the node isn't a number of at most 255",
             PeerFault::BadPort => "the port isn't a number of at most 65535",
+            PeerFault::BadAddress(fault) => return f.write_str(fault.text()),
             PeerFault::NoSuchNode => "the cluster has no such node",
-        })
+        };
+        f.write_str(text)
     }
 }
 
@@ -66,29 +72,43 @@ impl<'a, T: Drop> From<AllocFailed<T>> for PeersFault<'a> {
     }
 }
 
-/// The peer that a word names in a cluster of so many nodes: the number of a node and a port, round a
-/// `:`.
-pub fn read_peer(word: &str, nodes: u8) -> Result<NamedPeer, PeerFault>
-    ensures { result ≡ peer_in nodes word.now }
+// Where a text says that a node is served.
+fn read_place(text: &str) -> Result<SocketAddr, PeerFault>
+    ensures { SaysPlace text.now result }
 {
-    let (node, port) = word.split_once(':').ok_or(PeerFault::NoColon)?;
+    if let Some(port) = number(text, 65535) {
+        return Ok(port_here(port as u16));
+    }
+    match read_address(text) {
+        Ok(address) => Ok(address),
+        Err(fault) if has_byte(text, b':') => Err(PeerFault::BadAddress(fault)),
+        Err(_) => Err(PeerFault::BadPort),
+    }
+}
+
+/// The peer that a word names in a cluster of so many nodes: the number of a node, a `:`, and a port of
+/// this machine, or an address and a port.
+pub fn read_peer(word: &str, nodes: u8) -> Result<NamedPeer, PeerFault>
+    ensures { SaysPeer nodes word.now result }
+{
+    let (node, place) = word.split_once(':').ok_or(PeerFault::NoColon)?;
     let node = byte(node).ok_or(PeerFault::BadNode)?;
-    let port = number(port, 65535).ok_or(PeerFault::BadPort)? as u16;
+    let address = read_place(place)?;
     if node < nodes {
-        Ok(NamedPeer { node, port })
+        Ok(NamedPeer { node, address })
     } else {
         Err(PeerFault::NoSuchNode)
     }
 }
 
 /// The peers that words name, in their order; or the first word that names none, and why.
+#[tactic(auto, using(crate::proofs::PeerLemmas::named_more))]
 pub fn read_peers<'a>(
     alloc: Global,
     words: &[&'a str],
     nodes: u8,
 ) -> Result<Vec<NamedPeer>, PeersFault<'a>>
-    ensures ok { IfOk result (λ peers.
-        map (peer_in nodes) (map (λ w. w.now) words.now) ≡ map Ok peers.items) }
+    ensures ok { IfOk result (λ peers. AreNamed nodes (map (λ w. w.now) words.now) peers.items) }
     ensures bad { (word : _) (fault : _) → result ≡ Err (PeersFault.BadPeer word fault)
         → IsFirstBad nodes (map (λ w. w.now) words.now) word.now fault }
 {

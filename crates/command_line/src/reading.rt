@@ -1,5 +1,10 @@
 //! What a command line asks for.
 
+ghost use Rattle.std.specs.Prelude.{IfOk};
+ghost use Rattle.command_line.specs.Guarded.{IsGuarded, IsGuardedInvocation};
+
+use crate::addresses::{port_here, read_address};
+use crate::guarding::first_unguarded;
 use crate::help;
 use crate::help::{Extent, extent_of};
 use crate::peers::{NamedPeer, PeersFault, read_peers};
@@ -8,6 +13,7 @@ use crate::words::text_of;
 use clap::error::ErrorKind;
 use clap::{ArgMatches, Command, Error};
 use std::alloc::{AllocError, Global};
+use std::net::SocketAddr;
 use std::time::Duration;
 
 const VERSION: &str = "0.2.0";
@@ -93,8 +99,10 @@ pub struct GossipOptions {
 pub struct ServeOptions<'a> {
     pub node: u8,
     pub nodes: u8,
-    /// The port, or 0 for one that the system picks.
-    pub port: u16,
+    /// Where it listens; a port of 0 is one that the system picks.
+    pub listen: SocketAddr,
+    /// The file of the key that clients and peers share, if they do.
+    pub key_file: Option<&'a str>,
     /// How many calls the node accepts; where it isn't said, as many as a node may be made to accept.
     pub cap: Option<u32>,
     /// How many connections are served.
@@ -129,19 +137,54 @@ fn whole_command<'a>(alloc: Global, extent: Extent) -> Result<Command<'a>, Alloc
     Ok(command)
 }
 
-// What is given where the values of a serve command have passed their parsers. The peers haven't yet.
-fn serve_options<'a>(alloc: Global, matches: &ArgMatches<'a>) -> Result<ServeOptions<'a>, Error> {
+// Where a node is to listen: one of the two is given.
+fn listen_address(alloc: Global, matches: &ArgMatches<'_>) -> Result<SocketAddr, Error> {
+    let Some(word) = matches.get_str("listen") else {
+        return Ok(port_here(matches.get_one::<u16>("port").unwrap_or(0)));
+    };
+    match read_address(word) {
+        Ok(address) => Ok(address),
+        Err(fault) => {
+            let message = format!(in alloc;
+                "invalid value '{word}' for '--listen <address:port>': {fault}"
+            )?;
+            Err(bad_value_of_serve(alloc, &message)?)
+        }
+    }
+}
+
+// The options with their addresses, for which a key is there where one is needed.
+fn guarded<'a>(alloc: Global, options: ServeOptions<'a>) -> Result<ServeOptions<'a>, Error>
+    ensures { IfOk result IsGuarded }
+{
+    if options.key_file.is_some() {
+        return Ok(options);
+    }
+    match first_unguarded(options.listen, &options.telling.peers) {
+        Some(unguarded) => {
+            let message = format!(in alloc; "{unguarded}")?;
+            Err(bad_value_of_serve(alloc, &message)?)
+        }
+        None => Ok(options),
+    }
+}
+
+// What is given where the values of a serve command have passed their parsers. The addresses haven't yet.
+fn serve_options<'a>(alloc: Global, matches: &ArgMatches<'a>) -> Result<ServeOptions<'a>, Error>
+    ensures { IfOk result IsGuarded }
+{
     let nodes = matches.get_one::<u8>("nodes").unwrap_or(0);
-    let every = matches.get_one::<u32>("every").unwrap_or(0);
     let words = matches.get_strs("peer").unwrap_or(&[]);
     let peers = match read_peers(alloc, words, nodes) {
         Ok(peers) => peers,
         Err(fault) => return Err(bad_peers(alloc, fault)?),
     };
-    Ok(ServeOptions {
+    let every = matches.get_one::<u32>("every").unwrap_or(0);
+    let options = ServeOptions {
         node: matches.get_one::<u8>("node").unwrap_or(0),
         nodes,
-        port: matches.get_one::<u16>("port").unwrap_or(0),
+        listen: listen_address(alloc, matches)?,
+        key_file: matches.get_str("key-file"),
         cap: if matches.get_flag("no-cap") {
             None
         } else {
@@ -154,7 +197,8 @@ fn serve_options<'a>(alloc: Global, matches: &ArgMatches<'a>) -> Result<ServeOpt
             rounds: matches.get_one::<u32>("rounds").unwrap_or(0),
             every: Duration::from_millis(u64::from(every)),
         },
-    })
+    };
+    guarded(alloc, options)
 }
 
 // Where a part is kept, if it is: the options that say how are given with its file alone.
@@ -199,7 +243,9 @@ fn asked<'a, 'm>(matches: &'m ArgMatches<'a>) -> Option<(Subcommand, &'m ArgMatc
     Some((Subcommand::named(name)?, matches))
 }
 
-fn read_matches<'a>(alloc: Global, matches: &ArgMatches<'a>) -> Result<Invocation<'a>, Error> {
+fn read_matches<'a>(alloc: Global, matches: &ArgMatches<'a>) -> Result<Invocation<'a>, Error>
+    ensures { IfOk result IsGuardedInvocation }
+{
     // No words match without a subcommand, and each that is offered is found by its name.
     let Some((subcommand, matches)) = asked(matches) else {
         return Ok(Invocation::Parse(""));
@@ -244,8 +290,11 @@ fn read_matches<'a>(alloc: Global, matches: &ArgMatches<'a>) -> Result<Invocatio
     })
 }
 
-/// What a command line asks for, whose first word is the program's name.
-pub fn read_command_line<'a>(alloc: Global, words: &'a [String]) -> Result<Invocation<'a>, Error> {
+/// What a command line asks for, whose first word is the program's name. A node that is to be served
+/// where other machines reach it, or that tells one on another machine, has the file of a key.
+pub fn read_command_line<'a>(alloc: Global, words: &'a [String]) -> Result<Invocation<'a>, Error>
+    ensures { IfOk result IsGuardedInvocation }
+{
     let command = whole_command(alloc, extent_of(words))?;
     let matches = command.try_get_matches_from(words)?;
     read_matches(alloc, &matches)

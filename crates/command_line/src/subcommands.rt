@@ -3,7 +3,7 @@
 use crate::help;
 use crate::help::Extent;
 use clap::builder::ValueParser;
-use clap::{Arg, Command};
+use clap::{Arg, ArgGroup, Command};
 use std::alloc::{AllocError, Global};
 
 /// An argument of a subcommand.
@@ -49,6 +49,25 @@ impl Argument {
         })
     }
 }
+
+/// Arguments of which just one is given.
+#[derive(Clone, Copy, Drop)]
+struct Alternatives {
+    name: &'static str,
+    members: &'static [&'static str],
+}
+
+impl Alternatives {
+    fn group<'a>(self, alloc: Global) -> Result<ArgGroup<'a>, AllocError> {
+        let group = ArgGroup::new(alloc, self.name).args(self.members)?;
+        Ok(group.required(true))
+    }
+}
+
+const LISTENING: Alternatives = Alternatives {
+    name: "listening",
+    members: &["port", "listen"],
+};
 
 const PARSE: &[Argument] = &[Argument {
     name: "text",
@@ -272,11 +291,35 @@ const SERVE: &[Argument] = &[
         name: "port",
         by_name: true,
         value: "p",
-        help: "The port to listen on, or 0 for any",
-        required: true,
+        help: "The port of 127.0.0.1 to listen on, or 0 for any",
+        required: false,
         default: &[],
         values: (1, 1),
         most: Some(65535),
+        takes_hyphens: false,
+        excludes: &[],
+    },
+    Argument {
+        name: "listen",
+        by_name: true,
+        value: "address:port",
+        help: "The address and port to listen on, as 10.0.0.2:7070 or [fd00::2]:7070",
+        required: false,
+        default: &[],
+        values: (1, 1),
+        most: None,
+        takes_hyphens: false,
+        excludes: &[],
+    },
+    Argument {
+        name: "key-file",
+        by_name: true,
+        value: "file",
+        help: "The file of the key that clients and peers have to have",
+        required: false,
+        default: &[],
+        values: (1, 1),
+        most: None,
         takes_hyphens: false,
         excludes: &[],
     },
@@ -392,7 +435,7 @@ const SERVE: &[Argument] = &[
         name: "peer",
         by_name: false,
         value: "node:port",
-        help: "Where another node is served on 127.0.0.1, as `1:7071`",
+        help: "Where another node is served, as `1:7071` on 127.0.0.1, or `1:10.0.0.2:7071`",
         required: false,
         default: &[],
         values: (0, usize::MAX),
@@ -467,7 +510,7 @@ impl Subcommand {
                 "Runs the script on standard input with workers in threads, and counts their calls",
             Subcommand::Audit => "Audits a drill that `threads --record` kept, or parts of one",
             Subcommand::Picture => "Draws a drill, or parts of one, as an SVG",
-            Subcommand::Serve => "Serves a node over HTTP on 127.0.0.1",
+            Subcommand::Serve => "Serves a node over HTTP",
             Subcommand::Explain => "Says what codes of refusals mean, and what to do",
         }
     }
@@ -498,12 +541,24 @@ impl Subcommand {
         }
     }
 
+    // Of which arguments just one is given.
+    fn alternatives(self) -> Option<Alternatives> {
+        match self {
+            Subcommand::Serve => Some(LISTENING),
+            _ => None,
+        }
+    }
+
     /// As clap has it, with its arguments.
     pub fn command<'a>(self, alloc: Global, extent: Extent) -> Result<Command<'a>, AllocError> {
         let command = Command::new(alloc, self.name())
             .about(self.about())
             .after_help(self.after_help(extent));
-        with_arguments(alloc, command, self.arguments())
+        let command = with_arguments(alloc, command, self.arguments())?;
+        match self.alternatives() {
+            Some(alternatives) => command.group(alternatives.group(alloc)?),
+            None => Ok(command),
+        }
     }
 }
 

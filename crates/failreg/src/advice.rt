@@ -1,5 +1,6 @@
 //! What a refusal of a service met and what to do, in words, for its second line.
 
+use crate::key_advice::advice_on_key;
 use http_serve::ServeFault;
 use node_core::NodeFault;
 use node_service::{NodeServed, ServiceFault};
@@ -12,6 +13,7 @@ pub fn advice_on_service(
     node: u8,
     nodes: u8,
     port: u16,
+    key_file: Option<&str>,
     served: &Result<NodeServed, ServiceFault>,
 ) -> String {
     let advice = match served {
@@ -25,6 +27,9 @@ pub fn advice_on_service(
         }
         Err(ServiceFault::Serve(ServeFault::AcceptFailed)) => {
             format!(in alloc; "port {port}: let the process open more descriptors (ulimit -n)")
+        }
+        Err(ServiceFault::Key(fault)) => {
+            return advice_on_key(alloc, key_file.unwrap_or(""), fault);
         }
         Err(_) | Ok(_) => return String::new(alloc),
     };

@@ -10,6 +10,7 @@ ghost use Rattle.commands.specs.Statuses.{HasStatus};
 
 mod advice;
 mod finish;
+mod key_advice;
 mod part_advice;
 mod standard;
 
@@ -154,16 +155,17 @@ where
     if options.telling.rounds > 0 && options.telling.peers.is_empty() {
         eprintln!(rt; "warning: --rounds without a peer tells nobody")?;
     }
-    let (node, nodes, port) = (options.node, options.nodes, options.port);
+    let (node, nodes, port) = (options.node, options.nodes, options.listen.port());
+    let key_file = options.key_file;
     let Some(part) = part else {
         let served = serve_node(rt, options);
-        let advice = advice_on_service(rt.alloc(), node, nodes, port, &served);
+        let advice = advice_on_service(rt.alloc(), node, nodes, port, key_file, &served);
         return finish_serve(rt, node, served, &advice);
     };
     let served = serve_recorded(rt, options, part);
     let advice = match &served {
         Err(ServiceFault::Part(fault)) => advice_on_recorded(rt.alloc(), part.path, fault),
-        _ => advice_on_service(rt.alloc(), node, nodes, port, &served),
+        _ => advice_on_service(rt.alloc(), node, nodes, port, key_file, &served),
     };
     finish_serve(rt, node, served, &advice)
 }

@@ -11,5 +11,5 @@ mod handler;
 pub mod laws;
 mod serving;
 
-pub use http_service::{Ending, Reason, ServeFault, Served};
+pub use http_service::{Access, Ending, KeyFault, Reason, ServeFault, Served};
 pub use serving::{serve, serve_forgetting, serve_recording};

@@ -6,7 +6,7 @@ ghost use Rattle.http_service.specs.declared.fault.ServeFault.TheVariants.{Accep
 ghost use Rattle.http_service.specs.Endings.{IsServedTo};
 
 use crate::handler::{ForgettingHandler, NodeHandler, RecordingHandler};
-use http_service::{Ending, ServeFault, Served, serve_all, serve_until_ended};
+use http_service::{Access, Ending, ServeFault, Served, serve_all, serve_until_ended};
 use node_registry::{Label, Registry, Seat};
 use part_keeper::Recorder;
 use std::alloc::{AllocGlobal, Global};
@@ -26,6 +26,7 @@ pub fn serve<L, R>(
     runtime: &mut Runtime,
     registry: &Arc<Registry<L>>,
     seat: Seat<L>,
+    access: Access,
     listener: TcpListener,
     requests: u32,
 ) -> Result<u32, ServeFault>
@@ -36,7 +37,7 @@ where
     ensures err { IfErr result (λ f. (f ≡ AcceptFailed) ⊎ (f ≡ OutOfMemory)) }
 {
     let handler = NodeHandler::new(alloc, registry, seat)?;
-    serve_all(rt, alloc, runtime, handler, listener, requests)
+    serve_all(rt, alloc, runtime, handler, access, listener, requests)
 }
 
 /// Serves connections as `serve` does, until the service is ended, and has the node forget its calls
@@ -47,6 +48,7 @@ pub fn serve_forgetting<'e, L, R>(
     runtime: &mut Runtime,
     registry: &Arc<Registry<L>>,
     seat: Seat<L>,
+    access: Access,
     listener: TcpListener,
     requests: u32,
     ending: &'e Arc<Ending>,
@@ -59,7 +61,9 @@ where
     ensures err { IfErr result (λ f. (f ≡ AcceptFailed) ⊎ (f ≡ OutOfMemory)) }
 {
     let handler = ForgettingHandler::new(alloc, registry, seat)?;
-    serve_until_ended(rt, alloc, runtime, handler, listener, requests, ending)
+    serve_until_ended(
+        rt, alloc, runtime, handler, access, listener, requests, ending,
+    )
 }
 
 /// Serves connections as `serve` does, until the service is ended, and has each call written to the
@@ -70,6 +74,7 @@ pub fn serve_recording<'e, L, R>(
     runtime: &mut Runtime,
     registry: &Arc<Registry<L>>,
     recorder: &Arc<Recorder<L>>,
+    access: Access,
     listener: TcpListener,
     requests: u32,
     ending: &'e Arc<Ending>,
@@ -81,5 +86,7 @@ where
     ensures err { IfErr result (λ f. (f ≡ AcceptFailed) ⊎ (f ≡ OutOfMemory)) }
 {
     let handler = RecordingHandler::new(alloc, registry, recorder)?;
-    serve_until_ended(rt, alloc, runtime, handler, listener, requests, ending)
+    serve_until_ended(
+        rt, alloc, runtime, handler, access, listener, requests, ending,
+    )
 }

@@ -16,8 +16,7 @@ use Rattle.http_service.specs.declared.exchange.Reading.{Reading}
 use Rattle.http_service.specs.declared.exchange.Reading.TheVariants as readings
 use Rattle.http_service.specs.declared.heads.Refusal.{Refusal}
 use Rattle.http_service.specs.declared.labels.Labels.{Labels}
-use Rattle.http_service.specs.Labels.{plain_labels}
-use Rattle.http_service.specs.Heads.{refusal_reply}
+use Rattle.http_service.specs.Heads.{refusal_labels, refusal_reply}
 use Rattle.http_service.specs.Exchanges.{Piece, TakesIn, GoesOn, EndsSo, IsAnswered, ReadsSo, Gives, GivesRead, IsRefused, Responds, asking_of, pieces_of}
 
 joined : (had : List ℕ) (fs gs : List (Frame (List ℕ))) → (had ++ joined_data fs) ++ joined_data gs ≡ had ++
@@ -136,7 +135,7 @@ module _ {I H R : Type 0} (answers : H → List ℕ → List ℕ → List ℕ �
   -- a head that is refused is answered so
   pub refused_so : (e : Exchange I H R) (refusal : Refusal) (reply : HttpReply) (labels : Labels)
       (given : Result (Response (Full (List ℕ))) Error) → e.refusal ≡ Some refusal
-      → IsReply (refusal_reply refusal) (http_value reply) → labels ≡ plain_labels
+      → IsReply (refusal_reply refusal) (http_value reply) → labels ≡ refusal_labels refusal
       → Responds (λ _. labels) (Ok reply) given → Gives answers labelled e given
   refused_so e refusal reply labels given is replies plain responds =
       subst (λ o. MatchOption o (GivesRead answers labelled e given) (λ r. IsRefused r given)) (sym is)

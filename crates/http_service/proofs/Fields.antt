@@ -1,20 +1,20 @@
 -- The fields of a reply, as they are put in one behind the other.
-use Rattle.std.proofs.Common.{◌≡◌, ◌∙◌, ap, [], Option, codes}
+use Rattle.std.proofs.Common.{◌≡◌, ◌∙◌, ap, [], Bool, Option, codes}
 use Rattle.http_header.specs.FieldValue.{FieldValue, plain_value}
 use Rattle.http_header.specs.HeaderMap.{Entries, insert}
-use Rattle.http_service.specs.Labels.{content_text, label_fields, with_methods, with_policy_of}
+use Rattle.http_service.specs.Labels.{content_text, label_fields, with_challenge, with_methods, with_policy_of}
 use Rattle.http_service.specs.declared.labels.Content.{Content}
 use Rattle.http_service.specs.declared.labels.Methods.{Methods}
 
-pub fields_put : (content : Content) (methods : Option Methods) (none typed safe held told : Entries FieldValue)
-    (kind nosniff : FieldValue) → none ≡ [] → kind ≡ plain_value (content_text content)
+pub fields_put : (content : Content) (methods : Option Methods) (asks : Bool)
+    (none typed safe held allowed told : Entries FieldValue) (kind nosniff : FieldValue) → none ≡ [] → kind ≡ plain_value (content_text content)
     → typed ≡ insert none (codes "content-type") kind → nosniff ≡ plain_value (codes "nosniff")
     → safe ≡ insert typed (codes "x-content-type-options") nosniff → held ≡ with_policy_of content safe
-    → told ≡ with_methods methods held
-    → told ≡ label_fields (record { content = content; methods = methods })
-fields_put content methods none typed safe held told kind nosniff e0 ek e1 en e2 e3 e4 =
+    → allowed ≡ with_methods methods held → told ≡ with_challenge asks allowed
+    → told ≡ label_fields (record { content = content; methods = methods; asks_for_key = asks })
+fields_put content methods asks none typed safe held allowed told kind nosniff e0 ek e1 en e2 e3 e4 e5 =
     let t = e1 ∙ ap (λ f. insert f (codes "content-type") kind) e0 ∙ ap (λ v. insert [] (codes "content-type") v) ek in
     let s = e2 ∙ ap (λ f. insert f (codes "x-content-type-options") nosniff) t
     ∙ ap (λ v. insert (insert [] (codes "content-type") (plain_value (content_text content)))
     (codes "x-content-type-options") v) en in
-    e4 ∙ ap (with_methods methods) (e3 ∙ ap (with_policy_of content) s)
+    e5 ∙ ap (with_challenge asks) (e4 ∙ ap (with_methods methods) (e3 ∙ ap (with_policy_of content) s))

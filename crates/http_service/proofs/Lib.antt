@@ -1,4 +1,5 @@
 mod Endings
 mod Exchanges
 mod Fields
+mod Marks
 mod Ports

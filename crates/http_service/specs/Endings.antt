@@ -1,5 +1,5 @@
 -- How a service is ended before all clients were let in that it waits for.
-use Rattle.std.specs.Prelude.{◌≡◌, ◌⊎◌, ◌==◌, ◌≤◌, ℕ, not, nat_lt, List, length, take, codes, bytes_eq, if◌then◌else◌, Option, Some, None, Result, Ok, Err, IfSome, MatchBool}
+use Rattle.std.specs.Prelude.{◌≡◌, ◌⊎◌, ◌==◌, ◌≤◌, ℕ, not, nat_lt, List, length, take, false, codes, bytes_eq, if◌then◌else◌, Option, Some, None, Result, Ok, Err, IfSome, MatchBool}
 use Rattle.message_format.specs.Spelling.{max_message}
 use Rattle.http_replies.specs.Replies.{ReplyValue, IsReply, text_reply}
 use Rattle.http_service.specs.declared.ending.Reason.{Reason}
@@ -32,7 +32,8 @@ AnswersOrStops answers method path body given =
 
 -- a text, and where the method was another one, the one that there is
 abbrev pub stop_labels : ℕ → Labels
-stop_labels status = record { content = Text; methods = if status == 405 then Some Post else None }
+stop_labels status =
+    record { content = Text; methods = if status == 405 then Some Post else None; asks_for_key = false }
 
 abbrev pub labels_or_stop : (List ℕ → ℕ → Labels) → List ℕ → ℕ → Labels
 labels_or_stop labelled path status = if bytes_eq path stop_path then stop_labels status else labelled path status

@@ -29,7 +29,8 @@ use Rattle.http_service.specs.declared.exchange.Reading.{Reading}
 use Rattle.http_service.specs.declared.heads.Refusal.{Refusal}
 use Rattle.http_service.specs.declared.labels.Labels.{Labels}
 use Rattle.http_service.specs.Labels.{label_fields, plain_labels}
-use Rattle.http_service.specs.Heads.{refusal_of, refusal_reply}
+use Rattle.http_service.specs.Heads.{refusal_labels, refusal_of, refusal_reply}
+use Rattle.http_service.specs.Keys.{credentials_in, is_open}
 use Rattle.http_service.specs.declared.exchange.Reading.TheVariants as readings
 
 -- a frame of a body, or why there is none
@@ -120,7 +121,7 @@ labels_by labelled asking status = labels_asked (labelled asking.path) asking.ha
 abbrev pub IsRefused : Refusal → Result (Response (Full (List ℕ))) Error → Type 0
 IsRefused refusal given =
     (reply : HttpReply) × IsReply (refusal_reply refusal) (http_value reply)
-    × Responds (λ _. plain_labels) (Ok reply) given
+    × Responds (λ _. refusal_labels refusal) (Ok reply) given
 
 -- what a request asks of a handler
 abbrev pub asking_by : {I H : Type 0} → Request (Incoming I) → Option H → Asking H
@@ -144,7 +145,9 @@ module _ {I H R : Type 0} where
   -- is the request's, up to the longest one, and nothing of it is read yet
   pub record IsExchangeOf (service : ConnectionService H R) (req : Request (Incoming I)) (e : Exchange I H R) :
       Type 0 where
-    pub refusal : e.refusal ≡ refusal_of service.port (request.head_of req).headers
+    pub refusal : e.refusal ≡ refusal_of (credentials_in service.access)
+        (is_open service.access (request.head_of req).method (uri_path (request.head_of req).uri)) service.port
+        (request.head_of req).headers
     pub asks : ((e.refusal ≡ None) × (asking_of e ≡ asking_by req (option_map arc_value service.handler)))
         ⊎ (asking_of e ≡ asking_by req None)
     pub told : IsTrue e.is_too_long ↔ TellsTooLong (request.body_of req)

@@ -1,6 +1,7 @@
 -- Which heads are answered before anything is asked, and how.
 use Rattle.std.specs.Prelude.{◌==◌, ◌&&◌, ◌||◌, ◌++◌, ℕ, Bool, true, not, is_some, List, [], ◌∷◌, length, take, drop, map, codes, decimal, bytes_eq, if◌then◌else◌, Option, Some, None}
 use Rattle.std.specs.List.{list_all}
+use Rattle.std.specs.Option.{option_or}
 use Rattle.std.specs.Str.{is_utf8}
 use Rattle.std.specs.Char.{to_ascii_lowercase}
 use Rattle.decimals.specs.Decimals.{number_of}
@@ -8,7 +9,10 @@ use Rattle.http_header.specs.FieldValue.{FieldValue}
 use Rattle.http_header.specs.HeaderMap.{Entries, get_all}
 use Rattle.http_replies.specs.Replies.{ReplyValue, text_reply}
 use Rattle.http_service.specs.declared.heads.Refusal.{Refusal}
-use Rattle.http_service.specs.declared.heads.Refusal.TheVariants.{ForeignHost, ForeignOrigin, OtherCoding}
+use Rattle.http_service.specs.declared.heads.Refusal.TheVariants.{NoKey, ForeignHost, ForeignOrigin, OtherCoding}
+use Rattle.http_service.specs.declared.labels.Labels.{Labels}
+use Rattle.http_service.specs.Keys.{has_credentials}
+use Rattle.http_service.specs.Labels.{key_labels, plain_labels}
 
 -- the same bytes, but for small and capital letters
 abbrev pub is_alike : List ℕ → List ℕ → Bool
@@ -43,16 +47,34 @@ is_chunked coding = is_alike coding (codes "chunked")
 abbrev pub all_pass : (List ℕ → Bool) → List ℕ → Entries FieldValue → Bool
 all_pass test name fields = list_all (λ value. test value.bytes) (get_all fields name)
 
--- why a head with these fields is refused by a node that is served at this port
-abbrev pub refusal_of : ℕ → Entries FieldValue → Option Refusal
-refusal_of port fields =
-    if not (all_pass is_this_machine (codes "host") fields) then Some ForeignHost
-    else (if not (all_pass (is_served_address port) (codes "origin") fields) then Some ForeignOrigin
-    else (if not (all_pass is_chunked (codes "transfer-encoding") fields) then Some OtherCoding else None))
+-- who isn't let in: without the key of a service that has one, unless the request needs none, and else from another
+-- machine's page
+abbrev pub stranger : Option (List ℕ) → Bool → Entries FieldValue → Option Refusal
+stranger None needs_none fields = if all_pass is_this_machine (codes "host") fields then None else Some ForeignHost
+stranger (Some credentials) needs_none fields =
+    if needs_none || has_credentials credentials fields then None else Some NoKey
+
+abbrev pub refusal_behind : ℕ → Entries FieldValue → Option Refusal
+refusal_behind port fields =
+    if not (all_pass (is_served_address port) (codes "origin") fields) then Some ForeignOrigin
+    else (if not (all_pass is_chunked (codes "transfer-encoding") fields) then Some OtherCoding else None)
+
+-- why a head with these fields is refused by a service with these credentials, if it has a key, at this port: it may be
+-- of a request that needs none
+abbrev pub refusal_of : Option (List ℕ) → Bool → ℕ → Entries FieldValue → Option Refusal
+refusal_of credentials needs_none port fields =
+    option_or (stranger credentials needs_none fields) (refusal_behind port fields)
 
 -- what such a head is answered
 abbrev pub refusal_reply : Refusal → ReplyValue
+refusal_reply NoKey =
+    text_reply 401 (codes "no key: send Authorization: Bearer and the key in hex")
 refusal_reply ForeignHost = text_reply 403 (codes "another machine's Host: ask for localhost, 127.0.0.1 or [::1]")
 refusal_reply ForeignOrigin =
     text_reply 403 (codes "a page of another Origin: no browser may ask for it, send no Origin")
 refusal_reply OtherCoding = text_reply 501 (codes "unknown coding: send Content-Length, or chunks alone")
+
+-- a text, and where a key is missing, what is to be sent
+abbrev pub refusal_labels : Refusal → Labels
+refusal_labels NoKey = key_labels
+refusal_labels _ = plain_labels

@@ -1,5 +1,5 @@
 -- What the header fields of a reply say.
-use Rattle.std.specs.Prelude.{◌==◌, ◌||◌, ℕ, Bool, List, [], ◌∷◌, codes, bytes_eq, if◌then◌else◌, Option, Some, None, option_map}
+use Rattle.std.specs.Prelude.{◌==◌, ◌||◌, ℕ, Bool, true, false, List, [], ◌∷◌, codes, bytes_eq, if◌then◌else◌, Option, Some, None, option_map}
 use Rattle.http_header.specs.FieldValue.{FieldValue, plain_value}
 use Rattle.http_header.specs.HeaderMap.{Entry, Entries, insert}
 use Rattle.http_paths.specs.Paths.{TargetValue}
@@ -41,11 +41,16 @@ labels_of target status =
     record {
       content = if status == 200 then content_at target else Text;
       methods = if status == 405 then option_map methods_of target else None;
+      asks_for_key = false;
     }
 
 -- a text
 abbrev pub plain_labels : Labels
-plain_labels = record { content = Text; methods = None }
+plain_labels = record { content = Text; methods = None; asks_for_key = false }
+
+-- a text that says that a key has to be sent
+abbrev pub key_labels : Labels
+key_labels = record { content = Text; methods = None; asks_for_key = true }
 
 abbrev pub content_text : Content → List ℕ
 content_text Text = codes "text/plain; charset=utf-8"
@@ -81,6 +86,13 @@ abbrev pub with_methods : Option Methods → Entries FieldValue → Entries Fiel
 with_methods None fields = fields
 with_methods (Some methods) fields = insert fields (codes "allow") (plain_value (methods_text methods))
 
+-- fields, and how a key has to be sent
+abbrev pub with_challenge : Bool → Entries FieldValue → Entries FieldValue
+with_challenge false fields = fields
+with_challenge true fields = insert fields (codes "www-authenticate") (plain_value (codes "Bearer"))
+
 -- the fields, in their order
 abbrev pub label_fields : Labels → Entries FieldValue
-label_fields labels = with_methods labels.methods (with_policy_of labels.content (type_fields labels.content))
+label_fields labels =
+    with_challenge labels.asks_for_key
+    (with_methods labels.methods (with_policy_of labels.content (type_fields labels.content)))

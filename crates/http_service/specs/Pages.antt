@@ -1,5 +1,5 @@
 -- A page that is answered where no handler is asked.
-use Rattle.std.specs.Prelude.{◌==◌, ℕ, not, nat_lt, List, length, codes, bytes_eq, if◌then◌else◌, Some, None, MatchBool}
+use Rattle.std.specs.Prelude.{◌==◌, ◌&&◌, ℕ, Bool, not, nat_lt, List, length, false, codes, bytes_eq, if◌then◌else◌, Some, None, MatchBool}
 use Rattle.message_format.specs.Spelling.{max_message}
 use Rattle.http_replies.specs.Replies.{ReplyValue, IsReply, text_reply}
 use Rattle.operator_page.specs.declared.page.TheConstants.{PAGE}
@@ -10,6 +10,10 @@ use Rattle.http_service.specs.declared.labels.Labels.{Labels}
 -- where the operator's page is
 abbrev pub page_path : List ℕ
 page_path = codes "/"
+
+-- whether a request is for the page itself
+abbrev pub shows_page : List ℕ → List ℕ → Bool
+shows_page method path = bytes_eq method (codes "GET") && bytes_eq path page_path
 
 -- what is answered there, by the method and by how many bytes the body has
 abbrev pub page_reply : List ℕ → ℕ → ReplyValue
@@ -30,6 +34,7 @@ page_labels status =
     record {
       content = if status == 200 then Page else Text;
       methods = if status == 405 then Some Get else None;
+      asks_for_key = false;
     }
 
 abbrev pub labels_or_page : (List ℕ → ℕ → Labels) → List ℕ → ℕ → Labels

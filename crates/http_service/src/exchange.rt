@@ -17,6 +17,7 @@ ghost use Rattle.http_service.specs.Exchanges.{IsExchangeOf, IsResponseTo, Respo
 ghost use Rattle.http_service.specs.Exchanges.{IsAnswered, TellsTooLong, labels_by};
 ghost use Rattle.http_service.specs.Labels.{label_fields};
 
+use crate::access::Access;
 use crate::handler::Handler;
 use crate::heads::{Refusal, judge};
 use crate::labels::Labels;
@@ -54,7 +55,9 @@ pub struct ConnectionService<H, R> {
     pub handler: Option<Arc<H>>,
     /// The permits of long bodies.
     pub long: Option<Permits>,
-    /// The port of 127.0.0.1 at which the handler is served.
+    /// Who may ask.
+    pub access: Access,
+    /// The port at which the handler is served.
     pub port: u16,
 }
 
@@ -99,7 +102,8 @@ impl<I: Drop, H: Handler, R: Wait + Copy> Service<Request<Incoming<I>>>
 
     fn call(&self, req: Request<Incoming<I>>) -> Exchange<I, H, R> {
         let (head, body) = req.into_parts();
-        let refusal = judge(&head.headers, self.port);
+        let is_open = self.access.is_open(head.method.as_str(), head.uri.path());
+        let refusal = judge(&head.headers, &self.access, is_open, self.port);
         let is_too_long = tells_too_long(&body);
         let needs_permit = refusal.is_none() && !is_too_long && !is_short(&body);
         let long = if needs_permit {
@@ -209,7 +213,7 @@ impl<I: Drop, H: Handler, R: Wait + Copy> Future for Exchange<I, H, R> {
     fn poll(&mut self, cx: &mut Context<'_>) -> Poll<hyper::Result<Response<Full<Bytes>>>> {
         if let Some(refusal) = self.refusal {
             let reply = refusal.reply(self.alloc);
-            return Poll::Ready(respond(self.alloc, Ok(reply), Labels::plain()));
+            return Poll::Ready(respond(self.alloc, Ok(reply), refusal.labels()));
         }
         if self.is_too_long {
             return Poll::Ready(self.answer(Reading::TooLong));

@@ -10,7 +10,7 @@ mod page;
 use crate::labels::Labels;
 pub(crate) use ending::EndingHandler;
 use http_replies::HttpReply;
-pub(crate) use page::PageHandler;
+pub(crate) use page::{PageHandler, shows_page};
 use std::alloc::Global;
 use std::sync::Wait;
 

@@ -6,8 +6,11 @@ ghost use Rattle.std.specs.List.{list_all};
 ghost use Rattle.http_replies.specs.Replies.{http_value, IsReply};
 ghost use Rattle.http_service.specs.Heads.{all_pass, is_alike, is_at, is_chunked, is_served_address};
 ghost use Rattle.http_service.specs.Heads.{is_port, is_this_machine, may_end_host};
-ghost use Rattle.http_service.specs.Heads.{refusal_of, refusal_reply};
+ghost use Rattle.http_service.specs.Heads.{refusal_labels, refusal_of, refusal_reply};
+ghost use Rattle.http_service.specs.Keys.{credentials_in};
 
+use crate::access::{Access, has_credentials};
+use crate::labels::Labels;
 use decimals::number;
 use http::header::{HOST, HeaderMap, ORIGIN, TRANSFER_ENCODING};
 use http_replies::HttpReply;
@@ -15,13 +18,15 @@ use itoa::Buffer;
 use std::alloc::Global;
 use std::str;
 
-/// Why nothing is asked of the node.
+/// Why nothing is asked of the handler.
 #[derive(Clone, Copy, Debug, PartialEq, Eq)]
 pub enum Refusal {
+    /// The service has a key, and the `Authorization` isn't the one with it.
+    NoKey,
     /// The `Host` is another machine: a page that has a name of its own for this machine's address
     /// sends that name.
     ForeignHost,
-    /// The `Origin` isn't the address at which the node is served.
+    /// The `Origin` isn't the address at which the handler is served.
     ForeignOrigin,
     /// The body is coded otherwise than in chunks.
     OtherCoding,
@@ -33,6 +38,11 @@ impl Refusal {
         ensures { IsReply (refusal_reply self) (http_value result) }
     {
         match self {
+            Refusal::NoKey => HttpReply::text(
+                alloc,
+                401,
+                "no key: send Authorization: Bearer and the key in hex",
+            ),
             Refusal::ForeignHost => HttpReply::text(
                 alloc,
                 403,
@@ -50,15 +60,29 @@ impl Refusal {
             ),
         }
     }
+
+    /// What that reply is labelled as.
+    pub fn labels(self) -> Labels
+        ensures { result ≡ refusal_labels self }
+    {
+        Labels {
+            asks_for_key: self == Refusal::NoKey,
+            ..Labels::plain()
+        }
+    }
 }
 
-/// Why a head with these fields is refused by a node that is served at this port of 127.0.0.1, if
-/// it is.
-pub fn judge(fields: &HeaderMap, port: u16) -> Option<Refusal>
-    ensures { result ≡ refusal_of port fields.now }
+/// Why a head with these fields is refused by a service at this port, if it is. A key is asked for
+/// before all else, unless the request needs none.
+pub fn judge(fields: &HeaderMap, access: &Access, needs_none: bool, port: u16) -> Option<Refusal>
+    ensures { result ≡ refusal_of (credentials_in access.now) needs_none port fields.now }
 {
-    if !is_for_this_machine(fields) {
-        return Some(Refusal::ForeignHost);
+    match access.credentials() {
+        Some(credentials) if !(needs_none || has_credentials(fields, credentials)) => {
+            return Some(Refusal::NoKey);
+        }
+        None if !is_for_this_machine(fields) => return Some(Refusal::ForeignHost),
+        _ => {}
     }
     if !is_of_no_other_page(fields, port) {
         return Some(Refusal::ForeignOrigin);

@@ -6,11 +6,11 @@ ghost use Rattle.http_header.specs.FieldValue.{plain_value};
 ghost use Rattle.http_paths.specs.Targets.{target_value};
 ghost use Rattle.http_service.specs.Labels.{content_at, content_text, label_fields, labels_of};
 ghost use Rattle.http_service.specs.Labels.{methods_of, methods_text, plain_labels, with_methods};
-ghost use Rattle.http_service.specs.Labels.{with_policy, with_policy_of};
+ghost use Rattle.http_service.specs.Labels.{with_challenge, with_policy, with_policy_of};
 
 use http::header::{
     ALLOW, CACHE_CONTROL, CONTENT_SECURITY_POLICY, CONTENT_TYPE, HeaderMap, HeaderName,
-    HeaderValue, REFERRER_POLICY, X_CONTENT_TYPE_OPTIONS,
+    HeaderValue, REFERRER_POLICY, WWW_AUTHENTICATE, X_CONTENT_TYPE_OPTIONS,
 };
 use http_paths::Target;
 use operator_page::POLICY;
@@ -39,6 +39,8 @@ pub struct Labels {
     pub content: Content,
     /// The methods that the path has, in place of the one that was sent.
     pub methods: Option<Methods>,
+    /// A key has to be sent, and how.
+    pub asks_for_key: bool,
 }
 
 impl Labels {
@@ -49,6 +51,7 @@ impl Labels {
         Labels {
             content: Content::Text,
             methods: None,
+            asks_for_key: false,
         }
     }
 
@@ -68,6 +71,7 @@ impl Labels {
                 Some(target) if is_of_another_method => Some(methods_at(target)),
                 _ => None,
             },
+            asks_for_key: false,
         }
     }
 
@@ -81,6 +85,7 @@ impl Labels {
         put(&mut fields, X_CONTENT_TYPE_OPTIONS, nosniff)?;
         put_policy_of(&mut fields, self.content)?;
         put_methods(&mut fields, self.methods)?;
+        put_challenge(&mut fields, self.asks_for_key)?;
         Ok(fields)
     }
 }
@@ -136,6 +141,17 @@ fn put_methods(fields: &mut HeaderMap, methods: Option<Methods>) -> Result<(), A
     match methods {
         None => Ok(()),
         Some(methods) => put(fields, ALLOW, methods.value()),
+    }
+}
+
+// That a key has to be sent, and how. Out of memory is the only error.
+fn put_challenge(fields: &mut HeaderMap, asks_for_key: bool) -> Result<(), AllocError>
+    ensures { OnOk result (fields.new ≡ with_challenge asks_for_key fields.old) }
+{
+    if asks_for_key {
+        put(fields, WWW_AUTHENTICATE, HeaderValue::from_static("Bearer"))
+    } else {
+        Ok(())
     }
 }
 

@@ -9,12 +9,15 @@
 //!
 //! No page of a browser is let in but the operator's: a request whose `Host` is no name of this machine, or whose
 //! `Origin` isn't the address at which the handler is served, is 403, and nothing is asked of it.
+//! A service with a key (`Access`) may be asked from other machines too: there the `Host` says
+//! nothing, and a request without the key is 401, whatever it is, before its body is read.
 //!
 //! A service that has an `Ending` is ended by `POST /stop`, by whoever else has that ending, and by a
 //! reply that shows that a node has forgotten what it did: then no client is let in any more, and
 //! those that are being served have two seconds. It answers `GET /` by the operator's page.
 #![tactic(auto)]
 
+mod access;
 mod connection;
 mod ending;
 mod exchange;
@@ -22,10 +25,12 @@ mod fault;
 mod handler;
 mod heads;
 mod labels;
+pub mod laws;
 mod permits;
 mod serving;
 mod until_ended;
 
+pub use access::{Access, KeyFault};
 pub use ending::{Ending, Reason, Served};
 pub use fault::ServeFault;
 pub use handler::Handler;

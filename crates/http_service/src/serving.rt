@@ -6,9 +6,11 @@ ghost use Rattle.std.specs.Duration.{as_nanos};
 ghost use Rattle.http_service.specs.declared.fault.ServeFault.TheVariants.{AcceptFailed, OutOfMemory};
 ghost use Rattle.http_service.specs.Clients.{AreLetIn};
 ghost use Rattle.http_service.specs.Endings.{AreLetInOrEnded, IsServedTo};
+ghost use Rattle.http_service.specs.Keys.{credentials_in};
 ghost use Rattle.tokio.specs.Locks.{CanAcquire};
 ghost use Rattle.tokio.specs.Timers.{IsDelayedBy, sleep_deadline, timeout_delay, timeout_future};
 
+use crate::access::Access;
 use crate::connection::{Accepting, Clients, ConnectionFactory, ConnectionTask};
 use crate::ending::{Ending, Served};
 use crate::exchange::ConnectionService;
@@ -85,6 +87,7 @@ struct HttpConnections<H, R> {
     rt: R,
     handler: Arc<H>,
     long: Permits,
+    access: Access,
     port: u16,
     http: Builder<TokioTimer<R>>,
     timers: Handle,
@@ -95,24 +98,31 @@ where
     H: Handler,
     R: Wait + Clock + Copy,
 {
-    fn connection(&self, socket: TcpStream) -> HttpConnection<H, R>
-        ensures can_poll { ⟦<HttpConnection<H, R> as Future>⟧.can_poll result }
-        ensures options { result.served.conn.options ≡ self.now.http.options }
-        ensures config { result.served.conn.link.core.config ≡ self.now.http.config }
-        ensures handler { IfSome result.served.conn.service.handler
-            (λ h. arc_value h ≡ arc_value self.now.handler) }
-        ensures port { result.served.conn.service.port ≡ self.now.port }
+    // `None` where the access can't be shared any more.
+    fn connection(&self, socket: TcpStream) -> Option<HttpConnection<H, R>>
+        ensures can_poll { IfSome result ⟦<HttpConnection<H, R> as Future>⟧.can_poll }
+        ensures options { IfSome result (λ c. c.served.conn.options ≡ self.now.http.options) }
+        ensures config { IfSome result
+            (λ c. c.served.conn.link.core.config ≡ self.now.http.config) }
+        ensures handler { IfSome result (λ c. IfSome c.served.conn.service.handler
+            (λ h. arc_value h ≡ arc_value self.now.handler)) }
+        ensures access { IfSome result (λ c. credentials_in c.served.conn.service.access
+            ≡ credentials_in self.now.access) }
+        ensures page { IfSome result (λ c. c.served.conn.service.access.has_page
+            ≡ self.now.access.has_page) }
+        ensures port { IfSome result (λ c. c.served.conn.service.port ≡ self.now.port) }
     {
         let service = ConnectionService {
             alloc: self.alloc,
             rt: self.rt,
             handler: Arc::try_clone(&self.handler).ok(),
             long: self.long.again(),
+            access: self.access.again()?,
             port: self.port,
         };
-        HttpConnection {
+        Some(HttpConnection {
             served: self.http.serve_connection(socket, service),
-        }
+        })
     }
 }
 
@@ -134,7 +144,7 @@ where
             × (as_nanos whole ≡ WHOLE_SECONDS * 1_000_000_000)
             × IsDelayedBy whole (sleep_deadline (timeout_delay task.timed))) }
     {
-        let connection = self.connection(socket);
+        let connection = self.connection(socket)?;
         let whole = Duration::from_secs(WHOLE_SECONDS);
         ConnectionTask::new(&self.rt, &self.timers, whole, connection, permit)
     }
@@ -167,6 +177,7 @@ pub fn serve_all<H, R>(
     alloc: Global,
     runtime: &mut Runtime,
     handler: Arc<H>,
+    access: Access,
     listener: TcpListener,
     requests: u32,
 ) -> Result<u32, ServeFault>
@@ -176,7 +187,7 @@ where
     ensures ok { IfOk result (λ served. served ≡ requests) }
     ensures err { IfErr result (λ f. (f ≡ AcceptFailed) ⊎ (f ≡ OutOfMemory)) }
 {
-    let (factory, permits) = opened(rt, alloc, runtime, handler, &listener)?;
+    let (factory, permits) = opened(rt, alloc, runtime, handler, access, &listener)?;
     let clients = admit(rt, runtime, listener, factory, permits, requests)?;
     Ok(clients.count())
 }
@@ -188,6 +199,7 @@ pub fn serve_until_ended<'e, H, R>(
     alloc: Global,
     runtime: &mut Runtime,
     handler: Arc<H>,
+    access: Access,
     listener: TcpListener,
     requests: u32,
     ending: &'e Arc<Ending>,
@@ -200,7 +212,8 @@ where
 {
     let handler = PageHandler::new(alloc, handler)?;
     let handler = EndingHandler::new(alloc, handler, ending)?;
-    let (factory, permits) = opened(rt, alloc, runtime, handler, &listener)?;
+    let access = access.with_page();
+    let (factory, permits) = opened(rt, alloc, runtime, handler, access, &listener)?;
     let let_in = admit_until(rt, runtime, listener, factory, permits, requests, ending)?;
     served_by(ending, let_in)
 }
@@ -234,6 +247,7 @@ fn opened<H, R>(
     alloc: Global,
     runtime: &Runtime,
     handler: Arc<H>,
+    access: Access,
     listener: &TcpListener,
 ) -> Result<(HttpConnections<H, R>, Permits), ServeFault>
 where
@@ -242,22 +256,24 @@ where
     ensures none_waits { IfOk result (λ r. r.1.waiting ≡ None) }
     ensures count { IfOk result (λ r. r.1.count ≡ AT_ONCE) }
     ensures handler { IfOk result (λ r. arc_value r.0.handler ≡ arc_value handler) }
+    ensures access { IfOk result (λ r. r.0.access ≡ access) }
     ensures err { IfErr result (λ f. (f ≡ AcceptFailed) ⊎ (f ≡ OutOfMemory)) }
 {
     let permits = Permits::new(alloc, AT_ONCE)?;
     let Ok(address) = listener.local_addr() else {
         return Err(ServeFault::AcceptFailed);
     };
-    let factory = connections_to(rt, alloc, runtime, handler, address.port())?;
+    let factory = connections_to(rt, alloc, runtime, handler, access, address.port())?;
     Ok((factory, permits))
 }
 
-// Makes connections whose requests go to a handler, which is served at this port.
+// Makes connections whose requests go to a handler, which is served so at this port.
 fn connections_to<H, R>(
     rt: &R,
     alloc: Global,
     runtime: &Runtime,
     handler: Arc<H>,
+    access: Access,
     port: u16,
 ) -> Result<HttpConnections<H, R>, ServeFault>
 where
@@ -268,6 +284,7 @@ where
         (λ head. as_nanos head ≡ HEAD_SECONDS * 1_000_000_000)) }
     ensures handler { IfOk result (λ f. arc_value f.handler ≡ arc_value handler) }
     ensures long { IfOk result (λ f. f.long.count ≡ LONG_AT_ONCE) }
+    ensures access { IfOk result (λ f. f.access ≡ access) }
     ensures port { IfOk result (λ f. f.port ≡ port) }
     ensures read { IfOk result (λ f. f.http.config.max_buf_size ≡ READ_AT_ONCE) }
     ensures err { IfErr result (λ f. (f ≡ AcceptFailed) ⊎ (f ≡ OutOfMemory)) }
@@ -285,6 +302,7 @@ where
         rt: *rt,
         handler,
         long: Permits::new(alloc, LONG_AT_ONCE)?,
+        access,
         port,
         http,
         timers: runtime.handle().time().clone()?,

@@ -3,6 +3,7 @@ use Rattle.std.proofs.Common.{◌≡◌, ◌≢◌, ◌==◌, ℕ, Bool, true, f
 use Rattle.std.proofs.lemmas.List.{map-append}
 use Rattle.gossip.proofs.RangeLemmas.{unequal}
 use Rattle.gossip.specs.Traffic.{Traffic, sends}
+use Rattle.http_wire.specs.declared.key.Key.{Key}
 use Rattle.http_wire.specs.declared.posting.Posted.{Posted}
 use Rattle.http_wire.specs.declared.wire.Peer.{Peer}
 use Rattle.http_wire.specs.Posts.{Posts}
@@ -17,8 +18,8 @@ whole (byte ∷ bytes) =
 abbrev traffic_with : List (ℕ × List ℕ) → Traffic
 traffic_with sent = record { sent = sent; taken = [] }
 
-pub sent_more : {peers : List Peer} {to : ℕ} {message : List ℕ} {was now : List Posted} →
-    IsSentTo peers to message was now → traffic_of now ≡ sends to message (traffic_of was)
+pub sent_more : {peers : List Peer} {key : Option Key} {to : ℕ} {message : List ℕ} {was now : List Posted} →
+    IsSentTo peers key to message was now → traffic_of now ≡ sends to message (traffic_of was)
 sent_more {message = message} {was = was} s =
     ap traffic_with (
     ap (map posted_value) s.more ∙ map-append posted_value was (s.last ∷ [])

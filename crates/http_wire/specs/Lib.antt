@@ -1,5 +1,6 @@
 pub mod Failures
 pub mod Forgetting
+pub mod Keys
 pub mod Peers
 pub mod Posts
 pub mod Reached

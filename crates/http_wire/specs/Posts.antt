@@ -1,20 +1,37 @@
--- What is posted, and where.
-use Rattle.std.specs.Prelude.{◌≡◌, ◌==◌, if◌then◌else◌, ℕ, List, [], ◌∷◌, length, codes, Some, None}
-use Rattle.std.specs.Net.Addr.{IsV4And, ipv4_octets}
-use Rattle.std.specs.Net.Socket.{socket_ip, IsPlainSocket}
+-- What is posted.
+use Rattle.std.specs.Prelude.{◌≡◌, ◌==◌, if◌then◌else◌, ℕ, List, [], ◌∷◌, ◌++◌, length, codes, decimal, string_bytes, Option, Some, None}
+use Rattle.std.specs.Net.Addr.{ipv4_octets, ipv6_segments}
+use Rattle.std.specs.Net.Socket.{v4_ip, v4_port, v6_ip, v6_port}
+use Rattle.std.specs.Net.Text.{ipv4_text, ipv6_text}
 use Rattle.std.specs.declared.net.socket_addr.SocketAddr.{SocketAddr}
+use Rattle.std.specs.declared.net.socket_addr.SocketAddr.TheVariants.{V4, V6}
 use Rattle.http_body_util.specs.declared.full.Full.{Full}
+use Rattle.http_header.specs.FieldValue.{FieldValue, plain_value}
+use Rattle.http_header.specs.HeaderMap.{Entries}
 use Rattle.hyper.specs.Request.{head_of, body_of}
 use Rattle.hyper.specs.Uri.{Spells}
 use Rattle.hyper.specs.declared.Request.{Request}
+use Rattle.http_wire.specs.declared.key.Key.{Key}
 
--- a port of this machine
-abbrev pub IsLoopback : ℕ → SocketAddr → Type 0
-IsLoopback port address =
-    IsV4And (socket_ip address) (λ ip. ipv4_octets ip ≡ 127 ∷ 0 ∷ 0 ∷ 1 ∷ []) × IsPlainSocket address port
+-- how a request names its server: by the address, without a scope, which means something to this machine alone
+abbrev pub host_text : SocketAddr → List ℕ
+host_text (V4 a) = ipv4_text (ipv4_octets (v4_ip a)) ++ (codes ":" ++ decimal (v4_port a))
+host_text (V6 a) = codes "[" ++ (ipv6_text (ipv6_segments (v6_ip a)) ++ (codes "]:" ++ decimal (v6_port a)))
 
--- a message is posted to `/gossip`, each byte of it
-pub record Posts (message : List ℕ) (request : Request (Full (List ℕ))) : Type 0 where
+abbrev pub host_field : SocketAddr → List ℕ × List FieldValue
+host_field address = (codes "host", plain_value (host_text address) ∷ [])
+
+abbrev pub key_field : Key → List ℕ × List FieldValue
+key_field key = (codes "authorization", plain_value (string_bytes key.credentials) ∷ [])
+
+-- the fields of a head: the server, and the key where there is one
+abbrev pub fields_of : SocketAddr → Option Key → Entries FieldValue
+fields_of address None = host_field address ∷ []
+fields_of address (Some key) = host_field address ∷ key_field key ∷ []
+
+-- a message is posted to `/gossip` of the server at an address, each byte of it, with the key, if there is one
+pub record Posts (address : SocketAddr) (key : Option Key) (message : List ℕ) (request : Request (Full (List ℕ))) : Type 0 where
   pub method : (head_of request).method ≡ codes "POST"
   pub uri : Spells (codes "/gossip") (head_of request).uri
+  pub fields : (head_of request).headers ≡ fields_of address key
   pub body : (body_of request).buf ≡ (if length message == 0 then None else Some message)

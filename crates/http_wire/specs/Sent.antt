@@ -4,9 +4,10 @@ use Rattle.http_body_util.specs.declared.full.Full.{Full}
 use Rattle.hyper.specs.Request.{body_of}
 use Rattle.hyper.specs.declared.Request.{Request}
 use Rattle.gossip.specs.Traffic.{Traffic}
+use Rattle.http_wire.specs.declared.key.Key.{Key}
 use Rattle.http_wire.specs.declared.posting.Posted.{Posted}
 use Rattle.http_wire.specs.declared.wire.Peer.{Peer}
-use Rattle.http_wire.specs.Peers.{port_of}
+use Rattle.http_wire.specs.Peers.{address_of}
 use Rattle.http_wire.specs.Posts.{Posts}
 
 abbrev pub bytes_or_none : Option (List ℕ) → List ℕ
@@ -23,10 +24,10 @@ posted_value p = (p.peer.node, bytes_of p.request.value)
 abbrev pub traffic_of : List Posted → Traffic
 traffic_of sent = record { sent = map posted_value sent; taken = [] }
 
--- one message more was posted, to the port that these peers have for the node
-pub record IsSentTo (peers : List Peer) (to : ℕ) (message : List ℕ) (was now : List Posted) : Type 0 where
+-- one message more was posted, to the address that these peers have for the node, with the key, if there is one
+pub record IsSentTo (peers : List Peer) (key : Option Key) (to : ℕ) (message : List ℕ) (was now : List Posted) : Type 0 where
   pub last : Posted
   pub more : now ≡ was ++ last ∷ []
   pub node : last.peer.node ≡ to
-  pub port : port_of peers to ≡ Some last.peer.port
-  pub posts : Posts message last.request.value
+  pub address : address_of peers to ≡ Some last.peer.address
+  pub posts : Posts last.peer.address key message last.request.value

@@ -1,11 +1,13 @@
 //! One message to a server.
 
-ghost use Rattle.std.specs.Prelude.{◌≡◌, ◌↔◌, IfErr, IfOk, IsOk, IsTrue};
+ghost use Rattle.std.specs.Prelude.{◌≡◌, ◌↔◌, option_copied, IfErr, IfOk, IsOk, IsTrue};
 ghost use Rattle.http_wire.specs.Failures.{IsFailure};
-ghost use Rattle.http_wire.specs.Posts.{IsLoopback, Posts};
+ghost use Rattle.http_wire.specs.Posts.{Posts};
 ghost use Rattle.std.specs.IoError.{error_kind};
 
+use crate::fields::fields_of;
 use crate::forgetting::{FirstPiece, Forgetting, forgetting_in};
+use crate::key::Key;
 use crate::wire::Peer;
 use bytes::Bytes;
 use futures::Future;
@@ -14,7 +16,7 @@ use gossip::WireError;
 use http_body_util::Full;
 use hyper::body::Incoming;
 use hyper::client::conn::http1::handshake;
-use hyper::{Request, Response, StatusCode, header};
+use hyper::{Request, Response, StatusCode};
 use std::alloc::{AllocGlobal, Global};
 use std::hash::RandomState;
 use std::io;
@@ -43,17 +45,23 @@ pub(crate) fn failed(error: io::Error) -> WireError
     }
 }
 
-// A message as a request, of which the message is the body.
-fn request(alloc: Global, message: &[u8]) -> Result<Request<Full<Bytes>>, WireError>
-    ensures ok { IfOk result (Posts message.now) }
+// A message as a request to the server at an address, of which the message is the body.
+fn request(
+    alloc: Global,
+    address: SocketAddr,
+    key: Option<&Key>,
+    message: &[u8],
+) -> Result<Request<Full<Bytes>>, WireError>
+    ensures ok { IfOk result (Posts address (option_copied key.entry) message.now) }
     ensures err { IfErr result IsFailure }
 {
     let body = Full::new(Bytes::copy_from_slice(alloc, message)?);
-    let request = Request::post(alloc, "/gossip")
-        .header(header::HOST, "127.0.0.1")
-        .body(body);
-    match request {
-        Ok(request) => Ok(request),
+    let fields = fields_of(alloc, address, key)?;
+    match Request::post(alloc, "/gossip").body(body) {
+        Ok(mut request) => {
+            *request.headers_mut() = fields;
+            Ok(request)
+        }
         Err(_) => Err(WireError::Failed),
     }
 }
@@ -79,14 +87,7 @@ where
     }
 }
 
-// A port of this machine.
-fn loopback(port: u16) -> SocketAddr
-    ensures { IsLoopback port result }
-{
-    SocketAddr::from(([127, 0, 0, 1], port))
-}
-
-/// A connection to the port of a peer, and until when what is posted over it is to be answered.
+/// A connection to the address of a peer, and until when what is posted over it is to be answered.
 #[derive(Drop)]
 pub struct Connection {
     peer: Peer,
@@ -103,14 +104,14 @@ impl Connection {
     }
 }
 
-/// A request that was handed to a connection to the port of a peer, and answered.
+/// A request that was handed to a connection to the address of a peer, and answered.
 #[derive(Drop)]
 pub struct Posted {
     peer: Peer,
     request: Snapshot<Request<Full<Bytes>>>,
 }
 
-/// Connects to the port of a peer, within `POST_SECONDS`, in which a message over it is to be answered
+/// Connects to the address of a peer, within `POST_SECONDS`, in which a message over it is to be answered
 /// too.
 pub(crate) fn connect<R>(
     rt: &R,
@@ -126,7 +127,7 @@ where
     let Some(deadline) = now.checked_add(Duration::from_secs(POST_SECONDS)) else {
         return Err(WireError::Failed);
     };
-    let connecting = TcpStream::connect(rt, loopback(peer.port), runtime.handle().reactor());
+    let connecting = TcpStream::connect(rt, peer.address, runtime.handle().reactor());
     let stream = output_of(rt, runtime, connecting, deadline)?.map_err(failed)?;
     Ok(Connection {
         peer,
@@ -219,21 +220,23 @@ pub(crate) fn taken_in(status: StatusCode) -> Result<(), WireError>
     }
 }
 
-/// Posts a message to the server of a peer over a connection to it, and answers what was posted and
-/// answered. No reply within the connection's time is a failure.
+/// Posts a message to the server of a peer over a connection to it, with the key, if there is one, and
+/// answers what was posted and answered. No reply within the connection's time is a failure.
 pub(crate) fn post<R>(
     rt: &R,
     alloc: Global,
     runtime: &mut LocalRuntime,
     connection: Connection,
+    key: Option<&Key>,
     message: &[u8],
 ) -> Result<Exchanged, WireError>
 where
     R: Wait + Clock + Net + RandomSource + AllocGlobal,
     ensures to { IfOk result (λ answered. answered.posted.peer ≡ connection.peer) }
-    ensures posts { IfOk result (λ answered. Posts message.now answered.posted.request.value) }
+    ensures posts { IfOk result (λ answered. Posts connection.peer.address (option_copied key.entry)
+        message.now answered.posted.request.value) }
     ensures err { IfErr result IsFailure }
 {
-    let request = request(alloc, message)?;
+    let request = request(alloc, connection.peer.address, key, message)?;
     answered(rt, alloc, runtime, connection, request)
 }

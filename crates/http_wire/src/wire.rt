@@ -6,30 +6,31 @@ ghost use Rattle.std.specs.Bool.{OnTrue};
 ghost use Rattle.gossip.specs.Traffic.{sends, takes};
 ghost use Rattle.http_wire.specs.Failures.{IsFailure};
 ghost use Rattle.http_wire.specs.Forgetting.{HasHeardOf};
-ghost use Rattle.http_wire.specs.Peers.{has_peer, port_of};
+ghost use Rattle.http_wire.specs.Peers.{address_of, has_peer};
 ghost use Rattle.http_wire.specs.Reached.{is_ready_for};
 ghost use Rattle.http_wire.specs.Sent.{IsSentTo, traffic_of};
 
 use crate::forgetting::{Forgetful, Forgetting};
+use crate::key::Key;
 use crate::posting::{Connection, Posted, connect, failed, post, taken_in};
 use gossip::{Log, Reach, Wire, WireError};
 use std::alloc::{AllocGlobal, Global};
 use std::mem;
-use std::net::Net;
+use std::net::{Net, SocketAddr};
 use std::random::RandomSource;
 use std::sync::Wait;
 use std::time::Clock;
 use tokio::runtime::LocalRuntime;
 
-/// Where another node is served: at a port of this machine.
+/// Where another node is served.
 #[derive(Clone, Copy, Debug, PartialEq, Eq)]
 pub struct Peer {
     pub node: u8,
-    pub port: u16,
+    pub address: SocketAddr,
 }
 
-/// Sends each message as `POST /gossip` to the server of its node on 127.0.0.1, over a connection of
-/// its own, in at most `POST_SECONDS`. It brings none: a node's messages come to its own server. A node
+/// Sends each message as `POST /gossip` to the server of its node, with the key, if there is one, over a
+/// connection of its own, in at most `POST_SECONDS`. It brings none: a node's messages come to its own server. A node
 /// is reached where its server lets it connect, and the message that is sent to it next takes that
 /// connection.
 ///
@@ -41,6 +42,7 @@ pub struct HttpWire<R> {
     rt: R,
     runtime: LocalRuntime,
     peers: Vec<Peer>,
+    key: Option<Key>,
     // To the node that was reached last, if nothing was sent to it yet.
     ready: Option<Connection>,
     sent: Log<Posted>,
@@ -48,17 +50,18 @@ pub struct HttpWire<R> {
 }
 
 impl<R> HttpWire<R> {
-    // The port of a node's server: of two, the first.
-    fn port_of(&self, node: u8) -> Option<u16>
-        ensures { result ≡ port_of self.now.peers.items node }
+    // The address of a node's server: of two, the first.
+    fn address_of(&self, node: u8) -> Option<SocketAddr>
+        ensures { result ≡ address_of self.now.peers.items node }
     {
         let peer = self.peers.iter().find(|peer| peer.node == node)?;
-        Some(peer.port)
+        Some(peer.address)
     }
 
     // Keeps what the answer of a node says of it, unless that is kept already.
     fn hear(&mut self, node: u8, says: Option<Forgetting>)
         ensures stays { (self.new.peers ≡ self.old.peers) × (self.new.sent ≡ self.old.sent) }
+        ensures key { self.new.key ≡ self.old.key }
         ensures heard { HasHeardOf node self.old.forgetful.items self.new.forgetful.items }
     {
         let Some(fault) = says else {
@@ -76,15 +79,18 @@ impl<R> HttpWire<R> {
         ensures taken { self.new.forgetful.items ≡ [] }
         ensures stays { (self.new.peers ≡ self.old.peers) × (self.new.sent ≡ self.old.sent)
             × (self.new.ready ≡ self.old.ready) }
+        ensures key { self.new.key ≡ self.old.key }
     {
         mem::replace(&mut self.forgetful, Vec::new(alloc))
     }
 }
 
 impl<R: Wait + Clock + Net + RandomSource + AllocGlobal + Drop> HttpWire<R> {
-    /// A wire to these nodes. Where one is named twice, its first port counts.
-    pub fn new(rt: R, peers: Vec<Peer>) -> Result<HttpWire<R>, WireError>
+    /// A wire to these nodes, which have the key, if there is one. Where a node is named twice, its first
+    /// address counts.
+    pub fn new(rt: R, peers: Vec<Peer>, key: Option<Key>) -> Result<HttpWire<R>, WireError>
         ensures ok { IfOk result (λ wire. wire.peers ≡ peers) }
+        ensures key { IfOk result (λ wire. wire.key ≡ key) }
         ensures ready { IfOk result (λ wire. wire.ready ≡ None) }
         ensures sent { IfOk result (λ wire. wire.sent.items ≡ []) }
         ensures forgetful { IfOk result (λ wire. wire.forgetful.items ≡ []) }
@@ -97,6 +103,7 @@ impl<R: Wait + Clock + Net + RandomSource + AllocGlobal + Drop> HttpWire<R> {
             rt,
             runtime,
             peers,
+            key,
             ready: None,
             sent,
             forgetful,
@@ -109,6 +116,7 @@ impl<R: Wait + Clock + Net + RandomSource + AllocGlobal + Drop> HttpWire<R> {
         ensures err { IfErr result IsFailure }
         ensures stays { (self.new.peers ≡ self.old.peers) × (self.new.sent ≡ self.old.sent)
             × (self.new.forgetful ≡ self.old.forgetful) }
+        ensures key { self.new.key ≡ self.old.key }
     {
         if let Some(connection) = self.ready.take() {
             if connection.is_to(peer) {
@@ -135,7 +143,8 @@ impl<R: Wait + Clock + Net + RandomSource + AllocGlobal + Drop> Wire for HttpWir
             ↔ (has_peer self.old.peers.items to ≡ false) }
         ensures failed { IfErr result (λ e. (e ≡ WireError.NoPeer) ⊎ IsFailure e) }
         ensures stays { self.new.peers ≡ self.old.peers }
-        ensures posted { OnOk result (IsSentTo self.old.peers.items to message.now
+        ensures key { self.new.key ≡ self.old.key }
+        ensures posted { OnOk result (IsSentTo self.old.peers.items self.old.key to message.now
             self.old.sent.items self.new.sent.items) }
         ensures unsent { OnErr result (self.new.sent.items ≡ self.old.sent.items) }
         ensures heard { HasHeardOf to self.old.forgetful.items self.new.forgetful.items }
@@ -144,12 +153,13 @@ impl<R: Wait + Clock + Net + RandomSource + AllocGlobal + Drop> Wire for HttpWir
         ensures err { OnErr result
             (traffic_of self.new.sent.items ≡ traffic_of self.old.sent.items) }
     {
-        let Some(port) = self.port_of(to) else {
+        let Some(address) = self.address_of(to) else {
             return Err(WireError::NoPeer);
         };
-        let peer = Peer { node: to, port };
+        let peer = Peer { node: to, address };
         let connection = self.connection_to(peer)?;
-        let told = post(&self.rt, alloc, &mut self.runtime, connection, message)?;
+        let key = self.key.as_ref();
+        let told = post(&self.rt, alloc, &mut self.runtime, connection, key, message)?;
         self.hear(to, told.says);
         taken_in(told.status)?;
         self.sent.add(&told.posted);
@@ -182,10 +192,10 @@ impl<R: Wait + Clock + Net + RandomSource + AllocGlobal + Drop> Reach for HttpWi
             × (self.new.sent.items ≡ self.old.sent.items) }
     {
         self.ready = None;
-        let Some(port) = self.port_of(to) else {
+        let Some(address) = self.address_of(to) else {
             return false;
         };
-        match connect(&self.rt, &mut self.runtime, Peer { node: to, port }) {
+        match connect(&self.rt, &mut self.runtime, Peer { node: to, address }) {
             Ok(connection) => {
                 self.ready = Some(connection);
                 true

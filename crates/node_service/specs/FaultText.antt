@@ -12,4 +12,5 @@ service_fault_text (faults.Node fault) = Some (node_fault_text fault)
 service_fault_text (faults.Serve fault) = Some (serve_fault_text fault)
 service_fault_text (faults.Output error) = None
 service_fault_text (faults.Part fault) = Some (open_fault_text fault)
+service_fault_text (faults.Key fault) = Some (codes "V7 BadKey")
 service_fault_text faults.NotRecorded = Some (codes "V6 NotRecorded")

@@ -1,4 +1,5 @@
 pub mod FaultText
 pub mod Caps
 pub mod Endings
+pub mod KeyFiles
 pub mod Rounds

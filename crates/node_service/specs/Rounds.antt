@@ -17,7 +17,7 @@ most_calls config = most_peers config + 64
 
 -- the peer of the wire that a command line names
 abbrev pub peer_of : NamedPeer → Peer
-peer_of named = record { node = named.node; port = named.port }
+peer_of named = record { node = named.node; address = named.address }
 
 -- the nodes that are told, of those with numbers below some: each but the node itself that a peer has the number of
 abbrev pub is_named : List NamedPeer → ℕ → Bool

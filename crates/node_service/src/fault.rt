@@ -1,5 +1,6 @@
 //! Why a node isn't served, or no longer.
 
+use crate::key_file::KeyFault;
 use http_serve::ServeFault;
 use node_core::NodeFault;
 use part_files::OpenFault;
@@ -17,6 +18,8 @@ pub enum ServiceFault {
     Output(io::Error),
     /// It doesn't go on from its part.
     Part(OpenFault),
+    /// The file of its key has none.
+    Key(KeyFault),
     /// Its first points couldn't be recorded.
     NotRecorded,
 }
@@ -32,6 +35,7 @@ impl fmt::Display for ServiceFault {
             ServiceFault::Serve(fault) => write!(f, "{fault}"),
             ServiceFault::Output(error) => write!(f, "{error}"),
             ServiceFault::Part(fault) => write!(f, "{fault}"),
+            ServiceFault::Key(fault) => write!(f, "{fault}"),
             ServiceFault::NotRecorded => f.write_str("V6 NotRecorded"),
         }
     }
@@ -69,6 +73,17 @@ impl From<io::Error> for ServiceFault {
 
     fn from(error: io::Error) -> ServiceFault {
         ServiceFault::Output(error)
+    }
+}
+
+impl From<KeyFault> for ServiceFault {
+    ghost use Rattle.std.specs.Prelude.{◌≡◌};
+    ghost use Rattle.node_service.specs.declared.fault.ServiceFault.TheVariants.{Key};
+
+    ghost from_gives = { λ fault e. e ≡ Key fault };
+
+    fn from(fault: KeyFault) -> ServiceFault {
+        ServiceFault::Key(fault)
     }
 }
 

@@ -12,10 +12,12 @@ ghost use Rattle.node_service.specs.declared.fault.ServiceFault.TheVariants.{Nod
 use crate::ended::NodeServed;
 use crate::fault::ServiceFault;
 use crate::host::Host;
+use crate::key_file::{Keyed, keyed_by};
 use crate::serving::{config_of, listen, say_where};
 use crate::telling::{Service, first_paces, keep_telling, wire_to};
 use command_line::{GossipOptions, PartOptions, ServeOptions};
-use http_serve::{Ending, ServeFault, serve_recording};
+use http_serve::{Access, Ending, ServeFault, serve_recording};
+use http_wire::Key;
 use node_core::{Ask, Config, NodeFault};
 use node_registry::{Label, Registry, Seat};
 use part_files::{OpenPart, RecordingWire, open_part};
@@ -126,6 +128,7 @@ struct Recorded<'a, L: Label> {
     runtime: &'a mut Runtime,
     registry: &'a Arc<Registry<L>>,
     recorder: &'a Arc<Recorder<L>>,
+    access: Access,
     listener: TcpListener,
     requests: u32,
     ending: &'a Arc<Ending>,
@@ -149,10 +152,11 @@ where
         mut recording,
         telling,
     } = seats;
+    let Keyed { access, key } = keyed_by(rt, options.key_file)?;
     let OpenPart { file, calls } = open_part(rt, rt.alloc(), registry, &mut recording, part)?;
     let recording = Recording::new(recording, PartLines::new(file));
     let recorder = Arc::new(rt.alloc(), Recorder::new(recording)).map_err(NodeFault::from)?;
-    let Ok((mut runtime, listener, port)) = listen(rt, options.port) else {
+    let Ok((mut runtime, listener, port)) = listen(rt, options.listen) else {
         return Err(ServiceFault::Serve(ServeFault::BindFailed));
     };
     say_where(rt, port)?;
@@ -165,11 +169,12 @@ where
         runtime: &mut runtime,
         registry,
         recorder: &recorder,
+        access,
         listener,
         requests: options.requests,
         ending: &ending,
     };
-    Ok(serve_and_record(rt, recorded, telling, options.telling)?)
+    Ok(serve_and_record(rt, recorded, telling, options.telling, key)?)
 }
 
 // Sets the first points of a node.
@@ -197,6 +202,7 @@ fn tell_recorded<L, R>(
     recorder: &Recorder<L>,
     seat: &mut Seat<L>,
     telling: &GossipOptions,
+    key: Option<Key>,
     service: &Service,
 )
 where
@@ -205,7 +211,7 @@ where
     ensures { seat.new ≤ seat.old + telling.now.rounds * most_calls L.config }
 {
     let paces = first_paces(rt, registry, &telling.peers);
-    if let (Ok(wire), Ok(mut paces)) = (wire_to(rt, &telling.peers), paces) {
+    if let (Ok(wire), Ok(mut paces)) = (wire_to(rt, &telling.peers, key), paces) {
         let mut wire = RecordingWire::new(wire, registry, recorder);
         keep_telling(rt, registry, seat, &mut wire, &mut paces, telling, service);
     }
@@ -223,13 +229,14 @@ where
         runtime,
         registry,
         recorder,
+        access,
         listener,
         requests,
         ending,
     } = recorded;
     let alloc = rt.alloc();
     let served = serve_recording(
-        rt, alloc, runtime, registry, recorder, listener, requests, ending,
+        rt, alloc, runtime, registry, recorder, access, listener, requests, ending,
     )?;
     Ok(NodeServed::of(ending, served))
 }
@@ -241,6 +248,7 @@ fn serve_in<'s, E, L, R>(
     recorded: Recorded<'s, L>,
     mut seat: Seat<L>,
     telling: GossipOptions,
+    key: Option<Key>,
     service: &'s Service,
 ) -> Result<NodeServed, ServeFault>
 where
@@ -252,7 +260,7 @@ where
     let registry: &'s Registry<L> = recorded.registry;
     let recorder: &'s Recorder<L> = recorded.recorder;
     let thread = scope.spawn(move || tell_recorded(
-        rt, registry, recorder, &mut seat, &telling, service,
+        rt, registry, recorder, &mut seat, &telling, key, service,
     ));
     let served = serve_alone(rt, recorded);
     service.end();
@@ -268,6 +276,7 @@ fn serve_and_record<L, R>(
     recorded: Recorded<'_, L>,
     seat: Seat<L>,
     telling: GossipOptions,
+    key: Option<Key>,
 ) -> Result<NodeServed, ServeFault>
 where
     L: Label + Send + Sync,
@@ -286,6 +295,6 @@ where
         |scope| -> Result<NodeServed, ServeFault>
             ensures ok { IfOk result (IsNodeServed recorded.entry.requests) }
             ensures err { IfErr result (λ f. (f ≡ AcceptFailed) ⊎ (f ≡ OutOfMemory)) }
-        { serve_in(scope, rt, recorded, seat, telling, service) },
+        { serve_in(scope, rt, recorded, seat, telling, key, service) },
     )
 }

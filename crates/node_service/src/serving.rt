@@ -2,7 +2,6 @@
 
 ghost use Rattle.std.specs.Prelude.{◌≡◌, ◌⊎◌, IfOk, IfErr, IsErrAnd, IsTrue, OnOk, true, false, replicate};
 ghost use Rattle.node_steps.specs.Refusals.{is_bad_config};
-ghost use Rattle.http_wire.specs.Posts.{IsLoopback};
 ghost use Rattle.node_service.specs.Caps.{cap_of};
 ghost use Rattle.node_service.specs.Endings.{IsNodeServed};
 ghost use Rattle.node_service.specs.declared.fault.ServiceFault.TheVariants.{Node};
@@ -10,15 +9,17 @@ ghost use Rattle.node_service.specs.declared.fault.ServiceFault.TheVariants.{Nod
 use crate::ended::NodeServed;
 use crate::fault::ServiceFault;
 use crate::host::Host;
+use crate::key_file::{Keyed, keyed_by};
 use crate::telling::{Serving, serve_and_tell};
 use command_line::ServeOptions;
 use http_serve::{Ending, ServeFault};
 use node_core::{Config, MAX_TRACE_CAP, NodeFault};
 use node_registry::{Label, Registry, Seat};
 use std::alloc::{AllocGlobal, Global};
+use std::fs::{File, Files};
 use std::io::Write;
 use std::marker::Brand;
-use std::net::{Ipv4Addr, Net, SocketAddr};
+use std::net::{Net, SocketAddr};
 use std::random::RandomSource;
 use std::sync::ledger::Blank;
 use std::sync::{Arc, Wait};
@@ -40,6 +41,7 @@ where
         + RandomSource
         + AllocGlobal
         + Net<Listener = net::TcpListener, Stream = net::TcpStream>
+        + Files<File = File>
         + Send
         + Sync
         + Copy
@@ -77,7 +79,7 @@ fn serve_registry<L, R>(
 ) -> Result<NodeServed, ServiceFault>
 where
     L: Label + Send + Sync,
-    R: Host + Print,
+    R: Host + Files<File = File> + Print,
     requires name { blank.name ≡ L.name }
     requires parts { (blank.parts ≡ L.parts) × (L.parts ≡ 2) }
     requires config { config ≡ L.config }
@@ -101,21 +103,29 @@ fn serve_opened<L, R>(
 ) -> Result<NodeServed, ServiceFault>
 where
     L: Label + Send + Sync,
-    R: Host + Print,
+    R: Host + Files<File = File> + Print,
     requires { L.keeps ≡ false }
     ensures { IfOk result (IsNodeServed options.entry.requests) }
 {
-    let (mut runtime, listener) = begun(rt, registry, &mut seat, options.port, options.failpoints)?;
+    let Keyed { access, key } = keyed_by(rt, options.key_file)?;
+    let (mut runtime, listener) = begun(
+        rt,
+        registry,
+        &mut seat,
+        options.listen,
+        options.failpoints,
+    )?;
     let ending = Ending::new(rt.alloc()).map_err(NodeFault::from)?;
     let serving = Serving {
         runtime: &mut runtime,
         registry,
         seat,
+        access,
         listener,
         requests: options.requests,
         ending: &ending,
     };
-    Ok(serve_and_tell(rt, serving, telling_seat, options.telling)?)
+    Ok(serve_and_tell(rt, serving, telling_seat, options.telling, key)?)
 }
 
 // Listens for the node, says where, and sets its first points.
@@ -123,14 +133,14 @@ fn begun<L, R>(
     rt: &R,
     registry: &Registry<L>,
     seat: &mut Seat<L>,
-    port: u16,
+    listening: SocketAddr,
     failpoints: Option<&str>,
 ) -> Result<(Runtime, TcpListener), ServiceFault>
 where
     L: Label,
     R: Host + Print,
 {
-    match listen(rt, port) {
+    match listen(rt, listening) {
         Ok((runtime, listener, port)) => {
             say_and_set(rt, registry, seat, port, failpoints)?;
             Ok((runtime, listener))
@@ -186,20 +196,13 @@ fn opened<L: Label, R: Wait>(
     }
 }
 
-// A port of this machine, which no other machine reaches.
-fn loopback(port: u16) -> SocketAddr
-    ensures { IsLoopback port result }
-{
-    SocketAddr::from((Ipv4Addr::LOCALHOST, port))
-}
-
-// Listens on a port of this machine, and answers which.
-pub(crate) fn listen<R>(rt: &R, port: u16) -> io::Result<(Runtime, TcpListener, u16)>
+// Listens at an address, and answers at which port.
+pub(crate) fn listen<R>(rt: &R, address: SocketAddr) -> io::Result<(Runtime, TcpListener, u16)>
 where
     R: Host,
 {
     let runtime = Builder::new_current_thread().build(rt)?;
-    let listener = TcpListener::bind(rt, loopback(port), runtime.handle().reactor())?;
+    let listener = TcpListener::bind(rt, address, runtime.handle().reactor())?;
     let port = listener.local_addr()?.port();
     Ok((runtime, listener, port))
 }

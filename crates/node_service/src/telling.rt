@@ -12,8 +12,8 @@ use crate::forgetful::{Hearing, Said};
 use crate::host::Host;
 use command_line::{GossipOptions, NamedPeer};
 use gossip::{Pace, Reach, WireError, gossip_news};
-use http_serve::{Ending, ServeFault, serve_forgetting};
-use http_wire::{HttpWire, Peer};
+use http_serve::{Access, Ending, ServeFault, serve_forgetting};
+use http_wire::{HttpWire, Key, Peer};
 use node_core::Config;
 use node_registry::{Label, Registry, Seat};
 use std::alloc::{AllocError, AllocGlobal, Global};
@@ -32,6 +32,7 @@ pub struct Serving<'a, L: Label> {
     pub runtime: &'a mut Runtime,
     pub registry: &'a Arc<Registry<L>>,
     pub seat: Seat<L>,
+    pub access: Access,
     pub listener: TcpListener,
     pub requests: u32,
     pub ending: &'a Arc<Ending>,
@@ -76,18 +77,23 @@ fn peers_of(alloc: Global, named: &[NamedPeer]) -> Result<Vec<Peer>, AllocError>
     for peer in named {
         peers.push(Peer {
             node: peer.node,
-            port: peer.port,
+            address: peer.address,
         })?;
     }
     Ok(peers)
 }
 
-// A wire to these peers.
-pub(crate) fn wire_to<R: Host>(rt: &R, named: &[NamedPeer]) -> Result<HttpWire<R>, WireError>
-    ensures { IfOk result (λ wire. wire.peers.items ≡ map peer_of named.now) }
+// A wire to these peers, which have the key, if there is one.
+pub(crate) fn wire_to<R: Host>(
+    rt: &R,
+    named: &[NamedPeer],
+    key: Option<Key>,
+) -> Result<HttpWire<R>, WireError>
+    ensures peers { IfOk result (λ wire. wire.peers.items ≡ map peer_of named.now) }
+    ensures key { IfOk result (λ wire. wire.key ≡ key) }
 {
     let peers = peers_of(rt.alloc(), named)?;
-    HttpWire::new(*rt, peers)
+    HttpWire::new(*rt, peers, key)
 }
 
 // Whether a peer has the number of a node.
@@ -178,6 +184,7 @@ fn tell_over_http<L, R>(
     registry: &Registry<L>,
     seat: &mut Seat<L>,
     telling: &GossipOptions,
+    key: Option<Key>,
     service: &Service,
 )
 where
@@ -186,7 +193,7 @@ where
     ensures { seat.new ≤ seat.old + telling.now.rounds * most_calls L.config }
 {
     let paces = first_paces(rt, registry, &telling.peers);
-    if let (Ok(mut wire), Ok(mut paces)) = (wire_to(rt, &telling.peers), paces) {
+    if let (Ok(mut wire), Ok(mut paces)) = (wire_to(rt, &telling.peers, key), paces) {
         keep_telling(rt, registry, seat, &mut wire, &mut paces, telling, service);
     }
 }
@@ -203,13 +210,14 @@ where
         runtime,
         registry,
         seat,
+        access,
         listener,
         requests,
         ending,
     } = serving;
     let alloc = rt.alloc();
     let served = serve_forgetting(
-        rt, alloc, runtime, registry, seat, listener, requests, ending,
+        rt, alloc, runtime, registry, seat, access, listener, requests, ending,
     )?;
     Ok(NodeServed::of(ending, served))
 }
@@ -221,6 +229,7 @@ fn serve_in<'s, E, L, R>(
     serving: Serving<'s, L>,
     mut seat: Seat<L>,
     telling: GossipOptions,
+    key: Option<Key>,
     service: &'s Service,
 ) -> Result<NodeServed, ServeFault>
 where
@@ -230,7 +239,9 @@ where
     ensures err { IfErr result (λ f. (f ≡ AcceptFailed) ⊎ (f ≡ OutOfMemory)) }
 {
     let registry: &'s Registry<L> = serving.registry;
-    let thread = scope.spawn(move || tell_over_http(rt, registry, &mut seat, &telling, service));
+    let thread = scope.spawn(move || tell_over_http(
+        rt, registry, &mut seat, &telling, key, service,
+    ));
     let served = serve_alone(rt, serving);
     service.end();
     if let Ok(thread) = thread {
@@ -239,14 +250,15 @@ where
     served
 }
 
-/// Serves a node as `serve_forgetting` does, and meanwhile tells its peers what they don't know, from a
-/// seat of its own in a second thread. Without peers, or where that thread can't be started, it is served without
-/// gossip.
+/// Serves a node as `serve_forgetting` does, and meanwhile tells its peers what they don't know, with
+/// the key, if there is one, from a seat of its own in a second thread. Without peers, or where that
+/// thread can't be started, it is served without gossip.
 pub fn serve_and_tell<L, R>(
     rt: &R,
     serving: Serving<'_, L>,
     seat: Seat<L>,
     telling: GossipOptions,
+    key: Option<Key>,
 ) -> Result<NodeServed, ServeFault>
 where
     L: Label + Send + Sync,
@@ -265,6 +277,6 @@ where
         |scope| -> Result<NodeServed, ServeFault>
             ensures ok { IfOk result (IsNodeServed serving.entry.requests) }
             ensures err { IfErr result (λ f. (f ≡ AcceptFailed) ⊎ (f ≡ OutOfMemory)) }
-        { serve_in(scope, rt, serving, seat, telling, service) },
+        { serve_in(scope, rt, serving, seat, telling, key, service) },
     )
 }

@@ -171,6 +171,12 @@ N1 TraceFull
   Because: the part can't be begun, or its first points couldn't be recorded,
     as on a full disk
   What to do: see to where it is written, and start the node again
+|V7 BadKey
+  Of a node that is served
+  Because: the file of `--key-file` can't be read, has fewer than 32 or more
+    than 1,024 bytes, or others than its owner may use it
+  What to do: make it by `(umask 077; head -c 32 /dev/urandom >FILE)`, the
+    same on each machine
 |A1 TooLong
   Of an action text
   Because: it has more than 1,024 bytes

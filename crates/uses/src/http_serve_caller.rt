@@ -2,7 +2,7 @@
 
 ghost use Rattle.std.specs.Prelude.{◌≡◌, IfOk, replicate};
 
-use http_serve::{ServeFault, serve};
+use http_serve::{Access, ServeFault, serve};
 use node_core::{Config, NodeFault};
 use node_registry::{Label, Registry};
 use std::alloc::{AllocGlobal, Global};
@@ -53,5 +53,8 @@ where
     let (Ok(registry), Some(seat)) = (Arc::new(alloc, registry), seats.pop()) else {
         return Err(NodeFault::OutOfMemory);
     };
-    Ok(serve(rt, alloc, runtime, &registry, seat, listener, clients))
+    let access = Access::of_this_machine();
+    Ok(serve(
+        rt, alloc, runtime, &registry, seat, access, listener, clients,
+    ))
 }

@@ -4,7 +4,7 @@ ghost use Rattle.std.specs.Prelude.{◌≡◌, IfOk, codes};
 ghost use Rattle.http_replies.specs.Replies.{http_value, text_reply, IsReply};
 ghost use Rattle.http_service.specs.Labels.{plain_labels};
 
-use http_service::{Handler, HttpReply, Labels, ServeFault, serve_all};
+use http_service::{Access, Handler, HttpReply, Labels, ServeFault, serve_all};
 use std::alloc::{AllocGlobal, Global};
 use std::random::RandomSource;
 use std::sync::{Arc, Wait};
@@ -65,5 +65,6 @@ where
     let Ok(greeter) = Arc::new(alloc, Greeter) else {
         return Err(ServeFault::OutOfMemory);
     };
-    serve_all(rt, alloc, runtime, greeter, listener, clients)
+    let access = Access::of_this_machine();
+    serve_all(rt, alloc, runtime, greeter, access, listener, clients)
 }

@@ -2,9 +2,10 @@
 
 ghost use Rattle.std.specs.Prelude.{◌≡◌, None, IfOk};
 
-use command_line::{GossipOptions, ServeOptions};
+use command_line::{GossipOptions, ServeOptions, port_here};
 use node_service::{NodeServed, ServiceFault, serve_node};
 use std::alloc::AllocGlobal;
+use std::fs::{File, Files};
 use std::net;
 use std::net::Net;
 use std::random::RandomSource;
@@ -21,6 +22,7 @@ where
         + RandomSource
         + AllocGlobal
         + Net<Listener = net::TcpListener, Stream = net::TcpStream>
+        + Files<File = File>
         + Send
         + Sync
         + Copy
@@ -32,7 +34,8 @@ where
     let options = ServeOptions {
         node: 0,
         nodes: 1,
-        port: 0,
+        listen: port_here(0),
+        key_file: None,
         cap: Some(1_000_000),
         requests: clients,
         failpoints: None,

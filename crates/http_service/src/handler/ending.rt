@@ -76,6 +76,7 @@ fn stop_labels(status: u16) -> Labels
         } else {
             None
         },
+        asks_for_key: false,
     }
 }
 

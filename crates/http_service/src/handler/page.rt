@@ -4,7 +4,8 @@ ghost use Rattle.std.specs.Prelude.{◌≡◌, ◌<◌, ℕ, List, bytes_eq, len
 ghost use Rattle.std.specs.Arc.{arc_value};
 ghost use Rattle.message_format.specs.Spelling.{max_message};
 ghost use Rattle.http_replies.specs.Replies.{http_value, IsReply};
-ghost use Rattle.http_service.specs.Pages.{labels_or_page, page_labels, page_path, page_reply, AnswersOrShows};
+ghost use Rattle.http_service.specs.Pages.{labels_or_page, page_labels, page_path, page_reply};
+ghost use Rattle.http_service.specs.Pages.{shows_page, AnswersOrShows};
 
 use super::Handler;
 use crate::labels::{Content, Labels, Methods};
@@ -27,6 +28,13 @@ impl<H: Handler> PageHandler<H> {
     {
         Ok(Arc::new(alloc, PageHandler { handler })?)
     }
+}
+
+/// Whether a request is for the page itself.
+pub fn shows_page(method: &str, path: &str) -> bool
+    ensures { result ≡ shows_page method.now path.now }
+{
+    method == "GET" && is_page(path)
 }
 
 // Whether the page is there.
@@ -76,6 +84,7 @@ fn page_labels(status: u16) -> Labels
         } else {
             None
         },
+        asks_for_key: false,
     }
 }
 

@@ -1,4 +1,4 @@
-use Rattle.std.proofs.Common.{◌≡◌, ◌∙◌, sym}
+use Rattle.std.proofs.Common.{◌∙◌, sym}
 use Rattle.http_service.proofs.Endings.{same_wanted}
 use Rattle.http_service.proofs.until_ended.UntilEndedFuture.poll.Goals as goal
 

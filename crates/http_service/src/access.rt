@@ -1,0 +1,151 @@
+//! Who may ask a service.
+
+ghost use Rattle.std.specs.Prelude.{◌≡◌, ◌↔◌, ◌<◌, length, bytes_eq, option_map, IfOk, IsErrOf, IfSome, IsTrue};
+ghost use Rattle.std.specs.Prelude.{Some, None, string_bytes};
+ghost use Rattle.std.specs.Arc.{arc_value};
+ghost use Rattle.http_service.specs.Keys.{are_said, credentials_in, credentials_of, has_credentials, is_open};
+ghost use Rattle.http_service.specs.Pages.{shows_page};
+
+use crate::handler::shows_page;
+use hex::encode;
+use http::header::{AUTHORIZATION, HeaderMap};
+use std::alloc::{AllocError, Global};
+use std::sync::Arc;
+
+/// The fewest bytes that a key has.
+const SHORTEST_KEY: usize = 32;
+
+/// Why bytes are no key.
+#[derive(Clone, Copy, Debug, PartialEq, Eq)]
+pub enum KeyFault {
+    /// There are fewer than 32.
+    TooShort,
+    /// Memory was refused.
+    OutOfMemory,
+}
+
+impl From<AllocError> for KeyFault {
+    ghost use Rattle.std.specs.Prelude.{◌≡◌};
+    ghost use Rattle.http_service.specs.declared.access.KeyFault.TheVariants.{OutOfMemory};
+
+    ghost from_gives = { λ _ e. e ≡ OutOfMemory };
+
+    fn from(_e: AllocError) -> KeyFault {
+        KeyFault::OutOfMemory
+    }
+}
+
+/// Who may ask a service: whoever is on this machine, or whoever has its key. Nothing shows the key.
+#[derive(Drop)]
+pub struct Access {
+    // What the `Authorization` of a request says that has the key, if there is one.
+    credentials: Option<Arc<String>>,
+    // The operator's page is answered without the key.
+    has_page: bool,
+}
+
+impl Access {
+    /// Of a service that whoever is on this machine may ask, but no page of a browser.
+    pub fn of_this_machine() -> Access
+        ensures { credentials_in result ≡ None }
+    {
+        Access {
+            credentials: None,
+            has_page: false,
+        }
+    }
+
+    /// Of a service that may be asked by whoever has this key, from wherever. It has at least 32
+    /// bytes.
+    pub fn by_key(alloc: Global, key: &[u8]) -> Result<Access, KeyFault>
+        ensures ok { IfOk result (λ access. credentials_in access ≡ Some (credentials_of key.now)) }
+        ensures too_short { IsErrOf result KeyFault.TooShort ↔ (length key.now < 32) }
+    {
+        if key.len() < SHORTEST_KEY {
+            return Err(KeyFault::TooShort);
+        }
+        let credentials = shared_credentials(alloc, key)?;
+        Ok(Access {
+            credentials: Some(credentials),
+            has_page: false,
+        })
+    }
+
+    /// The same for one more connection. `None` where it can't be shared any more.
+    pub(crate) fn again(&self) -> Option<Access>
+        ensures credentials { IfSome result
+            (λ access. credentials_in access ≡ credentials_in self.now) }
+        ensures page { IfSome result (λ access. access.has_page ≡ self.now.has_page) }
+    {
+        let credentials = match &self.credentials {
+            Some(credentials) => Some(Arc::try_clone(credentials).ok()?),
+            None => None,
+        };
+        Some(Access {
+            credentials,
+            has_page: self.has_page,
+        })
+    }
+
+    /// The same of a service that has the operator's page, which anybody may see.
+    pub(crate) fn with_page(self) -> Access
+        ensures credentials { credentials_in result ≡ credentials_in self }
+        ensures page { IsTrue result.has_page }
+    {
+        Access {
+            has_page: true,
+            ..self
+        }
+    }
+
+    /// Whether a request needs no key where others do.
+    pub(crate) fn is_open(&self, method: &str, path: &str) -> bool
+        ensures { result ≡ is_open self.now method.now path.now }
+    {
+        self.has_page && shows_page(method, path)
+    }
+
+    /// What the `Authorization` of a request says that has the key, if there is one.
+    pub(crate) fn credentials(&self) -> Option<&[u8]>
+        ensures { option_map (λ bytes. bytes.now) result ≡ credentials_in self.now }
+    {
+        let credentials: &String = self.credentials.as_ref()?;
+        Some(credentials.as_bytes())
+    }
+}
+
+// What the `Authorization` of a request says that has this key.
+fn shared_credentials(alloc: Global, key: &[u8]) -> Result<Arc<String>, AllocError>
+    ensures { IfOk result (λ text. string_bytes (arc_value text) ≡ credentials_of key.now) }
+{
+    let digits = encode(alloc, key)?;
+    let mut credentials = String::from_str(alloc, "Bearer ")?;
+    credentials.push_str(&digits)?;
+    Ok(Arc::new(alloc, credentials)?)
+}
+
+/// Whether a head with these fields has these credentials, once.
+pub(crate) fn has_credentials(fields: &HeaderMap, credentials: &[u8]) -> bool
+    ensures { result ≡ has_credentials credentials.now fields.now }
+{
+    let mut said = fields.get_all(AUTHORIZATION).iter();
+    match (said.next(), said.next()) {
+        (Some(value), None) => is_same(value.as_bytes(), credentials),
+        _ => false,
+    }
+}
+
+// Whether these are the same bytes. It looks at each of them: how long that takes says how many there
+// are, and not where they differ.
+fn is_same(sent: &[u8], wanted: &[u8]) -> bool
+    ensures { result ≡ bytes_eq sent.now wanted.now }
+{
+    if sent.len() != wanted.len() {
+        return false;
+    }
+    let mut differs = 0;
+    for (a, b) in sent.iter().zip(wanted) {
+        differs |= *a ^ *b;
+    }
+    differs == 0
+}
