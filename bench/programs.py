@@ -1,11 +1,14 @@
 """Programs that are timed: how they are built, run, and their instructions counted. See README.md beside this file."""
 
+import contextlib
 import os
 import re
 import shutil
+import socket
 import subprocess
 import sys
 import tempfile
+import time
 
 HERE = os.path.dirname(os.path.abspath(__file__))
 CRATES = os.path.join(HERE, "..", "crates")
@@ -69,6 +72,56 @@ def of_libfiu(folder):
     program = os.path.join(folder, "libfiu")
     do("cc", "-std=c11", "-O2", f"{HERE}/peers/libfiu.c", "-lfiu", "-lpthread", "-o", program)
     return program
+
+
+def of_mutex(folder):
+    """The program with a counter of its own, behind a mutex."""
+    program = os.path.join(folder, "mutex")
+    do("cc", "-std=c11", "-O2", f"{HERE}/peers/mutex.c", "-lpthread", "-o", program)
+    return program
+
+
+def of_redis(folder):
+    """The program that counts by Redis, or none where that or its library for C isn't installed."""
+    if not shutil.which("redis-server") or not os.path.isdir("/usr/include/hiredis"):
+        return None
+    program = os.path.join(folder, "redis")
+    do("cc", "-std=c11", "-O2", f"{HERE}/peers/redis.c", "-lhiredis", "-lpthread", "-o", program)
+    return program
+
+
+def free_port():
+    with socket.socket() as taken:
+        taken.bind(("127.0.0.1", 0))
+        return taken.getsockname()[1]
+
+
+def await_port(port):
+    """Until somebody listens there."""
+    until = time.monotonic() + 10
+    while time.monotonic() < until:
+        with contextlib.suppress(OSError), socket.create_connection(("127.0.0.1", port), timeout=1):
+            return
+        time.sleep(0.02)
+    sys.exit(f"nobody listens at port {port}")
+
+
+@contextlib.contextmanager
+def redis_server(is_wanted):
+    """A Redis that keeps nothing in files, at the port that BENCH_REDIS says, if it is wanted."""
+    if not is_wanted:
+        yield
+        return
+    port = free_port()
+    words = ("redis-server", "--port", str(port), "--bind", "127.0.0.1", "--save", "", "--appendonly", "no")
+    server = subprocess.Popen(words, stdin=subprocess.DEVNULL, stdout=subprocess.DEVNULL)
+    try:
+        await_port(port)
+        os.environ["BENCH_REDIS"] = str(port)
+        yield
+    finally:
+        server.terminate()
+        server.wait()
 
 
 def of_gofail(folder):

@@ -1,8 +1,9 @@
 #!/usr/bin/env python3
-"""What a pass costs, beside gofail and libfiu where these are installed: one table. See README.md beside
-this file."""
+"""What a pass costs, beside gofail, libfiu, a counter behind a mutex and Redis, where these are installed: one
+table. See README.md beside this file."""
 
 import argparse
+import json
 import os
 import re
 import subprocess
@@ -18,6 +19,8 @@ PASSES = 200_000
 ROUNDS = 31
 # Instructions are those of the second run less those of the first.
 COUNTED = (20_000, 40_000)
+# Redis takes so long that fewer tell as much.
+PASSES_OF_REDIS = 20_000
 
 
 class Way(NamedTuple):
@@ -28,8 +31,27 @@ class Way(NamedTuple):
     threads: int = 1
 
 
+class Peer(NamedTuple):
+    """A column of others: the program, what it is asked for a kind of passes, and whether ours are divided by it."""
+
+    title: str
+    program: str
+    kinds: dict
+    has_ratio: bool = False
+
+
+NOT_COUNTED = ("nothing-set", "unset", "uncounted", "chance", "own", "many")
+PEERS = (
+    Peer("gofail", "gofail", {kind: kind for kind in (*NOT_COUNTED, "counted")}, True),
+    Peer("libfiu", "libfiu", {kind: kind for kind in NOT_COUNTED}, True),
+    Peer("a mutex", "mutex", {"counted": "counted"}),
+    Peer("Redis", "redis", {"counted": "counted"}),
+    Peer("Redis, 64 at once", "redis", {"counted": "piped"}),
+)
+
+
 class Line(NamedTuple):
-    """A line of the table: ours, and the kind of passes of gofail and libfiu beside it, if there is one."""
+    """A line of the table: ours, and the kind of passes of the others beside it, if there is one."""
 
     work: str
     caller: str
@@ -134,6 +156,19 @@ class Sim(Speed):
         return (many - few) / (COUNTED[1] - COUNTED[0])
 
 
+class Redis(Speed):
+    """A program whose passes are those of another process, so that its own instructions and memory say little."""
+
+    def time(self, way):
+        return [float(Ran(self.words(way, PASSES_OF_REDIS), first=FIRST).printed.split()[0])]
+
+    def kept(self, way):
+        return None
+
+    def count(self, way):
+        return None
+
+
 class Figure(NamedTuple):
     """Of a pass."""
 
@@ -143,12 +178,13 @@ class Figure(NamedTuple):
 
 
 def build(folder, is_built):
-    """Each program by its name. Those of Rust, gofail and libfiu are left out where what they take isn't installed."""
+    """Each program by its name. Those of Rust and of others are left out where what they take isn't installed."""
     programs.library(is_built)
     found = {
         "bench": Bench(programs.proved(is_built, "bench", "passes registry counted 1")),
         "sim": Sim(programs.proved(is_built, "failreg", "--help")),
         "c": Speed(programs.of_c(folder, "speed")),
+        "mutex": Speed(programs.of_mutex(folder)),
     }
     others = {"rust": programs.of_rust, "gofail": programs.of_gofail, "libfiu": programs.of_libfiu}
     for name, made in others.items():
@@ -156,16 +192,24 @@ def build(folder, is_built):
             found[name] = Speed(path)
         else:
             print(f"{name} isn't installed, and was skipped")
+    if path := programs.of_redis(folder):
+        found["redis"] = Redis(path)
+    else:
+        print("Redis or its library for C isn't installed, and was skipped")
     return found
 
 
+def way_of(peer, line):
+    """How another one does the passes of a line, if it has such."""
+    kind = peer.kinds.get(line.theirs)
+    return kind and Way(peer.program, kind, line.ours.threads)
+
+
 def ways_of(table, names):
-    """Each way once, in the order of the table. libfiu has no counts."""
+    """Each way once, in the order of the table."""
     for line in table:
         yield line.ours
-        for name in ("gofail", "libfiu"):
-            if line.theirs and name in names and (name, line.theirs) != ("libfiu", "counted"):
-                yield Way(name, line.theirs, line.ours.threads)
+        yield from (way for peer in PEERS if peer.program in names and (way := way_of(peer, line)))
 
 
 def count(program, way):
@@ -191,7 +235,7 @@ def measure(found, ways):
 
 
 def number(value):
-    return f"{value:.0f}" if value >= 9.95 else f"{value:.1f}"
+    return f"{value:,.0f}" if value >= 9.95 else f"{value:.1f}"
 
 
 def cell(figure):
@@ -206,26 +250,40 @@ def ratio(ours, theirs):
 
 
 def print_table(table, figures):
-    print("| A pass | from | failreg | gofail | to it | libfiu | to it | bytes | wished |")
-    print("|---|---|---|---|---|---|---|---|---|")
+    titles = [title for peer in PEERS for title in ((peer.title, "to it") if peer.has_ratio else (peer.title,))]
+    titles = ["A pass", "from", "failreg", *titles, "bytes", "wished"]
+    print(f"| {' | '.join(titles)} |")
+    print("|" + "---|" * len(titles))
     for before, line in zip((None, *table), table):
-        ours = figures[line.ours]
-        theirs = [figures.get(Way(name, line.theirs, line.ours.threads)) for name in ("gofail", "libfiu")]
-        # The first line of a work has its name and their figures, each line its ratios.
+        # The first line of a work has its name and the others' figures, each line its ratios.
         is_first = before is None or before.work != line.work
-        work = line.work if is_first else ""
-        gofail, libfiu = (cell(figure) if is_first else "" for figure in theirs)
-        to_gofail, to_libfiu = (ratio(ours, figure) for figure in theirs)
+        ours = figures[line.ours]
+        words = [line.work if is_first else "", line.caller, cell(ours)]
+        for peer in PEERS:
+            theirs = figures.get(way_of(peer, line))
+            words.append(cell(theirs) if is_first else "")
+            if peer.has_ratio:
+                words.append(ratio(ours, theirs))
         kept = "" if ours.bytes is None else number(max(ours.bytes, 0))
-        words = (work, line.caller, cell(ours), gofail, to_gofail, libfiu, to_libfiu, kept, line.wished)
-        print(f"| {' | '.join(words)} |")
+        print(f"| {' | '.join([*words, kept, line.wished])} |")
+
+
+def write_figures(path, table, figures):
+    """What a plot is drawn from: of each line the nanoseconds of each who passes, by their names."""
+    rows = []
+    for line in table:
+        theirs = {peer.title: figures.get(way_of(peer, line)) for peer in PEERS}
+        others = {title: figure.nanoseconds for title, figure in theirs.items() if figure}
+        rows.append({"work": line.work, "from": line.caller, "failreg": figures[line.ours].nanoseconds, **others})
+    with open(path, "w", encoding="utf-8") as file:
+        json.dump(rows, file, indent=1)
 
 
 def conditions():
     """What stands beside the figures, so that they can be read later."""
     with open("/proc/cpuinfo", encoding="utf-8") as info:
         model = re.search(r"model name\s*: (.*)", info.read())
-    packages = ("golang-github-etcd-io-gofail-dev", "golang-go", "libfiu-dev")
+    packages = ("golang-github-etcd-io-gofail-dev", "golang-go", "libfiu-dev", "redis-server", "libhiredis-dev")
     words = ["dpkg-query", "-W", "-f", "${Package} ${Version}, ", *packages]
     versions = subprocess.run(words, capture_output=True, text=True).stdout if os.path.exists("/usr/bin/dpkg-query") else ""
     print(f"{os.cpu_count()} processors, {model.group(1) if model else 'unknown'}; load {os.getloadavg()[0]:.0f}")
@@ -236,12 +294,17 @@ def conditions():
 def main():
     parser = argparse.ArgumentParser(description=__doc__)
     parser.add_argument("--built", action="store_true", help="take our programs and the library as they stand")
+    parser.add_argument("--figures", metavar="FILE", help="write what bench/plots.py draws")
     asked = parser.parse_args()
     with tempfile.TemporaryDirectory() as folder:
         found = build(folder, asked.built)
         table = [line for line in lines() if line.ours.program in found]
         conditions()
-        print_table(table, measure(found, list(dict.fromkeys(ways_of(table, found)))))
+        with programs.redis_server("redis" in found):
+            figures = measure(found, list(dict.fromkeys(ways_of(table, found))))
+        print_table(table, figures)
+        if asked.figures:
+            write_figures(asked.figures, table, figures)
 
 
 if __name__ == "__main__":

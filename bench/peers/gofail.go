@@ -2,7 +2,8 @@
 //
 //	gofail KIND THREADS PASSES
 //
-// prints nanoseconds a pass, over all goroutines, and the bytes that a pass takes more of memory.
+// prints nanoseconds a pass, over all goroutines, and the bytes that a pass takes more of memory. With
+// the kind `serve` it stays, for whoever asks the endpoint that GOFAIL_HTTP names.
 package main
 
 import (
@@ -119,6 +120,10 @@ func bytesResident() float64 {
 func main() {
 	if len(os.Args) != 4 {
 		stop("usage: gofail KIND THREADS PASSES")
+	}
+	if os.Args[1] == "serve" {
+		enableOne("return")
+		select {}
 	}
 	kind, is := kinds[os.Args[1]]
 	if !is {
