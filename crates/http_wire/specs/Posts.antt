@@ -29,9 +29,18 @@ abbrev pub fields_of : SocketAddr → Option Key → Entries FieldValue
 fields_of address None = host_field address ∷ []
 fields_of address (Some key) = host_field address ∷ key_field key ∷ []
 
--- a message is posted to `/gossip` of the server at an address, each byte of it, with the key, if there is one
-pub record Posts (address : SocketAddr) (key : Option Key) (message : List ℕ) (request : Request (Full (List ℕ))) : Type 0 where
+-- these bytes are posted to a path of the server at an address, each of them, with the key, if there is one
+pub record PostsTo (path : List ℕ) (address : SocketAddr) (key : Option Key) (bytes : List ℕ) (request : Request (Full (List ℕ))) :
+    Type 0 where
   pub method : (head_of request).method ≡ codes "POST"
-  pub uri : Spells (codes "/gossip") (head_of request).uri
+  pub uri : Spells path (head_of request).uri
   pub fields : (head_of request).headers ≡ fields_of address key
-  pub body : (body_of request).buf ≡ (if length message == 0 then None else Some message)
+  pub body : (body_of request).buf ≡ (if length bytes == 0 then None else Some bytes)
+
+-- a message is posted to `/gossip`
+abbrev pub Posts : SocketAddr → Option Key → List ℕ → Request (Full (List ℕ)) → Type 0
+Posts address key message request = PostsTo (codes "/gossip") address key message request
+
+-- the number of a node that wants to be told is posted to `/hello`
+abbrev pub PostsHello : SocketAddr → Option Key → ℕ → Request (Full (List ℕ)) → Type 0
+PostsHello address key node request = PostsTo (codes "/hello") address key (decimal node) request

@@ -1,4 +1,5 @@
 -- What a wire has sent.
+use Rattle.std.specs.declared.net.socket_addr.SocketAddr.{SocketAddr}
 use Rattle.std.specs.Prelude.{◌≡◌, ℕ, List, [], ◌∷◌, ◌++◌, Option, Some, None, map}
 use Rattle.http_body_util.specs.declared.full.Full.{Full}
 use Rattle.hyper.specs.Request.{body_of}
@@ -8,7 +9,7 @@ use Rattle.http_wire.specs.declared.key.Key.{Key}
 use Rattle.http_wire.specs.declared.posting.Posted.{Posted}
 use Rattle.http_wire.specs.declared.wire.Peer.{Peer}
 use Rattle.http_wire.specs.Peers.{address_of}
-use Rattle.http_wire.specs.Posts.{Posts}
+use Rattle.http_wire.specs.Posts.{Posts, PostsHello}
 
 abbrev pub bytes_or_none : Option (List ℕ) → List ℕ
 bytes_or_none None = []
@@ -31,3 +32,14 @@ pub record IsSentTo (peers : List Peer) (key : Option Key) (to : ℕ) (message :
   pub node : last.peer.node ≡ to
   pub address : address_of peers to ≡ Some last.peer.address
   pub posts : Posts last.peer.address key message last.request.value
+
+-- the number of a node that wants to be told was posted to a peer, with the key, if there is one
+pub record IsHelloTo (to : Peer) (key : Option Key) (own : ℕ) (was now : List Posted) : Type 0 where
+  pub last : Posted
+  pub more : now ≡ was ++ last ∷ []
+  pub peer : last.peer ≡ to
+  pub posts : PostsHello last.peer.address key own last.request.value
+
+-- a node, at the address that these peers have for it
+abbrev pub peer_at : ℕ → SocketAddr → Peer
+peer_at node address = record { node = node; address = address }

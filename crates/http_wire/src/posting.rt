@@ -1,8 +1,8 @@
 //! One message to a server.
 
-ghost use Rattle.std.specs.Prelude.{◌≡◌, ◌↔◌, option_copied, IfErr, IfOk, IsOk, IsTrue};
+ghost use Rattle.std.specs.Prelude.{◌≡◌, ◌↔◌, codes, option_copied, IfErr, IfOk, IsOk, IsTrue};
 ghost use Rattle.http_wire.specs.Failures.{IsFailure};
-ghost use Rattle.http_wire.specs.Posts.{Posts};
+ghost use Rattle.http_wire.specs.Posts.{Posts, PostsHello, PostsTo};
 ghost use Rattle.std.specs.IoError.{error_kind};
 
 use crate::fields::fields_of;
@@ -17,6 +17,7 @@ use http_body_util::Full;
 use hyper::body::Incoming;
 use hyper::client::conn::http1::handshake;
 use hyper::{Request, Response, StatusCode};
+use itoa::Buffer;
 use std::alloc::{AllocGlobal, Global};
 use std::hash::RandomState;
 use std::io;
@@ -45,19 +46,20 @@ pub(crate) fn failed(error: io::Error) -> WireError
     }
 }
 
-// A message as a request to the server at an address, of which the message is the body.
+// A request to the server at an address, of which these bytes are the body.
 fn request(
     alloc: Global,
+    path: &str,
     address: SocketAddr,
     key: Option<&Key>,
-    message: &[u8],
+    bytes: &[u8],
 ) -> Result<Request<Full<Bytes>>, WireError>
-    ensures ok { IfOk result (Posts address (option_copied key.entry) message.now) }
+    ensures ok { IfOk result (PostsTo path.now address (option_copied key.entry) bytes.now) }
     ensures err { IfErr result IsFailure }
 {
-    let body = Full::new(Bytes::copy_from_slice(alloc, message)?);
+    let body = Full::new(Bytes::copy_from_slice(alloc, bytes)?);
     let fields = fields_of(alloc, address, key)?;
-    match Request::post(alloc, "/gossip").body(body) {
+    match Request::post(alloc, path).body(body) {
         Ok(mut request) => {
             *request.headers_mut() = fields;
             Ok(request)
@@ -237,6 +239,28 @@ where
         message.now answered.posted.request.value) }
     ensures err { IfErr result IsFailure }
 {
-    let request = request(alloc, connection.peer.address, key, message)?;
+    let request = request(alloc, "/gossip", connection.peer.address, key, message)?;
+    answered(rt, alloc, runtime, connection, request)
+}
+
+/// Posts the number of a node that wants to be told to the server of a peer, as `post` does a message.
+pub(crate) fn post_hello<R>(
+    rt: &R,
+    alloc: Global,
+    runtime: &mut LocalRuntime,
+    connection: Connection,
+    key: Option<&Key>,
+    node: u8,
+) -> Result<Exchanged, WireError>
+where
+    R: Wait + Clock + Net + RandomSource + AllocGlobal,
+    ensures to { IfOk result (λ answered. answered.posted.peer ≡ connection.peer) }
+    ensures posts { IfOk result (λ answered. PostsHello connection.peer.address
+        (option_copied key.entry) node answered.posted.request.value) }
+    ensures err { IfErr result IsFailure }
+{
+    let mut buffer = Buffer::new();
+    let number = buffer.format(node).as_bytes();
+    let request = request(alloc, "/hello", connection.peer.address, key, number)?;
     answered(rt, alloc, runtime, connection, request)
 }

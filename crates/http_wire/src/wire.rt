@@ -1,6 +1,6 @@
 //! A wire over HTTP.
 
-ghost use Rattle.std.specs.Prelude.{◌≡◌, ◌↔◌, ◌⊎◌, [], true, false, option_map, IfErr, IfOk, OnErr};
+ghost use Rattle.std.specs.Prelude.{◌≡◌, ◌↔◌, ◌⊎◌, [], true, false, option_map, IfErr, IfOk, IfSome, OnErr};
 ghost use Rattle.std.specs.Prelude.{OnOk};
 ghost use Rattle.std.specs.Bool.{OnTrue};
 ghost use Rattle.gossip.specs.Traffic.{sends, takes};
@@ -8,11 +8,11 @@ ghost use Rattle.http_wire.specs.Failures.{IsFailure};
 ghost use Rattle.http_wire.specs.Forgetting.{HasHeardOf};
 ghost use Rattle.http_wire.specs.Peers.{address_of, has_peer};
 ghost use Rattle.http_wire.specs.Reached.{is_ready_for};
-ghost use Rattle.http_wire.specs.Sent.{IsSentTo, traffic_of};
+ghost use Rattle.http_wire.specs.Sent.{IsHelloTo, IsSentTo, peer_at, traffic_of};
 
 use crate::forgetting::{Forgetful, Forgetting};
 use crate::key::Key;
-use crate::posting::{Connection, Posted, connect, failed, post, taken_in};
+use crate::posting::{Connection, Posted, connect, failed, post, post_hello, taken_in};
 use gossip::{Log, Reach, Wire, WireError};
 use std::alloc::{AllocGlobal, Global};
 use std::mem;
@@ -46,6 +46,8 @@ pub struct HttpWire<R> {
     // To the node that was reached last, if nothing was sent to it yet.
     ready: Option<Connection>,
     sent: Log<Posted>,
+    // The hellos that were answered with 200.
+    hellos: Log<Posted>,
     forgetful: Vec<Forgetful>,
 }
 
@@ -93,11 +95,13 @@ impl<R: Wait + Clock + Net + RandomSource + AllocGlobal + Drop> HttpWire<R> {
         ensures key { IfOk result (λ wire. wire.key ≡ key) }
         ensures ready { IfOk result (λ wire. wire.ready ≡ None) }
         ensures sent { IfOk result (λ wire. wire.sent.items ≡ []) }
+        ensures hellos { IfOk result (λ wire. wire.hellos.items ≡ []) }
         ensures forgetful { IfOk result (λ wire. wire.forgetful.items ≡ []) }
         ensures err { IfErr result IsFailure }
     {
         let runtime = LocalRuntime::new(&rt).map_err(failed)?;
         let sent = Log::new();
+        let hellos = Log::new();
         let forgetful = Vec::new(rt.alloc());
         Ok(HttpWire {
             rt,
@@ -106,6 +110,7 @@ impl<R: Wait + Clock + Net + RandomSource + AllocGlobal + Drop> HttpWire<R> {
             key,
             ready: None,
             sent,
+            hellos,
             forgetful,
         })
     }
@@ -124,6 +129,45 @@ impl<R: Wait + Clock + Net + RandomSource + AllocGlobal + Drop> HttpWire<R> {
             }
         }
         connect(&self.rt, &mut self.runtime, peer)
+    }
+
+    // Posts a hello to a peer.
+    fn say_hello_to(&mut self, alloc: Global, own: u8, peer: Peer) -> Result<(), WireError>
+        ensures err { IfErr result IsFailure }
+        ensures stays { (self.new.peers ≡ self.old.peers) × (self.new.sent ≡ self.old.sent)
+            × (self.new.forgetful ≡ self.old.forgetful) }
+        ensures key { self.new.key ≡ self.old.key }
+        ensures posted { OnOk result
+            (IsHelloTo peer self.old.key own self.old.hellos.items self.new.hellos.items) }
+        ensures unsent { OnErr result (self.new.hellos.items ≡ self.old.hellos.items) }
+    {
+        let connection = connect(&self.rt, &mut self.runtime, peer)?;
+        let asked = self.key.as_ref();
+        let told = post_hello(&self.rt, alloc, &mut self.runtime, connection, asked, own)?;
+        taken_in(told.status)?;
+        self.hellos.add(&told.posted);
+        Ok(())
+    }
+
+    /// Asks a node to tell this one, which has this number, what it knows, whether or not that is news:
+    /// `POST /hello` with the number, over a connection of its own. It tells by a message to this one's
+    /// server.
+    pub fn say_hello(&mut self, alloc: Global, own: u8, to: u8) -> Result<(), WireError>
+        ensures no_peer { (result ≡ Err WireError.NoPeer)
+            ↔ (has_peer self.old.peers.items to ≡ false) }
+        ensures failed { IfErr result (λ e. (e ≡ WireError.NoPeer) ⊎ IsFailure e) }
+        ensures stays { (self.new.peers ≡ self.old.peers) × (self.new.sent ≡ self.old.sent)
+            × (self.new.forgetful ≡ self.old.forgetful) }
+        ensures key { self.new.key ≡ self.old.key }
+        ensures posted { OnOk result (IfSome (address_of self.old.peers.items to) (λ address.
+            IsHelloTo (peer_at to address) self.old.key own self.old.hellos.items
+            self.new.hellos.items)) }
+        ensures unsent { OnErr result (self.new.hellos.items ≡ self.old.hellos.items) }
+    {
+        match self.address_of(to) {
+            Some(address) => self.say_hello_to(alloc, own, Peer { node: to, address }),
+            None => Err(WireError::NoPeer),
+        }
     }
 }
 
