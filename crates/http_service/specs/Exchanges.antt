@@ -30,7 +30,7 @@ use Rattle.http_service.specs.declared.heads.Refusal.{Refusal}
 use Rattle.http_service.specs.declared.labels.Labels.{Labels}
 use Rattle.http_service.specs.Labels.{label_fields, plain_labels}
 use Rattle.http_service.specs.Heads.{refusal_labels, refusal_of, refusal_reply}
-use Rattle.http_service.specs.Keys.{credentials_in, is_open}
+use Rattle.http_service.specs.Keys.{credentials_in, key_need}
 use Rattle.http_service.specs.declared.exchange.Reading.TheVariants as readings
 
 -- a frame of a body, or why there is none
@@ -146,7 +146,7 @@ module _ {I H R : Type 0} where
   pub record IsExchangeOf (service : ConnectionService H R) (req : Request (Incoming I)) (e : Exchange I H R) :
       Type 0 where
     pub refusal : e.refusal ≡ refusal_of (credentials_in service.access)
-        (is_open service.access (request.head_of req).method (uri_path (request.head_of req).uri)) service.port
+        (key_need service.access.page (request.head_of req).method (uri_path (request.head_of req).uri)) service.port
         (request.head_of req).headers
     pub asks : ((e.refusal ≡ None) × (asking_of e ≡ asking_by req (option_map arc_value service.handler)))
         ⊎ (asking_of e ≡ asking_by req None)

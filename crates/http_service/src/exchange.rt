@@ -103,8 +103,8 @@ impl<I: Drop, H: Handler, R: Wait + Clock + Copy> Service<Request<Incoming<I>>>
 
     fn call(&self, req: Request<Incoming<I>>) -> Exchange<I, H, R> {
         let (head, body) = req.into_parts();
-        let is_open = self.access.is_open(head.method.as_str(), head.uri.path());
-        let refusal = judge(&head.headers, &self.access, is_open, self.port);
+        let need = self.access.key_need(head.method.as_str(), head.uri.path());
+        let refusal = judge(&head.headers, &self.access, need, self.port);
         let is_too_long = tells_too_long(&body);
         let needs_permit = refusal.is_none() && !is_too_long && !is_short(&body);
         let long = if needs_permit {
