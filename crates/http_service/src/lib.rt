@@ -31,7 +31,7 @@ mod serving;
 mod until_ended;
 
 pub use access::{Access, KeyFault};
-pub use ending::{Ending, Reason, Served};
+pub use ending::{Ended, Ending, Reason, Served};
 pub use fault::ServeFault;
 pub use handler::Handler;
 pub use http_replies::HttpReply;
