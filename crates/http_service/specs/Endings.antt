@@ -13,6 +13,7 @@ use Rattle.http_service.specs.declared.fault.ServeFault.{ServeFault}
 use Rattle.http_service.specs.declared.fault.ServeFault.TheVariants.{AcceptFailed, OutOfMemory}
 use Rattle.http_service.specs.declared.labels.Content.TheVariants.{Text}
 use Rattle.http_service.specs.declared.labels.Methods.TheVariants.{Post}
+use Rattle.http_service.specs.declared.labels.Tagging.TheVariants.{Untagged}
 use Rattle.http_service.specs.declared.labels.Labels.{Labels}
 
 -- where a client ends the service
@@ -35,7 +36,12 @@ AnswersOrStops answers method path body given =
 -- a text, and where the method was another one, the one that there is
 abbrev pub stop_labels : ℕ → Labels
 stop_labels status =
-    record { content = Text; methods = if status == 405 then Some Post else None; asks_for_key = false }
+    record {
+      content = Text;
+      methods = if status == 405 then Some Post else None;
+      asks_for_key = false;
+      tagging = Untagged;
+    }
 
 abbrev pub labels_or_stop : (List ℕ → ℕ → Labels) → List ℕ → ℕ → Labels
 labels_or_stop labelled path status = if bytes_eq path stop_path then stop_labels status else labelled path status

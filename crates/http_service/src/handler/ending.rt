@@ -8,7 +8,7 @@ ghost use Rattle.http_service.specs.Endings.{labels_or_stop, stop_labels, stop_p
 
 use super::Handler;
 use crate::ending::Ending;
-use crate::labels::{Content, Labels, Methods};
+use crate::labels::{Content, Labels, Methods, Tagging};
 use http_replies::HttpReply;
 use message_format::MAX_MESSAGE;
 use std::alloc::{AllocError, Global};
@@ -78,6 +78,7 @@ fn stop_labels(status: u16) -> Labels
             None
         },
         asks_for_key: false,
+        tagging: Tagging::Untagged,
     }
 }
 

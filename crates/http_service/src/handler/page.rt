@@ -8,7 +8,7 @@ ghost use Rattle.http_service.specs.Pages.{labels_or_page, page_labels, page_pat
 ghost use Rattle.http_service.specs.Pages.{shows_page, AnswersOrShows};
 
 use super::Handler;
-use crate::labels::{Content, Labels, Methods};
+use crate::labels::{Content, Labels, Methods, Tagging};
 use http_replies::HttpReply;
 use message_format::MAX_MESSAGE;
 use operator_page::PAGE;
@@ -86,6 +86,7 @@ fn page_labels(status: u16) -> Labels
             None
         },
         asks_for_key: false,
+        tagging: Tagging::Untagged,
     }
 }
 
