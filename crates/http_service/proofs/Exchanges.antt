@@ -127,16 +127,16 @@ module _ {I H R : Type 0} (answers : H → List ℕ → List ℕ → List ℕ �
       → Gives answers labelled new given →
       Gives answers labelled old given
   gives_later old new given none kept isnt told same on gives =
-      subst (λ o. MatchOption o (GivesRead answers labelled old given) (λ refusal. IsRefused refusal given)) (sym none)
+      subst (λ o. MatchOption o (GivesRead answers labelled old given) (λ refusal. IsRefused old.fields refusal given)) (sym none)
       (read_later old new given isnt told same on
-      (subst (λ o. MatchOption o (GivesRead answers labelled new given) (λ refusal. IsRefused refusal given))
+      (subst (λ o. MatchOption o (GivesRead answers labelled new given) (λ refusal. IsRefused new.fields refusal given))
       (kept ∙ none) gives))
 
   -- a head that is refused is answered so
   pub refused_so : (e : Exchange I H R) (refusal : Refusal) (reply : HttpReply) (labels : Labels)
       (given : Result (Response (Full (List ℕ))) Error) → e.refusal ≡ Some refusal
       → IsReply (refusal_reply refusal) (http_value reply) → labels ≡ refusal_labels refusal
-      → Responds (λ _. labels) (Ok reply) given → Gives answers labelled e given
+      → Responds e.fields (λ _. labels) (Ok reply) given → Gives answers labelled e given
   refused_so e refusal reply labels given is replies plain responds =
-      subst (λ o. MatchOption o (GivesRead answers labelled e given) (λ r. IsRefused r given)) (sym is)
-      (reply, replies, subst (λ (l : Labels). Responds (λ _. l) (Ok reply) given) plain responds)
+      subst (λ o. MatchOption o (GivesRead answers labelled e given) (λ r. IsRefused e.fields r given)) (sym is)
+      (reply, replies, subst (λ (l : Labels). Responds e.fields (λ _. l) (Ok reply) given) plain responds)

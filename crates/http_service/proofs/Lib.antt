@@ -1,5 +1,6 @@
 mod Endings
 mod Exchanges
 mod Fields
+mod Joined
 mod Marks
 mod Ports

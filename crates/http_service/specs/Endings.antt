@@ -4,6 +4,8 @@ use Rattle.message_format.specs.Spelling.{max_message}
 use Rattle.http_replies.specs.Replies.{ReplyValue, IsReply, text_reply}
 use Rattle.http_service.specs.declared.ending.Reason.{Reason}
 use Rattle.http_service.specs.declared.ending.Reason.TheVariants.{OwnAhead, AckAhead}
+use Rattle.http_service.specs.declared.ending.Ended.{Ended}
+use Rattle.http_service.specs.declared.ending.Ended.TheVariants as ended
 use Rattle.http_service.specs.declared.ending.Served.{Served}
 use Rattle.http_service.specs.declared.until_ended.LetIn.{LetIn}
 use Rattle.http_service.specs.declared.until_ended.LetIn.TheVariants as let_in
@@ -11,6 +13,7 @@ use Rattle.http_service.specs.declared.fault.ServeFault.{ServeFault}
 use Rattle.http_service.specs.declared.fault.ServeFault.TheVariants.{AcceptFailed, OutOfMemory}
 use Rattle.http_service.specs.declared.labels.Content.TheVariants.{Text}
 use Rattle.http_service.specs.declared.labels.Methods.TheVariants.{Post}
+use Rattle.http_service.specs.declared.labels.Tagging.TheVariants.{Untagged}
 use Rattle.http_service.specs.declared.labels.Labels.{Labels}
 
 -- where a client ends the service
@@ -33,7 +36,12 @@ AnswersOrStops answers method path body given =
 -- a text, and where the method was another one, the one that there is
 abbrev pub stop_labels : ℕ → Labels
 stop_labels status =
-    record { content = Text; methods = if status == 405 then Some Post else None; asks_for_key = false }
+    record {
+      content = Text;
+      methods = if status == 405 then Some Post else None;
+      asks_for_key = false;
+      tagging = Untagged;
+    }
 
 abbrev pub labels_or_stop : (List ℕ → ℕ → Labels) → List ℕ → ℕ → Labels
 labels_or_stop labelled path status = if bytes_eq path stop_path then stop_labels status else labelled path status
@@ -44,6 +52,12 @@ reason_in reply =
     if not (reply.status == 400) then None
     else (if bytes_eq (take 4 reply.body) (codes "N18 ") then Some OwnAhead
     else (if bytes_eq (take 4 reply.body) (codes "N19 ") then Some AckAhead else None))
+
+-- It is shown that the service is ended whose end has this name: where it is by that, for the reason that was given.
+-- What shows it of one end shows one reason, which is the first one's.
+abbrev pub IsEnded : ℕ → Reason → Ended → Type 0
+IsEnded name reason (ended.Now token) = (token.of ≡ name) × (token.value ≡ reason)
+IsEnded name reason (ended.Before token) = token.of ≡ name
 
 -- as many clients were let in as were wanted; or where the service was ended, no more than that; or no more could be
 abbrev pub AreLetInOrEnded : ℕ → Result LetIn ServeFault → Type 0

@@ -1,5 +1,5 @@
 -- What a request comes to whose body comes in frames.
-use Rattle.std.specs.Prelude.{◌≡◌, ◌⊎◌, ◌==◌, if◌then◌else◌, ◌<◌, ◌+◌, ◌++◌, ℕ, List, [], length, map, Option, Some, None, Result, Ok, Err, MatchOption, option_map, IsSomeAnd, IsTrue, IsFalse, ◌↔◌}
+use Rattle.std.specs.Prelude.{◌≡◌, ◌⊎◌, ◌==◌, if◌then◌else◌, ◌<◌, ◌+◌, ◌++◌, ℕ, List, [], length, map, Option, Some, None, Result, Ok, Err, MatchBool, MatchOption, codes, option_map, IsSomeAnd, IsTrue, IsFalse, ◌↔◌}
 use Rattle.std.specs.Arc.{arc_value}
 use Rattle.message_format.specs.Spelling.{max_message}
 use Rattle.futures.specs.Runs.{Runs}
@@ -8,6 +8,8 @@ use Rattle.http.specs.declared.request.Request.{Request}
 use Rattle.http.specs.declared.response.Response.{Response}
 use Rattle.http.specs.Request as request
 use Rattle.http.specs.Response.{head_of, body_of}
+use Rattle.http_header.specs.FieldValue.{FieldValue}
+use Rattle.http_header.specs.HeaderMap.{Entries, insert}
 use Rattle.http_body.specs.declared.frame.Frame.{Frame}
 use Rattle.http_body.specs.Frame.{bytes_in, joined_data}
 use Rattle.http_body_util.specs.declared.full.Full.{Full}
@@ -28,9 +30,10 @@ use Rattle.http_service.specs.declared.exchange.Exchange.{Exchange}
 use Rattle.http_service.specs.declared.exchange.Reading.{Reading}
 use Rattle.http_service.specs.declared.heads.Refusal.{Refusal}
 use Rattle.http_service.specs.declared.labels.Labels.{Labels}
-use Rattle.http_service.specs.Labels.{label_fields, plain_labels}
+use Rattle.http_service.specs.Labels.{label_fields, plain_labels, with_tag}
+use Rattle.http_service.specs.Tags.{is_had, tag_of}
 use Rattle.http_service.specs.Heads.{refusal_labels, refusal_of, refusal_reply}
-use Rattle.http_service.specs.Keys.{credentials_in, is_open}
+use Rattle.http_service.specs.Keys.{credentials_in, key_need}
 use Rattle.http_service.specs.declared.exchange.Reading.TheVariants as readings
 
 -- a frame of a body, or why there is none
@@ -76,6 +79,7 @@ pub record Asking (H : Type 0) : Type 0 where
   pub handler : Option H
   pub method : List ℕ
   pub path : List ℕ
+  pub fields : Entries FieldValue
 
 module _ {H : Type 0} (answers : H → List ℕ → List ℕ → List ℕ → ReplyValue → Type 0) where
   -- the reply is the handler's to a request with this body; where there is none, that there was no memory
@@ -93,21 +97,40 @@ module _ {H : Type 0} (answers : H → List ℕ → List ℕ → List ℕ → Re
   ComesTo asking (readings.Broken error) body given = given ≡ Err error
   ComesTo asking _ body (Err error) = ⊥
 
--- the response has the reply's status, its body, and the fields that its labels say; where memory was refused, one
--- without a body may have none
-pub record IsResponseTo (labels : Labels) (reply : ReplyValue) (response : Response (Full (List ℕ))) : Type 0 where
+-- the response has the reply's status, its body, the fields that its labels say, and its tag, if it has one; where
+-- memory was refused, one without a body may have none
+pub record IsWhole (tag : Option FieldValue) (labels : Labels) (reply : ReplyValue)
+    (response : Response (Full (List ℕ))) : Type 0 where
   pub status : (head_of response).status ≡ reply.status
   pub body : (body_of response).buf ≡ (if length reply.body == 0 then None else Some reply.body)
-  pub headers : ((head_of response).headers ≡ label_fields labels)
+  pub headers : ((head_of response).headers ≡ with_tag tag (label_fields labels))
       ⊎ ((length reply.body ≡ 0) × ((head_of response).headers ≡ []))
 
--- a reply is given as a response with the labels of its status, if that is one and unless memory was refused; an error
--- as it is
-abbrev pub Responds : (ℕ → Labels) → Result HttpReply Error → Result (Response (Full (List ℕ))) Error → Type 0
-Responds labels (Ok reply) (Ok response) =
-    IsStatusCode reply.status → IsResponseTo (labels reply.status) (http_value reply) response
-Responds labels (Ok reply) (Err error) = kind_of error ≡ kinds.OutOfMemory
-Responds labels (Err error) given = given ≡ Err error
+-- the response says no more than that the body still has this tag
+pub record IsUnchanged (tag : FieldValue) (response : Response (Full (List ℕ))) : Type 0 where
+  pub status : (head_of response).status ≡ 304
+  pub body : (body_of response).buf ≡ None
+  pub headers : (head_of response).headers ≡ insert [] (codes "etag") tag
+
+abbrev pub IsResponseBy : Option FieldValue → Entries FieldValue → Labels → ReplyValue → Response (Full (List ℕ)) →
+    Type 0
+IsResponseBy None fields labels reply response = IsWhole None labels reply response
+IsResponseBy (Some tag) fields labels reply response =
+    MatchBool (is_had tag fields) (IsUnchanged tag response) (IsWhole (Some tag) labels reply response)
+
+-- The response to a request with these fields is the whole reply; where it has a tag, and the request says that its
+-- client has the body with that, no more than this.
+abbrev pub IsResponseTo : Entries FieldValue → Labels → ReplyValue → Response (Full (List ℕ)) → Type 0
+IsResponseTo fields labels reply response = IsResponseBy (tag_of labels.tagging reply.body) fields labels reply response
+
+-- a reply to a request with these fields is given as a response with the labels of its status, if that is one and unless
+-- memory was refused; an error as it is
+abbrev pub Responds : Entries FieldValue → (ℕ → Labels) → Result HttpReply Error →
+    Result (Response (Full (List ℕ))) Error → Type 0
+Responds fields labels (Ok reply) (Ok response) =
+    IsStatusCode reply.status → IsResponseTo fields (labels reply.status) (http_value reply) response
+Responds fields labels (Ok reply) (Err error) = kind_of error ≡ kinds.OutOfMemory
+Responds fields labels (Err error) given = given ≡ Err error
 
 -- what a reply is labelled as: by the path where a handler was asked, and else as a text
 abbrev pub labels_asked : {H : Type 0} → (ℕ → Labels) → Option H → ℕ → Labels
@@ -118,15 +141,20 @@ abbrev pub labels_by : {H : Type 0} → (List ℕ → ℕ → Labels) → Asking
 labels_by labelled asking status = labels_asked (labelled asking.path) asking.handler status
 
 -- a head that is refused is answered so, unless memory was refused
-abbrev pub IsRefused : Refusal → Result (Response (Full (List ℕ))) Error → Type 0
-IsRefused refusal given =
+abbrev pub IsRefused : Entries FieldValue → Refusal → Result (Response (Full (List ℕ))) Error → Type 0
+IsRefused fields refusal given =
     (reply : HttpReply) × IsReply (refusal_reply refusal) (http_value reply)
-    × Responds (λ _. refusal_labels refusal) (Ok reply) given
+    × Responds fields (λ _. refusal_labels refusal) (Ok reply) given
 
 -- what a request asks of a handler
 abbrev pub asking_by : {I H : Type 0} → Request (Incoming I) → Option H → Asking H
 asking_by req handler =
-    record { handler = handler; method = (request.head_of req).method; path = uri_path (request.head_of req).uri }
+    record {
+      handler = handler;
+      method = (request.head_of req).method;
+      path = uri_path (request.head_of req).uri;
+      fields = (request.head_of req).headers;
+    }
 
 module _ {H : Type 0} (answers : H → List ℕ → List ℕ → List ℕ → ReplyValue → Type 0)
     (labelled : List ℕ → ℕ → Labels) where
@@ -135,18 +163,24 @@ module _ {H : Type 0} (answers : H → List ℕ → List ℕ → List ℕ → Re
       (given : Result (Response (Full (List ℕ))) Error) : Type 0 where
     pub reply : Result HttpReply Error
     pub comes : ComesTo answers asking reading body reply
-    pub responds : Responds (labels_by labelled asking) reply given
+    pub responds : Responds asking.fields (labels_by labelled asking) reply given
 
 module _ {I H R : Type 0} where
   abbrev pub asking_of : Exchange I H R → Asking H
-  asking_of e = record { handler = option_map arc_value e.handler; method = e.method; path = uri_path e.uri }
+  asking_of e =
+      record {
+        handler = option_map arc_value e.handler;
+        method = e.method;
+        path = uri_path e.uri;
+        fields = e.fields;
+      }
 
   -- the exchange of a request: it asks the service's handler, or nobody where the head or memory was refused; the body
   -- is the request's, up to the longest one, and nothing of it is read yet
   pub record IsExchangeOf (service : ConnectionService H R) (req : Request (Incoming I)) (e : Exchange I H R) :
       Type 0 where
     pub refusal : e.refusal ≡ refusal_of (credentials_in service.access)
-        (is_open service.access (request.head_of req).method (uri_path (request.head_of req).uri)) service.port
+        (key_need service.access.page (request.head_of req).method (uri_path (request.head_of req).uri)) service.port
         (request.head_of req).headers
     pub asks : ((e.refusal ≡ None) × (asking_of e ≡ asking_by req (option_map arc_value service.handler)))
         ⊎ (asking_of e ≡ asking_by req None)
@@ -170,4 +204,4 @@ module _ {I H R : Type 0} where
 
     -- The same; where the head was refused, nobody is asked and nothing of the body is read: what is given says why.
     abbrev pub Gives : Exchange I H R → Result (Response (Full (List ℕ))) Error → Type 0
-    Gives e given = MatchOption e.refusal (GivesRead e given) (λ refusal. IsRefused refusal given)
+    Gives e given = MatchOption e.refusal (GivesRead e given) (λ refusal. IsRefused e.fields refusal given)

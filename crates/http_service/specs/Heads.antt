@@ -1,5 +1,5 @@
 -- Which heads are answered before anything is asked, and how.
-use Rattle.std.specs.Prelude.{◌==◌, ◌&&◌, ◌||◌, ◌++◌, ℕ, Bool, true, not, is_some, List, [], ◌∷◌, length, take, drop, map, codes, decimal, bytes_eq, if◌then◌else◌, Option, Some, None}
+use Rattle.std.specs.Prelude.{◌==◌, ◌&&◌, ◌||◌, ◌++◌, ℕ, Bool, true, false, not, is_some, List, [], ◌∷◌, length, take, drop, map, codes, decimal, bytes_eq, if◌then◌else◌, Option, Some, None}
 use Rattle.std.specs.List.{list_all}
 use Rattle.std.specs.Option.{option_or}
 use Rattle.std.specs.Str.{is_utf8}
@@ -8,6 +8,8 @@ use Rattle.decimals.specs.Decimals.{number_of}
 use Rattle.http_header.specs.FieldValue.{FieldValue}
 use Rattle.http_header.specs.HeaderMap.{Entries, get_all}
 use Rattle.http_replies.specs.Replies.{ReplyValue, text_reply}
+use Rattle.http_service.specs.declared.access.KeyNeed.{KeyNeed}
+use Rattle.http_service.specs.declared.access.KeyNeed.TheVariants.{Needed, Waived}
 use Rattle.http_service.specs.declared.heads.Refusal.{Refusal}
 use Rattle.http_service.specs.declared.heads.Refusal.TheVariants.{NoKey, ForeignHost, ForeignOrigin, OtherCoding}
 use Rattle.http_service.specs.declared.labels.Labels.{Labels}
@@ -40,6 +42,16 @@ is_this_machine host =
 abbrev pub is_served_address : ℕ → List ℕ → Bool
 is_served_address port origin = bytes_eq origin (codes "http://127.0.0.1:" ++ decimal port)
 
+-- a page of this host, by http, or by https where something that encrypts stands in front
+abbrev pub is_of_host : Option (List ℕ) → List ℕ → Bool
+is_of_host None origin = false
+is_of_host (Some host) origin =
+    bytes_eq origin (codes "http://" ++ host) || bytes_eq origin (codes "https://" ++ host)
+
+-- a page of the service itself
+abbrev pub is_own_page : ℕ → Option (List ℕ) → List ℕ → Bool
+is_own_page port host origin = is_served_address port origin || is_of_host host origin
+
 abbrev pub is_chunked : List ℕ → Bool
 is_chunked coding = is_alike coding (codes "chunked")
 
@@ -49,21 +61,31 @@ all_pass test name fields = list_all (λ value. test value.bytes) (get_all field
 
 -- who isn't let in: without the key of a service that has one, unless the request needs none, and else from another
 -- machine's page
-abbrev pub stranger : Option (List ℕ) → Bool → Entries FieldValue → Option Refusal
-stranger None needs_none fields = if all_pass is_this_machine (codes "host") fields then None else Some ForeignHost
-stranger (Some credentials) needs_none fields =
-    if needs_none || has_credentials credentials fields then None else Some NoKey
+abbrev pub stranger : Option (List ℕ) → KeyNeed → Entries FieldValue → Option Refusal
+stranger None need fields = if all_pass is_this_machine (codes "host") fields then None else Some ForeignHost
+stranger (Some credentials) Waived fields = None
+stranger (Some credentials) Needed fields = if has_credentials credentials fields then None else Some NoKey
 
-abbrev pub refusal_behind : ℕ → Entries FieldValue → Option Refusal
-refusal_behind port fields =
-    if not (all_pass (is_served_address port) (codes "origin") fields) then Some ForeignOrigin
+abbrev pub only_one : List FieldValue → Option (List ℕ)
+only_one (value ∷ []) = Some value.bytes
+only_one _ = None
+
+-- whose pages are the service's own too: those of its one `Host`, where it has a key. Where it has none, whoever gives
+-- this machine a name of his own could have a page of that name.
+abbrev pub own_host : Option (List ℕ) → Entries FieldValue → Option (List ℕ)
+own_host None fields = None
+own_host (Some credentials) fields = only_one (get_all fields (codes "host"))
+
+-- what is refused else: another page, or another coding
+abbrev pub refusal_behind : ℕ → Option (List ℕ) → Entries FieldValue → Option Refusal
+refusal_behind port host fields =
+    if not (all_pass (is_own_page port host) (codes "origin") fields) then Some ForeignOrigin
     else (if not (all_pass is_chunked (codes "transfer-encoding") fields) then Some OtherCoding else None)
 
--- why a head with these fields is refused by a service with these credentials, if it has a key, at this port: it may be
--- of a request that needs none
-abbrev pub refusal_of : Option (List ℕ) → Bool → ℕ → Entries FieldValue → Option Refusal
-refusal_of credentials needs_none port fields =
-    option_or (stranger credentials needs_none fields) (refusal_behind port fields)
+-- why a head with these fields is refused by a service with these credentials, if it has a key, at this port
+abbrev pub refusal_of : Option (List ℕ) → KeyNeed → ℕ → Entries FieldValue → Option Refusal
+refusal_of credentials need port fields =
+    option_or (stranger credentials need fields) (refusal_behind port (own_host credentials fields) fields)
 
 -- what such a head is answered
 abbrev pub refusal_reply : Refusal → ReplyValue

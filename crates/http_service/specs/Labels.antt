@@ -9,6 +9,8 @@ use Rattle.http_service.specs.declared.labels.Content.{Content}
 use Rattle.http_service.specs.declared.labels.Content.TheVariants.{Text, Json, Page}
 use Rattle.http_service.specs.declared.labels.Methods.{Methods}
 use Rattle.http_service.specs.declared.labels.Methods.TheVariants.{Get, Post, PutOrDelete}
+use Rattle.http_service.specs.declared.labels.Tagging.{Tagging}
+use Rattle.http_service.specs.declared.labels.Tagging.TheVariants.{Tagged, Untagged}
 use Rattle.http_service.specs.declared.labels.Labels.{Labels}
 
 -- the methods of a path
@@ -34,6 +36,11 @@ content_at (Some paths.report) = Json
 content_at (Some paths.status) = Json
 content_at _ = Text
 
+-- the status is asked for again and again, and is mostly what it was
+abbrev pub tagging_at : Option TargetValue → Tagging
+tagging_at (Some paths.status) = Tagged
+tagging_at _ = Untagged
+
 -- what a reply with this status to a request of this path is labelled as: where the method isn't one of the path's,
 -- those that are
 abbrev pub labels_of : Option TargetValue → ℕ → Labels
@@ -42,15 +49,16 @@ labels_of target status =
       content = if status == 200 then content_at target else Text;
       methods = if status == 405 then option_map methods_of target else None;
       asks_for_key = false;
+      tagging = if status == 200 then tagging_at target else Untagged;
     }
 
 -- a text
 abbrev pub plain_labels : Labels
-plain_labels = record { content = Text; methods = None; asks_for_key = false }
+plain_labels = record { content = Text; methods = None; asks_for_key = false; tagging = Untagged }
 
 -- a text that says that a key has to be sent
 abbrev pub key_labels : Labels
-key_labels = record { content = Text; methods = None; asks_for_key = true }
+key_labels = record { content = Text; methods = None; asks_for_key = true; tagging = Untagged }
 
 abbrev pub content_text : Content → List ℕ
 content_text Text = codes "text/plain; charset=utf-8"
@@ -90,6 +98,11 @@ with_methods (Some methods) fields = insert fields (codes "allow") (plain_value 
 abbrev pub with_challenge : Bool → Entries FieldValue → Entries FieldValue
 with_challenge false fields = fields
 with_challenge true fields = insert fields (codes "www-authenticate") (plain_value (codes "Bearer"))
+
+-- fields, and the tag of the body, if it has one
+abbrev pub with_tag : Option FieldValue → Entries FieldValue → Entries FieldValue
+with_tag None fields = fields
+with_tag (Some tag) fields = insert fields (codes "etag") tag
 
 -- the fields, in their order
 abbrev pub label_fields : Labels → Entries FieldValue

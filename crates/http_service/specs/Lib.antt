@@ -6,3 +6,4 @@ pub mod Heads
 pub mod Keys
 pub mod Labels
 pub mod Pages
+pub mod Tags

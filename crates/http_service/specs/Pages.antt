@@ -5,6 +5,7 @@ use Rattle.http_replies.specs.Replies.{ReplyValue, IsReply, text_reply}
 use Rattle.operator_page.specs.declared.page.TheConstants.{PAGE}
 use Rattle.http_service.specs.declared.labels.Content.TheVariants.{Page, Text}
 use Rattle.http_service.specs.declared.labels.Methods.TheVariants.{Get}
+use Rattle.http_service.specs.declared.labels.Tagging.TheVariants.{Untagged}
 use Rattle.http_service.specs.declared.labels.Labels.{Labels}
 
 -- where the operator's page is
@@ -35,6 +36,7 @@ page_labels status =
       content = if status == 200 then Page else Text;
       methods = if status == 405 then Some Get else None;
       asks_for_key = false;
+      tagging = Untagged;
     }
 
 abbrev pub labels_or_page : (List ℕ → ℕ → Labels) → List ℕ → ℕ → Labels

@@ -1,9 +1,9 @@
 //! Who may ask a service.
 
-ghost use Rattle.std.specs.Prelude.{◌≡◌, ◌↔◌, ◌<◌, length, bytes_eq, option_map, IfOk, IsErrOf, IfSome, IsTrue};
+ghost use Rattle.std.specs.Prelude.{◌≡◌, ◌↔◌, ◌<◌, length, bytes_eq, option_map, IfOk, IsErrOf, IfSome};
 ghost use Rattle.std.specs.Prelude.{Some, None, string_bytes};
 ghost use Rattle.std.specs.Arc.{arc_value};
-ghost use Rattle.http_service.specs.Keys.{are_said, credentials_in, credentials_of, has_credentials, is_open};
+ghost use Rattle.http_service.specs.Keys.{are_said, credentials_in, credentials_of, has_credentials, key_need};
 ghost use Rattle.http_service.specs.Pages.{shows_page};
 
 use crate::handler::shows_page;
@@ -35,13 +35,26 @@ impl From<AllocError> for KeyFault {
     }
 }
 
+/// Whether a service has the operator's page, which anybody may see.
+#[derive(Clone, Copy, Debug, PartialEq, Eq)]
+pub enum Page {
+    Shown,
+    Absent,
+}
+
+/// Whether a request needs the key of a service that has one.
+#[derive(Clone, Copy, Debug, PartialEq, Eq)]
+pub enum KeyNeed {
+    Needed,
+    Waived,
+}
+
 /// Who may ask a service: whoever is on this machine, or whoever has its key. Nothing shows the key.
 #[derive(Drop)]
 pub struct Access {
     // What the `Authorization` of a request says that has the key, if there is one.
     credentials: Option<Arc<String>>,
-    // The operator's page is answered without the key.
-    has_page: bool,
+    page: Page,
 }
 
 impl Access {
@@ -51,7 +64,7 @@ impl Access {
     {
         Access {
             credentials: None,
-            has_page: false,
+            page: Page::Absent,
         }
     }
 
@@ -67,7 +80,7 @@ impl Access {
         let credentials = shared_credentials(alloc, key)?;
         Ok(Access {
             credentials: Some(credentials),
-            has_page: false,
+            page: Page::Absent,
         })
     }
 
@@ -75,7 +88,7 @@ impl Access {
     pub(crate) fn again(&self) -> Option<Access>
         ensures credentials { IfSome result
             (λ access. credentials_in access ≡ credentials_in self.now) }
-        ensures page { IfSome result (λ access. access.has_page ≡ self.now.has_page) }
+        ensures page { IfSome result (λ access. access.page ≡ self.now.page) }
     {
         let credentials = match &self.credentials {
             Some(credentials) => Some(Arc::try_clone(credentials).ok()?),
@@ -83,26 +96,29 @@ impl Access {
         };
         Some(Access {
             credentials,
-            has_page: self.has_page,
+            page: self.page,
         })
     }
 
     /// The same of a service that has the operator's page, which anybody may see.
     pub(crate) fn with_page(self) -> Access
         ensures credentials { credentials_in result ≡ credentials_in self }
-        ensures page { IsTrue result.has_page }
+        ensures page { result.page ≡ Page.Shown }
     {
         Access {
-            has_page: true,
+            page: Page::Shown,
             ..self
         }
     }
 
-    /// Whether a request needs no key where others do.
-    pub(crate) fn is_open(&self, method: &str, path: &str) -> bool
-        ensures { result ≡ is_open self.now method.now path.now }
+    /// Whether a request needs the key, where there is one.
+    pub(crate) fn key_need(&self, method: &str, path: &str) -> KeyNeed
+        ensures { result ≡ key_need self.now.page method.now path.now }
     {
-        self.has_page && shows_page(method, path)
+        match self.page {
+            Page::Shown if shows_page(method, path) => KeyNeed::Waived,
+            Page::Shown | Page::Absent => KeyNeed::Needed,
+        }
     }
 
     /// What the `Authorization` of a request says that has the key, if there is one.

@@ -1,8 +1,9 @@
 //! The end of a service before all clients were let in that it waits for.
 
-ghost use Rattle.std.specs.Prelude.{◌≡◌, take, length, bytes_eq, codes, is_some, IfSome};
+ghost use Rattle.std.specs.Prelude.{◌≡◌, take, length, bytes_eq, codes, IfSome, IsSomeAnd, MatchOption};
 ghost use Rattle.http_replies.specs.Replies.{http_value, text_reply, IsReply};
-ghost use Rattle.http_service.specs.Endings.{reason_in};
+ghost use Rattle.http_service.specs.Endings.{reason_in, IsEnded};
+ghost use Rattle.http_service.specs.declared.ending.Reason.TheVariants.{Asked};
 
 use http_replies::HttpReply;
 use std::alloc::{AllocError, Global};
@@ -28,12 +29,21 @@ pub struct Ending {
     bell: Arc<Notify>,
 }
 
+/// What shows that a service is ended, and for which reason, as whoever asked for its end sees it.
+#[derive(Drop)]
+pub enum Ended<'a> {
+    /// It is ended by that, for the reason that was given.
+    Now(OnceToken<'a, Reason>),
+    /// It was ended before, for the first one's reason.
+    Before(OnceToken<'a, Reason>),
+}
+
 /// A reply that only a service gives which is ended.
 #[derive(Drop)]
 pub struct LastReply<'a> {
     pub reply: HttpReply,
     /// What shows that it is.
-    pub ended: OnceToken<'a, Reason>,
+    pub ended: Ended<'a>,
 }
 
 impl Ending {
@@ -47,12 +57,12 @@ impl Ending {
     }
 
     /// Ends the service, unless it is ended already, and answers what shows that it is.
-    pub fn end<R: Wait>(&self, rt: &R, reason: Reason) -> OnceToken<'_, Reason>
-        ensures { result.of ≡ self.now.reason.id }
+    pub fn end<R: Wait>(&self, rt: &R, reason: Reason) -> Ended<'_>
+        ensures { IsEnded self.now.reason.id reason result }
     {
         let ended = match self.reason.try_insert(rt, reason) {
-            Ok(ended) => ended,
-            Err((ended, _)) => ended,
+            Ok(ended) => Ended::Now(ended),
+            Err((ended, _)) => Ended::Before(ended),
         };
         self.bell.notify_waiters();
         ended
@@ -62,7 +72,7 @@ impl Ending {
     /// node.
     pub(crate) fn stop<R: Wait>(&self, rt: &R, alloc: Global) -> LastReply<'_>
         ensures told { IsReply (text_reply 200 (codes "stopping")) (http_value result.reply) }
-        ensures ended { result.ended.of ≡ self.now.reason.id }
+        ensures ended { IsEnded self.now.reason.id Asked result.ended }
     {
         LastReply {
             ended: self.end(rt, Reason::Asked),
@@ -71,9 +81,9 @@ impl Ending {
     }
 
     /// Ends the service where a reply shows that others know more of the node than it does.
-    pub(crate) fn meet<R: Wait>(&self, rt: &R, reply: &HttpReply) -> Option<OnceToken<'_, Reason>>
-        ensures ends { is_some result ≡ is_some (reason_in (http_value reply.now)) }
-        ensures ended { IfSome result (λ token. token.of ≡ self.now.reason.id) }
+    pub(crate) fn meet<R: Wait>(&self, rt: &R, reply: &HttpReply) -> Option<Ended<'_>>
+        ensures { MatchOption (reason_in (http_value reply.now)) (result ≡ None)
+            (λ reason. IsSomeAnd result (IsEnded self.now.reason.id reason)) }
     {
         let reason = reason_in(reply)?;
         Some(self.end(rt, reason))

@@ -14,18 +14,20 @@ ghost use Rattle.http.specs.StatusCode.{IsStatusCode};
 ghost use Rattle.http_replies.specs.Replies.{http_value};
 ghost use Rattle.http_service.specs.Exchanges.{asking_of, pieces_of, ComesTo, EndsSo, Gives, GoesOn};
 ghost use Rattle.http_service.specs.Exchanges.{IsExchangeOf, IsResponseTo, Responds, TakesIn};
-ghost use Rattle.http_service.specs.Exchanges.{IsAnswered, TellsTooLong, labels_by};
-ghost use Rattle.http_service.specs.Labels.{label_fields};
+ghost use Rattle.http_service.specs.Exchanges.{IsAnswered, IsUnchanged, IsWhole, TellsTooLong};
+ghost use Rattle.http_service.specs.Exchanges.{labels_by};
+ghost use Rattle.http_service.specs.Labels.{label_fields, with_tag};
 
 use crate::access::Access;
 use crate::handler::Handler;
 use crate::heads::{Refusal, judge};
-use crate::labels::Labels;
+use crate::labels::{Labels, tag_alone};
 use crate::permits::Permits;
+use crate::tags::{is_had, tag_of};
 use bytes::Bytes;
 use futures::task::{Context, Poll};
 use futures::{Future, Stream, ready};
-use http::HeaderMap;
+use http::header::{HeaderMap, HeaderValue};
 use http_body::{Body, Frame};
 use http_body_util::{Full, Limited, LimitedError};
 use http_replies::HttpReply;
@@ -36,6 +38,7 @@ use message_format::MAX_MESSAGE;
 use std::alloc::{AllocError, Global};
 use std::mem;
 use std::sync::{Arc, Wait};
+use std::time::Clock;
 use tokio::sync::OwnedSemaphorePermit;
 
 /// The longest body that is taken in without one of the permits of long ones, in bytes.
@@ -72,6 +75,7 @@ pub struct Exchange<I, H, R> {
     handler: Option<Arc<H>>,
     method: Method,
     uri: Uri,
+    fields: HeaderMap,
     // The head tells of a body that is longer than the longest: nothing of it is read.
     is_too_long: bool,
     body: Limited<Incoming<I>>,
@@ -90,7 +94,7 @@ enum Reading {
     Broken(hyper::Error),
 }
 
-impl<I: Drop, H: Handler, R: Wait + Copy> Service<Request<Incoming<I>>>
+impl<I: Drop, H: Handler, R: Wait + Clock + Copy> Service<Request<Incoming<I>>>
     for ConnectionService<H, R> {
     type Response = Response<Full<Bytes>>;
 
@@ -102,8 +106,8 @@ impl<I: Drop, H: Handler, R: Wait + Copy> Service<Request<Incoming<I>>>
 
     fn call(&self, req: Request<Incoming<I>>) -> Exchange<I, H, R> {
         let (head, body) = req.into_parts();
-        let is_open = self.access.is_open(head.method.as_str(), head.uri.path());
-        let refusal = judge(&head.headers, &self.access, is_open, self.port);
+        let need = self.access.key_need(head.method.as_str(), head.uri.path());
+        let refusal = judge(&head.headers, &self.access, need, self.port);
         let is_too_long = tells_too_long(&body);
         let needs_permit = refusal.is_none() && !is_too_long && !is_short(&body);
         let long = if needs_permit {
@@ -123,6 +127,7 @@ impl<I: Drop, H: Handler, R: Wait + Copy> Service<Request<Incoming<I>>>
             handler,
             method: head.method,
             uri: head.uri,
+            fields: head.headers,
             is_too_long,
             body: Limited::new(body, MAX_MESSAGE),
             read: Vec::new(self.alloc),
@@ -132,7 +137,7 @@ impl<I: Drop, H: Handler, R: Wait + Copy> Service<Request<Incoming<I>>>
     }
 }
 
-impl<I: Drop, H: Handler, R: Wait + Copy> Exchange<I, H, R> {
+impl<I: Drop, H: Handler, R: Wait + Clock + Copy> Exchange<I, H, R> {
     // The reply, once the body was read so far.
     fn reply(&mut self, reading: Reading) -> hyper::Result<HttpReply>
         ensures comes { ComesTo H.answers (asking_of self.old) reading self.old.read.items result }
@@ -170,7 +175,7 @@ impl<I: Drop, H: Handler, R: Wait + Copy> Exchange<I, H, R> {
     {
         let reply = self.reply(reading);
         let labels = self.labels(&reply);
-        respond(self.alloc, reply, labels)
+        respond(self.alloc, &self.fields, reply, labels)
     }
 
     // Reads the body, a long one once there is a permit for it.
@@ -203,7 +208,7 @@ impl<I: Drop, H: Handler, R: Wait + Copy> Exchange<I, H, R> {
     }
 }
 
-impl<I: Drop, H: Handler, R: Wait + Copy> Future for Exchange<I, H, R> {
+impl<I: Drop, H: Handler, R: Wait + Clock + Copy> Future for Exchange<I, H, R> {
     type Output = hyper::Result<Response<Full<Bytes>>>;
 
     ghost can_poll = { λ e. IfSome e.permits (λ permits. IfSome permits.waiting CanAcquire) };
@@ -213,7 +218,8 @@ impl<I: Drop, H: Handler, R: Wait + Copy> Future for Exchange<I, H, R> {
     fn poll(&mut self, cx: &mut Context<'_>) -> Poll<hyper::Result<Response<Full<Bytes>>>> {
         if let Some(refusal) = self.refusal {
             let reply = refusal.reply(self.alloc);
-            return Poll::Ready(respond(self.alloc, Ok(reply), refusal.labels()));
+            let given = respond(self.alloc, &self.fields, Ok(reply), refusal.labels());
+            return Poll::Ready(given);
         }
         if self.is_too_long {
             return Poll::Ready(self.answer(Reading::TooLong));
@@ -318,26 +324,62 @@ fn again(long: &Option<Permits>) -> Option<Permits>
     long.as_ref()?.again()
 }
 
-// A reply as a response, with these labels. An error goes on as it is.
+// A reply as a response to a request with these fields, with these labels. An error goes on as it is.
 fn respond(
     alloc: Global,
+    fields: &HeaderMap,
     reply: hyper::Result<HttpReply>,
     labels: Labels,
 ) -> hyper::Result<Response<Full<Bytes>>>
-    ensures { Responds (λ _. labels) reply result }
+    ensures { Responds fields.now (λ _. labels) reply result }
 {
-    response(alloc, reply?, labels)
+    response(alloc, fields, reply?, labels)
 }
 
 // The reply as a response. The only error is out of memory: then the connection ends without a
 // reply, since none but this one may be told of an accepted call.
-fn response(alloc: Global, reply: HttpReply, labels: Labels) -> hyper::Result<Response<Full<Bytes>>>
+fn response(
+    alloc: Global,
+    fields: &HeaderMap,
+    reply: HttpReply,
+    labels: Labels,
+) -> hyper::Result<Response<Full<Bytes>>>
     ensures ok { IfOk result
-        (λ r. IsStatusCode reply.status → IsResponseTo labels (http_value reply) r) }
+        (λ r. IsStatusCode reply.status → IsResponseTo fields.now labels (http_value reply) r) }
     ensures err { IfErr result (λ e. kind_of e ≡ kinds.OutOfMemory) }
     ensures empty { length reply.body.items ≡ 0 → IsOk result }
 {
-    let fields = fields_of(alloc, labels, reply.body.is_empty())?;
+    match tag_of(alloc, labels.tagging, &reply.body)? {
+        Some(tag) if is_had(&tag, fields) => unchanged(alloc, tag),
+        tag => whole(alloc, reply, labels, tag),
+    }
+}
+
+// That the body still has this tag. The only error is out of memory.
+fn unchanged(alloc: Global, tag: HeaderValue) -> hyper::Result<Response<Full<Bytes>>>
+    ensures ok { IfOk result (IsUnchanged tag) }
+    ensures err { IfErr result (λ e. kind_of e ≡ kinds.OutOfMemory) }
+{
+    let fields = tag_alone(alloc, tag)?;
+    let mut response = Response::new(alloc, Full::new(Bytes::new()));
+    *response.status_mut() = StatusCode::NOT_MODIFIED;
+    *response.headers_mut() = fields;
+    Ok(response)
+}
+
+// The whole reply, with its tag, if it has one. The only error is out of memory.
+fn whole(
+    alloc: Global,
+    reply: HttpReply,
+    labels: Labels,
+    tag: Option<HeaderValue>,
+) -> hyper::Result<Response<Full<Bytes>>>
+    ensures ok { IfOk result
+        (λ r. IsStatusCode reply.status → IsWhole tag labels (http_value reply) r) }
+    ensures err { IfErr result (λ e. kind_of e ≡ kinds.OutOfMemory) }
+    ensures empty { length reply.body.items ≡ 0 → IsOk result }
+{
+    let fields = fields_of(alloc, labels, tag, reply.body.is_empty())?;
     let body = shared_bytes(reply.body)?;
     let status = StatusCode::from_u16(reply.status).unwrap_or(StatusCode::SERVICE_UNAVAILABLE);
     let mut response = Response::new(alloc, Full::new(body));
@@ -348,12 +390,17 @@ fn response(alloc: Global, reply: HttpReply, labels: Labels) -> hyper::Result<Re
 
 // The header fields of a response. One without a body is given without them where there is no
 // memory for them.
-fn fields_of(alloc: Global, labels: Labels, is_empty: bool) -> Result<HeaderMap, AllocError>
+fn fields_of(
+    alloc: Global,
+    labels: Labels,
+    tag: Option<HeaderValue>,
+    is_empty: bool,
+) -> Result<HeaderMap, AllocError>
     ensures fields { IfOk result (λ fields.
-        (fields ≡ label_fields labels) ⊎ (IsTrue is_empty × (fields ≡ []))) }
+        (fields ≡ with_tag tag (label_fields labels)) ⊎ (IsTrue is_empty × (fields ≡ []))) }
     ensures empty { IsTrue is_empty → IsOk result }
 {
-    match labels.fields(alloc) {
+    match labels.fields(alloc, tag) {
         Err(_) if is_empty => Ok(HeaderMap::new(alloc)),
         fields => fields,
     }

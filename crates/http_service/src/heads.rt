@@ -1,15 +1,17 @@
 //! Heads that are answered before anything is asked.
 
-ghost use Rattle.std.specs.Prelude.{◌≡◌, codes};
+ghost use Rattle.std.specs.Prelude.{◌≡◌, ◌++◌, bytes_eq, codes, option_copied};
 ghost use Rattle.http_header.specs.HeaderMap.{get_all};
 ghost use Rattle.std.specs.List.{list_all};
 ghost use Rattle.http_replies.specs.Replies.{http_value, IsReply};
-ghost use Rattle.http_service.specs.Heads.{all_pass, is_alike, is_at, is_chunked, is_served_address};
-ghost use Rattle.http_service.specs.Heads.{is_port, is_this_machine, may_end_host};
-ghost use Rattle.http_service.specs.Heads.{refusal_labels, refusal_of, refusal_reply};
+ghost use Rattle.http_service.specs.Heads.{all_pass, is_alike, is_at, is_chunked, is_of_host};
+ghost use Rattle.http_service.specs.Heads.{is_own_page, is_port, is_served_address};
+ghost use Rattle.http_service.specs.Heads.{is_this_machine, may_end_host, only_one, own_host};
+ghost use Rattle.http_service.specs.Heads.{refusal_behind, refusal_labels, refusal_of};
+ghost use Rattle.http_service.specs.Heads.{refusal_reply, stranger};
 ghost use Rattle.http_service.specs.Keys.{credentials_in};
 
-use crate::access::{Access, has_credentials};
+use crate::access::{Access, KeyNeed, has_credentials};
 use crate::labels::Labels;
 use decimals::number;
 use http::header::{HOST, HeaderMap, ORIGIN, TRANSFER_ENCODING};
@@ -26,7 +28,7 @@ pub enum Refusal {
     /// The `Host` is another machine: a page that has a name of its own for this machine's address
     /// sends that name.
     ForeignHost,
-    /// The `Origin` isn't the address at which the handler is served.
+    /// The `Origin` isn't the service itself.
     ForeignOrigin,
     /// The body is coded otherwise than in chunks.
     OtherCoding,
@@ -74,17 +76,57 @@ impl Refusal {
 
 /// Why a head with these fields is refused by a service at this port, if it is. A key is asked for
 /// before all else, unless the request needs none.
-pub fn judge(fields: &HeaderMap, access: &Access, needs_none: bool, port: u16) -> Option<Refusal>
-    ensures { result ≡ refusal_of (credentials_in access.now) needs_none port fields.now }
+pub fn judge(fields: &HeaderMap, access: &Access, need: KeyNeed, port: u16) -> Option<Refusal>
+    ensures { result ≡ refusal_of (credentials_in access.now) need port fields.now }
 {
-    match access.credentials() {
-        Some(credentials) if !(needs_none || has_credentials(fields, credentials)) => {
-            return Some(Refusal::NoKey);
-        }
-        None if !is_for_this_machine(fields) => return Some(Refusal::ForeignHost),
-        _ => {}
+    let credentials = access.credentials();
+    if let Some(refusal) = stranger(fields, credentials, need) {
+        return Some(refusal);
     }
-    if !is_of_no_other_page(fields, port) {
+    judge_behind(fields, own_host(fields, credentials), port)
+}
+
+// Who isn't let in.
+fn stranger(fields: &HeaderMap, credentials: Option<&[u8]>, need: KeyNeed) -> Option<Refusal>
+    ensures { result ≡ stranger (option_copied credentials.entry) need fields.now }
+{
+    match (credentials, need) {
+        (None, _) if is_for_this_machine(fields) => None,
+        (None, _) => Some(Refusal::ForeignHost),
+        (Some(_), KeyNeed::Waived) => None,
+        (Some(credentials), KeyNeed::Needed) if has_credentials(fields, credentials) => None,
+        (Some(_), KeyNeed::Needed) => Some(Refusal::NoKey),
+    }
+}
+
+// The host whose pages are the service's own, if there is one.
+fn own_host<'a>(fields: &'a HeaderMap, credentials: Option<&[u8]>) -> Option<&'a [u8]>
+    ensures { option_copied result
+        ≡ own_host (option_copied credentials.entry) fields.now }
+{
+    match credentials {
+        Some(_) => only_host(fields),
+        None => None,
+    }
+}
+
+// The `Host`, where there is just one.
+fn only_host(fields: &HeaderMap) -> Option<&[u8]>
+    ensures { option_copied result
+        ≡ only_one (get_all fields.now (codes "host")) }
+{
+    let mut hosts = fields.get_all(HOST).iter();
+    match (hosts.next(), hosts.next()) {
+        (Some(host), None) => Some(host.as_bytes()),
+        _ => None,
+    }
+}
+
+// Why the head of one who is let in is refused, if it is.
+fn judge_behind(fields: &HeaderMap, host: Option<&[u8]>, port: u16) -> Option<Refusal>
+    ensures { result ≡ refusal_behind port (option_copied host.entry) fields.now }
+{
+    if !is_of_no_other_page(fields, host, port) {
         return Some(Refusal::ForeignOrigin);
     }
     if !is_chunked_at_most(fields) {
@@ -102,13 +144,14 @@ fn is_for_this_machine(fields: &HeaderMap) -> bool
         .all(|value| names_this_machine(value.as_bytes()))
 }
 
-fn is_of_no_other_page(fields: &HeaderMap, port: u16) -> bool
-    ensures { result ≡ all_pass (is_served_address port) (codes "origin") fields.now }
+fn is_of_no_other_page(fields: &HeaderMap, host: Option<&[u8]>, port: u16) -> bool
+    ensures { result ≡ all_pass (is_own_page port (option_copied host.entry))
+        (codes "origin") fields.now }
 {
     fields
         .get_all(ORIGIN)
         .iter()
-        .all(|value| is_served_at(value.as_bytes(), port))
+        .all(|value| is_own_page(value.as_bytes(), host, port))
 }
 
 fn is_chunked_at_most(fields: &HeaderMap) -> bool
@@ -150,11 +193,37 @@ fn may_end(end: &[u8]) -> bool
     }
 }
 
+fn is_own_page(origin: &[u8], host: Option<&[u8]>, port: u16) -> bool
+    ensures { result ≡ is_own_page port (option_copied host.entry) origin.now }
+{
+    is_served_at(origin, port) || is_of_host(origin, host)
+}
+
 fn is_served_at(origin: &[u8], port: u16) -> bool
     ensures { result ≡ is_served_address port origin.now }
 {
-    match origin.strip_prefix(b"http://127.0.0.1:") {
-        Some(end) => end == Buffer::new().format(port).as_bytes(),
+    is_joined(
+        origin,
+        b"http://127.0.0.1:",
+        Buffer::new().format(port).as_bytes(),
+    )
+}
+
+fn is_of_host(origin: &[u8], host: Option<&[u8]>) -> bool
+    ensures { result ≡ is_of_host (option_copied host.entry) origin.now }
+{
+    match host {
+        Some(host) => is_joined(origin, b"http://", host) || is_joined(origin, b"https://", host),
+        None => false,
+    }
+}
+
+/// Whether bytes are these two, one behind the other.
+pub fn is_joined(bytes: &[u8], start: &[u8], end: &[u8]) -> bool
+    ensures { result ≡ bytes_eq bytes.now (start.now ++ end.now) }
+{
+    match bytes.strip_prefix(start) {
+        Some(rest) => rest == end,
         None => false,
     }
 }

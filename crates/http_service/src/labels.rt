@@ -1,15 +1,16 @@
 //! What the header fields of a reply say.
 
-ghost use Rattle.std.specs.Prelude.{◌≡◌, IfOk, OnOk, option_map};
+ghost use Rattle.std.specs.Prelude.{◌≡◌, [], codes, IfOk, OnOk, option_map};
 ghost use Rattle.http_header.specs.HeaderMap.{insert};
 ghost use Rattle.http_header.specs.FieldValue.{plain_value};
 ghost use Rattle.http_paths.specs.Targets.{target_value};
 ghost use Rattle.http_service.specs.Labels.{content_at, content_text, label_fields, labels_of};
 ghost use Rattle.http_service.specs.Labels.{methods_of, methods_text, plain_labels, with_methods};
-ghost use Rattle.http_service.specs.Labels.{with_challenge, with_policy, with_policy_of};
+ghost use Rattle.http_service.specs.Labels.{tagging_at, with_challenge, with_policy};
+ghost use Rattle.http_service.specs.Labels.{with_policy_of, with_tag};
 
 use http::header::{
-    ALLOW, CACHE_CONTROL, CONTENT_SECURITY_POLICY, CONTENT_TYPE, HeaderMap, HeaderName,
+    ALLOW, CACHE_CONTROL, CONTENT_SECURITY_POLICY, CONTENT_TYPE, ETAG, HeaderMap, HeaderName,
     HeaderValue, REFERRER_POLICY, WWW_AUTHENTICATE, X_CONTENT_TYPE_OPTIONS,
 };
 use http_paths::Target;
@@ -33,6 +34,13 @@ pub enum Methods {
     PutOrDelete,
 }
 
+/// Whether a body is told with a tag, by which a client may ask later for another one only.
+#[derive(Clone, Copy, Debug, PartialEq, Eq)]
+pub enum Tagging {
+    Untagged,
+    Tagged,
+}
+
 /// What the header fields of a reply say of it.
 #[derive(Clone, Copy, Debug, PartialEq, Eq)]
 pub struct Labels {
@@ -41,6 +49,7 @@ pub struct Labels {
     pub methods: Option<Methods>,
     /// A key has to be sent, and how.
     pub asks_for_key: bool,
+    pub tagging: Tagging,
 }
 
 impl Labels {
@@ -52,6 +61,7 @@ impl Labels {
             content: Content::Text,
             methods: None,
             asks_for_key: false,
+            tagging: Tagging::Untagged,
         }
     }
 
@@ -72,12 +82,21 @@ impl Labels {
                 _ => None,
             },
             asks_for_key: false,
+            tagging: if is_answered {
+                tagging_of(target)
+            } else {
+                Tagging::Untagged
+            },
         }
     }
 
-    /// The header fields. The only error is out of memory.
-    pub(crate) fn fields(self, alloc: Global) -> Result<HeaderMap, AllocError>
-        ensures { IfOk result (λ fields. fields ≡ label_fields self) }
+    /// The header fields, with the tag of the body, if it has one. The only error is out of memory.
+    pub(crate) fn fields(
+        self,
+        alloc: Global,
+        tag: Option<HeaderValue>,
+    ) -> Result<HeaderMap, AllocError>
+        ensures { IfOk result (λ fields. fields ≡ with_tag tag (label_fields self)) }
     {
         let mut fields = HeaderMap::new(alloc);
         put(&mut fields, CONTENT_TYPE, self.content.value())?;
@@ -86,8 +105,19 @@ impl Labels {
         put_policy_of(&mut fields, self.content)?;
         put_methods(&mut fields, self.methods)?;
         put_challenge(&mut fields, self.asks_for_key)?;
+        put_tag(&mut fields, tag)?;
         Ok(fields)
     }
+}
+
+/// The header fields of a reply that says no more than the tag of a body. The only error is out of
+/// memory.
+pub(crate) fn tag_alone(alloc: Global, tag: HeaderValue) -> Result<HeaderMap, AllocError>
+    ensures { IfOk result (λ fields. fields ≡ insert [] (codes "etag") tag) }
+{
+    let mut fields = HeaderMap::new(alloc);
+    put(&mut fields, ETAG, tag)?;
+    Ok(fields)
 }
 
 impl Content {
@@ -124,6 +154,16 @@ fn content_of(target: &Option<Target<'_>>) -> Content
     }
 }
 
+// Whether what is answered there has a tag.
+fn tagging_of(target: &Option<Target<'_>>) -> Tagging
+    ensures { result ≡ tagging_at (option_map target_value target.now) }
+{
+    match target {
+        Some(Target::Status) => Tagging::Tagged,
+        _ => Tagging::Untagged,
+    }
+}
+
 fn methods_at(target: &Target<'_>) -> Methods
     ensures { result ≡ methods_of (target_value target.now) }
 {
@@ -152,6 +192,16 @@ fn put_challenge(fields: &mut HeaderMap, asks_for_key: bool) -> Result<(), Alloc
         put(fields, WWW_AUTHENTICATE, HeaderValue::from_static("Bearer"))
     } else {
         Ok(())
+    }
+}
+
+// The tag of the body, if it has one. Out of memory is the only error.
+fn put_tag(fields: &mut HeaderMap, tag: Option<HeaderValue>) -> Result<(), AllocError>
+    ensures { OnOk result (fields.new ≡ with_tag tag fields.old) }
+{
+    match tag {
+        None => Ok(()),
+        Some(tag) => put(fields, ETAG, tag),
     }
 }
 

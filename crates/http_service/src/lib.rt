@@ -28,12 +28,13 @@ mod labels;
 pub mod laws;
 mod permits;
 mod serving;
+mod tags;
 mod until_ended;
 
 pub use access::{Access, KeyFault};
-pub use ending::{Ending, Reason, Served};
+pub use ending::{Ended, Ending, Reason, Served};
 pub use fault::ServeFault;
 pub use handler::Handler;
 pub use http_replies::HttpReply;
-pub use labels::{Content, Labels, Methods};
+pub use labels::{Content, Labels, Methods, Tagging};
 pub use serving::{serve_all, serve_until_ended};

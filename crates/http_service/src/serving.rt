@@ -108,8 +108,8 @@ where
             (λ h. arc_value h ≡ arc_value self.now.handler)) }
         ensures access { IfSome result (λ c. credentials_in c.served.conn.service.access
             ≡ credentials_in self.now.access) }
-        ensures page { IfSome result (λ c. c.served.conn.service.access.has_page
-            ≡ self.now.access.has_page) }
+        ensures page { IfSome result (λ c. c.served.conn.service.access.page
+            ≡ self.now.access.page) }
         ensures port { IfSome result (λ c. c.served.conn.service.port ≡ self.now.port) }
     {
         let service = ConnectionService {

@@ -8,11 +8,12 @@ ghost use Rattle.http_service.specs.Endings.{labels_or_stop, stop_labels, stop_p
 
 use super::Handler;
 use crate::ending::Ending;
-use crate::labels::{Content, Labels, Methods};
+use crate::labels::{Content, Labels, Methods, Tagging};
 use http_replies::HttpReply;
 use message_format::MAX_MESSAGE;
 use std::alloc::{AllocError, Global};
 use std::sync::{Arc, Wait};
+use std::time::Clock;
 
 /// A handler, and the end of its service, which a client may ask for.
 #[derive(Drop)]
@@ -77,13 +78,14 @@ fn stop_labels(status: u16) -> Labels
             None
         },
         asks_for_key: false,
+        tagging: Tagging::Untagged,
     }
 }
 
 impl<H: Handler> Handler for EndingHandler<H> {
     ghost answers = { λ h. AnswersOrStops (H.answers (arc_value h.handler)) };
 
-    fn reply<R: Wait>(
+    fn reply<R: Wait + Clock>(
         &self,
         rt: &R,
         alloc: Global,

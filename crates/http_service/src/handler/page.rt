@@ -8,12 +8,13 @@ ghost use Rattle.http_service.specs.Pages.{labels_or_page, page_labels, page_pat
 ghost use Rattle.http_service.specs.Pages.{shows_page, AnswersOrShows};
 
 use super::Handler;
-use crate::labels::{Content, Labels, Methods};
+use crate::labels::{Content, Labels, Methods, Tagging};
 use http_replies::HttpReply;
 use message_format::MAX_MESSAGE;
 use operator_page::PAGE;
 use std::alloc::{AllocError, Global};
 use std::sync::{Arc, Wait};
+use std::time::Clock;
 
 /// A handler, and the page on which an operator sees its node, at `/`.
 #[derive(Drop)]
@@ -85,13 +86,14 @@ fn page_labels(status: u16) -> Labels
             None
         },
         asks_for_key: false,
+        tagging: Tagging::Untagged,
     }
 }
 
 impl<H: Handler> Handler for PageHandler<H> {
     ghost answers = { λ h. AnswersOrShows (H.answers (arc_value h.handler)) };
 
-    fn reply<R: Wait>(
+    fn reply<R: Wait + Clock>(
         &self,
         rt: &R,
         alloc: Global,

@@ -11,4 +11,4 @@ returns-clause-same g c = λ given.
 pub returns-in-Some-clause-value : goal.returns-in-Some-clause-value
 returns-in-Some-clause-value g c =
     refused_so g.H.Handler.answers g.H.Handler.labelled c.args.self.now c.in-Some.refusal c.reply-reply.result
-    c.labels.result c.respond.result c.in-Some.is c.reply-reply.ensures c.labels.ensures c.respond.ensures
+    c.labels.result c.respond-given.result c.in-Some.is c.reply-reply.ensures c.labels.ensures c.respond-given.ensures
