@@ -1,6 +1,6 @@
 use Rattle.http_replies.specs.Replies.{http_value}
 use Rattle.http_serve.proofs.Calls.{called_by}
-use Rattle.http_serve.proofs.handler.NodeHandler.call.Goals as goal
+use Rattle.http_serve.proofs.handler.NodeReader.call.Goals as goal
 
 pub returns : goal.returns
 returns g c =

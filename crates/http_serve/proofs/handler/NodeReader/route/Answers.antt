@@ -3,7 +3,7 @@ use Rattle.node_calls.specs.Told.{ask_told}
 use Rattle.http_routes.specs.Requests.{wanted}
 use Rattle.http_routes.proofs.Calls.{wanted_call}
 use Rattle.http_serve.specs.Served.{IsServedFrom}
-use Rattle.http_serve.proofs.handler.NodeHandler.answer_from.Goals as goal
+use Rattle.http_serve.proofs.handler.NodeReader.route.Goals as goal
 
 pub returns-in-Do : goal.returns-in-Do
 returns-in-Do g c =
