@@ -1,3 +1,4 @@
+mod Asking
 mod Commas
 mod Lasting
 mod Refusing

@@ -4,20 +4,27 @@
 //! what it noted into the status. Where a node hears first, a call is made only once a message of each
 //! other node was accepted; messages and reads are let through before that.
 //!
+//! Nodes tell only news. A node that was started again asks each other one to tell it anyway, at `/hello`: a
+//! second wrapper notes who did, for whoever tells them.
+//!
 //! ```rust
 //! let peers = Peers::new(alloc, 0, 3, Hearing::First)?;
 //! let handler = PeersHandler::new(alloc, handler, &peers)?;
 //! ```
 #![tactic(auto)]
 
+mod askers;
 mod code;
 mod handler;
 mod heard;
+mod hello;
 mod kind;
 pub mod laws;
 mod peers;
 mod shown;
 
+pub use askers::Askers;
 pub use handler::PeersHandler;
 pub use heard::{Cluster, Hearing};
+pub use hello::HelloHandler;
 pub use peers::Peers;
