@@ -1,12 +1,10 @@
 //! Who asked to be told.
 
-ghost use Rattle.std.specs.Prelude.{◌≡◌, slice_set, true, false, IfOk};
-ghost use Rattle.std.specs.Bool.{OnTrue};
+ghost use Rattle.std.specs.Prelude.{◌≡◌, slice_set, true, false};
 ghost use Rattle.http_peers.specs.Hello.{has_asked, nobody};
 
 use message_format::MAX_NODES;
-use std::alloc::{AllocError, Global};
-use std::sync::{Arc, Mutex, Wait};
+use std::sync::{Mutex, Wait};
 
 /// Of each number that a node can have, whether that node asked to be told, and wasn't looked for since.
 #[derive(Drop)]
@@ -51,28 +49,26 @@ impl Asked {
     }
 }
 
-/// The nodes that asked this one to tell them what it knows, whether or not it is news, until they are
-/// looked for: by who tells them.
+/// The nodes that asked to be told, behind a lock.
 #[derive(Drop)]
-pub struct Askers {
+pub(crate) struct Askers {
     asked: Mutex<Asked>,
 }
 
 impl Askers {
-    /// Nobody asked. The only error is out of memory.
-    pub fn new(alloc: Global) -> Result<Arc<Askers>, AllocError> {
-        let askers = Askers {
+    /// Nobody asked.
+    pub(crate) fn new() -> Askers {
+        Askers {
             asked: Mutex::new(Asked::new()),
-        };
-        Ok(Arc::new(alloc, askers)?)
+        }
     }
 
     pub(crate) fn note<R: Wait>(&self, rt: &R, node: u8) {
         self.asked.lock(rt).note(node);
     }
 
-    /// Whether a node asked since it was looked for last. Then it is to be told.
-    pub fn take<R: Wait>(&self, rt: &R, node: u8) -> bool {
+    /// Whether a node asked since it was looked for last.
+    pub(crate) fn take<R: Wait>(&self, rt: &R, node: u8) -> bool {
         self.asked.lock(rt).take(node)
     }
 }

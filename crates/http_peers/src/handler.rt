@@ -5,8 +5,10 @@ ghost use Rattle.std.specs.Arc.{arc_value};
 ghost use Rattle.message_format.specs.Spelling.{max_message};
 ghost use Rattle.http_replies.specs.Replies.{http_value};
 ghost use Rattle.http_peers.specs.Answers.{AnswersWithPeers, IsAnsweredCall, IsAnsweredStatus, IsWaiting};
+ghost use Rattle.http_peers.specs.Hello.{labels_or_hello, AnswersOrGreets};
 
 use crate::code::outcome_of;
+use crate::hello::{hello_labels, is_hello, reply_to_long_hello};
 use crate::kind::{Kind, kind_of, sender_of};
 use crate::peers::Peers;
 use http_replies::HttpReply;
@@ -101,8 +103,9 @@ impl<H: Handler> PeersHandler<H> {
 }
 
 impl<H: Handler> Handler for PeersHandler<H> {
-    ghost answers = { λ h. AnswersWithPeers (arc_value h.peers).hearing (arc_value h.peers).cluster
-        (H.answers (arc_value h.handler)) };
+    ghost answers = { λ h. AnswersOrGreets (arc_value h.peers).cluster
+        (AnswersWithPeers (arc_value h.peers).hearing (arc_value h.peers).cluster
+        (H.answers (arc_value h.handler))) };
 
     fn reply<R: Wait + Clock>(
         &self,
@@ -112,6 +115,9 @@ impl<H: Handler> Handler for PeersHandler<H> {
         path: &str,
         body: Vec<u8>,
     ) -> HttpReply {
+        if is_hello(path) {
+            return self.peers.greet(rt, alloc, method, &body);
+        }
         match kind_of(method, path, body.len()) {
             Kind::Call => self.reply_to_call(rt, alloc, method, path, body),
             Kind::Delivery => self.reply_to_delivery(rt, alloc, method, path, body),
@@ -121,12 +127,18 @@ impl<H: Handler> Handler for PeersHandler<H> {
     }
 
     fn reply_too_long(&self, alloc: Global, method: &str, path: &str) -> HttpReply {
+        if is_hello(path) {
+            return reply_to_long_hello(alloc, self.peers.cluster, method);
+        }
         self.handler.reply_too_long(alloc, method, path)
     }
 
-    ghost labelled = { H.labelled };
+    ghost labelled = { labels_or_hello H.labelled };
 
     fn labels(&self, path: &str, status: u16) -> Labels {
+        if is_hello(path) {
+            return hello_labels(status);
+        }
         self.handler.labels(path, status)
     }
 }

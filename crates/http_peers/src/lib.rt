@@ -4,8 +4,8 @@
 //! what it noted into the status. Where a node hears first, a call is made only once a message of each
 //! other node was accepted; messages and reads are let through before that.
 //!
-//! Nodes tell only news. A node that was started again asks each other one to tell it anyway, at `/hello`: a
-//! second wrapper notes who did, for whoever tells them.
+//! Nodes tell only news. One that was started again asks each other one to tell it anyway, at `/hello`: who
+//! did is noted, for whoever tells them.
 //!
 //! ```rust
 //! let peers = Peers::new(alloc, 0, 3, Hearing::First)?;
@@ -23,8 +23,6 @@ pub mod laws;
 mod peers;
 mod shown;
 
-pub use askers::Askers;
 pub use handler::PeersHandler;
 pub use heard::{Cluster, Hearing};
-pub use hello::HelloHandler;
 pub use peers::Peers;

@@ -5,6 +5,7 @@ ghost use Rattle.std.specs.Arc.{arc_value};
 ghost use Rattle.http_replies.specs.Replies.{http_value};
 ghost use Rattle.http_peers.specs.Answers.{IsAwaited, IsShown};
 
+use crate::askers::Askers;
 use crate::code::Outcome;
 use crate::heard::{Cluster, Heard, Hearing};
 use crate::shown::with_peers;
@@ -19,6 +20,7 @@ pub struct Peers {
     pub cluster: Cluster,
     pub hearing: Hearing,
     heard: Mutex<Heard>,
+    pub(crate) askers: Askers,
 }
 
 impl Peers {
@@ -38,6 +40,7 @@ impl Peers {
             cluster: Cluster { own, nodes },
             hearing,
             heard: Mutex::new(Heard::new()),
+            askers: Askers::new(),
         };
         Ok(Arc::new(alloc, peers)?)
     }
@@ -48,6 +51,12 @@ impl Peers {
         ensures { IsAwaited self.now.hearing self.now.cluster result }
     {
         self.heard.lock(rt).awaited(self.hearing, self.cluster)
+    }
+
+    /// Whether another node asked, at `/hello`, since it was looked for last: then it is to be told what
+    /// this one knows, whether or not that is news.
+    pub fn has_asked<R: Wait>(&self, rt: &R, node: u8) -> bool {
+        self.askers.take(rt, node)
     }
 
     // Notes what a message with this sender came to just now.
