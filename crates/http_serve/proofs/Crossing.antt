@@ -11,7 +11,11 @@ use Rattle.node_registry.specs.contracts.guarded.Seat as Seat
 use Rattle.node_registry.proofs.registry.Registry.TheSendSync as registry
 use Rattle.node_registry.proofs.guarded.Seat.TheSendSync as seat
 use Rattle.http_paths.proofs.Crossing.{routes_send, routes_sync}
-use Rattle.http_serve.specs.contracts.handler.ForgettingHandler as ForgettingHandler
+use Rattle.http_peers.specs.contracts.handler.PeersHandler as PeersHandler
+use Rattle.http_peers.proofs.Crossing as peers
+use Rattle.http_serve.specs.contracts.handler.forgetting.ForgettingHandler as ForgettingHandler
+use Rattle.http_serve.specs.contracts.handler.forgetting.ForgottenSeat as ForgottenSeat
+use Rattle.http_serve.proofs.handler.forgetting.ForgottenSeat.TheSendSync as forgotten
 use Rattle.http_serve.specs.contracts.handler.NodeHandler as NodeHandler
 use Rattle.http_serve.specs.contracts.handler.NodeReader as NodeReader
 use Rattle.http_serve.specs.contracts.handler.recording.RecordingHandler as RecordingHandler
@@ -54,17 +58,29 @@ handler_sync L g g' =
     recorded_sync (NodeHandler.the_field L g g').row _ _ (NodeHandler.the_type L g g').to_one
     (handler_fields_sync L g g')
 
+forgetting_fields_send : (L : RattleType) (g : label.Ghosts L.Denot) (g' : ledger.Ghosts L.Denot) →
+    IsSend (ForgettingHandler.the_field L g g').row
+forgetting_fields_send L g g' =
+    let behind = mutex.the_send (ForgottenSeat.the_row L g g') (forgotten.the_send L g g') in
+    struct_send (shape (ForgettingHandler.the_type L g g')) (reader_fields_send L g g', (behind, tt))
+
+forgetting_fields_sync : (L : RattleType) (g : label.Ghosts L.Denot) (g' : ledger.Ghosts L.Denot) →
+    IsSync (ForgettingHandler.the_field L g g').row
+forgetting_fields_sync L g g' =
+    let behind = mutex.the_sync (ForgottenSeat.the_row L g g') (forgotten.the_send L g g') in
+    struct_sync (shape (ForgettingHandler.the_type L g g')) (reader_fields_sync L g g', (behind, tt))
+
 pub forgetting_send : (L : RattleType) (g : label.Ghosts L.Denot) (g' : ledger.Ghosts L.Denot) →
     IsSend (ForgettingHandler.the_row L g g')
 forgetting_send L g g' =
     recorded_send (ForgettingHandler.the_field L g g').row _ _ (ForgettingHandler.the_type L g g').to_one
-    (struct_send (shape (ForgettingHandler.the_type L g g')) (handler_fields_send L g g', tt))
+    (forgetting_fields_send L g g')
 
 pub forgetting_sync : (L : RattleType) (g : label.Ghosts L.Denot) (g' : ledger.Ghosts L.Denot) →
     IsSync (ForgettingHandler.the_row L g g')
 forgetting_sync L g g' =
     recorded_sync (ForgettingHandler.the_field L g g').row _ _ (ForgettingHandler.the_type L g g').to_one
-    (struct_sync (shape (ForgettingHandler.the_type L g g')) (handler_fields_sync L g g', tt))
+    (forgetting_fields_sync L g g')
 
 recording_fields_send : (L : RattleType) (g : label.Ghosts L.Denot) (g' : ledger.Ghosts L.Denot) →
     IsSend (RecordingHandler.the_field L g g').row
@@ -89,3 +105,34 @@ pub recording_sync : (L : RattleType) (g : label.Ghosts L.Denot) (g' : ledger.Gh
 recording_sync L g g' =
     recorded_sync (RecordingHandler.the_field L g g').row _ _ (RecordingHandler.the_type L g g').to_one
     (recording_fields_sync L g g')
+
+-- each of them behind what is heard of peers
+pub hearing_handler_send : (L : RattleType) (g : label.Ghosts L.Denot) (g' : ledger.Ghosts L.Denot) →
+    IsSend (PeersHandler.the_row (NodeHandler.the_row L g g'))
+hearing_handler_send L g g' =
+    peers.handler_send (NodeHandler.the_row L g g') (handler_send L g g') (handler_sync L g g')
+
+pub hearing_handler_sync : (L : RattleType) (g : label.Ghosts L.Denot) (g' : ledger.Ghosts L.Denot) →
+    IsSync (PeersHandler.the_row (NodeHandler.the_row L g g'))
+hearing_handler_sync L g g' =
+    peers.handler_sync (NodeHandler.the_row L g g') (handler_send L g g') (handler_sync L g g')
+
+pub hearing_forgetting_send : (L : RattleType) (g : label.Ghosts L.Denot) (g' : ledger.Ghosts L.Denot) →
+    IsSend (PeersHandler.the_row (ForgettingHandler.the_row L g g'))
+hearing_forgetting_send L g g' =
+    peers.handler_send (ForgettingHandler.the_row L g g') (forgetting_send L g g') (forgetting_sync L g g')
+
+pub hearing_forgetting_sync : (L : RattleType) (g : label.Ghosts L.Denot) (g' : ledger.Ghosts L.Denot) →
+    IsSync (PeersHandler.the_row (ForgettingHandler.the_row L g g'))
+hearing_forgetting_sync L g g' =
+    peers.handler_sync (ForgettingHandler.the_row L g g') (forgetting_send L g g') (forgetting_sync L g g')
+
+pub hearing_recording_send : (L : RattleType) (g : label.Ghosts L.Denot) (g' : ledger.Ghosts L.Denot) →
+    IsSend (PeersHandler.the_row (RecordingHandler.the_row L g g'))
+hearing_recording_send L g g' =
+    peers.handler_send (RecordingHandler.the_row L g g') (recording_send L g g') (recording_sync L g g')
+
+pub hearing_recording_sync : (L : RattleType) (g : label.Ghosts L.Denot) (g' : ledger.Ghosts L.Denot) →
+    IsSync (PeersHandler.the_row (RecordingHandler.the_row L g g'))
+hearing_recording_sync L g g' =
+    peers.handler_sync (RecordingHandler.the_row L g g') (recording_send L g g') (recording_sync L g g')

@@ -32,6 +32,7 @@ pub enum Methods {
     Get,
     Post,
     PutOrDelete,
+    PutOrPost,
 }
 
 /// Whether a body is told with a tag, by which a client may ask later for another one only.
@@ -140,6 +141,7 @@ impl Methods {
             Methods::Get => HeaderValue::from_static("GET"),
             Methods::Post => HeaderValue::from_static("POST"),
             Methods::PutOrDelete => HeaderValue::from_static("PUT, DELETE"),
+            Methods::PutOrPost => HeaderValue::from_static("PUT, POST"),
         }
     }
 }

@@ -1,0 +1,6 @@
+mod Asking
+mod Commas
+pub mod Crossing
+mod Lasting
+mod Refusing
+mod Senders

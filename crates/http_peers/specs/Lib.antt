@@ -1,0 +1,7 @@
+pub mod Answers
+pub mod Codes
+pub mod Faults
+pub mod Heard
+pub mod Hello
+pub mod Kinds
+pub mod Shown
