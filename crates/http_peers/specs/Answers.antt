@@ -24,14 +24,14 @@ abbrev pub IsAwaited : Hearing → Cluster → Option ℕ → Type 0
 IsAwaited hearing cluster node = (rows : List Row) × (node ≡ awaited hearing cluster rows)
 
 -- a reply of 200 with these rows in it, and any other one as it is
-abbrev pub IsWithPeers : Cluster → List Row → ℕ → ReplyValue → ReplyValue → Type 0
-IsWithPeers cluster rows now inner given =
-    MatchBool (inner.status == 200) (IsReply (text_reply 200 (with_peers cluster rows now inner.body)) given)
+abbrev pub IsWithPeers : Cluster → List Row → ReplyValue → ReplyValue → Type 0
+IsWithPeers cluster rows inner given =
+    MatchBool (inner.status == 200) (IsReply (text_reply 200 (with_peers cluster rows inner.body)) given)
     (given ≡ inner)
 
--- with some rows, at some time
+-- with some rows
 abbrev pub IsShown : Cluster → ReplyValue → ReplyValue → Type 0
-IsShown cluster inner given = (rows : List Row) × (now : ℕ) × IsWithPeers cluster rows now inner given
+IsShown cluster inner given = (rows : List Row) × IsWithPeers cluster rows inner given
 
 -- by some rows the call waits for a node, or it is answered by the handler
 abbrev pub IsAnsweredCall : Hearing → Cluster → (ReplyValue → Type 0) → ReplyValue → Type 0

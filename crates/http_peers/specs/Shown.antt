@@ -15,10 +15,10 @@ joined texts = join_with_byte 44 texts
 abbrev pub number_text : ℕ → List ℕ
 number_text number = codes "\"" ++ (decimal number ++ codes "\"")
 
--- how many milliseconds ago, or that it never was
-abbrev pub heard_text : ℕ → Option ℕ → List ℕ
-heard_text now None = codes "null"
-heard_text now (Some at) = number_text (now - at)
+-- when, or that it never was
+abbrev pub heard_text : Option ℕ → List ℕ
+heard_text None = codes "null"
+heard_text (Some at) = number_text at
 
 abbrev pub is_counted : Row → Code → Bool
 is_counted row code = nat_lt 0 (count_of row.refused code)
@@ -31,8 +31,8 @@ unfoldable pub refused_text : Row → List ℕ
 refused_text row = joined (map (count_text row) (filter (is_counted row) all_codes))
 
 -- the members of a row
-abbrev pub heard_member : ℕ → Row → List ℕ
-heard_member now row = codes "\"heard\":" ++ heard_text now row.heard
+abbrev pub heard_member : Row → List ℕ
+heard_member row = codes "\"heard\":" ++ heard_text row.heard
 
 abbrev pub node_member : ℕ → List ℕ
 node_member node = codes "\"node\":" ++ number_text node
@@ -40,16 +40,16 @@ node_member node = codes "\"node\":" ++ number_text node
 abbrev pub refused_member : Row → List ℕ
 refused_member row = codes "\"refused\":{" ++ (refused_text row ++ codes "}")
 
-unfoldable pub row_text : ℕ → List Row → ℕ → List ℕ
-row_text now rows node =
-    codes "{" ++ (heard_member now (row_at rows node) ++ (codes "," ++ (node_member node ++
+unfoldable pub row_text : List Row → ℕ → List ℕ
+row_text rows node =
+    codes "{" ++ (heard_member (row_at rows node) ++ (codes "," ++ (node_member node ++
     (codes "," ++ (refused_member (row_at rows node) ++ codes "}")))))
 
-unfoldable pub rows_text : Cluster → List Row → ℕ → List ℕ
-rows_text cluster rows now =
-    joined (map (row_text now rows) (filter (is_peer cluster) (range_with_len 0 cluster.nodes)))
+unfoldable pub rows_text : Cluster → List Row → List ℕ
+rows_text cluster rows =
+    joined (map (row_text rows) (filter (is_peer cluster) (range_with_len 0 cluster.nodes)))
 
 -- an object without its last brace, with its last member behind it
-abbrev pub with_peers : Cluster → List Row → ℕ → List ℕ → List ℕ
-with_peers cluster rows now text =
-    take (length text - 1) text ++ (codes ",\"peers\":[" ++ (rows_text cluster rows now ++ codes "]}"))
+abbrev pub with_peers : Cluster → List Row → List ℕ → List ℕ
+with_peers cluster rows text =
+    take (length text - 1) text ++ (codes ",\"peers\":[" ++ (rows_text cluster rows ++ codes "]}"))

@@ -26,7 +26,7 @@ pub enum Hearing {
 /// What was heard of one node.
 #[derive(Clone, Copy)]
 pub(crate) struct Row {
-    /// When a message of it was accepted last, in milliseconds since some start of the clock.
+    /// When a message of it was accepted last, in milliseconds since 1970.
     pub(crate) heard: Option<u64>,
     /// How many of its messages were refused, by the place of the code.
     pub(crate) refused: [u64; CODES],

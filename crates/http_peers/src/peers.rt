@@ -74,15 +74,14 @@ impl Peers {
     ) -> HttpReply
         ensures { IsShown self.now.cluster (http_value reply) (http_value result) }
     {
-        let now = now_of(rt);
         let heard = self.heard.lock(rt);
-        with_peers(alloc, self.cluster, &heard, now, reply)
+        with_peers(alloc, self.cluster, &heard, reply)
     }
 }
 
-// The time of the clock in milliseconds. A clock that can't be read stands at its start.
+// The milliseconds since 1970, by the machine's clock. One that can't be read stands at its start.
 fn now_of<R: Clock>(rt: &R) -> u64 {
-    match rt.monotonic() {
+    match rt.since_1970() {
         Ok(since) => u64::try_from(since.as_millis()).unwrap_or(u64::MAX),
         Err(_) => 0,
     }

@@ -23,12 +23,12 @@ fn push_number(out: &mut Vec<u8>, number: u64) -> Result<(), AllocError>
     out.extend_from_slice(b"\"")
 }
 
-fn push_heard(out: &mut Vec<u8>, now: u64, heard: Option<u64>) -> Result<(), AllocError>
-    ensures { OnOk result (out.new.items ≡ out.old.items ++ heard_text now heard) }
+fn push_heard(out: &mut Vec<u8>, heard: Option<u64>) -> Result<(), AllocError>
+    ensures { OnOk result (out.new.items ≡ out.old.items ++ heard_text heard) }
 {
     match heard {
         None => out.extend_from_slice(b"null"),
-        Some(at) => push_number(out, now.saturating_sub(at)),
+        Some(at) => push_number(out, at),
     }
 }
 
@@ -62,11 +62,11 @@ fn push_refused(out: &mut Vec<u8>, row: &Row) -> Result<(), AllocError>
     Ok(())
 }
 
-fn push_heard_member(out: &mut Vec<u8>, now: u64, row: &Row) -> Result<(), AllocError>
-    ensures { OnOk result (out.new.items ≡ out.old.items ++ heard_member now row.now) }
+fn push_heard_member(out: &mut Vec<u8>, row: &Row) -> Result<(), AllocError>
+    ensures { OnOk result (out.new.items ≡ out.old.items ++ heard_member row.now) }
 {
     out.extend_from_slice(b"\"heard\":")?;
-    push_heard(out, now, row.heard)
+    push_heard(out, row.heard)
 }
 
 fn push_node_member(out: &mut Vec<u8>, node: u8) -> Result<(), AllocError>
@@ -85,12 +85,12 @@ fn push_refused_member(out: &mut Vec<u8>, row: &Row) -> Result<(), AllocError>
 }
 
 // A node with what was heard of it.
-fn push_row(out: &mut Vec<u8>, now: u64, heard: &Heard, node: u8) -> Result<(), AllocError>
-    ensures { OnOk result (out.new.items ≡ out.old.items ++ row_text now heard.now.rows node) }
+fn push_row(out: &mut Vec<u8>, heard: &Heard, node: u8) -> Result<(), AllocError>
+    ensures { OnOk result (out.new.items ≡ out.old.items ++ row_text heard.now.rows node) }
 {
     let row = heard.row(node);
     out.extend_from_slice(b"{")?;
-    push_heard_member(out, now, &row)?;
+    push_heard_member(out, &row)?;
     out.extend_from_slice(b",")?;
     push_node_member(out, node)?;
     out.extend_from_slice(b",")?;
@@ -99,15 +99,15 @@ fn push_row(out: &mut Vec<u8>, now: u64, heard: &Heard, node: u8) -> Result<(), 
 }
 
 // The other nodes, each behind a comma but the first.
-fn push_rows(out: &mut Vec<u8>, cluster: Cluster, heard: &Heard, now: u64) -> Result<(), AllocError>
+fn push_rows(out: &mut Vec<u8>, cluster: Cluster, heard: &Heard) -> Result<(), AllocError>
     ensures { OnOk result (out.new.items
-        ≡ out.old.items ++ rows_text cluster heard.now.rows now) }
+        ≡ out.old.items ++ rows_text cluster heard.now.rows) }
 {
     let mut separator: &[u8] = b"";
     for node in 0..cluster.nodes {
         if cluster.is_peer(node) {
             out.extend_from_slice(separator)?;
-            push_row(out, now, heard, node)?;
+            push_row(out, heard, node)?;
             separator = b",";
         }
     }
@@ -115,38 +115,31 @@ fn push_rows(out: &mut Vec<u8>, cluster: Cluster, heard: &Heard, now: u64) -> Re
 }
 
 // The last member of an object whose last brace isn't there.
-fn push_peers(
-    out: &mut Vec<u8>,
-    cluster: Cluster,
-    heard: &Heard,
-    now: u64,
-) -> Result<(), AllocError>
+fn push_peers(out: &mut Vec<u8>, cluster: Cluster, heard: &Heard) -> Result<(), AllocError>
     ensures { OnOk result (out.new.items ≡ out.old.items
-        ++ (codes ",\"peers\":[" ++ (rows_text cluster heard.now.rows now ++ codes "]}"))) }
+        ++ (codes ",\"peers\":[" ++ (rows_text cluster heard.now.rows ++ codes "]}"))) }
 {
     out.extend_from_slice(b",\"peers\":[")?;
-    push_rows(out, cluster, heard, now)?;
+    push_rows(out, cluster, heard)?;
     out.extend_from_slice(b"]}")
 }
 
 /// A reply whose body is an object of JSON, with the other nodes as its last member; a reply with
-/// another status than 200 is as it was. The time is in milliseconds since the start of the clock that
-/// the rows were noted by.
+/// another status than 200 is as it was.
 pub(crate) fn with_peers(
     alloc: Global,
     cluster: Cluster,
     heard: &Heard,
-    now: u64,
     reply: HttpReply,
 ) -> HttpReply
-    ensures { IsWithPeers cluster heard.now.rows now (http_value reply) (http_value result) }
+    ensures { IsWithPeers cluster heard.now.rows (http_value reply) (http_value result) }
 {
     if reply.status != 200 {
         return reply;
     }
     let mut body = reply.body;
     let _ = body.pop();
-    match push_peers(&mut body, cluster, heard, now) {
+    match push_peers(&mut body, cluster, heard) {
         Ok(()) => HttpReply { status: 200, body },
         Err(_) => HttpReply::no_memory(alloc),
     }

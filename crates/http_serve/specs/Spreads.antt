@@ -5,10 +5,9 @@ use Rattle.node_registry.specs.Batches.{IsBatch}
 use Rattle.http_paths.specs.Paths.{target_of}
 use Rattle.http_replies.specs.Replies.{ReplyValue}
 use Rattle.http_routes.specs.Requests.{wanted}
-use Rattle.http_service.specs.declared.labels.Content.TheVariants.{Text}
 use Rattle.http_service.specs.declared.labels.Methods.TheVariants.{PutOrPost}
 use Rattle.http_service.specs.declared.labels.Labels.{Labels}
-use Rattle.http_service.specs.Labels.{labels_of}
+use Rattle.http_service.specs.Labels.{labels_of, plain_labels}
 use Rattle.spread_routes.specs.Answers.{AnswersSpread}
 use Rattle.spread_routes.specs.Paths.{spread_name}
 use Rattle.spread_routes.specs.Wanted.{SpreadValue, spread_wanted}
@@ -46,7 +45,7 @@ AnswersRequest config seed keeps seats method path body given =
 -- the replies to spreads are texts; where the method was another one, with those that there are
 abbrev pub spread_labels : ℕ → Labels
 spread_labels status =
-    record { content = Text; methods = if status == 405 then Some PutOrPost else None; asks_for_key = false }
+    record plain_labels { methods = if status == 405 then Some PutOrPost else None }
 
 abbrev pub node_labels : List ℕ → ℕ → Labels
 node_labels path status =

@@ -18,7 +18,7 @@ mod spreading;
 pub(crate) use forgetting::ForgettingHandler;
 use http_paths::Routes;
 use http_routes::{HttpReply, ReplyRoom, Wanted, node_status, route_owned, too_long};
-use http_service::{Content, Handler, Labels, Methods};
+use http_service::{Handler, Labels, Methods};
 use node_core::Ask;
 use node_registry::{Label, Registry, Seat};
 pub(crate) use recording::RecordingHandler;
@@ -42,13 +42,12 @@ fn spread_labels(status: u16) -> Labels
     ensures { result ≡ spread_labels status }
 {
     Labels {
-        content: Content::Text,
         methods: if status == 405 {
             Some(Methods::PutOrPost)
         } else {
             None
         },
-        asks_for_key: false,
+        ..Labels::plain()
     }
 }
 

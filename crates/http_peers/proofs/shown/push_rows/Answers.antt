@@ -8,7 +8,7 @@ use Rattle.http_peers.proofs.shown.push_rows.Goals.{then-is_peer+in_ok-extend_fr
 
 pub loop-node-preserved : goal.loop-node-preserved
 loop-node-preserved c =
-    let shown = row_text c.args.now c.args.heard.now.rows in
+    let shown = row_text c.args.heard.now.rows in
     let n = c.loop-node.node in
     let before = range_with_len 0 n in
     let after = range_with_len 0 (n + 1) in
@@ -37,7 +37,7 @@ loop-node-preserved c =
 pub returns : goal.returns
 unfolding rows_text
 returns c =
-    let shown = row_text c.args.now c.args.heard.now.rows in
+    let shown = row_text c.args.heard.now.rows in
     let end : c.loop-node.node ≡ c.args.cluster.nodes = omega arith in
     c.loop-node.invariant.so_far
     ∙ ap (λ n. c.args.out.now.items ++ joined (texts shown (is_peer c.args.cluster) (range_with_len 0 n))) end
