@@ -1,7 +1,7 @@
 -- What each entry of a map adds to the sums by place.
 use Rattle.std.specs.Prelude.{◌≡◌, ◌≢◌, ◌<◌, ◌≤◌, ◌+◌, ◌*◌, ◌^◌, ◌==◌, ℕ, cond, List, [], ◌∷◌, length, get_or, slice_set, replicate, map, ℤ, pos, ◌+ℤ◌, ◌-ℤ◌, ◌≤ℤ◌}
 use Rattle.std.specs.List.{range_with_len}
-use Rattle.std.proofs.Common.{ap, arith, refl, subst, sym, ◌∙◌, ⊎_elim}
+use Rattle.std.proofs.Common.{ap, arith, refl, ◌∙◌, ⊎_elim}
 use Rattle.std.proofs.Math.ListN.{length-set}
 use Rattle.std.proofs.lemmas.Bool.{cases_eq, cases_lt}
 use Rattle.std.proofs.lemmas.Int.{ints}
@@ -11,9 +11,9 @@ use Rattle.lattice_laws.specs.Max.{zero_max}
 use Rattle.lattice_laws.specs.declared.max.Max.{Max}
 use mir.Syntax.{w128}
 use mir.Val.{SFits, of_z, to_z}
-use Rattle.counters.specs.Sums.{node_numbers, sum_below, sum_others, AddsEach, AreWithin}
+use Rattle.counters.specs.Sums.{node_numbers, sum_others, AddsEach, AreWithin}
 use Rattle.counters.specs.Budgets.{rights}
-use Rattle.counters.specs.Cells.{Cells, Rows, Shares, cell, row_cell, came_to, went_from, budget_of, moved_cell, spent_cell}
+use Rattle.counters.specs.Cells.{Cells, Rows, Shares, cell, row_cell, came_to, went_from, budget_of}
 use Rattle.counters.proofs.EntrySums.{counts-entry, sum-entry}
 use Rattle.counters.proofs.CellLemmas.{AreApart, below-numbers, chosen-other, chosen-same, total_of_others-empty}
 use Rattle.counters.proofs.SumLemmas.{sum_others-and}

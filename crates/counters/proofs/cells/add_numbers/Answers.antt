@@ -1,8 +1,8 @@
-use Rattle.std.specs.Prelude.{◌≡◌, ◌≢◌, ◌<◌, ◌≤◌, ◌+◌, ◌*◌, ◌==◌, ◌^◌, ℕ, cond, List, [], ◌∷◌, length, get_or, ℤ, pos, ◌+ℤ◌, ◌-ℤ◌}
+use Rattle.std.specs.Prelude.{◌≡◌, ◌≢◌, ◌<◌, ◌≤◌, ◌+◌, ◌*◌, ◌==◌, ◌^◌, ℕ, cond, [], ◌∷◌, get_or, ℤ, pos, ◌+ℤ◌}
 use Rattle.std.proofs.Common.{ap, arith, refl, rules, sym, ◌∙◌}
 use Rattle.std.proofs.Math.ListN.{length-set}
 use Rattle.std.proofs.lemmas.Int.{ints}
-use Rattle.counters.specs.Sums.{node_numbers, sum_below, AddsEach}
+use Rattle.counters.specs.Sums.{node_numbers, sum_below}
 use Rattle.counters.specs.Cells.{cell}
 use Rattle.counters.proofs.CellLemmas.{apart-map, apart-tail, cell-bound, chosen-other, chosen-same, total-bound, total-empty, total-entry}
 use Rattle.counters.proofs.WriteLemmas.{empty_cell}

@@ -1,8 +1,7 @@
-use Rattle.std.specs.Prelude.{◌≡◌, ◌≢◌, ◌<◌, ◌≤◌, ◌+◌, ◌*◌, ◌==◌, ◌^◌, ℕ, cond, List, [], ◌∷◌, length, get_or, ℤ, pos, ◌+ℤ◌, ◌-ℤ◌}
-use Rattle.std.proofs.Common.{ap, arith, refl, rules, sym, ◌∙◌}
+use Rattle.std.specs.Prelude.{◌≡◌, ◌<◌, ◌^◌, [], get_or, pos}
+use Rattle.std.proofs.Common.{arith, refl, rules, ◌∙◌}
 use Rattle.std.proofs.lemmas.Int.{ints}
-use Rattle.counters.specs.Sums.{node_numbers, sum_others, AddsEach}
-use Rattle.counters.specs.Cells.{cell, came_to, went_from}
+use Rattle.counters.specs.Cells.{came_to, went_from}
 use Rattle.counters.proofs.CellLemmas.{apart-map, apart-tail, came_to-bound, came_to-empty, went_from-bound, went_from-empty}
 use Rattle.counters.proofs.Columns.{bounds-rows, came-entry, went-entry, within-places}
 use Rattle.counters.proofs.cells.add_rows.Goals as goal
