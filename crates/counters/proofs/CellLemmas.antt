@@ -11,7 +11,7 @@ use Rattle.lattice_laws.specs.Map.{IsMap, MapOrder, admitted_at, map_order, valu
 use Rattle.lattice_laws.specs.Max.{IsAtMost, IsNumber, max_order, zero_max}
 use Rattle.lattice_laws.specs.declared.max.Max.{Max}
 use Rattle.counters.specs.Sums.{node_numbers, sum_below, sum_others}
-use Rattle.counters.specs.Cells.{Cells, Rows, cell, row_cell}
+use Rattle.counters.specs.Cells.{Cells, Rows, came_to, cell, row_cell, went_from}
 use Rattle.counters.proofs.EntrySums.{sum_below-bound, sum-entry}
 use Rattle.counters.proofs.SumLemmas.{sum_others-zero, sum-zero}
 
@@ -34,7 +34,7 @@ pub apart-tail : {J : Type 0} (k : ℕ) (v : J) (rest : List (ℕ × J)) → Are
 apart-tail k v rest h = IsDistinct-tail (eq_by_cmp nat_cmp) k (keys_of rest) h
 
 -- a node's number is a number of 8 bits
-below-numbers : (k : ℕ) → k < 256 → k < node_numbers
+pub below-numbers : (k : ℕ) → k < 256 → k < node_numbers
 unfolding node_numbers
 below-numbers k h = h
 
@@ -163,6 +163,12 @@ pub total_of_own-bound : (rows : Rows) → AreRows rows → sum_below node_numbe
     2 ^ 64
 total_of_own-bound rows h = bound (λ node. row_cell rows node node) (λ node. row_cell-bound rows h node node)
 
+pub came_to-bound : (node : ℕ) (rows : Rows) → AreRows rows → came_to rows node ≤ 256 * 2 ^ 64
+came_to-bound node rows h = bound (λ from. row_cell rows from node) (λ from. row_cell-bound rows h from node)
+
+pub went_from-bound : (node : ℕ) (rows : Rows) → AreRows rows → went_from rows node ≤ 256 * 2 ^ 64
+went_from-bound node rows h = bound-others node (row_cell rows node) (λ to. row_cell-bound rows h node to)
+
 -- nothing is left where no entries are
 pub total-empty : sum_below node_numbers (cell []) ≡ 0
 unfolding cell
@@ -179,3 +185,11 @@ total_from_others-empty node = sum_others-zero node_numbers node (λ q. 0) (λ q
 pub total_of_own-empty : sum_below node_numbers (λ node. row_cell [] node node) ≡ 0
 unfolding cell row_cell
 total_of_own-empty = sum-zero node_numbers (λ q. 0) (λ q. refl)
+
+pub came_to-empty : (node : ℕ) → came_to [] node ≡ 0
+unfolding cell row_cell
+came_to-empty node = sum-zero node_numbers (λ q. 0) (λ q. refl)
+
+pub went_from-empty : (node : ℕ) → went_from [] node ≡ 0
+unfolding cell row_cell
+went_from-empty node = sum_others-zero node_numbers node (λ q. 0) (λ q. refl)

@@ -28,16 +28,12 @@ module _ {J : Type 0} (bottom : J) where
   value_at-past k v rest distinct = ap (λ (o : Option J). unwrap_or o bottom)
       (none_after nat_cmp_total (k, v) rest k distinct (at_itself k))
 
-  -- an entry more adds what it counts for
-  pub sum-entry : (n : ℕ) (counts : ℕ → J → ℕ) → ((q : ℕ) → counts q bottom ≡ 0)
-      → (k : ℕ) (v : J) (rest : List (ℕ × J)) → k < n → IsDistinct (eq_by_cmp nat_cmp) (keys_of ((k, v) ∷ rest))
-      → sum_below n (λ q. counts q (value_at nat_cmp bottom ((k, v) ∷ rest) q))
-      ≡ counts k v + sum_below n (λ q. counts q (value_at nat_cmp bottom rest q))
-  sum-entry n counts none k v rest below distinct =
-      sum-same n _ (λ q. cond (q == k) (counts k v) 0 + counts q (value_at nat_cmp bottom rest q))
-      (λ q l. at q (q == k) refl) ∙
-      sum-add n (λ q. cond (q == k) (counts k v) 0) (λ q. counts q (value_at nat_cmp bottom rest q)) ∙
-      ap (λ m. m + sum_below n (λ q. counts q (value_at nat_cmp bottom rest q))) (sum-at n k (counts k v) below)
+  -- what is counted at a node with an entry more
+  pub counts-entry : (counts : ℕ → J → ℕ) → ((q : ℕ) → counts q bottom ≡ 0) → (k : ℕ) (v : J) (rest : List (ℕ × J))
+      → IsDistinct (eq_by_cmp nat_cmp) (keys_of ((k, v) ∷ rest)) → (q : ℕ)
+      → counts q (value_at nat_cmp bottom ((k, v) ∷ rest) q)
+      ≡ cond (q == k) (counts k v) 0 + counts q (value_at nat_cmp bottom rest q)
+  counts-entry counts none k v rest distinct q = at q (q == k) refl
     where
       at : (q : ℕ) (t : Bool) → (q == k) ≡ t
           → counts q (value_at nat_cmp bottom ((k, v) ∷ rest) q)
@@ -55,6 +51,17 @@ module _ {J : Type 0} (bottom : J) where
           let here : counts q (value_at nat_cmp bottom ((k, v) ∷ rest) q) ≡ counts q (value_at nat_cmp bottom rest q) =
           ap (counts q) (value_at-tail k v rest q (eqb-false q k e)) in
           omega arith
+
+  -- an entry more adds what it counts for
+  pub sum-entry : (n : ℕ) (counts : ℕ → J → ℕ) → ((q : ℕ) → counts q bottom ≡ 0)
+      → (k : ℕ) (v : J) (rest : List (ℕ × J)) → k < n → IsDistinct (eq_by_cmp nat_cmp) (keys_of ((k, v) ∷ rest))
+      → sum_below n (λ q. counts q (value_at nat_cmp bottom ((k, v) ∷ rest) q))
+      ≡ counts k v + sum_below n (λ q. counts q (value_at nat_cmp bottom rest q))
+  sum-entry n counts none k v rest below distinct =
+      sum-same n _ (λ q. cond (q == k) (counts k v) 0 + counts q (value_at nat_cmp bottom rest q))
+      (λ q l. counts-entry counts none k v rest distinct q) ∙
+      sum-add n (λ q. cond (q == k) (counts k v) 0) (λ q. counts q (value_at nat_cmp bottom rest q)) ∙
+      ap (λ m. m + sum_below n (λ q. counts q (value_at nat_cmp bottom rest q))) (sum-at n k (counts k v) below)
 
 -- each part of a sum that is at most a bound
 pub sum_below-bound : (n m : ℕ) (f : ℕ → ℕ) → ((i : ℕ) → f i ≤ m) → sum_below n f ≤ n * m

@@ -125,6 +125,19 @@ sum_others-zero n i f h =
     let most : sum_others n i f ≤ 0 = sum_others-at_most n i f 0 0 (λ j ne. h j) (omega arith) in
     omega arith
 
+-- a place and the others are all
+pub sum_others-and : (n i : ℕ) (f : ℕ → ℕ) → i < n → sum_below n f ≡ f i + sum_others n i f
+sum_others-and n i f h =
+    sum-same n f (λ j. cond (j == i) (f i) 0 + cond (j == i) 0 (f j)) (λ j l. at j (j == i) refl)
+    ∙ sum-add n (λ j. cond (j == i) (f i) 0) (λ j. cond (j == i) 0 (f j))
+    ∙ ap (λ m. m + sum_others n i f) (sum-at n i (f i) h)
+  where
+    at : (j : ℕ) (b : Bool) → (j == i) ≡ b → f j ≡ cond b (f i) 0 + cond b 0 (f j)
+    at j true e =
+        let here : f j ≡ f i = ap f (eqb-true j i e) in
+        omega arith
+    at j false e = omega arith
+
 -- what is zero from n on adds nothing
 pub sum-narrow : (n m : ℕ) (f : ℕ → ℕ) → n ≤ m → ((i : ℕ) → n ≤ i → f i ≡ 0) → sum_below m f ≡ sum_below n f
 sum-narrow n zero f l h = ap (λ k. sum_below k f) (let z : 0 ≡ n = omega arith in z)

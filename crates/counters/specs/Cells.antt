@@ -7,6 +7,7 @@ use Rattle.lattice_laws.specs.Pair.{pair_of}
 use Rattle.lattice_laws.specs.declared.max.Max.{Max}
 use Rattle.lattice_laws.specs.declared.pair.PairOf.{PairOf}
 use Rattle.counters.specs.Budgets.{Budget}
+use Rattle.counters.specs.Sums.{node_numbers, sum_below, sum_others}
 
 -- a number for each node
 abbrev pub Cells : Type 0
@@ -36,6 +37,13 @@ Rows = List (ℕ × Cells)
 -- the number in a row at a node
 unfoldable pub row_cell : Rows → ℕ → ℕ → ℕ
 row_cell rows from to = cell (value_at nat_cmp [] rows from) to
+
+-- what all rows have at a node, and what a node's row has at the others
+abbrev pub came_to : Rows → ℕ → ℕ
+came_to rows node = sum_below node_numbers (λ from. row_cell rows from node)
+
+abbrev pub went_from : Rows → ℕ → ℕ
+went_from rows node = sum_others node_numbers node (row_cell rows node)
 
 -- new has the number at the place, and every other place's as in old
 pub record WritesRowCell (old new : Rows) (from to number : ℕ) : Type 0 where

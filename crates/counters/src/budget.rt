@@ -1,6 +1,7 @@
 //! What the nodes spent of a budget, what each moved to each, and what each granted.
 
-ghost use Rattle.std.specs.Prelude.{◌≡◌, ◌+◌, ◌<◌, Some, None, IfOk, IfErr, OnOk, OnErr, max};
+ghost use Rattle.std.specs.Prelude.{◌≡◌, ◌≤◌, ◌+◌, ◌<◌, length, map, Some, None, IfOk, IfErr, OnOk, OnErr, max};
+ghost use Rattle.std.specs.List.{range_with_len};
 ghost use Rattle.counters.specs.Sums.{node_numbers, sum_below};
 ghost use Rattle.counters.specs.Budgets.{rights};
 ghost use Rattle.counters.specs.Cells.{no_shares, spent_cell, moved_cell, granted_cell, budget_of};
@@ -8,8 +9,8 @@ ghost use Rattle.counters.specs.Cells.{WritesSpent, WritesMoved};
 ghost use Rattle.counters.specs.Refusals.{spend_refusal, shift_refusal, grant_refusal, too_great, IsRefusal};
 
 use crate::cells::{
-    Cells, Rows, count, number_in_row, number_of, raise, raise_row, total, total_from_others,
-    total_of_own, total_to_others,
+    Cells, Rows, add_rows, count, number_in_row, number_of, raise, raise_row, subtract_numbers,
+    total, total_from_others, total_of_own, total_to_others, write_numbers,
 };
 use crate::fault::CounterFault;
 use lattice_laws::{Join, MapOf, PairOf};
@@ -64,11 +65,35 @@ impl Budget {
         given as i128 - gone as i128
     }
 
+    /// The rights of the first nodes, of as many as there are places, as `rights` answers them one by
+    /// one: all that is stored is read once.
+    pub fn rights_of_all(&self, setter: u8, count: u64, into: &mut [i128])
+        requires { length into.old ≤ 256 }
+        ensures { into.new
+            ≡ map (rights (budget_of self.now setter count)) (range_with_len 0 (length into.old)) }
+    {
+        into.fill(0);
+        add_rows(&self.shares.second, into);
+        subtract_numbers(&self.shares.first, into);
+        let place = usize::from(setter);
+        if place < into.len() {
+            into[place] += i128::from(count);
+        }
+    }
+
     /// What a node spent.
     pub fn spent(&self, node: u8) -> u64
         ensures { result ≡ spent_cell self.now node }
     {
         number_of(&self.shares.first, node)
+    }
+
+    /// What the first nodes spent, of as many as there are places: all that is stored of it is read
+    /// once.
+    pub fn spent_of_all(&self, into: &mut [u64])
+        ensures { into.new ≡ map (spent_cell self.now) (range_with_len 0 (length into.old)) }
+    {
+        write_numbers(&self.shares.first, into);
     }
 
     /// What a node moved to another in all, or granted where both are one.

@@ -1,8 +1,10 @@
 //! Numbers by node, 0 where there is none, and rows of them.
 
-ghost use Rattle.std.specs.Prelude.{◌≡◌, ◌≤◌, ◌+◌, ◌*◌, ◌^◌, max, Some, None, IfOk, IfErr, OnOk, OnErr};
-ghost use Rattle.counters.specs.Sums.{node_numbers, sum_below, sum_others};
-ghost use Rattle.counters.specs.Cells.{cell, row_cell, WritesCell, WritesRowCell};
+ghost use Rattle.std.specs.Prelude.{◌≡◌, ◌≤◌, ◌+◌, ◌*◌, ◌^◌, ◌==◌, if◌then◌else◌, pos, ◌-ℤ◌};
+ghost use Rattle.std.specs.Prelude.{length, map, max, Some, None, IfOk, IfErr, OnOk, OnErr};
+ghost use Rattle.std.specs.List.{range_with_len};
+ghost use Rattle.counters.specs.Sums.{node_numbers, sum_below, sum_others, AddsEach, AreWithin};
+ghost use Rattle.counters.specs.Cells.{cell, row_cell, came_to, went_from, WritesCell, WritesRowCell};
 ghost use Rattle.counters.specs.Refusals.{hit_refusal, too_great, IsRefusal};
 
 use crate::fault::CounterFault;
@@ -98,6 +100,80 @@ pub(crate) fn total_of_own(rows: &Rows) -> u128
         sum += u128::from(number_of(row, *node));
     }
     sum
+}
+
+/// Writes the number of each node that there is a place for.
+pub(crate) fn write_numbers(cells: &Cells, numbers: &mut [u64])
+    ensures { numbers.new ≡ map (cell cells.now) (range_with_len 0 (length numbers.old)) }
+{
+    numbers.fill(0);
+    for (node, number) in cells.iter() {
+        let place = usize::from(*node);
+        if place < numbers.len() {
+            numbers[place] += number.0;
+        }
+    }
+}
+
+// Adds each node's number to the sum at its place, and answers all numbers together.
+fn add_numbers(cells: &Cells, sums: &mut [i128]) -> u128
+    requires { AreWithin (2 ^ 100) sums.old }
+    ensures value { result ≡ sum_below node_numbers (cell cells.now) }
+    ensures small { result ≤ 256 * 2 ^ 64 }
+    ensures sums { AddsEach (λ place. pos (cell cells.now place)) sums.old sums.new }
+{
+    let mut all = 0u128;
+    for (node, number) in cells.iter() {
+        let place = usize::from(*node);
+        all += u128::from(number.0);
+        if place < sums.len() {
+            sums[place] += i128::from(number.0);
+        }
+    }
+    all
+}
+
+/// Takes each node's number from the sum at its place.
+pub(crate) fn subtract_numbers(cells: &Cells, sums: &mut [i128])
+    requires { AreWithin (2 ^ 100) sums.old }
+    ensures sums { AddsEach (λ place. pos 0 -ℤ pos (cell cells.now place)) sums.old sums.new }
+    ensures small { AreWithin (2 ^ 101) sums.new }
+{
+    for (node, number) in cells.iter() {
+        let place = usize::from(*node);
+        if place < sums.len() {
+            sums[place] -= i128::from(number.0);
+        }
+    }
+}
+
+// Adds what a node's row has at each node to the sum at its place, and takes what it has at others
+// from the sum of the node.
+fn add_row(row: &Cells, node: u8, sums: &mut [i128])
+    requires { AreWithin (2 ^ 100) sums.old }
+    ensures { AddsEach (λ place. pos (cell row.now place)
+        -ℤ pos (if place == node then sum_others node_numbers node (cell row.now) else 0))
+        sums.old sums.new }
+{
+    let all = add_numbers(row, sums);
+    let place = usize::from(node);
+    if place < sums.len() {
+        let own = u128::from(number_of(row, node));
+        sums[place] -= (all - own) as i128;
+    }
+}
+
+/// Adds to each sum what came to the node by the rows, and takes from it what went from it to others.
+pub(crate) fn add_rows(rows: &Rows, sums: &mut [i128])
+    requires { AreWithin (2 ^ 99) sums.old }
+    ensures sums { AddsEach
+        (λ place. pos (came_to rows.now place) -ℤ pos (went_from rows.now place))
+        sums.old sums.new }
+    ensures small { AreWithin (2 ^ 100) sums.new }
+{
+    for (node, row) in rows.iter() {
+        add_row(row, *node, sums);
+    }
 }
 
 /// Raises a node's number to at least this one, in place where there is one. Memory is asked for

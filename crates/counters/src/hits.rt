@@ -1,11 +1,12 @@
 //! How many hits each node counted.
 
-ghost use Rattle.std.specs.Prelude.{◌≡◌, ◌+◌, [], None, IfOk, IfErr, OnOk, OnErr, max};
+ghost use Rattle.std.specs.Prelude.{◌≡◌, ◌+◌, [], length, map, None, IfOk, IfErr, OnOk, OnErr, max};
+ghost use Rattle.std.specs.List.{range_with_len};
 ghost use Rattle.counters.specs.Sums.{node_numbers, sum_below};
 ghost use Rattle.counters.specs.Cells.{cell, WritesCell};
 ghost use Rattle.counters.specs.Refusals.{hit_refusal, IsRefusal};
 
-use crate::cells::{Cells, count, number_of, raise, total};
+use crate::cells::{Cells, count, number_of, raise, total, write_numbers};
 use crate::fault::CounterFault;
 use lattice_laws::{Join, MapOf};
 use std::alloc::{AllocError, Global};
@@ -42,6 +43,13 @@ impl HitCounter {
         ensures { result ≡ cell self.now node }
     {
         number_of(&self.hits, node)
+    }
+
+    /// The hits of the first nodes, of as many as there are places: all that is stored is read once.
+    pub fn of_all(&self, into: &mut [u64])
+        ensures { into.new ≡ map (cell self.now) (range_with_len 0 (length into.old)) }
+    {
+        write_numbers(&self.hits, into);
     }
 
     /// The hits of all nodes.

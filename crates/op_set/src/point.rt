@@ -150,6 +150,11 @@ impl Stored for Point {
     fn number(&self, counted: Counted) -> u64 {
         number_of(&self.counts, counted)
     }
+
+    #[tactic(auto, unfolding(crate::specs::Counts::held_of))]
+    fn rights(&self, term: u8, node: u8) -> i128 {
+        self.rights(term, node)
+    }
 }
 
 impl Point {

@@ -17,6 +17,7 @@ pub mod SetJoins
 pub mod MatrixJoins
 pub mod NamesTogether
 pub mod Marks
+pub mod Columns
 pub mod StoredSlots
 pub mod Reaching
 pub mod NamesHeld

@@ -17,7 +17,7 @@ use Rattle.operations.specs.declared.counted.Counted.{Counted}
 use Rattle.operations.specs.declared.counted.Counted.TheVariants.{Hits, Execs, Shifts}
 use Rattle.replica_state.specs.States as states
 use Rattle.replica_state.specs.States.{State, with_name, total_hits, granted_of, budget_of, rights_of, spent_of}
-use Rattle.replica_state.specs.Points.{Held, empty_held, held_after_key, held_after_pass, held_after_count, budget_under}
+use Rattle.replica_state.specs.Points.{Held, empty_held, held_after_key, held_after_pass, held_after_count, budget_under, rights_of_key}
 use Rattle.replica_state.specs.Cells.{cell_of, held_at, with_held}
 use Rattle.replica_state.specs.declared.slot.Slot.{Slot}
 use Rattle.replica_state.specs.Slots.{Budgets, IsSlotOf, HasNoSlot, ChangesSlot, no_slot, under_key, slot_key, slot_number, slot_held, slot_rights, shown_slots}
@@ -96,6 +96,12 @@ held_budget v name term = by_key (v.key name)
     by_key : (k : Option KeyValue) → budget_under k (cell_of v name) term ≡ states.budget_under v name term k
     by_key None = refl
     by_key (Some key) = refl
+
+-- the rights by what is held are those of the state
+pub held_rights : (v : State) (name : List ℕ) (term node : ℕ) →
+    rights_of_key (v.key name) (cell_of v name) term node ≡ rights_of v name term node
+held_rights v name term node = ap (λ (o : Option Budget). option_map_or (λ b. rights b node) o (pos 0))
+    (held_budget v name term)
 
 pub budget_is : (v : State) (name : List ℕ) (slot : Slot) → IsSlotOf v name slot → (term : ℕ) →
     budget_under (slot_key slot) (slot_number slot) term ≡ budget_of v name term

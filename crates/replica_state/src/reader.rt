@@ -1,8 +1,9 @@
 //! What a replica has of one point, read without another look-up of its name.
 #![tactic(auto, unfolding(crate::specs::Points::empty_held))]
 
-ghost use Rattle.std.specs.Prelude.{◌≡◌};
-ghost use Rattle.replica_state.specs.Points.{Held};
+ghost use Rattle.std.specs.Prelude.{◌≡◌, ◌≤◌, length, map};
+ghost use Rattle.std.specs.List.{range_with_len};
+ghost use Rattle.replica_state.specs.Points.{Held, rights_of_key};
 ghost use Rattle.operations.specs.Counts.{given_key};
 ghost use Rattle.replica_state.specs.Stored.{stored_held, reader_held};
 ghost use Rattle.operations.specs.declared.counted.Counted.TheVariants.{Hits, Execs, Shifts};
@@ -22,6 +23,44 @@ pub trait Stored {
     /// The number of what is counted so, 0 where it isn't there.
     fn number(&self, counted: Counted) -> u64
         ensures { result ≡ (held self.now).number counted };
+
+    /// The rights of a node to execute a term, 0 where it isn't counted.
+    fn rights(&self, term: u8, node: u8) -> i128
+        ensures { result
+            ≡ rights_of_key (held self.now).key (held self.now).number term node };
+
+    /// The rights of the first nodes to execute a term, of as many as there are places.
+    fn rights_of_all(&self, term: u8, into: &mut [i128])
+        requires { length into.old ≤ 256 }
+        ensures { into.new ≡ map (rights_of_key (held self.now).key (held self.now).number term)
+            (range_with_len 0 (length into.old)) }
+    {
+        for node in 0..into.len() {
+            into[node] = self.rights(term, node as u8);
+        }
+    }
+
+    /// The executions of a term at the first nodes, of as many as there are places.
+    fn execs_of_all(&self, term: u8, into: &mut [u64])
+        requires { length into.old ≤ 256 }
+        ensures { into.new ≡ map (λ node. (held self.now).number (Execs term node))
+            (range_with_len 0 (length into.old)) }
+    {
+        for node in 0..into.len() {
+            into[node] = self.number(Counted::Execs { term, node: node as u8 });
+        }
+    }
+
+    /// The hits of the first nodes, of as many as there are places.
+    fn hits_of_all(&self, into: &mut [u64])
+        requires { length into.old ≤ 256 }
+        ensures { into.new ≡ map (λ node. (held self.now).number (Hits node))
+            (range_with_len 0 (length into.old)) }
+    {
+        for node in 0..into.len() {
+            into[node] = self.number(Counted::Hits { node: node as u8 });
+        }
+    }
 }
 
 /// What a replica has of a point that was looked up once. What isn't there reads 0.

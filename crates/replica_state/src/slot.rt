@@ -1,6 +1,8 @@
 //! What a matrix stores of one name.
 
-ghost use Rattle.std.specs.Prelude.{◌≡◌, ◌+◌, ◌<◌, ◌^◌, option_map, is_none, Some, None, OnOk};
+ghost use Rattle.std.specs.Prelude.{◌≡◌, ◌+◌, ◌<◌, ◌≤◌, ◌^◌, ◌==◌, if◌then◌else◌, pos, length, map};
+ghost use Rattle.std.specs.Prelude.{option_map, is_none, Some, None, OnOk};
+ghost use Rattle.std.specs.List.{range_with_len};
 ghost use Rattle.std.specs.Prelude.{OnErr, IfOk, IfNone, IfSome, IsSome, false};
 ghost use Rattle.counters.specs.Sums.{node_numbers, sum_below};
 ghost use Rattle.counters.specs.Budgets.{total_spent};
@@ -85,6 +87,26 @@ impl Stored for Slot {
     fn number(&self, counted: Counted) -> u64 {
         number(self, counted)
     }
+
+    #[tactic(auto, unfolding(crate::specs::Slots::slot_held))]
+    fn rights(&self, term: u8, node: u8) -> i128 {
+        rights(self, term, node)
+    }
+
+    #[tactic(auto, unfolding(crate::specs::Slots::slot_held))]
+    fn rights_of_all(&self, term: u8, into: &mut [i128]) {
+        rights_of_all(self, term, into);
+    }
+
+    #[tactic(auto, unfolding(crate::specs::Slots::slot_held))]
+    fn execs_of_all(&self, term: u8, into: &mut [u64]) {
+        execs_of_all(self, term, into);
+    }
+
+    #[tactic(auto, unfolding(crate::specs::Slots::slot_held))]
+    fn hits_of_all(&self, into: &mut [u64]) {
+        self.parts.second.of_all(into);
+    }
 }
 
 /// What is stored of a name of which nothing is known.
@@ -158,6 +180,48 @@ pub(crate) fn rights(slot: &Slot, term: u8, node: u8) -> i128
         Some(budget) => budget.rights(key.node, count, node),
         None if node == key.node => i128::from(count),
         None => 0,
+    }
+}
+
+// The rights of the first nodes to a count of which nothing is spent, moved or granted.
+fn untouched_rights(setter: u8, count: u64, into: &mut [i128])
+    ensures { into.new ≡ map (λ node. pos (if node == setter then count else 0))
+        (range_with_len 0 (length into.old)) }
+{
+    into.fill(0);
+    let place = usize::from(setter);
+    if place < into.len() {
+        into[place] = i128::from(count);
+    }
+}
+
+/// The rights of the first nodes to execute a term, of as many as there are places.
+pub(crate) fn rights_of_all(slot: &Slot, term: u8, into: &mut [i128])
+    requires { length into.old ≤ 256 }
+    ensures { into.new ≡ map (slot_rights slot.now term) (range_with_len 0 (length into.old)) }
+{
+    let Some((key, budgets)) = slot.parts.first.held() else {
+        into.fill(0);
+        return;
+    };
+    let Some(count) = count_of(key, term) else {
+        into.fill(0);
+        return;
+    };
+    match budgets.get(&term) {
+        Some(budget) => budget.rights_of_all(key.node, count, into),
+        None => untouched_rights(key.node, count, into),
+    }
+}
+
+/// The executions of a term at the first nodes, of as many as there are places.
+pub(crate) fn execs_of_all(slot: &Slot, term: u8, into: &mut [u64])
+    ensures { into.new ≡ map (λ node. slot_number slot.now (Execs term node))
+        (range_with_len 0 (length into.old)) }
+{
+    match budget(slot, term) {
+        Some(budget) => budget.spent_of_all(into),
+        None => into.fill(0),
     }
 }
 

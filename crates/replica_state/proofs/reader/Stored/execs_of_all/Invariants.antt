@@ -1,0 +1,10 @@
+use Rattle.std.proofs.Common.{◌≡◌, ℕ, ◌<◌, length, get_or}
+use Rattle.operations.specs.declared.counted.Counted.TheVariants.{Execs}
+use Rattle.replica_state.proofs.reader.Stored.execs_of_all.Given as goal
+
+abbrev pub invariant-loop-node : goal.invariant-loop-node
+invariant-loop-node g l =
+    record {
+      len : length l.into ≡ length l.initial.into;
+      read : (k : ℕ) → k < l.node → get_or l.into k 0 ≡ (g.Self.Stored.held l.self).number (Execs l.term k);
+    }
