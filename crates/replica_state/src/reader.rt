@@ -47,7 +47,10 @@ pub trait Stored {
             (range_with_len 0 (length into.old)) }
     {
         for node in 0..into.len() {
-            into[node] = self.number(Counted::Execs { term, node: node as u8 });
+            into[node] = self.number(Counted::Execs {
+                term,
+                node: node as u8,
+            });
         }
     }
 

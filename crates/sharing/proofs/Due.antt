@@ -71,7 +71,7 @@ all_both P Q xs h k i d low = (h i d low, k i d low)
 all_weaker : {X : Type 0} (P Q : X → Type 0) (xs : List X) → ((x : X) → P x → Q x) → All P xs → All Q xs
 all_weaker P Q xs w h i d low = w (get_or xs i d) (h i d low)
 
-all_below : (n : ℕ) → All (λ x. x < n) (range_with_len 0 n)
+pub all_below : (n : ℕ) → All (λ x. x < n) (range_with_len 0 n)
 all_below n i d low =
     let few : i < n = omega (arith, low, length-range_with_len 0 n) in
     let is = get_or-range_with_len 0 n i d few in

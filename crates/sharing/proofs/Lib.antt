@@ -5,3 +5,4 @@ pub mod Due
 pub mod Once
 pub mod Recalling
 pub mod Dealt
+pub mod Alike

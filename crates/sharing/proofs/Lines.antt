@@ -7,7 +7,7 @@ use Rattle.std.specs.List.{filter}
 use Rattle.std.proofs.lemmas.Int.{ints}
 use Rattle.std.proofs.lemmas.Grind.{fold-append}
 use Rattle.std.proofs.lemmas.List.Elements.{filter_more}
-use Rattle.std.proofs.lemmas.List.{append-nil}
+use Rattle.std.proofs.lemmas.List.{append-nil, take_more}
 use Rattle.std.proofs.lemmas.Bool.Decides.{nat_tests}
 use Rattle.sharing.specs.Shares.{line_of, placed, shares_in}
 
@@ -29,9 +29,16 @@ line_same e p xs i h k =
     ap (line_of e) (filter_more p xs i 0 h ∙ ap (λ b. filter p (take i xs) ++ cond b (get_or xs i 0 ∷ []) []) k
     ∙ append-nil (filter p (take i xs)))
 
+pub line_next : (e : ℕ → ℕ) (xs : List ℕ) (i : ℕ) → i < length xs →
+    line_of e (take (i + 1) xs) ≡ placed e (line_of e (take i xs)) (get_or xs i 0)
+line_next e xs i h = ap (line_of e) (take_more xs i 0 h) ∙ fold-append (placed e) [] (take i xs) (get_or xs i 0 ∷ [])
+
 -- tests that passed, and tests that didn't
 pub is_more : (a b x y : ℕ) → x ≡ a → y ≡ b → x < y → nat_lt a b ≡ true
 is_more a b x y e f h = grind (arith, nat_tests)
+
+pub no_more : (a b : ℕ) → b ≤ a → nat_lt a b ≡ false
+no_more a b h = grind (arith, nat_tests)
 
 pub has_passed_test : (other node before now x y : ℕ) → other ≢ node → x ≡ before → y ≡ now → x < y →
     (not (other == node) && nat_lt before now) ≡ true

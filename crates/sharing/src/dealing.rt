@@ -74,7 +74,7 @@ fn push_dealt<R: Replica>(
     ensures { OnOk result (shifts.new.items ≡ shifts.old.items
         ++ term_dealt (R.state replica.now) name.now node nodes term) }
 {
-    let rights = spare(replica, name, term, node, PATIENCE);
+    let rights = spare(replica.rights(name, term, node), PATIENCE);
     for place in 0..nodes {
         push_share(alloc, name, term, rights, node, nodes, place, shifts)?;
     }

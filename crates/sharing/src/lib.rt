@@ -8,6 +8,7 @@ mod line;
 mod memory;
 mod point;
 mod remembered;
+mod room;
 mod shift;
 
 pub use dealing::spread;

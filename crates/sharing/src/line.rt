@@ -1,22 +1,34 @@
 //! Who waits for rights to one term, in which order, and what each is given.
 
-ghost use Rattle.std.specs.Prelude.{◌≡◌, ◌++◌, ◌∷◌, [], ◌≤◌, length, nat_lt, take, OnOk, IfOk};
-ghost use Rattle.std.specs.List.{position_or_len};
-ghost use Rattle.replica_state.specs.States.{rights_of};
+ghost use Rattle.std.specs.Prelude.{◌≡◌, ◌++◌, ◌∷◌, [], ◌≤◌, ◌==◌, ℕ, List, length, nat_lt, pos};
+ghost use Rattle.std.specs.Prelude.{◌<◌, slice_index, slice_index_or, take, vec_len, OnOk, IfOk};
+ghost use Rattle.std.specs.Int.{int_gap};
+ghost use Rattle.std.specs.List.{All, filter, position_or_len};
+ghost use Rattle.std.specs.List.Sorted.{IsNonDecreasingBy};
+ghost use Rattle.replica_state.specs.Cells.{held_at};
+ghost use Rattle.replica_state.specs.States.{State};
+ghost use Rattle.sharing.specs.Rooms.{IsAsLarge, IsRoomFor};
 ghost use Rattle.sharing.specs.Shares.{line_of, placed, share_of, shares_in, spare_of};
 ghost use Rattle.sharing.specs.Shares.{term_shifts, waiting};
 
-use crate::remembered::PATIENCE;
+use crate::remembered::{PATIENCE, number_at};
+use crate::room::Room;
 use crate::shift::Shift;
 use actions::Name;
-use replica_state::Replica;
+use replica_state::Stored;
 use std::alloc::{AllocError, Global};
 
-/// The rights to a term that a node can spare, where it has been still for so many rounds.
-pub(crate) fn spare<R: Replica>(replica: &R, name: &Name, term: u8, node: u8, still: u8) -> u64
-    ensures { result ≡ spare_of (rights_of (R.state replica.now) name.now term node) still }
+/// Who gives rights: a node, and for how many rounds it has been still.
+#[derive(Clone, Copy, Debug)]
+pub(crate) struct Giver {
+    pub(crate) node: u8,
+    pub(crate) still: u8,
+}
+
+/// What a node with these rights can spare of them, where it has been still for so many rounds.
+pub(crate) fn spare(rights: i128, still: u8) -> u64
+    ensures { result ≡ spare_of rights still }
 {
-    let rights = replica.rights(name, term, node);
     let kept = if still < PATIENCE { 1 } else { 0 };
     if rights <= kept {
         return 0;
@@ -24,55 +36,100 @@ pub(crate) fn spare<R: Replica>(replica: &R, name: &Name, term: u8, node: u8, st
     (rights - kept).min(i128::from(u64::MAX)) as u64
 }
 
-/// The place of a node in a line: before the first that executed the term more often.
-fn place_in<R: Replica>(replica: &R, name: &Name, term: u8, line: &[u8], node: u8) -> usize
-    ensures place { let executions = (R.state replica.now).execs name.now term in
-        result ≡ position_or_len (λ other. nat_lt (executions node) (executions other)) line.now }
-    ensures within { result ≤ length line.now }
+/// Of these nodes those that have no right.
+fn waiting(alloc: Global, rights: &[i128], others: &[u8]) -> Result<Vec<u8>, AllocError>
+    ensures { IfOk result (λ waiting. waiting.items ≡ filter
+        (λ other. int_gap (pos 0) (slice_index_or rights.now other (pos 0)) == 0) others.now) }
 {
-    let executions = replica.exec(name, term, node);
-    for (place, other) in line.iter().enumerate() {
-        if executions < replica.exec(name, term, *other) {
-            return place;
+    let mut waiting = Vec::new(alloc);
+    for other in others {
+        if rights.get(usize::from(*other)).copied().unwrap_or(0) <= 0 {
+            waiting.push(*other)?;
         }
     }
-    line.len()
+    Ok(waiting)
+}
+
+/// The place of a node in a line: before the first that executed the term more often. It is looked
+/// for from the end, where it mostly is.
+fn place_in(executions: &[u64], line: &[u8], node: u8) -> usize
+    requires { IsNonDecreasingBy (slice_index executions.now) line.now }
+    ensures place { result ≡ position_or_len
+        (λ other. nat_lt (slice_index executions.now node) (slice_index executions.now other))
+        line.now }
+    ensures within { result ≤ length line.now }
+{
+    let own = number_at(executions, node);
+    for place in (0..line.len()).rev() {
+        if number_at(executions, line[place]) <= own {
+            return place + 1;
+        }
+    }
+    0
 }
 
 /// Puts a node in its place in a line.
-fn place<R: Replica>(
-    replica: &R,
-    name: &Name,
-    term: u8,
-    line: &mut Vec<u8>,
-    node: u8,
-) -> Result<(), AllocError>
+fn place(executions: &[u64], line: &mut Vec<u8>, node: u8) -> Result<(), AllocError>
+    requires { IsNonDecreasingBy (slice_index executions.now) line.old.items }
     ensures { OnOk result
-        (line.new.items ≡ placed ((R.state replica.now).execs name.now term) line.old.items node) }
+        (line.new.items ≡ placed (slice_index executions.now) line.old.items node) }
 {
-    let place = place_in(replica, name, term, line, node);
+    let place = place_in(executions, line, node);
     line.insert(place, node)?;
     Ok(())
 }
 
-/// Of these nodes those that have no right to a term, in their line.
-fn line<R: Replica>(
-    alloc: Global,
-    replica: &R,
-    name: &Name,
-    term: u8,
-    others: &[u8],
-) -> Result<Vec<u8>, AllocError>
-    ensures { IfOk result (λ line. line.items ≡ line_of ((R.state replica.now).execs name.now term)
-        (waiting (R.state replica.now) name.now term others.now)) }
+/// These nodes in their line.
+fn in_line(alloc: Global, executions: &[u64], nodes: &[u8]) -> Result<Vec<u8>, AllocError>
+    ensures { IfOk result
+        (λ line. line.items ≡ line_of (slice_index executions.now) nodes.now) }
 {
     let mut line = Vec::new(alloc);
-    for other in others {
-        if replica.rights(name, term, *other) <= 0 {
-            place(replica, name, term, &mut line, *other)?;
-        }
+    for node in nodes {
+        place(executions, &mut line, *node)?;
     }
     Ok(line)
+}
+
+/// Those that wait in their line.
+fn line_of_waiting<S: Stored>(
+    alloc: Global,
+    stored: &S,
+    term: u8,
+    nodes: &[u8],
+    room: &mut Room,
+) -> Result<Vec<u8>, AllocError>
+    requires within { All (λ node. node < vec_len room.old.executions) nodes.now }
+    requires few { vec_len room.old.executions ≤ 256 }
+    ensures line { IfOk result (λ line. (v : State) (name : List ℕ)
+        → S.held stored.now ≡ held_at v name
+        → line.items ≡ line_of (v.execs name term) nodes.now) }
+    ensures kept { IsAsLarge room.old room.new }
+{
+    if nodes.is_empty() {
+        return Ok(Vec::new(alloc));
+    }
+    room.read_executions(stored, term);
+    in_line(alloc, &room.executions, nodes)
+}
+
+/// Of these nodes those that have no right to a term, in their line.
+fn line<S: Stored>(
+    alloc: Global,
+    stored: &S,
+    term: u8,
+    others: &[u8],
+    room: &mut Room,
+) -> Result<Vec<u8>, AllocError>
+    requires { IsRoomFor others.now room.old }
+    ensures line { IfOk result (λ line. (v : State) (name : List ℕ)
+        → S.held stored.now ≡ held_at v name
+        → line.items ≡ line_of (v.execs name term) (waiting v name term others.now)) }
+    ensures kept { IsAsLarge room.old room.new }
+{
+    room.read_rights(stored, term);
+    let waiting = waiting(alloc, &room.rights, others)?;
+    line_of_waiting(alloc, stored, term, &waiting, room)
 }
 
 /// The first of a line, so many at most.
@@ -130,25 +187,27 @@ fn push_shares(
     Ok(())
 }
 
-/// Adds the shifts of a term, where the node has been still for so many rounds and these others
-/// passed since the last one.
-pub(crate) fn push_term<R: Replica>(
+/// Adds the shifts of a term, where these others passed since the last round.
+pub(crate) fn push_term<S: Stored>(
     alloc: Global,
-    replica: &R,
     name: &Name,
-    node: u8,
-    still: u8,
+    stored: &S,
+    giver: Giver,
     others: &[u8],
     term: u8,
+    room: &mut Room,
     shifts: &mut Vec<Shift>,
 ) -> Result<(), AllocError>
-    ensures { OnOk result (shifts.new.items ≡ shifts.old.items
-        ++ term_shifts (R.state replica.now) name.now node still others.now term) }
+    requires { IsRoomFor others.now room.old }
+    ensures shifts { OnOk result ((v : State) → S.held stored.now ≡ held_at v name.now
+        → shifts.new.items ≡ shifts.old.items
+        ++ term_shifts v name.now giver.node giver.still others.now term) }
+    ensures kept { IsAsLarge room.old room.new }
 {
-    let spare = spare(replica, name, term, node, still);
+    let spare = spare(stored.rights(term, giver.node), giver.still);
     if spare == 0 {
         return Ok(());
     }
-    let line = line(alloc, replica, name, term, others)?;
+    let line = line(alloc, stored, term, others, room)?;
     push_shares(alloc, name, term, spare, &line, shifts)
 }

@@ -75,10 +75,10 @@ fn round_of<R: Replica>(
     let mut points = Vec::new(alloc);
     // Both stand in byte order of the names, so that one is walked beside the other.
     let mut rest = memory;
-    for (name, _) in replica.points() {
+    for (name, stored) in replica.points() {
         rest = from_name(rest, name);
         let remembered = recall(rest, name);
-        let after = push_point(alloc, replica, name, remembered, node, nodes, &mut shifts)?;
+        let after = push_point(alloc, name, stored, remembered, node, nodes, &mut shifts)?;
         points.push(after)?;
     }
     Ok((shifts, points))

@@ -1,56 +1,62 @@
 //! One point in a round: who passed it, and what the node shifts of its rights.
 
-ghost use Rattle.std.specs.Prelude.{◌≡◌, ◌++◌, ◌∷◌, [], map, flat_map, slice_index, OnOk, IfOk};
-ghost use Rattle.std.specs.List.{range_with_len};
+ghost use Rattle.std.specs.Prelude.{◌≡◌, ◌<◌, ◌++◌, ◌==◌, ◌&&◌, not, nat_lt, min, ◌+◌, if◌then◌else◌};
+ghost use Rattle.std.specs.Prelude.{map, flat_map, slice_index, OnOk, IfOk};
+ghost use Rattle.std.specs.List.{All, filter, range_with_len};
 ghost use Rattle.actions.specs.Limits.{max_terms};
-ghost use Rattle.sharing.specs.Memory.{seen};
+ghost use Rattle.operations.specs.declared.counted.Counted.TheVariants.{Hits};
+ghost use Rattle.replica_state.specs.Cells.{held_at};
+ghost use Rattle.replica_state.specs.States.{State};
+ghost use Rattle.sharing.specs.Memory.{patience, seen, still_before};
 ghost use Rattle.sharing.specs.Remembered.{recalled, recalled_at};
-ghost use Rattle.sharing.specs.Shares.{passers, point_shifts, recalled_after, still_now, term_shifts};
+ghost use Rattle.sharing.specs.Shares.{point_shifts, recalled_after, term_shifts};
 
-use crate::line::push_term;
-use crate::remembered::{PATIENCE, Remembered, seen, still_before};
+use crate::line::{Giver, push_term};
+use crate::remembered::{PATIENCE, Remembered, number_at, seen, still_before};
+use crate::room::Room;
 use crate::shift::Shift;
 use actions::{MAX_TERMS, Name};
-use replica_state::Replica;
+use replica_state::{Counted, Stored};
 use std::alloc::{AllocError, Global};
 
-/// The hits of each node, and the others that passed since the last round.
-fn look<R: Replica>(
+/// The hits of each node.
+fn hits_of<S: Stored>(alloc: Global, stored: &S, nodes: u8) -> Result<Vec<u64>, AllocError>
+    ensures { IfOk result (λ hits. hits.items
+        ≡ map (λ node. (S.held stored.now).number (Hits node)) (range_with_len 0 nodes)) }
+{
+    let mut hits = vec![in alloc; 0; usize::from(nodes)]?;
+    stored.hits_of_all(&mut hits);
+    Ok(hits)
+}
+
+/// The others that passed since the last round, by the hits of each node.
+fn passers(
     alloc: Global,
-    replica: &R,
-    name: &Name,
+    hits: &[u64],
     remembered: Option<&Remembered>,
     node: u8,
     nodes: u8,
-) -> Result<(Vec<u64>, Vec<u8>), AllocError>
-    ensures hits { IfOk result (λ p. p.0.items
-        ≡ map ((R.state replica.now).hits name.now) (range_with_len 0 nodes)) }
-    ensures others { IfOk result (λ p. p.1.items
-        ≡ passers (R.state replica.now) name.now (recalled_at remembered.entry) node nodes) }
+) -> Result<Vec<u8>, AllocError>
+    ensures { IfOk result (λ others. others.items ≡ filter (λ other. not (other == node)
+        && nat_lt (seen (recalled_at remembered.entry) other) (slice_index hits.now other))
+        (range_with_len 0 nodes)) }
 {
-    let point = replica.point(name);
-    let mut hits = Vec::with_capacity(alloc, usize::from(nodes))?;
     let mut others = Vec::new(alloc);
     for other in 0..nodes {
-        let number = point.hits(other);
-        hits.push(number)?;
-        if other != node && seen(remembered, other) < number {
+        if other != node && seen(remembered, other) < number_at(hits, other) {
             others.push(other)?;
         }
     }
-    Ok((hits, others))
+    Ok(others)
 }
 
 /// For how many rounds on end the node hasn't passed.
-fn still_rounds<R: Replica>(
-    replica: &R,
-    name: &Name,
-    remembered: Option<&Remembered>,
-    node: u8,
-) -> u8
-    ensures { result ≡ still_now (R.state replica.now) name.now (recalled_at remembered.entry) node }
+fn still_rounds<S: Stored>(stored: &S, remembered: Option<&Remembered>, node: u8) -> u8
+    ensures { result ≡ (if nat_lt (seen (recalled_at remembered.entry) node)
+        ((S.held stored.now).number (Hits node))
+        then 0 else min patience (still_before (recalled_at remembered.entry) + 1)) }
 {
-    if seen(remembered, node) < replica.hits(name, node) {
+    if seen(remembered, node) < stored.number(Counted::Hits { node }) {
         return 0;
     }
     let still = still_before(remembered);
@@ -61,55 +67,54 @@ fn still_rounds<R: Replica>(
     }
 }
 
-/// Adds the shifts of each term, where the node has been still for so many rounds and these others
-/// passed since the last one.
-fn push_terms<R: Replica>(
+/// Adds the shifts of each term, where these others of so many nodes passed since the last round.
+fn push_terms<S: Stored>(
     alloc: Global,
-    replica: &R,
     name: &Name,
-    node: u8,
-    still: u8,
+    stored: &S,
+    giver: Giver,
+    nodes: u8,
     others: &[u8],
     shifts: &mut Vec<Shift>,
 ) -> Result<(), AllocError>
-    ensures { OnOk result (shifts.new.items ≡ shifts.old.items
-        ++ flat_map (term_shifts (R.state replica.now) name.now node still others.now)
+    requires { All (λ other. other < nodes) others.now }
+    ensures { OnOk result ((v : State) → S.held stored.now ≡ held_at v name.now
+        → shifts.new.items ≡ shifts.old.items
+        ++ flat_map (term_shifts v name.now giver.node giver.still others.now)
         (range_with_len 0 max_terms)) }
 {
     if others.is_empty() {
         return Ok(());
     }
-    // Of all terms at once, since most have nothing to give.
-    let Some(found) = replica.key_and_rights(name, node) else {
-        return Ok(());
-    };
-    let has = found.1;
+    let mut room = Room::new(alloc, nodes)?;
     for term in 0..MAX_TERMS {
-        if has[usize::from(term)] {
-            push_term(alloc, replica, name, node, still, others, term, shifts)?;
-        }
+        push_term(alloc, name, stored, giver, others, term, &mut room, shifts)?;
     }
     Ok(())
 }
 
 /// Adds the shifts of a point, and answers what is remembered of it after the round.
-pub(crate) fn push_point<R: Replica>(
+pub(crate) fn push_point<S: Stored>(
     alloc: Global,
-    replica: &R,
     name: &Name,
+    stored: &S,
     remembered: Option<&Remembered>,
     node: u8,
     nodes: u8,
     shifts: &mut Vec<Shift>,
 ) -> Result<Remembered, AllocError>
-    ensures shifts { OnOk result (shifts.new.items ≡ shifts.old.items
-        ++ point_shifts (R.state replica.now) node nodes (recalled_at remembered.entry) name.now) }
-    ensures memory { IfOk result (λ after. recalled after
-        ≡ recalled_after (R.state replica.now) node nodes (recalled_at remembered.entry) name.now) }
+    ensures shifts { OnOk result ((v : State) → S.held stored.now ≡ held_at v name.now
+        → shifts.new.items ≡ shifts.old.items
+        ++ point_shifts v node nodes (recalled_at remembered.entry) name.now) }
+    ensures memory { IfOk result (λ after. (v : State) → S.held stored.now ≡ held_at v name.now
+        → recalled after
+        ≡ recalled_after v node nodes (recalled_at remembered.entry) name.now) }
 {
-    let (hits, others) = look(alloc, replica, name, remembered, node, nodes)?;
-    let still = still_rounds(replica, name, remembered, node);
-    push_terms(alloc, replica, name, node, still, &others, shifts)?;
+    let hits = hits_of(alloc, stored, nodes)?;
+    let others = passers(alloc, &hits, remembered, node, nodes)?;
+    let still = still_rounds(stored, remembered, node);
+    let giver = Giver { node, still };
+    push_terms(alloc, name, stored, giver, nodes, &others, shifts)?;
     let name = name.copied(alloc)?;
     Ok(Remembered { name, hits, still })
 }

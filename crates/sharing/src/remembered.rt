@@ -1,6 +1,6 @@
 //! What a node remembers of a point from round to round.
 
-ghost use Rattle.std.specs.Prelude.{◌≡◌, ◌≤◌, ℕ, List, length, take};
+ghost use Rattle.std.specs.Prelude.{◌≡◌, ◌≤◌, ℕ, List, length, slice_index, take};
 ghost use Rattle.std.specs.List.{All};
 ghost use Rattle.std.specs.Ordering.{nat_cmp};
 ghost use Rattle.std.specs.Cmp.Lexicographic.{slice_cmp};
@@ -57,12 +57,19 @@ pub(crate) fn from_name<'a>(memory: &'a [Remembered], name: &Name) -> &'a [Remem
     &memory[place_of(memory, name)..]
 }
 
+/// The number of a node, 0 where there is none.
+pub(crate) fn number_at(numbers: &[u64], node: u8) -> u64
+    ensures { result ≡ slice_index numbers.now node }
+{
+    numbers.get(usize::from(node)).copied().unwrap_or(0)
+}
+
 /// The hits of a node as of the last round, 0 at first.
 pub(crate) fn seen(remembered: Option<&Remembered>, node: u8) -> u64
     ensures { result ≡ seen (recalled_at remembered.entry) node }
 {
     match remembered {
-        Some(remembered) => remembered.hits.get(usize::from(node)).copied().unwrap_or(0),
+        Some(remembered) => number_at(&remembered.hits, node),
         None => 0,
     }
 }

@@ -1,6 +1,10 @@
 use Rattle.std.proofs.Common.{◌≡◌, ◌++◌, ℕ, List, ap, sym, ◌∙◌, arith}
 use Rattle.std.specs.List.{flat_map, range_with_len}
+use Rattle.std.proofs.lemmas.Int.{to_z-of_z}
+use mir.Syntax.{w128}
 use Rattle.sharing.specs.declared.shift.Shift.{Shift}
+use Rattle.sharing.specs.Memory.{patience}
+use Rattle.sharing.specs.Shares.{spare_of}
 use Rattle.sharing.specs.Spreads.{shift_behind, term_dealt}
 use Rattle.sharing.proofs.Walks.{added, flat_of_next}
 use Rattle.sharing.proofs.dealing.push_dealt.Goals as goal
@@ -21,4 +25,5 @@ returns g c =
     c.loop-place.invariant
     ∙ ap (λ n. c.args.shifts.now.items ++ flat_map (shifts c.spare-rights.result) (range_with_len 0 n)) end
     ∙ ap (λ rights. c.args.shifts.now.items ++ flat_map (shifts rights) (range_with_len 0 c.args.nodes))
-    c.spare-rights.ensures
+    (c.spare-rights.ensures ∙ ap (λ r. spare_of r patience)
+    (to_z-of_z w128 c.rights.result (record { sfits = c.rights.type_inv }) ∙ c.rights.ensures))

@@ -1,32 +1,56 @@
-use Rattle.std.proofs.Common.{◌≡◌, ◌++◌, List, ap, subst, sym, ◌∙◌, OnOk}
+use Rattle.std.proofs.Common.{◌≡◌, ◌++◌, ap, refl, sym, ◌∙◌, OnOk}
+use Rattle.std.specs.Prelude.{Result, Ok, Err}
+use Rattle.std.proofs.lemmas.Int.{to_z-of_z}
 use Rattle.std.proofs.lemmas.List.{append-nil}
+use mir.Syntax.{w128}
 use Rattle.replica_state.specs.States.{rights_of}
-use Rattle.sharing.specs.declared.shift.Shift.{Shift}
 use Rattle.sharing.specs.Shares.{line_of, shares_in, spare_of, term_shifts, waiting}
+use Rattle.sharing.proofs.Alike.{own_read}
 use Rattle.sharing.proofs.Lines.{none_spared}
 use Rattle.sharing.proofs.line.push_term.Goals as goal
 
+on_ok : {A E : Type 0} (P Q : Type 0) (r : Result A E) → (P → Q) → OnOk r P → OnOk r Q
+on_ok P Q (Ok x) f h = f h
+on_ok P Q (Err e) f h = tt
+
 pub returns-then-spare-eq0 : goal.returns-then-spare-eq0
 unfolding term_shifts
-returns-then-spare-eq0 g c =
-    let v = g.R.Replica.state c.args.replica.now in
-    let name = c.args.name.now in
-    let term = c.args.term in
-    let spare = spare_of (rights_of v name term c.args.node) c.args.still in
-    let line = line_of (v.execs name term) (waiting v name term c.args.others.now) in
-    let none = none_spared name term spare line (sym c.spare-spare.ensures ∙ c.if-spare-eq0.true) in
-    sym (append-nil c.args.shifts.now.items) ∙ ap (λ xs. c.args.shifts.now.items ++ xs) (sym none)
+returns-then-spare-eq0 g c = record {
+  shifts = λ v same.
+      let name = c.args.name.now in
+      let node = c.args.giver.node in
+      let still = c.args.giver.still in
+      let term = c.args.term in
+      let items = c.args.shifts.now.items in
+      let h = g.S.Stored.held c.args.stored.now in
+      let spare : c.spare-spare.result ≡ spare_of (rights_of v name term node) still = c.spare-spare.ensures
+      ∙ ap (λ r. spare_of r still) (to_z-of_z w128 c.rights.result (record { sfits = c.rights.type_inv })
+      ∙ c.rights.ensures ∙ own_read v name h same term node) in
+      let line = line_of (v.execs name term) (waiting v name term c.args.others.now) in
+      let none = none_spared name term (spare_of (rights_of v name term node) still) line
+      (sym spare ∙ c.if-spare-eq0.true) in
+      sym (append-nil items) ∙ ap (λ xs. items ++ xs) (sym none);
+  kept = record { rights = refl; executions = refl };
+}
 
 pub returns : goal.returns
 unfolding term_shifts
-returns g c =
-    let v = g.R.Replica.state c.args.replica.now in
-    let name = c.args.name.now in
-    let term = c.args.term in
-    let line = line_of (v.execs name term) (waiting v name term c.args.others.now) in
-    let there = c.deref.ensures.value ∙ c.in_ok-line.ensures in
-    let same = ap (λ line. shares_in name term c.spare-spare.result line) there
-    ∙ ap (λ spare. shares_in name term spare line) c.spare-spare.ensures in
-    let P : List Shift → Type 0 = λ xs. OnOk c.push_shares.result
-    (c.push_shares.new.shifts.items ≡ c.args.shifts.now.items ++ xs) in
-    subst P same c.push_shares.ensures
+returns g c = record {
+  shifts = on_ok _ _ c.push_shares.result
+      (λ made v same.
+      let name = c.args.name.now in
+      let node = c.args.giver.node in
+      let still = c.args.giver.still in
+      let term = c.args.term in
+      let items = c.args.shifts.now.items in
+      let h = g.S.Stored.held c.args.stored.now in
+      let spare : c.spare-spare.result ≡ spare_of (rights_of v name term node) still = c.spare-spare.ensures
+      ∙ ap (λ r. spare_of r still) (to_z-of_z w128 c.rights.result (record { sfits = c.rights.type_inv })
+      ∙ c.rights.ensures ∙ own_read v name h same term node) in
+      let line = line_of (v.execs name term) (waiting v name term c.args.others.now) in
+      let there = c.deref.ensures.value ∙ c.in_ok-line.ensures.line v name same in
+      made ∙ ap (λ l. items ++ shares_in name term c.spare-spare.result l) there
+      ∙ ap (λ s. items ++ shares_in name term s line) spare)
+      c.push_shares.ensures;
+  kept = c.line.ensures.kept;
+}

@@ -32,6 +32,7 @@ loop-name-init g c =
           (subst (λ (ns : List (List ℕ)). IsStrictlySortedBy (slice_cmp nat_cmp) ns) (sym names)
           (names_are_held v (g.met.R.Replica.reached c.args.replica.now)).ascending);
       recalls = recalls_itself memory _;
+      held = rw c.into_iter-name-iterator.ensures.into_iter_gives c.points-name-items.ensures.held;
     }
 
 pub loop-name-preserved : goal.loop-name-preserved
@@ -45,20 +46,22 @@ loop-name-preserved g c =
     let before = rw c.in-Some.ensures.steps at c.loop-name.invariant in
     let found : recalled_at c.recall-remembered.result ≡ recall memory name =
     c.recall-remembered.ensures ∙ c.from_name-rest.ensures.here ∙ before.recalls.0 in
+    let stored = before.held.0 in
     let shifts = c.loop-name.shifts.items in
     let points = c.loop-name.points.items in
     record {
       shifts = added_before shifts (point_shifts v node nodes (recall memory name) name)
           (flat_map (λ n. point_shifts v node nodes (recall memory n) n) left)
-          (c.in_ok-after.ensures.shifts ∙ ap (λ r. shifts ++ point_shifts v node nodes r name) found)
+          (c.in_ok-after.ensures.shifts v stored ∙ ap (λ r. shifts ++ point_shifts v node nodes r name) found)
           before.shifts refl;
       after = added_before (recalled_all points) (recalled_after v node nodes (recall memory name) name ∷ [])
           (map (λ n. recalled_after v node nodes (recall memory n) n) left)
           (ap (map recalled) c.in_ok-push.ensures.items ∙ map-append recalled points _
           ∙ ap (λ a. recalled_all points ++ a ∷ [])
-          (c.in_ok-after.ensures.memory ∙ ap (λ r. recalled_after v node nodes r name) found))
+          (c.in_ok-after.ensures.memory v stored ∙ ap (λ r. recalled_after v node nodes r name) found))
           before.after refl;
       ascending = sorted_tail (slice_cmp nat_cmp) name left before.ascending;
       recalls = recalls_later _ _ memory name left c.from_name-rest.ensures.above
           (sorted_head (slice_cmp nat_cmp) name left before.ascending) before.recalls.1;
+      held = before.held.1;
     }

@@ -1,8 +1,9 @@
 use Rattle.std.proofs.Common.{◌≡◌, ◌++◌, map}
-use Rattle.std.specs.List.{flat_map}
+use Rattle.std.specs.List.{AllByRecursion, flat_map}
 use Rattle.std.specs.List.Sorted.{IsStrictlySortedBy}
 use Rattle.std.specs.Ordering.{nat_cmp}
 use Rattle.std.specs.Cmp.Lexicographic.{slice_cmp}
+use Rattle.replica_state.specs.Cells.{held_at}
 use Rattle.sharing.specs.Memory.{recall}
 use Rattle.sharing.specs.Remembered.{recalled_all}
 use Rattle.sharing.specs.Shares.{memory_after, point_shifts, recalled_after, shifts_of}
@@ -22,4 +23,5 @@ invariant-loop-name g l =
           ≡ memory_after v l.node l.nodes memory;
       ascending : IsStrictlySortedBy (slice_cmp nat_cmp) left;
       recalls : RecallsAll (recalled_all l.rest) memory left;
+      held : AllByRecursion (λ e. g.R.Point.Stored.held e.1 ≡ held_at v e.0) l.name-iterator;
     }

@@ -1,0 +1,52 @@
+//! Room for what is read of one term at a time.
+
+ghost use Rattle.std.specs.Prelude.{◌≡◌, ◌≤◌, map, vec_len, IfOk};
+ghost use Rattle.std.specs.List.{range_with_len};
+ghost use Rattle.operations.specs.declared.counted.Counted.TheVariants.{Execs};
+ghost use Rattle.replica_state.specs.Points.{rights_of_key};
+ghost use Rattle.sharing.specs.Rooms.{IsAsLarge};
+
+use replica_state::Stored;
+use std::alloc::{AllocError, Global};
+
+/// The rights of each node to a term, and its executions of it.
+#[derive(Debug, Drop)]
+pub(crate) struct Room {
+    pub(crate) rights: Vec<i128>,
+    pub(crate) executions: Vec<u64>,
+}
+
+impl Room {
+    /// Room for so many nodes.
+    pub(crate) fn new(alloc: Global, nodes: u8) -> Result<Room, AllocError>
+        ensures rights { IfOk result (λ room. vec_len room.rights ≡ nodes) }
+        ensures executions { IfOk result (λ room. vec_len room.executions ≡ nodes) }
+    {
+        Ok(Room {
+            rights: vec![in alloc; 0; usize::from(nodes)]?,
+            executions: vec![in alloc; 0; usize::from(nodes)]?,
+        })
+    }
+
+    /// Reads the rights of each node to a term.
+    pub(crate) fn read_rights<S: Stored>(&mut self, stored: &S, term: u8)
+        requires { vec_len self.old.rights ≤ 256 }
+        ensures rights { self.new.rights.items ≡ map
+            (rights_of_key (S.held stored.now).key (S.held stored.now).number term)
+            (range_with_len 0 (vec_len self.old.rights)) }
+        ensures kept { IsAsLarge self.old self.new }
+    {
+        stored.rights_of_all(term, &mut self.rights);
+    }
+
+    /// Reads how often each node executed a term.
+    pub(crate) fn read_executions<S: Stored>(&mut self, stored: &S, term: u8)
+        requires { vec_len self.old.executions ≤ 256 }
+        ensures executions { self.new.executions.items
+            ≡ map (λ node. (S.held stored.now).number (Execs term node))
+            (range_with_len 0 (vec_len self.old.executions)) }
+        ensures kept { IsAsLarge self.old self.new }
+    {
+        stored.execs_of_all(term, &mut self.executions);
+    }
+}
