@@ -1,6 +1,5 @@
 pub mod Statuses
-pub mod Recordings
-pub mod Checked
+pub mod Audited
 pub mod RefusedText
 pub mod ShortLines
 pub mod Explaining

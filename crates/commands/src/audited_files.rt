@@ -5,7 +5,7 @@ ghost use Rattle.std.specs.Process.{exit_status};
 ghost use Rattle.streams.specs.Watched.{has_failed, has_unflushed};
 ghost use Rattle.drills.specs.declared.fault.DrillFault.TheVariants.{WriteFailed};
 ghost use Rattle.commands.specs.declared.audit_refused.AuditRefused.TheVariants.{Drill};
-ghost use Rattle.commands.specs.Recordings.{SaysOfAFile, SaysOfSomeParts};
+ghost use Rattle.commands.specs.Audited.{SaysOfAFile, SaysOfSomeParts};
 ghost use Rattle.commands.specs.Statuses.{OnStatus};
 
 use crate::advice::{advice_on_audit, missing_of};

@@ -11,8 +11,8 @@ ghost use Rattle.drills.specs.Taken.{IfBytes, bytes_left};
 ghost use Rattle.drills.specs.declared.join_fault.JoinFault.{JoinFault};
 ghost use Rattle.drills.specs.Joined.{joined_of};
 ghost use Rattle.drills.specs.Parts.{part_of};
-ghost use Rattle.commands.specs.Recordings.{SaysOfParts, SaysVerdict, cuts_below, cuts_text};
-ghost use Rattle.commands.specs.Recordings.{is_cut_at, nodes_in};
+ghost use Rattle.commands.specs.Audited.{SaysOfParts, SaysVerdict, cuts_below, cuts_text};
+ghost use Rattle.commands.specs.Audited.{is_cut_at, nodes_in};
 
 use crate::audit_refused::AuditRefused;
 use audit::{AuditFault, AuditYes, audit, verdict_text};

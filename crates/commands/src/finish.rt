@@ -2,15 +2,18 @@
 
 ghost use Rattle.std.specs.Prelude.{◌≡◌, ◌↔◌, ◌⊎◌, true, false, IfOk, IsOk, IsErr, Ok};
 ghost use Rattle.std.specs.Process.{exit_status};
+ghost use Rattle.streams.specs.Streams.{Writes};
+ghost use Rattle.streams.specs.Watched.{has_failed};
 ghost use Rattle.commands.specs.Statuses.{HasStatus};
 
 use crate::audit_refused::AuditRefused;
 use actions::{ActionFault, Actions};
 use command_line::quoted;
 use drills::DrillFault;
-use scripts::ScriptFault;
+use scripts::{ScriptFault, Watched, write_text};
 use std::alloc::AllocGlobal;
 use std::fmt::Display;
+use std::io::Write;
 use std::process::ExitCode;
 
 /// Says why something was refused and, where it is known, in a second line what was met and what to
@@ -27,6 +30,17 @@ pub fn refuse<R: Eprint, E: Display + Drop>(
         eprintln!(rt; "{advice}")?;
     }
     Ok(ExitCode::FAILURE)
+}
+
+/// Says what there is to say: that it can't be written is no fault.
+pub fn say<E: Write>(errors: &mut Watched<E>, said: &[u8])
+    requires { has_failed errors.old ≡ false }
+    ensures { has_failed errors.new ≡ false →
+        Writes E.contents errors.old errors.new said.now }
+{
+    if !said.is_empty() {
+        let _ = write_text(errors, said);
+    }
 }
 
 /// Says that no file has this path.

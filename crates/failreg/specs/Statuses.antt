@@ -2,6 +2,8 @@
 use Rattle.std.specs.Prelude.{ℕ, Option, Some, None}
 use Rattle.http_service.specs.declared.ending.Reason.{Reason}
 use Rattle.http_service.specs.declared.ending.Reason.TheVariants.{Asked, OwnAhead, AckAhead}
+use Rattle.node_calls.specs.declared.fault.NodeFault.{NodeFault}
+use Rattle.node_calls.specs.declared.fault.NodeFault.TheVariants as faults
 use Rattle.clap.specs.declared.error.kind.ErrorKind.{ErrorKind}
 use Rattle.clap.specs.declared.error.kind.ErrorKind.TheVariants.{DisplayHelp, DisplayVersion}
 
@@ -18,3 +20,10 @@ early_status None = 0
 early_status (Some Asked) = 0
 early_status (Some OwnAhead) = 4
 early_status (Some AckAhead) = 4
+
+-- the fault that showed that it has, which is told
+abbrev pub forgotten : Option Reason → Option NodeFault
+forgotten None = None
+forgotten (Some Asked) = None
+forgotten (Some OwnAhead) = Some faults.OwnAhead
+forgotten (Some AckAhead) = Some faults.AckAhead

@@ -1,11 +1,12 @@
 //! How the program ends without a run, and after a node was served: what it says last, and its exit
 //! status.
 
-ghost use Rattle.std.specs.Prelude.{◌≡◌, ◌⊎◌, IfOk, IfErr, IfSome, None};
+ghost use Rattle.std.specs.Prelude.{◌≡◌, ◌⊎◌, IfOk, IfErr, IfSome, IsOk, None};
+ghost use Rattle.std.specs.IoError.{error_kind};
 ghost use Rattle.std.specs.Process.{exit_status};
 ghost use Rattle.clap.specs.Values.{kind_of};
 ghost use Rattle.commands.specs.Statuses.{HasStatus};
-ghost use Rattle.failreg.specs.Statuses.{early_status, unread_status};
+ghost use Rattle.failreg.specs.Statuses.{early_status, forgotten, unread_status};
 
 use commands::refuse;
 use node_core::NodeFault;
@@ -43,6 +44,7 @@ pub fn finish_serve<R: Print + Eprint>(
 
 // The fault that showed that a node has forgotten what it did, where its service ended by that.
 fn forgotten(early: Option<Reason>) -> Option<NodeFault>
+    ensures fault { result ≡ forgotten early }
     ensures none { result ≡ None → early_status early ≡ 0 }
     ensures some { IfSome result (λ _. early_status early ≡ 4) }
 {
@@ -66,7 +68,8 @@ fn say_forgotten<R: Eprint>(rt: &R, node: u8, fault: NodeFault) -> io::Result<()
 /// Where the words of the command line can't be read: one isn't UTF-8, which is a mistake in it, or
 /// memory is refused, which is the program's own error.
 pub fn finish_unreadable<R: Eprint>(rt: &R, error: io::Error) -> anyhow::Result<ExitCode>
-    ensures { HasStatus result 2 }
+    ensures status { HasStatus result 2 }
+    ensures kind { IsOk result → error_kind error ≡ ErrorKind.InvalidData }
 {
     if error.kind() != ErrorKind::InvalidData {
         return Err(error.into());

@@ -6,7 +6,8 @@ ghost use Rattle.std.specs.Process.{exit_status};
 ghost use Rattle.node_steps.specs.Refusals.{is_bad_config};
 ghost use Rattle.node_service.specs.Caps.{cap_of};
 ghost use Rattle.streams.specs.Watched.{has_failed};
-ghost use Rattle.commands.specs.Statuses.{HasStatus};
+ghost use Rattle.commands.specs.Statuses.{HasStatus, OnStatus};
+ghost use Rattle.failreg.specs.Runs.{IsDone, MayEnd, wants_objects};
 
 mod advice;
 mod finish;
@@ -18,10 +19,7 @@ use advice::advice_on_service;
 use command_line::{
     AuditOptions, Invocation, PartOptions, PictureOptions, ServeOptions, read_command_line,
 };
-use commands::{
-    audit, check, check_threads, draw_drill, explain_codes, finish_objects, parse, say, sim,
-    threads,
-};
+use commands::{audit, check, draw_drill, explain_codes, finish_objects, parse, say, sim};
 use finish::{finish_serve, finish_unread, finish_unreadable};
 use node_service::{ServiceFault, serve_node, serve_recorded};
 use part_advice::advice_on_recorded;
@@ -37,6 +35,7 @@ use std::thread::Threads;
 use std::time::Clock;
 use std::{io, net};
 use streams::Watched;
+use thread_commands::{check_threads, threads};
 
 fn main(rt: HostRuntime) -> anyhow::Result<ExitCode> {
     // They are held to the end.
@@ -69,7 +68,9 @@ fn main(rt: HostRuntime) -> anyhow::Result<ExitCode> {
 }
 
 // Whether answers are to be written as objects of JSON.
-fn wants_objects(invocation: &Invocation<'_>) -> bool {
+fn wants_objects(invocation: &Invocation<'_>) -> bool
+    ensures { result ≡ wants_objects invocation.now }
+{
     match invocation {
         Invocation::Sim(options) => options.json,
         Invocation::Threads(options) => options.json,
@@ -105,6 +106,8 @@ where
         + Eprint,
     requires writer { has_failed writer.old ≡ false }
     requires errors { has_failed errors.old ≡ false }
+    ensures status { IfOk result (λ code. MayEnd invocation.entry (exit_status code)) }
+    ensures done { OnStatus result 0 (IsDone invocation.entry O.contents writer.old writer.new) }
 {
     let mut reader = Watched::new(rt.reader());
     match invocation {

@@ -1,12 +1,11 @@
 //! Requests of HTTP that a program's own server was sent.
 
 ghost use Rattle.std.specs.Prelude.{◌≡◌, ◌≢◌, MatchOption};
-ghost use Rattle.failreg_c.specs.Numbers.{closed};
-ghost use Rattle.failreg_c.specs.Calls.{Both};
-ghost use Rattle.failreg_c.specs.Answered.{IsAnswered, IsNoRequest, MayLackMemory};
+ghost use Rattle.node_for_c.specs.Numbers.{closed};
+ghost use Rattle.node_for_c.specs.Calls.{Both};
+ghost use Rattle.node_for_c.specs.Answered.{IsAnswered, IsNoRequest, MayLackMemory};
 
-use crate::calls::CLOSED;
-use crate::handle::Node;
+use node_for_c::{CLOSED, Node};
 use std::alloc::Global;
 
 /// Answers a request of HTTP as a served node does, and tells the status of the reply, whose body is

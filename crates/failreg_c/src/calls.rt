@@ -1,30 +1,21 @@
 //! The calls that change a node.
 
-ghost use Rattle.std.specs.Prelude.{◌≡◌, ◌≢◌, [], false, IfOk, IsSome, IsUtf8, MatchOption, None};
+ghost use Rattle.std.specs.Prelude.{◌≡◌, ◌≢◌, [], false, IsSome, IsUtf8, MatchOption, None};
 ghost use Rattle.node_calls.specs.Asks as asks;
 ghost use Rattle.node_calls.specs.Asks.{bare_emit};
 ghost use Rattle.node_core.specs.Memory.{DeliveryNeedsMemory, EmitNeedsMemory, LoadNeedsMemory};
 ghost use Rattle.node_core.specs.Memory.{NameNeedsMemory, SetNeedsMemory};
 ghost use Rattle.node_core.specs.Traces.{delivery_of};
-ghost use Rattle.failreg_c.specs.Numbers.{already_open, closed, no_stamp, stamp_in};
-ghost use Rattle.failreg_c.specs.Told.{no_act};
-ghost use Rattle.failreg_c.specs.Calls.{AtPoint, Both, HasNumber, IsEmitted, IsLeft, IsLeftAt, IsMade};
-ghost use Rattle.failreg_c.specs.Calls.{IsNoName, IsNotOpened, IsOpened, IsRefusedAt};
-ghost use Rattle.failreg_c.specs.Calls.{IsPassedDrawing, IsPassedGiven, IsRefused, IsRefusedOf};
-ghost use Rattle.failreg_c.specs.Calls.{Stays, said_of, words_drawn};
+ghost use Rattle.node_for_c.specs.Numbers.{already_open, closed, no_stamp, stamp_in};
+ghost use Rattle.node_for_c.specs.Told.{no_act};
+ghost use Rattle.node_for_c.specs.Calls.{AtPoint, Both, HasNumber, IsEmitted, IsLeft, IsLeftAt, IsMade};
+ghost use Rattle.node_for_c.specs.Calls.{IsNoName, IsNotOpened, IsOpened, IsRefusedAt};
+ghost use Rattle.node_for_c.specs.Calls.{IsPassedDrawing, IsPassedGiven, IsRefused, IsRefusedOf};
+ghost use Rattle.node_for_c.specs.Calls.{Stays, words_drawn};
 
-use crate::act::{Act, UNSET};
-use crate::handle::Node;
-use crate::numbers::{NO_STAMP, Stamped};
-use crate::registry::{Registry, number_of};
-use node_core::{Config, Generator, NodeCore, NodeFault};
-use std::alloc::{AllocError, Global};
-
-/// What a call of a node that is closed is answered.
-pub(crate) const CLOSED: u32 = 31;
-
-/// What an open is answered that finds the node open.
-const OPEN: u32 = 32;
+use node_core::Config;
+use node_for_c::{Act, CLOSED, NO_STAMP, Node, OPEN, Registry, Stamped, UNSET};
+use std::alloc::Global;
 
 /// Opens a closed node as a node of a cluster, which accepts so many calls in its life and takes
 /// its random draws from the seed. Answers 0, or why not.
@@ -53,32 +44,13 @@ pub extern "C" fn failreg_open(
         nodes,
         trace_cap,
     };
-    let core = match NodeCore::new(alloc, config) {
-        Ok(core) => core,
-        Err(fault) => return number_of(fault),
-    };
-    let generator = Generator::new(*seed, u64::from(number));
-    match boxed(alloc, core, generator) {
+    match Registry::open(alloc, config, seed) {
         Ok(registry) => {
             *node = Node::of(registry);
             0
         }
-        Err(_) => number_of(NodeFault::OutOfMemory),
+        Err(status) => status,
     }
-}
-
-// The registry of a node that has accepted no call.
-fn boxed(alloc: Global, core: NodeCore, generator: Generator) -> Result<Box<Registry>, AllocError>
-    ensures core { IfOk result (λ b. b.value.core ≡ core) }
-    ensures generator { IfOk result (λ b. b.value.generator ≡ generator) }
-    ensures room { IfOk result (λ b. b.value.room ≡ []) }
-    ensures said { IfOk result (λ b. said_of b.value ≡ []) }
-    ensures words { IfOk result (λ b. b.value.words.items ≡ []) }
-    ensures points { IfOk result (λ b. b.value.points ≡ []) }
-    ensures fault { IfOk result (λ b. b.value.fault ≡ None) }
-    ensures memory { IfOk result (λ b. b.value.memory ≡ []) }
-{
-    Ok(Box::new(alloc, Registry::new(alloc, core, generator)?)?)
 }
 
 /// Closes a node, if it is open: what it held is given back, and it is left closed.
@@ -86,7 +58,7 @@ fn boxed(alloc: Global, core: NodeCore, generator: Generator) -> Result<Box<Regi
 pub extern "C" fn failreg_close(alloc: Global, node: &mut Node)
     ensures { node.new.handle.kept ≡ None }
 {
-    drop(node.take(alloc));
+    node.close(alloc);
 }
 
 /// Sets a point to an action text, and tells the stamp of the setting.

@@ -2,11 +2,10 @@
 
 ghost use Rattle.std.specs.Prelude.{◌≡◌, ◌≢◌, drop, length, MatchOption};
 ghost use Rattle.node_core.specs.Traces.{without_kept};
-ghost use Rattle.failreg_c.specs.Numbers.{closed};
-ghost use Rattle.failreg_c.specs.Calls.{Both};
+ghost use Rattle.node_for_c.specs.Numbers.{closed};
+ghost use Rattle.node_for_c.specs.Calls.{Both};
 
-use crate::calls::CLOSED;
-use crate::handle::Node;
+use node_for_c::{CLOSED, Node};
 use std::alloc::Global;
 
 /// Tells how many of the accepted calls the node keeps, each of which takes memory: those since it

@@ -1,14 +1,11 @@
 //! Pauses, which end where the setting does.
 
 ghost use Rattle.std.specs.Prelude.{◌≡◌, ◌≢◌, ◌↔◌, false, IsTrue, MatchOption};
-ghost use Rattle.failreg_c.specs.Numbers.{closed, stamp_in};
-ghost use Rattle.failreg_c.specs.Calls.{IsNoName};
-ghost use Rattle.failreg_c.specs.Pauses.{IsPauseOver};
+ghost use Rattle.node_for_c.specs.Numbers.{closed, stamp_in};
+ghost use Rattle.node_for_c.specs.Calls.{IsNoName};
+ghost use Rattle.node_for_c.specs.Pauses.{IsPauseOver};
 
-use crate::calls::CLOSED;
-use crate::handle::Node;
-use crate::numbers::Stamped;
-use crate::registry::{Registry, read_name};
+use node_for_c::{CLOSED, Node, Stamped};
 use stamp_register::Stamp;
 use std::alloc::Global;
 
@@ -37,21 +34,8 @@ pub extern "C" fn failreg_pause_over(
         clock: stamp.clock,
         node: stamp.node,
     };
-    let (status, answer) = pause_over_at(alloc, &registry, name, since);
+    let (status, answer) = registry.pause_over(alloc, name, since);
     *node = Node::of(registry);
     *is_over = answer;
     status
-}
-
-#[tactic(auto, unfolding(crate::specs::Pauses::IsPauseOver))]
-fn pause_over_at(alloc: Global, registry: &Registry, name: &[u8], since: Stamp) -> (u32, bool)
-    ensures value { result.0 ≡ 0 → (IsTrue result.1
-        ↔ IsPauseOver registry.now.core name.now since) }
-    ensures refused { result.0 ≢ 0 → IsNoName name.now result.0 }
-    ensures none { result.0 ≢ 0 → result.1 ≡ false }
-{
-    match read_name(alloc, name) {
-        Ok(name) => (0, registry.core.pause_over(&name, since)),
-        Err(status) => (status, false),
-    }
 }

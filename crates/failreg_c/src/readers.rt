@@ -5,16 +5,11 @@ ghost use Rattle.node_steps.specs.Nodes.{setting_of};
 ghost use Rattle.node_steps.specs.Texts.{list_text};
 ghost use Rattle.node_core.specs.Traces.{node_of, state_known};
 ghost use Rattle.replica_state.specs.States.{rights_of, spent_of, total_hits};
-ghost use Rattle.failreg_c.specs.Numbers.{IsNearest, closed, no_memory, whole};
-ghost use Rattle.failreg_c.specs.Calls.{Both, FillsFront, IsNoName, IsSaid, fault_said, said_of};
+ghost use Rattle.node_for_c.specs.Numbers.{IsNearest, closed, no_memory, whole};
+ghost use Rattle.node_for_c.specs.Calls.{Both, FillsFront, IsNoName, IsSaid, fault_said, said_of};
 
-use crate::calls::CLOSED;
-use crate::handle::Node;
-use crate::numbers::{Wide, narrow};
-use crate::registry::{Registry, number_of, read_name};
-use actions::Name;
-use node_core::{NodeCore, NodeFault};
-use replica_state::Replica;
+use node_core::NodeFault;
+use node_for_c::{CLOSED, Node, Wide, narrow, number_of};
 use std::alloc::Global;
 
 /// Tells whether a point is set. That is no pass: the trace gets no entry.
@@ -36,7 +31,7 @@ pub extern "C" fn failreg_is_set(
         *is_set = false;
         return CLOSED;
     };
-    let (status, answer) = is_set_at(alloc, &registry, name);
+    let (status, answer) = registry.is_set(alloc, name);
     *node = Node::of(registry);
     *is_set = answer;
     status
@@ -62,7 +57,7 @@ pub extern "C" fn failreg_spent(
         *spent = Wide::of(0);
         return CLOSED;
     };
-    let (status, answer) = spent_at(alloc, &registry, name, term);
+    let (status, answer) = registry.spent(alloc, name, term);
     *node = Node::of(registry);
     *spent = Wide::of(answer);
     status
@@ -82,7 +77,7 @@ pub extern "C" fn failreg_hits(alloc: Global, node: &mut Node, name: &[u8], hits
         *hits = Wide::of(0);
         return CLOSED;
     };
-    let (status, answer) = hits_at(alloc, &registry, name);
+    let (status, answer) = registry.hits(alloc, name);
     *node = Node::of(registry);
     *hits = Wide::of(answer);
     status
@@ -110,7 +105,7 @@ pub extern "C" fn failreg_rights(
         *rights = 0;
         return CLOSED;
     };
-    let (status, answer) = rights_at(alloc, &registry, name, term, of);
+    let (status, answer) = registry.rights(alloc, name, term, of);
     *node = Node::of(registry);
     *rights = narrow(answer);
     status
@@ -269,60 +264,4 @@ pub extern "C" fn failreg_words(alloc: Global, node: &mut Node, into: &mut [u32]
     let length = registry.fetch_words(into);
     *node = Node::of(registry);
     length
-}
-
-fn is_set_at(alloc: Global, registry: &Registry, name: &[u8]) -> (u32, bool)
-    ensures value { result.0 ≡ 0 → (IsTrue result.1
-        ↔ IsSome (setting_of (state_known registry.now.core) name.now)) }
-    ensures refused { result.0 ≢ 0 → IsNoName name.now result.0 }
-    ensures none { result.0 ≢ 0 → result.1 ≡ false }
-{
-    match read_name(alloc, name) {
-        Ok(name) => (0, is_set(&registry.core, &name)),
-        Err(status) => (status, false),
-    }
-}
-
-fn is_set(core: &NodeCore, name: &Name) -> bool
-    ensures { IsTrue result ↔ IsSome (setting_of (state_known core.now) name.now) }
-{
-    match core.state().key(name) {
-        Some(key) => key.actions().is_some(),
-        None => false,
-    }
-}
-
-fn spent_at(alloc: Global, registry: &Registry, name: &[u8], term: u8) -> (u32, u128)
-    ensures value { result.0 ≡ 0
-        → result.1 ≡ spent_of (state_known registry.now.core) name.now term }
-    ensures refused { result.0 ≢ 0 → IsNoName name.now result.0 }
-    ensures none { result.0 ≢ 0 → result.1 ≡ 0 }
-{
-    match read_name(alloc, name) {
-        Ok(name) => (0, registry.core.spent(&name, term)),
-        Err(status) => (status, 0),
-    }
-}
-
-fn hits_at(alloc: Global, registry: &Registry, name: &[u8]) -> (u32, u128)
-    ensures value { result.0 ≡ 0 → result.1 ≡ total_hits (state_known registry.now.core) name.now }
-    ensures refused { result.0 ≢ 0 → IsNoName name.now result.0 }
-    ensures none { result.0 ≢ 0 → result.1 ≡ 0 }
-{
-    match read_name(alloc, name) {
-        Ok(name) => (0, registry.core.hits(&name)),
-        Err(status) => (status, 0),
-    }
-}
-
-fn rights_at(alloc: Global, registry: &Registry, name: &[u8], term: u8, of: u8) -> (u32, i128)
-    ensures value { result.0 ≡ 0
-        → result.1 ≡ rights_of (state_known registry.now.core) name.now term of }
-    ensures refused { result.0 ≢ 0 → IsNoName name.now result.0 }
-    ensures none { result.0 ≢ 0 → result.1 ≡ pos 0 }
-{
-    match read_name(alloc, name) {
-        Ok(name) => (0, registry.core.rights(&name, term, of)),
-        Err(status) => (status, 0),
-    }
 }

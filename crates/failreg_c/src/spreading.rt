@@ -1,13 +1,11 @@
 //! Calls that move rights to where passes happen, and deal them out to all nodes.
 
 ghost use Rattle.std.specs.Prelude.{◌≡◌, ◌≢◌};
-ghost use Rattle.failreg_c.specs.Numbers.{closed, no_stamp, stamp_in};
-ghost use Rattle.failreg_c.specs.Calls.{Both, IsNotSpreadBy, IsNotSpreadSet, IsShared, IsShareStopped};
-ghost use Rattle.failreg_c.specs.Calls.{IsSpread, IsSpreadSet, IsClosedOr};
+ghost use Rattle.node_for_c.specs.Numbers.{no_stamp, stamp_in};
+ghost use Rattle.node_for_c.specs.Calls.{Both, IsNotSpreadBy, IsNotSpreadSet, IsShared, IsShareStopped};
+ghost use Rattle.node_for_c.specs.Calls.{IsSpread, IsSpreadSet, IsClosedOr};
 
-use crate::calls::CLOSED;
-use crate::handle::Node;
-use crate::numbers::{NO_STAMP, Stamped};
+use node_for_c::{CLOSED, NO_STAMP, Node, Stamped};
 use std::alloc::Global;
 
 /// Makes the shifts of the node's rights that are due in a round, and tells how many.

@@ -1,7 +1,7 @@
 //! The version of the library.
 
 ghost use Rattle.std.specs.Prelude.{◌≡◌};
-ghost use Rattle.failreg_c.specs.Numbers.{library_version};
+ghost use Rattle.failreg_c.specs.Version.{library_version};
 
 /// Version 0.2.0.
 const VERSION: u32 = 200;

@@ -1,6 +1,6 @@
 use Rattle.std.proofs.Common.{◌≡◌, map, drop}
 use Rattle.drills.specs.Parts.{part_of}
-use Rattle.commands.specs.Recordings.{is_cut_at}
+use Rattle.commands.specs.Audited.{is_cut_at}
 use Rattle.commands.proofs.auditing.is_cut_at.Given as goal
 
 abbrev pub invariant-loop-part : goal.invariant-loop-part

@@ -1,6 +1,6 @@
 use Rattle.std.proofs.Common.{◌≡◌, ◌++◌, map, string_bytes}
 use Rattle.drills.specs.Parts.{part_of}
-use Rattle.commands.specs.Recordings.{cuts_below}
+use Rattle.commands.specs.Audited.{cuts_below}
 use Rattle.commands.proofs.auditing.push_cuts.Given as goal
 
 abbrev pub invariant-loop-node : goal.invariant-loop-node

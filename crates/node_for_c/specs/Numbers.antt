@@ -1,0 +1,91 @@
+-- Numbers that C is told: the status of a call, which is 0, the number of a fault, with which its text begins, or
+-- one of these; stamps, and numbers that don't fit.
+use Rattle.std.specs.Prelude.{◌≡◌, ℕ, ℤ, ◌+◌, ◌*◌, ◌^◌, ◌≤ℤ◌, pos, neg_ℤ, List, ◌++◌, codes, decimal}
+use Rattle.stamp_register.specs.declared.key.Stamp.{Stamp}
+use Rattle.node_calls.specs.declared.fault.NodeFault.{NodeFault}
+use Rattle.node_calls.specs.declared.fault.NodeFault.TheVariants as faults
+use Rattle.node_calls.specs.FaultText.{node_fault_text}
+use Rattle.node_for_c.specs.declared.numbers.Stamped.{Stamped}
+use Rattle.node_for_c.specs.declared.numbers.Wide.{Wide}
+
+abbrev pub number : NodeFault → ℕ
+number faults.TraceFull = 1
+number faults.BadName = 2
+number (faults.BadActions _) = 3
+number faults.TooManyPoints = 4
+number faults.ClockFull = 5
+number faults.NotSet = 6
+number faults.NoSuchTerm = 7
+number faults.NotCounted = 8
+number faults.BadNode = 9
+number faults.ZeroAmount = 10
+number (faults.TooFewRights _) = 11
+number faults.CellFull = 12
+number (faults.BadWords _) = 14
+number (faults.BadMessage _) = 16
+number faults.NotForMe = 17
+number faults.OwnAhead = 18
+number faults.AckAhead = 19
+number faults.Overspent = 20
+number faults.BadConfig = 21
+number faults.OutOfMemory = 22
+
+-- the text of a fault begins with `N`, its number and a space
+abbrev pub IsNumbered : NodeFault → Type 0
+IsNumbered fault =
+    (rest : List ℕ) × (node_fault_text fault ≡ codes "N" ++ decimal (number fault) ++ codes " " ++ rest)
+
+-- memory was refused
+abbrev pub no_memory : ℕ
+no_memory = number faults.OutOfMemory
+
+-- a text isn't UTF-8
+abbrev pub not_text : ℕ
+not_text = 30
+
+-- the node is closed
+abbrev pub closed : ℕ
+closed = 31
+
+-- the node is open already
+abbrev pub already_open : ℕ
+already_open = 32
+
+-- no point of the node has the number
+abbrev pub no_point : ℕ
+no_point = 33
+
+-- the node answers the call of a line otherwise, or refuses it; it keeps no call of the number; bytes are no line of a
+-- call
+abbrev pub differs : ℕ
+differs = 23
+
+abbrev pub no_entry : ℕ
+no_entry = 34
+
+abbrev pub no_line : ℕ
+no_line = 35
+
+-- a stamp as C has it, and what C is told where there is none
+abbrev pub stamp_in : Stamped → Stamp
+stamp_in s = record { clock = s.clock; node = s.node }
+
+abbrev pub no_stamp : Stamped
+no_stamp = record { clock = 0; node = 0 }
+
+-- the number of two halves
+abbrev pub whole : Wide → ℕ
+whole w = w.low + 2 ^ 64 * w.high
+
+-- the greatest and the least number of 64 bits
+abbrev pub greatest : ℤ
+greatest = pos 9223372036854775807
+
+abbrev pub least : ℤ
+least = neg_ℤ (pos 9223372036854775808)
+
+-- of the numbers of 64 bits the one that is nearest to a number
+abbrev pub IsNearest : ℤ → ℤ → Type 0
+IsNearest number told =
+    (greatest ≤ℤ number → told ≡ greatest) × (number ≤ℤ least → told ≡ least) ×
+    (least ≤ℤ number → number ≤ℤ greatest → told ≡ number)

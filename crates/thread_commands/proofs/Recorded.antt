@@ -1,0 +1,23 @@
+-- What a recorded run writes, where its reader tells its bytes.
+use Rattle.std.proofs.Common.{◌≡◌, List, ℕ, Option, Some, None, Result, Ok, Err, refl, subst}
+use Rattle.std.specs.Prelude.{IfSome, OnOk}
+use Rattle.streams.specs.Streams.{Writes}
+use Rattle.streams.specs.declared.watched.Watched.{Watched}
+use Rattle.audit.specs.Receipts.{Lists}
+use Rattle.audit.specs.Traces.{Traces}
+use Rattle.thread_commands.specs.Recordings.{IsKept}
+use Rattle.thread_plans.specs.Plans.{PlanValue, plan_in}
+use Rattle.thread_scripts.specs.Outputs.{ComesToSaying, PlaysSaying}
+
+-- the script that was read is the input, what it prints was written, and what it is warned of is said
+pub played : {O T E : Type 0} (Keeps : Traces → Lists → Type 0) (contents : O → Option (List ℕ)) (old new : Watched O)
+    (script : List ℕ) (plan : PlanValue) (said : List ℕ) (result : Result T E) (input : Option (List ℕ))
+    → IfSome input (λ bytes. script ≡ bytes) → plan_in script ≡ Ok plan →
+    OnOk result (IsKept Keeps script plan said contents old new)
+    → OnOk result (IfSome input (λ bytes. PlaysSaying bytes (Writes contents old new) (λ warned. said ≡ warned)))
+played Keeps contents old new script plan said (Err fault) input same planned h = tt
+played Keeps contents old new script plan said (Ok done) None same planned h = tt
+played Keeps contents old new script plan said (Ok done) (Some bytes) same planned h =
+    let comes : ComesToSaying script h.text said =
+    (plan, h.traces, h.lists, h.explained, planned, h.legal, h.given, h.judged, h.warned) in
+    (h.text, said, subst (λ b. ComesToSaying b h.text said) same comes, h.printed, refl)

@@ -1,0 +1,3 @@
+pub mod Recordings
+pub mod Said
+pub mod Checked

@@ -1,0 +1,164 @@
+//! Recorded drills: a script of threads whose drill is kept.
+
+ghost use Rattle.std.specs.Prelude.{◌≡◌, ◌≢◌, ◌↔◌, ◌<◌, ◌≤◌, ◌⊎◌, ℕ, length, true, false, Err};
+ghost use Rattle.std.specs.Prelude.{IfErr, IfOk, OnErr, OnOk};
+ghost use Rattle.streams.specs.declared.fault.ScriptFault.TheVariants.{BadLine, OutOfMemory};
+ghost use Rattle.streams.specs.declared.fault.ScriptFault.TheVariants.{ReadFailed, TooLong};
+ghost use Rattle.streams.specs.declared.fault.ScriptFault.TheVariants.{WriteFailed};
+ghost use Rattle.streams.specs.Streams.{IfInput, Writes};
+ghost use Rattle.streams.specs.Watched.{has_failed, has_unflushed};
+ghost use Rattle.thread_scripts.specs.Outputs.{PlaysSaying};
+ghost use Rattle.thread_plans.specs.BadLines.{bad_text};
+ghost use Rattle.thread_plans.specs.Plans.{plan_in, plan_value};
+ghost use Rattle.thread_commands.specs.Recordings.{IsKept, KeepsDrill};
+
+use drills::{DrillFault, write_drill};
+use std::alloc::Global;
+use std::fs;
+use std::fs::Files;
+use std::io::{BufWriter, Read, Write};
+use std::sync::Wait;
+use std::thread::Threads;
+use streams::{MOST_BYTES, ScriptFault, Watched, read_script, write_text};
+use thread_scripts::{Played, ThreadPlan, judged_output_of, play, read_plan_saying, warnings_of};
+
+/// Why a drill wasn't written, as scripts tell it.
+pub fn unwritten(fault: DrillFault) -> ScriptFault
+    ensures only { (result ≡ WriteFailed) ⊎ (result ≡ OutOfMemory) }
+    ensures write_failed { (result ≡ WriteFailed) ↔ (fault ≡ DrillFault.WriteFailed) }
+{
+    match fault {
+        DrillFault::WriteFailed => ScriptFault::WriteFailed,
+        DrillFault::ReadFailed | DrillFault::OutOfMemory | DrillFault::BadLine { .. } => {
+            ScriptFault::OutOfMemory
+        }
+    }
+}
+
+/// Writes the drill of a run.
+pub fn keep_drill<D: Write>(
+    alloc: Global,
+    played: &Played,
+    recorder: &mut Watched<D>,
+) -> Result<(), ScriptFault>
+    requires { has_failed recorder.old ≡ false }
+    ensures kept { OnOk result (KeepsDrill D.contents recorder.old recorder.new
+        played.now.traces.items played.now.lists.items) }
+    ensures flushed { OnOk result (has_unflushed recorder.new ≡ false) }
+    ensures write_failed { (result ≡ Err WriteFailed) ↔ (has_failed recorder.new ≡ true) }
+    ensures only { IfErr result (λ fault. (fault ≡ WriteFailed) ⊎ (fault ≡ OutOfMemory)) }
+{
+    match write_drill(alloc, &played.traces, &played.lists, recorder) {
+        Ok(()) => Ok(()),
+        Err(fault) => Err(unwritten(fault)),
+    }
+}
+
+// Plays the plan of a script, keeps its drill, and then writes what it prints and sets what is said to
+// what it is warned of.
+fn play_recorded<R: Threads + Wait + Sync, D: Write, O: Write>(
+    rt: &R,
+    alloc: Global,
+    script: &[u8],
+    plan: &ThreadPlan<'_>,
+    recorder: &mut Watched<D>,
+    writer: &mut Watched<O>,
+    said: &mut Vec<u8>,
+) -> Result<(), ScriptFault>
+    requires length { length script.now ≤ MOST_BYTES }
+    requires recorder { has_failed recorder.old ≡ false }
+    requires writer { has_failed writer.old ≡ false }
+    // The drill that was kept is the one whose output was written, and of which a warning is said.
+    ensures ok { OnOk result (IsKept (KeepsDrill D.contents recorder.old recorder.new)
+        script.now (plan_value plan.now) said.new.items O.contents writer.old writer.new) }
+    ensures unsaid { OnErr result (said.new ≡ said.old) }
+    ensures kept_whole { OnOk result (has_unflushed recorder.new ≡ false) }
+    ensures flushed { OnOk result (has_unflushed writer.new ≡ false) }
+    ensures only { IfErr result (λ fault. (fault ≡ WriteFailed) ⊎ (fault ≡ OutOfMemory)) }
+    ensures write_failed { (result ≡ Err WriteFailed)
+        ↔ ((has_failed recorder.new ≡ true) ⊎ (has_failed writer.new ≡ true)) }
+    ensures unwritten { result ≡ Err OutOfMemory → writer.new ≡ writer.old }
+{
+    let played = play(rt, alloc, plan)?;
+    keep_drill(alloc, &played, recorder)?;
+    let (text, yes) = judged_output_of(alloc, plan, &played)?;
+    let warned = warnings_of(alloc, script, plan, &played, yes)?;
+    write_text(writer, text.as_bytes())?;
+    *said = warned;
+    Ok(())
+}
+
+/// Writes to a file, from its beginning on.
+pub fn file_at<R: Files>(
+    rt: &R,
+    alloc: Global,
+    path: &str,
+) -> Result<Watched<BufWriter<R::File>>, ScriptFault>
+    ensures sound { IfOk result (λ file. has_failed file ≡ false) }
+    ensures only { IfErr result (λ fault. (fault ≡ WriteFailed) ⊎ (fault ≡ OutOfMemory)) }
+{
+    let Ok(file) = fs::create(rt, path) else {
+        return Err(ScriptFault::WriteFailed);
+    };
+    let Ok(file) = BufWriter::new(alloc, file) else {
+        return Err(ScriptFault::OutOfMemory);
+    };
+    Ok(Watched::new(file))
+}
+
+/// Whether a file is there that holds what is written, unlike a pipe or a device.
+pub fn is_kept<R: Files>(rt: &R, path: &str) -> bool {
+    match fs::metadata(rt, path) {
+        Ok(there) => there.is_file(),
+        Err(_) => false,
+    }
+}
+
+/// Runs the script of threads that a reader gives, keeps its drill in a file, and writes what it
+/// prints; and sets what is said as `run_threads_warning` does. A script that can't be read leaves the
+/// file as it was.
+pub fn run_recorded<R: Threads + Wait + Sync + Files, I: Read, O: Write>(
+    rt: &R,
+    alloc: Global,
+    path: &str,
+    reader: &mut Watched<I>,
+    writer: &mut Watched<O>,
+    said: &mut Vec<u8>,
+) -> Result<(), ScriptFault>
+    requires reader { has_failed reader.old ≡ false }
+    requires writer { has_failed writer.old ≡ false }
+    // The script has a plan, its whole output is written and flushed, and what is said is what it is
+    // warned of.
+    ensures ok { OnOk result (IfInput I.remaining reader.old (λ input. PlaysSaying input
+        (Writes O.contents writer.old writer.new) (λ warned. said.new.items ≡ warned))) }
+    ensures flushed { OnOk result (has_unflushed writer.new ≡ false) }
+    // The line is the first that is bad.
+    ensures bad_line { (line : ℕ) → result ≡ Err (BadLine line) →
+        IfInput I.remaining reader.old (λ input. plan_in input ≡ Err line) }
+    ensures bad_said { (line : ℕ) → result ≡ Err (BadLine line) →
+        IfInput I.remaining reader.old (λ input. said.new.items ≡ bad_text input) }
+    ensures unsaid { IfErr result (λ fault.
+        ((line : ℕ) → fault ≢ BadLine line) → said.new ≡ said.old) }
+    ensures read_failed { (result ≡ Err ReadFailed) ↔ (has_failed reader.new ≡ true) }
+    ensures too_long { result ≡ Err TooLong →
+        IfInput I.remaining reader.old (λ input. MOST_BYTES < length input) }
+    // After any other fault the writer is as it was.
+    ensures unwritten { IfErr result (λ fault. fault ≢ WriteFailed → writer.new ≡ writer.old) }
+    ensures write_failed { has_failed writer.new ≡ true → result ≡ Err WriteFailed }
+    // A longer script is too long, but where a read failed or memory was refused before.
+    ensures long { IfInput I.remaining reader.old (λ input. MOST_BYTES < length input →
+        (result ≡ Err TooLong) ⊎ (has_failed reader.new ≡ true) ⊎ (result ≡ Err OutOfMemory)) }
+{
+    let script = read_script(alloc, reader)?;
+    let plan = read_plan_saying(alloc, script.as_slice(), said)?;
+    let mut recorder = file_at(rt, alloc, path)?;
+    play_recorded(
+        rt,
+        alloc,
+        script.as_slice(),
+        &plan,
+        &mut recorder,
+        writer,
+        said,
+    )
+}
