@@ -10,6 +10,10 @@ use Rattle.node_calls.specs.Told.{Told, ask_told, told}
 use Rattle.node_steps.specs.declared.config.Config.{Config}
 use Rattle.drills.specs.Reading.{entry_in}
 use Rattle.node_registry.specs.Receipts.{IsGiven, IsRefused}
+use Rattle.part_keeper.specs.declared.fault.LineFault.{LineFault}
+use Rattle.part_keeper.specs.declared.fault.LineFault.TheVariants as lines
+use Rattle.part_keeper.specs.declared.fault.PartFault.{PartFault}
+use Rattle.part_keeper.specs.declared.fault.PartFault.TheVariants as parts
 use Rattle.part_keeper.specs.declared.repeating.Next.{Next}
 use Rattle.part_keeper.specs.declared.repeating.Next.TheVariants.{Line, End, TooLong}
 use Rattle.part_keeper.specs.declared.repeating.Repeated.{Repeated}
@@ -39,6 +43,12 @@ pub record IsOtherwise (config : Config) (seed line : List ℕ) : Type 0 where
   pub said : Told
   pub read : entry_in line ≡ Some said
   pub other : IsRefusedAgain config seed said ⊎ IsAnsweredOtherwise config seed said
+
+-- what is told of the line of this number
+abbrev pub in_line : LineFault → ℕ → PartFault
+in_line lines.NoCall line = parts.NoCall line
+in_line lines.Differs line = parts.Differs line
+in_line lines.OutOfMemory line = parts.OutOfMemory
 
 -- what bytes are that were taken up to a newline, to the end, or to the most bytes of a line
 abbrev pub next_in : List ℕ → Next

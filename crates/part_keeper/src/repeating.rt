@@ -5,7 +5,8 @@ ghost use Rattle.std.specs.Prelude.{None};
 ghost use Rattle.std.specs.Io.BufRead.{strip_last};
 ghost use Rattle.node_calls.specs.Told.{reply_told};
 ghost use Rattle.drills.specs.Reading.{entry_in as entry_read};
-ghost use Rattle.part_keeper.specs.Repeated.{IsOtherwise, IsRepeated, next_in, with_line};
+ghost use Rattle.part_keeper.specs.Repeated.{IsOtherwise, IsRepeated, in_line, next_in};
+ghost use Rattle.part_keeper.specs.Repeated.{with_line};
 
 use crate::fault::{LineFault, PartFault};
 use drills::entry_in;
@@ -78,7 +79,9 @@ pub fn repeat_call<L: Label, R: Wait>(
 }
 
 // The same of the line of this number.
-fn in_line(fault: LineFault, line: u64) -> PartFault {
+fn in_line(fault: LineFault, line: u64) -> PartFault
+    ensures { result ≡ in_line fault line }
+{
     match fault {
         LineFault::NoCall => PartFault::NoCall { line },
         LineFault::Differs => PartFault::Differs { line },
