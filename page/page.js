@@ -58,7 +58,13 @@ function keep(it) {
         if (it === null) sessionStorage.removeItem("key");
         else sessionStorage.setItem("key", it);
     } catch { }
-    find("lock").hidden = it === null;
+    showKey();
+}
+
+// Without a key the node takes changes from one address alone, whose Origin it lets in.
+function showKey() {
+    find("lock").hidden = key === null;
+    find("elsewhere").hidden = key !== null || location.hostname !== "localhost";
 }
 
 async function ask(method, path, body) {
@@ -364,12 +370,7 @@ find("rows").addEventListener("click", event => {
     if (remove !== undefined && confirm("Remove " + remove + "?")) change("remove " + remove, "DELETE", ["fail", remove]);
 });
 
-// The node's own address is the one whose Origin it lets in.
-if (location.hostname === "localhost") {
-    const home = "http://127.0.0.1:" + location.port + "/";
-    find("home").href = home;
-    put(find("home"), home);
-    find("elsewhere").hidden = false;
-}
-find("lock").hidden = key === null;
+find("home").href = "http://127.0.0.1:" + location.port + "/";
+put(find("home"), find("home").href);
+showKey();
 turn();

@@ -289,7 +289,11 @@ try {
 if (it === null) sessionStorage.removeItem("key");
 else sessionStorage.setItem("key", it);
 } catch { }
-find("lock").hidden = it === null;
+showKey();
+}
+function showKey() {
+find("lock").hidden = key === null;
+find("elsewhere").hidden = key !== null || location.hostname !== "localhost";
 }
 async function ask(method, path, body) {
 const headers = key === null ? {} : { authorization: "Bearer " + key };
@@ -554,13 +558,9 @@ const { edit: edited, remove } = (event.target.closest("button") || { dataset: {
 if (edited !== undefined) edit(edited);
 if (remove !== undefined && confirm("Remove " + remove + "?")) change("remove " + remove, "DELETE", ["fail", remove]);
 });
-if (location.hostname === "localhost") {
-const home = "http://127.0.0.1:" + location.port + "/";
-find("home").href = home;
-put(find("home"), home);
-find("elsewhere").hidden = false;
-}
-find("lock").hidden = key === null;
+find("home").href = "http://127.0.0.1:" + location.port + "/";
+put(find("home"), find("home").href);
+showKey();
 turn();
 </script>
 </body>
@@ -569,7 +569,7 @@ turn();
 
 /// The `Content-Security-Policy` of the page, with the hashes of its style and its script.
 pub const POLICY: &str = "default-src 'none'; \
-    script-src 'sha256-vJsJlScz3qxVoobQqqyDPoONvO+sY3usG9t2xpRvYn8='; \
+    script-src 'sha256-ncIydc8/L14PhH01suBnHmePnMTRjdGp7PtzV8bMj2Q='; \
     style-src 'sha256-8+5FRuRSBl/cIqyN7GcDWKemJeAmoDCQSLfOI6RGweA='; \
     connect-src 'self'; \
     base-uri 'none'; \
