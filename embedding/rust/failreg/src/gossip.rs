@@ -80,15 +80,16 @@ pub(crate) struct News {
 }
 
 impl Registry {
-    // What there is to tell a node that was last told this, if there is anything.
+    // What there is to tell a node that was last told this, if there is anything. Where nodes are heard
+    // first there always is: the other one may wait for this one, which takes it to know all.
     fn news_for(&self, to: u8, told: News) -> Result<Option<News>, Error> {
         let node = &mut self.lock().node;
         let news = News {
             version: node.version()?,
             known: node.known(to)?,
         };
-        let is_due = news.version > node.acked(to)? || news.known != told.known;
-        Ok(is_due.then_some(news))
+        let is_news = news.version > node.acked(to)? || news.known != told.known;
+        Ok((is_news || self.made.hears_first).then_some(news))
     }
 }
 
@@ -409,7 +410,8 @@ pub(crate) fn others(
 /// for a peer that can't be reached. A peer that isn't told, or doesn't answer with status 200, is
 /// left alone for a while, which doubles up to 5 seconds, and so is one that took in a message and
 /// tells nothing of it. A peer that hangs holds a round up for 2 seconds. It ends with the node: when
-/// that is closed, or has reached its cap.
+/// that is closed, or has reached its cap. A node that [hears others
+/// first](crate::Builder::hear_first) is told again without news after such a while.
 ///
 /// A peer that is the node itself is left out, so that all processes may be given the same peers.
 ///
