@@ -11,7 +11,9 @@ use Rattle.node_registry.specs.contracts.guarded.Seat as Seat
 use Rattle.node_registry.proofs.registry.Registry.TheSendSync as registry
 use Rattle.node_registry.proofs.guarded.Seat.TheSendSync as seat
 use Rattle.http_paths.proofs.Crossing.{routes_send, routes_sync}
-use Rattle.http_serve.specs.contracts.handler.ForgettingHandler as ForgettingHandler
+use Rattle.http_serve.specs.contracts.handler.forgetting.ForgettingHandler as ForgettingHandler
+use Rattle.http_serve.specs.contracts.handler.forgetting.ForgottenSeat as ForgottenSeat
+use Rattle.http_serve.proofs.handler.forgetting.ForgottenSeat.TheSendSync as forgotten
 use Rattle.http_serve.specs.contracts.handler.NodeHandler as NodeHandler
 use Rattle.http_serve.specs.contracts.handler.NodeReader as NodeReader
 use Rattle.http_serve.specs.contracts.handler.recording.RecordingHandler as RecordingHandler
@@ -54,17 +56,29 @@ handler_sync L g g' =
     recorded_sync (NodeHandler.the_field L g g').row _ _ (NodeHandler.the_type L g g').to_one
     (handler_fields_sync L g g')
 
+forgetting_fields_send : (L : RattleType) (g : label.Ghosts L.Denot) (g' : ledger.Ghosts L.Denot) →
+    IsSend (ForgettingHandler.the_field L g g').row
+forgetting_fields_send L g g' =
+    let behind = mutex.the_send (ForgottenSeat.the_row L g g') (forgotten.the_send L g g') in
+    struct_send (shape (ForgettingHandler.the_type L g g')) (reader_fields_send L g g', (behind, tt))
+
+forgetting_fields_sync : (L : RattleType) (g : label.Ghosts L.Denot) (g' : ledger.Ghosts L.Denot) →
+    IsSync (ForgettingHandler.the_field L g g').row
+forgetting_fields_sync L g g' =
+    let behind = mutex.the_sync (ForgottenSeat.the_row L g g') (forgotten.the_send L g g') in
+    struct_sync (shape (ForgettingHandler.the_type L g g')) (reader_fields_sync L g g', (behind, tt))
+
 pub forgetting_send : (L : RattleType) (g : label.Ghosts L.Denot) (g' : ledger.Ghosts L.Denot) →
     IsSend (ForgettingHandler.the_row L g g')
 forgetting_send L g g' =
     recorded_send (ForgettingHandler.the_field L g g').row _ _ (ForgettingHandler.the_type L g g').to_one
-    (struct_send (shape (ForgettingHandler.the_type L g g')) (handler_fields_send L g g', tt))
+    (forgetting_fields_send L g g')
 
 pub forgetting_sync : (L : RattleType) (g : label.Ghosts L.Denot) (g' : ledger.Ghosts L.Denot) →
     IsSync (ForgettingHandler.the_row L g g')
 forgetting_sync L g g' =
     recorded_sync (ForgettingHandler.the_field L g g').row _ _ (ForgettingHandler.the_type L g g').to_one
-    (struct_sync (shape (ForgettingHandler.the_type L g g')) (handler_fields_sync L g g', tt))
+    (forgetting_fields_sync L g g')
 
 recording_fields_send : (L : RattleType) (g : label.Ghosts L.Denot) (g' : ledger.Ghosts L.Denot) →
     IsSend (RecordingHandler.the_field L g g').row

@@ -1,4 +1,6 @@
 mod Calls
 mod Crossing
+mod Forgotten
 mod Methods
 mod Recorded
+mod Spreads

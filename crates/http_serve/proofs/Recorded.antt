@@ -1,5 +1,6 @@
 -- What a call at a node whose part is kept is answered.
-use Rattle.std.proofs.Common.{◌≡◌, ℕ, ◌+◌, List, Option, inl, inr, refl, sym, ap, ◌∙◌}
+use Rattle.std.proofs.Common.{◌≡◌, ℕ, ◌+◌, Bool, List, Option, Result, Ok, Err, IfOk, IfErr, inl, inr, refl, sym, ap, ◌∙◌, subst}
+use Rattle.std.specs.Prelude.{◌⊎◌, OnOk}
 use Rattle.node_calls.specs.declared.ask.Ask.{Ask}
 use Rattle.node_calls.specs.declared.fault.NodeFault.{NodeFault}
 use Rattle.node_calls.specs.declared.reply.Reply.{Reply}
@@ -8,14 +9,19 @@ use Rattle.node_calls.specs.Asks.{ask_value, ask_value_first, reply_value}
 use Rattle.node_steps.specs.declared.config.Config.{Config}
 use Rattle.node_registry.specs.Receipts.{IsAnswered}
 use Rattle.node_registry.specs.Receipts as registry
-use Rattle.part_keeper.specs.Kept.{IsRecorded}
+use Rattle.part_keeper.specs.Kept.{IsRecorded, IsUnanswered}
+use Rattle.part_keeper.specs.declared.fault.CallFault.{CallFault}
 use Rattle.part_keeper.specs.declared.fault.CallFault.TheVariants as faults
-use Rattle.http_replies.specs.Replies.{ReplyValue, IsReply, no_memory}
+use Rattle.http_replies.specs.declared.reply.HttpReply.{HttpReply}
+use Rattle.http_replies.specs.Replies.{ReplyValue, IsReply, http_value}
 use Rattle.http_routes.specs.Replies.{acceptance_value, refusal_value}
-use Rattle.http_routes.specs.Requests.{WantedValue, call}
+use Rattle.http_routes.specs.Requests.{WantedValue, call, wanted}
 use Rattle.http_routes.specs.Requests as wants
-use Rattle.http_serve.specs.Recorded.{IsNotMade, IsServedRecording, IsServedWriting}
+use Rattle.spread_routes.specs.Wanted.{SpreadValue}
+use Rattle.http_serve.specs.Recorded.{AnswersRecording, AreWritten, IsNotMade, IsNotRecorded, IsServedRecording, IsServedWriting, IsSpreadRecording, IsSpreadWriting, TellsFault}
 use Rattle.http_serve.specs.Served.{IsServed}
+use Rattle.http_serve.specs.Spreads.{AnswersRequest, IsSpreadFrom, IsSpreadServed}
+use Rattle.http_serve.proofs.Spreads.{answers_as}
 
 -- what is answered as by a node that records nothing
 pub as_ever : (config : Config) (seed : List ℕ) (wanted : WantedValue) (given : ReplyValue) →
@@ -26,9 +32,26 @@ as_ever config seed wants.report given is = is
 as_ever config seed wants.status given is = is
 as_ever config seed (wants.answered reply) given is = is
 
+-- and any request
+pub as_spread_ever : (config : Config) (seed : List ℕ) (keeps : Bool) (seats : ℕ) (method path body : List ℕ)
+    (given : ReplyValue) → AnswersRequest config seed keeps seats method path body given
+    → AnswersRecording config seed keeps seats method path body given
+as_spread_ever config seed keeps seats method path body given h =
+    let asked = wanted method path body in
+    answers_as (IsSpreadServed config seed keeps seats) (IsSpreadRecording config seed keeps seats)
+    (IsServed config seed asked) (IsServedRecording config seed asked) method path body given
+    (as_ever config seed asked given) (λ name came. inl came) h
+
+-- a fault that says that nothing is made any more is no other
+pub failed_otherwise : faults.RecordingFailed ≡ faults.NotRecorded → ⊥
+failed_otherwise is = let no : ⊥ = cc in no
+
 -- a refusal says that it wasn't made
 pub was_recorded : (fault : NodeFault) → faults.Refused fault ≡ faults.NotRecorded → ⊥
 was_recorded fault is = let no : ⊥ = cc in no
+
+is_made : (fault : NodeFault) → faults.Refused fault ≡ faults.RecordingFailed → ⊥
+is_made fault is = let no : ⊥ = cc in no
 
 module _ {W : Type 0} (contents : W → Option (List ℕ)) (old new : W) (had has : ℕ) (config : Config) (seed : List ℕ) where
   -- one that was accepted and written is answered so
@@ -58,6 +81,46 @@ module _ {W : Type 0} (contents : W → Option (List ℕ)) (old new : W) (had ha
       IsServedWriting contents old new had has config seed ask given
   unmade_so ask given is same = inr (inr (inr (inl is), same))
 
+  -- by what came of it
+  pub written_by : (S : Type 0) (ask : Ask) (given : ReplyValue) (made : Result Reply CallFault)
+      → IfOk made (IsAnswered config seed ask)
+      → IfOk made (IsRecorded contents old new ask)
+      → OnOk made (has ≡ had + 1)
+      → IfErr made (IsUnanswered config seed ask)
+      → IfErr made (λ fault. (fault ≡ faults.NotRecorded → ⊥) → (has ≡ had) × S)
+      → IfOk made (λ reply. (n : ℕ) → given ≡ acceptance_value (reply_value n reply))
+      → IfErr made (λ fault. TellsFault fault given)
+      → IsServedWriting contents old new had has config seed (ask_told ask) given
+  written_by S ask given (Ok reply) answered recorded counted unanswered unmade told why =
+      written_so ask given reply answered recorded told counted
+  written_by S ask given (Err (faults.Refused fault)) answered recorded counted unanswered unmade told why =
+      refused_so ask given fault unanswered why (unmade (was_recorded fault)).0
+  written_by S ask given (Err faults.NotRecorded) answered recorded counted unanswered unmade told why = inr (inl why)
+  written_by S ask given (Err faults.RecordingFailed) answered recorded counted unanswered unmade told why =
+      unmade_so (ask_told ask) given why (unmade failed_otherwise).0
+
+  -- several calls, by what came of them
+  pub spread_by : (S : Type 0) (keeps : Bool) (seats : ℕ) (name : List ℕ) (wanted : SpreadValue)
+      (made : Result HttpReply CallFault) (given : HttpReply)
+      → IfOk made (λ reply. IsSpreadFrom config seed keeps seats had has name wanted (http_value reply))
+      → OnOk made (AreWritten contents old new config seed keeps seats has)
+      → IfErr made (λ fault. (fault ≡ faults.NotRecorded) ⊎ (fault ≡ faults.RecordingFailed))
+      → IfErr made (λ fault. (fault ≡ faults.NotRecorded → ⊥) → (has ≡ had) × S)
+      → IfOk made (λ reply. given ≡ reply)
+      → IfErr made (λ fault. TellsFault fault (http_value given))
+      → IsSpreadWriting contents old new had has config seed keeps seats name wanted (http_value given)
+  spread_by S keeps seats name wanted (Ok reply) given came written only unmade told why = inl (
+    subst (λ r. IsSpreadFrom config seed keeps seats had has name wanted (http_value r)) (sym told) came,
+    written,
+  )
+  spread_by S keeps seats name wanted (Err (faults.Refused fault)) given came written (inl is) unmade told why =
+      absurd (was_recorded fault is)
+  spread_by S keeps seats name wanted (Err (faults.Refused fault)) given came written (inr is) unmade told why =
+      absurd (is_made fault is)
+  spread_by S keeps seats name wanted (Err faults.NotRecorded) given came written only unmade told why = inr (inl why)
+  spread_by S keeps seats name wanted (Err faults.RecordingFailed) given came written only unmade told why =
+      inr (inr (why, (unmade failed_otherwise).0))
+
   -- whatever was written
   pub as_recording : (ask : AskTold) (given : ReplyValue)
       → IsServedWriting contents old new had has config seed ask given → IsServedRecording config seed (call ask) given
@@ -66,3 +129,13 @@ module _ {W : Type 0} (contents : W → Option (List ℕ)) (old new : W) (had ha
   as_recording ask given (inr (inr (inl refused, same))) = inl (inl (inr refused))
   as_recording ask given (inr (inr (inr (inl unmade), same))) = inr (inr unmade)
   as_recording ask given (inr (inr (inr (inr none), same))) = inl (inr none)
+
+-- whatever was written of a spread
+pub as_spread : (written : Type 0) (config : Config) (seed : List ℕ) (keeps : Bool) (seats had has : ℕ) (name : List ℕ)
+    (wanted : SpreadValue) (given : ReplyValue)
+    → (IsSpreadFrom config seed keeps seats had has name wanted given × written)
+    ⊎ (IsNotRecorded given ⊎ (IsNotMade given × (has ≡ had)))
+    → IsSpreadRecording config seed keeps seats name wanted given
+as_spread written config seed keeps seats had has name wanted given (inl (came, kept)) = inl (had, has, came)
+as_spread written config seed keeps seats had has name wanted given (inr (inl unrecorded)) = inr (inl unrecorded)
+as_spread written config seed keeps seats had has name wanted given (inr (inr (unmade, same))) = inr (inr unmade)

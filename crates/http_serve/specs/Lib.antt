@@ -1,2 +1,4 @@
+pub mod Forgotten
 pub mod Recorded
 pub mod Served
+pub mod Spreads

@@ -1,16 +1,23 @@
 -- What a node is answered whose part is kept.
-use Rattle.std.specs.Prelude.{◌≡◌, ◌⊎◌, ℕ, ◌+◌, List, Option}
+use Rattle.std.specs.Prelude.{◌≡◌, ◌⊎◌, ℕ, ◌+◌, Bool, List, Option}
 use Rattle.node_calls.specs.declared.ask.Ask.{Ask}
 use Rattle.node_calls.specs.declared.reply.Reply.{Reply}
 use Rattle.node_calls.specs.Asks.{reply_value}
 use Rattle.node_calls.specs.Told.{AskTold, ask_told}
 use Rattle.node_steps.specs.declared.config.Config.{Config}
+use Rattle.node_registry.specs.declared.guarded.Piece.{Piece}
+use Rattle.node_registry.specs.Cells.{Cell, IsCellSince}
+use Rattle.node_registry.specs.Pieces.{IsPieceOf}
 use Rattle.http_replies.specs.Replies.{ReplyValue, IsReply, no_memory, text_reply}
-use Rattle.http_routes.specs.Replies.{acceptance_value}
-use Rattle.http_routes.specs.Requests.{WantedValue}
+use Rattle.http_routes.specs.Replies.{acceptance_value, refusal_value}
+use Rattle.http_routes.specs.Requests.{WantedValue, wanted}
 use Rattle.http_routes.specs.Requests as wants
-use Rattle.part_keeper.specs.Kept.{IsRecorded}
+use Rattle.part_keeper.specs.Kept.{IsRecorded, Records}
+use Rattle.part_keeper.specs.declared.fault.CallFault.{CallFault}
+use Rattle.part_keeper.specs.declared.fault.CallFault.TheVariants as faults
+use Rattle.spread_routes.specs.Wanted.{SpreadValue}
 use Rattle.http_serve.specs.Served.{IsMade, IsRefused, IsServed}
+use Rattle.http_serve.specs.Spreads.{AnswersOrSpreads, IsSpreadFrom, IsSpreadServed}
 use Rattle.http_serve.specs.declared.handler.recording.TheConstants.{NOT_RECORDED, RECORDING_FAILED}
 
 -- a call that couldn't be recorded is answered so, and one that isn't made since an earlier one couldn't
@@ -22,6 +29,12 @@ IsNotMade given = IsReply (text_reply 503 RECORDING_FAILED.now) given
 
 abbrev pub IsUnrecorded : ReplyValue → Type 0
 IsUnrecorded given = IsNotRecorded given ⊎ IsNotMade given
+
+-- why a call isn't answered is told so
+abbrev pub TellsFault : CallFault → ReplyValue → Type 0
+TellsFault (faults.Refused fault) given = IsReply (refusal_value fault) given
+TellsFault faults.NotRecorded given = IsNotRecorded given
+TellsFault faults.RecordingFailed given = IsNotMade given
 
 -- what is wanted is answered as by a node that records nothing; or a call so
 abbrev pub IsServedRecording : Config → List ℕ → WantedValue → ReplyValue → Type 0
@@ -46,3 +59,29 @@ IsServedWriting contents old new had has config seed ask given =
     (IsMade config seed ask given × IsWritten contents old new config.nodes ask given × (has ≡ had + 1))
     ⊎ (IsNotRecorded given
     ⊎ ((IsRefused config seed ask given ⊎ (IsNotMade given ⊎ (given ≡ no_memory))) × (has ≡ had)))
+
+-- what is wanted of a spread is answered as by a node that records nothing; or so
+abbrev pub IsSpreadRecording : Config → List ℕ → Bool → ℕ → List ℕ → SpreadValue → ReplyValue → Type 0
+IsSpreadRecording config seed keeps seats name wanted given =
+    IsSpreadServed config seed keeps seats name wanted given ⊎ IsUnrecorded given
+
+-- a writer was given the lines of all calls, behind what it had, that some lawful node kept which has the calls of a seat
+abbrev pub AreWritten : {W : Type 0} → (W → Option (List ℕ)) → W → W → Config → List ℕ → Bool → ℕ → ℕ → Type 0
+AreWritten contents old new config seed keeps seats calls =
+    (c : Cell) × (piece : Piece) × IsCellSince config seed keeps seats calls c × IsPieceOf c piece
+    × Records contents old new piece.trace.calls
+
+-- What is wanted of a spread is answered only where the lines of its calls were written, each of which is counted to the
+-- seat that had made so many. Else they couldn't be recorded; or none is made any more, and then none was
+abbrev pub IsSpreadWriting : {W : Type 0} → (W → Option (List ℕ)) → W → W → ℕ → ℕ → Config → List ℕ → Bool → ℕ →
+    List ℕ → SpreadValue → ReplyValue → Type 0
+IsSpreadWriting contents old new had has config seed keeps seats name wanted given =
+    (IsSpreadFrom config seed keeps seats had has name wanted given
+    × AreWritten contents old new config seed keeps seats has)
+    ⊎ (IsNotRecorded given ⊎ (IsNotMade given × (has ≡ had)))
+
+-- a request is answered so, one to spread or any other
+abbrev pub AnswersRecording : Config → List ℕ → Bool → ℕ → List ℕ → List ℕ → List ℕ → ReplyValue → Type 0
+AnswersRecording config seed keeps seats method path body given =
+    AnswersOrSpreads (IsSpreadRecording config seed keeps seats)
+    (IsServedRecording config seed (wanted method path body)) method path body given

@@ -1,4 +1,5 @@
-//! Serves a node over HTTP, by the routes of `http_routes` and the connections of `http_service`.
+//! Serves a node over HTTP, by the routes of `http_routes`, the spreads of `spread_routes` and the
+//! connections of `http_service`.
 //!
 //! A node may be served as it is, with its calls forgotten with each reply, or with its part kept: then
 //! a call is answered once its line is written.

@@ -60,7 +60,7 @@ where
     ensures ok { IfOk result (IsServedTo requests (arc_value ending.now).reason.id) }
     ensures err { IfErr result (λ f. (f ≡ AcceptFailed) ⊎ (f ≡ OutOfMemory)) }
 {
-    let handler = ForgettingHandler::new(alloc, registry, seat)?;
+    let handler = ForgettingHandler::new(rt, alloc, registry, seat)?;
     serve_until_ended(
         rt, alloc, runtime, handler, access, listener, requests, ending,
     )

@@ -8,7 +8,7 @@ use Rattle.operator_page.specs.declared.page.TheConstants.{POLICY}
 use Rattle.http_service.specs.declared.labels.Content.{Content}
 use Rattle.http_service.specs.declared.labels.Content.TheVariants.{Text, Json, Page}
 use Rattle.http_service.specs.declared.labels.Methods.{Methods}
-use Rattle.http_service.specs.declared.labels.Methods.TheVariants.{Get, Post, PutOrDelete}
+use Rattle.http_service.specs.declared.labels.Methods.TheVariants.{Get, Post, PutOrDelete, PutOrPost}
 use Rattle.http_service.specs.declared.labels.Labels.{Labels}
 
 -- the methods of a path
@@ -27,6 +27,7 @@ abbrev pub has_method : Methods → List ℕ → Bool
 has_method Get method = bytes_eq method (codes "GET")
 has_method Post method = bytes_eq method (codes "POST")
 has_method PutOrDelete method = bytes_eq method (codes "PUT") || bytes_eq method (codes "DELETE")
+has_method PutOrPost method = bytes_eq method (codes "PUT") || bytes_eq method (codes "POST")
 
 -- the report and the status are JSON, and anything else is a text
 abbrev pub content_at : Option TargetValue → Content
@@ -61,6 +62,7 @@ abbrev pub methods_text : Methods → List ℕ
 methods_text Get = codes "GET"
 methods_text Post = codes "POST"
 methods_text PutOrDelete = codes "PUT, DELETE"
+methods_text PutOrPost = codes "PUT, POST"
 
 abbrev pub field : List ℕ → List ℕ → Entry FieldValue
 field name value = (name, plain_value value ∷ [])

@@ -36,6 +36,7 @@ use message_format::MAX_MESSAGE;
 use std::alloc::{AllocError, Global};
 use std::mem;
 use std::sync::{Arc, Wait};
+use std::time::Clock;
 use tokio::sync::OwnedSemaphorePermit;
 
 /// The longest body that is taken in without one of the permits of long ones, in bytes.
@@ -90,7 +91,7 @@ enum Reading {
     Broken(hyper::Error),
 }
 
-impl<I: Drop, H: Handler, R: Wait + Copy> Service<Request<Incoming<I>>>
+impl<I: Drop, H: Handler, R: Wait + Clock + Copy> Service<Request<Incoming<I>>>
     for ConnectionService<H, R> {
     type Response = Response<Full<Bytes>>;
 
@@ -132,7 +133,7 @@ impl<I: Drop, H: Handler, R: Wait + Copy> Service<Request<Incoming<I>>>
     }
 }
 
-impl<I: Drop, H: Handler, R: Wait + Copy> Exchange<I, H, R> {
+impl<I: Drop, H: Handler, R: Wait + Clock + Copy> Exchange<I, H, R> {
     // The reply, once the body was read so far.
     fn reply(&mut self, reading: Reading) -> hyper::Result<HttpReply>
         ensures comes { ComesTo H.answers (asking_of self.old) reading self.old.read.items result }
@@ -203,7 +204,7 @@ impl<I: Drop, H: Handler, R: Wait + Copy> Exchange<I, H, R> {
     }
 }
 
-impl<I: Drop, H: Handler, R: Wait + Copy> Future for Exchange<I, H, R> {
+impl<I: Drop, H: Handler, R: Wait + Clock + Copy> Future for Exchange<I, H, R> {
     type Output = hyper::Result<Response<Full<Bytes>>>;
 
     ghost can_poll = { λ e. IfSome e.permits (λ permits. IfSome permits.waiting CanAcquire) };

@@ -13,6 +13,7 @@ use http_replies::HttpReply;
 pub(crate) use page::{PageHandler, shows_page};
 use std::alloc::Global;
 use std::sync::Wait;
+use std::time::Clock;
 
 /// Answers requests.
 pub trait Handler: Drop {
@@ -20,7 +21,7 @@ pub trait Handler: Drop {
     ghost answers: { Self → List ℕ → List ℕ → List ℕ → ReplyValue → Type 0 };
 
     /// The reply to a request whose body came whole.
-    fn reply<R: Wait>(
+    fn reply<R: Wait + Clock>(
         &self,
         rt: &R,
         alloc: Global,

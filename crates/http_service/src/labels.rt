@@ -31,6 +31,7 @@ pub enum Methods {
     Get,
     Post,
     PutOrDelete,
+    PutOrPost,
 }
 
 /// What the header fields of a reply say of it.
@@ -110,6 +111,7 @@ impl Methods {
             Methods::Get => HeaderValue::from_static("GET"),
             Methods::Post => HeaderValue::from_static("POST"),
             Methods::PutOrDelete => HeaderValue::from_static("PUT, DELETE"),
+            Methods::PutOrPost => HeaderValue::from_static("PUT, POST"),
         }
     }
 }

@@ -28,7 +28,7 @@ impl Greeter {
 impl Handler for Greeter {
     ghost answers = { λ _ method path body. IsReply (text_reply 200 (codes "hello")) };
 
-    fn reply<R: Wait>(
+    fn reply<R: Wait + Clock>(
         &self,
         _rt: &R,
         alloc: Global,

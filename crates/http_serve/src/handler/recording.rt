@@ -1,27 +1,31 @@
 //! A node whose part is kept: a request is answered once what it did is written.
 
-ghost use Rattle.std.specs.Prelude.{◌≡◌, ◌<◌, ℕ, List, length};
-ghost use Rattle.message_format.specs.Spelling.{max_message};
+ghost use Rattle.std.specs.Prelude.{◌≡◌, ◌⊎◌, ℕ, IfOk, IfErr};
+ghost use Rattle.node_calls.specs.Asks.{reply_value};
 ghost use Rattle.node_calls.specs.Told.{ask_told};
-ghost use Rattle.http_paths.specs.Paths.{target_of};
 ghost use Rattle.http_replies.specs.Replies.{http_value};
+ghost use Rattle.http_routes.specs.Replies.{acceptance_value};
 ghost use Rattle.http_routes.specs.Requests.{wanted};
 ghost use Rattle.http_routes.specs.Requests as requests;
-ghost use Rattle.http_service.specs.Labels.{labels_of};
 ghost use Rattle.part_keeper.specs.Outs.{calls_of, out_of};
-ghost use Rattle.http_serve.specs.Recorded.{IsServedRecording, IsServedWriting};
-ghost use Rattle.http_serve.specs.Served.{IsServed};
+ghost use Rattle.spread_routes.specs.Wanted.{spread_wanted};
+ghost use Rattle.http_serve.specs.Recorded.{AnswersRecording, IsNotMade, IsNotRecorded, IsServedRecording};
+ghost use Rattle.http_serve.specs.Recorded.{IsServedWriting, IsSpreadRecording, IsSpreadWriting, TellsFault};
+ghost use Rattle.http_serve.specs.Spreads.{node_labels};
 ghost use Rattle.http_serve.specs.declared.handler.recording.TheConstants.{NOT_RECORDED, RECORDING_FAILED};
 
 use super::NodeReader;
+use super::spreading::SpreadRequest;
 use http_routes::{HttpReply, ReplyRoom, Wanted, route_owned};
 use http_service::{Handler, Labels};
-use node_core::Ask;
+use node_core::{Ask, Reply};
 use node_registry::{Label, Registry};
 use part_keeper::{CallFault, Recorder, Recording};
+use spread_routes::spread_name;
 use std::alloc::{AllocError, Global};
 use std::io::Write;
 use std::sync::{Arc, Wait};
+use std::time::Clock;
 
 /// What a call is answered that was made and couldn't be recorded.
 const NOT_RECORDED: &str = "the call was made and could not be recorded: see to where the part is \
@@ -30,6 +34,49 @@ const NOT_RECORDED: &str = "the call was made and could not be recorded: see to 
 /// What a call is answered that isn't made, since an earlier one couldn't be recorded.
 const RECORDING_FAILED: &str = "no call is made since one could not be recorded: see to where the \
     part is written, and start the node again from it";
+
+// The reply where what was made couldn't be recorded.
+fn not_recorded(alloc: Global) -> HttpReply
+    ensures { IsNotRecorded (http_value result) }
+{
+    HttpReply::text(alloc, 503, NOT_RECORDED)
+}
+
+// The reply where nothing is made, since an earlier call couldn't be recorded.
+fn not_made(alloc: Global) -> HttpReply
+    ensures { IsNotMade (http_value result) }
+{
+    HttpReply::text(alloc, 503, RECORDING_FAILED)
+}
+
+// The reply that says what came of a call.
+fn told_of_call(alloc: Global, room: ReplyRoom, made: Result<Reply, CallFault>) -> HttpReply
+    ensures made { IfOk made (λ reply. (nodes : ℕ)
+        → http_value result ≡ acceptance_value (reply_value nodes reply)) }
+    ensures fault { IfErr made (λ fault. TellsFault fault (http_value result)) }
+{
+    match made {
+        Ok(reply) => room.reply(&Ok(reply)),
+        Err(CallFault::Refused(fault)) => room.reply(&Err(fault)),
+        Err(CallFault::NotRecorded) => not_recorded(alloc),
+        Err(CallFault::RecordingFailed) => not_made(alloc),
+    }
+}
+
+// The reply that says what came of several calls: where one of them is refused, that is what came.
+fn told_of_batch(alloc: Global, made: Result<HttpReply, CallFault>) -> HttpReply
+    requires { IfErr made (λ fault.
+        (fault ≡ CallFault.NotRecorded) ⊎ (fault ≡ CallFault.RecordingFailed)) }
+    ensures made { IfOk made (λ reply. result ≡ reply) }
+    ensures fault { IfErr made (λ fault. TellsFault fault (http_value result)) }
+{
+    match made {
+        Ok(reply) => reply,
+        Err(CallFault::NotRecorded) => not_recorded(alloc),
+        Err(CallFault::RecordingFailed) => not_made(alloc),
+        Err(CallFault::Refused(_)) => unreachable!(),
+    }
+}
 
 /// A node whose calls are written to its part before they are answered. It has no seat: only the
 /// recorder, which has one, makes a call.
@@ -76,12 +123,65 @@ impl<L: Label> RecordingHandler<L> {
         let Ok(room) = ReplyRoom::new(alloc) else {
             return HttpReply::no_memory(alloc);
         };
-        match recording.submit(rt, alloc, &self.reader.registry, ask) {
-            Ok(reply) => room.reply(&Ok(reply)),
-            Err(CallFault::Refused(fault)) => room.reply(&Err(fault)),
-            Err(CallFault::NotRecorded) => HttpReply::text(alloc, 503, NOT_RECORDED),
-            Err(CallFault::RecordingFailed) => HttpReply::text(alloc, 503, RECORDING_FAILED),
+        let made = recording.submit(rt, alloc, &self.reader.registry, ask);
+        told_of_call(alloc, room, made)
+    }
+
+    // The reply to a request of the routes.
+    fn route<R: Wait>(
+        &self,
+        rt: &R,
+        alloc: Global,
+        method: &str,
+        path: &str,
+        body: Vec<u8>,
+    ) -> HttpReply
+        ensures { IsServedRecording L.config L.seed (wanted method.now path.now body.items)
+            (http_value result) }
+    {
+        match route_owned(alloc, &self.reader.routes, method, path, body) {
+            Wanted::Do(ask) => self.call(rt, alloc, ask),
+            Wanted::List => self.recorded(rt, alloc, self.reader.list(rt, alloc)),
+            Wanted::Report => self.recorded(rt, alloc, self.reader.report(rt, alloc)),
+            Wanted::Status => self.recorded(rt, alloc, self.reader.status(rt, alloc)),
+            Wanted::Answered(reply) => reply,
         }
+    }
+
+    // The reply to a request to spread the rights of a point, from the recorder's recording.
+    fn spread<R: Wait>(
+        &self,
+        rt: &R,
+        alloc: Global,
+        method: &str,
+        name: &str,
+        body: &[u8],
+    ) -> HttpReply
+        ensures { IsSpreadRecording L.config L.seed L.keeps L.parts name.now
+            (spread_wanted method.now body.now) (http_value result) }
+    {
+        let mut recording = self.recorder.lock(rt);
+        self.spread_from(rt, alloc, &mut recording, method, name, body)
+    }
+
+    // The reply to a request to spread the rights of a point, from a recording: the lines of its calls
+    // are written before the reply is there.
+    fn spread_from<W: Write, R: Wait>(
+        &self,
+        rt: &R,
+        alloc: Global,
+        recording: &mut Recording<L, W>,
+        method: &str,
+        name: &str,
+        body: &[u8],
+    ) -> HttpReply
+        ensures { IsSpreadWriting W.contents (out_of recording.old) (out_of recording.new)
+            (calls_of recording.old) (calls_of recording.new) L.config L.seed L.keeps L.parts
+            name.now (spread_wanted method.now body.now) (http_value result) }
+    {
+        let mut request = SpreadRequest { method, name, body };
+        let made = recording.make_batch(rt, alloc, &self.reader.registry, &mut request);
+        told_of_batch(alloc, made)
     }
 
     // What a reply tells of the node is written before it is there, if anything is written any more.
@@ -94,10 +194,9 @@ impl<L: Label> RecordingHandler<L> {
 }
 
 impl<L: Label> Handler for RecordingHandler<L> {
-    ghost answers = { λ _ method path body.
-        IsServedRecording L.config L.seed (wanted method path body) };
+    ghost answers = { λ _. AnswersRecording L.config L.seed L.keeps L.parts };
 
-    fn reply<R: Wait>(
+    fn reply<R: Wait + Clock>(
         &self,
         rt: &R,
         alloc: Global,
@@ -105,12 +204,9 @@ impl<L: Label> Handler for RecordingHandler<L> {
         path: &str,
         body: Vec<u8>,
     ) -> HttpReply {
-        match route_owned(alloc, &self.reader.routes, method, path, body) {
-            Wanted::Do(ask) => self.call(rt, alloc, ask),
-            Wanted::List => self.recorded(rt, alloc, self.reader.list(rt, alloc)),
-            Wanted::Report => self.recorded(rt, alloc, self.reader.report(rt, alloc)),
-            Wanted::Status => self.recorded(rt, alloc, self.reader.status(rt, alloc)),
-            Wanted::Answered(reply) => reply,
+        match spread_name(path) {
+            Some(name) => self.spread(rt, alloc, method, name, body.as_slice()),
+            None => self.route(rt, alloc, method, path, body),
         }
     }
 
@@ -118,7 +214,7 @@ impl<L: Label> Handler for RecordingHandler<L> {
         self.reader.answer_too_long(alloc, method, path)
     }
 
-    ghost labelled = { λ path status. labels_of (target_of path) status };
+    ghost labelled = { node_labels };
 
     fn labels(&self, path: &str, status: u16) -> Labels {
         self.reader.labels(path, status)

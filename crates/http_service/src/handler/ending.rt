@@ -13,6 +13,7 @@ use http_replies::HttpReply;
 use message_format::MAX_MESSAGE;
 use std::alloc::{AllocError, Global};
 use std::sync::{Arc, Wait};
+use std::time::Clock;
 
 /// A handler, and the end of its service, which a client may ask for.
 #[derive(Drop)]
@@ -83,7 +84,7 @@ fn stop_labels(status: u16) -> Labels
 impl<H: Handler> Handler for EndingHandler<H> {
     ghost answers = { λ h. AnswersOrStops (H.answers (arc_value h.handler)) };
 
-    fn reply<R: Wait>(
+    fn reply<R: Wait + Clock>(
         &self,
         rt: &R,
         alloc: Global,

@@ -14,6 +14,7 @@ use message_format::MAX_MESSAGE;
 use operator_page::PAGE;
 use std::alloc::{AllocError, Global};
 use std::sync::{Arc, Wait};
+use std::time::Clock;
 
 /// A handler, and the page on which an operator sees its node, at `/`.
 #[derive(Drop)]
@@ -91,7 +92,7 @@ fn page_labels(status: u16) -> Labels
 impl<H: Handler> Handler for PageHandler<H> {
     ghost answers = { λ h. AnswersOrShows (H.answers (arc_value h.handler)) };
 
-    fn reply<R: Wait>(
+    fn reply<R: Wait + Clock>(
         &self,
         rt: &R,
         alloc: Global,

@@ -1,12 +1,23 @@
 use Rattle.http_replies.specs.Replies.{http_value}
-use Rattle.node_calls.specs.Told.{ask_told}
 use Rattle.http_routes.specs.Requests.{wanted}
-use Rattle.http_routes.proofs.Calls.{wanted_call}
-use Rattle.http_serve.specs.Recorded.{IsServedRecording}
+use Rattle.http_serve.specs.Recorded.{IsServedRecording, IsSpreadRecording}
+use Rattle.http_serve.proofs.Spreads.{answers_there, spreads_there}
 use Rattle.http_serve.proofs.handler.recording.RecordingHandlerHandler.reply.Goals as goal
 
-pub returns-in-Do : goal.returns-in-Do
-returns-in-Do g c =
-    let asked = wanted c.args.method.now c.args.path.now c.args.body.items in
-    wanted_call (ask_told c.in-Do.ask) asked (λ w. IsServedRecording g.L.Label.config g.L.Label.seed w
-    (http_value c.call.result)) (rw c.in-Do.is at c.route_owned.ensures) c.call.ensures
+pub returns-in-Some : goal.returns-in-Some
+returns-in-Some g c =
+    let config = g.L.Label.config in
+    let seed = g.L.Label.seed in
+    spreads_there (IsSpreadRecording config seed g.L.Label.keeps g.L.Ledger.parts)
+    (IsServedRecording config seed (wanted c.args.method.now c.args.path.now c.args.body.items)) c.args.method.now
+    c.args.path.now c.args.body.items (http_value c.spread.result) c.in-Some.name.now
+    (rw c.in-Some.is at c.spread_name.ensures) (rw c.as_slice.ensures.value at c.spread.ensures)
+
+pub returns-in-None : goal.returns-in-None
+returns-in-None g c =
+    let config = g.L.Label.config in
+    let seed = g.L.Label.seed in
+    answers_there (IsSpreadRecording config seed g.L.Label.keeps g.L.Ledger.parts)
+    (IsServedRecording config seed (wanted c.args.method.now c.args.path.now c.args.body.items)) c.args.method.now
+    c.args.path.now c.args.body.items (http_value c.route.result) (rw c.in-None.is at c.spread_name.ensures)
+    c.route.ensures

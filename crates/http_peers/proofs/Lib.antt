@@ -1,0 +1,4 @@
+mod Commas
+mod Lasting
+mod Refusing
+mod Senders

@@ -1,0 +1,6 @@
+pub mod Answers
+pub mod Codes
+pub mod Faults
+pub mod Heard
+pub mod Kinds
+pub mod Shown

@@ -1,0 +1,31 @@
+//! What the definitions promise. Nothing here runs.
+
+ghost use Rattle.std.specs.Prelude.{◌≡◌, ℕ, List, Option, Some, None};
+ghost use Rattle.message_format.specs.Messages.{MessageValue};
+ghost use Rattle.message_format.specs.Spelling.{message_bytes};
+ghost use Rattle.node_calls.specs.declared.fault.NodeFault.{NodeFault};
+ghost use Rattle.node_calls.specs.FaultText.{node_fault_text};
+ghost use Rattle.http_peers.specs.declared.code.Outcome.{Outcome};
+ghost use Rattle.http_peers.specs.declared.heard.Cluster.{Cluster};
+ghost use Rattle.http_peers.specs.declared.heard.Row.{Row};
+ghost use Rattle.http_peers.specs.Codes.{code_in};
+ghost use Rattle.http_peers.specs.Faults.{code_of};
+ghost use Rattle.http_peers.specs.Heard.{first_unheard, noted};
+ghost use Rattle.http_peers.specs.Kinds.{sender_of};
+
+/// The sender that is read of a message is the one that it names.
+pub fn sender_is_read()
+    ensures { (m : MessageValue) → sender_of (message_bytes m) ≡ Some m.from }
+{}
+
+/// Where each other node was heard, none is waited for again, whatever comes.
+pub fn hearing_lasts()
+    ensures { (cluster : Cluster) (rows : List Row) (sender : Option ℕ) (outcome : Outcome) (now : ℕ)
+        → first_unheard cluster rows ≡ None
+        → first_unheard cluster (noted cluster rows sender outcome now) ≡ None }
+{}
+
+/// The code that is read of a refusal is its own, and none of one that refuses no message.
+pub fn code_is_read()
+    ensures { (fault : NodeFault) → code_in (node_fault_text fault) ≡ code_of fault }
+{}

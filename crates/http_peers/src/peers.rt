@@ -1,0 +1,80 @@
+//! What was heard, behind a lock.
+
+ghost use Rattle.std.specs.Prelude.{◌≡◌, IfOk};
+ghost use Rattle.std.specs.Arc.{arc_value};
+ghost use Rattle.http_replies.specs.Replies.{http_value};
+ghost use Rattle.http_peers.specs.Answers.{IsAwaited, IsShown};
+
+use crate::code::Outcome;
+use crate::heard::{Cluster, Heard, Hearing};
+use crate::shown::with_peers;
+use http_replies::HttpReply;
+use std::alloc::{AllocError, Global};
+use std::sync::{Arc, Mutex, Wait};
+use std::time::Clock;
+
+/// What a served node has heard of the other nodes of its cluster, and whether calls wait for them.
+#[derive(Drop)]
+pub struct Peers {
+    pub cluster: Cluster,
+    pub hearing: Hearing,
+    heard: Mutex<Heard>,
+}
+
+impl Peers {
+    /// Of a node that has heard nothing yet, by its number and how many nodes its cluster has. The only
+    /// error is out of memory.
+    pub fn new(
+        alloc: Global,
+        own: u8,
+        nodes: u8,
+        hearing: Hearing,
+    ) -> Result<Arc<Peers>, AllocError>
+        ensures cluster { IfOk result
+            (λ peers. (arc_value peers).cluster ≡ record { own = own; nodes = nodes }) }
+        ensures hearing { IfOk result (λ peers. (arc_value peers).hearing ≡ hearing) }
+    {
+        let peers = Peers {
+            cluster: Cluster { own, nodes },
+            hearing,
+            heard: Mutex::new(Heard::new()),
+        };
+        Ok(Arc::new(alloc, peers)?)
+    }
+
+    /// The node that calls wait for: one of which no message was accepted yet. There is none where each
+    /// was heard, or where calls don't wait.
+    pub fn awaited<R: Wait>(&self, rt: &R) -> Option<u8>
+        ensures { IsAwaited self.now.hearing self.now.cluster result }
+    {
+        self.heard.lock(rt).awaited(self.hearing, self.cluster)
+    }
+
+    // Notes what a message with this sender came to just now.
+    pub(crate) fn hear<R: Wait + Clock>(&self, rt: &R, sender: Option<u8>, outcome: Outcome) {
+        let now = now_of(rt);
+        self.heard.lock(rt).note(self.cluster, sender, outcome, now);
+    }
+
+    // A status with what was heard.
+    pub(crate) fn shown<R: Wait + Clock>(
+        &self,
+        rt: &R,
+        alloc: Global,
+        reply: HttpReply,
+    ) -> HttpReply
+        ensures { IsShown self.now.cluster (http_value reply) (http_value result) }
+    {
+        let now = now_of(rt);
+        let heard = self.heard.lock(rt);
+        with_peers(alloc, self.cluster, &heard, now, reply)
+    }
+}
+
+// The time of the clock in milliseconds. A clock that can't be read stands at its start.
+fn now_of<R: Clock>(rt: &R) -> u64 {
+    match rt.monotonic() {
+        Ok(since) => u64::try_from(since.as_millis()).unwrap_or(u64::MAX),
+        Err(_) => 0,
+    }
+}

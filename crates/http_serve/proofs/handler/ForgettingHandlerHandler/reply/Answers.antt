@@ -1,9 +1,0 @@
-use Rattle.http_replies.specs.Replies.{http_value}
-use Rattle.http_routes.specs.Requests.{wanted}
-use Rattle.http_serve.proofs.Calls.{served}
-use Rattle.http_serve.proofs.handler.ForgettingHandlerHandler.reply.Goals as goal
-
-pub returns : goal.returns
-returns g c =
-    served g.L.Label.config g.L.Label.seed _ _ (wanted c.args.method.now c.args.path.now c.args.body.items)
-    (http_value c.answer_from-reply.result) c.answer_from-reply.ensures
