@@ -3,3 +3,4 @@ pub mod Caps
 pub mod Endings
 pub mod KeyFiles
 pub mod Rounds
+pub mod Sharing

@@ -4,6 +4,7 @@ ghost use Rattle.std.specs.Prelude.{◌≡◌, ◌⊎◌, ◌+◌, ◌*◌, ◌�
 ghost use Rattle.std.specs.Prelude.{false, replicate};
 ghost use Rattle.http_service.specs.declared.fault.ServeFault.TheVariants.{AcceptFailed, OutOfMemory};
 ghost use Rattle.node_steps.specs.Refusals.{is_bad_config};
+ghost use Rattle.command_line.specs.declared.reading.Rights.TheVariants.{Stay};
 ghost use Rattle.node_service.specs.Caps.{cap_of};
 ghost use Rattle.node_service.specs.Endings.{IsNodeServed};
 ghost use Rattle.node_service.specs.Rounds.{most_calls};
@@ -208,7 +209,8 @@ fn tell_recorded<L, R>(
 where
     L: Label,
     R: Host,
-    ensures { seat.new ≤ seat.old + telling.now.rounds * most_calls L.config }
+    ensures { telling.now.rights ≡ Stay
+        → seat.new ≤ seat.old + telling.now.rounds * most_calls L.config }
 {
     let paces = first_paces(rt, registry, &telling.peers);
     if let (Ok(wire), Ok(mut paces)) = (wire_to(rt, &telling.peers, key), paces) {

@@ -1,21 +1,25 @@
 //! A node that is served, and its gossip beside it.
 
-ghost use Rattle.std.specs.Prelude.{◌≡◌, ◌≤◌, ◌<◌, ◌^◌, ◌+◌, ◌*◌, ◌⊎◌, false, length, map, IfOk, IfErr};
+ghost use Rattle.std.specs.Prelude.{◌≡◌, ◌≤◌, ◌<◌, ◌^◌, ◌+◌, ◌*◌, ◌⊎◌, [], false, length, map};
+ghost use Rattle.std.specs.Prelude.{IfOk, IfErr};
+ghost use Rattle.command_line.specs.declared.reading.Rights.TheVariants.{Stay};
 ghost use Rattle.http_service.specs.declared.fault.ServeFault.TheVariants.{AcceptFailed, OutOfMemory};
 ghost use Rattle.node_service.specs.Endings.{IsNodeServed};
 ghost use Rattle.node_service.specs.Rounds.{first_pace, is_named, is_told, most_calls, most_peers};
 ghost use Rattle.node_service.specs.Rounds.{peer_of};
 ghost use Rattle.node_service.specs.Rounds.{told_below};
+ghost use Rattle.node_service.specs.Sharing.{AreTold, IsSharedFirst};
 
 use crate::ended::NodeServed;
-use crate::forgetful::{Hearing, Said};
+use crate::forgetful::{Said, ServedWire};
 use crate::host::Host;
-use command_line::{GossipOptions, NamedPeer};
+use command_line::{GossipOptions, NamedPeer, Rights};
 use gossip::{Pace, Reach, WireError, gossip_news};
 use http_serve::{Access, Ending, ServeFault, serve_forgetting};
 use http_wire::{HttpWire, Key, Peer};
 use node_core::Config;
 use node_registry::{Label, Registry, Seat};
+use registry_sharing::Sharing;
 use std::alloc::{AllocError, AllocGlobal, Global};
 use std::sync::atomic::{AtomicBool, Ordering};
 use std::sync::{Arc, Wait};
@@ -144,9 +148,42 @@ pub(crate) fn first_paces<L: Label, R: Wait + AllocGlobal>(
     paces_of(rt.alloc(), node, nodes, named)
 }
 
+// Which rights are given to others in a round: none, where no call is made any more.
+fn rights_now<R: Wait, W: ServedWire>(rt: &R, wire: &mut W, wanted: Rights) -> Rights
+    ensures { wanted ≡ Stay → result ≡ Stay }
+{
+    match wanted {
+        Rights::FollowDemand if wire.goes_on(rt) => Rights::FollowDemand,
+        Rights::FollowDemand | Rights::Stay => Rights::Stay,
+    }
+}
+
+// Shares rights before a round, where they follow demand. A shift that is refused is due again in the
+// next round.
+fn share_first<L, R>(
+    rt: &R,
+    registry: &Registry<L>,
+    seat: &mut Seat<L>,
+    sharing: &mut Sharing,
+    rights: Rights,
+)
+where
+    L: Label,
+    R: Wait + AllocGlobal,
+    ensures { IsSharedFirst rights L.config L.seed L.keeps L.parts seat.old seat.new sharing.old
+        sharing.new }
+{
+    match rights {
+        Rights::Stay => {}
+        Rights::FollowDemand => {
+            let _ = sharing.share(rt, rt.alloc(), registry, seat);
+        }
+    }
+}
+
 // Does one round after the other over a wire, with a rest between two, until all are done or the
-// service has ended. A round tells only news, and only who is reached; of who answers that it has
-// forgotten what it did that is said.
+// service has ended. Each shares rights first, where they follow demand. Then it tells only news, and
+// only who is reached; of who answers that it has forgotten what it did that is said.
 pub(crate) fn keep_telling<L, R, W>(
     rt: &R,
     registry: &Registry<L>,
@@ -159,12 +196,16 @@ pub(crate) fn keep_telling<L, R, W>(
 where
     L: Label,
     R: Wait + AllocGlobal + Clock + Eprint,
-    W: Reach + Hearing,
+    W: Reach + ServedWire,
     requires peers { length paces.old ≤ most_peers L.config }
     requires few { length paces.old < 2 ^ 8 }
-    ensures { seat.new ≤ seat.old + telling.now.rounds * most_calls L.config }
+    ensures rounds { AreTold telling.now.rights L.config L.seed L.keeps L.parts
+        telling.now.rounds seat.old seat.new [] }
+    ensures few { telling.now.rights ≡ Stay
+        → seat.new ≤ seat.old + telling.now.rounds * most_calls L.config }
 {
     let mut said = Said::new(rt.alloc());
+    let mut sharing = Sharing::new(rt.alloc());
     for round in 0..telling.rounds {
         if round > 0 {
             service.rest(rt, telling.every);
@@ -172,6 +213,9 @@ where
         if service.has_ended() {
             return;
         }
+        let rights = rights_now(rt, wire, telling.rights);
+        share_first(rt, registry, seat, &mut sharing, rights);
+        wire.keep_calls(rt, rt.alloc());
         gossip_news(rt, rt.alloc(), registry, seat, wire, paces);
         let forgetful = wire.forgetful(rt.alloc());
         said.say(rt, &forgetful);
@@ -190,7 +234,8 @@ fn tell_over_http<L, R>(
 where
     L: Label,
     R: Host,
-    ensures { seat.new ≤ seat.old + telling.now.rounds * most_calls L.config }
+    ensures { telling.now.rights ≡ Stay
+        → seat.new ≤ seat.old + telling.now.rounds * most_calls L.config }
 {
     let paces = first_paces(rt, registry, &telling.peers);
     if let (Ok(mut wire), Ok(mut paces)) = (wire_to(rt, &telling.peers, key), paces) {
