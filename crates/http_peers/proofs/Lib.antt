@@ -1,4 +1,5 @@
 mod Commas
+pub mod Crossing
 mod Lasting
 mod Refusing
 mod Senders

@@ -12,11 +12,13 @@ read_kind path = if bytes_eq path (codes "/status") then Status else Other
 abbrev pub gossip_kind : List ℕ → Kind
 gossip_kind method = if bytes_eq method (codes "POST") then Delivery else Other
 
--- what has a body that isn't too long: `GET` reads, and any other method calls the node, unless it delivers
+-- what has a body that isn't too long: `GET` reads, and any other method calls the node, unless it delivers a message or
+-- asks for one
 abbrev pub asked_kind : List ℕ → List ℕ → Kind
 asked_kind method path =
     if bytes_eq method (codes "GET") then read_kind path
-    else (if bytes_eq path (codes "/gossip") then gossip_kind method else Call)
+    else (if bytes_eq path (codes "/gossip") then gossip_kind method
+    else (if bytes_eq path (codes "/hello") then Other else Call))
 
 -- a body that is longer than the longest message asks for nothing
 abbrev pub kind_of : List ℕ → List ℕ → ℕ → Kind

@@ -11,7 +11,7 @@ const SENDER_AT: usize = 4;
 /// What a request is.
 #[derive(Clone, Copy, Debug, PartialEq, Eq)]
 pub(crate) enum Kind {
-    /// It may call the node, and delivers nothing.
+    /// It may call the node, and has to do with no message.
     Call,
     /// It delivers a message.
     Delivery,
@@ -21,8 +21,8 @@ pub(crate) enum Kind {
     Other,
 }
 
-/// What a request is, by its method, its path and how many bytes its body has. All but what reads or
-/// delivers is taken for a call, whether or not there is a route for it.
+/// What a request is, by its method, its path and how many bytes its body has. All but what reads,
+/// delivers a message or asks for one is taken for a call, whether or not there is a route for it.
 pub(crate) fn kind_of(method: &str, path: &str, size: usize) -> Kind
     ensures { result ≡ kind_of method.now path.now size }
 {
@@ -41,6 +41,10 @@ fn asked_kind(method: &str, path: &str) -> Kind
     }
     if path == "/gossip" {
         return gossip_kind(method);
+    }
+    // There a node asks to be told: two nodes that each hear first have to hear that of one another.
+    if path == "/hello" {
+        return Kind::Other;
     }
     Kind::Call
 }

@@ -11,6 +11,8 @@ use Rattle.node_registry.specs.contracts.guarded.Seat as Seat
 use Rattle.node_registry.proofs.registry.Registry.TheSendSync as registry
 use Rattle.node_registry.proofs.guarded.Seat.TheSendSync as seat
 use Rattle.http_paths.proofs.Crossing.{routes_send, routes_sync}
+use Rattle.http_peers.specs.contracts.handler.PeersHandler as PeersHandler
+use Rattle.http_peers.proofs.Crossing as peers
 use Rattle.http_serve.specs.contracts.handler.forgetting.ForgettingHandler as ForgettingHandler
 use Rattle.http_serve.specs.contracts.handler.forgetting.ForgottenSeat as ForgottenSeat
 use Rattle.http_serve.proofs.handler.forgetting.ForgottenSeat.TheSendSync as forgotten
@@ -103,3 +105,34 @@ pub recording_sync : (L : RattleType) (g : label.Ghosts L.Denot) (g' : ledger.Gh
 recording_sync L g g' =
     recorded_sync (RecordingHandler.the_field L g g').row _ _ (RecordingHandler.the_type L g g').to_one
     (recording_fields_sync L g g')
+
+-- each of them behind what is heard of peers
+pub hearing_handler_send : (L : RattleType) (g : label.Ghosts L.Denot) (g' : ledger.Ghosts L.Denot) →
+    IsSend (PeersHandler.the_row (NodeHandler.the_row L g g'))
+hearing_handler_send L g g' =
+    peers.handler_send (NodeHandler.the_row L g g') (handler_send L g g') (handler_sync L g g')
+
+pub hearing_handler_sync : (L : RattleType) (g : label.Ghosts L.Denot) (g' : ledger.Ghosts L.Denot) →
+    IsSync (PeersHandler.the_row (NodeHandler.the_row L g g'))
+hearing_handler_sync L g g' =
+    peers.handler_sync (NodeHandler.the_row L g g') (handler_send L g g') (handler_sync L g g')
+
+pub hearing_forgetting_send : (L : RattleType) (g : label.Ghosts L.Denot) (g' : ledger.Ghosts L.Denot) →
+    IsSend (PeersHandler.the_row (ForgettingHandler.the_row L g g'))
+hearing_forgetting_send L g g' =
+    peers.handler_send (ForgettingHandler.the_row L g g') (forgetting_send L g g') (forgetting_sync L g g')
+
+pub hearing_forgetting_sync : (L : RattleType) (g : label.Ghosts L.Denot) (g' : ledger.Ghosts L.Denot) →
+    IsSync (PeersHandler.the_row (ForgettingHandler.the_row L g g'))
+hearing_forgetting_sync L g g' =
+    peers.handler_sync (ForgettingHandler.the_row L g g') (forgetting_send L g g') (forgetting_sync L g g')
+
+pub hearing_recording_send : (L : RattleType) (g : label.Ghosts L.Denot) (g' : ledger.Ghosts L.Denot) →
+    IsSend (PeersHandler.the_row (RecordingHandler.the_row L g g'))
+hearing_recording_send L g g' =
+    peers.handler_send (RecordingHandler.the_row L g g') (recording_send L g g') (recording_sync L g g')
+
+pub hearing_recording_sync : (L : RattleType) (g : label.Ghosts L.Denot) (g' : ledger.Ghosts L.Denot) →
+    IsSync (PeersHandler.the_row (RecordingHandler.the_row L g g'))
+hearing_recording_sync L g g' =
+    peers.handler_sync (RecordingHandler.the_row L g g') (recording_send L g g') (recording_sync L g g')

@@ -4,6 +4,9 @@
 //! A node may be served as it is, with its calls forgotten with each reply, or with its part kept: then
 //! a call is answered once its line is written.
 //!
+//! Which of its peers it hears is noted (`Peers`), and told with its status; where they are heard first
+//! (`Hearing`), a call waits until each of them was.
+//!
 //! A service that has an `Ending` is ended by `POST /stop`, by whoever else has that ending, and by a
 //! message that shows that the node has forgotten what it did.
 #![tactic(auto)]
@@ -12,5 +15,6 @@ mod handler;
 pub mod laws;
 mod serving;
 
+pub use http_peers::{Hearing, Peers};
 pub use http_service::{Access, Ending, KeyFault, Reason, ServeFault, Served};
 pub use serving::{serve, serve_forgetting, serve_recording};

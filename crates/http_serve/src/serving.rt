@@ -6,6 +6,7 @@ ghost use Rattle.http_service.specs.declared.fault.ServeFault.TheVariants.{Accep
 ghost use Rattle.http_service.specs.Endings.{IsServedTo};
 
 use crate::handler::{ForgettingHandler, NodeHandler, RecordingHandler};
+use http_peers::{Peers, PeersHandler};
 use http_service::{Access, Ending, ServeFault, Served, serve_all, serve_until_ended};
 use node_registry::{Label, Registry, Seat};
 use part_keeper::Recorder;
@@ -19,13 +20,15 @@ use tokio::runtime::Runtime;
 
 /// Serves so many connections beside each other, with one request each, and answers how many, once
 /// each has ended. A connection that breaks, or that is ended for its time, counts as served. Where
-/// one can't be accepted, it is tried again after a rest. The seat doesn't come back.
+/// one can't be accepted, it is tried again after a rest. The seat doesn't come back. Which peers are
+/// heard is noted, and a call may wait for them.
 pub fn serve<L, R>(
     rt: &R,
     alloc: Global,
     runtime: &mut Runtime,
     registry: &Arc<Registry<L>>,
     seat: Seat<L>,
+    peers: &Arc<Peers>,
     access: Access,
     listener: TcpListener,
     requests: u32,
@@ -37,6 +40,7 @@ where
     ensures err { IfErr result (λ f. (f ≡ AcceptFailed) ⊎ (f ≡ OutOfMemory)) }
 {
     let handler = NodeHandler::new(alloc, registry, seat)?;
+    let handler = PeersHandler::new(alloc, handler, peers)?;
     serve_all(rt, alloc, runtime, handler, access, listener, requests)
 }
 
@@ -48,6 +52,7 @@ pub fn serve_forgetting<'e, L, R>(
     runtime: &mut Runtime,
     registry: &Arc<Registry<L>>,
     seat: Seat<L>,
+    peers: &Arc<Peers>,
     access: Access,
     listener: TcpListener,
     requests: u32,
@@ -61,6 +66,7 @@ where
     ensures err { IfErr result (λ f. (f ≡ AcceptFailed) ⊎ (f ≡ OutOfMemory)) }
 {
     let handler = ForgettingHandler::new(rt, alloc, registry, seat)?;
+    let handler = PeersHandler::new(alloc, handler, peers)?;
     serve_until_ended(
         rt, alloc, runtime, handler, access, listener, requests, ending,
     )
@@ -74,6 +80,7 @@ pub fn serve_recording<'e, L, R>(
     runtime: &mut Runtime,
     registry: &Arc<Registry<L>>,
     recorder: &Arc<Recorder<L>>,
+    peers: &Arc<Peers>,
     access: Access,
     listener: TcpListener,
     requests: u32,
@@ -86,6 +93,7 @@ where
     ensures err { IfErr result (λ f. (f ≡ AcceptFailed) ⊎ (f ≡ OutOfMemory)) }
 {
     let handler = RecordingHandler::new(alloc, registry, recorder)?;
+    let handler = PeersHandler::new(alloc, handler, peers)?;
     serve_until_ended(
         rt, alloc, runtime, handler, access, listener, requests, ending,
     )

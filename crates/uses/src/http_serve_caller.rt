@@ -2,7 +2,7 @@
 
 ghost use Rattle.std.specs.Prelude.{◌≡◌, IfOk, replicate};
 
-use http_serve::{Access, ServeFault, serve};
+use http_serve::{Access, Hearing, Peers, ServeFault, serve};
 use node_core::{Config, NodeFault};
 use node_registry::{Label, Registry};
 use std::alloc::{AllocGlobal, Global};
@@ -53,8 +53,9 @@ where
     let (Ok(registry), Some(seat)) = (Arc::new(alloc, registry), seats.pop()) else {
         return Err(NodeFault::OutOfMemory);
     };
+    let peers = Peers::new(alloc, config.node, config.nodes, Hearing::Whenever)?;
     let access = Access::of_this_machine();
     Ok(serve(
-        rt, alloc, runtime, &registry, seat, access, listener, clients,
+        rt, alloc, runtime, &registry, seat, &peers, access, listener, clients,
     ))
 }
