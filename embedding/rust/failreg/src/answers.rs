@@ -35,7 +35,7 @@ impl State {
                 return self.note(body, Some(refusal));
             }
             (Kind::Status, 200) => self.peers.put_behind(told),
-            (Kind::Status | Kind::Call | Kind::Other, _) => {}
+            (Kind::Status | Kind::Call | Kind::Hello | Kind::Other, _) => {}
         }
         false
     }
@@ -59,11 +59,12 @@ impl Registry {
     /// | `GET /report` | | what the node knows, as JSON |
     /// | `GET /status` | | the node, its calls and what each node has of each count, and what was heard of each other node, as JSON: an object with the members `node` and `peers`, behind which a program may tell more |
     /// | `POST /gossip` | a message of another node | `changed` or `same` |
+    /// | `POST /hello` | the number of another node, which asks to be told | `telling`: [`gossip`](crate::gossip) tells it, though there may be no news |
     ///
     /// What is done is as by the calls of the registry: threads see new settings, pauses end, and
     /// where the registry records, an accepted call is recorded before the reply is there. A body has
     /// at most 67,108,864 bytes, else the reply is 413. Where calls wait for other nodes to be heard
-    /// ([`Builder::hear_first`](crate::Builder::hear_first)), each but a `GET` and `POST /gossip` is 503.
+    /// ([`Builder::hear_first`](crate::Builder::hear_first)), each but a `GET`, `POST /gossip` and `POST /hello` is 503.
     ///
     /// # Errors
     /// [`Closed`](crate::ErrorKind::Closed) or [`Disabled`](crate::ErrorKind::Disabled); where the
@@ -77,6 +78,13 @@ impl Registry {
             return Ok(Reply {
                 status: 503,
                 body: error.to_string().into_bytes(),
+            });
+        }
+        if kind == Kind::Hello && !state.node.is_closed() {
+            let (status, told) = state.peers.ask(method, body);
+            return Ok(Reply {
+                status,
+                body: told.as_bytes().to_vec(),
             });
         }
         // What waits to be written is before what the reply says of it.

@@ -288,9 +288,10 @@ impl Builder {
     /// [`on_forgotten`](Builder::on_forgotten) says what is done, and its sender counts as not heard. A
     /// node that keeps its part needs it not, and waits as well.
     ///
-    /// Nodes tell only news, so [`gossip`](crate::gossip) of such a node also tells each peer every 5
-    /// seconds: ask for it at each node of the cluster, and don't where it has numbers that no process
-    /// has. FAILPOINTS is refused as any call is.
+    /// Nodes tell only news, and may take this one to know all. So [`gossip`](crate::gossip) of such a
+    /// node asks each peer for a message (`POST /hello`), and tells each every 5 seconds itself, since
+    /// some wait that don't ask. Where the cluster has a number that no process has, it waits for good.
+    /// FAILPOINTS is refused as any call is.
     ///
     /// ```
     /// # if !failreg::has_failpoints() { return Ok(()); }

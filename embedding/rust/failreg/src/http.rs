@@ -119,7 +119,9 @@ fn methods_at(path: &str) -> Option<&'static str> {
         ["fail"] | ["report"] | ["status"] => Some("GET"),
         ["fail", _] => Some("PUT, DELETE"),
         ["spread", _] => Some("PUT, POST"),
-        ["load"] | ["gossip"] | ["grant", _, _, _] | ["shift", _, _, _, _] => Some("POST"),
+        ["load"] | ["gossip"] | ["hello"] | ["grant", _, _, _] | ["shift", _, _, _, _] => {
+            Some("POST")
+        }
         _ => None,
     }
 }

@@ -10,6 +10,14 @@ const CODES: [&str; 8] = ["N1", "N16", "N17", "N18", "N19", "N20", "N22", "N4"];
 /// Where a message has the number of its sender: behind the four bytes of its format.
 const SENDER: usize = 4;
 
+/// The answers to a node that asks to be told.
+const TELLING: (u16, &str) = (200, "telling");
+const NO_POST: (u16, &str) = (405, "bad method");
+const NO_OTHER_NODE: (u16, &str) = (
+    400,
+    "no other node of this cluster: send the number of the node that asks to be told",
+);
+
 /// What was heard of a node.
 #[derive(Clone, Debug, Default)]
 struct Row {
@@ -17,6 +25,8 @@ struct Row {
     heard: Option<Instant>,
     /// How many of its messages were refused, by code.
     refused: [u64; CODES.len()],
+    /// Whether it asked to be told, and wasn't since.
+    has_asked: bool,
 }
 
 /// What was heard of each other node of a cluster.
@@ -38,10 +48,7 @@ impl Peers {
     /// Notes in its sender's row what a message came to. One that names no other node is in none.
     pub fn note(&mut self, message: &[u8], refusal: Option<&str>) {
         let sender = message.get(SENDER).map(|node| usize::from(*node));
-        let Some(node) = sender.filter(|node| *node != self.own) else {
-            return;
-        };
-        let Some(row) = self.rows.get_mut(node) else {
+        let Some(row) = sender.and_then(|node| self.row_of(node)) else {
             return;
         };
         let Some(refusal) = refusal else {
@@ -52,6 +59,45 @@ impl Peers {
         if let Some(place) = CODES.iter().position(|known| Some(*known) == code) {
             row.refused[place] = row.refused[place].saturating_add(1);
         }
+    }
+
+    // The row of another node.
+    fn row_of(&mut self, node: usize) -> Option<&mut Row> {
+        let is_other = node != self.own;
+        self.rows.get_mut(node).filter(|_| is_other)
+    }
+
+    /// Notes that the node asks to be told whose number this is, in decimal digits, and answers it.
+    pub fn ask(&mut self, method: &str, body: &[u8]) -> (u16, &'static str) {
+        if method != "POST" {
+            return NO_POST;
+        }
+        let row = number_in(body).and_then(|node| self.row_of(node));
+        row.map_or(NO_OTHER_NODE, |row| {
+            row.has_asked = true;
+            TELLING
+        })
+    }
+
+    /// Whether another node has asked to be told.
+    pub fn has_asked(&self, node: u8) -> bool {
+        self.rows
+            .get(usize::from(node))
+            .is_some_and(|row| row.has_asked)
+    }
+
+    /// Notes that it is told.
+    pub fn has_told(&mut self, node: u8) {
+        if let Some(row) = self.row_of(node.into()) {
+            row.has_asked = false;
+        }
+    }
+
+    /// Whether a message of another node was taken in.
+    pub fn has_heard(&self, node: u8) -> bool {
+        self.rows
+            .get(usize::from(node))
+            .is_some_and(|row| row.heard.is_some())
     }
 
     fn others(&self) -> impl Iterator<Item = (usize, &Row)> {
@@ -95,6 +141,13 @@ impl Row {
     }
 }
 
+// A number of digits alone.
+fn number_in(body: &[u8]) -> Option<usize> {
+    let text = std::str::from_utf8(body).ok()?;
+    let is_number = !text.is_empty() && text.bytes().all(|byte| byte.is_ascii_digit());
+    text.parse().ok().filter(|_| is_number)
+}
+
 /// The refusal of a call that waits for a node.
 pub fn not_heard(node: usize) -> Error {
     Error::new(ErrorKind::NotHeard, format!("not heard yet: node {node}"))
@@ -107,6 +160,8 @@ pub enum Kind {
     Call,
     /// It delivers a message.
     Delivery,
+    /// It asks for a message.
+    Hello,
     /// It reads the status.
     Status,
     /// It reads something else, or asks for nothing.
@@ -120,6 +175,7 @@ impl Kind {
             _ if size > MAX_BODY => Kind::Other,
             ("GET", "/status") => Kind::Status,
             ("POST", "/gossip") => Kind::Delivery,
+            (_, "/hello") => Kind::Hello,
             ("GET", _) | (_, "/gossip") => Kind::Other,
             _ => Kind::Call,
         }
@@ -166,6 +222,23 @@ mod tests {
     }
 
     #[test]
+    fn another_node_asks_by_its_number() {
+        let mut peers = Peers::of(1, 3);
+        for body in ["", "1", "3", "256", "+2", "-0", "two", "2 ", "\u{b2}"] {
+            assert_eq!(peers.ask("POST", body.as_bytes()), NO_OTHER_NODE, "{body}");
+        }
+        assert_eq!(peers.ask("POST", b"\xff"), NO_OTHER_NODE);
+        assert_eq!(peers.ask("PUT", b"2"), NO_POST);
+        assert!(!peers.has_asked(2));
+        for body in ["2", "002"] {
+            assert_eq!(peers.ask("POST", body.as_bytes()), TELLING);
+            assert!(peers.has_asked(2) && !peers.has_asked(0));
+            peers.has_told(2);
+            assert!(!peers.has_asked(2));
+        }
+    }
+
+    #[test]
     fn a_request_is_a_call_unless_it_reads_or_delivers() {
         for (method, path, kind) in [
             ("PUT", "/fail/a", Kind::Call),
@@ -176,6 +249,8 @@ mod tests {
             ("GET", "/status", Kind::Status),
             ("POST", "/status", Kind::Call),
             ("GET", "/report", Kind::Other),
+            ("POST", "/hello", Kind::Hello),
+            ("GET", "/hello", Kind::Hello),
         ] {
             assert_eq!(Kind::of(method, path, MAX_BODY), kind, "{method} {path}");
             assert_eq!(Kind::of(method, path, MAX_BODY + 1), Kind::Other);

@@ -63,7 +63,7 @@ pub(crate) struct State {
     has_forgotten: bool,
     pub(crate) peers: Peers,
     /// Whether calls wait until each other node was heard.
-    waits: bool,
+    pub(crate) waits: bool,
 }
 
 /// How many calls a node keeps at most, so that its memory doesn't grow with its passes.

@@ -158,6 +158,23 @@ fn nodes_without_news_hear_each_other_and_are_told_again() {
 }
 
 #[test]
+fn one_that_hears_first_asks_those_that_do_not() {
+    let any = SocketAddr::from((Ipv4Addr::LOCALHOST, 0));
+    let first = Arc::new(Registry::open(0, 2, 1000).unwrap());
+    let at_first = serve(first.clone(), any).unwrap();
+    let (second, at_second) = served(1, any, OnForgotten::Stop);
+    let _forth = telling(&first, 1, at_second.addr());
+    let _back = telling(&second, 0, at_first.addr());
+    assert!(comes(|| second.set("p", "return").is_ok()));
+    // Whoever asks is answered, also while calls wait.
+    let (waiting, at_waiting) = served(0, any, OnForgotten::Stop);
+    for (method, body, status) in [("POST", "1", 200), ("POST", "0", 400), ("GET", "", 405)] {
+        assert_eq!(ask(at_waiting.addr(), method, "/hello", body).0, status);
+    }
+    assert_eq!(waiting.calls().unwrap(), 0);
+}
+
+#[test]
 fn one_that_keeps_its_part_hears_them_too() {
     let path = nodes::new_file("hears_first");
     let messages = [open(0), open(2)].map(|other| other.emit(1).unwrap());
