@@ -5,7 +5,8 @@ ghost use Rattle.std.specs.Prelude.{IfOk, IfErr};
 ghost use Rattle.command_line.specs.declared.reading.Rights.TheVariants.{Stay};
 ghost use Rattle.http_service.specs.declared.fault.ServeFault.TheVariants.{AcceptFailed, OutOfMemory};
 ghost use Rattle.node_service.specs.Endings.{IsNodeServed};
-ghost use Rattle.node_service.specs.Rounds.{first_pace, is_named, is_told, most_calls, most_peers};
+ghost use Rattle.node_service.specs.Rounds.{first_pace, greeted, is_named, is_told, most_calls};
+ghost use Rattle.node_service.specs.Rounds.{most_peers};
 ghost use Rattle.node_service.specs.Rounds.{peer_of};
 ghost use Rattle.node_service.specs.Rounds.{told_below};
 ghost use Rattle.node_service.specs.Sharing.{AreTold, IsSharedFirst};
@@ -15,7 +16,7 @@ use crate::forgetful::{Said, ServedWire};
 use crate::host::Host;
 use command_line::{GossipOptions, NamedPeer, Rights};
 use gossip::{Pace, Reach, WireError, gossip_news};
-use http_serve::{Access, Ending, ServeFault, serve_forgetting};
+use http_serve::{Access, Ending, Hearing, Peers, ServeFault, serve_forgetting};
 use http_wire::{HttpWire, Key, Peer};
 use node_core::Config;
 use node_registry::{Label, Registry, Seat};
@@ -29,13 +30,17 @@ use std::time::{Clock, Duration};
 use tokio::net::TcpListener;
 use tokio::runtime::Runtime;
 
-/// A node whose port is listened on, and that needn't keep its calls, how many clients are let in, and
-/// where the service is ended.
+/// In how many rounds each peer is told once at least, where nodes hear each other first.
+const TOLD_EVERY: u32 = 64;
+
+/// A node whose port is listened on, and that needn't keep its calls, how many clients are let in, whom
+/// it has heard, and where the service is ended.
 #[derive(Drop)]
 pub struct Serving<'a, L: Label> {
     pub runtime: &'a mut Runtime,
     pub registry: &'a Arc<Registry<L>>,
     pub seat: Seat<L>,
+    pub heard: &'a Arc<Peers>,
     pub access: Access,
     pub listener: TcpListener,
     pub requests: u32,
@@ -148,13 +153,36 @@ pub(crate) fn first_paces<L: Label, R: Wait + AllocGlobal>(
     paces_of(rt.alloc(), node, nodes, named)
 }
 
-// Which rights are given to others in a round: none, where no call is made any more.
-fn rights_now<R: Wait, W: ServedWire>(rt: &R, wire: &mut W, wanted: Rights) -> Rights
+// Which rights are given to others in a round: none, where no call is made yet, or any more.
+fn rights_now<R: Wait, W: ServedWire>(rt: &R, heard: &Peers, wire: &mut W, wanted: Rights) -> Rights
     ensures { wanted ≡ Stay → result ≡ Stay }
 {
+    let are_given = heard.awaited(rt).is_none() && wire.goes_on(rt);
     match wanted {
-        Rights::FollowDemand if wire.goes_on(rt) => Rights::FollowDemand,
+        Rights::FollowDemand if are_given => Rights::FollowDemand,
         Rights::FollowDemand | Rights::Stay => Rights::Stay,
+    }
+}
+
+// A pace by which its node is told once its time has come, though there may be no news for it.
+fn greeted(pace: Pace) -> Pace
+    ensures { result ≡ greeted pace }
+{
+    Pace {
+        told_known: u64::MAX,
+        ..pace
+    }
+}
+
+// Has each peer told in every so manyth round, where nodes hear each other first: it may wait for that.
+fn greet(round: u32, hearing: Hearing, paces: &mut [Pace])
+    ensures { length paces.new ≡ length paces.old }
+{
+    if hearing == Hearing::Whenever || round % TOLD_EVERY != 0 {
+        return;
+    }
+    for pace in paces.iter_mut() {
+        *pace = greeted(*pace);
     }
 }
 
@@ -182,8 +210,9 @@ where
 }
 
 // Does one round after the other over a wire, with a rest between two, until all are done or the
-// service has ended. Each shares rights first, where they follow demand. Then it tells only news, and
-// only who is reached; of who answers that it has forgotten what it did that is said.
+// service has ended. Each shares rights first, where they follow demand and calls are made. Then it
+// tells only news, and only who is reached; of who answers that it has forgotten what it did that is
+// said. Where nodes hear each other first, each is told in every 64th round at least.
 pub(crate) fn keep_telling<L, R, W>(
     rt: &R,
     registry: &Registry<L>,
@@ -191,6 +220,7 @@ pub(crate) fn keep_telling<L, R, W>(
     wire: &mut W,
     paces: &mut [Pace],
     telling: &GossipOptions,
+    heard: &Peers,
     service: &Service,
 )
 where
@@ -213,7 +243,8 @@ where
         if service.has_ended() {
             return;
         }
-        let rights = rights_now(rt, wire, telling.rights);
+        greet(round, heard.hearing, paces);
+        let rights = rights_now(rt, heard, wire, telling.rights);
         share_first(rt, registry, seat, &mut sharing, rights);
         wire.keep_calls(rt, rt.alloc());
         gossip_news(rt, rt.alloc(), registry, seat, wire, paces);
@@ -228,6 +259,7 @@ fn tell_over_http<L, R>(
     registry: &Registry<L>,
     seat: &mut Seat<L>,
     telling: &GossipOptions,
+    heard: &Peers,
     key: Option<Key>,
     service: &Service,
 )
@@ -239,7 +271,9 @@ where
 {
     let paces = first_paces(rt, registry, &telling.peers);
     if let (Ok(mut wire), Ok(mut paces)) = (wire_to(rt, &telling.peers, key), paces) {
-        keep_telling(rt, registry, seat, &mut wire, &mut paces, telling, service);
+        keep_telling(
+            rt, registry, seat, &mut wire, &mut paces, telling, heard, service,
+        );
     }
 }
 
@@ -255,6 +289,7 @@ where
         runtime,
         registry,
         seat,
+        heard,
         access,
         listener,
         requests,
@@ -262,7 +297,7 @@ where
     } = serving;
     let alloc = rt.alloc();
     let served = serve_forgetting(
-        rt, alloc, runtime, registry, seat, access, listener, requests, ending,
+        rt, alloc, runtime, registry, seat, heard, access, listener, requests, ending,
     )?;
     Ok(NodeServed::of(ending, served))
 }
@@ -284,8 +319,9 @@ where
     ensures err { IfErr result (λ f. (f ≡ AcceptFailed) ⊎ (f ≡ OutOfMemory)) }
 {
     let registry: &'s Registry<L> = serving.registry;
+    let heard: &'s Peers = serving.heard;
     let thread = scope.spawn(move || tell_over_http(
-        rt, registry, &mut seat, &telling, key, service,
+        rt, registry, &mut seat, &telling, heard, key, service,
     ));
     let served = serve_alone(rt, serving);
     service.end();
