@@ -13,7 +13,7 @@ pub(crate) const MAX_HEAD: usize = 8_192;
 const MAX_FIELDS: usize = 100;
 
 /// The longest body, in bytes: that of the longest message.
-const MAX_BODY: usize = 67_108_864;
+pub(crate) const MAX_BODY: usize = 67_108_864;
 
 /// What is read of a body at once; as much room is made before any of it came.
 const PIECE: usize = 65_536;
@@ -119,7 +119,9 @@ fn methods_at(path: &str) -> Option<&'static str> {
         ["fail"] | ["report"] | ["status"] => Some("GET"),
         ["fail", _] => Some("PUT, DELETE"),
         ["spread", _] => Some("PUT, POST"),
-        ["load"] | ["gossip"] | ["grant", _, _, _] | ["shift", _, _, _, _] => Some("POST"),
+        ["load"] | ["gossip"] | ["hello"] | ["grant", _, _, _] | ["shift", _, _, _, _] => {
+            Some("POST")
+        }
         _ => None,
     }
 }
