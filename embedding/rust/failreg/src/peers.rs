@@ -2,7 +2,7 @@
 
 use crate::error::{Error, ErrorKind};
 use crate::http::MAX_BODY;
-use std::time::Instant;
+use std::time::{SystemTime, UNIX_EPOCH};
 
 /// The codes with which a node refuses a message, in byte order.
 const CODES: [&str; 8] = ["N1", "N16", "N17", "N18", "N19", "N20", "N22", "N4"];
@@ -21,8 +21,8 @@ const NO_OTHER_NODE: (u16, &str) = (
 /// What was heard of a node.
 #[derive(Clone, Debug, Default)]
 struct Row {
-    /// When a message of it was last taken in.
-    heard: Option<Instant>,
+    /// When a message of it was last taken in, in milliseconds since 1970.
+    heard: Option<u128>,
     /// How many of its messages were refused, by code.
     refused: [u64; CODES.len()],
     /// Whether it asked to be told, and wasn't since.
@@ -52,7 +52,7 @@ impl Peers {
             return;
         };
         let Some(refusal) = refusal else {
-            row.heard = Some(Instant::now());
+            row.heard = Some(milliseconds());
             return;
         };
         let code = refusal.split(' ').next();
@@ -123,10 +123,10 @@ impl Peers {
 }
 
 impl Row {
-    // How many milliseconds ago it was heard, and how many of its messages were refused.
+    // When it was heard, and how many of its messages were refused.
     fn shown(&self, node: usize) -> String {
         let heard = match self.heard {
-            Some(at) => format!("\"{}\"", at.elapsed().as_millis()),
+            Some(at) => format!("\"{at}\""),
             None => "null".into(),
         };
         let counts = CODES
@@ -146,6 +146,12 @@ fn number_in(body: &[u8]) -> Option<usize> {
     let text = std::str::from_utf8(body).ok()?;
     let is_number = !text.is_empty() && text.bytes().all(|byte| byte.is_ascii_digit());
     text.parse().ok().filter(|_| is_number)
+}
+
+// The milliseconds since 1970, by the machine's clock.
+fn milliseconds() -> u128 {
+    let since = SystemTime::now().duration_since(UNIX_EPOCH);
+    since.map_or(0, |since| since.as_millis())
 }
 
 /// The refusal of a call that waits for a node.
@@ -212,8 +218,8 @@ mod tests {
         let told = String::from_utf8(status).unwrap();
         let (front, behind) = told.split_once("{\"heard\":\"").unwrap();
         assert_eq!(front, "{\"node\":{},\"peers\":[");
-        let (ago, behind) = behind.split_once('"').unwrap();
-        assert!(ago.parse::<u64>().unwrap() < 10_000);
+        let (at, behind) = behind.split_once('"').unwrap();
+        assert!((1_700_000_000_000..=milliseconds()).contains(&at.parse().unwrap()));
         let rest = ",\"node\":\"0\",\"refused\":{}},\
                     {\"heard\":null,\"node\":\"2\",\"refused\":{\"N18\":\"2\",\"N4\":\"1\"}}]}";
         assert_eq!(behind, rest);
