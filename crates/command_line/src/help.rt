@@ -359,6 +359,18 @@ two peers of one node the first counts, and one of the node itself is told
 nothing. The rounds end with the service, which waits for the one under way.
 Where no thread or no sockets can be had for them, the node is served without.
 
+With --share each round begins by moving rights of the node to nodes that passed
+a point since the round before and have no right to its term; who passed it in
+the last ten rounds keeps one. Give it to each node of the cluster. Without it
+rights stay where they were put.
+
+With --hear-first the node takes in messages, and any other call that would
+change it is 503, until each other node of the cluster was heard once. So one
+that was started again without its part learns that others know more of it
+before it does anything anew. Each node then tells its peers in every 64th round
+at least, also where there is no news: give it to all of them, with --rounds.
+With --record only a node whose part is new waits.
+
 With --record the node outlives its process: each call that it accepts is a
 line of the file before anybody is told of it. Where the file is there, those
 calls are made again first, and --failpoints only where there are none. Where a

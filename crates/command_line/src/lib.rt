@@ -20,6 +20,6 @@ pub use guarding::{Unguarded, first_unguarded};
 pub use peers::{NamedPeer, PeerFault, PeersFault, read_peer, read_peers};
 pub use quoting::quoted;
 pub use reading::{
-    AuditOptions, GossipOptions, Invocation, PartOptions, PictureOptions, ServeOptions, SimOptions,
-    ThreadOptions, read_command_line,
+    AuditOptions, GossipOptions, Invocation, PartOptions, PictureOptions, Rights, ServeOptions,
+    SimOptions, Start, ThreadOptions, read_command_line,
 };

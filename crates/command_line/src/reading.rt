@@ -85,13 +85,35 @@ pub struct PictureOptions<'a> {
     pub text: bool,
 }
 
-/// Whom a served node tells what it knows, and how often.
+/// Which rights a served node gives to others of its own accord.
+#[derive(Clone, Copy, Debug, PartialEq, Eq)]
+pub enum Rights {
+    /// None: they stay where they were put.
+    Stay,
+    /// Those that are asked for elsewhere, before each round of gossip.
+    FollowDemand,
+}
+
+/// From when on a served node takes calls that are no deliveries.
+#[derive(Clone, Copy, Debug, PartialEq, Eq)]
+pub enum Start {
+    /// At once.
+    AtOnce,
+    /// Once each other node of the cluster was heard, or at once where it goes on from its part.
+    OthersHeard,
+}
+
+/// Whom a served node tells what it knows, and how often, and whether it hears them first.
 #[derive(Debug, Drop)]
 pub struct GossipOptions {
     pub peers: Vec<NamedPeer>,
     pub rounds: u32,
     /// The rest between two rounds.
     pub every: Duration,
+    /// Which of its rights it gives to others before each round.
+    pub rights: Rights,
+    /// From when on it takes calls.
+    pub start: Start,
 }
 
 /// The node that is served, and where.
@@ -109,7 +131,7 @@ pub struct ServeOptions<'a> {
     pub requests: u32,
     /// The points that are set before the first request.
     pub failpoints: Option<&'a str>,
-    /// Whom the node tells what it knows.
+    /// Whom the node tells what it knows, and hears.
     pub telling: GossipOptions,
 }
 
@@ -169,17 +191,61 @@ fn guarded<'a>(alloc: Global, options: ServeOptions<'a>) -> Result<ServeOptions<
     }
 }
 
-// What is given where the values of a serve command have passed their parsers. The addresses haven't yet.
-fn serve_options<'a>(alloc: Global, matches: &ArgMatches<'a>) -> Result<ServeOptions<'a>, Error>
-    ensures { IfOk result IsGuarded }
-{
-    let nodes = matches.get_one::<u8>("nodes").unwrap_or(0);
+// Which rights a node gives to others: those that do so in rounds of gossip are given with such rounds alone.
+fn rights_of(
+    alloc: Global,
+    matches: &ArgMatches<'_>,
+    rounds: u32,
+    peers: &[NamedPeer],
+) -> Result<Rights, Error> {
+    if !matches.get_flag("share") {
+        return Ok(Rights::Stay);
+    }
+    if rounds == 0 || peers.is_empty() {
+        return Err(bad_value_of_serve(alloc, "--share is given with --rounds <k> and a peer")?);
+    }
+    Ok(Rights::FollowDemand)
+}
+
+// From when on a node takes calls. Who hears others first has a peer.
+fn start_of(alloc: Global, matches: &ArgMatches<'_>, peers: &[NamedPeer]) -> Result<Start, Error> {
+    if !matches.get_flag("hear-first") {
+        return Ok(Start::AtOnce);
+    }
+    if peers.is_empty() {
+        return Err(bad_value_of_serve(alloc, "--hear-first is given with a peer")?);
+    }
+    Ok(Start::OthersHeard)
+}
+
+// Whom a node tells and hears.
+fn gossip_options(
+    alloc: Global,
+    matches: &ArgMatches<'_>,
+    nodes: u8,
+) -> Result<GossipOptions, Error> {
     let words = matches.get_strs("peer").unwrap_or(&[]);
     let peers = match read_peers(alloc, words, nodes) {
         Ok(peers) => peers,
         Err(fault) => return Err(bad_peers(alloc, fault)?),
     };
+    let rounds = matches.get_one::<u32>("rounds").unwrap_or(0);
     let every = matches.get_one::<u32>("every").unwrap_or(0);
+    Ok(GossipOptions {
+        rights: rights_of(alloc, matches, rounds, &peers)?,
+        start: start_of(alloc, matches, &peers)?,
+        peers,
+        rounds,
+        every: Duration::from_millis(u64::from(every)),
+    })
+}
+
+// What is given where the values of a serve command have passed their parsers. The addresses haven't yet.
+fn serve_options<'a>(alloc: Global, matches: &ArgMatches<'a>) -> Result<ServeOptions<'a>, Error>
+    ensures { IfOk result IsGuarded }
+{
+    let nodes = matches.get_one::<u8>("nodes").unwrap_or(0);
+    let telling = gossip_options(alloc, matches, nodes)?;
     let options = ServeOptions {
         node: matches.get_one::<u8>("node").unwrap_or(0),
         nodes,
@@ -192,11 +258,7 @@ fn serve_options<'a>(alloc: Global, matches: &ArgMatches<'a>) -> Result<ServeOpt
         },
         requests: matches.get_one::<u32>("requests").unwrap_or(0),
         failpoints: matches.get_str("failpoints"),
-        telling: GossipOptions {
-            peers,
-            rounds: matches.get_one::<u32>("rounds").unwrap_or(0),
-            every: Duration::from_millis(u64::from(every)),
-        },
+        telling,
     };
     guarded(alloc, options)
 }

@@ -1,1 +1,2 @@
 mod RoundLemmas
+mod SharingRounds

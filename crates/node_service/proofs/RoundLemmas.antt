@@ -1,5 +1,5 @@
 -- How many calls a round of gossip makes, and whom it tells.
-use Rattle.std.proofs.Common.{◌≡◌, ◌≤◌, ℕ, suc, ◌+◌, ◌*◌, ◌==◌, Bool, true, false, cond, not, ◌&&◌, List, [], ◌∷◌, ◌++◌, length, map, refl, ap, ◌∙◌, add-mul, arith}
+use Rattle.std.proofs.Common.{◌≡◌, ◌≤◌, ℕ, suc, ◌+◌, ◌==◌, Bool, true, false, cond, not, ◌&&◌, List, [], ◌∷◌, ◌++◌, length, map, refl, ap, ◌∙◌, arith}
 use Rattle.std.specs.List.{count_by, filter, range_with_len}
 use Rattle.std.proofs.lemmas.List.{append-nil, length-map, map-append}
 use Rattle.std.proofs.lemmas.List.Elements.{filter-append}
@@ -72,11 +72,6 @@ calls_of_a_round config seed says since was now most before after ps qs r told r
         (tos : List ℕ) × IsPartOf (own_asks_in config r.receipts.items) (map bare_emit tos)
     by_end Done is = let p = round is in (p.tos, p.asks)
     by_end OutOfMemory is = let p = broken is in (p.tos ++ p.next, p.asks)
-
--- rounds of so many calls at most, and one more
-pub after_a_round : (start was now round most : ℕ) → was ≤ start + round * most → now ≤ was + most →
-    now ≤ start + (round + 1) * most
-after_a_round start was now round most before more = omega (arith, before, more, add-mul round 1 most)
 
 -- ---- who is told
 

@@ -1,5 +1,7 @@
 pub mod FaultText
 pub mod Caps
 pub mod Endings
+pub mod Hearing
 pub mod KeyFiles
 pub mod Rounds
+pub mod Sharing

@@ -39,3 +39,7 @@ first_pace node = record {
   rest = 1;
   waits = 0;
 }
+
+-- one by which its node is told once its time has come, though there may be no news
+abbrev pub greeted : Pace → Pace
+greeted pace = record pace { told_known = 18446744073709551615 }

@@ -1,4 +1,5 @@
-//! What is said of peers that have forgotten what they did.
+//! What a served node asks of the wire to its peers besides messages, and what is said of peers that have
+//! forgotten what they did.
 
 use http_wire::{Forgetful, Forgetting, HttpWire};
 use node_registry::Label;
@@ -13,19 +14,41 @@ use std::time::{Clock, Duration, Instant};
 /// How often it is said at most of a peer that it has forgotten what it did.
 const SAID_EVERY_SECONDS: u64 = 60;
 
-/// A wire that knows whose answers say that they have forgotten what they did.
-pub(crate) trait Hearing {
+/// A wire of a served node: it knows whether the node is still called, and whose answers say that they
+/// have forgotten what they did.
+pub(crate) trait ServedWire {
+    /// Whether calls are still made.
+    fn goes_on<R: Wait>(&mut self, rt: &R) -> bool;
+
+    /// Has the calls that were made written, where a part is kept. Where they can't be, none is made
+    /// from then on.
+    fn keep_calls<R: Wait>(&mut self, rt: &R, alloc: Global);
+
     /// Who has answered so since the last time.
     fn forgetful(&mut self, alloc: Global) -> Vec<Forgetful>;
 }
 
-impl<R: Wait + Clock + Net + RandomSource + AllocGlobal + Drop> Hearing for HttpWire<R> {
+impl<R: Wait + Clock + Net + RandomSource + AllocGlobal + Drop> ServedWire for HttpWire<R> {
+    fn goes_on<S: Wait>(&mut self, _rt: &S) -> bool {
+        true
+    }
+
+    fn keep_calls<S: Wait>(&mut self, _rt: &S, _alloc: Global) {}
+
     fn forgetful(&mut self, alloc: Global) -> Vec<Forgetful> {
         self.take_forgetful(alloc)
     }
 }
 
-impl<'a, L: Label, W: Hearing> Hearing for RecordingWire<'a, L, W> {
+impl<'a, L: Label, W: ServedWire> ServedWire for RecordingWire<'a, L, W> {
+    fn goes_on<R: Wait>(&mut self, rt: &R) -> bool {
+        self.look(rt)
+    }
+
+    fn keep_calls<R: Wait>(&mut self, rt: &R, alloc: Global) {
+        let _ = self.keep(rt, alloc);
+    }
+
     fn forgetful(&mut self, alloc: Global) -> Vec<Forgetful> {
         self.get_mut().forgetful(alloc)
     }

@@ -1,7 +1,7 @@
 //! The file of the key that clients and peers have to have.
 
-ghost use Rattle.std.specs.Prelude.{◌≡◌, IfOk, IsSome, ◌↔◌};
-ghost use Rattle.node_service.specs.KeyFiles.{AsksForWhatItSends, HasKeyLength};
+ghost use Rattle.std.specs.Prelude.{◌≡◌, ◌≤◌, IfOk, IsSome, ◌↔◌, OnOk, length};
+ghost use Rattle.node_service.specs.KeyFiles.{AsksForWhatItSends};
 
 use crate::fault::ServiceFault;
 use http_serve::Access;
@@ -13,10 +13,8 @@ use std::io::Read;
 use std::os::unix::fs::PermissionsExt;
 use std::{fmt, io};
 
-/// The fewest bytes that a key has: as many as nobody guesses.
-pub const LEAST_KEY: usize = 32;
-
-/// The most: the head of a request has room for them in hex, and for the rest.
+/// The most bytes of a key: the head of a request has room for them in hex, and for the rest. `Access`
+/// knows the fewest.
 pub const MOST_KEY: usize = 1024;
 
 /// Why a file has no key. `Display` shows the fault's number and name.
@@ -48,26 +46,23 @@ impl From<io::Error> for KeyFault {
     }
 }
 
-// The bytes of a key, where they are as many as one has.
+// The bytes of a key, where they aren't more than one has.
 fn key_of(bytes: Vec<u8>) -> Result<Vec<u8>, KeyFault>
-    ensures { IfOk result (λ key. (key ≡ bytes) × HasKeyLength key.items) }
+    ensures { IfOk result (λ key. (key ≡ bytes) × (length key.items ≤ 1024)) }
 {
-    if bytes.len() < LEAST_KEY {
-        return Err(KeyFault::TooShort(bytes.len()));
-    }
     if bytes.len() > MOST_KEY {
         return Err(KeyFault::TooLong);
     }
     Ok(bytes)
 }
 
-/// The key of a file that nobody but its owner may use.
+/// What a file has as a key that nobody but its owner may use.
 pub(crate) fn read_key<R: Files<File = File>>(
     rt: &R,
     alloc: Global,
     path: &str,
 ) -> Result<Vec<u8>, KeyFault>
-    ensures { IfOk result (λ key. HasKeyLength key.items) }
+    ensures { IfOk result (λ key. length key.items ≤ 1024) }
 {
     let mut options = OpenOptions::new();
     options.read(true);
@@ -109,6 +104,7 @@ where
 fn with_key(alloc: Global, bytes: &[u8]) -> Result<Keyed, ServiceFault>
     ensures alike { IfOk result AsksForWhatItSends }
     ensures named { IfOk result (λ keyed. IsSome keyed.key) }
+    ensures long { OnOk result (32 ≤ length bytes.now) }
 {
     let key = Key::new(alloc, bytes).map_err(NodeFault::from)?;
     match Access::by_key(alloc, bytes) {

@@ -13,7 +13,7 @@ mod telling;
 pub use ended::NodeServed;
 pub use fault::ServiceFault;
 pub use http_serve::Reason;
-pub use key_file::{KeyFault, LEAST_KEY, MOST_KEY};
+pub use key_file::{KeyFault, MOST_KEY};
 pub use part_files::OpenFault;
 pub use recording::serve_recorded;
 pub use serving::serve_node;

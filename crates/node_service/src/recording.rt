@@ -4,6 +4,7 @@ ghost use Rattle.std.specs.Prelude.{◌≡◌, ◌⊎◌, ◌+◌, ◌*◌, ◌�
 ghost use Rattle.std.specs.Prelude.{false, replicate};
 ghost use Rattle.http_service.specs.declared.fault.ServeFault.TheVariants.{AcceptFailed, OutOfMemory};
 ghost use Rattle.node_steps.specs.Refusals.{is_bad_config};
+ghost use Rattle.command_line.specs.declared.reading.Rights.TheVariants.{Stay};
 ghost use Rattle.node_service.specs.Caps.{cap_of};
 ghost use Rattle.node_service.specs.Endings.{IsNodeServed};
 ghost use Rattle.node_service.specs.Rounds.{most_calls};
@@ -13,10 +14,10 @@ use crate::ended::NodeServed;
 use crate::fault::ServiceFault;
 use crate::host::Host;
 use crate::key_file::{Keyed, keyed_by};
-use crate::serving::{config_of, listen, say_where};
+use crate::serving::{config_of, heard_by, listen, say_where};
 use crate::telling::{Service, first_paces, keep_telling, wire_to};
 use command_line::{GossipOptions, PartOptions, ServeOptions};
-use http_serve::{Access, Ending, ServeFault, serve_recording};
+use http_serve::{Access, Ending, Peers, ServeFault, serve_recording};
 use http_wire::Key;
 use node_core::{Ask, Config, NodeFault};
 use node_registry::{Label, Registry, Seat};
@@ -128,6 +129,7 @@ struct Recorded<'a, L: Label> {
     runtime: &'a mut Runtime,
     registry: &'a Arc<Registry<L>>,
     recorder: &'a Arc<Recorder<L>>,
+    heard: &'a Arc<Peers>,
     access: Access,
     listener: TcpListener,
     requests: u32,
@@ -164,11 +166,18 @@ where
     if let Some(text) = first_points {
         set_first(rt, rt.alloc(), registry, &recorder, text)?;
     }
+    let heard = heard_by(
+        rt.alloc(),
+        options.node,
+        options.nodes,
+        options.telling.start,
+    )?;
     let ending = Ending::new(rt.alloc()).map_err(NodeFault::from)?;
     let recorded = Recorded {
         runtime: &mut runtime,
         registry,
         recorder: &recorder,
+        heard: &heard,
         access,
         listener,
         requests: options.requests,
@@ -202,18 +211,22 @@ fn tell_recorded<L, R>(
     recorder: &Recorder<L>,
     seat: &mut Seat<L>,
     telling: &GossipOptions,
+    heard: &Peers,
     key: Option<Key>,
     service: &Service,
 )
 where
     L: Label,
     R: Host,
-    ensures { seat.new ≤ seat.old + telling.now.rounds * most_calls L.config }
+    ensures { telling.now.rights ≡ Stay
+        → seat.new ≤ seat.old + telling.now.rounds * most_calls L.config }
 {
     let paces = first_paces(rt, registry, &telling.peers);
     if let (Ok(wire), Ok(mut paces)) = (wire_to(rt, &telling.peers, key), paces) {
         let mut wire = RecordingWire::new(wire, registry, recorder);
-        keep_telling(rt, registry, seat, &mut wire, &mut paces, telling, service);
+        keep_telling(
+            rt, registry, seat, &mut wire, &mut paces, telling, heard, service,
+        );
     }
 }
 
@@ -229,6 +242,7 @@ where
         runtime,
         registry,
         recorder,
+        heard,
         access,
         listener,
         requests,
@@ -236,7 +250,7 @@ where
     } = recorded;
     let alloc = rt.alloc();
     let served = serve_recording(
-        rt, alloc, runtime, registry, recorder, access, listener, requests, ending,
+        rt, alloc, runtime, registry, recorder, heard, access, listener, requests, ending,
     )?;
     Ok(NodeServed::of(ending, served))
 }
@@ -259,8 +273,9 @@ where
 {
     let registry: &'s Registry<L> = recorded.registry;
     let recorder: &'s Recorder<L> = recorded.recorder;
+    let heard: &'s Peers = recorded.heard;
     let thread = scope.spawn(move || tell_recorded(
-        rt, registry, recorder, &mut seat, &telling, key, service,
+        rt, registry, recorder, &mut seat, &telling, heard, key, service,
     ));
     let served = serve_alone(rt, recorded);
     service.end();

@@ -3,7 +3,9 @@
 ghost use Rattle.std.specs.Prelude.{◌≡◌, ◌⊎◌, IfOk, IfErr, IsErrAnd, IsTrue, OnOk, true, false, replicate};
 ghost use Rattle.node_steps.specs.Refusals.{is_bad_config};
 ghost use Rattle.node_service.specs.Caps.{cap_of};
+ghost use Rattle.std.specs.Arc.{arc_value};
 ghost use Rattle.node_service.specs.Endings.{IsNodeServed};
+ghost use Rattle.node_service.specs.Hearing.{IsHeardBy};
 ghost use Rattle.node_service.specs.declared.fault.ServiceFault.TheVariants.{Node};
 
 use crate::ended::NodeServed;
@@ -11,8 +13,8 @@ use crate::fault::ServiceFault;
 use crate::host::Host;
 use crate::key_file::{Keyed, keyed_by};
 use crate::telling::{Serving, serve_and_tell};
-use command_line::ServeOptions;
-use http_serve::{Ending, ServeFault};
+use command_line::{ServeOptions, Start};
+use http_serve::{Ending, Hearing, Peers, ServeFault};
 use node_core::{Config, MAX_TRACE_CAP, NodeFault};
 use node_registry::{Label, Registry, Seat};
 use std::alloc::{AllocGlobal, Global};
@@ -115,17 +117,40 @@ where
         options.listen,
         options.failpoints,
     )?;
+    let heard = heard_by(
+        rt.alloc(),
+        options.node,
+        options.nodes,
+        options.telling.start,
+    )?;
     let ending = Ending::new(rt.alloc()).map_err(NodeFault::from)?;
     let serving = Serving {
         runtime: &mut runtime,
         registry,
         seat,
+        heard: &heard,
         access,
         listener,
         requests: options.requests,
         ending: &ending,
     };
     Ok(serve_and_tell(rt, serving, telling_seat, options.telling, key)?)
+}
+
+// Whom a node has heard that begins: nobody.
+pub(crate) fn heard_by(
+    alloc: Global,
+    node: u8,
+    nodes: u8,
+    start: Start,
+) -> Result<Arc<Peers>, NodeFault>
+    ensures { IfOk result (λ heard. IsHeardBy node nodes start (arc_value heard)) }
+{
+    let hearing = match start {
+        Start::AtOnce => Hearing::Whenever,
+        Start::OthersHeard => Hearing::First,
+    };
+    Ok(Peers::new(alloc, node, nodes, hearing)?)
 }
 
 // Listens for the node, says where, and sets its first points.

@@ -1,21 +1,26 @@
 //! A node that is served, and its gossip beside it.
 
-ghost use Rattle.std.specs.Prelude.{◌≡◌, ◌≤◌, ◌<◌, ◌^◌, ◌+◌, ◌*◌, ◌⊎◌, false, length, map, IfOk, IfErr};
+ghost use Rattle.std.specs.Prelude.{◌≡◌, ◌≤◌, ◌<◌, ◌^◌, ◌+◌, ◌*◌, ◌⊎◌, [], false, length, map};
+ghost use Rattle.std.specs.Prelude.{IfOk, IfErr};
+ghost use Rattle.command_line.specs.declared.reading.Rights.TheVariants.{Stay};
 ghost use Rattle.http_service.specs.declared.fault.ServeFault.TheVariants.{AcceptFailed, OutOfMemory};
 ghost use Rattle.node_service.specs.Endings.{IsNodeServed};
-ghost use Rattle.node_service.specs.Rounds.{first_pace, is_named, is_told, most_calls, most_peers};
+ghost use Rattle.node_service.specs.Rounds.{first_pace, greeted, is_named, is_told, most_calls};
+ghost use Rattle.node_service.specs.Rounds.{most_peers};
 ghost use Rattle.node_service.specs.Rounds.{peer_of};
 ghost use Rattle.node_service.specs.Rounds.{told_below};
+ghost use Rattle.node_service.specs.Sharing.{AreTold, IsSharedFirst};
 
 use crate::ended::NodeServed;
-use crate::forgetful::{Hearing, Said};
+use crate::forgetful::{Said, ServedWire};
 use crate::host::Host;
-use command_line::{GossipOptions, NamedPeer};
+use command_line::{GossipOptions, NamedPeer, Rights};
 use gossip::{Pace, Reach, WireError, gossip_news};
-use http_serve::{Access, Ending, ServeFault, serve_forgetting};
+use http_serve::{Access, Ending, Hearing, Peers, ServeFault, serve_forgetting};
 use http_wire::{HttpWire, Key, Peer};
 use node_core::Config;
 use node_registry::{Label, Registry, Seat};
+use registry_sharing::Sharing;
 use std::alloc::{AllocError, AllocGlobal, Global};
 use std::sync::atomic::{AtomicBool, Ordering};
 use std::sync::{Arc, Wait};
@@ -25,13 +30,17 @@ use std::time::{Clock, Duration};
 use tokio::net::TcpListener;
 use tokio::runtime::Runtime;
 
-/// A node whose port is listened on, and that needn't keep its calls, how many clients are let in, and
-/// where the service is ended.
+/// In how many rounds each peer is told once at least, where nodes hear each other first.
+const TOLD_EVERY: u32 = 64;
+
+/// A node whose port is listened on, and that needn't keep its calls, how many clients are let in, whom
+/// it has heard, and where the service is ended.
 #[derive(Drop)]
 pub struct Serving<'a, L: Label> {
     pub runtime: &'a mut Runtime,
     pub registry: &'a Arc<Registry<L>>,
     pub seat: Seat<L>,
+    pub heard: &'a Arc<Peers>,
     pub access: Access,
     pub listener: TcpListener,
     pub requests: u32,
@@ -144,9 +153,66 @@ pub(crate) fn first_paces<L: Label, R: Wait + AllocGlobal>(
     paces_of(rt.alloc(), node, nodes, named)
 }
 
+// Which rights are given to others in a round: none, where no call is made yet, or any more.
+fn rights_now<R: Wait, W: ServedWire>(rt: &R, heard: &Peers, wire: &mut W, wanted: Rights) -> Rights
+    ensures { wanted ≡ Stay → result ≡ Stay }
+{
+    let are_given = heard.awaited(rt).is_none() && wire.goes_on(rt);
+    match wanted {
+        Rights::FollowDemand if are_given => Rights::FollowDemand,
+        Rights::FollowDemand | Rights::Stay => Rights::Stay,
+    }
+}
+
+// A pace by which its node is told once its time has come, though there may be no news for it.
+fn greeted(pace: Pace) -> Pace
+    ensures { result ≡ greeted pace }
+{
+    Pace {
+        told_known: u64::MAX,
+        ..pace
+    }
+}
+
+// Has each peer told in every so manyth round, where nodes hear each other first: it may wait for that.
+fn greet(round: u32, hearing: Hearing, paces: &mut [Pace])
+    ensures { length paces.new ≡ length paces.old }
+{
+    if hearing == Hearing::Whenever || round % TOLD_EVERY != 0 {
+        return;
+    }
+    for pace in paces.iter_mut() {
+        *pace = greeted(*pace);
+    }
+}
+
+// Shares rights before a round, where they follow demand. A shift that is refused is due again in the
+// next round.
+fn share_first<L, R>(
+    rt: &R,
+    registry: &Registry<L>,
+    seat: &mut Seat<L>,
+    sharing: &mut Sharing,
+    rights: Rights,
+)
+where
+    L: Label,
+    R: Wait + AllocGlobal,
+    ensures { IsSharedFirst rights L.config L.seed L.keeps L.parts seat.old seat.new sharing.old
+        sharing.new }
+{
+    match rights {
+        Rights::Stay => {}
+        Rights::FollowDemand => {
+            let _ = sharing.share(rt, rt.alloc(), registry, seat);
+        }
+    }
+}
+
 // Does one round after the other over a wire, with a rest between two, until all are done or the
-// service has ended. A round tells only news, and only who is reached; of who answers that it has
-// forgotten what it did that is said.
+// service has ended. Each shares rights first, where they follow demand and calls are made. Then it
+// tells only news, and only who is reached; of who answers that it has forgotten what it did that is
+// said. Where nodes hear each other first, each is told in every 64th round at least.
 pub(crate) fn keep_telling<L, R, W>(
     rt: &R,
     registry: &Registry<L>,
@@ -154,17 +220,22 @@ pub(crate) fn keep_telling<L, R, W>(
     wire: &mut W,
     paces: &mut [Pace],
     telling: &GossipOptions,
+    heard: &Peers,
     service: &Service,
 )
 where
     L: Label,
     R: Wait + AllocGlobal + Clock + Eprint,
-    W: Reach + Hearing,
+    W: Reach + ServedWire,
     requires peers { length paces.old ≤ most_peers L.config }
     requires few { length paces.old < 2 ^ 8 }
-    ensures { seat.new ≤ seat.old + telling.now.rounds * most_calls L.config }
+    ensures rounds { AreTold telling.now.rights L.config L.seed L.keeps L.parts
+        telling.now.rounds seat.old seat.new [] }
+    ensures few { telling.now.rights ≡ Stay
+        → seat.new ≤ seat.old + telling.now.rounds * most_calls L.config }
 {
     let mut said = Said::new(rt.alloc());
+    let mut sharing = Sharing::new(rt.alloc());
     for round in 0..telling.rounds {
         if round > 0 {
             service.rest(rt, telling.every);
@@ -172,6 +243,10 @@ where
         if service.has_ended() {
             return;
         }
+        greet(round, heard.hearing, paces);
+        let rights = rights_now(rt, heard, wire, telling.rights);
+        share_first(rt, registry, seat, &mut sharing, rights);
+        wire.keep_calls(rt, rt.alloc());
         gossip_news(rt, rt.alloc(), registry, seat, wire, paces);
         let forgetful = wire.forgetful(rt.alloc());
         said.say(rt, &forgetful);
@@ -184,17 +259,21 @@ fn tell_over_http<L, R>(
     registry: &Registry<L>,
     seat: &mut Seat<L>,
     telling: &GossipOptions,
+    heard: &Peers,
     key: Option<Key>,
     service: &Service,
 )
 where
     L: Label,
     R: Host,
-    ensures { seat.new ≤ seat.old + telling.now.rounds * most_calls L.config }
+    ensures { telling.now.rights ≡ Stay
+        → seat.new ≤ seat.old + telling.now.rounds * most_calls L.config }
 {
     let paces = first_paces(rt, registry, &telling.peers);
     if let (Ok(mut wire), Ok(mut paces)) = (wire_to(rt, &telling.peers, key), paces) {
-        keep_telling(rt, registry, seat, &mut wire, &mut paces, telling, service);
+        keep_telling(
+            rt, registry, seat, &mut wire, &mut paces, telling, heard, service,
+        );
     }
 }
 
@@ -210,6 +289,7 @@ where
         runtime,
         registry,
         seat,
+        heard,
         access,
         listener,
         requests,
@@ -217,7 +297,7 @@ where
     } = serving;
     let alloc = rt.alloc();
     let served = serve_forgetting(
-        rt, alloc, runtime, registry, seat, access, listener, requests, ending,
+        rt, alloc, runtime, registry, seat, heard, access, listener, requests, ending,
     )?;
     Ok(NodeServed::of(ending, served))
 }
@@ -239,8 +319,9 @@ where
     ensures err { IfErr result (λ f. (f ≡ AcceptFailed) ⊎ (f ≡ OutOfMemory)) }
 {
     let registry: &'s Registry<L> = serving.registry;
+    let heard: &'s Peers = serving.heard;
     let thread = scope.spawn(move || tell_over_http(
-        rt, registry, &mut seat, &telling, key, service,
+        rt, registry, &mut seat, &telling, heard, key, service,
     ));
     let served = serve_alone(rt, serving);
     service.end();

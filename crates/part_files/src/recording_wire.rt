@@ -35,6 +35,23 @@ impl<'a, L: Label, W> RecordingWire<'a, L, W> {
         }
     }
 
+    /// Whether calls are still made.
+    pub fn look<R: Wait>(&mut self, rt: &R) -> bool
+        ensures { (result ≡ self.new.goes_on) × (self.new.wire ≡ self.old.wire) }
+    {
+        self.goes_on = self.recorder.goes_on(rt);
+        self.goes_on
+    }
+
+    /// Has the lines of all calls that were made written. Where they can't be, no call is made from
+    /// then on; answers whether calls are.
+    pub fn keep<R: Wait>(&mut self, rt: &R, alloc: Global) -> bool
+        ensures { (result ≡ self.new.goes_on) × (self.new.wire ≡ self.old.wire) }
+    {
+        self.goes_on = self.recorder.keep(rt, alloc, self.registry).is_ok();
+        self.goes_on
+    }
+
     /// The wire that it sends over.
     pub fn get_mut(&mut self) -> &mut W
         ensures { result.now ≡ self.old.wire }
@@ -70,7 +87,6 @@ impl<'a, L: Label, W: Reach> Reach for RecordingWire<'a, L, W> {
     ghost reached = { λ w node. w.goes_on && W.reached w.wire node };
 
     fn reaches<R: Wait>(&mut self, rt: &R, alloc: Global, to: u8) -> bool {
-        self.goes_on = self.recorder.goes_on(rt);
-        self.goes_on && self.wire.reaches(rt, alloc, to)
+        self.look(rt) && self.wire.reaches(rt, alloc, to)
     }
 }

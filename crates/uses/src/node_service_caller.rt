@@ -2,7 +2,7 @@
 
 ghost use Rattle.std.specs.Prelude.{◌≡◌, None, IfOk};
 
-use command_line::{GossipOptions, ServeOptions, port_here};
+use command_line::{GossipOptions, Rights, ServeOptions, Start, port_here};
 use node_service::{NodeServed, ServiceFault, serve_node};
 use std::alloc::AllocGlobal;
 use std::fs::{File, Files};
@@ -43,6 +43,8 @@ where
             peers: Vec::new(rt.alloc()),
             rounds: 0,
             every: Duration::from_millis(0),
+            rights: Rights::Stay,
+            start: Start::AtOnce,
         },
     };
     serve_node(rt, options)

@@ -1,7 +1,8 @@
 //! Requests of HTTP at a registry, whoever received them.
 
 use crate::error::{Error, ErrorKind};
-use crate::registry::Registry;
+use crate::peers::Kind;
+use crate::registry::{Registry, State};
 
 /// The reply to a request of HTTP.
 #[derive(Clone, Debug, PartialEq, Eq, Hash)]
@@ -23,6 +24,23 @@ pub(crate) fn forgotten_in(status: u16, body: &[u8]) -> Option<Error> {
     (status == 400 && is_told).then(|| Error::new(ErrorKind::Forgotten, text.to_string()))
 }
 
+impl State {
+    // Notes what a message came to, and tells in a status what was heard. Answers whether calls were
+    // waiting for the message.
+    fn note_reply(&mut self, kind: Kind, body: &[u8], status: u16, told: &mut Vec<u8>) -> bool {
+        match (kind, status) {
+            (Kind::Delivery, 200) => return self.note(body, None),
+            (Kind::Delivery, _) => {
+                let refusal = std::str::from_utf8(told).unwrap_or_default();
+                return self.note(body, Some(refusal));
+            }
+            (Kind::Status, 200) => self.peers.put_behind(told),
+            (Kind::Status | Kind::Call | Kind::Hello | Kind::Other, _) => {}
+        }
+        false
+    }
+}
+
 impl Registry {
     /// Answers a request of HTTP as a served node does: for a program that has a server of its own,
     /// which hands over what stands below a path of its choice. `path` is that of the request line,
@@ -39,12 +57,14 @@ impl Registry {
     /// | `PUT /spread/<name>` | an action text | the stamp of the setting, whose rights are dealt out to all nodes ([`set_spread`](Registry::set_spread)) |
     /// | `POST /spread/<name>` | | how many rights the node keeps of those that it had, which are dealt out ([`spread`](Registry::spread)) |
     /// | `GET /report` | | what the node knows, as JSON |
-    /// | `GET /status` | | the node, its calls and what each node has of each count, as JSON: an object with the one member `node`, behind which a program may tell more |
+    /// | `GET /status` | | the node, its calls and what each node has of each count, and what was heard of each other node, as JSON: an object with the members `node` and `peers`, behind which a program may tell more |
     /// | `POST /gossip` | a message of another node | `changed` or `same` |
+    /// | `POST /hello` | the number of another node, which asks to be told | `telling`: [`gossip`](crate::gossip) tells it, though there may be no news |
     ///
     /// What is done is as by the calls of the registry: threads see new settings, pauses end, and
     /// where the registry records, an accepted call is recorded before the reply is there. A body has
-    /// at most 67,108,864 bytes, else the reply is 413.
+    /// at most 67,108,864 bytes, else the reply is 413. Where calls wait for other nodes to be heard
+    /// ([`Builder::hear_first`](crate::Builder::hear_first)), each but a `GET`, `POST /gossip` and `POST /hello` is 503.
     ///
     /// # Errors
     /// [`Closed`](crate::ErrorKind::Closed) or [`Disabled`](crate::ErrorKind::Disabled); where the
@@ -52,18 +72,33 @@ impl Registry {
     /// [`RecordingFailed`](crate::ErrorKind::RecordingFailed). A request that the node refuses is a
     /// [`Reply`], as 409 and `N6 NotSet`.
     pub fn answer(&self, method: &str, path: &str, body: &[u8]) -> Result<Reply, Error> {
+        let kind = Kind::of(method, path, body.len());
         let mut state = self.lock();
+        if let (Kind::Call, Err(error)) = (kind, state.has_heard()) {
+            return Ok(Reply {
+                status: 503,
+                body: error.to_string().into_bytes(),
+            });
+        }
+        if kind == Kind::Hello && !state.node.is_closed() {
+            let (status, told) = state.peers.ask(method, body);
+            return Ok(Reply {
+                status,
+                body: told.as_bytes().to_vec(),
+            });
+        }
         // What waits to be written is before what the reply says of it.
         let goes_on = self.flush(&mut state);
         if method != "GET" {
             goes_on?;
         }
         let before = state.node.calls()?;
-        let (status, told) = state.node.reply_to(method, path, body)?;
+        let (status, mut told) = state.node.reply_to(method, path, body)?;
+        let has_begun = state.note_reply(kind, body, status, &mut told);
         let mut over = Vec::new();
         if state.node.calls()? > before {
             self.keep(&mut state, |kept, node| kept.keep_since(node, before))?;
-            if changes_settings(path, &told) {
+            if changes_settings(path, &told) || has_begun {
                 over = self.settings_changed(&mut state);
             }
         } else if status == 503 && told.starts_with(CAP_REACHED) && before >= self.made.cap {

@@ -141,6 +141,7 @@ pub struct Builder {
     pub(crate) on_refusal: OnRefusal,
     pub(crate) on_forgotten: OnForgotten,
     pub(crate) key_file: Option<PathBuf>,
+    pub(crate) hears_first: bool,
 }
 
 impl Default for Builder {
@@ -157,6 +158,7 @@ impl Default for Builder {
             on_refusal: OnRefusal::default(),
             on_forgotten: OnForgotten::default(),
             key_file: None,
+            hears_first: false,
         }
     }
 }
@@ -274,6 +276,39 @@ impl Builder {
     pub fn on_forgotten(self, on_forgotten: OnForgotten) -> Builder {
         Builder {
             on_forgotten,
+            ..self
+        }
+    }
+
+    /// Whether the node hears each other node of its cluster once before it takes calls; else it takes
+    /// them at once. Until then its points do nothing, as if none were set, and each call that would
+    /// change it is refused ([`NotHeard`](ErrorKind::NotHeard)) but [`deliver`](Registry::deliver) and
+    /// [`emit`](Registry::emit); reads are answered. It keeps a node that was started again without
+    /// its part from doing anew what it did before: where a message shows that others know more of it,
+    /// [`on_forgotten`](Builder::on_forgotten) says what is done, and its sender counts as not heard. A
+    /// node that keeps its part needs it not, and waits as well.
+    ///
+    /// Nodes tell only news, and may take this one to know all. So [`gossip`](crate::gossip) of such a
+    /// node asks each peer for a message (`POST /hello`), and tells each every 5 seconds itself, since
+    /// some wait that don't ask. Where the cluster has a number that no process has, it waits for good.
+    /// FAILPOINTS is refused as any call is.
+    ///
+    /// ```
+    /// # if !failreg::has_failpoints() { return Ok(()); }
+    /// use failreg::{ErrorKind, Registry};
+    ///
+    /// let other = Registry::open(0, 2, 1000)?;
+    /// other.set("save", "return(full)")?;
+    /// let node = Registry::builder().node(1).nodes(2).hear_first(true).build()?;
+    /// assert_eq!(node.set("save", "off").unwrap_err().kind(), ErrorKind::NotHeard);
+    /// assert_eq!(node.eval("save"), None);
+    /// node.deliver(&other.emit(1)?)?;
+    /// assert_eq!(node.eval("save"), Some(Some("full".into())));
+    /// # Ok::<(), failreg::Error>(())
+    /// ```
+    pub fn hear_first(self, hears_first: bool) -> Builder {
+        Builder {
+            hears_first,
             ..self
         }
     }

@@ -24,6 +24,7 @@ const BUFFER: &str = "FAILREG_BUFFER";
 const LISTEN: &str = "FAILREG_LISTEN";
 const PEERS: &str = "FAILREG_PEERS";
 const SHARE: &str = "FAILREG_SHARE";
+const HEAR_FIRST: &str = "FAILREG_HEAR_FIRST";
 const KEY_FILE: &str = "FAILREG_KEY_FILE";
 
 /// How long to rest between two rounds in which peers are told.
@@ -52,6 +53,7 @@ const EVERY: Duration = Duration::from_millis(100);
 /// | `FAILREG_PEERS` | where other nodes are served that are told, as [`gossip`] does, every 100 ms: each as a node and a port of 127.0.0.1, `0:7070,2:7072`, or an address with a port, `0:[::1]:7070` or `0@[::1]:7070`, with a key also `0:10.0.0.2:7070` | nobody is told |
 /// | `FAILREG_KEY_FILE` | the file of the key that clients and peers have to have ([`Builder::key_file`]) | there is none, and all are on this machine |
 /// | `FAILREG_SHARE` | 1 where each round in which peers are told begins by moving rights of the node to where passes happen ([`Gossip::share`]) | 0 |
+/// | `FAILREG_HEAR_FIRST` | 1 where the node takes calls once each other node was heard ([`Builder::hear_first`]) | 0 |
 ///
 /// # Errors
 /// A value that isn't one of these is refused, and so is an address at which nobody can be served.
@@ -165,6 +167,7 @@ struct Wanted {
     peers: Vec<Peer>,
     key_file: Option<PathBuf>,
     is_sharing: bool,
+    hears_first: bool,
 }
 
 fn bad(kind: ErrorKind, name: &str, value: &OsStr, fault: &'static str) -> Error {
@@ -177,6 +180,7 @@ impl Wanted {
         let builder = Registry::builder().node(self.number).nodes(self.nodes);
         let builder = builder.cap(self.cap).run(self.run.as_str());
         let builder = builder.synced(self.is_synced).buffered(self.is_buffered);
+        let builder = builder.hear_first(self.hears_first);
         let builder = match &self.record {
             Some(path) => builder.recording(path),
             None => builder,
@@ -219,6 +223,7 @@ impl Wanted {
             peers: others.map_err(|error| error.of_variable(PEERS))?,
             key_file,
             is_sharing: read(var, SHARE, SWITCH_WANTED, switch_of)?.unwrap_or(false),
+            hears_first: read(var, HEAR_FIRST, SWITCH_WANTED, switch_of)?.unwrap_or(false),
         })
     }
 }
@@ -350,6 +355,7 @@ mod tests {
         let more = [
             (BUFFER, "true", SWITCH_WANTED),
             (SHARE, "on", SWITCH_WANTED),
+            (HEAR_FIRST, "first", SWITCH_WANTED),
         ];
         for (name, value, fault) in all.chain(more) {
             let error = wanted(&[(name, value)]).unwrap_err();
@@ -367,6 +373,7 @@ mod tests {
         assert!(!all.is_buffered && all.record.is_none());
         assert!(wanted(&[(BUFFER, "1")]).unwrap().is_buffered);
         assert!(!all.is_sharing && wanted(&[(SHARE, "1")]).unwrap().is_sharing);
+        assert!(!all.hears_first && wanted(&[(HEAR_FIRST, "1")]).unwrap().hears_first);
         let with_part = wanted(&[(RECORD, "part1"), (NODE, "1/2")]);
         match has_failpoints() {
             true => assert_eq!(with_part.unwrap().record, Some(PathBuf::from("part1"))),

@@ -36,6 +36,8 @@ pub enum ErrorKind {
     BadConfig,
     /// Memory was refused.
     OutOfMemory,
+    /// Another node has to be heard first ([`Builder::hear_first`](crate::Builder::hear_first)).
+    NotHeard,
     /// The registry is closed.
     Closed,
     /// The program has a registry already, which is another node.
@@ -98,6 +100,9 @@ impl ErrorKind {
                 "a cluster has 1 to 32 nodes, and the number of a node is below that"
             }
             ErrorKind::OutOfMemory => "make the call again",
+            ErrorKind::NotHeard => {
+                "calls are taken once each other node was heard: see that it runs and tells this one"
+            }
             ErrorKind::Closed => "open another",
             ErrorKind::AlreadyOpen => "set it up before anything else uses the program's points",
             ErrorKind::BadVariable => "give it such a value, or unset it",

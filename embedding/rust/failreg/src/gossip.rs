@@ -77,18 +77,28 @@ pub(crate) struct News {
     version: u64,
     /// The version of the peer that the node has all of, which the peer waits to hear.
     known: u64,
+    /// Whether the peer asked to be told.
+    is_asked: bool,
 }
 
 impl Registry {
-    // What there is to tell a node that was last told this, if there is anything.
+    // Whether calls wait for a node to be heard.
+    fn awaits(&self, node: u8) -> bool {
+        let state = &*self.lock();
+        state.waits && !state.peers.has_heard(node)
+    }
+
+    // What there is to tell a node that was last told this, if there is anything. Where nodes are heard
+    // first there always is: the other one may wait for this one, which takes it to know all.
     fn news_for(&self, to: u8, told: News) -> Result<Option<News>, Error> {
-        let node = &mut self.lock().node;
+        let state = &mut *self.lock();
         let news = News {
-            version: node.version()?,
-            known: node.known(to)?,
+            version: state.node.version()?,
+            known: state.node.known(to)?,
+            is_asked: state.peers.has_asked(to),
         };
-        let is_due = news.version > node.acked(to)? || news.known != told.known;
-        Ok(is_due.then_some(news))
+        let is_news = news.version > state.node.acked(to)? || news.known != told.known;
+        Ok((is_news || news.is_asked || self.made.hears_first).then_some(news))
     }
 }
 
@@ -102,6 +112,9 @@ struct Pace {
     next: Instant,
     /// When it was said last that the peer has forgotten what it did.
     said: Option<Instant>,
+    /// The rest behind the last time that the peer was asked for a message, and when it is asked again.
+    asking_rest: Duration,
+    next_asking: Instant,
 }
 
 impl Pace {
@@ -113,6 +126,8 @@ impl Pace {
             rest: every,
             next: Instant::now(),
             said: None,
+            asking_rest: every,
+            next_asking: Instant::now(),
         }
     }
 
@@ -120,12 +135,16 @@ impl Pace {
     // answer, as one that tells nobody, is told again after a rest.
     fn is_due(&self, news: News) -> bool {
         let is_fresh = news.version > self.told.version || news.known != self.told.known;
-        (is_fresh && !self.has_failed) || Instant::now() >= self.next
+        ((is_fresh || news.is_asked) && !self.has_failed) || Instant::now() >= self.next
     }
 
     fn has_told(&mut self, news: News) {
-        let is_fresh = self.has_failed || news != self.told;
-        self.told = news;
+        let told = News {
+            is_asked: false,
+            ..news
+        };
+        let is_fresh = self.has_failed || told != self.told;
+        self.told = told;
         self.has_failed = false;
         if is_fresh {
             self.rest = self.every;
@@ -152,8 +171,23 @@ impl Pace {
 
     // The rest doubles each time.
     fn rest_longer(&mut self) {
-        self.rest = (self.rest * 2).min(LONGEST_REST.max(self.every));
+        self.rest = self.longer(self.rest);
         self.next = Instant::now() + self.rest;
+    }
+
+    fn longer(&self, rest: Duration) -> Duration {
+        (rest * 2).min(LONGEST_REST.max(self.every))
+    }
+
+    // Whether to ask the peer for a message now, and else later.
+    fn is_asking(&mut self) -> bool {
+        let now = Instant::now();
+        let is_due = now >= self.next_asking;
+        if is_due {
+            self.asking_rest = self.longer(self.asking_rest);
+            self.next_asking = now + self.asking_rest;
+        }
+        is_due
     }
 }
 
@@ -215,14 +249,32 @@ fn post(registry: &Registry, peer: Peer) -> Result<Outcome, Error> {
         Ok(stream) => stream,
         Err(error) => return failed(error),
     };
+    // Who asks from now on asks for another one.
+    registry.lock().peers.has_told(peer.node);
     let message = registry.emit(peer.node)?;
-    match posting::post(&stream, peer.addr, registry.key.as_ref(), &message, end) {
+    let place = (peer.addr, "/gossip");
+    match posting::post(&stream, place, registry.key.as_ref(), &message, end) {
         Ok((200, _)) => Ok(Outcome::Told),
         Ok((status, body)) => Ok(match forgotten_in(status, &body) {
             Some(error) => Outcome::Forgotten(error.fault().to_string()),
             None => Outcome::Failed(format!("it answered with status {status}")),
         }),
         Err(error) => failed(error),
+    }
+}
+
+// Asks a peer for a message that calls wait for. It tells only news, and may take this node to know all.
+// Where it isn't reached, or doesn't know what is asked, it is asked again.
+fn ask(registry: &Registry, peer: Peer, pace: &mut Pace) {
+    if !registry.awaits(peer.node) || !pace.is_asking() {
+        return;
+    }
+    let end = Instant::now() + POST_TIME;
+    if let Ok(stream) = TcpStream::connect_timeout(&peer.addr, POST_TIME) {
+        let number = registry.made.number.to_string();
+        let place = (peer.addr, "/hello");
+        let key = registry.key.as_ref();
+        _ = posting::post(&stream, place, key, number.as_bytes(), end);
     }
 }
 
@@ -261,6 +313,7 @@ fn is_end(error: &Error) -> bool {
 fn round(registry: &Registry, paces: &mut [Pace], known: &Known) -> bool {
     for (index, pace) in paces.iter_mut().enumerate() {
         let peer = shown(known)[index].peer;
+        ask(registry, peer, pace);
         let outcome = tell(registry, peer, pace);
         let is_over = outcome.as_ref().is_err_and(is_end);
         let outcome = outcome.unwrap_or_else(|error| Outcome::Failed(error.to_string()));
@@ -409,7 +462,8 @@ pub(crate) fn others(
 /// for a peer that can't be reached. A peer that isn't told, or doesn't answer with status 200, is
 /// left alone for a while, which doubles up to 5 seconds, and so is one that took in a message and
 /// tells nothing of it. A peer that hangs holds a round up for 2 seconds. It ends with the node: when
-/// that is closed, or has reached its cap.
+/// that is closed, or has reached its cap. A node that [hears others
+/// first](crate::Builder::hear_first) is told again without news after such a while.
 ///
 /// A peer that is the node itself is left out, so that all processes may be given the same peers.
 ///
@@ -445,7 +499,11 @@ mod tests {
     use super::*;
 
     fn news(version: u64, known: u64) -> News {
-        News { version, known }
+        News {
+            version,
+            known,
+            is_asked: false,
+        }
     }
 
     #[test]
@@ -464,6 +522,11 @@ mod tests {
         // News are told at once then; the same is told again after a rest.
         assert!(pace.is_due(news(3, 0)) && pace.is_due(news(2, 1)));
         assert!(!pace.is_due(news(2, 0)));
+        let asked = News {
+            is_asked: true,
+            ..news(2, 0)
+        };
+        assert!(pace.is_due(asked));
         pace.has_told(news(2, 0));
         assert_eq!(pace.rest.as_millis(), 400);
         let mut slow = Pace::new(Duration::from_secs(60));

@@ -13,7 +13,7 @@ pub(crate) const MAX_HEAD: usize = 8_192;
 const MAX_FIELDS: usize = 100;
 
 /// The longest body, in bytes: that of the longest message.
-const MAX_BODY: usize = 67_108_864;
+pub(crate) const MAX_BODY: usize = 67_108_864;
 
 /// What is read of a body at once; as much room is made before any of it came.
 const PIECE: usize = 65_536;
@@ -119,7 +119,9 @@ fn methods_at(path: &str) -> Option<&'static str> {
         ["fail"] | ["report"] | ["status"] => Some("GET"),
         ["fail", _] => Some("PUT, DELETE"),
         ["spread", _] => Some("PUT, POST"),
-        ["load"] | ["gossip"] | ["grant", _, _, _] | ["shift", _, _, _, _] => Some("POST"),
+        ["load"] | ["gossip"] | ["hello"] | ["grant", _, _, _] | ["shift", _, _, _, _] => {
+            Some("POST")
+        }
         _ => None,
     }
 }
@@ -185,13 +187,22 @@ fn is_served(origin: &[u8], addr: SocketAddr) -> bool {
     origin == format!("http://{addr}").as_bytes()
 }
 
+// Whether an `Origin` is a page of this host, as a browser or a proxy with TLS names it.
+fn is_of_host(origin: &[u8], host: &[u8]) -> bool {
+    [&b"http://"[..], b"https://"]
+        .iter()
+        .any(|scheme| origin.strip_prefix(*scheme) == Some(host))
+}
+
 /// What the fields of a head say.
 #[derive(Default)]
 struct Fields {
     length: Option<u64>,
     /// The codings of the body, in the order in which they were done.
     codings: Vec<String>,
-    has_host: bool,
+    host: Option<Vec<u8>>,
+    /// Each `Origin` that isn't the address at which the node is served.
+    origins: Vec<Vec<u8>>,
     is_expecting: bool,
     /// Whether a key says who may ask, and no name of this machine.
     is_keyed: bool,
@@ -236,14 +247,27 @@ impl Fields {
                 let codings = value.split(',').map(|it| it.trim().to_ascii_lowercase());
                 self.codings.extend(codings);
             }
-            "origin" if !is_served(value, addr) => return Err(FOREIGN_ORIGIN),
+            "origin" if is_served(value, addr) => {}
+            // Without a key there is no other one; with it that of the Host is, which may come yet.
+            "origin" if self.is_keyed => self.origins.push(value.into()),
+            "origin" => return Err(FOREIGN_ORIGIN),
             "host" if !self.is_keyed && !is_this_machine(value) => return Err(FOREIGN_HOST),
-            "host" if std::mem::replace(&mut self.has_host, true) => return Err(BAD_HOST),
+            "host" if self.host.replace(value.into()).is_some() => return Err(BAD_HOST),
             "expect" if !value.eq_ignore_ascii_case(b"100-continue") => return Err(NO_EXPECTATION),
             "expect" => self.is_expecting = true,
             _ => {}
         }
         Ok(())
+    }
+
+    // Who asks by a page of another host than the one that is asked isn't let in.
+    fn judge_origins(&self) -> Result<(), Fault> {
+        let host = self.host.as_deref();
+        let is_own = |origin: &Vec<u8>| host.is_some_and(|host| is_of_host(origin, host));
+        match self.origins.iter().all(is_own) {
+            true => Ok(()),
+            false => Err(FOREIGN_ORIGIN),
+        }
     }
 
     // How the body comes. What is coded otherwise than in chunks isn't understood; and without them
@@ -284,7 +308,9 @@ fn fields_of<'a>(
     if !is_page {
         fields.let_in()?;
     }
-    taken.map(|()| fields)
+    taken?;
+    fields.judge_origins()?;
+    Ok(fields)
 }
 
 // A whole head, each line of it with its CR LF, at a node that is served at this address, to who has
@@ -299,7 +325,7 @@ fn head_of(bytes: &[u8], addr: SocketAddr, key: Option<&Key>) -> Result<Head, Fa
     let (method, path, version) = request_line(first).ok_or(BAD_LINE)?;
     let is_page = (method, path) == ("GET", "/");
     let fields = fields_of(lines, addr, key, is_page)?;
-    if version == "HTTP/1.1" && !fields.has_host {
+    if version == "HTTP/1.1" && fields.host.is_none() {
         return Err(BAD_HOST);
     }
     let head = Head {
@@ -623,8 +649,25 @@ mod tests {
             assert_eq!(read(line, "Host: a\r\n"), Err(401), "{line}");
         }
         // Who has it is judged as ever, but for the name that was asked for.
-        let origin = format!("Host: a\r\nOrigin: http://example.org\r\n{has}");
-        assert_eq!(read("POST /load", &origin), Err(403));
+        for (origin, may) in [
+            ("http://a:7070", true),
+            ("https://a:7070", true),
+            ("http://127.0.0.1:7070", true),
+            ("http://a:7071", false),
+            ("http://a", false),
+            ("http://a:70700", false),
+            ("ftp://a:7070", false),
+            ("null", false),
+        ] {
+            for fields in [
+                format!("Host: a:7070\r\nOrigin: {origin}\r\n{has}"),
+                format!("{has}Origin: {origin}\r\nHost: a:7070\r\n"),
+            ] {
+                assert_eq!(read("POST /load", &fields).is_ok(), may, "{origin}");
+            }
+        }
+        let origins = format!("Host: a\r\nOrigin: http://a\r\nOrigin: http://b\r\n{has}");
+        assert_eq!(read("POST /load", &origins), Err(403));
         assert_eq!(read("GET /fail", &has), Err(400), "no Host");
         // Where there is no key nobody is asked for one.
         assert!(read_line("GET /fail HTTP/1.1", &near).is_ok());

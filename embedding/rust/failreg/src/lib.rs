@@ -50,6 +50,7 @@ mod node;
 mod page;
 mod part;
 mod passing;
+mod peers;
 mod points;
 mod posting;
 mod program;

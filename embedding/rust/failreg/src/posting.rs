@@ -1,4 +1,4 @@
-//! A message to another node that is served.
+//! What is posted to another node that is served.
 
 use crate::http::{MAX_HEAD, read_by, write_by};
 use crate::key::Key;
@@ -6,25 +6,25 @@ use std::io::{self, ErrorKind};
 use std::net::{SocketAddr, TcpStream};
 use std::time::Instant;
 
-/// Posts a message to a node that is served at this address, with the key, if there is one, and
+/// Posts a body to a path of a node that is served at this address, with the key, if there is one, and
 /// answers the status of the reply.
 pub fn post(
     stream: &TcpStream,
-    addr: SocketAddr,
+    (addr, path): (SocketAddr, &str),
     key: Option<&Key>,
-    message: &[u8],
+    body: &[u8],
     end: Instant,
 ) -> io::Result<(u16, Vec<u8>)> {
-    let length = message.len();
+    let length = body.len();
     // The scope of an address means something to this machine alone.
     let host = SocketAddr::new(addr.ip(), addr.port());
     let key = key.map_or(String::new(), Key::field);
     let head = format!(
-        "POST /gossip HTTP/1.1\r\nhost: {host}\r\n{key}connection: close\r\n\
+        "POST {path} HTTP/1.1\r\nhost: {host}\r\n{key}connection: close\r\n\
          content-length: {length}\r\n\r\n"
     );
     write_by(stream, head.as_bytes(), end)?;
-    write_by(stream, message, end)?;
+    write_by(stream, body, end)?;
     let (mut line, mut piece) = (Vec::new(), [0; 256]);
     while line.len() < 12 {
         match read_by(stream, &mut piece, end)? {

@@ -2,9 +2,11 @@
 
 use crate::builder::{Builder, How, OnForgotten};
 use crate::error::{Error, ErrorKind};
+use crate::fail_rs::has_failpoints;
 use crate::kept::Kept;
 use crate::key::Key;
 use crate::node::Node;
+use crate::peers::{Peers, not_heard};
 use crate::points::{Shown, names_in};
 use crate::receipts;
 use crate::told::{Passed, Stamp};
@@ -59,6 +61,9 @@ pub(crate) struct State {
     pub(crate) is_over: bool,
     /// Whether it was said that the node has forgotten what it did.
     has_forgotten: bool,
+    pub(crate) peers: Peers,
+    /// Whether calls wait until each other node was heard.
+    pub(crate) waits: bool,
 }
 
 /// How many calls a node keeps at most, so that its memory doesn't grow with its passes.
@@ -75,6 +80,8 @@ impl State {
         let seed = made.seed_of_this_run();
         let mut node = Node::open(made.number, made.nodes, made.cap, &seed)?;
         let kept = Kept::of(made, &mut node)?;
+        let peers = Peers::of(made.number, made.nodes);
+        let waits = made.hears_first && has_failpoints() && peers.first_unheard().is_some();
         Ok(State {
             node,
             id: id_of_a_node(),
@@ -84,7 +91,23 @@ impl State {
             turns: 0,
             is_over: false,
             has_forgotten: false,
+            peers,
+            waits,
         })
+    }
+
+    /// Whether calls are taken yet: they may wait for a node to be heard.
+    pub(crate) fn has_heard(&self) -> Result<(), Error> {
+        let awaited = self.waits.then(|| self.peers.first_unheard()).flatten();
+        awaited.map_or(Ok(()), |node| Err(not_heard(node)))
+    }
+
+    /// Notes what a message came to. Answers whether calls were waiting for it.
+    pub(crate) fn note(&mut self, message: &[u8], refusal: Option<&str>) -> bool {
+        self.peers.note(message, refusal);
+        let was_waiting = self.waits;
+        self.waits = was_waiting && self.peers.first_unheard().is_some();
+        was_waiting && !self.waits
     }
 
     pub(crate) fn is_set(&mut self, name: &str) -> bool {
@@ -207,8 +230,19 @@ impl Registry {
             .unwrap_or_else(|poisoned| poisoned.into_inner())
     }
 
-    // Makes a call that changes the node, and keeps it by this.
+    // Makes a call that changes the node, and keeps it by this. It may wait for other nodes.
     fn make<T>(
+        &self,
+        state: &mut State,
+        make: impl FnOnce(&mut Node) -> Result<T, Error>,
+        keep: impl FnOnce(&mut Kept, &mut Node, &T) -> Result<(), Error>,
+    ) -> Result<T, Error> {
+        state.has_heard()?;
+        self.make_at_once(state, make, keep)
+    }
+
+    // The same of a call that waits for nobody.
+    fn make_at_once<T>(
         &self,
         state: &mut State,
         make: impl FnOnce(&mut Node) -> Result<T, Error>,
@@ -231,6 +265,15 @@ impl Registry {
         make: impl FnOnce(&mut Node) -> Result<T, Error>,
     ) -> Result<T, Error> {
         self.make(state, make, |kept, node, _| kept.keep(node))
+    }
+
+    // The same of one that makes a message, or takes one in.
+    fn carry<T>(
+        &self,
+        state: &mut State,
+        make: impl FnOnce(&mut Node) -> Result<T, Error>,
+    ) -> Result<T, Error> {
+        self.make_at_once(state, make, |kept, node, _| kept.keep(node))
     }
 
     /// Whether the node may be called: no call is made any more once one couldn't be written.
@@ -274,6 +317,7 @@ impl Registry {
         state: &mut State,
         make: impl FnOnce(&mut Node) -> Result<T, Error>,
     ) -> Result<T, Error> {
+        state.has_heard()?;
         self.may_be_called(state)?;
         let before = state.node.calls()?;
         let answer = make(&mut state.node);
@@ -313,8 +357,8 @@ impl Registry {
     pub(crate) fn settings_changed(&self, state: &mut State) -> Vec<Callback> {
         let list = state.node.list().ok();
         state.kept.learn(list.as_deref());
-        // Of a node whose points do nothing any more none is shown, whatever it learns.
-        let names = match state.is_over {
+        // Of a node whose points do nothing any more, or not yet, none is shown, whatever it learns.
+        let names = match state.is_over || state.waits {
             true => Some(HashSet::new()),
             false => list.map(|list| names_in(&list)),
         };
@@ -493,14 +537,16 @@ impl Registry {
 
     /// A message to another node, which tells what that one isn't known to have.
     pub fn emit(&self, to: u8) -> Result<Vec<u8>, Error> {
-        self.call(&mut self.lock(), |node| node.emit(to))
+        self.carry(&mut self.lock(), |node| node.emit(to))
     }
 
     /// Takes in a message of another node; answers whether this one learnt anything.
     pub fn deliver(&self, message: &[u8]) -> Result<bool, Error> {
         let mut state = self.lock();
-        let made = self.call(&mut state, |node| node.deliver(message));
-        let over = matches!(made, Ok(true)).then(|| self.settings_changed(&mut state));
+        let made = self.carry(&mut state, |node| node.deliver(message));
+        let has_begun = state.note(message, made.as_ref().err().map(Error::fault));
+        let is_news = matches!(made, Ok(true)) || has_begun;
+        let over = is_news.then(|| self.settings_changed(&mut state));
         drop(state);
         drop(over);
         if let Err(error) = &made {

@@ -412,8 +412,9 @@ pub(crate) fn serve_at(
 /// points. A page of a browser may not: a request whose `Host` isn't this machine, or that has an
 /// `Origin` other than the service itself, is answered 403, and nothing is asked. With a key
 /// ([`Builder::key_file`](crate::Builder::key_file)) the address may be one that other machines
-/// reach, `Host` may be any name, and a request that doesn't have the key is answered 401 once its
-/// head is read: nothing is asked, and nothing of its body is looked at. The page alone comes
+/// reach, `Host` may be any name, and an `Origin` the page of that name; and a request that doesn't
+/// have the key is answered 401 once its head is read: nothing is asked, and nothing of its body is
+/// looked at. The page alone comes
 /// without it: nothing of the node is in it, and it asks for the key.
 ///
 /// A connection has one request, whose head has at most 8,192 bytes, 2 seconds for the head and 10

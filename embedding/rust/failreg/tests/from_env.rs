@@ -16,7 +16,7 @@ fn order() -> bool {
 }
 
 const CHILD: &str = "FAILREG_TEST_CHILD";
-const VARIABLES: [&str; 10] = [
+const VARIABLES: [&str; 12] = [
     "FAILREG_NODE",
     "FAILREG_CAP",
     "FAILREG_RECORD",
@@ -26,6 +26,8 @@ const VARIABLES: [&str; 10] = [
     "FAILREG_LISTEN",
     "FAILREG_PEERS",
     "FAILREG_KEY_FILE",
+    "FAILREG_SHARE",
+    "FAILREG_HEAR_FIRST",
     "FAILPOINTS",
 ];
 

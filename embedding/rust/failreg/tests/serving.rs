@@ -107,7 +107,12 @@ fn each_request_is_answered() {
         told.contains("\"granted\":[\"2\",\"0\"],\"rights\":[\"1\",\"4\"],\"spent\":[\"0\",\"0\"]"),
         "{told}"
     );
-    assert!(told.ends_with(",\"version\":\"0.2.0\"}}"), "{told}");
+    let (_, peers) = told.split_once(",\"version\":\"0.2.0\"},").expect(&told);
+    assert!(peers.starts_with("\"peers\":[{\"heard\":\""), "{told}");
+    assert!(
+        peers.ends_with("\",\"node\":\"1\",\"refused\":{}}]}"),
+        "{told}"
+    );
     // Threads see what requests set.
     let told = |name| node.eval(name);
     assert_eq!(told("a"), Some(Some("x".into())));

@@ -1,9 +1,10 @@
-use Rattle.std.proofs.Common.{◌≡◌, ◌≤◌, ◌+◌, ◌*◌, length}
-use Rattle.node_service.specs.Rounds.{most_calls}
+use Rattle.std.proofs.Common.{◌≡◌, length}
+use Rattle.node_service.proofs.SharingRounds.{SoFar}
 use Rattle.node_service.proofs.telling.keep_telling.Given as goal
 
 abbrev pub invariant-loop-round : goal.invariant-loop-round
 invariant-loop-round g l = record {
-  calls : l.seat ≤ l.initial.seat + l.round * most_calls g.L.Label.config;
+  told : SoFar g.L.Label.config g.L.Label.seed g.L.Label.keeps g.L.Ledger.parts l.telling.rights l.telling.rounds
+      l.round l.initial.seat l.seat l.sharing;
   long : length l.paces ≡ length l.initial.paces;
 }
