@@ -166,7 +166,7 @@ module _ (nodes : ℕ) (traces : Traces) (sized : IsSized nodes traces) (legal :
   events placed = events_of nodes (steps_at traces placed)
 
   -- so far the world is what the places say
-  record IsUp (placed : List (ℕ × ℕ)) : Type 0 where
+  pub record IsUp (placed : List (ℕ × ℕ)) : Type 0 where
     pub told : (i : ℕ) → (world c (events placed)).trace i ≡ map (call_from nodes)
         (take (count_at i placed) (trace_of traces i))
     pub schedule : IsDeltaSchedule c (events placed)
@@ -215,7 +215,7 @@ module _ (nodes : ℕ) (traces : Traces) (sized : IsSized nodes traces) (legal :
     taken : so_far ≡ map (call_from nodes) (take place.1 (trace_of traces place.0))
     taken = up.told place.0 ∙ ap (λ k. map (call_from nodes) (take k (trace_of traces place.0))) (sym ready.next)
 
-    is_legal : IsLegalCall config (length so_far) (replay place.0 so_far) next_call
+    pub is_legal : IsLegalCall config (length so_far) (replay place.0 so_far) next_call
     is_legal =
         let at = legal_at config 0 start (map (call_from nodes) (trace_of traces place.0)) place.1 next_call
         (legal place.0)
@@ -228,7 +228,7 @@ module _ (nodes : ℕ) (traces : Traces) (sized : IsSized nodes traces) (legal :
         (subst (λ t. IsLegalCall config (0 + place.1) (replay place.0 t) next_call)
         (take_map (call_from nodes) (trace_of traces place.0) place.1 ∙ sym taken) at)
 
-    low : place.0 < nodes
+    pub low : place.0 < nodes
     low = elim (leb_tells (length traces) place.0) [
       | inl w ↦
           let inside : place.1 < length (trace_of traces place.0) =
@@ -238,13 +238,13 @@ module _ (nodes : ℕ) (traces : Traces) (sized : IsSized nodes traces) (legal :
       | inr w ↦ (let below : place.0 < length traces = w.1 in omega (arith, below, sized.each))
     ]
 
-    now : (world c es).node place.0 ≡ replay place.0 so_far
+    pub now : (world c es).node place.0 ≡ replay place.0 so_far
     now = node_is_replay c es place.0
 
     agreed : refusal_at config (length so_far) ((world c es).node place.0) e.ask e.words ≡ None
     agreed = subst (λ n. refusal_at config (length so_far) n e.ask e.words ≡ None) (sym now) is_legal.agreed
 
-    is_accepted : accepted c (world c es) e place.0 ≡ Some e.ask
+    pub is_accepted : accepted c (world c es) e place.0 ≡ Some e.ask
     is_accepted = is_agreed c (world c es) e low agreed
 
     given : (read : Result Message WireFault) → e.ask ≡ asks.Deliver read → IsIn (message_in read) (world c es).messages
@@ -297,7 +297,7 @@ module _ (nodes : ℕ) (traces : Traces) (sized : IsSized nodes traces) (legal :
           schedule = subst (λ l. IsDeltaSchedule c l) more (allows, up.schedule);
         }
 
-  all_up : (placed : List (ℕ × ℕ)) → IsRun traces placed → IsUp placed
+  pub all_up : (placed : List (ℕ × ℕ)) → IsRun traces placed → IsUp placed
   all_up [] run = record { told = λ i. refl; schedule = tt }
   all_up (place ∷ earlier) run = is_up earlier place run (all_up earlier run.1)
 

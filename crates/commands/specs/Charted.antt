@@ -20,6 +20,14 @@ with_total budgets total =
 abbrev pub charted : List Total → List BudgetTold
 charted totals = fold with_total [] totals
 
-abbrev pub budgets_of : Result AuditYes AuditFault → List BudgetTold
-budgets_of (Ok found) = charted found.totals.items
-budgets_of (Err fault) = []
+-- the first six of counted terms
+abbrev pub with_counted : List BudgetTold → BudgetTold → List BudgetTold
+with_counted budgets b = if nat_lt (length budgets) 6 then budgets ++ b ∷ [] else budgets
+
+abbrev pub first_counted : List BudgetTold → List BudgetTold
+first_counted counted = fold with_counted [] counted
+
+-- where an audit says yes, those of its totals, and else the first that the calls counted
+abbrev pub budgets_of : Result AuditYes AuditFault → List BudgetTold → List BudgetTold
+budgets_of (Ok found) counted = charted found.totals.items
+budgets_of (Err fault) counted = first_counted counted

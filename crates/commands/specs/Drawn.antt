@@ -6,7 +6,9 @@ use Rattle.audit.specs.declared.fault.AuditFault.TheVariants.{WrongReply}
 use Rattle.audit.specs.Answers.{IsAudited}
 use Rattle.audit.specs.FaultText.{audit_fault_text}
 use Rattle.audit.specs.Receipts.{Lists}
+use Rattle.drill_picture.specs.Budgets.{BudgetTold}
 use Rattle.drill_picture.specs.Calls.{Traces}
+use Rattle.drill_picture.specs.Counted.{AreCounted}
 use Rattle.drill_picture.specs.Lines.{AreLines}
 use Rattle.drill_picture.specs.Picture.{IsPicture}
 use Rattle.drill_picture.specs.declared.shapes.TheConstants.{LEGEND, SHAPES}
@@ -27,11 +29,17 @@ abbrev pub wrong_of : Result AuditYes AuditFault → Option (ℕ × ℕ)
 wrong_of (Ok found) = None
 wrong_of (Err fault) = wrong_of_fault fault
 
+-- what the calls counted is asked for where an audit doesn't say yes
+abbrev pub AreAsked : Traces → Result AuditYes AuditFault → List BudgetTold → Type 0
+AreAsked traces (Ok found) counted = Unit {0}
+AreAsked traces (Err fault) counted = AreCounted traces counted
+
 -- lanes of text, or an SVG
 abbrev pub Shows : Bool → Traces → Result AuditYes AuditFault → List ℕ → Type 0
 Shows true traces verdict text = AreLines traces (headline_text verdict) text
 Shows false traces verdict text =
-    IsPicture SHAPES.now LEGEND.now traces (headline_text verdict) (wrong_of verdict) (budgets_of verdict) text
+    (counted : List BudgetTold) × AreAsked traces verdict counted
+    × IsPicture SHAPES.now LEGEND.now traces (headline_text verdict) (wrong_of verdict) (budgets_of verdict counted) text
 
 -- the text is the picture of a drill's traces, of which no cluster has 256, with what an audit says of the drill
 pub record DrawsDrill (as_text : Bool) (traces : Traces) (lists : Lists) (text : List ℕ) : Type 0 where

@@ -1,11 +1,12 @@
 //! The picture of a recorded drill, and of parts.
 
-ghost use Rattle.std.specs.Prelude.{◌≡◌, ◌≢◌, ◌≤◌, ◌↔◌, ◌⊎◌, take, false, true, length, IfOk, IfErr};
+ghost use Rattle.std.specs.Prelude.{◌≡◌, ◌≢◌, ◌≤◌, ◌↔◌, ◌⊎◌, take, false, true, length, map, IfOk, IfErr};
 ghost use Rattle.std.specs.Prelude.{OnOk, Err, string_bytes};
 ghost use Rattle.std.specs.Process.{exit_status};
 ghost use Rattle.streams.specs.Watched.{has_failed, has_unflushed};
 ghost use Rattle.drills.specs.declared.fault.DrillFault.TheVariants.{WriteFailed};
-ghost use Rattle.commands.specs.Drawn.{DrawsDrill, DrawsSome, headline_text, wrong_of};
+ghost use Rattle.drill_picture.specs.Counted.{counted_told};
+ghost use Rattle.commands.specs.Drawn.{AreAsked, DrawsDrill, DrawsSome, headline_text, wrong_of};
 ghost use Rattle.commands.specs.Statuses.{OnStatus};
 
 use crate::advice::{advice_on_audit, missing_of};
@@ -16,7 +17,7 @@ use crate::charted::budgets_of;
 use crate::finish::{finish_audit, refuse_missing};
 use crate::short_lines::ShortLines;
 use audit::{AuditFault, AuditYes};
-use drill_picture::{picture, picture_lines};
+use drill_picture::{Counted, counted_terms, picture, picture_lines};
 use drills::{Drill, DrillFault, Part, joined, read_drill};
 use packed_trace::Trace;
 use scripts::{Watched, write_text};
@@ -73,6 +74,22 @@ fn drawn_traces(traces: &[Trace]) -> &[Trace]
     }
 }
 
+// What the calls counted, where an audit doesn't say yes.
+fn counted_of(
+    alloc: Global,
+    traces: &[Trace],
+    verdict: &Result<AuditYes, AuditFault>,
+) -> Result<Vec<Counted>, AllocError>
+    requires { length traces.now ≤ 256 }
+    ensures { IfOk result (λ found.
+        AreAsked traces.now verdict.now (map counted_told found.items)) }
+{
+    match verdict {
+        Ok(_) => Ok(Vec::new(alloc)),
+        Err(_) => counted_terms(alloc, traces),
+    }
+}
+
 // The picture of a drill, with what an audit says of it.
 fn picture_of(alloc: Global, drill: &Drill, as_text: bool) -> Result<String, DrillFault>
     ensures drawn { IfOk result (λ text.
@@ -85,7 +102,8 @@ fn picture_of(alloc: Global, drill: &Drill, as_text: bool) -> Result<String, Dri
     if as_text {
         return Ok(picture_lines(alloc, traces, &said)?);
     }
-    let budgets = budgets_of(alloc, &verdict)?;
+    let counted = counted_of(alloc, traces, &verdict)?;
+    let budgets = budgets_of(alloc, &verdict, &counted)?;
     let wrong = wrong_of(&verdict);
     Ok(picture(alloc, traces, &said, wrong, &budgets)?)
 }

@@ -15,7 +15,7 @@ use Rattle.drill_picture.specs.Calls.{Traces, call_at}
 use Rattle.drill_picture.specs.Charts.{below}
 use Rattle.drill_picture.specs.Knowing.{entries_in, has_made_it, is_under, known_after}
 use Rattle.drill_picture.specs.Laws.{AddsUp, ColumnsAddUp, LevelsReachTheWhole}
-use Rattle.drill_picture.specs.Rights.{RowTold, after_arrival, after_grant, after_send, after_spend, empty_row, fitting, is_brought}
+use Rattle.drill_picture.specs.Rights.{RowTold, after_arrival, after_grant, after_send, after_spend, fitting, is_brought}
 use Rattle.drill_picture.specs.Scale.{ScaleTold, bin_of}
 use Rattle.drill_picture.specs.Stories.{StoryTold, after_bin, after_call, after_call_at, after_message, after_place, message_nodes, ran, row_after, story_behind, story_from}
 

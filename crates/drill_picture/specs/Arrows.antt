@@ -1,5 +1,5 @@
 -- The messages that were taken, as arrows from where they were made.
-use Rattle.std.specs.Prelude.{ℕ, Bool, true, false, List, [], ◌∷◌, find, Option, Some, None}
+use Rattle.std.specs.Prelude.{ℕ, Bool, false, List, [], ◌∷◌, find, Option, Some, None}
 use Rattle.std.specs.List.{flat_map}
 use Rattle.node_calls.specs.Told.{Told, ReplyTold, was_delivered}
 use Rattle.drill_picture.specs.declared.arrow.Arrow.{Arrow}

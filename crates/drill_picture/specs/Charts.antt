@@ -1,5 +1,5 @@
 -- The charts of a picture, as text: where the rights of a counted term are, column by column.
-use Rattle.std.specs.Prelude.{ℕ, zero, suc, ◌+◌, ◌-◌, ◌*◌, ◌/◌, ◌%◌, ◌==◌, ◌||◌, Bool, List, [], ◌∷◌, ◌++◌, length, max, min, nat_lt, slice_index, if◌then◌else◌, codes, decimal}
+use Rattle.std.specs.Prelude.{ℕ, zero, suc, ◌+◌, ◌-◌, ◌*◌, ◌/◌, ◌%◌, ◌==◌, Bool, List, [], ◌∷◌, ◌++◌, length, max, min, nat_lt, slice_index, if◌then◌else◌, codes, decimal}
 use Rattle.std.specs.List.{list_any}
 use Rattle.stamp_register.specs.Keys.{stamp_text}
 use Rattle.drill_picture.specs.declared.column.Column.{Column}

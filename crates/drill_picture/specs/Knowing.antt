@@ -1,5 +1,5 @@
 -- Which setting of a point a node has, by its calls alone.
-use Rattle.std.specs.Prelude.{ℕ, ◌+◌, ◌==◌, ◌&&◌, ◌||◌, Bool, false, List, [], ◌∷◌, max, min, nat_le, nat_lt, fold, map, if◌then◌else◌, Option, Some, None, Result, Ok, Err}
+use Rattle.std.specs.Prelude.{ℕ, ◌+◌, ◌==◌, ◌&&◌, ◌||◌, Bool, false, List, [], ◌∷◌, max, min, nat_le, nat_lt, fold, if◌then◌else◌, Option, Some, None, Result, Ok, Err}
 use Rattle.std.specs.Str.{bytes_eq}
 use Rattle.actions.specs.Value.{TermValue}
 use Rattle.actions.specs.SettingReading.{setting_reading}
@@ -9,7 +9,7 @@ use Rattle.stamp_register.specs.Keys.{stamp_of}
 use Rattle.message_format.specs.declared.fault.WireFault.{WireFault}
 use Rattle.message_format.specs.Messages.{EntryValue, MessageValue}
 use Rattle.message_format.specs.Reading.{message_at}
-use Rattle.node_calls.specs.Told.{Told, AskTold, ReplyTold, sets, removes, loads, delivers, was_set, was_removed}
+use Rattle.node_calls.specs.Told.{AskTold, ReplyTold, sets, removes, loads, delivers, was_set, was_removed}
 use Rattle.drill_picture.specs.declared.known.Known.{Known}
 use Rattle.drill_picture.specs.Budgets.{BudgetTold, same_stamp}
 

@@ -12,6 +12,8 @@ pub mod Budgets
 pub mod Knowing
 pub mod Rights
 pub mod Stories
+pub mod Counted
+pub mod Listings
 pub mod Charts
 pub mod Laws
 pub mod Picture

@@ -1,5 +1,5 @@
 -- A drill as lanes of text, 100 columns wide: a line for each column of calls, from the top down.
-use Rattle.std.specs.Prelude.{◌≡◌, ℕ, zero, suc, ◌+◌, ◌-◌, ◌*◌, ◌/◌, ◌==◌, Bool, List, [], ◌∷◌, ◌++◌, length, map, max, min, nat_le, slice_get, take, if◌then◌else◌, codes, decimal, Option, Some, None}
+use Rattle.std.specs.Prelude.{◌≡◌, ℕ, zero, suc, ◌+◌, ◌-◌, ◌*◌, ◌/◌, ◌==◌, List, [], ◌∷◌, ◌++◌, length, map, max, min, nat_le, slice_get, take, if◌then◌else◌, codes, decimal, Option, Some, None}
 use Rattle.node_calls.specs.Told.{Told, AskTold, sets, removes, loads, passes, shifts, grants, emits, delivers}
 use Rattle.drill_picture.specs.declared.place.Place.{Place}
 use Rattle.drill_picture.specs.Bars.{own_of}

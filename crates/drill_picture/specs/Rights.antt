@@ -1,5 +1,5 @@
 -- Where the rights of a counted term are: what a column of a chart shows.
-use Rattle.std.specs.Prelude.{ℕ, ◌+◌, ◌-◌, ◌==◌, ◌&&◌, Bool, not, List, [], ◌∷◌, ◌++◌, length, min, nat_le, nat_lt, replicate, slice_index, slice_set, if◌then◌else◌, filter, fold}
+use Rattle.std.specs.Prelude.{ℕ, ◌+◌, ◌-◌, ◌==◌, ◌&&◌, Bool, List, length, min, nat_le, nat_lt, replicate, slice_index, slice_set, if◌then◌else◌}
 use Rattle.std.specs.List.{list_any}
 use Rattle.stamp_register.specs.Keys.{stamp_of}
 use Rattle.std.specs.Str.{bytes_eq}

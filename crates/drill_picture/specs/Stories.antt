@@ -11,6 +11,13 @@ use Rattle.drill_picture.specs.Knowing.{entries_in, has_made_it, is_under, known
 use Rattle.drill_picture.specs.Rights.{RowTold, after_arrival, after_grant, after_send, after_spend, empty_row, is_brought}
 use Rattle.drill_picture.specs.Scale.{ScaleTold, bin_of}
 
+-- what a node knows of the point, and a parcel of rights
+abbrev pub KnownTold : Type 0
+KnownTold = Known
+
+abbrev pub ParcelTold : Type 0
+ParcelTold = Parcel
+
 -- what each node knows of the point, where the rights are, and the parcels of rights that are on their way
 pub record StoryTold : Type 0 where
   pub known : List Known

@@ -48,9 +48,9 @@ fn later(stamp: Stamp, held: Option<Stamp>) -> Option<Stamp>
     }
 }
 
-// The points of a load; a text that is refused has none.
+/// The points of a load; a text that is refused has none.
 #[tactic(auto, unfolding(crate::specs::Knowing::points_loaded))]
-fn points_loaded(alloc: Global, text: &str) -> Result<Vec<(Name, Actions)>, AllocError>
+pub(crate) fn points_loaded(alloc: Global, text: &str) -> Result<Vec<(Name, Actions)>, AllocError>
     ensures { IfOk result (λ points. points.items ≡ points_loaded text.now) }
 {
     match parse_setting(alloc, text) {
@@ -71,8 +71,8 @@ impl Known {
         }
     }
 
-    // The node makes a setting of some point.
-    fn made(self, name: &str, other: &str, stamp: Stamp) -> Known
+    /// The node makes a setting of some point.
+    pub(crate) fn made(self, name: &str, other: &str, stamp: Stamp) -> Known
         ensures { result ≡ made name.now other.now stamp self }
     {
         let is_it = other.as_bytes() == name.as_bytes();
@@ -82,8 +82,8 @@ impl Known {
         }
     }
 
-    // The stamp that the node gives next.
-    fn next_stamp(self, node: u8) -> Stamp
+    /// The stamp that the node gives next.
+    pub(crate) fn next_stamp(self, node: u8) -> Stamp
         ensures { result ≡ next_stamp node self }
     {
         Stamp {

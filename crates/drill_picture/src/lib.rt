@@ -12,6 +12,7 @@ mod budget;
 mod calls;
 mod charts;
 mod column;
+mod counted;
 mod drawing;
 mod entries;
 mod escaping;
@@ -33,6 +34,7 @@ mod units;
 
 pub use arrow::{Arrow, arrows};
 pub use budget::Budget;
+pub use counted::{Counted, counted_terms};
 pub use drawing::picture;
 pub use lines::picture_lines;
 pub use place::Place;

@@ -261,8 +261,8 @@ fn add_call(
     )
 }
 
-// How many nodes the messages of traces may name.
-fn message_nodes(traces: &[Trace]) -> u8
+/// How many nodes the messages of traces may name.
+pub(crate) fn message_nodes(traces: &[Trace]) -> u8
     ensures { result ≡ message_nodes traces.now }
 {
     traces.len().min(255) as u8

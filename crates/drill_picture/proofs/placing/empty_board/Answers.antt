@@ -1,4 +1,4 @@
-use Rattle.std.proofs.Common.{◌≡◌, List, ℕ, length, replicate, slice_index, ap, sym, ◌∙◌, rules}
+use Rattle.std.proofs.Common.{◌≡◌, length, replicate, slice_index, ap, sym, ◌∙◌, rules}
 use Rattle.std.proofs.lemmas.List.{get_or-replicate, length-replicate}
 use Rattle.drill_picture.specs.Placing.{count_at, is_made}
 use Rattle.drill_picture.proofs.placing.empty_board.Goals as goal

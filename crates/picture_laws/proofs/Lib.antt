@@ -1,0 +1,11 @@
+pub mod Columns
+pub mod Rows
+pub mod Chains
+pub mod Knows
+pub mod Seen
+pub mod Brought
+pub mod Balanced
+pub mod Parcels
+pub mod Told
+pub mod Bins
+pub mod Final
