@@ -2,7 +2,8 @@
 
 ghost use Rattle.std.specs.Prelude.{◌≡◌, take, length, bytes_eq};
 ghost use Rattle.http_replies.specs.Replies.{http_value};
-ghost use Rattle.http_peers.specs.Codes.{code_front, code_in, code_name, has_front, outcome_of, place_of};
+ghost use Rattle.http_peers.specs.Codes.{code_front, code_in, code_name, has_front};
+ghost use Rattle.http_peers.specs.Codes.{outcome_of, place_of};
 
 use http_replies::HttpReply;
 

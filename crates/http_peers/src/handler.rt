@@ -4,7 +4,8 @@ ghost use Rattle.std.specs.Prelude.{◌≡◌, ◌<◌, ℕ, List, length, IfOk}
 ghost use Rattle.std.specs.Arc.{arc_value};
 ghost use Rattle.message_format.specs.Spelling.{max_message};
 ghost use Rattle.http_replies.specs.Replies.{http_value};
-ghost use Rattle.http_peers.specs.Answers.{AnswersWithPeers, IsAnsweredCall, IsAnsweredStatus, IsWaiting};
+ghost use Rattle.http_peers.specs.Answers.{AnswersWithPeers, IsAnsweredCall, IsAnsweredStatus};
+ghost use Rattle.http_peers.specs.Answers.{IsWaiting};
 ghost use Rattle.http_peers.specs.Hello.{labels_or_hello, AnswersOrGreets};
 
 use crate::code::outcome_of;
