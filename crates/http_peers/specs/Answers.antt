@@ -1,12 +1,12 @@
 -- What is answered where it is known who of the other nodes was heard.
-use Rattle.std.specs.Prelude.{◌≡◌, ℕ, ◌==◌, List, ◌++◌, length, codes, decimal, Option, MatchBool, MatchOption}
+use Rattle.std.specs.Prelude.{◌≡◌, ℕ, ◌==◌, Bool, List, ◌++◌, length, codes, decimal, Option, MatchBool, MatchOption}
 use Rattle.http_replies.specs.Replies.{ReplyValue, IsReply, text_reply}
 use Rattle.http_peers.specs.declared.heard.Cluster.{Cluster}
 use Rattle.http_peers.specs.declared.heard.Row.{Row}
 use Rattle.http_peers.specs.declared.heard.Hearing.{Hearing}
 use Rattle.http_peers.specs.declared.kind.Kind.{Kind}
 use Rattle.http_peers.specs.declared.kind.Kind.TheVariants.{Call, Delivery, Status, Other}
-use Rattle.http_peers.specs.Heard.{awaited}
+use Rattle.http_peers.specs.Heard.{awaited, waits_for}
 use Rattle.http_peers.specs.Kinds.{kind_of}
 use Rattle.http_peers.specs.Shown.{with_peers}
 
@@ -22,6 +22,10 @@ IsWaiting node given = IsReply (text_reply 503 (waiting_text node)) given
 -- the node that calls wait for by some rows, if they wait
 abbrev pub IsAwaited : Hearing → Cluster → Option ℕ → Type 0
 IsAwaited hearing cluster node = (rows : List Row) × (node ≡ awaited hearing cluster rows)
+
+-- whether calls wait for a node, by some rows
+abbrev pub IsWaitedFor : Hearing → Cluster → ℕ → Bool → Type 0
+IsWaitedFor hearing cluster node waits = (rows : List Row) × (waits ≡ waits_for hearing cluster rows node)
 
 -- a reply of 200 with these rows in it, and any other one as it is
 abbrev pub IsWithPeers : Cluster → List Row → ReplyValue → ReplyValue → Type 0

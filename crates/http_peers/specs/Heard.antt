@@ -1,5 +1,5 @@
 -- What was heard of the other nodes of a cluster: a row for each number that a node can have.
-use Rattle.std.specs.Prelude.{ℕ, ◌+◌, ◌==◌, Bool, ◌&&◌, not, nat_lt, min, List, find, replicate, slice_get, slice_index, slice_set, if◌then◌else◌, is_none, Option, Some, None, unwrap_or}
+use Rattle.std.specs.Prelude.{ℕ, ◌+◌, ◌==◌, Bool, false, ◌&&◌, not, nat_lt, min, List, find, replicate, slice_get, slice_index, slice_set, if◌then◌else◌, is_none, Option, Some, None, unwrap_or}
 use Rattle.std.specs.List.{range_with_len}
 use Rattle.message_format.specs.Limits.{max_nodes}
 use Rattle.http_peers.specs.declared.code.Code.{Code}
@@ -60,6 +60,11 @@ is_unheard cluster rows node = is_peer cluster node && is_none (row_at rows node
 -- the first other node of which no message was accepted
 abbrev pub first_unheard : Cluster → List Row → Option ℕ
 first_unheard cluster rows = find (is_unheard cluster rows) (range_with_len 0 cluster.nodes)
+
+-- whether calls wait for a node
+abbrev pub waits_for : Hearing → Cluster → List Row → ℕ → Bool
+waits_for Whenever cluster rows node = false
+waits_for First cluster rows node = is_unheard cluster rows node
 
 -- the node that calls wait for, if they wait
 abbrev pub awaited : Hearing → Cluster → List Row → Option ℕ

@@ -2,7 +2,7 @@
 
 ghost use Rattle.std.specs.Prelude.{◌≡◌};
 ghost use Rattle.http_peers.specs.Heard.{awaited, count_of, counted, first_unheard, fresh_row};
-ghost use Rattle.http_peers.specs.Heard.{fresh_rows, is_peer, is_unheard, noted, row_at, row_noted};
+ghost use Rattle.http_peers.specs.Heard.{fresh_rows, is_peer, is_unheard, noted, row_at, row_noted, waits_for};
 
 use crate::code::{CODES, Code, Outcome};
 use message_format::MAX_NODES;
@@ -135,6 +135,16 @@ impl Heard {
         ensures { result ≡ first_unheard cluster self.now.rows }
     {
         (0..cluster.nodes).find(|node| self.is_unheard(cluster, *node))
+    }
+
+    /// Whether calls wait for a node.
+    pub(crate) fn waits_for(&self, hearing: Hearing, cluster: Cluster, node: u8) -> bool
+        ensures { result ≡ waits_for hearing cluster self.now.rows node }
+    {
+        match hearing {
+            Hearing::Whenever => false,
+            Hearing::First => self.is_unheard(cluster, node),
+        }
     }
 
     /// The node that calls wait for, if they wait.

@@ -3,7 +3,7 @@
 ghost use Rattle.std.specs.Prelude.{◌≡◌, IfOk};
 ghost use Rattle.std.specs.Arc.{arc_value};
 ghost use Rattle.http_replies.specs.Replies.{http_value};
-ghost use Rattle.http_peers.specs.Answers.{IsAwaited, IsShown};
+ghost use Rattle.http_peers.specs.Answers.{IsAwaited, IsShown, IsWaitedFor};
 
 use crate::askers::Askers;
 use crate::code::Outcome;
@@ -51,6 +51,15 @@ impl Peers {
         ensures { IsAwaited self.now.hearing self.now.cluster result }
     {
         self.heard.lock(rt).awaited(self.hearing, self.cluster)
+    }
+
+    /// Whether calls wait for this node, of which no message was accepted yet.
+    pub fn waits_for<R: Wait>(&self, rt: &R, node: u8) -> bool
+        ensures { IsWaitedFor self.now.hearing self.now.cluster node result }
+    {
+        self.heard
+            .lock(rt)
+            .waits_for(self.hearing, self.cluster, node)
     }
 
     /// Whether another node asked, at `/hello`, since it was looked for last: then it is to be told what

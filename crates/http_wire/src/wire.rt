@@ -132,7 +132,7 @@ impl<R: Wait + Clock + Net + RandomSource + AllocGlobal + Drop> HttpWire<R> {
     }
 
     // Posts a hello to a peer.
-    fn say_hello_to(&mut self, alloc: Global, own: u8, peer: Peer) -> Result<(), WireError>
+    fn ask_peer(&mut self, alloc: Global, own: u8, peer: Peer) -> Result<(), WireError>
         ensures err { IfErr result IsFailure }
         ensures stays { (self.new.peers ≡ self.old.peers) × (self.new.sent ≡ self.old.sent)
             × (self.new.forgetful ≡ self.old.forgetful) }
@@ -152,7 +152,7 @@ impl<R: Wait + Clock + Net + RandomSource + AllocGlobal + Drop> HttpWire<R> {
     /// Asks a node to tell this one, which has this number, what it knows, whether or not that is news:
     /// `POST /hello` with the number, over a connection of its own. It tells by a message to this one's
     /// server.
-    pub fn say_hello(&mut self, alloc: Global, own: u8, to: u8) -> Result<(), WireError>
+    pub fn ask_to_tell(&mut self, alloc: Global, own: u8, to: u8) -> Result<(), WireError>
         ensures no_peer { (result ≡ Err WireError.NoPeer)
             ↔ (has_peer self.old.peers.items to ≡ false) }
         ensures failed { IfErr result (λ e. (e ≡ WireError.NoPeer) ⊎ IsFailure e) }
@@ -165,7 +165,7 @@ impl<R: Wait + Clock + Net + RandomSource + AllocGlobal + Drop> HttpWire<R> {
         ensures unsent { OnErr result (self.new.hellos.items ≡ self.old.hellos.items) }
     {
         match self.address_of(to) {
-            Some(address) => self.say_hello_to(alloc, own, Peer { node: to, address }),
+            Some(address) => self.ask_peer(alloc, own, Peer { node: to, address }),
             None => Err(WireError::NoPeer),
         }
     }

@@ -42,4 +42,4 @@ first_pace node = record {
 
 -- one by which its node is told once its time has come, though there may be no news
 abbrev pub greeted : Pace → Pace
-greeted pace = record pace { told_known = 18446744073709551615 }
+greeted pace = record pace { told_known = 18446744073709551615; has_missed = false; waits = 0 }

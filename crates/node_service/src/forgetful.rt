@@ -26,6 +26,10 @@ pub(crate) trait ServedWire {
 
     /// Who has answered so since the last time.
     fn forgetful(&mut self, alloc: Global) -> Vec<Forgetful>;
+
+    /// Asks a node to tell this one, which has this number, whether or not there is news. Who isn't
+    /// reached is asked again in the next round.
+    fn say_hello(&mut self, alloc: Global, own: u8, to: u8);
 }
 
 impl<R: Wait + Clock + Net + RandomSource + AllocGlobal + Drop> ServedWire for HttpWire<R> {
@@ -37,6 +41,10 @@ impl<R: Wait + Clock + Net + RandomSource + AllocGlobal + Drop> ServedWire for H
 
     fn forgetful(&mut self, alloc: Global) -> Vec<Forgetful> {
         self.take_forgetful(alloc)
+    }
+
+    fn say_hello(&mut self, alloc: Global, own: u8, to: u8) {
+        let _ = self.ask_to_tell(alloc, own, to);
     }
 }
 
@@ -51,6 +59,10 @@ impl<'a, L: Label, W: ServedWire> ServedWire for RecordingWire<'a, L, W> {
 
     fn forgetful(&mut self, alloc: Global) -> Vec<Forgetful> {
         self.get_mut().forgetful(alloc)
+    }
+
+    fn say_hello(&mut self, alloc: Global, own: u8, to: u8) {
+        self.get_mut().say_hello(alloc, own, to);
     }
 }
 

@@ -16,7 +16,7 @@ use crate::forgetful::{Said, ServedWire};
 use crate::host::Host;
 use command_line::{GossipOptions, NamedPeer, Rights};
 use gossip::{Pace, Reach, WireError, gossip_news};
-use http_serve::{Access, Ending, Hearing, Peers, ServeFault, serve_forgetting};
+use http_serve::{Access, Ending, Peers, ServeFault, serve_forgetting};
 use http_wire::{HttpWire, Key, Peer};
 use node_core::Config;
 use node_registry::{Label, Registry, Seat};
@@ -29,9 +29,6 @@ use std::thread::{Parker, Scope};
 use std::time::{Clock, Duration};
 use tokio::net::TcpListener;
 use tokio::runtime::Runtime;
-
-/// In how many rounds each peer is told once at least, where nodes hear each other first.
-const TOLD_EVERY: u32 = 64;
 
 /// A node whose port is listened on, and that needn't keep its calls, how many clients are let in, whom
 /// it has heard, and where the service is ended.
@@ -164,25 +161,40 @@ fn rights_now<R: Wait, W: ServedWire>(rt: &R, heard: &Peers, wire: &mut W, wante
     }
 }
 
-// A pace by which its node is told once its time has come, though there may be no news for it.
+// A pace by which its node is told at once, though there may be no news for it, and though it wasn't
+// reached before.
 fn greeted(pace: Pace) -> Pace
     ensures { result ≡ greeted pace }
 {
     Pace {
         told_known: u64::MAX,
+        has_missed: false,
+        waits: 0,
         ..pace
     }
 }
 
-// Has each peer told in every so manyth round, where nodes hear each other first: it may wait for that.
-fn greet(round: u32, hearing: Hearing, paces: &mut [Pace])
+// Has each peer that asked told in the round.
+fn greet<R: Wait>(rt: &R, heard: &Peers, paces: &mut [Pace])
     ensures { length paces.new ≡ length paces.old }
 {
-    if hearing == Hearing::Whenever || round % TOLD_EVERY != 0 {
-        return;
-    }
     for pace in paces.iter_mut() {
-        *pace = greeted(*pace);
+        if heard.has_asked(rt, pace.node) {
+            *pace = greeted(*pace);
+        }
+    }
+}
+
+// Asks each peer that calls wait for to tell this node.
+fn say_hellos<R, W>(rt: &R, heard: &Peers, wire: &mut W, paces: &[Pace])
+where
+    R: Wait + AllocGlobal,
+    W: ServedWire,
+{
+    for pace in paces {
+        if heard.waits_for(rt, pace.node) {
+            wire.say_hello(rt.alloc(), heard.cluster.own, pace.node);
+        }
     }
 }
 
@@ -211,8 +223,8 @@ where
 
 // Does one round after the other over a wire, with a rest between two, until all are done or the
 // service has ended. Each shares rights first, where they follow demand and calls are made. Then it
-// tells only news, and only who is reached; of who answers that it has forgotten what it did that is
-// said. Where nodes hear each other first, each is told in every 64th round at least.
+// tells only news, and only who is reached, but whom it was asked to tell; of who answers that it has
+// forgotten what it did that is said. Who is to be heard before calls are made is asked to tell.
 pub(crate) fn keep_telling<L, R, W>(
     rt: &R,
     registry: &Registry<L>,
@@ -243,7 +255,8 @@ where
         if service.has_ended() {
             return;
         }
-        greet(round, heard.hearing, paces);
+        greet(rt, heard, paces);
+        say_hellos(rt, heard, wire, paces);
         let rights = rights_now(rt, heard, wire, telling.rights);
         share_first(rt, registry, seat, &mut sharing, rights);
         wire.keep_calls(rt, rt.alloc());

@@ -1,6 +1,6 @@
 use Rattle.std.proofs.Common.{ap, sym, subst₂, ◌∙◌}
 use Rattle.http_wire.specs.Posts.{PostsHello}
-use Rattle.http_wire.proofs.wire.HttpWire.say_hello_to.Goals as goal
+use Rattle.http_wire.proofs.wire.HttpWire.ask_peer.Goals as goal
 
 pub returns-clause-posted : goal.returns-clause-posted
 returns-clause-posted g c =
