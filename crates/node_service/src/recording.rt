@@ -26,7 +26,7 @@ use part_keeper::{CallFault, PartLines, Recorder, Recording};
 use std::alloc::{AllocGlobal, Global};
 use std::fs::{File, Files};
 use std::marker::Brand;
-use std::net::Net;
+use std::net::{Net, SocketAddr};
 use std::random::RandomSource;
 use std::sync::ledger::Blank;
 use std::sync::{Arc, Wait};
@@ -150,22 +150,11 @@ where
     requires { L.keeps ≡ false }
     ensures { IfOk result (IsNodeServed options.entry.requests) }
 {
-    let Seats {
-        mut recording,
-        telling,
-    } = seats;
+    let Seats { recording, telling } = seats;
     let Keyed { access, key } = keyed_by(rt, options.key_file)?;
-    let OpenPart { file, calls } = open_part(rt, rt.alloc(), registry, &mut recording, part)?;
-    let recording = Recording::new(recording, PartLines::new(file));
-    let recorder = Arc::new(rt.alloc(), Recorder::new(recording)).map_err(NodeFault::from)?;
-    let Ok((mut runtime, listener, port)) = listen(rt, options.listen) else {
-        return Err(ServiceFault::Serve(ServeFault::BindFailed));
-    };
-    say_where(rt, port)?;
+    let (recorder, calls) = gone_on(rt, registry, recording, part)?;
     let first_points = if calls == 0 { options.failpoints } else { None };
-    if let Some(text) = first_points {
-        set_first(rt, rt.alloc(), registry, &recorder, text)?;
-    }
+    let (mut runtime, listener) = begun(rt, registry, &recorder, options.listen, first_points)?;
     let heard = heard_by(
         rt.alloc(),
         options.node,
@@ -184,6 +173,46 @@ where
         ending: &ending,
     };
     Ok(serve_and_record(rt, recorded, telling, options.telling, key)?)
+}
+
+// The recorder of a node that goes on from its part, and how many calls it has.
+fn gone_on<L, R>(
+    rt: &R,
+    registry: &Registry<L>,
+    mut seat: Seat<L>,
+    part: PartOptions<'_>,
+) -> Result<(Arc<Recorder<L>>, u64), ServiceFault>
+where
+    L: Label,
+    R: Host + Files<File = File>,
+    requires { L.keeps ≡ false }
+{
+    let OpenPart { file, calls } = open_part(rt, rt.alloc(), registry, &mut seat, part)?;
+    let recording = Recording::new(seat, PartLines::new(file));
+    let recorder = Arc::new(rt.alloc(), Recorder::new(recording)).map_err(NodeFault::from)?;
+    Ok((recorder, calls))
+}
+
+// Listens for the node, says where, and sets its first points.
+fn begun<L, R>(
+    rt: &R,
+    registry: &Registry<L>,
+    recorder: &Recorder<L>,
+    listening: SocketAddr,
+    failpoints: Option<&str>,
+) -> Result<(Runtime, TcpListener), ServiceFault>
+where
+    L: Label,
+    R: Host + Print,
+{
+    let Ok((runtime, listener, port)) = listen(rt, listening) else {
+        return Err(ServiceFault::Serve(ServeFault::BindFailed));
+    };
+    say_where(rt, port)?;
+    if let Some(text) = failpoints {
+        set_first(rt, rt.alloc(), registry, recorder, text)?;
+    }
+    Ok((runtime, listener))
 }
 
 // Sets the first points of a node.
