@@ -367,9 +367,9 @@ rights stay where they were put.
 With --hear-first the node takes in messages, and any other call that would
 change it is 503, until each other node of the cluster was heard once. So one
 that was started again without its part learns that others know more of it
-before it does anything anew. Each node then tells its peers in every 64th round
-at least, also where there is no news: give it to all of them, with --rounds.
-With --record only a node whose part is new waits.
+before it does anything anew. It asks its peers to tell it, whether or not that
+is news to them, in each of its rounds: give it --rounds, and them too.
+A node that goes on from its part needs it not, and waits as well.
 
 With --record the node outlives its process: each call that it accepts is a
 line of the file before anybody is told of it. Where the file is there, those

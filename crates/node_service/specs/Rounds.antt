@@ -40,6 +40,6 @@ first_pace node = record {
   waits = 0;
 }
 
--- one by which its node is told once its time has come, though there may be no news
+-- one by which its node is told in the next round, though there may be no news, and though it wasn't reached before
 abbrev pub greeted : Pace → Pace
 greeted pace = record pace { told_known = 18446744073709551615; has_missed = false; waits = 0 }

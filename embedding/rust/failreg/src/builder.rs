@@ -289,9 +289,8 @@ impl Builder {
     /// node that keeps its part needs it not, and waits as well.
     ///
     /// Nodes tell only news, and may take this one to know all. So [`gossip`](crate::gossip) of such a
-    /// node asks each peer for a message (`POST /hello`), and tells each every 5 seconds itself, since
-    /// some wait that don't ask. Where the cluster has a number that no process has, it waits for good.
-    /// FAILPOINTS is refused as any call is.
+    /// node asks each peer for a message (`POST /hello`). Where the cluster has a number that no process
+    /// has, it waits for good. FAILPOINTS is refused as any call is.
     ///
     /// ```
     /// # if !failreg::has_failpoints() { return Ok(()); }

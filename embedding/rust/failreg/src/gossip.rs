@@ -88,8 +88,7 @@ impl Registry {
         state.waits && !state.peers.has_heard(node)
     }
 
-    // What there is to tell a node that was last told this, if there is anything. Where nodes are heard
-    // first there always is: the other one may wait for this one, which takes it to know all.
+    // What there is to tell a node that was last told this, if there is anything, or it asked.
     fn news_for(&self, to: u8, told: News) -> Result<Option<News>, Error> {
         let state = &mut *self.lock();
         let news = News {
@@ -98,7 +97,7 @@ impl Registry {
             is_asked: state.peers.has_asked(to),
         };
         let is_news = news.version > state.node.acked(to)? || news.known != told.known;
-        Ok((is_news || news.is_asked || self.made.hears_first).then_some(news))
+        Ok((is_news || news.is_asked).then_some(news))
     }
 }
 
@@ -462,8 +461,8 @@ pub(crate) fn others(
 /// for a peer that can't be reached. A peer that isn't told, or doesn't answer with status 200, is
 /// left alone for a while, which doubles up to 5 seconds, and so is one that took in a message and
 /// tells nothing of it. A peer that hangs holds a round up for 2 seconds. It ends with the node: when
-/// that is closed, or has reached its cap. A node that [hears others
-/// first](crate::Builder::hear_first) is told again without news after such a while.
+/// that is closed, or has reached its cap. A peer that asks for it, as one that [hears others
+/// first](crate::Builder::hear_first), is told without news.
 ///
 /// A peer that is the node itself is left out, so that all processes may be given the same peers.
 ///
